@@ -1,0 +1,47 @@
+-- What an audit finds.
+use Rattle.std.proofs.Common.{◌≡◌, ℕ, Some, List, ◌<◌, length, take, subst, arith, get_or}
+use Rattle.std.specs.Prelude.{slice_get}
+use Rattle.std.proofs.lemmas.Option.{slice_get-get_or}
+use Rattle.std.proofs.lemmas.List.{take-take}
+use Rattle.bits_core.specs.declared.events.Event.{Event}
+use Rattle.bits_core.specs.declared.shapes.Shape.{Shape}
+use Rattle.bits_core.specs.declared.audits.Kind.{Kind}
+use Rattle.bits_core.specs.declared.audits.Kind.TheVariants.{WrongSide, OutOfTurn, NotPermitted, NotProgram}
+use Rattle.bits_core.specs.Audit.{IsFault, IsFirstFault, IsFaultAfter}
+use Rattle.bits_core.specs.Steps.{MayFollow, EachMayFollow}
+use Rattle.bits_core.specs.Lawful.{TakesTurn, IsLawfulEvent, IsLawful}
+use Rattle.bits_core.proofs.Places.{slice_get-take}
+use Rattle.bits_core.proofs.OverlapLemmas.{IsByDoers, IsByDoers-below}
+use Rattle.bits_core.proofs.LawfulLemmas.{IsByDoers-steps, IsLawfulEvent-from, TakesTurn-from, TakesTurn-to, AnswersSafely-to}
+
+-- a fault, in the two forms
+pub IsFault-from : (shape : Shape) (h : List Event) (place : ℕ) (e : Event) (kind : Kind) → IsByDoers h place → slice_get h place ≡ Some e → IsFaultAfter shape (take place h) e kind → IsFault shape h place e kind
+IsFault-from shape h place e WrongSide sides at fault = fault
+IsFault-from shape h place e OutOfTurn sides at fault = (fault.0, λ turn. fault.1 (TakesTurn-to h place sides e.side e.bit e.act at turn))
+IsFault-from shape h place e NotPermitted sides at fault =
+    let turn : TakesTurn h place e.side e.bit e.act = TakesTurn-from h place sides e.side e.bit e.act at fault.1 in
+    (fault.0, turn, λ safe. fault.2 (AnswersSafely-to h place sides e.side e.bit e.act at turn safe))
+IsFault-from shape h place e NotProgram sides at fault = fault
+
+not_IsLawfulEvent : (shape : Shape) (h : List Event) (place : ℕ) (e : Event) (kind : Kind) → IsFault shape h place e kind → ¬ IsLawfulEvent shape h place e
+not_IsLawfulEvent shape h place e WrongSide fault f = fault f.right_side
+not_IsLawfulEvent shape h place e OutOfTurn fault f = fault.1 f.in_turn
+not_IsLawfulEvent shape h place e NotPermitted fault f = fault.2 f.permitted
+not_IsLawfulEvent shape h place e NotProgram fault f = fault
+
+pub not_IsLawful : (shape : Shape) (h : List Event) (place : ℕ) (kind : Kind) → IsFirstFault shape h place kind → ¬ IsLawful shape h
+not_IsLawful shape h place kind fault lawful = not_IsLawfulEvent shape h place fault.event kind fault.fault (lawful.each place fault.event fault.at_place)
+
+-- what the audit finds at a place, all events before which may follow those before them
+pub IsFirstFault-at : (shape : Shape) (h : List Event) (i : ℕ) (d : Event) (kind : Kind) → i < length h → EachMayFollow shape (take i h) → IsFaultAfter shape (take i h) (get_or h i d) kind → IsFirstFault shape h i kind
+IsFirstFault-at shape h i d kind within steps fault =
+    let sides : IsByDoers h i = IsByDoers-steps shape h i steps in
+    let at : slice_get h i ≡ Some (get_or h i d) = slice_get-get_or h i d within in
+    record {
+      event = get_or h i d;
+      at_place = at;
+      fault = IsFault-from shape h i (get_or h i d) kind sides at fault;
+      least = λ p e below k.
+          let past : take p (take i h) ≡ take p h = take-take p i h (omega arith) in
+          IsLawfulEvent-from shape h p e (IsByDoers-below h p i (omega arith) sides) k (subst (λ t. MayFollow shape t e) past (steps.each p e (slice_get-take h i p e k below)));
+    }

@@ -1,0 +1,165 @@
+-- How each word on histories changes by one event at the end.
+use Rattle.std.proofs.Common.{◌≡◌, ℕ, Bool, true, false, ◌||◌, cond, Option, Some, None, List, [], ◌∷◌, ◌++◌, ◌+◌, ◌-◌, ◌<◌, ◌≤◌, length, get_or, subst, take, drop, length-drop, refl, ap, sym, ◌∙◌, arith}
+use Rattle.std.specs.Prelude.{option_and_then, is_some, if◌then◌else◌, slice_get}
+use Rattle.std.proofs.lemmas.Option.{slice_get_within, get_or_from_slice_get}
+use Rattle.std.proofs.lemmas.List.{take-append-drop, drop_more}
+use Rattle.std.proofs.Math.Seq.{take-length}
+use Rattle.std.proofs.lemmas.Bool.{or_parts, false≢true}
+use Rattle.std.specs.Option.{option_to_list}
+use Rattle.std.specs.List.{cons_option}
+use Rattle.std.proofs.lemmas.List.Elements.{filter_map-append}
+use Rattle.bits_core.specs.declared.events.Side.{Side}
+use Rattle.bits_core.specs.declared.events.Bit.{Bit}
+use Rattle.bits_core.specs.declared.events.Event.{Event}
+use Rattle.bits_core.specs.Bits.{writer, is_by, begun_by, write_of}
+use Rattle.bits_core.specs.History.{has_event, last_event, before_last, after_last, open_access, writes_begun, writes_ended, last_value, is_empty, IsLastPlace}
+
+-- a side has an event in two lists where it has one in either
+pub has_event-append : (s : Side) (xs ys : List Event) → has_event s (xs ++ ys) ≡ (has_event s xs || has_event s ys)
+has_event-append s [] ys = refl
+has_event-append s (x ∷ xs) ys =
+    elim (is_by s x) as (λ v. (v || has_event s (xs ++ ys)) ≡ ((v || has_event s xs) || has_event s ys)) [
+      | true ↦ refl
+      | false ↦ has_event-append s xs ys
+    ]
+
+pub has_event-at : (s : Side) (xs : List Event) (e : Event) (ys : List Event) → is_by s e ≡ true → has_event s (xs ++ e ∷ ys) ≡ true
+has_event-at s [] e ys by = rw by refl
+has_event-at s (x ∷ xs) e ys by =
+    elim (is_by s x) as (λ v. (v || has_event s (xs ++ e ∷ ys)) ≡ true) [
+      | true ↦ refl
+      | false ↦ has_event-at s xs e ys by
+    ]
+
+pub has_event-not : (s : Side) (h : List Event) (e : Event) → is_by s e ≡ false → has_event s (h ++ e ∷ []) ≡ has_event s h
+has_event-not s [] e by = rw by refl
+has_event-not s (x ∷ h) e by =
+    elim (is_by s x) as (λ v. (v || has_event s (h ++ e ∷ [])) ≡ (v || has_event s h)) [
+      | true ↦ refl
+      | false ↦ has_event-not s h e by
+    ]
+
+-- where the side's last event stands
+pub before_last-at : (s : Side) (xs : List Event) (e : Event) (ys : List Event) → is_by s e ≡ true → has_event s ys ≡ false → before_last s (xs ++ e ∷ ys) ≡ xs
+before_last-at s [] e ys by none = rw none refl
+before_last-at s (x ∷ xs) e ys by none = rw (has_event-at s xs e ys by) (ap (λ t. x ∷ t) (before_last-at s xs e ys by none))
+
+pub after_last-at : (s : Side) (xs : List Event) (e : Event) (ys : List Event) → is_by s e ≡ true → has_event s ys ≡ false → after_last s (xs ++ e ∷ ys) ≡ ys
+after_last-at s [] e ys by none = rw (none, by) refl
+after_last-at s (x ∷ xs) e ys by none = rw (has_event-at s xs e ys by) (after_last-at s xs e ys by none)
+
+pub last_event-at : (s : Side) (xs : List Event) (e : Event) (ys : List Event) → is_by s e ≡ true → has_event s ys ≡ false → last_event s (xs ++ e ∷ ys) ≡ Some e
+last_event-at s [] e ys by none = rw (none, by) refl
+last_event-at s (x ∷ xs) e ys by none = rw (has_event-at s xs e ys by) (last_event-at s xs e ys by none)
+
+-- an event of the other side leaves them
+pub before_last-not : (s : Side) (h : List Event) (e : Event) → is_by s e ≡ false → before_last s (h ++ e ∷ []) ≡ before_last s h
+before_last-not s [] e by = refl
+before_last-not s (x ∷ h) e by = rw (has_event-not s h e by, before_last-not s h e by) refl
+
+pub after_last-not : (s : Side) (h : List Event) (e : Event) → is_by s e ≡ false → after_last s (h ++ e ∷ []) ≡ after_last s h ++ e ∷ []
+after_last-not s [] e by = rw by refl
+after_last-not s (x ∷ h) e by = rw (has_event-not s h e by, after_last-not s h e by)
+    (elim (has_event s h) as (λ v. cond v (after_last s h ++ e ∷ []) (cond (is_by s x) (h ++ e ∷ []) (x ∷ (h ++ e ∷ []))) ≡ cond v (after_last s h) (cond (is_by s x) h (x ∷ h)) ++ e ∷ []) [
+      | true ↦ refl
+      | false ↦ elim (is_by s x) as (λ w. cond w (h ++ e ∷ []) (x ∷ (h ++ e ∷ [])) ≡ cond w h (x ∷ h) ++ e ∷ []) [ true ↦ refl | false ↦ refl ]
+    ])
+
+pub last_event-not : (s : Side) (h : List Event) (e : Event) → is_by s e ≡ false → last_event s (h ++ e ∷ []) ≡ last_event s h
+last_event-not s [] e by = rw by refl
+last_event-not s (x ∷ h) e by = rw (has_event-not s h e by, last_event-not s h e by) refl
+
+-- the same with one more event at the end
+pub before_last-push : (s : Side) (h : List Event) (e : Event) → before_last s (h ++ e ∷ []) ≡ (if is_by s e then h else before_last s h)
+before_last-push s h e =
+    elim (is_by s e) as (λ v. is_by s e ≡ v → before_last s (h ++ e ∷ []) ≡ cond v h (before_last s h)) [
+      | true ↦ λ by. before_last-at s h e [] by refl
+      | false ↦ λ by. before_last-not s h e by
+    ] refl
+
+pub after_last-push : (s : Side) (h : List Event) (e : Event) → after_last s (h ++ e ∷ []) ≡ (if is_by s e then [] else after_last s h ++ e ∷ [])
+after_last-push s h e =
+    elim (is_by s e) as (λ v. is_by s e ≡ v → after_last s (h ++ e ∷ []) ≡ cond v [] (after_last s h ++ e ∷ [])) [
+      | true ↦ λ by. after_last-at s h e [] by refl
+      | false ↦ λ by. after_last-not s h e by
+    ] refl
+
+pub last_event-push : (s : Side) (h : List Event) (e : Event) → last_event s (h ++ e ∷ []) ≡ (if is_by s e then Some e else last_event s h)
+last_event-push s h e =
+    elim (is_by s e) as (λ v. is_by s e ≡ v → last_event s (h ++ e ∷ []) ≡ cond v (Some e) (last_event s h)) [
+      | true ↦ λ by. last_event-at s h e [] by refl
+      | false ↦ λ by. last_event-not s h e by
+    ] refl
+
+-- the open access of a side
+pub open_access-push : (s : Side) (h : List Event) (e : Event) → open_access s (h ++ e ∷ []) ≡ (if is_by s e then begun_by e else open_access s h)
+open_access-push s h e = rw (last_event-push s h e)
+    (elim (is_by s e) as (λ v. option_and_then begun_by (cond v (Some e) (last_event s h)) ≡ cond v (begun_by e) (option_and_then begun_by (last_event s h))) [ true ↦ refl | false ↦ refl ])
+
+-- the writes of a bit
+pub writes_begun-push : (b : Bit) (h : List Event) (e : Event) → writes_begun b (h ++ e ∷ []) ≡ writes_begun b h ++ option_to_list (write_of b e)
+writes_begun-push b h e = filter_map-append (write_of b) h (e ∷ []) ∙
+    elim (write_of b e) as (λ o. writes_begun b h ++ cons_option o [] ≡ writes_begun b h ++ option_to_list o) [ None ↦ refl | Some v ↦ refl ]
+
+pub writes_ended-push : (b : Bit) (h : List Event) (e : Event) → writes_ended b (h ++ e ∷ []) ≡ (if is_by (writer b) e then writes_begun b h else writes_ended b h)
+writes_ended-push b h e = rw (before_last-push (writer b) h e)
+    (elim (is_by (writer b) e) as (λ v. writes_begun b (cond v h (before_last (writer b) h)) ≡ cond v (writes_begun b h) (writes_ended b h)) [ true ↦ refl | false ↦ refl ])
+
+-- a list is what stands before a place, the event there, and what stands after it
+pub split_at : (h : List Event) (p : ℕ) (e : Event) → slice_get h p ≡ Some e → h ≡ take p h ++ e ∷ drop (p + 1) h
+split_at h p e at =
+    sym (take-append-drop p h) ∙ ap (λ t. take p h ++ t) (drop_more h p e (slice_get_within h p e at) ∙ ap (λ x. x ∷ drop (p + 1) h) (get_or_from_slice_get h p e e at))
+
+module _ (s : Side) (h : List Event) (p : ℕ) (last : IsLastPlace s h p) where
+  pub before_last-place : before_last s h ≡ take p h
+  before_last-place = ap (before_last s) (split_at h p last.event last.at_place) ∙ before_last-at s (take p h) last.event (drop (p + 1) h) last.by_side last.none_after
+
+  pub after_last-place : after_last s h ≡ drop (p + 1) h
+  after_last-place = ap (after_last s) (split_at h p last.event last.at_place) ∙ after_last-at s (take p h) last.event (drop (p + 1) h) last.by_side last.none_after
+
+  pub last_event-place : last_event s h ≡ Some last.event
+  last_event-place = ap (last_event s) (split_at h p last.event last.at_place) ∙ last_event-at s (take p h) last.event (drop (p + 1) h) last.by_side last.none_after
+
+-- a side without an event
+pub last_event-none : (s : Side) (h : List Event) → has_event s h ≡ false → last_event s h ≡ None
+last_event-none s [] none = refl
+last_event-none s (x ∷ h) none = let q = or_parts (is_by s x) (has_event s h) none in rw (q.1, q.0) refl
+
+pub before_last-none : (s : Side) (h : List Event) → has_event s h ≡ false → before_last s h ≡ []
+before_last-none s [] none = refl
+before_last-none s (x ∷ h) none = let q = or_parts (is_by s x) (has_event s h) none in rw q.1 refl
+
+pub after_last-none : (s : Side) (h : List Event) → has_event s h ≡ false → after_last s h ≡ h
+after_last-none s [] none = refl
+after_last-none s (x ∷ h) none = let q = or_parts (is_by s x) (has_event s h) none in rw (q.1, q.0) refl
+
+-- the last of some values
+pub last_value-push : (v : Bool) (ws : List Bool) (w : Bool) → last_value v (ws ++ w ∷ []) ≡ w
+last_value-push v [] w = refl
+last_value-push v (x ∷ ws) w = last_value-push x ws w
+
+pub is_empty-push : {A : Type 0} (xs : List A) (x : A) → is_empty (xs ++ x ∷ []) ≡ false
+is_empty-push [] x = refl
+is_empty-push (y ∷ xs) x = refl
+
+-- the same for a place that is read
+pub split_get : (h : List Event) (p : ℕ) (d : Event) → p < length h → h ≡ take p h ++ get_or h p d ∷ drop (p + 1) h
+split_get h p d within = sym (take-append-drop p h) ∙ ap (λ t. take p h ++ t) (drop_more h p d within)
+
+pub split_down : (h : List Event) (i : ℕ) (d : Event) → 0 < i → i ≤ length h → h ≡ take (i - 1) h ++ get_or h (i - 1) d ∷ drop i h
+split_down h i d some within =
+    let e : i - 1 + 1 ≡ i = omega arith in
+    subst (λ n. h ≡ take (i - 1) h ++ get_or h (i - 1) d ∷ drop n h) e (split_get h (i - 1) d (omega arith))
+
+-- the writes up to the last of them
+pub writes_begun-last : (b : Bit) (h : List Event) (i : ℕ) (d : Event) (v : Bool) → 0 < i → i ≤ length h → write_of b (get_or h (i - 1) d) ≡ Some v → writes_begun b (drop i h) ≡ [] → writes_begun b h ≡ writes_begun b (take (i - 1) h) ++ v ∷ []
+writes_begun-last b h i d v some within writes none =
+    ap (writes_begun b) (split_down h i d some within) ∙ filter_map-append (write_of b) (take (i - 1) h) (get_or h (i - 1) d ∷ drop i h) ∙ ap (λ t. writes_begun b (take (i - 1) h) ++ t) (rw (writes, none) refl)
+
+pub some_when : {A : Type 0} (o : Option A) → is_some o ≡ true → (x : A) × (o ≡ Some x)
+some_when None h = absurd (false≢true h)
+some_when (Some x) h = (x, refl)
+
+-- what `&h[n..]` is
+pub take_rest : {A : Type 0} (h : List A) (n : ℕ) → take (length h - n) (drop n h) ≡ drop n h
+take_rest h n = rw (← length-drop n h) (take-length (drop n h))

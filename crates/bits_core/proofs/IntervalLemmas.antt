@@ -1,0 +1,153 @@
+-- Accesses by their places, against what the events before a place say.
+use Rattle.std.proofs.Common.{◌≡◌, ℕ, zero, suc, Bool, true, false, ◌||◌, not, inl, inr, Option, Some, None, List, [], ◌∷◌, ◌+◌, ◌-◌, ◌<◌, ◌≤◌, length, take, drop, refl, ap, sym, subst, ◌∙◌, arith, length-drop}
+use Rattle.std.specs.Prelude.{slice_get, option_and_then, if◌then◌else◌, ◌==◌}
+use Rattle.std.specs.List.{cons_option}
+use Rattle.std.proofs.lemmas.Bool.{or_cases, or_parts, false≢true, eq-eqb, and_from, or_left, or_right}
+use Rattle.std.proofs.lemmas.List.{drop-take}
+use Rattle.bits_core.specs.declared.events.Side.{Side}
+use Rattle.bits_core.specs.declared.events.Side.TheVariants.{P, C}
+use Rattle.bits_core.specs.declared.events.Bit.{Bit}
+use Rattle.bits_core.specs.declared.events.Bit.TheVariants.{S, R, X, Cell}
+use Rattle.bits_core.specs.declared.events.Act.{Act}
+use Rattle.bits_core.specs.declared.events.Act.TheVariants.{ReadBegin, ReadEnd, WriteBegin, WriteEnd}
+use Rattle.bits_core.specs.declared.events.Event.{Event}
+use Rattle.bits_core.specs.declared.events.Access.{Access}
+use Rattle.bits_core.specs.declared.events.Access.TheVariants.{Read, Write}
+use Rattle.bits_core.specs.Bits.{writer, is_by, same_side, same_bit, doer, begun_by, begun_access, value_written, write_of}
+use Rattle.bits_core.specs.History.{has_event, open_access, writes_begun, is_empty, IsLastPlace}
+use Rattle.bits_core.specs.Intervals.{first_place, end_of, IsAccess, IsOpenAt}
+use Rattle.bits_core.proofs.Histories.{last_event-place, last_event-none}
+use Rattle.bits_core.proofs.Changes.{same_side-same, same_bit-true}
+use Rattle.bits_core.proofs.Places.{slice_get-take, slice_get-from_take}
+
+-- a side has no event among the first n where its first is at n or later
+pub first_place-none : (s : Side) (xs : List Event) (n : ℕ) → has_event s (take n xs) ≡ false → n ≤ length xs → n ≤ first_place s xs
+first_place-none s xs zero none within = omega arith
+first_place-none s [] (suc n) none within = absurd (omega arith)
+first_place-none s (x ∷ xs) (suc n) none within =
+    let q = or_parts (is_by s x) (has_event s (take n xs)) none in
+    let ih : n ≤ first_place s xs = first_place-none s xs n q.1 (omega arith) in
+    rw q.0 (omega arith)
+
+pub none-first_place : (s : Side) (xs : List Event) (n : ℕ) → n ≤ first_place s xs → has_event s (take n xs) ≡ false
+none-first_place s xs zero le = refl
+none-first_place s [] (suc n) le = refl
+none-first_place s (x ∷ xs) (suc n) le =
+    elim (is_by s x) as (λ t. suc n ≤ (if t then 0 else suc (first_place s xs)) → (t || has_event s (take n xs)) ≡ false) [
+      | true ↦ λ l. absurd (omega arith)
+      | false ↦ λ l. none-first_place s xs n (omega arith)
+    ] le
+
+pub same_side-true : (a b : Side) → same_side a b ≡ true → b ≡ a
+same_side-true P P e = refl
+same_side-true P C e = cc
+same_side-true C P e = cc
+same_side-true C C e = refl
+
+-- an access ends at a place or later where its side has no event in between
+pub none_between : (s : Side) (h : List Event) (start place : ℕ) → start < place → place ≤ length h → has_event s (drop (start + 1) (take place h)) ≡ false → place ≤ end_of s h start
+none_between s h start place below within none =
+    let m : ℕ = place - (start + 1) in
+    let sum : start + 1 + m ≡ place = omega arith in
+    let part : drop (start + 1) (take place h) ≡ take m (drop (start + 1) h) = ap (λ n. drop (start + 1) (take n h)) (sym sum) ∙ drop-take (start + 1) m h in
+    let first : m ≤ first_place s (drop (start + 1) h) = first_place-none s (drop (start + 1) h) m (sym (ap (has_event s) part) ∙ none) (omega (arith, length-drop (start + 1) h)) in
+    omega arith
+
+pub between_none : (s : Side) (h : List Event) (start place : ℕ) → start < place → place ≤ end_of s h start → has_event s (drop (start + 1) (take place h)) ≡ false
+between_none s h start place below still =
+    let m : ℕ = place - (start + 1) in
+    let sum : start + 1 + m ≡ place = omega arith in
+    let part : drop (start + 1) (take place h) ≡ take m (drop (start + 1) h) = ap (λ n. drop (start + 1) (take n h)) (sym sum) ∙ drop-take (start + 1) m h in
+    ap (has_event s) part ∙ none-first_place s (drop (start + 1) h) m (omega arith)
+
+-- a side with an event has a last one
+pub last_exists : (s : Side) (k : List Event) → has_event s k ≡ true → (p : ℕ) × IsLastPlace s k p
+last_exists s [] some = absurd (false≢true some)
+last_exists s (x ∷ k) some =
+    elim (has_event s k) as (λ t. has_event s k ≡ t → (p : ℕ) × IsLastPlace s (x ∷ k) p) [
+      | true ↦ λ e.
+          let r = last_exists s k e in
+          let next : suc (r.0 + 1) ≡ suc r.0 + 1 = omega arith in
+          (suc r.0, record { event = r.1.event; at_place = r.1.at_place; by_side = r.1.by_side; none_after = subst (λ n. has_event s (drop n (x ∷ k)) ≡ false) next r.1.none_after })
+      | false ↦ λ e.
+          (0, record { event = x; at_place = refl; by_side = elim (or_cases (is_by s x) (has_event s k) some) [ inl q ↦ q | inr q ↦ absurd (false≢true (sym e ∙ q)) ]; none_after = e })
+    ] refl
+
+-- the access that a side has open after the events before a place, by its interval
+pub IsLastPlace-access : (h : List Event) (s : Side) (access : Access) (start stop place : ℕ) → IsAccess h s access start stop → start < place → place ≤ stop → IsLastPlace s (take place h) start
+IsLastPlace-access h s access start stop place a below still = record {
+  event = a.event;
+  at_place = slice_get-take h place start a.event a.at_start below;
+  by_side = ap (same_side s) a.by_side ∙ same_side-same s;
+  none_after = between_none s h start place below (subst (λ n. place ≤ n) a.ends still);
+}
+
+pub open_access-from : (h : List Event) (s : Side) (access : Access) (place : ℕ) → IsOpenAt h s access place → open_access s (take place h) ≡ Some access
+unfolding IsLastPlace-access
+open_access-from h s access place o =
+    let last : IsLastPlace s (take place h) o.0 = IsLastPlace-access h s access o.0 o.1 place o.2 o.3 o.4 in
+    ap (option_and_then begun_by) (last_event-place s (take place h) o.0 last) ∙ o.2.begins
+
+pub IsOpenAt-from : (h : List Event) (s : Side) (access : Access) (place : ℕ) → place ≤ length h → open_access s (take place h) ≡ Some access → IsOpenAt h s access place
+IsOpenAt-from h s access place within still =
+    let k : List Event = take place h in
+    elim (has_event s k) as (λ t. has_event s k ≡ t → IsOpenAt h s access place) [
+      | false ↦ λ none. let e : None ≡ Some access = sym (ap (option_and_then begun_by) (last_event-none s k none)) ∙ still in cc
+      | true ↦ λ some.
+          let r = last_exists s k some in
+          let at = slice_get-from_take h place r.0 r.1.event r.1.at_place in
+          let begins : begun_by r.1.event ≡ Some access = sym (ap (option_and_then begun_by) (last_event-place s k r.0 r.1)) ∙ still in
+          (r.0, end_of s h r.0, record { event = r.1.event; at_start = at.0; by_side = same_side-true s r.1.event.side r.1.by_side; begins = begins; ends = refl }, at.1, none_between s h r.0 place at.1 within r.1.none_after)
+    ] refl
+
+-- what begins a write of a bit
+pub same_bit-same : (b : Bit) → same_bit b b ≡ true
+same_bit-same (S i) = eq-eqb i i refl
+same_bit-same (R i) = eq-eqb i i refl
+same_bit-same X = refl
+same_bit-same (Cell j i) = and_from (j == j) (i == i) (eq-eqb j j refl) (eq-eqb i i refl)
+
+pub value_written-from : (b : Bit) (o : Option Access) (v : Bool) → value_written b o ≡ Some v → o ≡ Some (Write b v)
+value_written-from b None v e = cc
+value_written-from b (Some (Read c)) v e = cc
+value_written-from b (Some (Write c w)) v e =
+    elim (same_bit b c) as (λ t. same_bit b c ≡ t → (if t then Some w else None) ≡ Some v → Some (Write c w) ≡ Some (Write b v)) [
+      | true ↦ λ same k. let bits : b ≡ c = same_bit-true b c same in let values : w ≡ v = cc in cc
+      | false ↦ λ same k. cc
+    ] refl e
+
+pub value_written-to : (b : Bit) (o : Option Access) (v : Bool) → o ≡ Some (Write b v) → value_written b o ≡ Some v
+value_written-to b o v e = ap (value_written b) e ∙ ap (λ t. if t then Some v else None) (same_bit-same b)
+
+pub begins_write : (b c : Bit) (a : Act) (v : Bool) → begun_access c a ≡ Some (Write b v) → doer c a ≡ writer b
+begins_write b c ReadBegin v e = cc
+begins_write b c (ReadEnd w) v e = cc
+begins_write b c (WriteBegin w) v e = let bits : c ≡ b = cc in ap writer bits
+begins_write b c WriteEnd v e = cc
+
+-- a write that began stands at a place
+pub record IsWriteAt (b : Bit) (k : List Event) : Type 0 where
+  pub place : ℕ
+  pub event : Event
+  pub value : Bool
+  pub at_place : slice_get k place ≡ Some event
+  pub writes : write_of b event ≡ Some value
+
+pub write_exists : (b : Bit) (k : List Event) → not (is_empty (writes_begun b k)) ≡ true → IsWriteAt b k
+write_exists b [] some = absurd (false≢true some)
+write_exists b (x ∷ k) some =
+    elim (write_of b x) as (λ o. write_of b x ≡ o → not (is_empty (cons_option o (writes_begun b k))) ≡ true → IsWriteAt b (x ∷ k)) [
+      | Some v ↦ λ e t. record { place = 0; event = x; value = v; at_place = refl; writes = e }
+      | None ↦ λ e t. let r = write_exists b k t in record { place = suc r.place; event = r.event; value = r.value; at_place = r.at_place; writes = r.writes }
+    ] refl some
+
+pub write_found : (b : Bit) (k : List Event) (p : ℕ) (e : Event) (v : Bool) → slice_get k p ≡ Some e → write_of b e ≡ Some v → not (is_empty (writes_begun b k)) ≡ true
+write_found b [] p e v at writes = cc
+write_found b (x ∷ k) zero e v at writes = let same : x ≡ e = cc in ap (λ o. not (is_empty (cons_option o (writes_begun b k)))) (ap (write_of b) same ∙ writes)
+write_found b (x ∷ k) (suc p) e v at writes =
+    elim (write_of b x) as (λ o. not (is_empty (cons_option o (writes_begun b k))) ≡ true) [ Some w ↦ refl | None ↦ write_found b k p e v at writes ]
+
+pub has_event-found : (s : Side) (k : List Event) (p : ℕ) (e : Event) → slice_get k p ≡ Some e → is_by s e ≡ true → has_event s k ≡ true
+has_event-found s [] p e at by = cc
+has_event-found s (x ∷ k) zero e at by = let same : x ≡ e = cc in or_left (is_by s x) (has_event s k) (ap (is_by s) same ∙ by)
+has_event-found s (x ∷ k) (suc p) e at by = or_right (is_by s x) (has_event s k) (has_event-found s k p e at by)

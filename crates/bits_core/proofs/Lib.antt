@@ -1,0 +1,14 @@
+pub mod Places
+pub mod Histories
+pub mod StepLemmas
+pub mod Changes
+pub mod IntervalLemmas
+pub mod OverlapLemmas
+pub mod HeldLemmas
+pub mod LawfulLemmas
+pub mod FaultLemmas
+pub mod LawProofs
+pub mod Digits
+pub mod TraceFields
+pub mod TraceLines
+pub mod TraceLemmas

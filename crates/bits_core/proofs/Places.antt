@@ -1,0 +1,41 @@
+-- Where the elements of a list stand, in parts of it and in what it is part of.
+use Rattle.std.proofs.Common.{◌≡◌, ℕ, zero, suc, ◌⊎◌, inl, inr, Some, List, [], ◌∷◌, ◌++◌, ◌+◌, ◌<◌, length, take, drop, refl, ap, sym, ◌∙◌, arith}
+use Rattle.std.specs.Prelude.{slice_get}
+use Rattle.std.proofs.lemmas.Option.{none-some}
+
+-- places of a list with more at its end
+pub slice_get-append : {A : Type 0} (xs ys : List A) (p : ℕ) (e : A) → slice_get xs p ≡ Some e → slice_get (xs ++ ys) p ≡ Some e
+slice_get-append [] ys p e at = cc
+slice_get-append (x ∷ xs) ys zero e at = at
+slice_get-append (x ∷ xs) ys (suc p) e at = slice_get-append xs ys p e at
+
+pub slice_get-last : {A : Type 0} (xs : List A) (e : A) → slice_get (xs ++ e ∷ []) (length xs) ≡ Some e
+slice_get-last [] e = refl
+slice_get-last (x ∷ xs) e = slice_get-last xs e
+
+pub slice_get-push_cases : {A : Type 0} (xs : List A) (e : A) (p : ℕ) (f : A) → slice_get (xs ++ e ∷ []) p ≡ Some f → (slice_get xs p ≡ Some f) ⊎ ((p ≡ length xs) × (e ≡ f))
+slice_get-push_cases [] e zero f at = inr (refl, cc)
+slice_get-push_cases [] e (suc p) f at = inl at
+slice_get-push_cases (x ∷ xs) e zero f at = inl at
+slice_get-push_cases (x ∷ xs) e (suc p) f at =
+    elim (slice_get-push_cases xs e p f at) [ inl q ↦ inl q | inr q ↦ inr (ap suc q.0, q.1) ]
+
+-- places of a part of a list
+pub slice_get-take : {A : Type 0} (h : List A) (q p : ℕ) (e : A) → slice_get h p ≡ Some e → p < q → slice_get (take q h) p ≡ Some e
+slice_get-take [] q p e at within = cc
+slice_get-take (x ∷ h) zero p e at within = absurd (omega arith)
+slice_get-take (x ∷ h) (suc q) zero e at within = at
+slice_get-take (x ∷ h) (suc q) (suc p) e at within = slice_get-take h q p e at (omega arith)
+
+pub slice_get-from_take : {A : Type 0} (h : List A) (q p : ℕ) (e : A) → slice_get (take q h) p ≡ Some e → (slice_get h p ≡ Some e) × (p < q)
+slice_get-from_take [] zero p e at = absurd (none-some e at)
+slice_get-from_take [] (suc q) p e at = absurd (none-some e at)
+slice_get-from_take (x ∷ h) zero p e at = absurd (none-some e at)
+slice_get-from_take (x ∷ h) (suc q) zero e at = (at, omega arith)
+slice_get-from_take (x ∷ h) (suc q) (suc p) e at = let r = slice_get-from_take h q p e at in (r.0, omega (arith, r.1))
+
+-- places of what stands after a place
+pub slice_get-drop : {A : Type 0} (n : ℕ) (k : List A) (p : ℕ) → slice_get (drop n k) p ≡ slice_get k (n + p)
+slice_get-drop zero k p = let e : 0 + p ≡ p = omega arith in sym (ap (slice_get k) e)
+slice_get-drop (suc n) [] p = refl
+slice_get-drop (suc n) (x ∷ k) p = let e : suc n + p ≡ suc (n + p) = omega arith in slice_get-drop n k p ∙ sym (ap (slice_get (x ∷ k)) e)

@@ -1,0 +1,44 @@
+-- One event more, and beginnings, of a history whose every event may follow those before it.
+use Rattle.std.proofs.Common.{◌≡◌, ℕ, inl, inr, List, [], ◌∷◌, ◌++◌, ◌+◌, ◌<◌, ◌≤◌, length, get_or, take, drop, refl, sym, subst, arith}
+use Rattle.std.proofs.lemmas.Option.{none-some, slice_get_within}
+use Rattle.std.proofs.lemmas.List.{take-append-le, take-append-drop, take_at, take_more}
+use Rattle.bits_core.specs.declared.events.Event.{Event}
+use Rattle.bits_core.specs.declared.shapes.Shape.{Shape}
+use Rattle.bits_core.specs.Steps.{EachMayFollow, MayFollow}
+use Rattle.bits_core.proofs.Places.{slice_get-append, slice_get-last, slice_get-push_cases}
+
+-- the empty history is lawful
+pub EachMayFollow-empty : (shape : Shape) → EachMayFollow shape []
+EachMayFollow-empty shape = record { each = λ p e at. absurd (none-some e at) }
+
+-- a beginning of a lawful history is lawful
+pub EachMayFollow-append : (shape : Shape) (h g : List Event) → EachMayFollow shape (h ++ g) → EachMayFollow shape h
+EachMayFollow-append shape h g lawful = record {
+  each = λ p e at.
+      let q : p ≤ length h = omega (arith, slice_get_within h p e at) in
+      subst (λ past. MayFollow shape past e) (take-append-le p h g q) (lawful.each p e (slice_get-append h g p e at));
+}
+
+pub EachMayFollow-take : (shape : Shape) (h : List Event) (n : ℕ) → EachMayFollow shape h → EachMayFollow shape (take n h)
+EachMayFollow-take shape h n lawful = EachMayFollow-append shape (take n h) (drop n h) (subst (λ t. EachMayFollow shape t) (sym (take-append-drop n h)) lawful)
+
+-- one event more
+pub EachMayFollow-push : (shape : Shape) (h : List Event) (e : Event) → EachMayFollow shape h → MayFollow shape h e → EachMayFollow shape (h ++ e ∷ [])
+EachMayFollow-push shape h e lawful follows = record {
+  each = λ p f at.
+      elim (slice_get-push_cases h e p f at) [
+        | inl q ↦
+            let below : p ≤ length h = omega (arith, slice_get_within h p f q) in
+            subst (λ past. MayFollow shape past f) (sym (take-append-le p h (e ∷ []) below)) (lawful.each p f q)
+        | inr q ↦
+            let here : take p (h ++ e ∷ []) ≡ h = take_at h (e ∷ []) p (sym q.0) in
+            subst (λ past. MayFollow shape past f) (sym here) (subst (λ x. MayFollow shape h x) q.1 follows)
+      ];
+}
+
+pub EachMayFollow-last : (shape : Shape) (h : List Event) (e : Event) → EachMayFollow shape (h ++ e ∷ []) → MayFollow shape h e
+EachMayFollow-last shape h e lawful = subst (λ past. MayFollow shape past e) (take_at h (e ∷ []) (length h) refl) (lawful.each (length h) e (slice_get-last h e))
+
+-- the same of an event that is read, as the audit's loop has it
+pub EachMayFollow-more : (shape : Shape) (h : List Event) (i : ℕ) (d : Event) → i < length h → EachMayFollow shape (take i h) → MayFollow shape (take i h) (get_or h i d) → EachMayFollow shape (take (i + 1) h)
+EachMayFollow-more shape h i d within lawful follows = subst (λ t. EachMayFollow shape t) (sym (take_more h i d within)) (EachMayFollow-push shape (take i h) (get_or h i d) lawful follows)

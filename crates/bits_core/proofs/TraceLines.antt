@@ -1,0 +1,137 @@
+-- The lines of a trace: what is read stands at the front, and what stands there is read again.
+use Rattle.std.proofs.Common.{◌≡◌, ℕ, ◌<◌, true, Some, List, ◌++◌, refl, ap, sym, subst, ◌∙◌, append_assoc, arith}
+use Rattle.std.specs.Prelude.{codes, decimal, nat_lt}
+use Rattle.std.proofs.lemmas.Bool.{and_parts, ltb-true}
+use Rattle.std.proofs.lemmas.Option.{same_Some}
+use Rattle.bits_core.specs.declared.events.Side.{Side}
+use Rattle.bits_core.specs.declared.events.Bit.{Bit}
+use Rattle.bits_core.specs.declared.events.Bit.TheVariants.{S, R, X, Cell}
+use Rattle.bits_core.specs.declared.events.Act.{Act}
+use Rattle.bits_core.specs.declared.events.Event.{Event}
+use Rattle.bits_core.specs.declared.reading.Numbers.{Numbers}
+use Rattle.bits_core.specs.declared.reading.Word.{Word}
+use Rattle.bits_core.specs.declared.shapes.Shape.{Shape}
+use Rattle.bits_core.specs.declared.shapes.ShapeFault.{ShapeFault}
+use Rattle.bits_core.specs.Shape.{HasNumbers, IsRefused, belongs, capacity_of, modulus_of, width_of}
+use Rattle.bits_core.specs.Trace.{BeginsWithShape, HasBadShape}
+use Rattle.bits_core.specs.TraceText.{side_text, act_text, bit_text, value_text, event_line, shape_line}
+use Rattle.bits_core.specs.TraceReading.{after, side_at, word_at, bit_at, act_at, number_at, event_at, shape_at}
+use Rattle.bits_core.proofs.Digits.{number_at-text, number_at-decimal}
+use Rattle.bits_core.proofs.TraceFields.{Begins, HasIndices, bind_some, after-text, side_at-text, side_at-again, word_text, word_of, act_word, word_at-text, word_at-again, bit_at-text, bit_at-again, act_at-text, act_at-again, value_ends}
+
+-- ---- the line of an event
+
+-- an event's line and the bytes after it, part by part
+parts_of_event : (s : Side) (b : Bit) (a : Act) (rest : List ℕ)
+    → event_line (record { side = s; bit = b; act = a }) ++ rest ≡ side_text s ++ (act_text a ++ (bit_text b ++ (value_text a ++ (codes "\n" ++ rest))))
+parts_of_event s b a rest = simp append_assoc
+
+event_joined : (bytes r1 r2 r3 r4 rest : List ℕ) (s : Side) (w : Word) (b : Bit) (a : Act)
+    → bytes ≡ side_text s ++ r1 → r1 ≡ word_text w ++ r2 → r2 ≡ bit_text b ++ r3 → (word_text w ≡ act_text a) × (r3 ≡ value_text a ++ r4) → r4 ≡ codes "\n" ++ rest
+    → bytes ≡ event_line (record { side = s; bit = b; act = a }) ++ rest
+event_joined bytes r1 r2 r3 r4 rest s w b a e1 e2 e3 e4 e5 =
+    e1 ∙ ap (λ (t : List ℕ). side_text s ++ t) (e2 ∙ ap (λ (t : List ℕ). t ++ r2) e4.0 ∙ ap (λ (t : List ℕ). act_text a ++ t)
+    (e3 ∙ ap (λ (t : List ℕ). bit_text b ++ t) (e4.1 ∙ ap (λ (t : List ℕ). value_text a ++ t) e5)))
+    ∙ sym (parts_of_event s b a rest)
+
+pub event_at-text : (bytes : List ℕ) (x : Event × List ℕ) → event_at bytes ≡ Some x → Begins event_line bytes x
+unfolding event_at
+event_at-text bytes x e =
+    let s = bind_some (side_at bytes) _ x e in
+    let w = bind_some (word_at s.0.1) _ x s.2 in
+    let b = bind_some (bit_at w.0.1) _ x w.2 in
+    let a = bind_some (act_at w.0.0 b.0.1) _ x b.2 in
+    let l = bind_some (after (codes "\n") a.0.1) _ x a.2 in
+    let made : Event = record { side = s.0.0; bit = b.0.0; act = a.0.0 } in
+    subst (λ (y : Event × List ℕ). Begins event_line bytes y) (same_Some (made, l.0) x l.2)
+    (event_joined bytes s.0.1 w.0.1 b.0.1 a.0.1 l.0 s.0.0 w.0.0 b.0.0 a.0.0
+    (side_at-text bytes s.0 s.1) (word_at-text s.0.1 w.0 w.1) (bit_at-text w.0.1 b.0 b.1) (act_at-text w.0.0 b.0.1 a.0 a.1) (after-text (codes "\n") a.0.1 l.0 l.1))
+
+pub event_at-again : (e : Event) (rest : List ℕ) → HasIndices e.bit → event_at (event_line e ++ rest) ≡ Some (e, rest)
+unfolding event_at
+event_at-again e rest small =
+    let line : List ℕ = codes "\n" ++ rest in
+    let behind : List ℕ = bit_text e.bit ++ (value_text e.act ++ line) in
+    let parts : event_line e ++ rest ≡ side_text e.side ++ (word_text (word_of e.act) ++ behind) =
+    parts_of_event e.side e.bit e.act rest ∙ ap (λ (t : List ℕ). side_text e.side ++ (t ++ behind)) (act_word e.act) in
+    ap event_at parts
+    ∙ rw (side_at-again e.side (word_text (word_of e.act) ++ behind), word_at-again (word_of e.act) behind, bit_at-again e.bit (value_text e.act ++ line) small (value_ends e.act rest), act_at-again e.act line) refl
+
+-- the indices of a shape's bits are below 256
+pub small_indices : (shape : Shape) (b : Bit) → belongs shape b ≡ true → HasIndices b
+small_indices shape (S i) e = omega (arith, ltb-true i (modulus_of shape) e, shape.small_modulus)
+small_indices shape (R i) e = omega (arith, ltb-true i (modulus_of shape) e, shape.small_modulus)
+small_indices shape X e = tt
+small_indices shape (Cell j i) e =
+    let both = and_parts (nat_lt j (capacity_of shape)) (nat_lt i (width_of shape)) e in
+    (omega (arith, ltb-true j (capacity_of shape) both.0, shape.few_cells), omega (arith, ltb-true i (width_of shape) both.1, shape.few_digits))
+
+-- ---- the line of a shape
+
+parts_of_shape : (capacity modulus width : ℕ) (rest : List ℕ)
+    → shape_line capacity modulus width ++ rest ≡ codes "shape " ++ (decimal capacity ++ (codes " " ++ (decimal modulus ++ (codes " " ++ (decimal width ++ (codes "\n" ++ rest))))))
+parts_of_shape capacity modulus width rest = simp append_assoc
+
+shape_joined : (bytes r1 r2 r3 r4 r5 r6 rest : List ℕ) (capacity modulus width : ℕ)
+    → bytes ≡ codes "shape " ++ r1 → r1 ≡ decimal capacity ++ r2 → r2 ≡ codes " " ++ r3 → r3 ≡ decimal modulus ++ r4 → r4 ≡ codes " " ++ r5 → r5 ≡ decimal width ++ r6 → r6 ≡ codes "\n" ++ rest
+    → bytes ≡ shape_line capacity modulus width ++ rest
+shape_joined bytes r1 r2 r3 r4 r5 r6 rest capacity modulus width e1 e2 e3 e4 e5 e6 e7 =
+    e1 ∙ ap (λ (t : List ℕ). codes "shape " ++ t) (e2 ∙ ap (λ (t : List ℕ). decimal capacity ++ t) (e3 ∙ ap (λ (t : List ℕ). codes " " ++ t)
+    (e4 ∙ ap (λ (t : List ℕ). decimal modulus ++ t) (e5 ∙ ap (λ (t : List ℕ). codes " " ++ t) (e6 ∙ ap (λ (t : List ℕ). decimal width ++ t) e7)))))
+    ∙ sym (parts_of_shape capacity modulus width rest)
+
+-- the line of three numbers of at most four digits
+pub record BeginsShape (bytes : List ℕ) (x : Numbers × List ℕ) : Type 0 where
+  pub text : bytes ≡ shape_line x.0.capacity x.0.modulus x.0.width ++ x.1
+  pub short_capacity : x.0.capacity < 10000
+  pub short_modulus : x.0.modulus < 10000
+  pub short_width : x.0.width < 10000
+
+pub shape_at-text : (bytes : List ℕ) (x : Numbers × List ℕ) → shape_at bytes ≡ Some x → BeginsShape bytes x
+unfolding shape_at
+shape_at-text bytes x e =
+    let p = bind_some (after (codes "shape ") bytes) _ x e in
+    let c = bind_some (number_at p.0) _ x p.2 in
+    let q = bind_some (after (codes " ") c.0.1) _ x c.2 in
+    let m = bind_some (number_at q.0) _ x q.2 in
+    let r = bind_some (after (codes " ") m.0.1) _ x m.2 in
+    let w = bind_some (number_at r.0) _ x r.2 in
+    let l = bind_some (after (codes "\n") w.0.1) _ x w.2 in
+    let capacity = number_at-text p.0 c.0 c.1 in
+    let modulus = number_at-text q.0 m.0 m.1 in
+    let width = number_at-text r.0 w.0 w.1 in
+    let made : Numbers = record { capacity = c.0.0; modulus = m.0.0; width = w.0.0 } in
+    subst (λ (y : Numbers × List ℕ). BeginsShape bytes y) (same_Some (made, l.0) x l.2) (record {
+      text = shape_joined bytes p.0 c.0.1 q.0 m.0.1 r.0 w.0.1 l.0 c.0.0 m.0.0 w.0.0 (after-text (codes "shape ") bytes p.0 p.1) capacity.0
+          (after-text (codes " ") c.0.1 q.0 q.1) modulus.0 (after-text (codes " ") m.0.1 r.0 r.1) width.0 (after-text (codes "\n") w.0.1 l.0 l.1);
+      short_capacity = capacity.1;
+      short_modulus = modulus.1;
+      short_width = width.1;
+    })
+
+pub shape_at-again : (capacity modulus width : ℕ) (rest : List ℕ) → capacity < 10000 → modulus < 10000 → width < 10000
+    → shape_at (shape_line capacity modulus width ++ rest) ≡ Some (record { capacity = capacity; modulus = modulus; width = width }, rest)
+unfolding shape_at
+shape_at-again capacity modulus width rest short_capacity short_modulus short_width =
+    ap shape_at (parts_of_shape capacity modulus width rest)
+    ∙ rw (
+      number_at-decimal capacity (codes " " ++ (decimal modulus ++ (codes " " ++ (decimal width ++ (codes "\n" ++ rest))))) short_capacity refl,
+      number_at-decimal modulus (codes " " ++ (decimal width ++ (codes "\n" ++ rest))) short_modulus refl,
+      number_at-decimal width (codes "\n" ++ rest) short_width refl,
+    ) refl
+
+-- the numbers of a line stand for those of a shape
+pub begins_numbers : (bytes rest : List ℕ) (n : Numbers) (shape : Shape) → BeginsShape bytes (n, rest) → HasNumbers n.capacity n.modulus n.width shape → BeginsWithShape bytes shape rest
+begins_numbers bytes rest n shape begins is =
+    begins.text ∙ ap (λ (k : ℕ). shape_line k n.modulus n.width ++ rest) (sym is.capacity_is)
+    ∙ ap (λ (k : ℕ). shape_line (capacity_of shape) k n.width ++ rest) (sym is.modulus_is)
+    ∙ ap (λ (k : ℕ). shape_line (capacity_of shape) (modulus_of shape) k ++ rest) (sym is.width_is)
+
+pub bad_numbers : (bytes rest : List ℕ) (n : Numbers) (fault : ShapeFault) → BeginsShape bytes (n, rest) → IsRefused n.capacity n.modulus n.width fault → HasBadShape bytes fault
+bad_numbers bytes rest n fault begins refused = record {
+  capacity = n.capacity;
+  modulus = n.modulus;
+  width = n.width;
+  line = record { rest = rest; text = begins.text; short_capacity = begins.short_capacity; short_modulus = begins.short_modulus; short_width = begins.short_width };
+  refused = refused;
+}

@@ -1,0 +1,16 @@
+use Rattle.std.proofs.Common.{◌≡◌, ◌≤◌, ◌++◌, length, vec_len}
+use Rattle.bits_core.specs.Trace.{AreOfShape}
+use Rattle.bits_core.specs.TraceText.{trace_text}
+use Rattle.bits_core.proofs.traces.read_trace.Given as goal
+
+-- what was read so far is the text of the events so far
+abbrev pub invariant-loop-rest : goal.invariant-loop-rest
+invariant-loop-rest g l = record {
+  text : l.bytes ≡ trace_text l.shape l.events.items ++ l.rest;
+  of_shape : AreOfShape l.shape l.events.items;
+  len : length l.events.items ≡ vec_len l.events;
+  within : vec_len l.events ≤ 10000;
+}
+
+abbrev pub decreases-loop-rest : goal.decreases-loop-rest
+decreases-loop-rest g l = length l.rest

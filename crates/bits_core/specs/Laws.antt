@@ -1,0 +1,50 @@
+-- The laws that the layers above stand on.
+use Rattle.std.specs.Prelude.{◌≡◌, ℕ, ◌≤◌, ◌↔◌, ◌||◌, Bool, true, Some, List, [], ◌∷◌, ◌++◌, length, take, if◌then◌else◌, is_some, unwrap_or}
+use Rattle.bits_core.specs.declared.events.Side.{Side}
+use Rattle.bits_core.specs.declared.events.Bit.{Bit}
+use Rattle.bits_core.specs.declared.events.Access.{Access}
+use Rattle.bits_core.specs.declared.events.Event.{Event}
+use Rattle.bits_core.specs.declared.shapes.Shape.{Shape}
+use Rattle.bits_core.specs.Bits.{writer, is_by, begun_by, write_of}
+use Rattle.bits_core.specs.History.{open_access, open_write, held, held_at_begin, is_overlapped}
+use Rattle.bits_core.specs.Intervals.{IsHeld, IsOpenAt, IsRead, HasOverlap}
+use Rattle.bits_core.specs.Lawful.{IsLawful}
+use Rattle.bits_core.specs.Steps.{MayFollow}
+
+-- nothing has happened
+abbrev pub EmptyIsLawful : Type 0
+EmptyIsLawful = (shape : Shape) → IsLawful shape []
+
+-- a beginning of a lawful history is lawful
+abbrev pub BeginningIsLawful : Type 0
+BeginningIsLawful = (shape : Shape) (h later : List Event) → IsLawful shape (h ++ later) → IsLawful shape h
+
+-- one event more
+abbrev pub LawfulByOneMore : Type 0
+LawfulByOneMore = (shape : Shape) (h : List Event) (e : Event) → IsLawful shape (h ++ e ∷ []) ↔ (IsLawful shape h × MayFollow shape h e)
+
+-- what the events so far say, is what the intervals say
+abbrev pub OpenIsByInterval : Type 0
+OpenIsByInterval = (h : List Event) (s : Side) (access : Access) → (open_access s h ≡ Some access) ↔ IsOpenAt h s access (length h)
+
+abbrev pub HeldIsByInterval : Type 0
+HeldIsByInterval = (shape : Shape) (h : List Event) → IsLawful shape h → (b : Bit) (place : ℕ) → place ≤ length h → (v : Bool) → IsHeld h b place v ↔ (v ≡ held b (take place h))
+
+abbrev pub OverlapIsByInterval : Type 0
+OverlapIsByInterval = (shape : Shape) (h : List Event) → IsLawful shape h → (s : Side) (b : Bit) (start stop : ℕ) (v : Bool) → IsRead h s b start stop v → HasOverlap h b start stop ↔ (is_overlapped s b (take stop h) ≡ true)
+
+-- how they change by one event
+abbrev pub OpenChanges : Type 0
+OpenChanges = (s : Side) (h : List Event) (e : Event) → open_access s (h ++ e ∷ []) ≡ (if is_by s e then begun_by e else open_access s h)
+
+abbrev pub OpenWriteChanges : Type 0
+OpenWriteChanges = (b : Bit) (h : List Event) (e : Event) → open_write b (h ++ e ∷ []) ≡ (if is_by (writer b) e then write_of b e else open_write b h)
+
+abbrev pub HeldChanges : Type 0
+HeldChanges = (shape : Shape) (b : Bit) (h : List Event) (e : Event) → IsLawful shape h → held b (h ++ e ∷ []) ≡ (if is_by (writer b) e then unwrap_or (open_write b h) (held b h) else held b h)
+
+abbrev pub HeldAtBeginChanges : Type 0
+HeldAtBeginChanges = (s : Side) (b : Bit) (h : List Event) (e : Event) → held_at_begin s b (h ++ e ∷ []) ≡ (if is_by s e then held b h else held_at_begin s b h)
+
+abbrev pub OverlapChanges : Type 0
+OverlapChanges = (s : Side) (b : Bit) (h : List Event) (e : Event) → is_overlapped s b (h ++ e ∷ []) ≡ (if is_by s e then is_some (open_write b h) else is_overlapped s b h || is_some (write_of b e))

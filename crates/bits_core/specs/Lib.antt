@@ -1,0 +1,11 @@
+pub mod Bits
+pub mod Shape
+pub mod History
+pub mod Intervals
+pub mod Lawful
+pub mod Steps
+pub mod Audit
+pub mod Laws
+pub mod TraceText
+pub mod Trace
+pub mod TraceReading

@@ -1,0 +1,86 @@
+-- Which bytes are a trace, and why others are none.
+use Rattle.std.specs.Prelude.{◌≡◌, ◌≢◌, ◌⊎◌, ℕ, ◌+◌, ◌<◌, ◌≤◌, true, List, [], ◌++◌, All, length}
+use Rattle.bits_core.specs.declared.traces.TheConstants.{EVENT_LIMIT}
+use Rattle.bits_core.specs.declared.events.Event.{Event}
+use Rattle.bits_core.specs.declared.shapes.Shape.{Shape}
+use Rattle.bits_core.specs.declared.shapes.ShapeFault.{ShapeFault}
+use Rattle.bits_core.specs.declared.traces.TraceFault.{TraceFault}
+use Rattle.bits_core.specs.declared.traces.TraceFault.TheVariants.{BadShape, BadLine, TooLong, OutOfMemory}
+use Rattle.bits_core.specs.Shape.{IsRefused, belongs, capacity_of, modulus_of, width_of}
+use Rattle.bits_core.specs.TraceText.{event_line, shape_line, trace_text}
+
+-- the number of each fault
+abbrev pub trace_fault_number : TraceFault → ℕ
+trace_fault_number (BadShape fault) = 1
+trace_fault_number (BadLine line) = 2
+trace_fault_number TooLong = 3
+trace_fault_number OutOfMemory = 4
+
+-- each event is one of a bit of the shape
+abbrev pub AreOfShape : Shape → List Event → Type 0
+AreOfShape shape events = All (λ e. belongs shape e.bit ≡ true) events
+
+-- the bytes are the text of the shape and the events, which are of the shape and no more than a trace may have
+pub record IsTrace (bytes : List ℕ) (shape : Shape) (events : List Event) : Type 0 where
+  pub text : bytes ≡ trace_text shape events
+  pub of_shape : AreOfShape shape events
+  pub within : length events ≤ EVENT_LIMIT
+
+-- the bytes begin with a line of three numbers of at most four digits
+pub record HasShapeLine (bytes : List ℕ) (capacity modulus width : ℕ) : Type 0 where
+  pub rest : List ℕ
+  pub text : bytes ≡ shape_line capacity modulus width ++ rest
+  pub short_capacity : capacity < 10000
+  pub short_modulus : modulus < 10000
+  pub short_width : width < 10000
+
+-- line 1 has three numbers that are refused as a shape
+pub record HasBadShape (bytes : List ℕ) (fault : ShapeFault) : Type 0 where
+  pub capacity : ℕ
+  pub modulus : ℕ
+  pub width : ℕ
+  pub line : HasShapeLine bytes capacity modulus width
+  pub refused : IsRefused capacity modulus width fault
+
+-- the bytes begin with the line of the shape
+abbrev pub BeginsWithShape : List ℕ → Shape → List ℕ → Type 0
+BeginsWithShape bytes shape rest = bytes ≡ shape_line (capacity_of shape) (modulus_of shape) (width_of shape) ++ rest
+
+-- the bytes begin with the line of an event of the shape
+abbrev pub BeginsWithEvent : Shape → List ℕ → Event → List ℕ → Type 0
+BeginsWithEvent shape bytes e rest = (belongs shape e.bit ≡ true) × (bytes ≡ event_line e ++ rest)
+
+-- they begin with no such line
+abbrev pub HasNoEvent : Shape → List ℕ → Type 0
+HasNoEvent shape bytes = (e : Event) (rest : List ℕ) → ¬ BeginsWithEvent shape bytes e rest
+
+-- the bytes are the text of a shape and of events of it, and then something more
+pub record GoesOn (bytes : List ℕ) (shape : Shape) (events : List Event) (rest : List ℕ) : Type 0 where
+  pub text : bytes ≡ trace_text shape events ++ rest
+  pub of_shape : AreOfShape shape events
+  pub more : rest ≢ []
+
+-- as many events as a trace may have are followed by something more
+pub record IsTooLong (bytes : List ℕ) : Type 0 where
+  pub shape : Shape
+  pub events : List Event
+  pub rest : List ℕ
+  pub goes_on : GoesOn bytes shape events rest
+  pub full : length events ≡ EVENT_LIMIT
+
+-- fewer events than that are followed by something that does not begin with the line of an event
+pub record HasBadLine (bytes : List ℕ) (line : ℕ) : Type 0 where
+  pub shape : Shape
+  pub events : List Event
+  pub rest : List ℕ
+  pub goes_on : GoesOn bytes shape events rest
+  pub room : length events < EVENT_LIMIT
+  pub no_event : HasNoEvent shape rest
+  pub number : line ≡ length events + 2
+
+-- the first fault of the bytes, line by line; there is none for want of memory
+abbrev pub IsTraceFault : List ℕ → TraceFault → Type 0
+IsTraceFault bytes (BadShape fault) = HasBadShape bytes fault
+IsTraceFault bytes (BadLine line) = ((line ≡ 1) × ((capacity modulus width : ℕ) → ¬ HasShapeLine bytes capacity modulus width)) ⊎ HasBadLine bytes line
+IsTraceFault bytes TooLong = IsTooLong bytes
+IsTraceFault bytes OutOfMemory = ⊥

@@ -1,0 +1,100 @@
+-- How the lines of a trace are read: each part is a value and the bytes after it, or there is none.
+use Rattle.std.specs.Prelude.{ℕ, zero, suc, ◌+◌, ◌-◌, ◌*◌, ◌==◌, nat_lt, Bool, true, false, if◌then◌else◌, List, [], ◌∷◌, codes, length, take, drop, Option, Some, None}
+use Rattle.std.specs.Char.{is_ascii_digit}
+use Rattle.std.specs.Str.{bytes_eq}
+use Rattle.bits_core.specs.declared.events.Side.{Side}
+use Rattle.bits_core.specs.declared.events.Side.TheVariants.{P, C}
+use Rattle.bits_core.specs.declared.events.Bit.{Bit}
+use Rattle.bits_core.specs.declared.events.Bit.TheVariants.{S, R, X, Cell}
+use Rattle.bits_core.specs.declared.events.Act.{Act}
+use Rattle.bits_core.specs.declared.events.Act.TheVariants.{ReadBegin, ReadEnd, WriteBegin, WriteEnd}
+use Rattle.bits_core.specs.declared.events.Event.{Event}
+use Rattle.bits_core.specs.declared.reading.Numbers.{Numbers}
+use Rattle.bits_core.specs.declared.reading.Word.{Word}
+use Rattle.bits_core.specs.declared.reading.Word.TheVariants.{Read, Got, Write, Wrote}
+
+infixl 10 ◌>>=◌
+abbrev pub ◌>>=◌ : {A B : Type 0} → Option A → (A → Option B) → Option B
+(Some x) >>= f = f x
+None >>= f = None
+
+-- the first of two readings that there is
+abbrev pub or_else : {A : Type 0} → Option A → Option A → Option A
+or_else (Some x) other = Some x
+or_else None other = other
+
+-- the bytes after a text
+abbrev pub after : List ℕ → List ℕ → Option (List ℕ)
+after text bytes = if bytes_eq (take (length text) bytes) text then Some (drop (length text) bytes) else None
+
+-- a value, where its text stands
+abbrev pub named : {A : Type 0} → A → List ℕ → List ℕ → Option (A × List ℕ)
+named value text bytes = after text bytes >>= λ rest. Some (value, rest)
+
+abbrev pub side_at : List ℕ → Option (Side × List ℕ)
+side_at bytes = or_else (named P (codes "P ") bytes) (named C (codes "C ") bytes)
+
+abbrev pub word_at : List ℕ → Option (Word × List ℕ)
+word_at bytes = or_else (named Read (codes "read ") bytes) (or_else (named Got (codes "got ") bytes)
+    (or_else (named Write (codes "write ") bytes) (named Wrote (codes "wrote ") bytes)))
+
+abbrev pub digit_at : List ℕ → Option (Bool × List ℕ)
+digit_at bytes = or_else (named false (codes " 0") bytes) (named true (codes " 1") bytes)
+
+-- a number that goes on with the digits at the front, at most so many more
+unfoldable pub digits_after : ℕ → ℕ → List ℕ → ℕ × List ℕ
+digits_after zero n bytes = (n, bytes)
+digits_after (suc more) n [] = (n, [])
+digits_after (suc more) n (b ∷ rest) = if is_ascii_digit b then digits_after more (10 * n + (b - 48)) rest else (n, b ∷ rest)
+
+-- a number of at most four digits that does not begin with 0, or 0
+unfoldable pub number_at : List ℕ → Option (ℕ × List ℕ)
+number_at [] = None
+number_at (b ∷ rest) = if is_ascii_digit b then (if b == 48 then Some (0, rest) else Some (digits_after 3 (b - 48) rest)) else None
+
+-- a number below 256
+unfoldable pub index_at : List ℕ → Option (ℕ × List ℕ)
+index_at bytes = number_at bytes >>= λ n. if nat_lt n.0 256 then Some n else None
+
+unfoldable pub cell_at : List ℕ → Option (Bit × List ℕ)
+cell_at bytes = do
+  j ← index_at bytes
+  rest ← after (codes ".") j.1
+  i ← index_at rest
+  Some (Cell j.0 i.0, i.1)
+
+unfoldable pub bit_at : List ℕ → Option (Bit × List ℕ)
+bit_at [] = None
+bit_at (b ∷ rest) =
+    if b == 115 then (index_at rest >>= λ i. Some (S i.0, i.1))
+    else (if b == 114 then (index_at rest >>= λ i. Some (R i.0, i.1))
+    else (if b == 120 then Some (X, rest)
+    else (if b == 99 then cell_at rest else None)))
+
+-- the act of a word, with the value that stands after the bit
+unfoldable pub act_at : Word → List ℕ → Option (Act × List ℕ)
+act_at Read bytes = Some (ReadBegin, bytes)
+act_at Got bytes = digit_at bytes >>= λ v. Some (ReadEnd v.0, v.1)
+act_at Write bytes = digit_at bytes >>= λ v. Some (WriteBegin v.0, v.1)
+act_at Wrote bytes = Some (WriteEnd, bytes)
+
+unfoldable pub event_at : List ℕ → Option (Event × List ℕ)
+event_at bytes = do
+  side ← side_at bytes
+  word ← word_at side.1
+  bit ← bit_at word.1
+  act ← act_at word.0 bit.1
+  rest ← after (codes "\n") act.1
+  Some (record { side = side.0; bit = bit.0; act = act.0 }, rest)
+
+-- the three numbers of line 1
+unfoldable pub shape_at : List ℕ → Option (Numbers × List ℕ)
+shape_at bytes = do
+  first ← after (codes "shape ") bytes
+  capacity ← number_at first
+  second ← after (codes " ") capacity.1
+  modulus ← number_at second
+  third ← after (codes " ") modulus.1
+  width ← number_at third
+  rest ← after (codes "\n") width.1
+  Some (record { capacity = capacity.0; modulus = modulus.0; width = width.0 }, rest)

@@ -1,0 +1,137 @@
+//! The audit of a recorded history of safe bits.
+ghost use Rattle.std.specs.Prelude.{◌≡◌, ℕ, ◌↔◌, IsTrue, MatchOption};
+ghost use Rattle.bits_core.specs.Bits.{doer};
+ghost use Rattle.bits_core.specs.Shape.{IsByRightSide};
+ghost use Rattle.bits_core.specs.Steps.{FitsOpen, IsInTurn, IsPermitted, MayFollow};
+ghost use Rattle.bits_core.specs.Lawful.{IsLawful};
+ghost use Rattle.bits_core.specs.Audit.{IsFaultAfter, IsVerdict};
+
+use crate::events::{Access, Act, Bit, Event, Side};
+use crate::searches::{held_at_begin, is_overlapped, open_access, reader, writer};
+use crate::shapes::Shape;
+
+/// What is wrong with an event. Where more than one kind applies, the first is told.
+#[derive(Clone, Copy, PartialEq, Eq, Debug)]
+pub enum Kind {
+    /// The bit is not in the shape, or the side is not its reader or writer, as this act needs.
+    WrongSide,
+    /// A begin while the side has an access open, or an end where it has no access of this bit and
+    /// kind open.
+    OutOfTurn,
+    /// A read's answer that a safe bit may not give.
+    NotPermitted,
+    /// Not the next event of its side's program. An audit of the bits alone never tells it.
+    NotProgram,
+}
+
+impl Kind {
+    ghost use Rattle.bits_core.specs.Audit.{kind_number};
+
+    /// The number of the kind: 1 `WrongSide`, 2 `OutOfTurn`, 3 `NotPermitted`, 4 `NotProgram`.
+    pub fn number(&self) -> u8
+        ensures { result ≡ kind_number self.now }
+    {
+        match self {
+            Kind::WrongSide => 1,
+            Kind::OutOfTurn => 2,
+            Kind::NotPermitted => 3,
+            Kind::NotProgram => 4,
+        }
+    }
+}
+
+/// What an audit tells of a history.
+#[derive(Clone, Copy, PartialEq, Eq, Debug)]
+pub enum Verdict {
+    /// The history is lawful.
+    Lawful,
+    /// The event at `place`, counted from 0, is the first that is at fault.
+    Fault { place: usize, kind: Kind },
+}
+
+// The side that may do this to the bit.
+fn doer(bit: Bit, act: Act) -> Side
+    ensures { result ≡ doer bit act }
+{
+    match act {
+        Act::ReadBegin | Act::ReadEnd(_) => reader(bit),
+        Act::WriteBegin(_) | Act::WriteEnd => writer(bit),
+    }
+}
+
+// Whether the event's bit is in the shape, and its side may do this to it.
+fn is_by_right_side(shape: &Shape, event: Event) -> bool
+    ensures { IsTrue result ↔ IsByRightSide shape.now event }
+{
+    shape.has(event.bit) && event.side == doer(event.bit, event.act)
+}
+
+// Whether the act begins an access while none is open, or ends the open one.
+fn fits_open(bit: Bit, act: Act, opened: Option<Access>) -> bool
+    ensures { IsTrue result ↔ FitsOpen bit act opened }
+{
+    match act {
+        Act::ReadBegin | Act::WriteBegin(_) => opened.is_none(),
+        Act::ReadEnd(_) => opened == Some(Access::Read(bit)),
+        Act::WriteEnd => match opened {
+            Some(Access::Write(written, _)) => written == bit,
+            _ => false,
+        },
+    }
+}
+
+// Whether the event is in turn.
+fn is_in_turn(past: &[Event], event: Event) -> bool
+    ensures { IsTrue result ↔ IsInTurn past.now event }
+{
+    fits_open(event.bit, event.act, open_access(past, event.side))
+}
+
+// Whether the answer is permitted, where the event is a read's end.
+fn is_permitted(past: &[Event], event: Event) -> bool
+    ensures { IsTrue result ↔ IsPermitted past.now event }
+{
+    match event.act {
+        Act::ReadEnd(value) => {
+            is_overlapped(past, event.side, event.bit)
+                || value == held_at_begin(past, event.side, event.bit)
+        }
+        _ => true,
+    }
+}
+
+// What is wrong with an event after the events before it.
+fn fault_of(shape: &Shape, past: &[Event], event: Event) -> Option<Kind>
+    ensures { MatchOption result (MayFollow shape.now past.now event) (IsFaultAfter shape.now past.now event) }
+{
+    if !is_by_right_side(shape, event) {
+        return Some(Kind::WrongSide);
+    }
+    if !is_in_turn(past, event) {
+        return Some(Kind::OutOfTurn);
+    }
+    if !is_permitted(past, event) {
+        return Some(Kind::NotPermitted);
+    }
+    None
+}
+
+/// Whether the events are a lawful history of safe bits of the shape (Lamport, 1986), and where
+/// they are not, the first event at fault and the first kind that applies to it.
+///
+/// A read that a write of its bit overlaps may answer anything, also where the write does not
+/// change the bit; any other read answers the value that the bit held where the read began. An
+/// access may be open at the end. It searches the events for each of them, takes no memory, and
+/// serves a slice of any length.
+pub fn audit_bits(shape: &Shape, events: &[Event]) -> Verdict
+    ensures verdict { IsVerdict shape.now events.now result }
+    ensures lawful { (result ≡ Verdict.Lawful) ↔ IsLawful shape.now events.now }
+{
+    for i in 0..events.len() {
+        match fault_of(shape, &events[..i], events[i]) {
+            Some(kind) => return Verdict::Fault { place: i, kind },
+            None => {}
+        }
+    }
+    Verdict::Lawful
+}

@@ -1,0 +1,53 @@
+//! Sides, bits, and the events of a history.
+
+/// The two users of the bits: the producer `P` and the consumer `C`.
+#[derive(Clone, Copy, PartialEq, Eq, Debug)]
+pub enum Side {
+    P,
+    C,
+}
+
+/// A safe bit of a ring of one producer and one consumer.
+///
+/// Each bit has one writer and one reader. `S(i)` and `X` are written by the producer and read by
+/// the consumer, and so is each `Cell(j, i)`; `R(i)` is written by the consumer and read by the
+/// producer. At first `S(0)` and `R(0)` are 1, and all other bits are 0.
+#[derive(Clone, Copy, PartialEq, Eq, Debug)]
+pub enum Bit {
+    /// Bit `i` of the producer's count.
+    S(u8),
+    /// Bit `i` of the consumer's count.
+    R(u8),
+    /// The close bit.
+    X,
+    /// `Cell(j, i)` is binary digit `i` of cell `j`, where digit 0 is the lowest.
+    Cell(u8, u8),
+}
+
+/// What an event does to its bit.
+#[derive(Clone, Copy, PartialEq, Eq, Debug)]
+pub enum Act {
+    /// A read begins.
+    ReadBegin,
+    /// The read ends with this answer.
+    ReadEnd(bool),
+    /// A write of this value begins.
+    WriteBegin(bool),
+    /// The write ends.
+    WriteEnd,
+}
+
+/// The begin or the end of one access to one bit by one side.
+#[derive(Clone, Copy, PartialEq, Eq, Debug)]
+pub struct Event {
+    pub side: Side,
+    pub bit: Bit,
+    pub act: Act,
+}
+
+/// What an access does: it reads a bit, or writes a value to it.
+#[derive(Clone, Copy, PartialEq, Eq, Debug)]
+pub enum Access {
+    Read(Bit),
+    Write(Bit, bool),
+}

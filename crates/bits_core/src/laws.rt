@@ -1,0 +1,56 @@
+ghost use Rattle.bits_core.specs.Laws.{BeginningIsLawful, EmptyIsLawful, HeldAtBeginChanges, HeldChanges, HeldIsByInterval, LawfulByOneMore, OpenChanges, OpenIsByInterval, OpenWriteChanges, OverlapChanges, OverlapIsByInterval};
+
+/// The history with no event is lawful.
+pub fn empty_is_lawful()
+    ensures { EmptyIsLawful }
+{}
+
+/// A beginning of a lawful history is lawful.
+pub fn beginning_is_lawful()
+    ensures { BeginningIsLawful }
+{}
+
+/// A history is lawful with one event more where it is lawful and the event may follow it.
+pub fn lawful_by_one_more()
+    ensures { LawfulByOneMore }
+{}
+
+/// The access that a side has open, by its interval.
+pub fn open_is_by_interval()
+    ensures { OpenIsByInterval }
+{}
+
+/// What a bit holds, by the intervals of its writes.
+pub fn held_is_by_interval()
+    ensures { HeldIsByInterval }
+{}
+
+/// Whether a write overlaps a read, by their intervals.
+pub fn overlap_is_by_interval()
+    ensures { OverlapIsByInterval }
+{}
+
+/// How the open access of a side changes by one event.
+pub fn open_changes()
+    ensures { OpenChanges }
+{}
+
+/// How the open write of a bit changes by one event.
+pub fn open_write_changes()
+    ensures { OpenWriteChanges }
+{}
+
+/// How what a bit holds changes by one event.
+pub fn held_changes()
+    ensures { HeldChanges }
+{}
+
+/// How what a bit held at a side's last begin changes by one event.
+pub fn held_at_begin_changes()
+    ensures { HeldAtBeginChanges }
+{}
+
+/// How the overlap of a side's last access changes by one event.
+pub fn overlap_changes()
+    ensures { OverlapChanges }
+{}

@@ -1,0 +1,15 @@
+//! Safe bits: shapes, events, lawful histories, the audit of a recorded history, and its text.
+#![tactic(auto)]
+
+mod audits;
+mod events;
+pub mod laws;
+mod reading;
+mod searches;
+mod shapes;
+mod traces;
+
+pub use audits::{Kind, Verdict, audit_bits};
+pub use events::{Access, Act, Bit, Event, Side};
+pub use shapes::{Shape, ShapeFault};
+pub use traces::{EVENT_LIMIT, TraceFault, read_trace};

@@ -1,0 +1,191 @@
+//! The parts of a trace's lines, each read from the front of the bytes.
+ghost use Rattle.std.specs.Prelude.{◌≡◌, ℕ, ◌<◌, List, Some, None, Option, option_map};
+ghost use Rattle.bits_core.specs.TraceReading.{act_at, after, bit_at, cell_at, digit_at, digits_after, event_at, index_at, number_at, shape_at, side_at, word_at};
+
+use crate::events::{Act, Bit, Event, Side};
+
+/// What the word of a line says of the access.
+#[derive(Clone, Copy)]
+pub enum Word {
+    Read,
+    Got,
+    Write,
+    Wrote,
+}
+
+/// The three numbers of a trace's first line.
+#[derive(Clone, Copy)]
+pub struct Numbers {
+    pub capacity: u64,
+    pub modulus: u64,
+    pub width: u64,
+}
+
+// The bytes after a text that stands at the front.
+fn after<'a>(bytes: &'a [u8], text: &str) -> Option<&'a [u8]>
+    ensures { option_map (λ rest. rest.now) result ≡ after text.now bytes.now }
+{
+    bytes.strip_prefix(text.as_bytes())
+}
+
+fn side_at(bytes: &[u8]) -> Option<(Side, &[u8])>
+    ensures { option_map (λ x. (x.0, x.1.now)) result ≡ side_at bytes.now }
+{
+    if let Some(rest) = after(bytes, "P ") {
+        return Some((Side::P, rest));
+    }
+    let rest = after(bytes, "C ")?;
+    Some((Side::C, rest))
+}
+
+fn word_at(bytes: &[u8]) -> Option<(Word, &[u8])>
+    ensures { option_map (λ x. (x.0, x.1.now)) result ≡ word_at bytes.now }
+{
+    if let Some(rest) = after(bytes, "read ") {
+        return Some((Word::Read, rest));
+    }
+    if let Some(rest) = after(bytes, "got ") {
+        return Some((Word::Got, rest));
+    }
+    if let Some(rest) = after(bytes, "write ") {
+        return Some((Word::Write, rest));
+    }
+    let rest = after(bytes, "wrote ")?;
+    Some((Word::Wrote, rest))
+}
+
+fn digit_at(bytes: &[u8]) -> Option<(bool, &[u8])>
+    ensures { option_map (λ x. (x.0, x.1.now)) result ≡ digit_at bytes.now }
+{
+    if let Some(rest) = after(bytes, " 0") {
+        return Some((false, rest));
+    }
+    let rest = after(bytes, " 1")?;
+    Some((true, rest))
+}
+
+// A number of one digit, and at most three digits more that stand at the front.
+fn digits_after(first: u64, bytes: &[u8]) -> (u64, &[u8])
+    requires { first < 10 }
+    ensures { (result.0, result.1.now) ≡ digits_after 3 first bytes.now }
+{
+    let mut number = first;
+    let mut rest = bytes;
+    for _ in 0..3u8 {
+        match rest.split_first() {
+            Some((digit, others)) if digit.is_ascii_digit() => {
+                number = 10 * number + u64::from(*digit - b'0');
+                rest = others;
+            }
+            _ => return (number, rest),
+        }
+    }
+    (number, rest)
+}
+
+// A number of at most four digits, in its one form.
+#[tactic(auto, unfolding(crate::specs::TraceReading::number_at))]
+fn number_at(bytes: &[u8]) -> Option<(u64, &[u8])>
+    ensures { option_map (λ x. (x.0, x.1.now)) result ≡ number_at bytes.now }
+{
+    let (first, rest) = bytes.split_first()?;
+    if !first.is_ascii_digit() {
+        return None;
+    }
+    if *first == b'0' {
+        return Some((0, rest));
+    }
+    Some(digits_after(u64::from(*first - b'0'), rest))
+}
+
+#[tactic(auto, unfolding(crate::specs::TraceReading::index_at))]
+fn index_at(bytes: &[u8]) -> Option<(u8, &[u8])>
+    ensures { option_map (λ x. (x.0, x.1.now)) result ≡ index_at bytes.now }
+{
+    let (number, rest) = number_at(bytes)?;
+    match u8::try_from(number) {
+        Ok(index) => Some((index, rest)),
+        Err(_) => None,
+    }
+}
+
+#[tactic(auto, unfolding(crate::specs::TraceReading::cell_at))]
+fn cell_at(bytes: &[u8]) -> Option<(Bit, &[u8])>
+    ensures { option_map (λ x. (x.0, x.1.now)) result ≡ cell_at bytes.now }
+{
+    let (cell, rest) = index_at(bytes)?;
+    let rest = after(rest, ".")?;
+    let (digit, rest) = index_at(rest)?;
+    Some((Bit::Cell(cell, digit), rest))
+}
+
+#[tactic(auto, unfolding(crate::specs::TraceReading::bit_at))]
+fn bit_at(bytes: &[u8]) -> Option<(Bit, &[u8])>
+    ensures { option_map (λ x. (x.0, x.1.now)) result ≡ bit_at bytes.now }
+{
+    let (letter, rest) = bytes.split_first()?;
+    match *letter {
+        b's' => {
+            let (index, rest) = index_at(rest)?;
+            Some((Bit::S(index), rest))
+        }
+        b'r' => {
+            let (index, rest) = index_at(rest)?;
+            Some((Bit::R(index), rest))
+        }
+        b'x' => Some((Bit::X, rest)),
+        b'c' => cell_at(rest),
+        _ => None,
+    }
+}
+
+#[tactic(auto, unfolding(crate::specs::TraceReading::act_at))]
+fn act_at(word: Word, bytes: &[u8]) -> Option<(Act, &[u8])>
+    ensures { option_map (λ x. (x.0, x.1.now)) result ≡ act_at word bytes.now }
+{
+    match word {
+        Word::Read => Some((Act::ReadBegin, bytes)),
+        Word::Got => {
+            let (value, rest) = digit_at(bytes)?;
+            Some((Act::ReadEnd(value), rest))
+        }
+        Word::Write => {
+            let (value, rest) = digit_at(bytes)?;
+            Some((Act::WriteBegin(value), rest))
+        }
+        Word::Wrote => Some((Act::WriteEnd, bytes)),
+    }
+}
+
+/// The event whose line stands at the front, and the bytes after the line.
+#[tactic(auto, unfolding(crate::specs::TraceReading::event_at))]
+pub fn event_at(bytes: &[u8]) -> Option<(Event, &[u8])>
+    ensures { option_map (λ x. (x.0, x.1.now)) result ≡ event_at bytes.now }
+{
+    let (side, rest) = side_at(bytes)?;
+    let (word, rest) = word_at(rest)?;
+    let (bit, rest) = bit_at(rest)?;
+    let (act, rest) = act_at(word, rest)?;
+    let rest = after(rest, "\n")?;
+    Some((Event { side, bit, act }, rest))
+}
+
+/// The numbers of the first line, and the bytes after it.
+#[tactic(auto, unfolding(crate::specs::TraceReading::shape_at))]
+pub fn shape_at(bytes: &[u8]) -> Option<(Numbers, &[u8])>
+    ensures { option_map (λ x. (x.0, x.1.now)) result ≡ shape_at bytes.now }
+{
+    let rest = after(bytes, "shape ")?;
+    let (capacity, rest) = number_at(rest)?;
+    let rest = after(rest, " ")?;
+    let (modulus, rest) = number_at(rest)?;
+    let rest = after(rest, " ")?;
+    let (width, rest) = number_at(rest)?;
+    let rest = after(rest, "\n")?;
+    let numbers = Numbers {
+        capacity,
+        modulus,
+        width,
+    };
+    Some((numbers, rest))
+}

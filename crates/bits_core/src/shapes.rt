@@ -1,0 +1,119 @@
+//! The shape of a ring: how many cells, the modulus of its counts, and the width of an item.
+ghost use Rattle.std.specs.Prelude.{◌≡◌, ℕ, ◌+◌, ◌^◌, ◌<◌, ◌≤◌, ◌↔◌, IsTrue, MatchResult};
+
+use crate::events::Bit;
+use thiserror::Error;
+
+/// Why three numbers are no shape.
+#[derive(Clone, Copy, PartialEq, Eq, Debug, Error)]
+pub enum ShapeFault {
+    #[error("capacity must be from 1 to 64")]
+    Capacity,
+    #[error("modulus must be from capacity + 2 to 256")]
+    Modulus,
+    #[error("width must be from 1 to 64")]
+    Width,
+}
+
+impl ShapeFault {
+    ghost use Rattle.bits_core.specs.Shape.{shape_fault_number};
+
+    /// The number of the fault: 1 `Capacity`, 2 `Modulus`, 3 `Width`.
+    pub fn number(&self) -> u8
+        ensures { result ≡ shape_fault_number self.now }
+    {
+        match self {
+            ShapeFault::Capacity => 1,
+            ShapeFault::Modulus => 2,
+            ShapeFault::Width => 3,
+        }
+    }
+}
+
+/// How many cells a ring has, the modulus of its two counts, and how many binary digits an item has.
+///
+/// The counts run modulo a number at least two above the capacity, so that a count that is read
+/// while it is being written can still be told from all others that may be read then.
+#[derive(Clone, Copy, PartialEq, Eq, Debug)]
+pub struct Shape {
+    capacity: u64,
+    modulus: u64,
+    width: u64,
+    pub ghost has_cells: { 0 < capacity },
+    pub ghost few_cells: { capacity ≤ 64 },
+    pub ghost room_to_count: { capacity + 2 ≤ modulus },
+    pub ghost small_modulus: { modulus ≤ 256 },
+    pub ghost has_digits: { 0 < width },
+    pub ghost few_digits: { width ≤ 64 },
+}
+
+impl Shape {
+    ghost use Rattle.bits_core.specs.Shape.{HasNumbers, IsRefused, belongs, capacity_of, modulus_of, width_of};
+
+    /// The shape of these numbers: a capacity from 1 to 64, a modulus from the capacity + 2 to 256,
+    /// and a width from 1 to 64. Else the first of the three that is out of its range, in this order.
+    pub fn new(capacity: u64, modulus: u64, width: u64) -> Result<Shape, ShapeFault>
+        ensures { MatchResult result (HasNumbers capacity modulus width) (IsRefused capacity modulus width) }
+    {
+        if capacity == 0 || capacity > 64 {
+            return Err(ShapeFault::Capacity);
+        }
+        if modulus < capacity + 2 || modulus > 256 {
+            return Err(ShapeFault::Modulus);
+        }
+        if width == 0 || width > 64 {
+            return Err(ShapeFault::Width);
+        }
+        Ok(Shape {
+            capacity,
+            modulus,
+            width,
+        })
+    }
+
+    /// How many cells the ring has, from 1 to 64.
+    pub fn capacity(&self) -> u64
+        ensures value { result ≡ capacity_of self.now }
+        ensures some { 0 < result }
+        ensures few { result ≤ 64 }
+    {
+        self.capacity
+    }
+
+    /// The modulus of the two counts, from the capacity + 2 to 256.
+    pub fn modulus(&self) -> u64
+        ensures value { result ≡ modulus_of self.now }
+        ensures room { capacity_of self.now + 2 ≤ result }
+        ensures few { result ≤ 256 }
+    {
+        self.modulus
+    }
+
+    /// How many binary digits an item has, from 1 to 64.
+    pub fn width(&self) -> u64
+        ensures value { result ≡ width_of self.now }
+        ensures some { 0 < result }
+        ensures few { result ≤ 64 }
+    {
+        self.width
+    }
+
+    /// Whether a cell can hold the item: it is below 2 to the power of the width.
+    pub fn fits(&self, item: u64) -> bool
+        ensures { IsTrue result ↔ (item < 2 ^ width_of self.now) }
+    {
+        self.width == 64 || item >> self.width == 0
+    }
+
+    /// Whether the bit is one of the shape's: `S(i)` and `R(i)` for `i` below the modulus, `X`, and
+    /// `Cell(j, i)` for `j` below the capacity and `i` below the width.
+    pub fn has(&self, bit: Bit) -> bool
+        ensures { result ≡ belongs self.now bit }
+    {
+        match bit {
+            Bit::S(i) | Bit::R(i) => u64::from(i) < self.modulus,
+            Bit::X => true,
+            Bit::Cell(j, i) => u64::from(j) < self.capacity && u64::from(i) < self.width,
+        }
+    }
+}
