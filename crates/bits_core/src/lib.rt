@@ -13,3 +13,6 @@ pub use audits::{Kind, Verdict, audit_bits};
 pub use events::{Access, Act, Bit, Event, Side};
 pub use shapes::{Shape, ShapeFault};
 pub use traces::{EVENT_LIMIT, TraceFault, read_trace};
+
+#[cfg(test)]
+mod tests;

@@ -1,0 +1,41 @@
+//! Reading the input.
+ghost use Rattle.std.specs.Prelude.{◌≡◌, ◌≢◌, ◌<◌, ◌≤◌, ◌⊎◌, List, ℕ, IfOk, OnOk, IfErr, IfSome, IsErrOf, length, vec_len};
+ghost use Rattle.std.specs.Io.KnownBytes.{Consumes, IsAtEnd};
+
+use crate::faults::AppFault;
+use std::alloc::Allocator;
+use std::io::Read;
+
+/// The most bytes that an input may have.
+pub const INPUT_LIMIT: usize = 33_554_432;
+
+/// Reads to the end of the input, every byte of it.
+///
+/// `ReadFailed` at the first fault of the reader, whichever it is, an interruption too; `TooLarge`
+/// once more than `INPUT_LIMIT` bytes came, so that a reader without an end is left; `OutOfMemory`
+/// where a growth was refused. After a fault the bytes read so far are gone.
+pub fn load<A: Allocator, R: Read>(alloc: A, input: &mut R) -> Result<Vec<u8, A>, AppFault>
+    // Every byte of the input, in order.
+    ensures whole { IfOk result (λ bytes. Consumes (R.remaining input.old) (R.remaining input.new) bytes.items) }
+    ensures to_the_end { OnOk result (IsAtEnd (R.remaining input.new)) }
+    ensures within { IfOk result (λ bytes. vec_len bytes ≤ INPUT_LIMIT) }
+
+    // More bytes came than an input may have.
+    ensures too_large { IsErrOf result AppFault.TooLarge
+        → (came : List ℕ) × (INPUT_LIMIT < length came) × Consumes (R.remaining input.old) (R.remaining input.new) came }
+    ensures no_write { IfErr result (λ e. e ≢ AppFault.WriteFailed) }
+{
+    let mut bytes = Vec::new(alloc);
+    let mut piece = [0u8; 8192];
+    while bytes.len() <= INPUT_LIMIT {
+        let count = match input.read(&mut piece) {
+            Ok(count) => count,
+            Err(_) => return Err(AppFault::ReadFailed),
+        };
+        if count == 0 {
+            return Ok(bytes);
+        }
+        bytes.extend_from_slice(&piece[..count])?;
+    }
+    Err(AppFault::TooLarge)
+}
