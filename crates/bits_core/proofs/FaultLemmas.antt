@@ -1,5 +1,6 @@
 -- What an audit finds.
-use Rattle.std.proofs.Common.{◌≡◌, ℕ, Some, List, ◌<◌, length, take, subst, arith, get_or}
+use Rattle.std.proofs.Common.{◌≡◌, ℕ, Some, List, ◌<◌, length, take, refl, ap₂, subst, inl, inr, arith, get_or}
+use Rattle.std.proofs.lemmas.Bool.{cases_order}
 use Rattle.std.specs.Prelude.{slice_get}
 use Rattle.std.proofs.lemmas.Option.{slice_get-get_or}
 use Rattle.std.proofs.lemmas.List.{take-take}
@@ -7,12 +8,14 @@ use Rattle.bits_core.specs.declared.events.Event.{Event}
 use Rattle.bits_core.specs.declared.shapes.Shape.{Shape}
 use Rattle.bits_core.specs.declared.audits.Kind.{Kind}
 use Rattle.bits_core.specs.declared.audits.Kind.TheVariants.{WrongSide, OutOfTurn, NotPermitted, NotProgram}
-use Rattle.bits_core.specs.Audit.{IsFault, IsFirstFault, IsFaultAfter}
+use Rattle.bits_core.specs.declared.audits.Verdict.{Verdict}
+use Rattle.bits_core.specs.declared.audits.Verdict.TheVariants.{Lawful, Fault}
+use Rattle.bits_core.specs.Audit.{IsFault, IsFirstFault, IsFaultAfter, IsVerdict}
 use Rattle.bits_core.specs.Steps.{MayFollow, EachMayFollow}
 use Rattle.bits_core.specs.Lawful.{TakesTurn, IsLawfulEvent, IsLawful}
 use Rattle.bits_core.proofs.Places.{slice_get-take}
 use Rattle.bits_core.proofs.OverlapLemmas.{IsByDoers, IsByDoers-below}
-use Rattle.bits_core.proofs.LawfulLemmas.{IsByDoers-steps, IsLawfulEvent-from, TakesTurn-from, TakesTurn-to, AnswersSafely-to}
+use Rattle.bits_core.proofs.LawfulLemmas.{same_event, IsByDoers-steps, IsLawfulEvent-from, TakesTurn-from, TakesTurn-to, AnswersSafely-to}
 
 -- a fault, in the two forms
 pub IsFault-from : (shape : Shape) (h : List Event) (place : ℕ) (e : Event) (kind : Kind) → IsByDoers h place → slice_get h place ≡ Some e → IsFaultAfter shape (take place h) e kind → IsFault shape h place e kind
@@ -45,3 +48,37 @@ IsFirstFault-at shape h i d kind within steps fault =
           let past : take p (take i h) ≡ take p h = take-take p i h (omega arith) in
           IsLawfulEvent-from shape h p e (IsByDoers-below h p i (omega arith) sides) k (subst (λ t. MayFollow shape t e) past (steps.each p e (slice_get-take h i p e k below)));
     }
+
+-- ---- one verdict
+
+one_kind : (shape : Shape) (h : List Event) (place : ℕ) (e : Event) (k l : Kind) → IsFault shape h place e k → IsFault shape h place e l → k ≡ l
+one_kind shape h place e WrongSide WrongSide a b = refl
+one_kind shape h place e WrongSide OutOfTurn a b = absurd (a b.0)
+one_kind shape h place e WrongSide NotPermitted a b = absurd (a b.0)
+one_kind shape h place e WrongSide NotProgram a b = absurd b
+one_kind shape h place e OutOfTurn WrongSide a b = absurd (b a.0)
+one_kind shape h place e OutOfTurn OutOfTurn a b = refl
+one_kind shape h place e OutOfTurn NotPermitted a b = absurd (a.1 b.1)
+one_kind shape h place e OutOfTurn NotProgram a b = absurd b
+one_kind shape h place e NotPermitted WrongSide a b = absurd (b a.0)
+one_kind shape h place e NotPermitted OutOfTurn a b = absurd (b.1 a.1)
+one_kind shape h place e NotPermitted NotPermitted a b = refl
+one_kind shape h place e NotPermitted NotProgram a b = absurd b
+one_kind shape h place e NotProgram l a b = absurd a
+
+-- no event before the first fault is at fault
+not_before : (shape : Shape) (h : List Event) (p q : ℕ) (k l : Kind) → IsFirstFault shape h p k → IsFirstFault shape h q l → ¬ (p < q)
+not_before shape h p q k l a b below = not_IsLawfulEvent shape h p a.event k a.fault (b.least p a.event below a.at_place)
+
+pub one_verdict : (shape : Shape) (h : List Event) (v w : Verdict) → IsVerdict shape h v → IsVerdict shape h w → v ≡ w
+one_verdict shape h Lawful Lawful a b = refl
+one_verdict shape h Lawful (Fault q l) a b = absurd (not_IsLawful shape h q l b a)
+one_verdict shape h (Fault p k) Lawful a b = absurd (not_IsLawful shape h p k a b)
+one_verdict shape h (Fault p k) (Fault q l) a b =
+    let place : p ≡ q = elim (cases_order p q) [
+      | inl same ↦ same
+      | inr other ↦ elim other [ inl below ↦ absurd (not_before shape h p q k l a b below) | inr above ↦ absurd (not_before shape h q p l k b a above) ]
+    ] in
+    let event : b.event ≡ a.event = same_event h q b.event a.event b.at_place (subst (λ n. slice_get h n ≡ Some a.event) place a.at_place) in
+    let moved : IsFault shape h q a.event k = subst (λ n. IsFault shape h n a.event k) place a.fault in
+    ap₂ Fault place (one_kind shape h q a.event k l moved (subst (λ e. IsFault shape h q e l) event b.fault))

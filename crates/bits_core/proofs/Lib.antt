@@ -12,3 +12,5 @@ pub mod Digits
 pub mod TraceFields
 pub mod TraceLines
 pub mod TraceLemmas
+pub mod DecideLemmas
+pub mod TraceReadings

@@ -1,10 +1,14 @@
 -- The laws that the layers above stand on.
-use Rattle.std.specs.Prelude.{◌≡◌, ℕ, ◌≤◌, ◌↔◌, ◌||◌, Bool, true, Some, List, [], ◌∷◌, ◌++◌, length, take, if◌then◌else◌, is_some, unwrap_or}
+use Rattle.std.specs.Prelude.{◌≡◌, ℕ, ◌≤◌, ◌⊎◌, ◌↔◌, ◌||◌, Bool, true, Some, List, [], ◌∷◌, ◌++◌, length, take, if◌then◌else◌, is_some, unwrap_or}
 use Rattle.bits_core.specs.declared.events.Side.{Side}
 use Rattle.bits_core.specs.declared.events.Bit.{Bit}
 use Rattle.bits_core.specs.declared.events.Access.{Access}
 use Rattle.bits_core.specs.declared.events.Event.{Event}
+use Rattle.bits_core.specs.declared.audits.Verdict.{Verdict}
 use Rattle.bits_core.specs.declared.shapes.Shape.{Shape}
+use Rattle.bits_core.specs.declared.traces.TraceFault.{TraceFault}
+use Rattle.bits_core.specs.Audit.{IsVerdict}
+use Rattle.bits_core.specs.Trace.{IsTrace, IsTraceFault}
 use Rattle.bits_core.specs.Bits.{writer, is_by, begun_by, write_of}
 use Rattle.bits_core.specs.History.{open_access, open_write, held, held_at_begin, is_overlapped}
 use Rattle.bits_core.specs.Intervals.{IsHeld, IsOpenAt, IsRead, HasOverlap}
@@ -48,3 +52,23 @@ HeldAtBeginChanges = (s : Side) (b : Bit) (h : List Event) (e : Event) → held_
 
 abbrev pub OverlapChanges : Type 0
 OverlapChanges = (s : Side) (b : Bit) (h : List Event) (e : Event) → is_overlapped s b (h ++ e ∷ []) ≡ (if is_by s e then is_some (open_write b h) else is_overlapped s b h || is_some (write_of b e))
+
+-- a history has one verdict
+abbrev pub OneVerdict : Type 0
+OneVerdict = (shape : Shape) (h : List Event) (v w : Verdict) → IsVerdict shape h v → IsVerdict shape h w → v ≡ w
+
+-- whether a write of a bit overlaps an access is decidable
+abbrev pub OverlapIsDecidable : Type 0
+OverlapIsDecidable = (h : List Event) (b : Bit) (start stop : ℕ) → HasOverlap h b start stop ⊎ ¬ HasOverlap h b start stop
+
+-- a text has one reading
+abbrev pub OneReading : Type 0
+OneReading = (bytes : List ℕ) (s t : Shape) (es fs : List Event) → IsTrace bytes s es → IsTrace bytes t fs → (s ≡ t) × (es ≡ fs)
+
+-- bytes with a fault are no trace
+abbrev pub FaultyIsNoTrace : Type 0
+FaultyIsNoTrace = (bytes : List ℕ) (fault : TraceFault) (shape : Shape) (events : List Event) → IsTraceFault bytes fault → ¬ IsTrace bytes shape events
+
+-- and they have one fault
+abbrev pub OneFault : Type 0
+OneFault = (bytes : List ℕ) (f g : TraceFault) → IsTraceFault bytes f → IsTraceFault bytes g → f ≡ g

@@ -1,4 +1,6 @@
-ghost use Rattle.bits_core.specs.Laws.{BeginningIsLawful, EmptyIsLawful, HeldAtBeginChanges, HeldChanges, HeldIsByInterval, LawfulByOneMore, OpenChanges, OpenIsByInterval, OpenWriteChanges, OverlapChanges, OverlapIsByInterval};
+//! The laws of histories and of trace text that the layers above stand on, each the contract of a
+//! function that does nothing.
+ghost use Rattle.bits_core.specs.Laws.{BeginningIsLawful, EmptyIsLawful, FaultyIsNoTrace, HeldAtBeginChanges, HeldChanges, HeldIsByInterval, LawfulByOneMore, OneFault, OneReading, OneVerdict, OpenChanges, OpenIsByInterval, OpenWriteChanges, OverlapChanges, OverlapIsByInterval, OverlapIsDecidable};
 
 /// The history with no event is lawful.
 pub fn empty_is_lawful()
@@ -53,4 +55,29 @@ pub fn held_at_begin_changes()
 /// How the overlap of a side's last access changes by one event.
 pub fn overlap_changes()
     ensures { OverlapChanges }
+{}
+
+/// Whether a write of a bit overlaps an access is decidable.
+pub fn overlap_is_decidable()
+    ensures { OverlapIsDecidable }
+{}
+
+/// A history has one verdict.
+pub fn one_verdict()
+    ensures { OneVerdict }
+{}
+
+/// A text is that of one shape and one list of events.
+pub fn one_reading()
+    ensures { OneReading }
+{}
+
+/// Bytes with a fault are no trace.
+pub fn faulty_is_no_trace()
+    ensures { FaultyIsNoTrace }
+{}
+
+/// Bytes have at most one fault.
+pub fn one_fault()
+    ensures { OneFault }
 {}

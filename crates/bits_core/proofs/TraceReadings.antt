@@ -1,0 +1,289 @@
+-- A text has one reading, and bytes have one fault or are a trace.
+use Rattle.std.proofs.Common.{◌≡◌, ◌⊎◌, ◌≢◌, ℕ, suc, ◌+◌, ◌<◌, ◌≤◌, true, Some, List, [], ◌∷◌, ◌++◌, length, inl, inr, refl, ap, sym, subst, ◌∙◌, append_assoc, arith}
+use Rattle.std.specs.Coded.{le_prop}
+use Rattle.std.specs.List.{flat_map}
+use Rattle.std.proofs.lemmas.List.{append-nil, length-append}
+use Rattle.std.proofs.lemmas.List.Concat.{flat_map-cons}
+use Rattle.std.proofs.lemmas.Option.{same_Some}
+use mathlib.Core.HLevel.{is_prop→PathP}
+use Rattle.bits_core.specs.declared.events.Event.{Event}
+use Rattle.bits_core.specs.declared.reading.Numbers.{Numbers}
+use Rattle.bits_core.specs.declared.shapes.Shape.{Shape}
+use Rattle.bits_core.specs.declared.shapes.ShapeFault.{ShapeFault}
+use Rattle.bits_core.specs.declared.shapes.ShapeFault.TheVariants.{Capacity, Modulus, Width}
+use Rattle.bits_core.specs.declared.traces.TraceFault.{TraceFault}
+use Rattle.bits_core.specs.declared.traces.TraceFault.TheVariants.{BadShape, BadLine, TooLong, OutOfMemory}
+use Rattle.bits_core.specs.Shape.{IsRefused, belongs, capacity_of, modulus_of, width_of}
+use Rattle.bits_core.specs.TraceText.{event_line, shape_line, trace_text}
+use Rattle.bits_core.specs.TraceReading.{event_at, shape_at}
+use Rattle.bits_core.specs.Trace.{AreOfShape, BeginsWithShape, GoesOn, HasNoEvent, HasBadLine, HasBadShape, HasShapeLine, IsTooLong, IsTrace, IsTraceFault}
+use Rattle.bits_core.proofs.TraceLines.{event_at-again, shape_at-again, small_indices}
+use Rattle.bits_core.proofs.TraceLemmas.{line_takes}
+
+-- ---- shapes
+
+-- shapes of the same numbers are one
+pub same_shape : (s t : Shape) → s.capacity ≡ t.capacity → s.modulus ≡ t.modulus → s.width ≡ t.width → s ≡ t
+same_shape s t c m w = λ i. record {
+  capacity = c i;
+  modulus = m i;
+  width = w i;
+  has_cells = is_prop→PathP (λ j. 0 < c j) (λ j. le_prop) s.has_cells t.has_cells i;
+  few_cells = is_prop→PathP (λ j. c j ≤ 64) (λ j. le_prop) s.few_cells t.few_cells i;
+  room_to_count = is_prop→PathP (λ j. c j + 2 ≤ m j) (λ j. le_prop) s.room_to_count t.room_to_count i;
+  small_modulus = is_prop→PathP (λ j. m j ≤ 256) (λ j. le_prop) s.small_modulus t.small_modulus i;
+  has_digits = is_prop→PathP (λ j. 0 < w j) (λ j. le_prop) s.has_digits t.has_digits i;
+  few_digits = is_prop→PathP (λ j. w j ≤ 64) (λ j. le_prop) s.few_digits t.few_digits i;
+}
+
+-- the numbers of a shape are not refused, and others for one cause
+not_refused : (s : Shape) (fault : ShapeFault) → ¬ IsRefused (capacity_of s) (modulus_of s) (width_of s) fault
+not_refused s Capacity refused = refused (s.has_cells, s.few_cells)
+not_refused s Modulus refused = refused.1 (s.room_to_count, s.small_modulus)
+not_refused s Width refused = refused.2 (s.has_digits, s.few_digits)
+
+one_refusal : (c m w : ℕ) (f g : ShapeFault) → IsRefused c m w f → IsRefused c m w g → f ≡ g
+one_refusal c m w Capacity Capacity a b = refl
+one_refusal c m w Capacity Modulus a b = absurd (a b.0)
+one_refusal c m w Capacity Width a b = absurd (a b.0)
+one_refusal c m w Modulus Capacity a b = absurd (b a.0)
+one_refusal c m w Modulus Modulus a b = refl
+one_refusal c m w Modulus Width a b = absurd (a.1 b.1)
+one_refusal c m w Width Capacity a b = absurd (b a.0)
+one_refusal c m w Width Modulus a b = absurd (b.1 a.1)
+one_refusal c m w Width Width a b = refl
+
+-- ---- the first line
+
+numbers_of : ℕ → ℕ → ℕ → Numbers
+numbers_of c m w = record { capacity = c; modulus = m; width = w }
+
+-- two lines of numbers at the front of the same bytes
+pub record SameLine (c m w c' m' w' : ℕ) (rest rest' : List ℕ) : Type 0 where
+  pub capacity : c ≡ c'
+  pub modulus : m ≡ m'
+  pub width : w ≡ w'
+  pub others : rest ≡ rest'
+
+same_line : (c m w c' m' w' : ℕ) (rest rest' bytes : List ℕ) → c < 10000 → m < 10000 → w < 10000 → c' < 10000 → m' < 10000 → w' < 10000
+    → bytes ≡ shape_line c m w ++ rest → bytes ≡ shape_line c' m' w' ++ rest' → SameLine c m w c' m' w' rest rest'
+same_line c m w c' m' w' rest rest' bytes l1 l2 l3 k1 k2 k3 e e' =
+    let p : Numbers × List ℕ = (record { capacity = c; modulus = m; width = w }, rest) in
+    let q : Numbers × List ℕ = (record { capacity = c'; modulus = m'; width = w' }, rest') in
+    let same : p ≡ q = same_Some p q (sym (shape_at-again c m w rest l1 l2 l3) ∙ ap shape_at (sym e ∙ e') ∙ shape_at-again c' m' w' rest' k1 k2 k3) in
+    record {
+      capacity = ap (λ (x : Numbers × List ℕ). x.0.capacity) same;
+      modulus = ap (λ (x : Numbers × List ℕ). x.0.modulus) same;
+      width = ap (λ (x : Numbers × List ℕ). x.0.width) same;
+      others = ap (λ (x : Numbers × List ℕ). x.1) same;
+    }
+
+-- the line of a shape is one of three short numbers
+shape_has_line : (bytes : List ℕ) (s : Shape) (rest : List ℕ) → BeginsWithShape bytes s rest → HasShapeLine bytes (capacity_of s) (modulus_of s) (width_of s)
+shape_has_line bytes s rest begins = record {
+  rest = rest;
+  text = begins;
+  short_capacity = omega (arith, s.few_cells);
+  short_modulus = omega (arith, s.small_modulus);
+  short_width = omega (arith, s.few_digits);
+}
+
+lines_agree : (bytes : List ℕ) (c m w c' m' w' : ℕ) (a : HasShapeLine bytes c m w) (b : HasShapeLine bytes c' m' w') → SameLine c m w c' m' w' a.rest b.rest
+lines_agree bytes c m w c' m' w' a b =
+    same_line c m w c' m' w' a.rest b.rest bytes a.short_capacity a.short_modulus a.short_width b.short_capacity b.short_modulus b.short_width a.text b.text
+
+shape_not_bad : (bytes : List ℕ) (s : Shape) (rest : List ℕ) (fault : ShapeFault) → BeginsWithShape bytes s rest → ¬ HasBadShape bytes fault
+unfolding shape_has_line
+shape_not_bad bytes s rest fault begins bad =
+    let same = lines_agree bytes bad.capacity bad.modulus bad.width (capacity_of s) (modulus_of s) (width_of s) bad.line (shape_has_line bytes s rest begins) in
+    let r1 = subst (λ (n : ℕ). IsRefused n bad.modulus bad.width fault) same.capacity bad.refused in
+    let r2 = subst (λ (n : ℕ). IsRefused (capacity_of s) n bad.width fault) same.modulus r1 in
+    not_refused s fault (subst (λ (n : ℕ). IsRefused (capacity_of s) (modulus_of s) n fault) same.width r2)
+
+-- ---- the lines of events
+
+-- each event is one of a bit of the shape
+abbrev EachOf : Shape → List Event → Type 0
+EachOf shape [] = Unit {0}
+EachOf shape (e ∷ es) = (belongs shape e.bit ≡ true) × EachOf shape es
+
+EachOf-from : (shape : Shape) (es : List Event) → AreOfShape shape es → EachOf shape es
+EachOf-from shape [] all = tt
+EachOf-from shape (e ∷ es) all = (all 0 e (omega arith), EachOf-from shape es (λ k d below. all (suc k) d (omega arith)))
+
+abbrev lines : List Event → List ℕ
+lines es = flat_map event_line es
+
+-- of two rows of lines at the front of the same bytes, one goes on with the other's rest
+Compared : Shape → Shape → List Event → List Event → List ℕ → List ℕ → Type 0
+Compared s t es fs rest rest' = ((more : List Event) × (fs ≡ es ++ more) × (rest ≡ lines more ++ rest') × EachOf t more)
+    ⊎ ((more : List Event) × (es ≡ fs ++ more) × (rest' ≡ lines more ++ rest) × EachOf s more)
+
+compared : (s t : Shape) (es fs : List Event) (rest rest' : List ℕ) → EachOf s es → EachOf t fs → lines es ++ rest ≡ lines fs ++ rest' → Compared s t es fs rest rest'
+unfolding Compared
+compared s t [] fs rest rest' of_s of_t e = inl (fs, refl, e, of_t)
+compared s t (x ∷ es) [] rest rest' of_s of_t e = inr (x ∷ es, refl, sym e, of_s)
+compared s t (x ∷ es) (y ∷ fs) rest rest' of_s of_t e =
+    let p : Event × List ℕ = (x, lines es ++ rest) in
+    let q : Event × List ℕ = (y, lines fs ++ rest') in
+    let whole : event_line x ++ (lines es ++ rest) ≡ event_line y ++ (lines fs ++ rest') = sym (append_assoc (event_line x) (lines es) rest) ∙ e ∙ append_assoc (event_line y) (lines fs) rest' in
+    let same : p ≡ q = same_Some p q (sym (event_at-again x (lines es ++ rest) (small_indices s x.bit of_s.0)) ∙ ap event_at whole ∙ event_at-again y (lines fs ++ rest') (small_indices t y.bit of_t.0)) in
+    let first : x ≡ y = ap (λ (z : Event × List ℕ). z.0) same in
+    elim (compared s t es fs rest rest' of_s.1 of_t.1 (ap (λ (z : Event × List ℕ). z.1) same)) [
+      | inl r ↦ inl (r.0, ap (λ (ys : List Event). y ∷ ys) r.1 ∙ ap (λ (z : Event). z ∷ (es ++ r.0)) (sym first), r.2, r.3)
+      | inr r ↦ inr (r.0, ap (λ (ys : List Event). x ∷ ys) r.1 ∙ ap (λ (z : Event). z ∷ (fs ++ r.0)) first, r.2, r.3)
+    ]
+
+-- the whole texts
+text_parts : (s : Shape) (es : List Event) (rest : List ℕ) → trace_text s es ++ rest ≡ shape_line (capacity_of s) (modulus_of s) (width_of s) ++ (lines es ++ rest)
+text_parts s es rest = append_assoc (shape_line (capacity_of s) (modulus_of s) (width_of s)) (lines es) rest
+
+text_begins : (bytes : List ℕ) (s : Shape) (es : List Event) (rest : List ℕ) → bytes ≡ trace_text s es ++ rest → BeginsWithShape bytes s (lines es ++ rest)
+text_begins bytes s es rest e = e ∙ text_parts s es rest
+
+record Read (bytes : List ℕ) (s : Shape) (es : List Event) (rest : List ℕ) : Type 0 where
+  pub text : bytes ≡ trace_text s es ++ rest
+  pub each : EachOf s es
+
+Read-from : (bytes : List ℕ) (s : Shape) (es : List Event) (rest : List ℕ) → GoesOn bytes s es rest → Read bytes s es rest
+Read-from bytes s es rest g = record { text = g.text; each = EachOf-from s es g.of_shape }
+
+Read-whole : (bytes : List ℕ) (s : Shape) (es : List Event) → IsTrace bytes s es → Read bytes s es []
+Read-whole bytes s es trace = record { text = trace.text ∙ sym (append-nil (trace_text s es)); each = EachOf-from s es trace.of_shape }
+
+-- two readings of a front of the same bytes
+record Agree (s t : Shape) (es fs : List Event) (rest rest' : List ℕ) : Type 0 where
+  pub shape : s ≡ t
+  pub events : Compared s t es fs rest rest'
+
+agree : (bytes : List ℕ) (s t : Shape) (es fs : List Event) (rest rest' : List ℕ) → Read bytes s es rest → Read bytes t fs rest' → Agree s t es fs rest rest'
+unfolding shape_has_line
+agree bytes s t es fs rest rest' a b =
+    let begins_a = text_begins bytes s es rest a.text in
+    let begins_b = text_begins bytes t fs rest' b.text in
+    let same = lines_agree bytes (capacity_of s) (modulus_of s) (width_of s) (capacity_of t) (modulus_of t) (width_of t)
+    (shape_has_line bytes s (lines es ++ rest) begins_a) (shape_has_line bytes t (lines fs ++ rest') begins_b) in
+    record { shape = same_shape s t same.capacity same.modulus same.width; events = compared s t es fs rest rest' a.each b.each same.others }
+
+some_line : (e : Event) (rest : List ℕ) → event_line e ++ rest ≢ []
+some_line e rest is = omega (arith, line_takes e rest, ap length is)
+
+-- nothing is left where nothing follows
+nothing_left : (more : List Event) (rest : List ℕ) → [] ≡ lines more ++ rest → (more ≡ []) × (rest ≡ [])
+nothing_left [] rest e = (refl, sym e)
+nothing_left (x ∷ more) rest e = absurd (some_line x (lines more ++ rest) (sym (append_assoc (event_line x) (lines more) rest) ∙ sym e))
+
+-- a text has one reading
+pub one_reading : (bytes : List ℕ) (s t : Shape) (es fs : List Event) → IsTrace bytes s es → IsTrace bytes t fs → (s ≡ t) × (es ≡ fs)
+unfolding Compared
+one_reading bytes s t es fs a b =
+    let both = agree bytes s t es fs [] [] (Read-whole bytes s es a) (Read-whole bytes t fs b) in
+    (both.shape, elim both.events [
+      | inl r ↦ sym (r.1 ∙ ap (λ (ys : List Event). es ++ ys) (nothing_left r.0 [] r.2).0 ∙ append-nil es)
+      | inr r ↦ r.1 ∙ ap (λ (ys : List Event). fs ++ ys) (nothing_left r.0 [] r.2).0 ∙ append-nil fs
+    ])
+
+-- ---- faults
+
+-- where no event's line stands at the front, no more lines were read
+no_more : (s t : Shape) (more : List Event) (rest rest' : List ℕ) → s ≡ t → HasNoEvent s rest → rest ≡ lines more ++ rest' → EachOf t more → more ≡ []
+no_more s t [] rest rest' same none e of_t = refl
+no_more s t (x ∷ more) rest rest' same none e of_t =
+    absurd (none x (lines more ++ rest') (ap (λ (u : Shape). belongs u x.bit) same ∙ of_t.0, e ∙ append_assoc (event_line x) (lines more) rest'))
+
+length-of : (es fs more : List Event) → fs ≡ es ++ more → length fs ≡ length es + length more
+length-of es fs more e = ap length e ∙ length-append es more
+
+bad_line_once : (bytes : List ℕ) (n m : ℕ) → HasBadLine bytes n → HasBadLine bytes m → n ≡ m
+unfolding Compared
+bad_line_once bytes n m a b =
+    let both = agree bytes a.shape b.shape a.events b.events a.rest b.rest (Read-from bytes a.shape a.events a.rest a.goes_on) (Read-from bytes b.shape b.events b.rest b.goes_on) in
+    let count : length a.events ≡ length b.events = elim both.events [
+      | inl r ↦
+          let none : r.0 ≡ [] = no_more a.shape b.shape r.0 a.rest b.rest both.shape a.no_event r.2 r.3 in
+          omega (arith, length-of a.events b.events r.0 r.1, ap length none)
+      | inr r ↦
+          let none : r.0 ≡ [] = no_more b.shape a.shape r.0 b.rest a.rest (sym both.shape) b.no_event r.2 r.3 in
+          omega (arith, length-of b.events a.events r.0 r.1, ap length none)
+    ] in
+    omega (arith, a.number, b.number)
+
+bad_line_not_long : (bytes : List ℕ) (n : ℕ) → HasBadLine bytes n → ¬ IsTooLong bytes
+unfolding Compared
+bad_line_not_long bytes n a b =
+    let both = agree bytes a.shape b.shape a.events b.events a.rest b.rest (Read-from bytes a.shape a.events a.rest a.goes_on) (Read-from bytes b.shape b.events b.rest b.goes_on) in
+    elim both.events [
+      | inl r ↦
+          let none : r.0 ≡ [] = no_more a.shape b.shape r.0 a.rest b.rest both.shape a.no_event r.2 r.3 in
+          omega (arith, length-of a.events b.events r.0 r.1, ap length none, a.room, b.full)
+      | inr r ↦ omega (arith, length-of b.events a.events r.0 r.1, a.room, b.full)
+    ]
+
+bad_line_no_trace : (bytes : List ℕ) (n : ℕ) (t : Shape) (fs : List Event) → HasBadLine bytes n → ¬ IsTrace bytes t fs
+unfolding Compared
+bad_line_no_trace bytes n t fs a b =
+    let both = agree bytes a.shape t a.events fs a.rest [] (Read-from bytes a.shape a.events a.rest a.goes_on) (Read-whole bytes t fs b) in
+    elim both.events [
+      | inl r ↦
+          let none : r.0 ≡ [] = no_more a.shape t r.0 a.rest [] both.shape a.no_event r.2 r.3 in
+          a.goes_on.more (r.2 ∙ ap (λ (es : List Event). lines es ++ []) none)
+      | inr r ↦ a.goes_on.more (nothing_left r.0 a.rest r.2).1
+    ]
+
+too_long_no_trace : (bytes : List ℕ) (t : Shape) (fs : List Event) → IsTooLong bytes → ¬ IsTrace bytes t fs
+unfolding Compared
+too_long_no_trace bytes t fs a b =
+    let both = agree bytes a.shape t a.events fs a.rest [] (Read-from bytes a.shape a.events a.rest a.goes_on) (Read-whole bytes t fs b) in
+    elim both.events [
+      | inl r ↦ more_is_left r.0 r.2 (omega (arith, length-of a.events fs r.0 r.1, a.full, b.within))
+      | inr r ↦ a.goes_on.more (nothing_left r.0 a.rest r.2).1
+    ]
+  where
+    more_is_left : (more : List Event) → a.rest ≡ lines more ++ [] → length more ≤ 0 → ⊥
+    more_is_left [] e none = a.goes_on.more e
+    more_is_left (x ∷ more) e none = omega arith
+
+-- the line of the shape that a fault further on comes after
+line_before : (bytes : List ℕ) (s : Shape) (es : List Event) (rest : List ℕ) → GoesOn bytes s es rest → HasShapeLine bytes (capacity_of s) (modulus_of s) (width_of s)
+line_before bytes s es rest g = shape_has_line bytes s (lines es ++ rest) (text_begins bytes s es rest g.text)
+
+bad_shape_once : (bytes : List ℕ) (f g : ShapeFault) → HasBadShape bytes f → HasBadShape bytes g → f ≡ g
+bad_shape_once bytes f g a b =
+    let same = lines_agree bytes a.capacity a.modulus a.width b.capacity b.modulus b.width a.line b.line in
+    let r1 = subst (λ (n : ℕ). IsRefused n a.modulus a.width f) same.capacity a.refused in
+    let r2 = subst (λ (n : ℕ). IsRefused b.capacity n a.width f) same.modulus r1 in
+    one_refusal b.capacity b.modulus b.width f g (subst (λ (n : ℕ). IsRefused b.capacity b.modulus n f) same.width r2) b.refused
+
+bad_shape_stops : (bytes : List ℕ) (f : ShapeFault) (s : Shape) (es : List Event) (rest : List ℕ) → HasBadShape bytes f → ¬ GoesOn bytes s es rest
+bad_shape_stops bytes f s es rest a g = shape_not_bad bytes s (lines es ++ rest) f (text_begins bytes s es rest g.text) a
+
+-- bytes with a fault are no trace
+pub faulty_is_no_trace : (bytes : List ℕ) (fault : TraceFault) (s : Shape) (es : List Event) → IsTraceFault bytes fault → ¬ IsTrace bytes s es
+faulty_is_no_trace bytes (BadShape f) s es fault trace = shape_not_bad bytes s (lines es) f trace.text fault
+faulty_is_no_trace bytes (BadLine n) s es (inl none) trace = none.1 (capacity_of s) (modulus_of s) (width_of s) (shape_has_line bytes s (lines es) trace.text)
+faulty_is_no_trace bytes (BadLine n) s es (inr bad) trace = bad_line_no_trace bytes n s es bad trace
+faulty_is_no_trace bytes TooLong s es fault trace = too_long_no_trace bytes s es fault trace
+faulty_is_no_trace bytes OutOfMemory s es fault trace = fault
+
+-- bytes have one fault
+pub one_fault : (bytes : List ℕ) (f g : TraceFault) → IsTraceFault bytes f → IsTraceFault bytes g → f ≡ g
+one_fault bytes (BadShape f) (BadShape g) a b = ap BadShape (bad_shape_once bytes f g a b)
+one_fault bytes (BadShape f) (BadLine n) a (inl none) = absurd (none.1 a.capacity a.modulus a.width a.line)
+one_fault bytes (BadShape f) (BadLine n) a (inr bad) = absurd (bad_shape_stops bytes f bad.shape bad.events bad.rest a bad.goes_on)
+one_fault bytes (BadShape f) TooLong a b = absurd (bad_shape_stops bytes f b.shape b.events b.rest a b.goes_on)
+one_fault bytes (BadShape f) OutOfMemory a b = absurd b
+one_fault bytes (BadLine n) (BadShape g) (inl none) b = absurd (none.1 b.capacity b.modulus b.width b.line)
+one_fault bytes (BadLine n) (BadShape g) (inr bad) b = absurd (bad_shape_stops bytes g bad.shape bad.events bad.rest b bad.goes_on)
+one_fault bytes (BadLine n) (BadLine m) (inl none) (inl other) = ap BadLine (none.0 ∙ sym other.0)
+one_fault bytes (BadLine n) (BadLine m) (inl none) (inr bad) = absurd (none.1 _ _ _ (line_before bytes bad.shape bad.events bad.rest bad.goes_on))
+one_fault bytes (BadLine n) (BadLine m) (inr bad) (inl none) = absurd (none.1 _ _ _ (line_before bytes bad.shape bad.events bad.rest bad.goes_on))
+one_fault bytes (BadLine n) (BadLine m) (inr bad) (inr other) = ap BadLine (bad_line_once bytes n m bad other)
+one_fault bytes (BadLine n) TooLong (inl none) b = absurd (none.1 _ _ _ (line_before bytes b.shape b.events b.rest b.goes_on))
+one_fault bytes (BadLine n) TooLong (inr bad) b = absurd (bad_line_not_long bytes n bad b)
+one_fault bytes (BadLine n) OutOfMemory a b = absurd b
+one_fault bytes TooLong (BadShape g) a b = absurd (bad_shape_stops bytes g a.shape a.events a.rest b a.goes_on)
+one_fault bytes TooLong (BadLine m) a (inl none) = absurd (none.1 _ _ _ (line_before bytes a.shape a.events a.rest a.goes_on))
+one_fault bytes TooLong (BadLine m) a (inr bad) = absurd (bad_line_not_long bytes m bad a)
+one_fault bytes TooLong TooLong a b = refl
+one_fault bytes TooLong OutOfMemory a b = absurd b
+one_fault bytes OutOfMemory g a b = absurd a
