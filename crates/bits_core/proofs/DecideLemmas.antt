@@ -1,11 +1,10 @@
 -- Whether a write of a bit overlaps an access: decided by a search of the places.
-use Rattle.std.proofs.Common.{◌≡◌, ◌⊎◌, ℕ, zero, suc, ◌<◌, Bool, true, false, Option, Some, None, List, length, inl, inr, refl, ap, sym, subst, ◌∙◌, arith}
+use Rattle.std.proofs.Common.{◌≡◌, ◌⊎◌, ℕ, zero, suc, ◌<◌, Bool, true, false, Some, None, List, length, inl, inr, refl, ap, sym, subst, ◌∙◌, arith}
 use Rattle.std.specs.Prelude.{slice_get}
 use Rattle.std.proofs.lemmas.Bool.{cases_lt, false≢true}
 use Rattle.std.proofs.lemmas.Option.{none-some, same_Some, slice_get_within}
 use Rattle.bits_core.specs.declared.events.Bit.{Bit}
 use Rattle.bits_core.specs.declared.events.Event.{Event}
-use Rattle.bits_core.specs.declared.events.Access.TheVariants.{Write}
 use Rattle.bits_core.specs.Bits.{writer, is_by, same_side, begun_by, write_of}
 use Rattle.bits_core.specs.Intervals.{end_of, IsWrite, Overlap, HasOverlap}
 use Rattle.bits_core.proofs.Changes.{same_side-same}

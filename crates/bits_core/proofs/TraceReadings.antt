@@ -1,9 +1,8 @@
 -- A text has one reading, and bytes have one fault or are a trace.
-use Rattle.std.proofs.Common.{◌≡◌, ◌⊎◌, ◌≢◌, ℕ, suc, ◌+◌, ◌<◌, ◌≤◌, true, Some, List, [], ◌∷◌, ◌++◌, length, inl, inr, refl, ap, sym, subst, ◌∙◌, append_assoc, arith}
+use Rattle.std.proofs.Common.{◌≡◌, ◌⊎◌, ◌≢◌, ℕ, suc, ◌+◌, ◌<◌, ◌≤◌, true, List, [], ◌∷◌, ◌++◌, length, inl, inr, refl, ap, sym, subst, ◌∙◌, append_assoc, arith}
 use Rattle.std.specs.Coded.{le_prop}
 use Rattle.std.specs.List.{flat_map}
 use Rattle.std.proofs.lemmas.List.{append-nil, length-append}
-use Rattle.std.proofs.lemmas.List.Concat.{flat_map-cons}
 use Rattle.std.proofs.lemmas.Option.{same_Some}
 use mathlib.Core.HLevel.{is_prop→PathP}
 use Rattle.bits_core.specs.declared.events.Event.{Event}
@@ -177,11 +176,13 @@ nothing_left (x ∷ more) rest e = absurd (some_line x (lines more ++ rest) (sym
 pub one_reading : (bytes : List ℕ) (s t : Shape) (es fs : List Event) → IsTrace bytes s es → IsTrace bytes t fs → (s ≡ t) × (es ≡ fs)
 unfolding Compared
 one_reading bytes s t es fs a b =
-    let both = agree bytes s t es fs [] [] (Read-whole bytes s es a) (Read-whole bytes t fs b) in
-    (both.shape, elim both.events [
-      | inl r ↦ sym (r.1 ∙ ap (λ (ys : List Event). es ++ ys) (nothing_left r.0 [] r.2).0 ∙ append-nil es)
-      | inr r ↦ r.1 ∙ ap (λ (ys : List Event). fs ++ ys) (nothing_left r.0 [] r.2).0 ∙ append-nil fs
-    ])
+    let both = agree bytes s t es fs [] [] (Read-whole bytes s es a) (Read-whole bytes t fs b) in (
+      both.shape,
+      elim both.events [
+        | inl r ↦ sym (r.1 ∙ ap (λ (ys : List Event). es ++ ys) (nothing_left r.0 [] r.2).0 ∙ append-nil es)
+        | inr r ↦ r.1 ∙ ap (λ (ys : List Event). fs ++ ys) (nothing_left r.0 [] r.2).0 ∙ append-nil fs
+      ],
+    )
 
 -- ---- faults
 
