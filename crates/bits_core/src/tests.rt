@@ -117,24 +117,37 @@ fn a_stale_read_without_cause_is_not_permitted(rt: HostRuntime) -> Result<(), Fa
     Ok(())
 }
 
-#[test]
-fn a_new_old_inversion_is_lawful(rt: HostRuntime) -> Result<(), Fail> {
+// Two reads of s0 while a write of 0 to it is open, over the 1 that it holds, and a read after it.
+fn reads_during_a_write(first: bool, second: bool, after: bool) -> [Event; 8] {
     let s0 = Bit::S(0);
-    let mut events = [
+    [
         event(Side::P, s0, Act::WriteBegin(false)),
         event(Side::C, s0, Act::ReadBegin),
-        event(Side::C, s0, Act::ReadEnd(true)),
+        event(Side::C, s0, Act::ReadEnd(first)),
         event(Side::C, s0, Act::ReadBegin),
-        event(Side::C, s0, Act::ReadEnd(false)),
+        event(Side::C, s0, Act::ReadEnd(second)),
         event(Side::P, s0, Act::WriteEnd),
         event(Side::C, s0, Act::ReadBegin),
-        event(Side::C, s0, Act::ReadEnd(false)),
-    ];
-    assert_eq!(rt; audit_bits(&small()?, &events), Verdict::Lawful);
-    // The value before the write is stale once the write has ended.
-    events[7] = event(Side::C, s0, Act::ReadEnd(true));
+        event(Side::C, s0, Act::ReadEnd(after)),
+    ]
+}
+
+#[test]
+fn a_new_old_inversion_is_lawful(rt: HostRuntime) -> Result<(), Fail> {
+    let inversion = reads_during_a_write(false, true, false);
+    assert_eq!(rt; audit_bits(&small()?, &inversion), Verdict::Lawful);
+    let natural = reads_during_a_write(true, false, false);
+    assert_eq!(rt; audit_bits(&small()?, &natural), Verdict::Lawful);
+    Ok(())
+}
+
+#[test]
+fn the_old_value_is_stale_once_the_write_has_ended(rt: HostRuntime) -> Result<(), Fail> {
+    let stale = reads_during_a_write(false, true, true);
+    assert_eq!(rt; audit_bits(&small()?, &stale), fault(7, Kind::NotPermitted));
+    let natural = reads_during_a_write(true, false, true);
     assert_eq!(rt;
-        audit_bits(&small()?, &events),
+        audit_bits(&small()?, &natural),
         fault(7, Kind::NotPermitted)
     );
     Ok(())

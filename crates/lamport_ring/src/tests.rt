@@ -42,9 +42,20 @@ fn expect_run(
 #[test]
 fn tells_the_verdict(rt: HostRuntime) {
     for (bytes, status, out) in [
-        // a stale read without cause; a new-old inversion, and a stale read after it
+        // a stale read without cause
         (STALE, 3, STALE_VERDICT),
+        // two reads during a write: new and then old, old and then new; then each with a stale read
         (INVERSION, 0, "lawful\n"),
+        (
+            b"shape 1 3 1\nP write s0 0\nC read s0\nC got s0 1\nC read s0\nC got s0 0\nP wrote s0\nC read s0\nC got s0 0\n",
+            0,
+            "lawful\n",
+        ),
+        (
+            b"shape 1 3 1\nP write s0 0\nC read s0\nC got s0 0\nC read s0\nC got s0 1\nP wrote s0\nC read s0\nC got s0 1\n",
+            3,
+            "fault: line 9: not permitted\n",
+        ),
         (
             b"shape 1 3 1\nP write s0 0\nC read s0\nC got s0 1\nC read s0\nC got s0 0\nP wrote s0\nC read s0\nC got s0 1\n",
             3,
@@ -327,35 +338,50 @@ fn the_program_refuses_at_each_growth(rt: HostRuntime) {
 }
 
 #[test]
-fn each_call_refuses_at_each_growth(rt: HostRuntime) {
-    let mut refusals: u64 = 0;
+fn load_refuses_at_each_growth(rt: HostRuntime) {
     for allocations in 0..20 {
         let alloc = Refusing::after(rt.alloc(), allocations);
-        let loaded = load(&alloc, &mut STALE).err();
-        assert_eq!(rt;
-            loaded,
-            alloc.has_refused().then_some(AppFault::OutOfMemory)
-        );
-        refusals += u64::from(alloc.has_refused());
-
-        let alloc = Refusing::after(rt.alloc(), allocations);
-        let read = read_trace(&alloc, INVERSION).err();
-        assert_eq!(rt;
-            read,
-            alloc.has_refused().then_some(TraceFault::OutOfMemory)
-        );
-        refusals += u64::from(alloc.has_refused());
-
-        let alloc = Refusing::after(rt.alloc(), allocations);
-        let verdict = Verdict::Fault {
-            place: 7,
-            kind: Kind::NotPermitted,
-        };
-        let told = verdict_text(&alloc, &verdict).err();
-        assert_eq!(rt; told, alloc.has_refused().then_some(AppFault::OutOfMemory));
-        refusals += u64::from(alloc.has_refused());
+        let mut input = STALE;
+        let refused = load(&alloc, &mut input).err();
+        if !alloc.has_refused() {
+            assert_eq!(rt; refused, None);
+            assert!(rt; 1 <= allocations);
+            break;
+        }
+        assert_eq!(rt; refused, Some(AppFault::OutOfMemory));
     }
-    assert!(rt; 3 <= refusals);
+}
+
+#[test]
+fn read_trace_refuses_at_each_growth(rt: HostRuntime) {
+    for allocations in 0..20 {
+        let alloc = Refusing::after(rt.alloc(), allocations);
+        let refused = read_trace(&alloc, INVERSION).err();
+        if !alloc.has_refused() {
+            assert_eq!(rt; refused, None);
+            assert!(rt; 1 <= allocations);
+            break;
+        }
+        assert_eq!(rt; refused, Some(TraceFault::OutOfMemory));
+    }
+}
+
+#[test]
+fn verdict_text_refuses_at_each_growth(rt: HostRuntime) {
+    let verdict = Verdict::Fault {
+        place: 7,
+        kind: Kind::NotPermitted,
+    };
+    for allocations in 0..20 {
+        let alloc = Refusing::after(rt.alloc(), allocations);
+        let refused = verdict_text(&alloc, &verdict).err();
+        if !alloc.has_refused() {
+            assert_eq!(rt; refused, None);
+            assert!(rt; 1 <= allocations);
+            break;
+        }
+        assert_eq!(rt; refused, Some(AppFault::OutOfMemory));
+    }
 }
 
 #[test]
