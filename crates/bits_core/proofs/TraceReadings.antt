@@ -1,5 +1,6 @@
 -- A text has one reading, and bytes have one fault or are a trace.
-use Rattle.std.proofs.Common.{◌≡◌, ◌⊎◌, ◌≢◌, ℕ, suc, ◌+◌, ◌<◌, ◌≤◌, true, List, [], ◌∷◌, ◌++◌, length, inl, inr, refl, ap, sym, subst, ◌∙◌, append_assoc, arith}
+use Rattle.std.proofs.Common.{◌≡◌, ◌⊎◌, ◌≢◌, ℕ, suc, ◌+◌, ◌<◌, ◌≤◌, true, Result, Ok, Err, List, [], ◌∷◌, ◌++◌, length, inl, inr, refl, ap, sym, subst, ◌∙◌, append_assoc, arith}
+use Rattle.std.specs.Prelude.{IfOk, IfErr, MatchResult}
 use Rattle.std.specs.Coded.{le_prop}
 use Rattle.std.specs.List.{flat_map}
 use Rattle.std.proofs.lemmas.List.{append-nil, length-append}
@@ -288,3 +289,11 @@ one_fault bytes TooLong (BadLine m) a (inr bad) = absurd (bad_line_not_long byte
 one_fault bytes TooLong TooLong a b = refl
 one_fault bytes TooLong OutOfMemory a b = absurd b
 one_fault bytes OutOfMemory g a b = absurd a
+
+-- so a call that tells readings and faults reads each trace, unless memory runs out
+pub reads_each_trace : {T : Type 0} (bytes : List ℕ) (r : Result T TraceFault) (shape_of : T → Shape) (events_of : T → List Event)
+    → IfOk r (λ t. IsTrace bytes (shape_of t) (events_of t)) → IfErr r (λ e. (e ≡ OutOfMemory) ⊎ IsTraceFault bytes e)
+    → (s : Shape) (es : List Event) → IsTrace bytes s es → MatchResult r (λ t. (shape_of t ≡ s) × (events_of t ≡ es)) (λ e. e ≡ OutOfMemory)
+reads_each_trace bytes (Ok t) shape_of events_of read refused s es trace = one_reading bytes (shape_of t) s (events_of t) es read trace
+reads_each_trace bytes (Err e) shape_of events_of read (inl short) s es trace = short
+reads_each_trace bytes (Err e) shape_of events_of read (inr fault) s es trace = absurd (faulty_is_no_trace bytes e s es fault trace)

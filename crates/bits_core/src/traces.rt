@@ -1,5 +1,7 @@
 //! Reading the text of a trace.
-ghost use Rattle.std.specs.Prelude.{◌≡◌, ◌⊎◌, IfOk, IfErr, MatchOption};
+ghost use Rattle.std.specs.Prelude.{◌≡◌, ◌⊎◌, List, IfOk, IfErr, MatchOption, MatchResult};
+ghost use Rattle.bits_core.specs.declared.events.Event.{Event};
+ghost use Rattle.bits_core.specs.declared.shapes.Shape.{Shape};
 ghost use Rattle.bits_core.specs.Trace.{BeginsWithEvent, BeginsWithShape, HasNoEvent, IsTrace, IsTraceFault};
 
 use crate::events::Event;
@@ -91,16 +93,8 @@ fn read_event<'a>(shape: &Shape, bytes: &'a [u8]) -> Option<(Event, &'a [u8])>
     }
 }
 
-/// Reads a trace: the shape of line 1, and the event of each further line, all of the bytes.
-///
-/// The first fault in the order of the lines is told: line 1 is not of its form, then its numbers
-/// are no shape; for a further line, it is one event more than a trace may have, then it is
-/// unfinished, not of its form, or names a bit that is not in the shape. Neither sides nor turns
-/// are looked at: that is the audit's work. Memory is wanted for the events alone.
-pub fn read_trace<A: Allocator>(
-    alloc: A,
-    bytes: &[u8],
-) -> Result<(Shape, Vec<Event, A>), TraceFault>
+// The shape of the first line and the event of each further line, or the first fault.
+fn read_lines<A: Allocator>(alloc: A, bytes: &[u8]) -> Result<(Shape, Vec<Event, A>), TraceFault>
     ensures read { IfOk result (λ trace. IsTrace bytes.now trace.0 trace.1.items) }
     ensures refused { IfErr result (λ e. (e ≡ TraceFault.OutOfMemory) ⊎ IsTraceFault bytes.now e) }
 {
@@ -117,4 +111,26 @@ pub fn read_trace<A: Allocator>(
         rest = others;
     }
     Ok((shape, events))
+}
+
+/// Reads a trace: the shape of line 1, and the event of each further line, all of the bytes.
+///
+/// The first fault in the order of the lines is told: line 1 is not of its form, then its numbers
+/// are no shape; for a further line, it is one event more than a trace may have, then it is
+/// unfinished, not of its form, or names a bit that is not in the shape. Neither sides nor turns
+/// are looked at: that is the audit's work. Memory is wanted for the events alone, and want of it
+/// is told where a growth was refused.
+pub fn read_trace<A: Allocator>(
+    alloc: A,
+    bytes: &[u8],
+) -> Result<(Shape, Vec<Event, A>), TraceFault>
+    // What is read is a trace.
+    ensures read { IfOk result (λ trace. IsTrace bytes.now trace.0 trace.1.items) }
+    // What is a trace is read, unless memory runs out.
+    ensures only { (shape : Shape) (events : List Event) → IsTrace bytes.now shape events
+        → MatchResult result (λ trace. (trace.0 ≡ shape) × (trace.1.items ≡ events)) (λ e. e ≡ TraceFault.OutOfMemory) }
+    // The fault is the first one.
+    ensures refused { IfErr result (λ e. (e ≡ TraceFault.OutOfMemory) ⊎ IsTraceFault bytes.now e) }
+{
+    read_lines(alloc, bytes)
 }

@@ -55,7 +55,7 @@ fn audit<'a>(alloc: Global) -> Result<Command<'a>, AllocError>
     let bits = Arg::new(alloc, "bits")
         .long("bits")
         .action(ArgAction::SetTrue)
-        .help("Check the bits alone, not the programs of the two sides");
+        .help("Check the bits alone (for now, audit does so without it too)");
     let command = Command::new(alloc, "audit")
         .about("Audit a trace of accesses to safe bits, from standard input")
         .after_help(AUDIT_HELP)

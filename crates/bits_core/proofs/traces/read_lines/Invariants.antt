@@ -1,7 +1,7 @@
 use Rattle.std.proofs.Common.{◌≡◌, ◌≤◌, ◌++◌, length, vec_len}
 use Rattle.bits_core.specs.Trace.{AreOfShape}
 use Rattle.bits_core.specs.TraceText.{trace_text}
-use Rattle.bits_core.proofs.traces.read_trace.Given as goal
+use Rattle.bits_core.proofs.traces.read_lines.Given as goal
 
 -- what was read so far is the text of the events so far
 abbrev pub invariant-loop-rest : goal.invariant-loop-rest
