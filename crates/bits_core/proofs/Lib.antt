@@ -14,3 +14,4 @@ pub mod TraceLines
 pub mod TraceLemmas
 pub mod DecideLemmas
 pub mod TraceReadings
+pub mod Tapes

@@ -9,3 +9,4 @@ pub mod Laws
 pub mod TraceText
 pub mod Trace
 pub mod TraceReading
+pub mod Oracle

@@ -7,7 +7,7 @@ ghost use Rattle.bits_core.specs.Lawful.{IsLawful};
 ghost use Rattle.bits_core.specs.Audit.{IsFaultAfter, IsVerdict};
 
 use crate::events::{Access, Act, Bit, Event, Side};
-use crate::searches::{held_at_begin, is_overlapped, open_access, reader, writer};
+use crate::searches::{held_at_begin, is_overlapped, open_access};
 use crate::shapes::Shape;
 
 /// What is wrong with an event. Where more than one kind applies, the first is told.
@@ -54,8 +54,8 @@ fn doer(bit: Bit, act: Act) -> Side
     ensures { result ≡ doer bit act }
 {
     match act {
-        Act::ReadBegin | Act::ReadEnd(_) => reader(bit),
-        Act::WriteBegin(_) | Act::WriteEnd => writer(bit),
+        Act::ReadBegin | Act::ReadEnd(_) => bit.reader(),
+        Act::WriteBegin(_) | Act::WriteEnd => bit.writer(),
     }
 }
 

@@ -24,6 +24,41 @@ pub enum Bit {
     Cell(u8, u8),
 }
 
+impl Bit {
+    ghost use Rattle.std.specs.Prelude.{◌≡◌};
+    ghost use Rattle.bits_core.specs.Bits.{first_value, reader, writer};
+
+    /// The one side that writes the bit: the consumer for `R`, else the producer.
+    pub fn writer(self) -> Side
+        ensures { result ≡ writer self }
+    {
+        match self {
+            Bit::R(_) => Side::C,
+            Bit::S(_) | Bit::X | Bit::Cell(_, _) => Side::P,
+        }
+    }
+
+    /// The one side that reads the bit: the producer for `R`, else the consumer.
+    pub fn reader(self) -> Side
+        ensures { result ≡ reader self }
+    {
+        match self.writer() {
+            Side::P => Side::C,
+            Side::C => Side::P,
+        }
+    }
+
+    /// The bit's value before any write: 1 for `S(0)` and `R(0)`, else 0.
+    pub fn first_value(self) -> bool
+        ensures { result ≡ first_value self }
+    {
+        match self {
+            Bit::S(i) | Bit::R(i) => i == 0,
+            Bit::X | Bit::Cell(_, _) => false,
+        }
+    }
+}
+
 /// What an event does to its bit.
 #[derive(Clone, Copy, PartialEq, Eq, Debug)]
 pub enum Act {

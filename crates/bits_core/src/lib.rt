@@ -4,6 +4,7 @@
 mod audits;
 mod events;
 pub mod laws;
+mod oracles;
 mod reading;
 mod searches;
 mod shapes;
@@ -11,6 +12,7 @@ mod traces;
 
 pub use audits::{Kind, Verdict, audit_bits};
 pub use events::{Access, Act, Bit, Event, Side};
+pub use oracles::{Always, Flip, Oracle, Tape};
 pub use shapes::{Shape, ShapeFault};
 pub use traces::{EVENT_LIMIT, TraceFault, read_trace};
 

@@ -1,39 +1,11 @@
+//! The working words on the events of a history so far, each found by a search from its end.
 ghost use Rattle.std.specs.Prelude.{◌≡◌, ℕ, ◌+◌, ◌<◌, ◌↔◌, Bool, true, false, not, IsTrue, MatchOption};
-ghost use Rattle.bits_core.specs.Bits.{other, same_side, same_bit, writer, reader, first_value, doer, begun_by, write_of, value_written};
+ghost use Rattle.bits_core.specs.Bits.{same_side, same_bit, writer, first_value, begun_by, write_of, value_written};
 ghost use Rattle.bits_core.specs.History.{has_event, open_access, open_write, writes_begun, last_value, held, is_empty, is_overlapped, IsLastPlace, held_at_begin};
 
 use crate::events::{Access, Act, Bit, Event, Side};
 
-/// The side that writes the bit.
-pub(crate) fn writer(bit: Bit) -> Side
-    ensures { result ≡ writer bit }
-{
-    match bit {
-        Bit::R(_) => Side::C,
-        Bit::S(_) | Bit::X | Bit::Cell(_, _) => Side::P,
-    }
-}
-
-/// The side that reads the bit.
-pub fn reader(bit: Bit) -> Side
-    ensures { result ≡ reader bit }
-{
-    match writer(bit) {
-        Side::P => Side::C,
-        Side::C => Side::P,
-    }
-}
-
-/// The bit before any write.
-pub fn first_value(bit: Bit) -> bool
-    ensures { result ≡ first_value bit }
-{
-    match bit {
-        Bit::S(i) | Bit::R(i) => i == 0,
-        Bit::X | Bit::Cell(_, _) => false,
-    }
-}
-
+// Whether the two sides are one.
 pub fn same_side(a: Side, b: Side) -> bool
     ensures { result ≡ same_side a b }
 {
@@ -45,6 +17,7 @@ pub fn same_side(a: Side, b: Side) -> bool
     }
 }
 
+// Whether the two bits are one.
 pub fn same_bit(a: Bit, b: Bit) -> bool
     ensures { result ≡ same_bit a b }
 {
@@ -57,7 +30,7 @@ pub fn same_bit(a: Bit, b: Bit) -> bool
     }
 }
 
-/// The access that the event begins.
+// The access that the event begins.
 pub fn begun_by(event: Event) -> Option<Access>
     ensures { result ≡ begun_by event }
 {
@@ -69,7 +42,7 @@ pub fn begun_by(event: Event) -> Option<Access>
     }
 }
 
-/// The value that an access writes to the bit.
+// The value that an access writes to the bit.
 pub fn value_written(bit: Bit, access: Option<Access>) -> Option<bool>
     ensures { result ≡ value_written bit access }
 {
@@ -85,7 +58,7 @@ pub fn value_written(bit: Bit, access: Option<Access>) -> Option<bool>
     }
 }
 
-/// The place of the side's last event.
+// The place of the side's last event.
 pub fn last_place(history: &[Event], side: Side) -> Option<usize>
     ensures { MatchOption result (has_event side history.now ≡ false) (IsLastPlace side history.now) }
 {
@@ -97,7 +70,7 @@ pub fn last_place(history: &[Event], side: Side) -> Option<usize>
     None
 }
 
-/// The value of the last write of the bit that began, or its first value.
+// The value of the last write of the bit that began, or its first value.
 pub fn last_written(history: &[Event], bit: Bit) -> bool
     ensures { result ≡ last_value (first_value bit) (writes_begun bit history.now) }
 {
@@ -106,10 +79,10 @@ pub fn last_written(history: &[Event], bit: Bit) -> bool
             return value;
         }
     }
-    first_value(bit)
+    bit.first_value()
 }
 
-/// Whether a write of the bit began.
+// Whether a write of the bit began.
 pub fn any_write(history: &[Event], bit: Bit) -> bool
     ensures { result ≡ not (is_empty (writes_begun bit history.now)) }
 {
@@ -121,7 +94,7 @@ pub fn any_write(history: &[Event], bit: Bit) -> bool
     false
 }
 
-/// The access that the side has open.
+// The access that the side has open.
 pub fn open_access(history: &[Event], side: Side) -> Option<Access>
     ensures { result ≡ open_access side history.now }
 {
@@ -131,24 +104,24 @@ pub fn open_access(history: &[Event], side: Side) -> Option<Access>
     }
 }
 
-/// The value that is being written to the bit.
+// The value that is being written to the bit.
 pub fn open_write(history: &[Event], bit: Bit) -> Option<bool>
     ensures { result ≡ open_write bit history.now }
 {
-    value_written(bit, open_access(history, writer(bit)))
+    value_written(bit, open_access(history, bit.writer()))
 }
 
-/// What the bit holds.
+// What the bit holds.
 pub fn held(history: &[Event], bit: Bit) -> bool
     ensures { result ≡ held bit history.now }
 {
-    match last_place(history, writer(bit)) {
+    match last_place(history, bit.writer()) {
         Some(place) => last_written(&history[..place], bit),
-        None => first_value(bit),
+        None => bit.first_value(),
     }
 }
 
-/// Whether a write of the bit overlaps the side's last access, while that is open.
+// Whether a write of the bit overlaps the side's last access, while that is open.
 pub fn is_overlapped(history: &[Event], side: Side, bit: Bit) -> bool
     ensures { result ≡ is_overlapped side bit history.now }
 {
@@ -160,12 +133,12 @@ pub fn is_overlapped(history: &[Event], side: Side, bit: Bit) -> bool
     }
 }
 
-/// What the bit held where the side's last access began.
+// What the bit held where the side's last access began.
 pub fn held_at_begin(history: &[Event], side: Side, bit: Bit) -> bool
     ensures { result ≡ held_at_begin side bit history.now }
 {
     match last_place(history, side) {
         Some(place) => held(&history[..place], bit),
-        None => first_value(bit),
+        None => bit.first_value(),
     }
 }
