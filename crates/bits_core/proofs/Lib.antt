@@ -15,3 +15,5 @@ pub mod TraceLemmas
 pub mod DecideLemmas
 pub mod TraceReadings
 pub mod Tapes
+pub mod OpenAccesses
+pub mod Flickers

@@ -10,3 +10,5 @@ pub mod TraceText
 pub mod Trace
 pub mod TraceReading
 pub mod Oracle
+pub mod Open
+pub mod Memory

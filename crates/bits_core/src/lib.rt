@@ -4,6 +4,7 @@
 mod audits;
 mod events;
 pub mod laws;
+mod memory;
 mod oracles;
 mod reading;
 mod searches;
@@ -12,6 +13,7 @@ mod traces;
 
 pub use audits::{Kind, Verdict, audit_bits};
 pub use events::{Access, Act, Bit, Event, Side};
+pub use memory::{Memory, MemoryFault};
 pub use oracles::{Always, Flip, Oracle, Tape};
 pub use shapes::{Shape, ShapeFault};
 pub use traces::{EVENT_LIMIT, TraceFault, read_trace};

@@ -1,0 +1,227 @@
+//! A memory of safe bits.
+ghost use Rattle.std.specs.Prelude.{◌≡◌, ℕ, ◌+◌, Bool, true, false, if◌then◌else◌, OnOk, OnErr, IfOk, IfSome, None};
+ghost use Rattle.bits_core.specs.Bits.{reader, writer};
+ghost use Rattle.bits_core.specs.Shape.{belongs};
+ghost use Rattle.bits_core.specs.History.{open_access, is_overlapped, held_at_begin};
+ghost use Rattle.bits_core.specs.Lawful.{IsLawful};
+ghost use Rattle.bits_core.specs.Memory.{ends_read, flicker_count, held_for_read, is_read_overlapped, open_bit, unused, with_answer, with_event};
+ghost use Rattle.bits_core.specs.Open.{IsOpenRight, IsReading, IsWriting};
+ghost use Rattle.bits_core.specs.Steps.{MayFollow};
+
+use crate::events::{Access, Act, Bit, Event, Side};
+use crate::oracles::Oracle;
+use crate::searches::{held_at_begin, is_overlapped, open_access};
+use crate::shapes::Shape;
+use std::alloc::{AllocError, AllocFailed, Allocator};
+use std::marker::Model;
+use thiserror::Error;
+
+/// Why a memory made no event.
+#[derive(Clone, Copy, PartialEq, Eq, Debug, Error)]
+pub enum MemoryFault {
+    /// Memory for the history ran out.
+    #[error("out of memory")]
+    OutOfMemory,
+}
+
+impl MemoryFault {
+    /// The number of the fault: 1 `OutOfMemory`.
+    pub fn number(&self) -> u8
+        ensures { result ≡ 1 }
+    {
+        match self {
+            MemoryFault::OutOfMemory => 1,
+        }
+    }
+}
+
+impl From<AllocError> for MemoryFault {
+    fn from(_error: AllocError) -> MemoryFault {
+        MemoryFault::OutOfMemory
+    }
+}
+
+impl<T: Drop> From<AllocFailed<T>> for MemoryFault {
+    fn from(_error: AllocFailed<T>) -> MemoryFault {
+        MemoryFault::OutOfMemory
+    }
+}
+
+/// The safe bits of a shape, with the recorded history of the accesses to them (Lamport, 1986).
+///
+/// Two sides begin and end reads and writes. A read that a write of its bit overlaps answers
+/// whatever an oracle says; any other read answers the value that the bit held where the read
+/// began. Each history that a memory makes is lawful. It searches that history for what a bit held
+/// and for every overlap.
+#[derive(Drop)]
+pub struct Memory<A: Allocator> {
+    shape: Shape,
+    events: Vec<Event, A>,
+    flickers: u64,
+}
+
+impl<A: Allocator> Model for Memory<A> {
+    ghost use Rattle.bits_core.specs.Memory.{Recorded, IsRecord};
+
+    ghost Value = { Recorded };
+
+    ghost view = { λ m. record { shape = m.shape; events = m.events.items; flickers = m.flickers } };
+
+    ghost invariant = { λ m. IsRecord m.shape m.events.items m.flickers };
+}
+
+impl<A: Allocator> Memory<A> {
+    /// A memory with no event yet. It takes memory from this allocator, and none at first.
+    pub fn new(alloc: A, shape: Shape) -> Memory<A>
+        ensures { result ≡ unused shape }
+    {
+        Memory {
+            shape,
+            events: Vec::new(alloc),
+            flickers: 0,
+        }
+    }
+
+    /// The history so far.
+    pub fn events(&self) -> &[Event]
+        ensures events { result.now ≡ self.now.events }
+        ensures lawful { IsLawful self.now.shape self.now.events }
+    {
+        self.events.as_slice()
+    }
+
+    /// The history. It takes no memory.
+    pub fn into_events(self) -> Vec<Event, A>
+        ensures events { result.items ≡ self.events }
+        ensures lawful { IsLawful self.shape self.events }
+    {
+        let Memory {
+            shape: _,
+            events,
+            flickers: _,
+        } = self;
+        events
+    }
+
+    /// The access that the side has open. It is of a bit of the shape, by the side that may.
+    pub fn pending(&self, side: Side) -> Option<Access>
+        ensures access { result ≡ open_access side self.now.events }
+        ensures right { IfSome result (IsOpenRight self.now.shape side) }
+    {
+        open_access(self.events.as_slice(), side)
+    }
+
+    /// How many reads have ended that a write overlapped: so many answers were asked of oracles.
+    pub fn flickers(&self) -> u64
+        ensures value { result ≡ self.now.flickers }
+        ensures counted { result ≡ flicker_count self.now.events }
+    {
+        self.flickers
+    }
+
+    // Adds an event that ends no read.
+    fn record(&mut self, side: Side, bit: Bit, act: Act) -> Result<(), MemoryFault>
+        requires follows { MayFollow self.old.shape self.old.events (record { side = side; bit = bit; act = act }) }
+        requires quiet { ends_read act ≡ false }
+        ensures ok { OnOk result (self.new ≡ with_event self.old side bit act) }
+        ensures err { OnErr result (self.new ≡ self.old) }
+    {
+        self.events.push(Event { side, bit, act })?;
+        Ok(())
+    }
+
+    /// Begins a read of a bit of the shape by its reader, which has no access open.
+    ///
+    /// `OutOfMemory` leaves all as it was.
+    pub fn begin_read(&mut self, side: Side, bit: Bit) -> Result<(), MemoryFault>
+        requires in_shape { belongs self.old.shape bit ≡ true }
+        requires by_reader { side ≡ reader bit }
+        requires none_open { open_access side self.old.events ≡ None }
+        ensures ok { OnOk result (self.new ≡ with_event self.old side bit Act.ReadBegin) }
+        ensures err { OnErr result (self.new ≡ self.old) }
+    {
+        self.record(side, bit, Act::ReadBegin)
+    }
+
+    /// Begins a write of a value to a bit of the shape by its writer, which has no access open. The
+    /// bit holds the value once the write has ended.
+    ///
+    /// `OutOfMemory` leaves all as it was.
+    pub fn begin_write(&mut self, side: Side, bit: Bit, value: bool) -> Result<(), MemoryFault>
+        requires in_shape { belongs self.old.shape bit ≡ true }
+        requires by_writer { side ≡ writer bit }
+        requires none_open { open_access side self.old.events ≡ None }
+        ensures ok { OnOk result (self.new ≡ with_event self.old side bit (Act.WriteBegin value)) }
+        ensures err { OnErr result (self.new ≡ self.old) }
+    {
+        self.record(side, bit, Act::WriteBegin(value))
+    }
+
+    /// Ends the write that the side has open.
+    ///
+    /// `OutOfMemory` leaves all as it was, and the write open.
+    pub fn end_write(&mut self, side: Side) -> Result<(), MemoryFault>
+        requires open { IsWriting (open_access side self.old.events) }
+        ensures ok { OnOk result (self.new ≡ with_event self.old side (open_bit side self.old.events) Act.WriteEnd) }
+        ensures err { OnErr result (self.new ≡ self.old) }
+    {
+        match self.pending(side) {
+            Some(Access::Write(bit, _)) => self.record(side, bit, Act::WriteEnd),
+            _ => unreachable!(),
+        }
+    }
+
+    /// Ends the read that the side has open, and gives its answer.
+    ///
+    /// Where a write of the bit overlapped the read, the oracle is asked once and its answer given.
+    /// Else the answer is the value that the bit held where the read began, and the oracle is left
+    /// alone. `OutOfMemory` leaves all as it was, the read open and the oracle not asked.
+    pub fn end_read<O: Oracle>(&mut self, side: Side, oracle: &mut O) -> Result<bool, MemoryFault>
+        requires open { IsReading (open_access side self.old.events) }
+        ensures ok { IfOk result (λ v. self.new ≡ with_answer self.old side v) }
+        ensures answer { IfOk result (λ v. v ≡ (if is_read_overlapped side self.old.events then O.answers oracle.old 0 else held_for_read side self.old.events)) }
+        ensures asked { OnOk result (is_read_overlapped side self.old.events ≡ true → (i : ℕ) → O.answers oracle.new i ≡ O.answers oracle.old (i + 1)) }
+        ensures not_asked { is_read_overlapped side self.old.events ≡ false → oracle.new ≡ oracle.old }
+        ensures err { OnErr result ((self.new ≡ self.old) × (oracle.new ≡ oracle.old)) }
+    {
+        match self.pending(side) {
+            Some(Access::Read(bit)) => {
+                self.events.reserve(1)?;
+                let past = self.events.as_slice();
+                let overlapped = is_overlapped(past, side, bit);
+                let answer = read_answer(past, side, bit, overlapped, oracle);
+                match self.events.push(Event {
+                    side,
+                    bit,
+                    act: Act::ReadEnd(answer),
+                }) {
+                    Ok(()) => {
+                        self.flickers += u64::from(overlapped);
+                        Ok(answer)
+                    }
+                    Err(_) => unreachable!(),
+                }
+            }
+            _ => unreachable!(),
+        }
+    }
+}
+
+// What a read answers: what the oracle says where it was overlapped, else what its bit held.
+fn read_answer<O: Oracle>(
+    past: &[Event],
+    side: Side,
+    bit: Bit,
+    overlapped: bool,
+    oracle: &mut O,
+) -> bool
+    ensures value { result ≡ (if overlapped then O.answers oracle.old 0 else held_at_begin side bit past.now) }
+    ensures asked { overlapped ≡ true → (i : ℕ) → O.answers oracle.new i ≡ O.answers oracle.old (i + 1) }
+    ensures not_asked { overlapped ≡ false → oracle.new ≡ oracle.old }
+{
+    if overlapped {
+        oracle.answer()
+    } else {
+        held_at_begin(past, side, bit)
+    }
+}
