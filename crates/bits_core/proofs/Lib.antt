@@ -17,3 +17,4 @@ pub mod TraceReadings
 pub mod Tapes
 pub mod OpenAccesses
 pub mod Flickers
+pub mod FlickerLaws

@@ -1,5 +1,5 @@
 -- The access that a side has open in a lawful history is to a bit of the shape, by the side that may.
-use Rattle.std.proofs.Common.{◌≡◌, Bool, true, Option, Some, None, false, inl, inr, List, [], ◌∷◌, ◌++◌, length, refl, sym, subst, ◌∙◌}
+use Rattle.std.proofs.Common.{◌≡◌, Bool, true, Option, Some, None, false, inl, inr, List, length, refl, sym, subst, ◌∙◌}
 use Rattle.std.specs.Prelude.{IfSome, if◌then◌else◌}
 use Rattle.std.proofs.lemmas.Option.{none-some}
 use Rattle.bits_core.specs.declared.events.Side.{Side}
@@ -10,14 +10,14 @@ use Rattle.bits_core.specs.declared.events.Access.{Access}
 use Rattle.bits_core.specs.declared.events.Access.TheVariants.{Read, Write}
 use Rattle.bits_core.specs.declared.events.Event.{Event}
 use Rattle.bits_core.specs.declared.shapes.Shape.{Shape}
-use Rattle.bits_core.specs.Bits.{doer, begun_access, reader}
+use Rattle.bits_core.specs.Bits.{doer, begun_access}
 use Rattle.bits_core.specs.Shape.{belongs}
 use Rattle.bits_core.specs.History.{open_access, is_overlapped, held_at_begin}
 use Rattle.bits_core.specs.Steps.{IsAnswer}
 use Rattle.bits_core.specs.Lawful.{IsLawful}
 use Rattle.bits_core.specs.Intervals.{IsOpenAt}
 use Rattle.bits_core.specs.Open.{IsOpenRight}
-use Rattle.bits_core.proofs.LawProofs.{open_is_by_interval, lawful_by_one_more}
+use Rattle.bits_core.proofs.LawProofs.{open_is_by_interval}
 
 right_of : (shape : Shape) (s : Side) (b : Bit) (a : Act) (access : Access) → begun_access b a ≡ Some access → belongs shape b ≡ true → s ≡ doer b a → IsOpenRight shape s access
 right_of shape s b (ReadEnd v) access e has by = absurd (none-some access e)

@@ -13,6 +13,7 @@ use Rattle.bits_core.specs.Bits.{writer, is_by, begun_by, write_of}
 use Rattle.bits_core.specs.History.{open_access, open_write, held, held_at_begin, is_overlapped}
 use Rattle.bits_core.specs.Intervals.{IsHeld, IsOpenAt, IsRead, HasOverlap}
 use Rattle.bits_core.specs.Lawful.{IsLawful}
+use Rattle.bits_core.specs.Memory.{EndsOverlappedRead, is_flicker_at}
 use Rattle.bits_core.specs.Steps.{MayFollow}
 
 -- nothing has happened
@@ -72,3 +73,7 @@ FaultyIsNoTrace = (bytes : List ℕ) (fault : TraceFault) (shape : Shape) (event
 -- and they have one fault
 abbrev pub OneFault : Type 0
 OneFault = (bytes : List ℕ) (f g : TraceFault) → IsTraceFault bytes f → IsTraceFault bytes g → f ≡ g
+
+-- the reads that count as flickers are those that a write overlaps
+abbrev pub FlickerIsByInterval : Type 0
+FlickerIsByInterval = (shape : Shape) (h : List Event) → IsLawful shape h → (place : ℕ) → (is_flicker_at h place ≡ true) ↔ EndsOverlappedRead h place

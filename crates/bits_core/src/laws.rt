@@ -1,6 +1,6 @@
 //! The laws of histories and of trace text that the layers above stand on, each the contract of a
 //! function that does nothing.
-ghost use Rattle.bits_core.specs.Laws.{BeginningIsLawful, EmptyIsLawful, FaultyIsNoTrace, HeldAtBeginChanges, HeldChanges, HeldIsByInterval, LawfulByOneMore, OneFault, OneReading, OneVerdict, OpenChanges, OpenIsByInterval, OpenWriteChanges, OverlapChanges, OverlapIsByInterval, OverlapIsDecidable};
+ghost use Rattle.bits_core.specs.Laws.{BeginningIsLawful, EmptyIsLawful, FaultyIsNoTrace, FlickerIsByInterval, HeldAtBeginChanges, HeldChanges, HeldIsByInterval, LawfulByOneMore, OneFault, OneReading, OneVerdict, OpenChanges, OpenIsByInterval, OpenWriteChanges, OverlapChanges, OverlapIsByInterval, OverlapIsDecidable};
 
 /// The history with no event is lawful.
 pub fn empty_is_lawful()
@@ -80,4 +80,9 @@ pub fn faulty_is_no_trace()
 /// Bytes have at most one fault.
 pub fn one_fault()
     ensures { OneFault }
+{}
+
+/// The ended reads that count as flickers are those that a write overlaps.
+pub fn flicker_is_by_interval()
+    ensures { FlickerIsByInterval }
 {}

@@ -10,6 +10,7 @@ mod reading;
 mod searches;
 mod shapes;
 mod traces;
+mod writing;
 
 pub use audits::{Kind, Verdict, audit_bits};
 pub use events::{Access, Act, Bit, Event, Side};
@@ -17,6 +18,7 @@ pub use memory::{Memory, MemoryFault};
 pub use oracles::{Always, Flip, Oracle, Tape};
 pub use shapes::{Shape, ShapeFault};
 pub use traces::{EVENT_LIMIT, TraceFault, read_trace};
+pub use writing::write_trace;
 
 #[cfg(test)]
 mod tests;

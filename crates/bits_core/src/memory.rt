@@ -82,6 +82,13 @@ impl<A: Allocator> Memory<A> {
         }
     }
 
+    /// The shape whose bits these are.
+    pub fn shape(&self) -> Shape
+        ensures { result ≡ self.now.shape }
+    {
+        self.shape
+    }
+
     /// The history so far.
     pub fn events(&self) -> &[Event]
         ensures events { result.now ≡ self.now.events }

@@ -1,0 +1,45 @@
+-- The reads that count as flickers, by their intervals.
+use Rattle.std.proofs.Common.{◌≡◌, ℕ, true, false, Option, Some, None, ◌≤◌, List, take, refl, ap, subst, ◌∙◌}
+use Rattle.std.specs.Prelude.{slice_get}
+use Rattle.std.specs.Option.{option_map_or}
+use Rattle.std.proofs.lemmas.Bool.{false≢true}
+use Rattle.bits_core.specs.declared.events.Side.{Side}
+use Rattle.bits_core.specs.declared.events.Bit.{Bit}
+use Rattle.bits_core.specs.declared.events.Act.{Act}
+use Rattle.bits_core.specs.declared.events.Act.TheVariants.{ReadBegin, ReadEnd, WriteBegin, WriteEnd}
+use Rattle.bits_core.specs.declared.events.Access.TheVariants.{Read}
+use Rattle.bits_core.specs.declared.events.Event.{Event}
+use Rattle.bits_core.specs.declared.shapes.Shape.{Shape}
+use Rattle.bits_core.specs.Intervals.{IsRead, IsOpenAt, end_of}
+use Rattle.bits_core.specs.Lawful.{IsLawful}
+use Rattle.bits_core.specs.Laws.{FlickerIsByInterval}
+use Rattle.bits_core.specs.Memory.{EndsOverlappedRead, is_flicker}
+use Rattle.bits_core.proofs.Changes.{same_side-same}
+use Rattle.bits_core.proofs.LawfulLemmas.{ends_at}
+use Rattle.bits_core.proofs.LawProofs.{overlap_is_by_interval}
+
+-- an event that counts ends a read that a write overlaps
+from_event : (shape : Shape) (h : List Event) (place : ℕ) (s : Side) (b : Bit) (a : Act) → IsLawful shape h → slice_get h place ≡ Some (record { side = s; bit = b; act = a })
+    → is_flicker (take place h) (record { side = s; bit = b; act = a }) ≡ true → EndsOverlappedRead h place
+from_event shape h place s b ReadBegin lawful at flickers = absurd (false≢true flickers)
+from_event shape h place s b (WriteBegin v) lawful at flickers = absurd (false≢true flickers)
+from_event shape h place s b WriteEnd lawful at flickers = absurd (false≢true flickers)
+from_event shape h place s b (ReadEnd v) lawful at flickers =
+    let e : Event = record { side = s; bit = b; act = ReadEnd v } in
+    let o : IsOpenAt h s (Read b) place = (lawful.each place e at).in_turn in
+    let start : ℕ = o.0 in
+    let stop : place ≡ end_of s h start = ends_at h s start place e o.3 (subst (λ n. place ≤ n) o.2.ends o.4) at (same_side-same s) in
+    let read : IsRead h s b start place v = record { access = record { event = o.2.event; at_start = o.2.at_start; by_side = o.2.by_side; begins = o.2.begins; ends = stop }; ends = at } in
+    record { side = s; bit = b; answer = v; start = start; read = read; overlap = (overlap_is_by_interval shape h lawful s b start place v read).1 flickers }
+
+from_place : (shape : Shape) (h : List Event) (place : ℕ) → IsLawful shape h → (o : Option Event) → slice_get h place ≡ o → option_map_or (is_flicker (take place h)) o false ≡ true → EndsOverlappedRead h place
+from_place shape h place lawful None at flickers = absurd (false≢true flickers)
+from_place shape h place lawful (Some e) at flickers = from_event shape h place e.side e.bit e.act lawful at flickers
+
+pub flicker_is_by_interval : FlickerIsByInterval
+flicker_is_by_interval shape h lawful place = (
+  λ flickers. from_place shape h place lawful (slice_get h place) refl flickers,
+  λ r.
+      ap (λ (o : Option Event). option_map_or (is_flicker (take place h)) o false) r.read.ends
+      ∙ (overlap_is_by_interval shape h lawful r.side r.bit r.start place r.answer r.read).0 r.overlap,
+)

@@ -1,0 +1,126 @@
+//! Writing the text of a trace.
+ghost use Rattle.std.specs.Prelude.{◌≡◌, ◌≤◌, ◌++◌, OnOk, IfOk, IfErr, decimal, length, string_bytes};
+ghost use Rattle.std.specs.List.{flat_map};
+ghost use Rattle.bits_core.specs.Shape.{capacity_of, modulus_of, width_of};
+ghost use Rattle.bits_core.specs.Trace.{AreOfShape, IsTrace};
+ghost use Rattle.bits_core.specs.TraceText.{act_text, bit_text, event_line, shape_line, side_text, trace_text, value_text};
+
+use crate::events::{Act, Bit, Event, Side};
+use crate::shapes::Shape;
+use crate::traces::{EVENT_LIMIT, TraceFault};
+use itoa::Buffer;
+use std::alloc::Allocator;
+
+fn side_word(side: Side) -> &'static str
+    ensures { result.now ≡ side_text side }
+{
+    match side {
+        Side::P => "P ",
+        Side::C => "C ",
+    }
+}
+
+fn act_word(act: Act) -> &'static str
+    ensures { result.now ≡ act_text act }
+{
+    match act {
+        Act::ReadBegin => "read ",
+        Act::ReadEnd(_) => "got ",
+        Act::WriteBegin(_) => "write ",
+        Act::WriteEnd => "wrote ",
+    }
+}
+
+// The value that an act answers or writes, after a space, if it has one.
+fn value_word(act: Act) -> &'static str
+    ensures { result.now ≡ value_text act }
+{
+    match act {
+        Act::ReadBegin | Act::WriteEnd => "",
+        Act::ReadEnd(value) | Act::WriteBegin(value) => { if value { " 1" } else { " 0" } }
+    }
+}
+
+fn push_number<A: Allocator>(text: &mut String<A>, number: u64) -> Result<(), TraceFault>
+    ensures ok { OnOk result (string_bytes text.new ≡ string_bytes text.old ++ decimal number) }
+    ensures err { IfErr result (λ e. e ≡ TraceFault.OutOfMemory) }
+{
+    let mut buffer = Buffer::new();
+    text.push_str(buffer.format(number))?;
+    Ok(())
+}
+
+// A letter, and the index after it.
+fn push_indexed<A: Allocator>(
+    text: &mut String<A>,
+    letter: &str,
+    index: u8,
+) -> Result<(), TraceFault>
+    ensures ok { OnOk result (string_bytes text.new ≡ string_bytes text.old ++ (letter.now ++ decimal index)) }
+    ensures err { IfErr result (λ e. e ≡ TraceFault.OutOfMemory) }
+{
+    text.push_str(letter)?;
+    push_number(text, u64::from(index))
+}
+
+fn push_bit<A: Allocator>(text: &mut String<A>, bit: Bit) -> Result<(), TraceFault>
+    ensures ok { OnOk result (string_bytes text.new ≡ string_bytes text.old ++ bit_text bit) }
+    ensures err { IfErr result (λ e. e ≡ TraceFault.OutOfMemory) }
+{
+    match bit {
+        Bit::S(index) => push_indexed(text, "s", index),
+        Bit::R(index) => push_indexed(text, "r", index),
+        Bit::X => Ok(text.push_str("x")?),
+        Bit::Cell(cell, digit) => {
+            push_indexed(text, "c", cell)?;
+            push_indexed(text, ".", digit)
+        }
+    }
+}
+
+fn push_event<A: Allocator>(text: &mut String<A>, event: Event) -> Result<(), TraceFault>
+    ensures ok { OnOk result (string_bytes text.new ≡ string_bytes text.old ++ event_line event) }
+    ensures err { IfErr result (λ e. e ≡ TraceFault.OutOfMemory) }
+{
+    text.push_str(side_word(event.side))?;
+    text.push_str(act_word(event.act))?;
+    push_bit(text, event.bit)?;
+    text.push_str(value_word(event.act))?;
+    Ok(text.push_str("\n")?)
+}
+
+fn push_shape<A: Allocator>(text: &mut String<A>, shape: &Shape) -> Result<(), TraceFault>
+    ensures ok { OnOk result (string_bytes text.new ≡ string_bytes text.old ++ shape_line (capacity_of shape.now) (modulus_of shape.now) (width_of shape.now)) }
+    ensures err { IfErr result (λ e. e ≡ TraceFault.OutOfMemory) }
+{
+    text.push_str("shape ")?;
+    push_number(text, shape.capacity())?;
+    text.push_str(" ")?;
+    push_number(text, shape.modulus())?;
+    text.push_str(" ")?;
+    push_number(text, shape.width())?;
+    Ok(text.push_str("\n")?)
+}
+
+/// The text of a trace: the line of the shape, and the line of each event, whose bits are all of
+/// the shape (`Shape::has`).
+///
+/// The only fault is `OutOfMemory`. A text of at most `EVENT_LIMIT` events is read again as this
+/// shape and these events, and the text that is written for what was read is the text that was read.
+pub fn write_trace<A: Allocator>(
+    alloc: A,
+    shape: &Shape,
+    events: &[Event],
+) -> Result<String<A>, TraceFault>
+    requires { AreOfShape shape.now events.now }
+    ensures text { IfOk result (λ text. string_bytes text ≡ trace_text shape.now events.now) }
+    ensures again { IfOk result (λ text. length events.now ≤ EVENT_LIMIT → IsTrace (string_bytes text) shape.now events.now) }
+    ensures memory { IfErr result (λ e. e ≡ TraceFault.OutOfMemory) }
+{
+    let mut text = String::new(alloc);
+    push_shape(&mut text, shape)?;
+    for event in events {
+        push_event(&mut text, *event)?;
+    }
+    Ok(text)
+}
