@@ -31,9 +31,21 @@ fn expect_run(
     err: &str,
 ) {
     let mut input = bytes;
+    expect_run_on(rt, words, &mut input, status, out, err);
+}
+
+// The same for any reader.
+fn expect_run_on<R: Read>(
+    rt: &(impl Abort + AllocGlobal + Threads),
+    words: &[&str],
+    input: &mut R,
+    status: u8,
+    out: &str,
+    err: &str,
+) {
     let mut output = Vec::new(rt.alloc());
     let mut errors = Vec::new(rt.alloc());
-    let ended = execute(rt, rt.alloc(), words, &mut input, &mut output, &mut errors);
+    let ended = execute(rt, rt.alloc(), words, input, &mut output, &mut errors);
     assert_eq!(rt; ended, status);
     assert!(rt; output.as_slice() == out.as_bytes());
     assert!(rt; errors.as_slice() == err.as_bytes());
@@ -209,24 +221,11 @@ fn stops_at_a_failed_read(rt: HostRuntime) {
                 reads_before,
                 kind,
             };
-            let mut output = Vec::new(rt.alloc());
-            let mut errors = Vec::new(rt.alloc());
             let words = ["lamport_ring", "audit", "--bits"];
-            let ended = execute(
-                &rt,
-                rt.alloc(),
-                &words,
-                &mut input,
-                &mut output,
-                &mut errors,
-            );
             if reads_before < reads {
-                assert_eq!(rt; ended, 1);
-                assert!(rt; output.is_empty());
-                assert!(rt; errors.as_slice() == b"refused: input failed\n".as_slice());
+                expect_run_on(&rt, &words, &mut input, 1, "", "refused: input failed\n");
             } else {
-                assert_eq!(rt; ended, 0);
-                assert!(rt; output.as_slice() == b"lawful\n".as_slice());
+                expect_run_on(&rt, &words, &mut input, 0, "lawful\n", "");
             }
         }
     }
@@ -296,20 +295,15 @@ fn bounds_the_input(rt: HostRuntime) -> Result<(), Fail> {
         );
     }
     let mut endless = io::repeat(0);
-    let mut output = Vec::new(rt.alloc());
-    let mut errors = Vec::new(rt.alloc());
     let words = ["lamport_ring", "audit", "--bits"];
-    let ended = execute(
+    expect_run_on(
         &rt,
-        rt.alloc(),
         &words,
         &mut endless,
-        &mut output,
-        &mut errors,
+        1,
+        "",
+        "refused: input is too large\n",
     );
-    assert_eq!(rt; ended, 1);
-    assert!(rt; output.is_empty());
-    assert!(rt; errors.as_slice() == b"refused: input is too large\n".as_slice());
     Ok(())
 }
 
