@@ -18,3 +18,5 @@ pub mod Tapes
 pub mod OpenAccesses
 pub mod Flickers
 pub mod FlickerLaws
+pub mod OwnEvents
+pub mod MadeLemmas

@@ -1,5 +1,5 @@
 -- The laws that the layers above stand on.
-use Rattle.std.specs.Prelude.{◌≡◌, ℕ, ◌≤◌, ◌⊎◌, ◌↔◌, ◌||◌, Bool, true, Some, List, [], ◌∷◌, ◌++◌, length, take, if◌then◌else◌, is_some, unwrap_or}
+use Rattle.std.specs.Prelude.{◌≡◌, ℕ, ◌*◌, ◌<◌, ◌≤◌, ◌⊎◌, ◌↔◌, ◌||◌, Bool, true, Some, List, [], ◌∷◌, ◌++◌, length, take, slice_get, if◌then◌else◌, is_some, unwrap_or}
 use Rattle.bits_core.specs.declared.events.Side.{Side}
 use Rattle.bits_core.specs.declared.events.Bit.{Bit}
 use Rattle.bits_core.specs.declared.events.Access.{Access}
@@ -11,10 +11,11 @@ use Rattle.bits_core.specs.Audit.{IsVerdict}
 use Rattle.bits_core.specs.Trace.{IsTrace, IsTraceFault}
 use Rattle.bits_core.specs.Bits.{writer, is_by, begun_by, write_of}
 use Rattle.bits_core.specs.History.{open_access, open_write, held, held_at_begin, is_overlapped}
-use Rattle.bits_core.specs.Intervals.{IsHeld, IsOpenAt, IsRead, HasOverlap}
+use Rattle.bits_core.specs.Intervals.{IsAccess, IsHeld, IsOpenAt, IsRead, HasOverlap}
 use Rattle.bits_core.specs.Lawful.{IsLawful}
 use Rattle.bits_core.specs.Memory.{EndsOverlappedRead, is_flicker_at}
 use Rattle.bits_core.specs.Steps.{MayFollow}
+use Rattle.bits_core.specs.Made.{Made, access_of, events_of, IsBeginning, own, place_of, IsPlaceOf, IsMadeAt}
 
 -- nothing has happened
 abbrev pub EmptyIsLawful : Type 0
@@ -77,3 +78,29 @@ OneFault = (bytes : List ℕ) (f g : TraceFault) → IsTraceFault bytes f → Is
 -- the reads that count as flickers are those that a write overlaps
 abbrev pub FlickerIsByInterval : Type 0
 FlickerIsByInterval = (shape : Shape) (h : List Event) → IsLawful shape h → (place : ℕ) → (is_flicker_at h place ≡ true) ↔ EndsOverlappedRead h place
+
+-- a side's own events, by one event more
+abbrev pub OwnChanges : Type 0
+OwnChanges = (s : Side) (h : List Event) (e : Event) → own s (h ++ e ∷ []) ≡ (if is_by s e then own s h ++ e ∷ [] else own s h)
+
+-- each own event has its place
+abbrev pub OwnHasPlace : Type 0
+OwnHasPlace = (s : Side) (h : List Event) (i : ℕ) → i < length (own s h) → IsPlaceOf s h i (place_of s h i)
+
+-- and that is its only place
+abbrev pub OwnHasOnePlace : Type 0
+OwnHasOnePlace = (s : Side) (h : List Event) (i place : ℕ) → IsPlaceOf s h i place → place ≡ place_of s h i
+
+-- where a side's events are a beginning of the events of accesses that were made, each of these that began is an access of the history
+abbrev pub MadeIsAccess : Type 0
+MadeIsAccess =
+    (s : Side) (h : List Event) (made : List Made) → IsBeginning (own s h) (events_of s made) →
+    (n : ℕ) (x : Made) → slice_get made n ≡ Some x → 2 * n < length (own s h) →
+    (stop : ℕ) × IsMadeAt s h n x (place_of s h (2 * n)) stop
+
+-- and each access of the side in the history is one of these
+abbrev pub AccessIsMade : Type 0
+AccessIsMade =
+    (s : Side) (h : List Event) (made : List Made) → IsBeginning (own s h) (events_of s made) →
+    (access : Access) (start stop : ℕ) → IsAccess h s access start stop →
+    (n : ℕ) × (x : Made) × (slice_get made n ≡ Some x) × (access_of x ≡ access) × IsMadeAt s h n x start stop

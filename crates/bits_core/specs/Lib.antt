@@ -12,3 +12,4 @@ pub mod TraceReading
 pub mod Oracle
 pub mod Open
 pub mod Memory
+pub mod Made

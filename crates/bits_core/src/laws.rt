@@ -1,6 +1,6 @@
 //! The laws of histories and of trace text that the layers above stand on, each the contract of a
 //! function that does nothing.
-ghost use Rattle.bits_core.specs.Laws.{BeginningIsLawful, EmptyIsLawful, FaultyIsNoTrace, FlickerIsByInterval, HeldAtBeginChanges, HeldChanges, HeldIsByInterval, LawfulByOneMore, OneFault, OneReading, OneVerdict, OpenChanges, OpenIsByInterval, OpenWriteChanges, OverlapChanges, OverlapIsByInterval, OverlapIsDecidable};
+ghost use Rattle.bits_core.specs.Laws.{AccessIsMade, BeginningIsLawful, EmptyIsLawful, FaultyIsNoTrace, FlickerIsByInterval, HeldAtBeginChanges, HeldChanges, HeldIsByInterval, LawfulByOneMore, MadeIsAccess, OneFault, OneReading, OneVerdict, OpenChanges, OpenIsByInterval, OpenWriteChanges, OverlapChanges, OverlapIsByInterval, OverlapIsDecidable, OwnChanges, OwnHasOnePlace, OwnHasPlace};
 
 /// The history with no event is lawful.
 pub fn empty_is_lawful()
@@ -85,4 +85,29 @@ pub fn one_fault()
 /// The ended reads that count as flickers are those that a write overlaps.
 pub fn flicker_is_by_interval()
     ensures { FlickerIsByInterval }
+{}
+
+/// How a side's own events change by one event.
+pub fn own_changes()
+    ensures { OwnChanges }
+{}
+
+/// Each own event of a side has its place in the history.
+pub fn own_has_place()
+    ensures { OwnHasPlace }
+{}
+
+/// An own event of a side has no other place.
+pub fn own_has_one_place()
+    ensures { OwnHasOnePlace }
+{}
+
+/// Each access that a side made and that began is an access of the history.
+pub fn made_is_access()
+    ensures { MadeIsAccess }
+{}
+
+/// Each access of a side in the history is one that the side made.
+pub fn access_is_made()
+    ensures { AccessIsMade }
 {}

@@ -1,0 +1,131 @@
+-- A side's own events in a history, and the places where they stand.
+use Rattle.std.proofs.Common.{◌≡◌, ◌⊎◌, inl, inr, ℕ, zero, suc, ◌+◌, ◌<◌, ◌≤◌, Bool, true, false, cond, Some, List, [], ◌∷◌, ◌++◌, length, take, drop, refl, ap, sym, ◌∙◌, arith, append-nil}
+use Rattle.std.specs.Prelude.{slice_get, if◌then◌else◌}
+use Rattle.std.proofs.lemmas.List.Elements.{filter-append}
+use Rattle.bits_core.specs.declared.events.Side.{Side}
+use Rattle.bits_core.specs.declared.events.Event.{Event}
+use Rattle.bits_core.specs.Bits.{is_by}
+use Rattle.bits_core.specs.Intervals.{first_place}
+use Rattle.bits_core.specs.Made.{own, clock, place_of, IsPlaceOf}
+use Rattle.bits_core.specs.Laws.{OwnChanges, OwnHasPlace, OwnHasOnePlace}
+
+-- by a test, with what it gave
+pub by_case : {G : Type 0} → (b : Bool) → (b ≡ true → G) → (b ≡ false → G) → G
+by_case true if_true if_false = if_true refl
+by_case false if_true if_false = if_false refl
+
+pub own_changes : OwnChanges
+own_changes s h e =
+    filter-append (is_by s) h (e ∷ [])
+    ∙ elim (is_by s e) as (λ t. own s h ++ cond t (e ∷ []) [] ≡ (if t then own s h ++ e ∷ [] else own s h)) [ true ↦ refl | false ↦ append-nil (own s h) ]
+
+-- the own events behind a first event, and the clock
+pub own-yes : (s : Side) (e : Event) (h : List Event) → is_by s e ≡ true → own s (e ∷ h) ≡ e ∷ own s h
+own-yes s e h by = rw by refl
+
+pub own-no : (s : Side) (e : Event) (h : List Event) → is_by s e ≡ false → own s (e ∷ h) ≡ own s h
+own-no s e h by = rw by refl
+
+pub clock-yes : (s : Side) (e : Event) (h : List Event) (place : ℕ) → is_by s e ≡ true → clock s (e ∷ h) (suc place) ≡ suc (clock s h place)
+clock-yes s e h place by = ap length (own-yes s e (take place h) by)
+
+pub clock-no : (s : Side) (e : Event) (h : List Event) (place : ℕ) → is_by s e ≡ false → clock s (e ∷ h) (suc place) ≡ clock s h place
+clock-no s e h place by = ap length (own-no s e (take place h) by)
+
+-- the clock never falls
+pub clock_rises : (s : Side) (h : List Event) (a b : ℕ) → a ≤ b → clock s h a ≤ clock s h b
+clock_rises s h zero b le = omega arith
+clock_rises s h (suc a) zero le = absurd (omega arith)
+clock_rises s [] (suc a) (suc b) le = omega arith
+clock_rises s (e ∷ h) (suc a) (suc b) le =
+    by_case (is_by s e)
+    (λ by. omega (arith, clock-yes s e h a by, clock-yes s e h b by, clock_rises s h a b (omega arith)))
+    (λ by. omega (arith, clock-no s e h a by, clock-no s e h b by, clock_rises s h a b (omega arith)))
+
+-- a place among the events behind a first one
+behind_own : (s : Side) (e : Event) (h : List Event) (i place : ℕ) → is_by s e ≡ true → IsPlaceOf s h i place → IsPlaceOf s (e ∷ h) (suc i) (suc place)
+behind_own s e h i place by p = record {
+  at_place = p.at_place ∙ ap (λ l. slice_get l (suc i)) (sym (own-yes s e h by));
+  before = clock-yes s e h place by ∙ ap suc p.before;
+  past = clock-yes s e h (suc place) by ∙ ap suc p.past;
+}
+
+behind_other : (s : Side) (e : Event) (h : List Event) (i place : ℕ) → is_by s e ≡ false → IsPlaceOf s h i place → IsPlaceOf s (e ∷ h) i (suc place)
+behind_other s e h i place by p = record {
+  at_place = p.at_place ∙ ap (λ l. slice_get l i) (sym (own-no s e h by));
+  before = clock-no s e h place by ∙ p.before;
+  past = clock-no s e h (suc place) by ∙ p.past;
+}
+
+pub own_has_place : OwnHasPlace
+own_has_place s [] i within = absurd (omega arith)
+own_has_place s (e ∷ h) zero within =
+    by_case (is_by s e)
+    (λ by. rw by (record { at_place = ap (λ l. slice_get l 0) (sym (own-yes s e h by)); before = refl; past = clock-yes s e h 0 by }))
+    (λ by. rw by (behind_other s e h 0 (place_of s h 0) by (own_has_place s h 0 (omega (arith, ap length (own-no s e h by))))))
+own_has_place s (e ∷ h) (suc i) within =
+    by_case (is_by s e)
+    (λ by. rw by (behind_own s e h i (place_of s h i) by (own_has_place s h i (omega (arith, ap length (own-yes s e h by))))))
+    (λ by. rw by (behind_other s e h (suc i) (place_of s h (suc i)) by (own_has_place s h (suc i) (omega (arith, ap length (own-no s e h by))))))
+
+clock_within : (s : Side) (h : List Event) (t : ℕ) → clock s h t ≤ length (own s h)
+clock_within s [] zero = omega arith
+clock_within s [] (suc t) = omega arith
+clock_within s (e ∷ h) zero = omega (arith, clock_rises s (e ∷ h) 0 0)
+clock_within s (e ∷ h) (suc t) =
+    by_case (is_by s e)
+    (λ by. omega (arith, clock-yes s e h t by, ap length (own-yes s e h by), clock_within s h t))
+    (λ by. omega (arith, clock-no s e h t by, ap length (own-no s e h by), clock_within s h t))
+
+pub own_has_one_place : OwnHasOnePlace
+own_has_one_place s h i place p =
+    let q : IsPlaceOf s h i (place_of s h i) = own_has_place s h i (omega (arith, p.past, clock_within s h (suc place))) in
+    elim (split (place_of s h i) place) [
+      | inl le ↦ elim (split place (place_of s h i)) [
+        | inl ge ↦ omega arith
+        | inr above ↦ absurd (omega (arith, p.before, q.past, clock_rises s h (suc (place_of s h i)) place above))
+      ]
+      | inr below ↦ absurd (omega (arith, p.past, q.before, clock_rises s h (suc place) (place_of s h i) below))
+    ]
+  where
+    split : (a b : ℕ) → (a ≤ b) ⊎ (b < a)
+    split a b = grind arith
+
+-- the next own event stands at the side's first place behind
+place-first : (s : Side) (h : List Event) → place_of s h 0 ≡ first_place s h
+place-first s [] = refl
+place-first s (e ∷ h) = ap (λ (n : ℕ). if is_by s e then 0 else suc n) (place-first s h)
+
+pub place-next : (s : Side) (h : List Event) (i : ℕ) → suc i < length (own s h) → place_of s h (suc i) ≡ suc (place_of s h i) + first_place s (drop (suc (place_of s h i)) h)
+place-next s [] i within = absurd (omega arith)
+place-next s (e ∷ h) zero within =
+    by_case (is_by s e)
+    (λ by. rw by (omega (arith, place-first s h)))
+    (λ by. rw by (omega (arith, place-next s h 0 (omega (arith, ap length (own-no s e h by))))))
+place-next s (e ∷ h) (suc i) within =
+    by_case (is_by s e)
+    (λ by. rw by (omega (arith, place-next s h i (omega (arith, ap length (own-yes s e h by))))))
+    (λ by. rw by (omega (arith, place-next s h (suc i) (omega (arith, ap length (own-no s e h by))))))
+
+-- an event of the side, as one of its own
+pub record IsOwn (s : Side) (h : List Event) (place : ℕ) (e : Event) : Type 0 where
+  pub own_event : slice_get (own s h) (clock s h place) ≡ Some e
+  pub tick : clock s h (suc place) ≡ suc (clock s h place)
+
+pub own_at : (s : Side) (h : List Event) (place : ℕ) (e : Event) → slice_get h place ≡ Some e → is_by s e ≡ true → IsOwn s h place e
+own_at s [] place e at by = cc
+own_at s (x ∷ h) zero e at by =
+    let same : x ≡ e = cc in
+    let same_by : is_by s x ≡ true = ap (is_by s) same ∙ by in
+    record { own_event = ap (λ l. slice_get l 0) (own-yes s x h same_by) ∙ at; tick = clock-yes s x h 0 same_by }
+own_at s (x ∷ h) (suc place) e at by =
+    let r : IsOwn s h place e = own_at s h place e at by in
+    by_case (is_by s x)
+    (λ q. record {
+      own_event = rw (clock-yes s x h place q, own-yes s x h q) r.own_event;
+      tick = clock-yes s x h (suc place) q ∙ ap suc r.tick ∙ ap suc (sym (clock-yes s x h place q));
+    })
+    (λ q. record {
+      own_event = rw (clock-no s x h place q, own-no s x h q) r.own_event;
+      tick = clock-no s x h (suc place) q ∙ r.tick ∙ ap suc (sym (clock-no s x h place q));
+    })

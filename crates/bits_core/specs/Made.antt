@@ -1,0 +1,69 @@
+-- Accesses that were made, with what the reads answered, and a side's own events in a history.
+use Rattle.std.specs.Prelude.{◌≡◌, ℕ, zero, suc, ◌*◌, ◌<◌, Bool, Some, List, [], ◌∷◌, ◌++◌, length, take, filter, slice_get, if◌then◌else◌}
+use Rattle.bits_core.specs.declared.events.Side.{Side}
+use Rattle.bits_core.specs.declared.events.Bit.{Bit}
+use Rattle.bits_core.specs.declared.events.Act.TheVariants.{ReadBegin, ReadEnd, WriteBegin, WriteEnd}
+use Rattle.bits_core.specs.declared.events.Access.{Access}
+use Rattle.bits_core.specs.declared.events.Access.TheVariants as access
+use Rattle.bits_core.specs.declared.events.Event.{Event}
+use Rattle.bits_core.specs.Bits.{is_by}
+use Rattle.bits_core.specs.Intervals.{IsAccess}
+
+-- an access that was made: a read with its answer, or a write with its value
+pub data Made : Type 0 where
+  Read : Bit → Bool → Made
+  Write : Bit → Bool → Made
+
+-- the access, without what it was answered
+abbrev pub access_of : Made → Access
+access_of (Read b v) = access.Read b
+access_of (Write b v) = access.Write b v
+
+-- the access once it was made and answered so; the answer to a write says nothing
+abbrev pub answered : Access → Bool → Made
+answered (access.Read b) v = Read b v
+answered (access.Write b w) v = Write b w
+
+-- the two events of an access that a side made
+abbrev pub begin_event : Side → Made → Event
+begin_event s (Read b v) = record { side = s; bit = b; act = ReadBegin }
+begin_event s (Write b v) = record { side = s; bit = b; act = WriteBegin v }
+
+abbrev pub end_event : Side → Made → Event
+end_event s (Read b v) = record { side = s; bit = b; act = ReadEnd v }
+end_event s (Write b v) = record { side = s; bit = b; act = WriteEnd }
+
+-- the events of accesses that a side made one after the other
+abbrev pub events_of : Side → List Made → List Event
+events_of s [] = []
+events_of s (x ∷ made) = begin_event s x ∷ end_event s x ∷ events_of s made
+
+-- xs is a beginning of ys
+abbrev pub IsBeginning : {A : Type 0} → List A → List A → Type 0
+IsBeginning {A = A} xs ys = (rest : List A) × (xs ++ rest ≡ ys)
+
+-- the events of one side, in order
+abbrev pub own : Side → List Event → List Event
+own s h = filter (is_by s) h
+
+-- how many events of the side stand before a place
+abbrev pub clock : Side → List Event → ℕ → ℕ
+clock s h place = length (own s (take place h))
+
+-- the place of the side's own event number i
+abbrev pub place_of : Side → List Event → ℕ → ℕ
+place_of s [] i = 0
+place_of s (e ∷ h) zero = (if is_by s e then 0 else suc (place_of s h 0))
+place_of s (e ∷ h) (suc i) = (if is_by s e then suc (place_of s h i) else suc (place_of s h (suc i)))
+
+-- the own event number i stands at the place, behind i others
+pub record IsPlaceOf (s : Side) (h : List Event) (i place : ℕ) : Type 0 where
+  pub at_place : slice_get h place ≡ slice_get (own s h) i
+  pub before : clock s h place ≡ i
+  pub past : clock s h (suc place) ≡ suc i
+
+-- access number n of those that the side made: where it stands in the history, and its end if it has ended
+pub record IsMadeAt (s : Side) (h : List Event) (n : ℕ) (x : Made) (start stop : ℕ) : Type 0 where
+  pub access : IsAccess h s (access_of x) start stop
+  pub start_is : IsPlaceOf s h (2 * n) start
+  pub ended : suc (2 * n) < length (own s h) → IsPlaceOf s h (suc (2 * n)) stop × (slice_get h stop ≡ Some (end_event s x))

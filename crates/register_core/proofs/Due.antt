@@ -1,0 +1,64 @@
+-- The bit writes that are due, by what the writer remembers.
+use Rattle.std.proofs.Common.{◌≡◌, ℕ, zero, suc, ◌-◌, ◌<◌, ◌≤◌, Bool, true, false, cond, List, [], ◌∷◌, ◌++◌, slice_set, sym, ap, arith, ◌∙◌, ◌⊎◌, inl, inr, eq-or-lt_of_le}
+use Rattle.std.proofs.lemmas.Bool.{cases_lt}
+use Rattle.register_core.specs.Unary.{clearing, unary_phrase}
+use Rattle.register_core.specs.UnaryState.{UnaryState, IsAt, bit_in, due_writes, row_fed, row_with}
+
+pub clearing-set : (bits : ℕ → Bool) (j : ℕ) → bits j ≡ true →
+    clearing bits (suc j) ≡ record { bit = j; value = false } ∷ clearing bits j
+clearing-set bits j e = ap (λ b. cond b (record { bit = j; value = false } ∷ clearing bits j) (clearing bits j)) e
+
+pub clearing-clear : (bits : ℕ → Bool) (j : ℕ) → bits j ≡ false → clearing bits (suc j) ≡ clearing bits j
+clearing-clear bits j e = ap (λ b. cond b (record { bit = j; value = false } ∷ clearing bits j) (clearing bits j)) e
+
+pub clearing-down :
+    (bits : ℕ → Bool) (v p : ℕ) → p ≤ v → ((k : ℕ) → p ≤ k → k < v → bits k ≡ false) → clearing bits v ≡ clearing bits p
+clearing-down bits zero p fits clear = let e : zero ≡ p = omega arith in ap (clearing bits) e
+clearing-down bits (suc v) p fits clear =
+    place (eq-or-lt_of_le fits) (λ h. clearing-down bits v p h (λ k a b. clear k a (omega arith)))
+  where
+    place : (p ≡ suc v) ⊎ (p < suc v) → (p ≤ v → clearing bits v ≡ clearing bits p) → clearing bits (suc v) ≡ clearing bits p
+    place (inl e) rest = ap (clearing bits) (sym e)
+    place (inr h) rest = clearing-clear bits v (clear v (omega arith) (omega arith)) ∙ rest (omega arith)
+
+pub unary_phrase-clear : (bits : ℕ → Bool) (v : ℕ) → bits v ≡ false →
+    unary_phrase bits v ≡ record { bit = v; value = true } ∷ clearing bits v
+unary_phrase-clear bits v e = ap (λ b. cond b [] (record { bit = v; value = true } ∷ []) ++ clearing bits v) e
+
+pub unary_phrase-set : (bits : ℕ → Bool) (v : ℕ) → bits v ≡ true → unary_phrase bits v ≡ clearing bits v
+unary_phrase-set bits v e = ap (λ b. cond b [] (record { bit = v; value = true } ∷ []) ++ clearing bits v) e
+
+-- Where the value's bit is set, what is due is found below the place.
+pub due-below : {modulus : ℕ} {memory : List Bool} {value place : ℕ} →
+    IsAt modulus memory value place → bit_in memory value ≡ true →
+    unary_phrase (bit_in memory) value ≡ clearing (bit_in memory) place
+due-below {modulus} {memory} {value} {place} at e =
+    unary_phrase-set (bit_in memory) value e ∙ clearing-down (bit_in memory) value place at.within at.clear
+
+module _ (w : UnaryState) (place : ℕ) (at : IsAt w.modulus w.bits w.value place) (is_set : bit_in w.bits w.value ≡ true) where
+  pub due-clears : 0 < place →
+      due_writes w ≡ record { bit = place - 1; value = false } ∷ clearing (bit_in w.bits) (place - 1)
+  due-clears some =
+      let e : place ≡ suc (place - 1) = omega arith in
+      due-below at is_set ∙ ap (clearing (bit_in w.bits)) e ∙
+      clearing-set (bit_in w.bits) (place - 1) (at.set (place - 1) e)
+
+  pub due-none : place ≤ 0 → due_writes w ≡ []
+  due-none none = let e : place ≡ 0 = omega arith in due-below at is_set ∙ ap (clearing (bit_in w.bits)) e
+
+  pub due-place : (due_writes w ≡ [] → ⊥) → 1 ≤ place
+  due-place some = positive (cases_lt 0 place)
+    where
+      positive : (0 < place) ⊎ (place ≤ 0) → 1 ≤ place
+      positive (inl h) = omega arith
+      positive (inr h) = absurd (some (due-none h))
+
+  pub fed-clears : 0 < place → row_fed w ≡ record w { bits = slice_set w.bits (place - 1) false }
+  fed-clears some = ap (λ ws. row_with w ws) (due-clears some)
+
+pub due-sets : (w : UnaryState) → bit_in w.bits w.value ≡ false →
+    due_writes w ≡ record { bit = w.value; value = true } ∷ clearing (bit_in w.bits) w.value
+due-sets w is_clear = unary_phrase-clear (bit_in w.bits) w.value is_clear
+
+pub fed-sets : (w : UnaryState) → bit_in w.bits w.value ≡ false → row_fed w ≡ record w { bits = slice_set w.bits w.value true }
+fed-sets w is_clear = ap (λ ws. row_with w ws) (due-sets w is_clear)

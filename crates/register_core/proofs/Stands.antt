@@ -1,0 +1,203 @@
+-- The writer stands after the writes that it made.
+use Rattle.std.proofs.Common.{None, Some, ◌≡◌, ℕ, zero, suc, ◌<◌, ◌≤◌, Bool, true, false, cond, List, [], ◌∷◌, ◌++◌, Option, length, replicate, slice_set, refl, sym, ap, subst, arith, ◌∙◌, ◌⊎◌, inl, inr, append_assoc, append-nil, get_or-set_same, get_or-set_other, length-set}
+use Rattle.std.proofs.Math.Path.{fun_ext}
+use Rattle.std.proofs.Math.Dec.{eqb-suc-zero}
+use Rattle.std.proofs.lemmas.List.{map-append}
+use Rattle.std.proofs.lemmas.Bool.{cases_eq}
+use Rattle.bits_core.specs.declared.events.Side.{Side}
+use Rattle.bits_core.specs.declared.events.Bit.{Bit}
+use Rattle.bits_core.specs.declared.events.Access.{Access}
+use Rattle.bits_core.specs.declared.events.Access.TheVariants as begins
+use Rattle.bits_core.specs.Made.{Made, Write, answered}
+use Rattle.register_core.specs.Row.{RowWrite, row_bit, first_bits, bits_with, bits_after, writes_in}
+use Rattle.register_core.specs.Machine.{IsNext}
+use Rattle.register_core.specs.Unary.{clearing, unary_phrase, unary_writes, row_writes, writes_of, count_writes}
+use Rattle.register_core.specs.UnaryState.{UnaryState, bit_in, new_row, due_writes, first_access, due_unary, row_with, row_fed, UnaryStands}
+use Rattle.register_core.proofs.Rows.{other_bit, same_bit, bits_after-append}
+use Rattle.register_core.proofs.Due.{clearing-set, clearing-clear, unary_phrase-clear, unary_phrase-set}
+
+-- Only the bits below the place matter.
+clearing-same : (f g : ℕ → Bool) (j : ℕ) → ((k : ℕ) → k < j → f k ≡ g k) → clearing f j ≡ clearing g j
+clearing-same f g zero same = refl
+clearing-same f g (suc j) same =
+    let e = clearing-same f g j (λ k h. same k (omega arith)) in
+    let h : f j ≡ g j = same j (omega arith) in
+    ap (λ b. cond b (record { bit = j; value = false } ∷ clearing f j) (clearing f j)) h ∙
+    ap (λ ws. cond (g j) (record { bit = j; value = false } ∷ ws) ws) e
+
+-- What the first of the writes that clear below a place is, and what is left then.
+record ClearsFirst (bits : ℕ → Bool) (j : ℕ) (x : RowWrite) (rest : List RowWrite) : Type 0 where
+  below : x.bit < j
+  clears : x.value ≡ false
+  left : clearing (bits_with bits x) j ≡ rest
+
+clearing-first : (bits : ℕ → Bool) (j : ℕ) (x : RowWrite) (rest : List RowWrite) → clearing bits j ≡ x ∷ rest → ClearsFirst bits j x rest
+clearing-first bits zero x rest e = absurd (cc)
+clearing-first bits (suc j) x rest e = split (bits j) refl (clearing-first bits j x rest)
+  where
+    split : (b : Bool) → bits j ≡ b → (clearing bits j ≡ x ∷ rest → ClearsFirst bits j x rest) → ClearsFirst bits (suc j) x rest
+    split true h ih =
+        let f : record { bit = j; value = false } ∷ clearing bits j ≡ x ∷ rest = sym (clearing-set bits j h) ∙ e in
+        let a : ◌≡◌ {A = RowWrite} (record { bit = j; value = false }) x = cc in
+        let b : clearing bits j ≡ rest = cc in
+        let place : j ≡ x.bit = ap (λ (w : RowWrite). w.bit) a in
+        let value : x.value ≡ false = sym (ap (λ (w : RowWrite). w.value) a) in
+        record {
+          below = omega (arith, place);
+          clears = value;
+          left =
+              clearing-clear (bits_with bits x) j (same_bit bits j x.bit x.value place ∙ value) ∙
+              clearing-same (bits_with bits x) bits j (λ k l. other_bit bits k x.bit x.value (omega arith)) ∙ b;
+        }
+    split false h ih =
+        let r = ih (sym (clearing-clear bits j h) ∙ e) in
+        record {
+          below = omega (arith, r.below);
+          clears = r.clears;
+          left = clearing-clear (bits_with bits x) j (other_bit bits j x.bit x.value (omega (arith, r.below)) ∙ h) ∙ r.left;
+        }
+
+-- Once its first write was made, the rest of a unary write is what is left to be written.
+record GoesOn (bits : ℕ → Bool) (v : ℕ) (x : RowWrite) (rest : List RowWrite) : Type 0 where
+  fits : x.bit ≤ v
+  left : unary_phrase (bits_with bits x) v ≡ rest
+
+phrase-first : (bits : ℕ → Bool) (v : ℕ) (x : RowWrite) (rest : List RowWrite) → unary_phrase bits v ≡ x ∷ rest → GoesOn bits v x rest
+phrase-first bits v x rest e = split (bits v) refl
+  where
+    split : (b : Bool) → bits v ≡ b → GoesOn bits v x rest
+    split true h =
+        let r = clearing-first bits v x rest (sym (unary_phrase-set bits v h) ∙ e) in
+        record {
+          fits = omega (arith, r.below);
+          left = unary_phrase-set (bits_with bits x) v (other_bit bits v x.bit x.value (omega (arith, r.below)) ∙ h) ∙ r.left;
+        }
+    split false h =
+        let f : record { bit = v; value = true } ∷ clearing bits v ≡ x ∷ rest = sym (unary_phrase-clear bits v h) ∙ e in
+        let a : ◌≡◌ {A = RowWrite} (record { bit = v; value = true }) x = cc in
+        let b : clearing bits v ≡ rest = cc in
+        let place : v ≡ x.bit = ap (λ (w : RowWrite). w.bit) a in
+        let value : x.value ≡ true = sym (ap (λ (w : RowWrite). w.value) a) in
+        record {
+          fits = omega (arith, place);
+          left =
+              unary_phrase-set (bits_with bits x) v (same_bit bits v x.bit x.value place ∙ value) ∙
+              clearing-same (bits_with bits x) bits v (λ k l. other_bit bits k x.bit x.value (omega arith)) ∙ b;
+        }
+
+-- The bits of a list after a write in it.
+bit_in-set : (bits : List Bool) (x : RowWrite) → x.bit < length bits →
+    bit_in (slice_set bits x.bit x.value) ≡ bits_with (bit_in bits) x
+bit_in-set bits x fits = fun_ext (λ k. at k (cases_eq k x.bit))
+  where
+    at : (k : ℕ) → (k ≡ x.bit) ⊎ (k ≡ x.bit → ⊥) → bit_in (slice_set bits x.bit x.value) k ≡ bits_with (bit_in bits) x k
+    at k (inl e) = ap (bit_in (slice_set bits x.bit x.value)) e ∙ get_or-set_same bits x.bit x.value false fits ∙
+        sym (same_bit (bit_in bits) k x.bit x.value e)
+    at k (inr n) = get_or-set_other bits x.bit k x.value false n ∙ sym (other_bit (bit_in bits) k x.bit x.value n)
+
+-- The writes of one more value.
+row_writes-more :
+    (values : List ℕ) (v : ℕ) (bits : ℕ → Bool) →
+    row_writes (unary_writes bits (values ++ v ∷ [])) ≡
+    row_writes (unary_writes bits values) ++ unary_phrase (bits_after bits (row_writes (unary_writes bits values))) v
+row_writes-more [] v bits = append-nil (unary_phrase bits v)
+row_writes-more (u ∷ values) v bits =
+    let then : ℕ → Bool = bits_after bits (unary_phrase bits u) in
+    let more : List RowWrite = row_writes (unary_writes then values) in
+    ap (λ ws. unary_phrase bits u ++ ws) (row_writes-more values v then) ∙
+    sym (append_assoc (unary_phrase bits u) more (unary_phrase (bits_after then more) v)) ∙
+    ap (λ f. (unary_phrase bits u ++ more) ++ unary_phrase f v) (sym (bits_after-append (unary_phrase bits u) more bits))
+
+all_clear : (n k : ℕ) → bit_in (replicate n false) k ≡ false
+all_clear zero k = refl
+all_clear (suc n) zero = refl
+all_clear (suc n) (suc k) = all_clear n k
+
+new_bits : (i : ℕ) → bit_in (slice_set (replicate 256 false) 0 true) i ≡ first_bits i
+new_bits zero = refl
+new_bits (suc k) =
+    get_or-set_other (replicate 256 false) 0 (suc k) true false (omega arith) ∙ all_clear 256 (suc k) ∙ sym (eqb-suc-zero k)
+
+pub stands-new : (side : Side) (modulus : ℕ) → UnaryStands (new_row side modulus) [] []
+stands-new side modulus = record { writes = []; made_is = refl; within = omega arith; remembered = new_bits; goes_on = refl }
+
+-- nothing is due where no access is
+idle : (row : ℕ → Bit) (writes : List RowWrite) → first_access row writes ≡ None → writes ≡ []
+idle row [] none = refl
+idle row (x ∷ writes) none = absurd (cc)
+
+pub stands-write :
+    (w : UnaryState) (v : ℕ) → v < length w.bits → due_unary w ≡ None → (values : List ℕ) (made : List Made) →
+    UnaryStands w values made → UnaryStands (record w { value = v }) (values ++ v ∷ []) made
+stands-write w v fits none values made s =
+    let all : writes_of values ≡ s.writes = s.goes_on ∙ ap (λ d. s.writes ++ d) (idle (row_bit w.side) (due_writes w) none) ∙ append-nil s.writes in
+    let bits : bit_in w.bits ≡ bits_after first_bits s.writes = fun_ext s.remembered in
+    record {
+      writes = s.writes;
+      made_is = s.made_is;
+      within = fits;
+      remembered = s.remembered;
+      goes_on =
+          row_writes-more values v first_bits ∙
+          ap (λ ws. ws ++ unary_phrase (bits_after first_bits ws) v) all ∙
+          ap (λ f. s.writes ++ unary_phrase f v) (sym bits);
+    }
+
+-- one write more, as an access
+one_more : (row : ℕ → Bit) (writes : List RowWrite) (x : RowWrite) → writes_in row (writes ++ x ∷ []) ≡ writes_in row writes ++ Write (row x.bit) x.value ∷ []
+one_more row writes x = map-append (λ (w : RowWrite). Write (row w.bit) w.value) writes (x ∷ [])
+
+stands-fed :
+    (w : UnaryState) (values : List ℕ) (made : List Made) (x : RowWrite) (rest : List RowWrite) →
+    due_writes w ≡ x ∷ rest → UnaryStands w values made → UnaryStands (row_fed w) values (made ++ Write (row_bit w.side x.bit) x.value ∷ [])
+stands-fed w values made x rest e s =
+    let p = phrase-first (bit_in w.bits) w.value x rest e in
+    let here : x.bit < length w.bits = omega (arith, p.fits, s.within) in
+    let new : bit_in (slice_set w.bits x.bit x.value) ≡ bits_with (bit_in w.bits) x = bit_in-set w.bits x here in
+    let old : bit_in w.bits ≡ bits_after first_bits s.writes = fun_ext s.remembered in
+    let then : bit_in (slice_set w.bits x.bit x.value) ≡ bits_after first_bits (s.writes ++ x ∷ []) =
+    new ∙ ap (λ f. bits_with f x) old ∙ sym (bits_after-append s.writes (x ∷ []) first_bits) in
+    let left : unary_phrase (bit_in (slice_set w.bits x.bit x.value)) w.value ≡ rest =
+    ap (λ f. unary_phrase f w.value) new ∙ p.left in
+    let fed_state : UnaryStands (row_with w (x ∷ rest)) values (made ++ Write (row_bit w.side x.bit) x.value ∷ []) = record {
+      writes = s.writes ++ x ∷ [];
+      made_is = ap (λ l. l ++ Write (row_bit w.side x.bit) x.value ∷ []) s.made_is ∙ sym (one_more (row_bit w.side) s.writes x);
+      within = omega (arith, length-set w.bits x.bit x.value, s.within);
+      remembered = λ i. ap (λ f. f i) then;
+      goes_on =
+          s.goes_on ∙ ap (λ d. s.writes ++ d) e ∙ sym (append_assoc s.writes (x ∷ []) rest) ∙
+          ap (λ d. (s.writes ++ x ∷ []) ++ d) (sym left);
+    } in
+    subst (λ ws. UnaryStands (row_with w ws) values (made ++ Write (row_bit w.side x.bit) x.value ∷ [])) (sym e) fed_state
+
+-- the first of the writes that are due goes on with the writes of the values
+next-list : (row : ℕ → Bit) (writes due : List RowWrite) → IsNext (writes_in row (writes ++ due)) (writes_in row writes) (first_access row due)
+next-list row writes [] = sym (ap (writes_in row) (append-nil writes))
+next-list row writes (x ∷ due) = (Write (row x.bit) x.value, writes_in row due, refl, map-append (λ (w : RowWrite). Write (row w.bit) w.value) writes (x ∷ due))
+
+pub next-stands :
+    (w : UnaryState) (access : Option Access) → access ≡ due_unary w →
+    (values : List ℕ) (made : List Made) → UnaryStands w values made → IsNext (count_writes w.side values) made access
+next-stands w access same values made s = rw (same, s.made_is, s.goes_on) (next-list (row_bit w.side) s.writes (due_writes w))
+
+-- What is left once the due write was made.
+pub feed-left :
+    (w after : UnaryState) → w.value < length w.bits → after ≡ row_fed w →
+    (x : RowWrite) (rest : List RowWrite) → due_writes w ≡ x ∷ rest → due_writes after ≡ rest
+feed-left w after within same x rest e =
+    let p = phrase-first (bit_in w.bits) w.value x rest e in
+    let here : x.bit < length w.bits = omega (arith, p.fits, within) in
+    ap due_writes same ∙ ap (λ ws. due_writes (row_with w ws)) e ∙ ap (λ f. unary_phrase f w.value) (bit_in-set w.bits x here) ∙ p.left
+
+-- The state once the due write was made stands after the list with that write.
+pub feed-stands :
+    (w after : UnaryState) → after ≡ row_fed w → (answer : Bool) →
+    (values : List ℕ) (made : List Made) (access : Access) →
+    UnaryStands w values made → due_unary w ≡ Some access → UnaryStands after values (made ++ answered access answer ∷ [])
+feed-stands w after same answer values made access s due = go (due_writes w) refl due
+  where
+    go : (ws : List RowWrite) → due_writes w ≡ ws → first_access (row_bit w.side) ws ≡ Some access → UnaryStands after values (made ++ answered access answer ∷ [])
+    go [] e first = absurd (cc)
+    go (x ∷ rest) e first =
+        let a : begins.Write (row_bit w.side x.bit) x.value ≡ access = cc in
+        rw (same, ← a) (stands-fed w values made x rest e s)

@@ -1,0 +1,10 @@
+pub mod Row
+pub mod Machine
+pub mod Word
+pub mod WordState
+pub mod WordLaw
+pub mod BitLaw
+pub mod BitState
+pub mod ScanState
+pub mod Unary
+pub mod UnaryState

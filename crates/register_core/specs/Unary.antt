@@ -1,0 +1,42 @@
+-- Unary writes: which bit writes one is made of.
+use Rattle.std.specs.Prelude.{ℕ, zero, suc, Bool, true, false, cond, List, [], ◌∷◌, ◌++◌}
+use Rattle.bits_core.specs.declared.events.Side.{Side}
+use Rattle.bits_core.specs.Made.{Made}
+use Rattle.register_core.specs.Row.{RowWrite, row_bit, first_bits, bits_after, writes_in}
+
+-- a write of 0 to each set bit below the place, from the highest down
+abbrev pub clearing : (ℕ → Bool) → ℕ → List RowWrite
+clearing bits zero = []
+clearing bits (suc j) = cond (bits j) (record { bit = j; value = false } ∷ clearing bits j) (clearing bits j)
+
+-- a write of 1 to the bit, where it is clear
+abbrev pub setting : (ℕ → Bool) → ℕ → List RowWrite
+setting bits v = cond (bits v) [] (record { bit = v; value = true } ∷ [])
+
+-- the bit writes of a unary write of v over the bits that the writer remembers
+abbrev pub unary_phrase : (ℕ → Bool) → ℕ → List RowWrite
+unary_phrase bits v = setting bits v ++ clearing bits v
+
+-- a unary write: its value and its bit writes
+pub record UnaryWrite : Type 0 where
+  pub value : ℕ
+  pub writes : List RowWrite
+
+-- the unary writes of these values, one after the other
+abbrev pub unary_writes : (ℕ → Bool) → List ℕ → List UnaryWrite
+unary_writes bits [] = []
+unary_writes bits (v ∷ values) =
+    record { value = v; writes = unary_phrase bits v } ∷ unary_writes (bits_after bits (unary_phrase bits v)) values
+
+-- the bit writes of these unary writes, in order
+abbrev pub row_writes : List UnaryWrite → List RowWrite
+row_writes [] = []
+row_writes (u ∷ us) = u.writes ++ row_writes us
+
+-- the bit writes of the unary writes of these values to a new row
+abbrev pub writes_of : List ℕ → List RowWrite
+writes_of values = row_writes (unary_writes first_bits values)
+
+-- the accesses of a side's unary writes of these values to its count
+abbrev pub count_writes : Side → List ℕ → List Made
+count_writes side values = writes_in (row_bit side) (writes_of values)

@@ -1,0 +1,72 @@
+//! Logical writes of one bit.
+ghost use Rattle.std.specs.Prelude.{◌≡◌, ◌≢◌, Some, None, Bool, List, [], ◌∷◌, ◌++◌};
+ghost use Rattle.bits_core.specs.Made.{Made, answered};
+ghost use Rattle.register_core.specs.Machine.{IsNext};
+
+use bits_core::{Access, Bit};
+use std::marker::Model;
+
+/// Writes values to a bit: one write where the value changes, and none where it does not. It remembers the bit.
+#[derive(Drop)]
+pub struct BitWriter {
+    bit: Bit,
+    held: bool,
+    wanted: bool,
+}
+
+impl Model for BitWriter {
+    ghost use Rattle.register_core.specs.BitState.{BitState};
+
+    ghost Value = { BitState };
+
+    ghost view = { λ w. record { bit = w.bit; held = w.held; wanted = w.wanted } };
+
+    ghost invariant = { λ w. Unit {0} };
+}
+
+impl BitWriter {
+    ghost use Rattle.register_core.specs.BitState.{new_bit, due_change, bit_writes, BitStands};
+
+    /// The writer of a bit that holds the first value. No access is due.
+    pub fn new(bit: Bit, first: bool) -> Self
+        ensures state { result ≡ new_bit bit first }
+        ensures stands { BitStands result first [] [] }
+    {
+        BitWriter {
+            bit,
+            held: first,
+            wanted: first,
+        }
+    }
+
+    /// Begins a logical write of the value. No access may be due.
+    pub fn write(&mut self, value: bool)
+        requires { due_change self.old ≡ None }
+        ensures state { self.new ≡ record self.old { wanted = value } }
+        ensures stands { (first : Bool) (values : List Bool) (made : List Made) → BitStands self.old first values made → BitStands self.new first (values ++ value ∷ []) made }
+    {
+        self.wanted = value;
+    }
+
+    /// The write that is due, and none where the bit holds the value asked for.
+    pub fn next(&self) -> Option<Access>
+        ensures due { result ≡ due_change self.now }
+        ensures stands { (first : Bool) (values : List Bool) (made : List Made) → BitStands self.now first values made → IsNext (bit_writes self.now.bit first values) made result }
+    {
+        if self.held == self.wanted {
+            None
+        } else {
+            Some(Access::Write(self.bit, self.wanted))
+        }
+    }
+
+    /// The due write was made. What it was answered is ignored.
+    pub fn feed(&mut self, answer: bool)
+        requires { due_change self.old ≢ None }
+        ensures state { self.new ≡ record self.old { held = self.old.wanted } }
+        ensures stands { (first : Bool) (values : List Bool) (made : List Made) (access : Access) → BitStands self.old first values made → due_change self.old ≡ Some access → BitStands self.new first values (made ++ answered access answer ∷ []) }
+    {
+        let _ = answer;
+        self.held = self.wanted;
+    }
+}

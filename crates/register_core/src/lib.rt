@@ -1,0 +1,17 @@
+//! Registers of safe bits: the machines of their writers and readers, and the laws of what the reads can answer.
+//!
+//! A machine tells the access that is due and is fed its answer; it never touches memory itself.
+#![tactic(auto)]
+
+mod bits;
+mod scans;
+mod unary;
+mod words;
+
+pub use bits::BitWriter;
+pub use scans::UnaryScan;
+pub use unary::UnaryWriter;
+pub use words::{WordReader, WordWriter};
+
+#[cfg(test)]
+mod tests;

@@ -1,0 +1,88 @@
+//! Scans of a unary register.
+ghost use Rattle.std.specs.Prelude.{◌≡◌, ◌≢◌, ℕ, true, Some, None, List, [], ◌∷◌, ◌++◌, ◌↔◌, IsTrue, if◌then◌else◌};
+ghost use Rattle.bits_core.specs.Shape.{modulus_of};
+ghost use Rattle.bits_core.specs.Made.{Made, answered};
+
+use bits_core::{Access, Bit, Shape, Side};
+use std::marker::Model;
+
+/// Reads the bits of the other side's count from number 0 upwards, until one answers 1.
+#[derive(Drop)]
+pub struct UnaryScan {
+    side: Side,
+    modulus: u64,
+    zeros: u64,
+    found: bool,
+}
+
+impl Model for UnaryScan {
+    ghost use Rattle.std.specs.Prelude.{◌<◌, ◌≤◌};
+    ghost use Rattle.register_core.specs.ScanState.{ScanState};
+
+    ghost Value = { ScanState };
+
+    ghost view = { λ s. record { side = s.side; modulus = s.modulus; zeros = s.zeros; found = s.found } };
+
+    ghost invariant = { λ s. (s.zeros < s.modulus) × (s.modulus ≤ 256) };
+}
+
+impl UnaryScan {
+    ghost use Rattle.register_core.specs.ScanState.{new_scan, due_scan, scan_read, row_read_by, ScanStands, LastIsDue, IsNextScan, IsValueRead};
+
+    /// A scan by a side: side C scans the bits `S`, and side P the bits `R`.
+    pub fn new(shape: &Shape, side: Side) -> Self
+        ensures state { result ≡ new_scan side (modulus_of shape.now) }
+        ensures stands { ScanStands result [] }
+    {
+        UnaryScan {
+            side,
+            modulus: shape.modulus(),
+            zeros: 0,
+            found: false,
+        }
+    }
+
+    /// The bit read that is due, and none once one answered 1.
+    pub fn next(&self) -> Option<Access>
+        ensures due { result ≡ due_scan self.now }
+        ensures stands { (made : List Made) → ScanStands self.now made → IsNextScan (row_read_by self.now.side) self.now.modulus made result }
+    {
+        if self.found {
+            return None;
+        }
+        let number = self.zeros as u8;
+        match self.side {
+            Side::P => Some(Access::Read(Bit::R(number))),
+            Side::C => Some(Access::Read(Bit::S(number))),
+        }
+    }
+
+    /// The due read was made and answered so. Where [`expects_one`](Self::expects_one), the answer must be 1.
+    pub fn feed(&mut self, answer: bool)
+        requires due { due_scan self.old ≢ None }
+        requires one { LastIsDue self.old → answer ≡ true }
+        ensures state { self.new ≡ scan_read self.old answer }
+        ensures stands { (made : List Made) (access : Access) → ScanStands self.old made → due_scan self.old ≡ Some access → ScanStands self.new (made ++ answered access answer ∷ []) }
+    {
+        if answer {
+            self.found = true;
+        } else {
+            self.zeros += 1;
+        }
+    }
+
+    /// The value, once a bit was read as 1, and none before.
+    pub fn value(&self) -> Option<u64>
+        ensures state { result ≡ (if self.now.found then Some self.now.zeros else None) }
+        ensures stands { (made : List Made) → ScanStands self.now made → IsValueRead (row_read_by self.now.side) self.now.modulus made result }
+    {
+        if self.found { Some(self.zeros) } else { None }
+    }
+
+    /// Whether the last bit of the row is due. In a lawful history it answers 1, as all others answered 0.
+    pub fn expects_one(&self) -> bool
+        ensures { IsTrue result ↔ LastIsDue self.now }
+    {
+        !self.found && self.zeros + 1 == self.modulus
+    }
+}
