@@ -5,3 +5,9 @@ pub mod ScanMachine
 pub mod Rows
 pub mod Due
 pub mod Stands
+pub mod Numbers
+pub mod Writes
+pub mod RegularBit
+pub mod Items
+pub mod Cells
+pub mod SafeWord

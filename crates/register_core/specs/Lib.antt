@@ -8,3 +8,4 @@ pub mod BitState
 pub mod ScanState
 pub mod Unary
 pub mod UnaryState
+pub mod UnaryLaw

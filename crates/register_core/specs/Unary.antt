@@ -1,5 +1,6 @@
--- Unary writes: which bit writes one is made of.
-use Rattle.std.specs.Prelude.{ℕ, zero, suc, Bool, true, false, cond, List, [], ◌∷◌, ◌++◌}
+-- Unary writes: which bit writes one is made of, how those that have one are numbered, and how many of them have ended
+-- or begun after some bit writes of the row.
+use Rattle.std.specs.Prelude.{ℕ, zero, suc, ◌-◌, Bool, true, false, cond, List, [], ◌∷◌, ◌++◌, length, nat_le, filter}
 use Rattle.bits_core.specs.declared.events.Side.{Side}
 use Rattle.bits_core.specs.Made.{Made}
 use Rattle.register_core.specs.Row.{RowWrite, row_bit, first_bits, bits_after, writes_in}
@@ -40,3 +41,33 @@ writes_of values = row_writes (unary_writes first_bits values)
 -- the accesses of a side's unary writes of these values to its count
 abbrev pub count_writes : Side → List ℕ → List Made
 count_writes side values = writes_in (row_bit side) (writes_of values)
+
+-- there is a write in the list
+abbrev pub has_write : List RowWrite → Bool
+has_write [] = false
+has_write (w ∷ writes) = true
+
+-- the numbered unary writes: those that have a bit write
+abbrev pub numbered : List UnaryWrite → List UnaryWrite
+numbered us = filter (λ u. has_write u.writes) us
+
+-- the numbered unary writes of these values to a new row
+abbrev pub numbered_of : List ℕ → List UnaryWrite
+numbered_of values = numbered (unary_writes first_bits values)
+
+-- the value of write number n: number 0 is the first value, and the others count from 1
+abbrev pub numbered_value : ℕ → List UnaryWrite → ℕ → ℕ
+numbered_value first us zero = first
+numbered_value first [] (suc n) = first
+numbered_value first (u ∷ us) (suc n) = numbered_value u.value us n
+
+-- how many of these unary writes, one after the other, have all their bit writes among the first t
+abbrev pub ended : List UnaryWrite → ℕ → ℕ
+ended [] t = 0
+ended (u ∷ us) t = cond (nat_le (length u.writes) t) (suc (ended us (t - length u.writes))) 0
+
+-- how many of these unary writes, one after the other, have a bit write among the first t
+abbrev pub begun : List UnaryWrite → ℕ → ℕ
+begun [] t = 0
+begun (u ∷ us) zero = 0
+begun (u ∷ us) (suc t) = suc (begun us (suc t - length u.writes))

@@ -4,6 +4,7 @@
 #![tactic(auto)]
 
 mod bits;
+pub mod laws;
 mod scans;
 mod unary;
 mod words;

@@ -1,0 +1,218 @@
+-- What the events of a history begin, by its number: how many others began before it.
+use Rattle.std.proofs.Common.{◌≡◌, ℕ, zero, suc, ◌+◌, ◌<◌, ◌≤◌, true, false, cond, ◌||◌, List, [], ◌∷◌, ◌++◌, length, take, drop, Option, Some, None, filter_map, slice_get, refl, sym, ap, arith, ◌∙◌, inl, inr, append_assoc, length-append, take-append-drop, take_at}
+use Rattle.std.specs.List.{cons_option}
+use Rattle.std.proofs.lemmas.Bool.{cases_lt, or_parts}
+use Rattle.std.proofs.lemmas.List.Elements.{filter_map-append}
+use Rattle.bits_core.specs.declared.events.Side.{Side}
+use Rattle.bits_core.specs.declared.events.Event.{Event}
+use Rattle.bits_core.specs.Bits.{is_by}
+use Rattle.bits_core.specs.History.{has_event, before_last}
+use Rattle.bits_core.specs.Intervals.{first_place, end_of}
+use Rattle.bits_core.specs.Made.{IsBeginning}
+
+-- ---- the events before a side's last one
+
+before_last-more : (s : Side) (x : Event) (k : List Event) → has_event s k ≡ true → before_last s (x ∷ k) ≡ x ∷ before_last s k
+before_last-more s x k e = ap (λ b. cond b (x ∷ before_last s k) []) e
+
+before_last-none : (s : Side) (x : Event) (k : List Event) → has_event s k ≡ false → before_last s (x ∷ k) ≡ []
+before_last-none s x k e = ap (λ b. cond b (x ∷ before_last s k) []) e
+
+before_last-begins : (s : Side) (k : List Event) → IsBeginning (before_last s k) k
+before_last-begins s [] = ([], refl)
+before_last-begins s (x ∷ k) =
+    elim (has_event s k) as (λ t. IsBeginning (cond t (x ∷ before_last s k) []) (x ∷ k)) [
+      | true ↦ let r = before_last-begins s k in (r.0, ap (λ l. x ∷ l) r.1)
+      | false ↦ (x ∷ k, refl)
+    ]
+
+before_last-empty : (s : Side) (k : List Event) → has_event s k ≡ false → before_last s k ≡ []
+before_last-empty s [] e = refl
+before_last-empty s (x ∷ k) e = before_last-none s x k (or_parts (is_by s x) (has_event s k) e).1
+
+none_within : (s : Side) (xs : List Event) (n : ℕ) → n ≤ first_place s xs → has_event s (take n xs) ≡ false
+none_within s xs zero le = refl
+none_within s [] (suc n) le = refl
+none_within s (x ∷ xs) (suc n) le =
+    elim (is_by s x) as (λ t. suc n ≤ (cond t 0 (suc (first_place s xs))) → (t || has_event s (take n xs)) ≡ false) [
+      | true ↦ λ l. absurd (omega arith)
+      | false ↦ λ l. none_within s xs n (omega arith)
+    ] le
+
+some_within : (s : Side) (xs : List Event) (n : ℕ) → first_place s xs < n → n ≤ length xs → has_event s (take n xs) ≡ true
+some_within s xs zero l fits = absurd (omega arith)
+some_within s [] (suc n) l fits = absurd (omega arith)
+some_within s (x ∷ xs) (suc n) l fits =
+    elim (is_by s x) as (λ t. (cond t 0 (suc (first_place s xs))) < suc n → (t || has_event s (take n xs)) ≡ true) [
+      | true ↦ λ l. refl
+      | false ↦ λ l. some_within s xs n (omega arith) (omega arith)
+    ] l
+
+-- where an access ends, in a history with one event more in front
+end_of-suc : (s : Side) (x : Event) (h : List Event) (p : ℕ) → end_of s (x ∷ h) (suc p) ≡ suc (end_of s h p)
+end_of-suc s x h p =
+    let e : suc p + 1 ≡ suc (p + 1) = omega arith in
+    let f : suc (p + 1) + first_place s (drop (p + 1) h) ≡ suc (p + 1 + first_place s (drop (p + 1) h)) = omega arith in
+    ap (λ (n : ℕ). n + first_place s (drop n (x ∷ h))) e ∙ f
+
+-- ---- numbers
+
+-- number n of what began before place q
+pub record IsNumbered {W : Type 0} (begins : Event → Option W) (h : List Event) (q n : ℕ) : Type 0 where
+  pub place : ℕ
+  pub event : Event
+  pub what : W
+  pub before : place < q
+  pub at_place : slice_get h place ≡ Some event
+  pub begins_it : begins event ≡ Some what
+  pub number : length (filter_map begins (take place h)) ≡ n
+
+-- number n of what ended before place q
+pub record HasEnded {W : Type 0} (begins : Event → Option W) (s : Side) (h : List Event) (q n : ℕ) : Type 0 where
+  pub numbered : IsNumbered begins h q n
+  pub ended : end_of s h numbered.place < q
+
+cons_le : {W : Type 0} (o : Option W) (xs ys : List W) → length xs ≤ length ys → length (cons_option o xs) ≤ length (cons_option o ys)
+cons_le None xs ys l = l
+cons_le (Some w) xs ys l = omega arith
+
+cons_lt : {W : Type 0} (o : Option W) (xs ys : List W) → length xs < length ys → length (cons_option o xs) < length (cons_option o ys)
+cons_lt None xs ys l = l
+cons_lt (Some w) xs ys l = omega arith
+
+module _ {W : Type 0} (begins : Event → Option W) where
+  -- how many began before a place
+  abbrev pub begun : List Event → ℕ → ℕ
+  begun h p = length (filter_map begins (take p h))
+
+  -- how many of them had ended
+  abbrev pub ended : Side → List Event → ℕ → ℕ
+  ended s h p = length (filter_map begins (before_last s (take p h)))
+
+  -- what an event begins stands at its number
+  pub begun_at : (h : List Event) (p : ℕ) (e : Event) (w : W) → slice_get h p ≡ Some e → begins e ≡ Some w →
+      (slice_get (filter_map begins h) (begun h p) ≡ Some w) × (begun h (suc p) ≡ suc (begun h p))
+  begun_at [] p e w at b = absurd (cc)
+  begun_at (x ∷ h) zero e w at b =
+      let same : x ≡ e = cc in
+      let c : begins x ≡ Some w = ap begins same ∙ b in
+      (ap (λ o. slice_get (cons_option o (filter_map begins h)) 0) c, ap (λ o. length (cons_option o [])) c)
+  begun_at (x ∷ h) (suc p) e w at b = place (begins x) (begun_at h p e w at b)
+    where
+      place : (o : Option W) →
+          (slice_get (filter_map begins h) (begun h p) ≡ Some w) × (begun h (suc p) ≡ suc (begun h p)) →
+          (slice_get (cons_option o (filter_map begins h)) (length (cons_option o (filter_map begins (take p h)))) ≡ Some w) ×
+          (length (cons_option o (filter_map begins (take (suc p) h))) ≡ suc (length (cons_option o (filter_map begins (take p h)))))
+      place None r = r
+      place (Some y) r = (r.0, ap suc r.1)
+
+  pub begun_rises : (h : List Event) (p q : ℕ) → p ≤ q → begun h p ≤ begun h q
+  begun_rises h zero q l = omega arith
+  begun_rises [] (suc p) q l = omega arith
+  begun_rises (x ∷ h) (suc p) zero l = absurd (omega arith)
+  begun_rises (x ∷ h) (suc p) (suc q) l =
+      cons_le (begins x) (filter_map begins (take p h)) (filter_map begins (take q h)) (begun_rises h p q (omega arith))
+
+  pub begun_least : (h : List Event) (p : ℕ) → begun h p ≤ length (filter_map begins h)
+  begun_least h p =
+      omega (arith, ap length (sym (filter_map-append begins (take p h) (drop p h)) ∙ ap (filter_map begins) (take-append-drop p h)), length-append (filter_map begins (take p h)) (filter_map begins (drop p h)))
+
+  behind : (x : Event) (h : List Event) (q n m : ℕ) (r : IsNumbered begins h q n) → length (cons_option (begins x) (filter_map begins (take r.place h))) ≡ m → IsNumbered begins (x ∷ h) (suc q) m
+  behind x h q n m r e = record {
+    place = suc r.place;
+    event = r.event;
+    what = r.what;
+    before = omega (arith, r.before);
+    at_place = r.at_place;
+    begins_it = r.begins_it;
+    number = e;
+  }
+
+  -- each number has its place
+  pub numbered : (h : List Event) (q n : ℕ) → n < begun h q → IsNumbered begins h q n
+  numbered h zero n l = absurd (omega arith)
+  numbered [] (suc q) n l = absurd (omega arith)
+  numbered (x ∷ h) (suc q) n l =
+      elim (begins x) as (λ o. begins x ≡ o → n < length (cons_option o (filter_map begins (take q h))) → IsNumbered begins (x ∷ h) (suc q) n) [
+        | None ↦ λ e m.
+            let r = numbered h q n m in
+            behind x h q n n r (ap (λ o. length (cons_option o (filter_map begins (take r.place h)))) e ∙ r.number)
+        | Some w ↦ λ e m. later w e n m (numbered h q)
+      ] refl l
+    where
+      later : (w : W) → begins x ≡ Some w → (n : ℕ) → n < suc (begun h q) → ((k : ℕ) → k < begun h q → IsNumbered begins h q k) → IsNumbered begins (x ∷ h) (suc q) n
+      later w e zero m ih = record { place = 0; event = x; what = w; before = omega arith; at_place = refl; begins_it = e; number = refl }
+      later w e (suc k) m ih =
+          let r = ih k (omega arith) in
+          behind x h q k (suc k) r (ap (λ o. length (cons_option o (filter_map begins (take r.place h)))) e ∙ ap suc r.number)
+
+  -- what ended before a place, of what has no end before it, began before that
+  pub ended_le : (s : Side) (h : List Event) (p q : ℕ) → q ≤ end_of s h p → ended s h q ≤ begun h p
+  ended_le s h p zero l = omega arith
+  ended_le s [] p (suc q) l = omega arith
+  ended_le s (x ∷ h) zero (suc q) l =
+      let none : has_event s (take q h) ≡ false = none_within s h q (omega arith) in
+      omega (arith, ap (λ k. length (filter_map begins k)) (before_last-none s x (take q h) none))
+  ended_le s (x ∷ h) (suc p) (suc q) l =
+      let ih : ended s h q ≤ begun h p = ended_le s h p q (omega (arith, end_of-suc s x h p)) in
+      elim (has_event s (take q h)) as (λ t. length (filter_map begins (cond t (x ∷ before_last s (take q h)) [])) ≤ begun (x ∷ h) (suc p)) [
+        | true ↦ cons_le (begins x) (filter_map begins (before_last s (take q h))) (filter_map begins (take p h)) ih
+        | false ↦ omega arith
+      ]
+
+  -- and what has its end before it is among what ended
+  pub ended_more : (s : Side) (h : List Event) (p q : ℕ) (e : Event) (w : W) → slice_get h p ≡ Some e → begins e ≡ Some w → end_of s h p < q → q ≤ length h → begun h p < ended s h q
+  ended_more s h p zero e w at b l fits = absurd (omega arith)
+  ended_more s [] p (suc q) e w at b l fits = absurd (omega arith)
+  ended_more s (x ∷ h) zero (suc q) e w at b l fits =
+      let some : has_event s (take q h) ≡ true = some_within s h q (omega arith) (omega arith) in
+      let same : x ≡ e = cc in
+      omega (arith, ap (λ k. length (filter_map begins k)) (before_last-more s x (take q h) some), ap (λ o. length (cons_option o (filter_map begins (before_last s (take q h))))) (ap begins same ∙ b))
+  ended_more s (x ∷ h) (suc p) (suc q) e w at b l fits =
+      let ih : begun h p < ended s h q = ended_more s h p q e w at b (omega (arith, end_of-suc s x h p)) (omega arith) in
+      elim (has_event s (take q h)) as (λ t. has_event s (take q h) ≡ t → begun (x ∷ h) (suc p) < length (filter_map begins (cond t (x ∷ before_last s (take q h)) []))) [
+        | true ↦ λ f. cons_lt (begins x) (filter_map begins (take p h)) (filter_map begins (before_last s (take q h))) ih
+        | false ↦ λ f. absurd (omega (arith, ih, ap (λ k. length (filter_map begins k)) (before_last-empty s (take q h) f)))
+      ] refl
+
+  pub ended_le_begun : (s : Side) (h : List Event) (p : ℕ) → ended s h p ≤ begun h p
+  ended_le_begun s h p = ended_le s h p p (omega arith)
+
+  -- what ended is the first part of what began
+  pub take-ended : (s : Side) (h : List Event) (p : ℕ) → take (ended s h p) (filter_map begins h) ≡ filter_map begins (before_last s (take p h))
+  take-ended s h p =
+      let k : List Event = before_last s (take p h) in
+      let r = before_last-begins s (take p h) in
+      let parts : k ++ (r.0 ++ drop p h) ≡ h = sym (append_assoc k r.0 (drop p h)) ∙ ap (λ l. l ++ drop p h) r.1 ∙ take-append-drop p h in
+      ap (λ l. take (length (filter_map begins k)) (filter_map begins l)) (sym parts)
+      ∙ ap (take (length (filter_map begins k))) (filter_map-append begins k (r.0 ++ drop p h))
+      ∙ take_at (filter_map begins k) (filter_map begins (r.0 ++ drop p h)) (length (filter_map begins k)) refl
+
+  -- each that ended has its end before the place
+  pub has_ended : (s : Side) (h : List Event) (q n : ℕ) → n < ended s h q → HasEnded begins s h q n
+  has_ended s h q n l =
+      let r = numbered h q n (omega (arith, ended_le_begun s h q)) in
+      record {
+        numbered = r;
+        ended = elim (cases_lt (end_of s h r.place) q) [ inl m ↦ m | inr m ↦ absurd (omega (arith, ended_le s h r.place q m, r.number)) ];
+      }
+
+  -- later places have more that ended
+  pub ended_rises : (s : Side) (h : List Event) (p q : ℕ) → p ≤ q → q ≤ length h → ended s h p ≤ ended s h q
+  ended_rises s h p q l fits = rises (ended s h p) refl
+    where
+      rises : (n : ℕ) → ended s h p ≡ n → ended s h p ≤ ended s h q
+      rises zero e = omega arith
+      rises (suc n) e =
+          let r = has_ended s h p n (omega arith) in
+          omega (arith, ended_more s h r.numbered.place q r.numbered.event r.numbered.what r.numbered.at_place r.numbered.begins_it (omega (arith, r.ended)) fits, r.numbered.number)
+
+  -- all that began have ended where each has its end before the place
+  pub all_ended : (s : Side) (h : List Event) (p : ℕ) → p ≤ length h → ((q : ℕ) (e : Event) (w : W) → q < p → slice_get h q ≡ Some e → begins e ≡ Some w → end_of s h q < p) → ended s h p ≡ begun h p
+  all_ended s h p fits each = reach (begun h p) refl
+    where
+      reach : (n : ℕ) → begun h p ≡ n → ended s h p ≡ begun h p
+      reach zero e = omega (arith, ended_le_begun s h p)
+      reach (suc n) e =
+          let r = numbered h p n (omega arith) in
+          omega (arith, ended_le_begun s h p, ended_more s h r.place p r.event r.what r.at_place r.begins_it (each r.place r.event r.what r.before r.at_place r.begins_it) fits, r.number)

@@ -1,0 +1,227 @@
+-- A word read that no word write of its cell overlaps gives the item last written.
+use Rattle.std.proofs.Common.{◌≡◌, ℕ, zero, suc, ◌+◌, ◌-◌, ◌*◌, ◌/◌, ◌^◌, ◌<◌, ◌≤◌, All, List, length, take, Some, slice_get, slice_index_or, refl, sym, ap, arith, ◌∙◌, ◌⊎◌, inl, inr, length-append, take_all, suc-mul, mul-le-mul_right, le_of_mul-le-mul_right, div-mul-le_self, mod-lt, div-add-mod'}
+use Rattle.std.proofs.lemmas.Bool.{cases_lt}
+use Rattle.std.proofs.lemmas.List.{take-append-le}
+use Rattle.std.proofs.lemmas.Option.{slice_get_within, slice_get-get_or}
+use Rattle.bits_core.specs.declared.events.Side.TheVariants.{P, C}
+use Rattle.bits_core.specs.declared.events.Bit.TheVariants.{Cell}
+use Rattle.bits_core.specs.declared.events.Act.TheVariants.{ReadEnd}
+use Rattle.bits_core.specs.declared.events.Access.TheVariants.{Write}
+use Rattle.bits_core.specs.declared.events.Event.{Event}
+use Rattle.bits_core.specs.declared.shapes.Shape.{Shape}
+use Rattle.bits_core.specs.Bits.{begun_by}
+use Rattle.bits_core.specs.History.{before_last}
+use Rattle.bits_core.specs.Intervals.{end_of, HasOverlap, Overlap}
+use Rattle.bits_core.specs.Lawful.{IsLawful}
+use Rattle.bits_core.specs.Laws.{HeldIsByInterval}
+use Rattle.register_core.specs.Row.{bits_after}
+use Rattle.register_core.specs.Word.{digit, word_writes}
+use Rattle.register_core.specs.WordLaw.{cell_write, cell_writes, WritesWords, IsDigitWrite, IsWordWrite, IsWordRead, IsLastWord, NoWordEnded, WordIsSafe}
+use Rattle.register_core.proofs.Numbers.{IsNumbered, begun, ended, begun_at, begun_rises, begun_least, numbered, ended_le, ended_more, ended_le_begun, take-ended, has_ended, ended_rises}
+use Rattle.register_core.proofs.Writes.{by_writer, begins_before}
+use Rattle.register_core.proofs.Items.{digit_of_zero, same_item, length-word_writes, take-word_writes, words_left}
+use Rattle.register_core.proofs.Cells.{clear_bits, held_digit, cell_write-to, cell_write-from}
+
+-- a word write that began before a place
+record BegunWord (width j : ℕ) (h : List Event) (q n : ℕ) : Type 0 where
+  pub start : ℕ
+  pub stop : ℕ
+  pub before : start < q
+  pub word : IsWordWrite width j h n start stop
+
+module _ (shape : Shape) (h : List Event) (lawful : IsLawful shape h) (width j : ℕ) where
+  -- what stands at a number is the digit write of that number
+  digit_write : (q n : ℕ) (r : IsNumbered (cell_write j) h q n) → IsDigitWrite j h n r.place (end_of P h r.place)
+  digit_write q n r =
+      let begins : begun_by r.event ≡ Some (Write (Cell j r.what.bit) r.what.value) = cell_write-from j r.event r.what r.begins_it in
+      record {
+        number = r.what.bit;
+        value = r.what.value;
+        write = record { event = r.event; at_start = r.at_place; by_side = by_writer shape h lawful r.place r.event r.at_place (Cell j r.what.bit) r.what.value begins; begins = begins; ends = refl };
+        behind = r.number;
+      }
+
+  -- a digit write that ended before a place is among those that had ended there
+  digit_write_ended : (n start stop q : ℕ) → IsDigitWrite j h n start stop → stop < q → q ≤ length h → n < ended (cell_write j) P h q
+  digit_write_ended n start stop q d l fits =
+      omega (arith, ended_more (cell_write j) P h start q d.write.event (record { bit = d.number; value = d.value }) d.write.at_start (cell_write-to j d.number d.value d.write.event d.write.begins) (omega (arith, d.write.ends)) fits, d.behind)
+
+  -- where a word write has ended, so have all its digit writes
+  word_write_ended : (n start stop q : ℕ) → IsWordWrite width j h n start stop → stop < q → q ≤ length h → n * width + width ≤ ended (cell_write j) P h q
+  word_write_ended n start stop q w l fits = elim w.last [
+    | inl d ↦ omega (arith, digit_write_ended (n * width + (width - 1)) d.0 stop q d.1 l fits)
+    | inr cut ↦ absurd (omega (arith, cut.1))
+  ]
+
+  -- where its first digit write has begun, so has a word write
+  word_write_begun : (q n : ℕ) → n * width < begun (cell_write j) h q → BegunWord width j h q n
+  word_write_begun q n l =
+      let r = numbered (cell_write j) h q (n * width) l in
+      elim (cases_lt (n * width + (width - 1)) (length (cell_writes j h))) [
+        | inl m ↦
+            let all : begun (cell_write j) h (length h) ≡ length (cell_writes j h) = ap (λ k. length (cell_writes j k)) (take_all (length h) h (omega arith)) in
+            let last = numbered (cell_write j) h (length h) (n * width + (width - 1)) (omega arith) in
+            record {
+              start = r.place;
+              stop = end_of P h last.place;
+              before = r.before;
+              word = record { first_stop = end_of P h r.place; first = digit_write q (n * width) r; last = inl (last.place, digit_write (length h) (n * width + (width - 1)) last) };
+            }
+        | inr m ↦ record {
+          start = r.place;
+          stop = length h;
+          before = r.before;
+          word = record { first_stop = end_of P h r.place; first = digit_write q (n * width) r; last = inr (m, refl) };
+        }
+      ]
+
+module _ (law : HeldIsByInterval) (shape : Shape) (h : List Event) (lawful : IsLawful shape h) (width j : ℕ) (wide : 0 < width) (items : List ℕ) (fit : All (λ v. v < 2 ^ width) items) (writes : WritesWords width j h items) (start stop : ℕ → ℕ) (item : ℕ) (read : IsWordRead width j h start stop item) (quiet : (n start' stop' : ℕ) → IsWordWrite width j h n start' stop' → ¬ Overlap (start 0) (stop (width - 1)) start' stop') where
+  -- how many digit writes had ended where the word read began, and how many had begun where it ended
+  abbrev had_ended : ℕ
+  had_ended = ended (cell_write j) P h (start 0)
+
+  abbrev had_begun : ℕ
+  had_begun = begun (cell_write j) h (stop (width - 1))
+
+  -- each read begins before it ends, within the history
+  within : (i : ℕ) → i < width → (start i < stop i) × (start i < length h) × (stop i < length h)
+  within i l =
+      let r = read.each i l in (
+        omega (arith, r.access.ends),
+        slice_get_within h (start i) r.access.event r.access.at_start,
+        slice_get_within h (stop i) (record { side = C; bit = Cell j i; act = ReadEnd (digit i item) }) r.ends,
+      )
+
+  -- places go up from the first read to the last
+  start_rises : (i : ℕ) → i < width → start 0 ≤ start i
+  start_rises zero l = omega arith
+  start_rises (suc i) l = let r = within i (omega arith) in omega (arith, start_rises i (omega arith), read.in_turn i l, r.0)
+
+  stop_rises : (i d : ℕ) → i + d < width → stop i ≤ stop (i + d)
+  stop_rises i zero l = let z : i + 0 ≡ i = omega arith in rw z (omega arith)
+  stop_rises i (suc d) l =
+      let z : i + suc d ≡ suc (i + d) = omega arith in
+      let r = within (suc (i + d)) (omega arith) in
+      rw z (omega (arith, stop_rises i d (omega arith), read.in_turn (i + d) (omega arith), r.0))
+
+  stop_below : (i : ℕ) → i < width → stop i ≤ stop (width - 1)
+  stop_below i l =
+      let z : i + (width - 1 - i) ≡ width - 1 = omega arith in
+      rw z at (stop_rises i (width - 1 - i) (omega arith))
+
+  ended_le_had_begun : had_ended ≤ had_begun
+  ended_le_had_begun =
+      let r = within 0 wide in
+      omega (arith, ended_le_begun (cell_write j) P h (start 0), begun_rises (cell_write j) h (start 0) (stop (width - 1)) (omega (arith, r.0, stop_below 0 wide)))
+
+  start_within : start 0 ≤ length h
+  start_within = let r = within 0 wide in omega (arith, r.1)
+
+  -- no digit write had begun beyond the words that had ended
+  begun_le : (n : ℕ) → had_ended < n * width + width → had_begun ≤ n * width
+  begun_le n few = elim (cases_lt (n * width) had_begun) [
+    | inr l ↦ l
+    | inl l ↦
+        let w = word_write_begun shape h lawful width j (stop (width - 1)) n l in
+        absurd (quiet n w.start w.stop w.word (
+          λ m. absurd (omega (arith, w.before)),
+          λ m. absurd (omega (arith, word_write_ended shape h lawful width j n w.start w.stop (start 0) w.word m start_within)),
+        ))
+  ]
+
+  -- no more digit writes began than the items have
+  writes_le : length (cell_writes j h) ≤ length items * width
+  writes_le = omega (arith, ap length writes.1, length-append (cell_writes j h) writes.0, length-word_writes width items)
+
+  -- n words had ended, and no other digit write had begun
+  module _ (n : ℕ) (all_ended : had_ended ≡ n * width) (all_begun : had_begun ≡ n * width) where
+    -- so many items were written
+    fits : n ≤ length items
+    fits = le_of_mul-le-mul_right (omega (arith, writes_le, begun_least (cell_write j) h (stop (width - 1)))) wide
+
+    -- the same holds at each digit read
+    ended_there : (i : ℕ) → i < width → (ended (cell_write j) P h (start i) ≡ n * width) × (begun (cell_write j) h (stop i) ≤ n * width)
+    ended_there i l =
+        let r = within i l in
+        let a = ended_rises (cell_write j) P h (start 0) (start i) (start_rises i l) (omega (arith, r.1)) in
+        let b = ended_le_begun (cell_write j) P h (start i) in
+        let c = begun_rises (cell_write j) h (start i) (stop i) (omega (arith, r.0)) in
+        let d = begun_rises (cell_write j) h (stop i) (stop (width - 1)) (stop_below i l) in
+        (omega arith, omega arith)
+
+    none_overlaps : (i : ℕ) → i < width → ¬ HasOverlap h (Cell j i) (start i) (stop i)
+    none_overlaps i l o =
+        let r = ended_there i l in
+        let before : o.start' < stop i = begins_before h C (Cell j i) (start i) (stop i) (digit i item) (read.each i l) P (Write (Cell j i) o.value) o.start' o.stop' o.write o.overlap.0 in
+        let old = ended_le (cell_write j) P h o.start' (start i) (elim (cases_lt o.stop' (start i)) [ inl m ↦ absurd (o.overlap.1 m) | inr m ↦ omega (arith, o.write.ends) ]) in
+        let at = begun_at (cell_write j) h o.start' o.write.event (record { bit = i; value = o.value }) o.write.at_start (cell_write-to j i o.value o.write.event o.write.begins) in
+        omega (arith, r.0, r.1, old, at.1, begun_rises (cell_write j) h (suc o.start') (stop i) (omega arith))
+
+    -- what had ended where a digit read began is the first n words
+    first_words : (i : ℕ) → i < width → cell_writes j (before_last P (take (start i) h)) ≡ word_writes width (take n items)
+    first_words i l =
+        let r = ended_there i l in
+        sym (take-ended (cell_write j) P h (start i))
+        ∙ ap (λ k. take k (cell_writes j h)) r.0
+        ∙ sym (take-append-le (n * width) (cell_writes j h) writes.0 (omega (arith, begun_least (cell_write j) h (stop (width - 1)))))
+        ∙ ap (take (n * width)) writes.1
+        ∙ take-word_writes width items n fits
+
+    -- so each answer is what they leave in the digit
+    digit_is : (i : ℕ) → i < width → digit i item ≡ bits_after clear_bits (word_writes width (take n items)) i
+    digit_is i l =
+        let r = read.each i l in
+        let here = within i l in
+        elim ((lawful.each (stop i) (record { side = C; bit = Cell j i; act = ReadEnd (digit i item) }) r.ends).permitted (start i) r.access) [
+          | inl o ↦ absurd (none_overlaps i l o)
+          | inr held ↦
+              (law shape h lawful (Cell j i) (start i) (omega (arith, here.1)) (digit i item)).0 held
+              ∙ held_digit j i (take (start i) h)
+              ∙ ap (λ ws. bits_after clear_bits ws i) (first_words i l)
+        ]
+
+    -- a word write that had ended is among them
+    word_below : (m s t : ℕ) → IsWordWrite width j h m s t → t < start 0 → m < n
+    word_below m s t w l = elim (cases_lt m n) [
+      | inl k ↦ k
+      | inr k ↦ absurd (omega (arith, word_write_ended shape h lawful width j m s t (start 0) w l start_within, mul-le-mul_right width k))
+    ]
+
+  -- the law, by how many words had ended
+  safe_by_words : (n : ℕ) → had_ended ≡ n * width → had_begun ≡ n * width → IsLastWord width j h items (start 0) item ⊎ (NoWordEnded width j h (start 0) × (item ≡ 0))
+  safe_by_words zero all_ended all_begun = inr (
+    λ m s t w l. absurd (omega (arith, word_below zero all_ended all_begun m s t w l)),
+    same_item width item 0 read.fits (omega (arith, read.fits)) (λ i l. digit_is zero all_ended all_begun i l ∙ sym (digit_of_zero i)),
+  )
+  safe_by_words (suc n) all_ended all_begun =
+      let some : n < length items = omega (arith, fits (suc n) all_ended all_begun) in
+      let last : slice_get items n ≡ Some (slice_index_or items n 0) = slice_get-get_or items n 0 some in
+      let is : item ≡ slice_index_or items n 0 =
+      same_item width item (slice_index_or items n 0) read.fits (fit n 0 some)
+      (λ i l. digit_is (suc n) all_ended all_begun i l ∙ words_left width items n (slice_index_or items n 0) i clear_bits l last) in
+      let first = has_ended (cell_write j) P h (start 0) (n * width) (omega (arith, suc-mul n width)) in
+      let final = has_ended (cell_write j) P h (start 0) (n * width + (width - 1)) (omega (arith, suc-mul n width)) in
+      inl (record {
+        number = n;
+        start = first.numbered.place;
+        stop = end_of P h final.numbered.place;
+        write = record {
+          first_stop = end_of P h first.numbered.place;
+          first = digit_write shape h lawful width j (start 0) (n * width) first.numbered;
+          last = inl (final.numbered.place, digit_write shape h lawful width j (start 0) (n * width + (width - 1)) final.numbered);
+        };
+        ended = final.ended;
+        last = λ m s t w l. omega (arith, word_below (suc n) all_ended all_begun m s t w l);
+        writes = last ∙ ap (λ v. Some v) (sym is);
+      })
+
+  pub safe_word : IsLastWord width j h items (start 0) item ⊎ (NoWordEnded width j h (start 0) × (item ≡ 0))
+  safe_word =
+      let n : ℕ = had_ended / width in
+      let low : n * width ≤ had_ended = div-mul-le_self had_ended width in
+      let high : had_ended < n * width + width = omega (arith, mod-lt had_ended wide, div-add-mod' had_ended width) in
+      let few : had_begun ≤ n * width = begun_le n high in
+      safe_by_words n (omega (arith, ended_le_had_begun)) (omega (arith, ended_le_had_begun))
+
+pub word-is_safe : HeldIsByInterval → WordIsSafe
+word-is_safe law shape h lawful width j wide items fit writes start stop item read quiet = safe_word law shape h lawful width j wide items fit writes start stop item read quiet

@@ -1,0 +1,81 @@
+-- What begins a write of a bit, and where it stands to a read.
+use Rattle.std.proofs.Common.{◌≡◌, ℕ, ◌<◌, Bool, true, false, List, Option, Some, None, slice_get, if◌then◌else◌, refl, sym, ap, arith, ◌∙◌, inl, inr}
+use Rattle.std.proofs.lemmas.Bool.{cases_lt, eq-eqb, and_from}
+use Rattle.std.proofs.lemmas.Bool.Decides.{nat_tests}
+use Rattle.std.proofs.lemmas.Option.{none-some}
+use Rattle.bits_core.specs.declared.events.Side.{Side}
+use Rattle.bits_core.specs.declared.events.Bit.{Bit}
+use Rattle.bits_core.specs.declared.events.Bit.TheVariants.{S, R, X, Cell}
+use Rattle.bits_core.specs.declared.events.Act.{Act}
+use Rattle.bits_core.specs.declared.events.Act.TheVariants.{ReadBegin, ReadEnd, WriteBegin, WriteEnd}
+use Rattle.bits_core.specs.declared.events.Access.{Access}
+use Rattle.bits_core.specs.declared.events.Access.TheVariants.{Read, Write}
+use Rattle.bits_core.specs.declared.events.Event.{Event}
+use Rattle.bits_core.specs.declared.shapes.Shape.{Shape}
+use Rattle.bits_core.specs.Bits.{writer, same_bit, doer, begun_access, begun_by, value_written, write_of}
+use Rattle.bits_core.specs.Intervals.{IsAccess, IsRead, IsOpenAt}
+use Rattle.bits_core.specs.Lawful.{TakesTurn, IsLawful}
+
+same_bit-true : (a b : Bit) → same_bit a b ≡ true → a ≡ b
+same_bit-true (S i) (S j) e = grind (arith, nat_tests)
+same_bit-true (R i) (R j) e = grind (arith, nat_tests)
+same_bit-true X X e = refl
+same_bit-true (Cell i l) (Cell j k) e = grind (arith, nat_tests)
+same_bit-true a b e = cc
+
+same_bit-same : (b : Bit) → same_bit b b ≡ true
+same_bit-same (S i) = eq-eqb i i refl
+same_bit-same (R i) = eq-eqb i i refl
+same_bit-same X = refl
+same_bit-same (Cell j i) = and_from _ _ (eq-eqb j j refl) (eq-eqb i i refl)
+
+written : (b : Bit) (o : Option Access) (v : Bool) → value_written b o ≡ Some v → o ≡ Some (Write b v)
+written b None v e = cc
+written b (Some (Read c)) v e = cc
+written b (Some (Write c w)) v e =
+    elim (same_bit b c) as (λ t. same_bit b c ≡ t → (if t then Some w else None) ≡ Some v → Some (Write c w) ≡ Some (Write b v)) [
+      | true ↦ λ same k. let bits : b ≡ c = same_bit-true b c same in let values : w ≡ v = cc in cc
+      | false ↦ λ same k. cc
+    ] refl e
+
+-- the write of a bit that an event begins, as an access
+pub write_of-from : (b : Bit) (e : Event) (v : Bool) → write_of b e ≡ Some v → begun_by e ≡ Some (Write b v)
+write_of-from b e v is = written b (begun_by e) v is
+
+pub write_of-to : (b : Bit) (e : Event) (v : Bool) → begun_by e ≡ Some (Write b v) → write_of b e ≡ Some v
+write_of-to b e v is = ap (value_written b) is ∙ ap (λ t. if t then Some v else None) (same_bit-same b)
+
+doer-writes : (b c : Bit) (a : Act) (v : Bool) → begun_access c a ≡ Some (Write b v) → doer c a ≡ writer b
+doer-writes b c ReadBegin v e = cc
+doer-writes b c (ReadEnd w) v e = cc
+doer-writes b c (WriteBegin w) v e = let bits : c ≡ b = cc in ap writer bits
+doer-writes b c WriteEnd v e = cc
+
+-- in a lawful history the writer of a bit begins its writes
+pub by_writer : (shape : Shape) (h : List Event) → IsLawful shape h → (place : ℕ) (e : Event) → slice_get h place ≡ Some e → (b : Bit) (v : Bool) → begun_by e ≡ Some (Write b v) → e.side ≡ writer b
+by_writer shape h lawful place e at b v begins = (lawful.each place e at).right_side.by_doer ∙ doer-writes b e.bit e.act v begins
+
+none_open : (h : List Event) (place : ℕ) (s : Side) (b : Bit) (a : Act) (access : Access) → begun_access b a ≡ Some access → TakesTurn h place s b a → (other : Access) → ¬ IsOpenAt h s other place
+none_open h place s b ReadBegin access begins turn = turn
+none_open h place s b (ReadEnd v) access begins turn = absurd (none-some access begins)
+none_open h place s b (WriteBegin v) access begins turn = turn
+none_open h place s b WriteEnd access begins turn = absurd (none-some access begins)
+
+-- a side has no access open where it begins one
+pub begins_alone : (shape : Shape) (h : List Event) → IsLawful shape h → (place : ℕ) (e : Event) → slice_get h place ≡ Some e → (access : Access) → begun_by e ≡ Some access → (other : Access) → ¬ IsOpenAt h e.side other place
+begins_alone shape h lawful place e at access begins = none_open h place e.side e.bit e.act access begins (lawful.each place e at).in_turn
+
+-- an access that does not begin after the end of a read begins before it
+pub begins_before : (h : List Event) (s : Side) (b : Bit) (start stop : ℕ) (v : Bool) → IsRead h s b start stop v → (t : Side) (access : Access) (start' stop' : ℕ) → IsAccess h t access start' stop' → ¬ (stop < start') → start' < stop
+begins_before h s b start stop v read t access start' stop' a late =
+    elim (cases_lt start' stop) [
+      | inl l ↦ l
+      | inr l ↦ absurd (elim (cases_lt stop start') [
+        | inl m ↦ late m
+        | inr m ↦
+            let same : start' ≡ stop = omega arith in
+            let both : ◌≡◌ {A = Option Event} (Some a.event) (Some (record { side = s; bit = b; act = ReadEnd v })) = sym a.at_start ∙ ap (slice_get h) same ∙ read.ends in
+            let event : ◌≡◌ {A = Event} a.event (record { side = s; bit = b; act = ReadEnd v }) = cc in
+            none-some access (sym (ap begun_by event) ∙ a.begins)
+      ])
+    ]
