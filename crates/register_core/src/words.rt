@@ -136,10 +136,10 @@ impl WordReader {
         ensures state { result ≡ (if nat_lt self.now.read self.now.width then None else Some self.now.value) }
         ensures stands { (made : List Made) → ReaderStands self.now made → IsItemRead self.now.width self.now.cell made result }
     {
-        if self.read < self.width {
-            None
-        } else {
+        if self.read == self.width {
             Some(self.value)
+        } else {
+            None
         }
     }
 }
