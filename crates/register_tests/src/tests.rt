@@ -1,6 +1,7 @@
+ghost use Rattle.std.specs.Prelude.{◌≡◌};
+
 use bits_core::{
-    Access, Act, Always, Bit, Event, Flip, Memory, MemoryFault, Oracle, Shape, Side, Verdict,
-    audit_bits,
+    Access, Always, Bit, Flip, Memory, MemoryFault, Oracle, Shape, Side, Verdict, audit_bits,
 };
 use register_core::{BitWriter, UnaryScan, UnaryWriter, WordReader, WordWriter};
 use std::alloc::Allocator;
@@ -10,6 +11,7 @@ use std::test::Fail;
 // A machine of one side: the access that is due, and its answer.
 trait Machine {
     fn due(&self) -> Option<Access>;
+
     fn answered(&mut self, answer: bool);
 }
 
@@ -17,6 +19,7 @@ impl Machine for WordWriter {
     fn due(&self) -> Option<Access> {
         self.next()
     }
+
     fn answered(&mut self, answer: bool) {
         if self.next().is_some() {
             self.feed(answer);
@@ -28,6 +31,7 @@ impl Machine for WordReader {
     fn due(&self) -> Option<Access> {
         self.next()
     }
+
     fn answered(&mut self, answer: bool) {
         if self.next().is_some() {
             self.feed(answer);
@@ -39,6 +43,7 @@ impl Machine for BitWriter {
     fn due(&self) -> Option<Access> {
         self.next()
     }
+
     fn answered(&mut self, answer: bool) {
         if self.next().is_some() {
             self.feed(answer);
@@ -46,13 +51,30 @@ impl Machine for BitWriter {
     }
 }
 
-impl Machine for UnaryWriter {
-    fn due(&self) -> Option<Access> {
-        self.next()
+// A writer of a count of modulus 4.
+#[derive(Drop)]
+struct Count {
+    writer: UnaryWriter,
+    ghost of_four: { writer.modulus ≡ 4 },
+}
+
+impl Count {
+    // Begins a write of the value, unless one is under way.
+    fn write(&mut self, value: u64) {
+        if self.writer.next().is_none() && value < 4 {
+            self.writer.write(value);
+        }
     }
+}
+
+impl Machine for Count {
+    fn due(&self) -> Option<Access> {
+        self.writer.next()
+    }
+
     fn answered(&mut self, answer: bool) {
-        if self.next().is_some() {
-            self.feed(answer);
+        if self.writer.next().is_some() {
+            self.writer.feed(answer);
         }
     }
 }
@@ -106,7 +128,10 @@ fn step<A: Allocator, M: Machine, O: Oracle>(
 fn expect_lawful<A: Allocator>(rt: &impl Abort, memory: &Memory<A>, events: usize, flickers: u64) {
     assert_eq!(rt; memory.events().len(), events);
     assert_eq!(rt; memory.flickers(), flickers);
-    assert_eq!(rt; audit_bits(&memory.shape(), memory.events()), Verdict::Lawful);
+    assert_eq!(rt;
+        audit_bits(&memory.shape(), memory.events()),
+        Verdict::Lawful
+    );
 }
 
 #[test]
@@ -158,16 +183,131 @@ fn a_bit_is_written_where_it_changes(rt: HostRuntime) -> Result<(), Fail> {
     let mut memory = Memory::new(rt.alloc(), shape);
     let mut ones = Always(true);
     let mut writer = BitWriter::new(Bit::X, false);
-    let mut events = 0;
-    for (value, more) in [(false, 0), (true, 2), (true, 0), (false, 2), (false, 0)] {
+    for (value, events) in [(false, 0), (true, 2), (true, 2), (false, 4), (false, 4)] {
         if writer.next().is_none() {
             writer.write(value);
         }
         for _ in 0..3 {
             step(&mut memory, Side::P, &mut writer, &mut ones)?;
         }
-        events += more;
         expect_lawful(&rt, &memory, events, 0);
     }
+    Ok(())
+}
+
+// The values of one count, each other than the one before it; at first it is 0.
+const VALUES: [u64; 16] = [2, 0, 2, 1, 3, 1, 0, 3, 2, 1, 2, 3, 0, 1, 3, 0];
+
+// The value of write number n, where number 0 is the first value.
+fn value_of(number: usize) -> Option<u64> {
+    match number.checked_sub(1) {
+        None => Some(0),
+        Some(place) => VALUES.get(place).copied(),
+    }
+}
+
+// A scan while values are written, by a schedule that the seed makes: it gives the value of a write whose
+// number lies from those ended at its begin to those begun at its end.
+fn expect_regular_scans<A: Allocator, O: Oracle>(
+    rt: &impl Abort,
+    memory: &mut Memory<A>,
+    oracle: &mut O,
+    seed: u64,
+) -> Result<u64, Fail> {
+    let shape = Shape::new(2, 4, 1)?;
+    let mut count = Count {
+        writer: UnaryWriter::new(&shape, Side::P),
+    };
+    let mut scan = UnaryScan::new(&shape, Side::C);
+    let mut begun = 0;
+    let mut ended = 0;
+    let mut ended_at_begin = 0;
+    let mut scans: u64 = 0;
+    let mut state = seed;
+    for _ in 0..300 {
+        state = state
+            .wrapping_mul(6_364_136_223_846_793_005)
+            .wrapping_add(1_442_695_040_888_963_407);
+        if (state >> 33) % 2 == 0 {
+            if count.due().is_none()
+                && let Some(value) = VALUES.get(begun)
+            {
+                count.write(*value);
+                begun += 1;
+            }
+            step(memory, Side::P, &mut count, oracle)?;
+            if count.due().is_none() {
+                ended = begun;
+            }
+        } else {
+            if scan.value().is_some() {
+                scan = UnaryScan::new(&shape, Side::C);
+            }
+            if scan.next() == Some(Access::Read(Bit::S(0))) && memory.pending(Side::C).is_none() {
+                ended_at_begin = ended;
+            }
+            step(memory, Side::C, &mut scan, oracle)?;
+            if let Some(value) = scan.value() {
+                let mut found = false;
+                for number in ended_at_begin..=begun {
+                    found = found || value_of(number) == Some(value);
+                }
+                assert!(rt; found);
+                scans = scans.saturating_add(1);
+            }
+        }
+    }
+    assert_eq!(rt; audit_bits(&shape, memory.events()), Verdict::Lawful);
+    Ok(scans)
+}
+
+#[test]
+fn scans_under_writes_are_regular(rt: HostRuntime) -> Result<(), Fail> {
+    let shape = Shape::new(2, 4, 1)?;
+    let mut flickers: u64 = 0;
+    for seed in 0..60 {
+        for kind in 0..3 {
+            let mut memory = Memory::new(rt.alloc(), shape);
+            let scans = match kind {
+                0 => expect_regular_scans(&rt, &mut memory, &mut Flip::new(), seed)?,
+                1 => expect_regular_scans(&rt, &mut memory, &mut Always(false), seed)?,
+                _ => expect_regular_scans(&rt, &mut memory, &mut Always(true), seed)?,
+            };
+            assert!(rt; scans > 10);
+            flickers = flickers.saturating_add(memory.flickers());
+        }
+    }
+    // the schedules let many reads lie over writes
+    assert!(rt; flickers > 1_000);
+    Ok(())
+}
+
+#[test]
+fn clears_upwards_are_not_regular(rt: HostRuntime) -> Result<(), Fail> {
+    let shape = Shape::new(2, 4, 1)?;
+    // writes of 2, 1 and 3, where the last one clears bit 1 before bit 2
+    let writes = [
+        (Bit::S(2), true),
+        (Bit::S(0), false),
+        (Bit::S(1), true),
+        (Bit::S(3), true),
+        (Bit::S(1), false),
+    ];
+    let mut memory = Memory::new(rt.alloc(), shape);
+    for (bit, value) in writes {
+        if memory.shape().has(bit) && memory.pending(Side::P).is_none() && Side::P == bit.writer() {
+            memory.begin_write(Side::P, bit, value)?;
+        }
+        if let Some(Access::Write(_, _)) = memory.pending(Side::P) {
+            memory.end_write(Side::P)?;
+        }
+    }
+    let mut scan = UnaryScan::new(&shape, Side::C);
+    for _ in 0..6 {
+        step(&mut memory, Side::C, &mut scan, &mut Always(true))?;
+    }
+    // the write of 1 has ended and that of 3 has begun, and yet the scan gives 2, though nothing overlapped
+    assert_eq!(rt; scan.value(), Some(2));
+    expect_lawful(&rt, &memory, 16, 0);
     Ok(())
 }
