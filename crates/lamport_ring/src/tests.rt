@@ -239,14 +239,8 @@ fn stops_at_a_failed_write(rt: HostRuntime) {
         let mut output = HaltingWriter::after(writes_before);
         let mut errors = Vec::new(rt.alloc());
         let words = ["lamport_ring", "audit", "--bits"];
-        let ended = execute(
-            &rt,
-            rt.alloc(),
-            &words,
-            &mut input,
-            &mut output,
-            &mut errors,
-        );
+        let alloc = rt.alloc();
+        let ended = execute(&rt, alloc, &words, &mut input, &mut output, &mut errors);
         if writes_before < writes {
             assert_eq!(rt; ended, 1);
             assert!(rt; errors.as_slice() == b"refused: output failed\n".as_slice());
@@ -267,14 +261,8 @@ fn ignores_a_failed_standard_error(rt: HostRuntime) {
         let mut input = bytes;
         let mut output = Vec::new(rt.alloc());
         let mut errors = HaltingWriter::after(0);
-        let ended = execute(
-            &rt,
-            rt.alloc(),
-            &words,
-            &mut input,
-            &mut output,
-            &mut errors,
-        );
+        let alloc = rt.alloc();
+        let ended = execute(&rt, alloc, &words, &mut input, &mut output, &mut errors);
         assert_eq!(rt; ended, status);
     }
 }
