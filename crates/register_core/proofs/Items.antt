@@ -3,8 +3,9 @@ use Rattle.std.proofs.Common.{◌≡◌, ℕ, zero, suc, ◌*◌, ◌^◌, ◌/�
 use Rattle.std.proofs.lemmas.Bool.{cases_order}
 use Rattle.std.proofs.lemmas.Bool.Decides.{nat_tests}
 use Rattle.std.proofs.lemmas.Nat.Bits.{bit_at_lowest, bit_at-suc, bit_at-zero}
-use Rattle.register_core.specs.Row.{RowWrite, bits_with, bits_after}
+use Rattle.register_core.specs.Row.{bits_after}
 use Rattle.register_core.specs.Word.{digit, digit_writes, word_writes}
+use Rattle.register_core.proofs.Rows.{bits_after-append}
 
 -- ---- items and their digits
 
@@ -57,10 +58,6 @@ take-word_writes width items n fits =
     ∙ take_at (word_writes width (take n items)) (word_writes width (drop n items)) (n * width) (length-word_writes width (take n items) ∙ ap (λ k. k * width) (length-take-le n items fits))
 
 -- ---- the bits that they leave
-
-bits_after-append : (xs ys : List RowWrite) (bits : ℕ → Bool) → bits_after bits (xs ++ ys) ≡ bits_after (bits_after bits xs) ys
-bits_after-append [] ys bits = refl
-bits_after-append (w ∷ xs) ys bits = bits_after-append xs ys (bits_with bits w)
 
 digits_left : (item n i : ℕ) (bits : ℕ → Bool) → i < n → bits_after bits (digit_writes item n) i ≡ digit i item
 digits_left item zero i bits l = absurd (omega arith)

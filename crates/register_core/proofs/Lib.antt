@@ -7,7 +7,16 @@ pub mod Due
 pub mod Stands
 pub mod Numbers
 pub mod Writes
+pub mod RowWrites
+pub mod Turns
 pub mod RegularBit
 pub mod Items
 pub mod Cells
 pub mod SafeWord
+pub mod Phrase
+pub mod Moments
+pub mod Changing
+pub mod Covering
+pub mod UnaryMoments
+pub mod Counts
+pub mod UnaryLaw

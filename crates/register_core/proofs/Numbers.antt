@@ -57,6 +57,12 @@ end_of-suc s x h p =
 
 -- ---- numbers
 
+-- what stands in a list stands in a longer one
+pub slice_get-begin : {A : Type 0} (xs ys : List A) (n : ℕ) (x : A) → slice_get xs n ≡ Some x → slice_get (xs ++ ys) n ≡ Some x
+slice_get-begin [] ys n x e = absurd (cc)
+slice_get-begin (y ∷ xs) ys zero x e = e
+slice_get-begin (y ∷ xs) ys (suc n) x e = slice_get-begin xs ys n x e
+
 -- number n of what began before place q
 pub record IsNumbered {W : Type 0} (begins : Event → Option W) (h : List Event) (q n : ℕ) : Type 0 where
   pub place : ℕ

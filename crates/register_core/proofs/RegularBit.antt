@@ -1,5 +1,5 @@
 -- A bit whose writer makes logical writes is regular.
-use Rattle.std.proofs.Common.{◌≡◌, ◌≢◌, ℕ, zero, suc, ◌<◌, ◌≤◌, Bool, true, false, List, [], ◌∷◌, ◌++◌, length, take, Some, slice_get, refl, sym, ap, subst, arith, ◌∙◌, ◌⊎◌, inl, inr}
+use Rattle.std.proofs.Common.{◌≡◌, ◌≢◌, ℕ, zero, suc, ◌<◌, ◌≤◌, Bool, true, false, List, [], ◌∷◌, length, take, Some, slice_get, refl, sym, ap, subst, arith, ◌∙◌, ◌⊎◌, inl, inr}
 use Rattle.std.proofs.lemmas.Bool.{cases_lt}
 use Rattle.std.proofs.lemmas.List.{take-append-le}
 use Rattle.std.proofs.lemmas.Option.{slice_get_within}
@@ -11,12 +11,13 @@ use Rattle.bits_core.specs.declared.events.Event.{Event}
 use Rattle.bits_core.specs.declared.shapes.Shape.{Shape}
 use Rattle.bits_core.specs.Bits.{writer, first_value, begun_by, write_of}
 use Rattle.bits_core.specs.History.{writes_begun, last_value, held}
-use Rattle.bits_core.specs.Intervals.{end_of, IsRead, IsWrite, IsHeld, HasOverlap, IsOpenAt}
+use Rattle.bits_core.specs.Intervals.{end_of, IsRead, IsWrite, IsHeld, HasOverlap}
 use Rattle.bits_core.specs.Lawful.{IsLawful}
 use Rattle.bits_core.specs.Laws.{HeldIsByInterval}
 use Rattle.register_core.specs.BitLaw.{logical_writes, WritesLogically, IsOverlapping, IsFirstOverlapping, IsRegularAnswer, BitIsRegular}
-use Rattle.register_core.proofs.Numbers.{IsNumbered, begun, ended, begun_at, begun_rises, begun_least, numbered, ended_le, ended_more, take-ended, all_ended}
-use Rattle.register_core.proofs.Writes.{write_of-from, write_of-to, by_writer, begins_alone, begins_before}
+use Rattle.register_core.proofs.Numbers.{IsNumbered, begun, ended, begun_at, begun_rises, begun_least, numbered, ended_le, ended_more, take-ended, all_ended, slice_get-begin}
+use Rattle.register_core.proofs.Writes.{write_of-from, write_of-to, by_writer, begins_before}
+use Rattle.register_core.proofs.Turns.{each_ended}
 
 -- a logical write writes another value than the one before it
 logical_changes : (values : List Bool) (v : Bool) (n : ℕ) (x : Bool) → slice_get (logical_writes v values) n ≡ Some x → x ≢ last_value v (take n (logical_writes v values))
@@ -36,11 +37,6 @@ one_of_two true false true apart = inl refl
 one_of_two true false false apart = inr refl
 one_of_two false true true apart = inr refl
 one_of_two false true false apart = inl refl
-
-slice_get-begin : {A : Type 0} (xs ys : List A) (n : ℕ) (x : A) → slice_get xs n ≡ Some x → slice_get (xs ++ ys) n ≡ Some x
-slice_get-begin [] ys n x e = absurd (cc)
-slice_get-begin (y ∷ xs) ys zero x e = e
-slice_get-begin (y ∷ xs) ys (suc n) x e = slice_get-begin xs ys n x e
 
 module _ (law : HeldIsByInterval) (shape : Shape) (h : List Event) (lawful : IsLawful shape h) (b : Bit) (values : List Bool) (writes : WritesLogically b h values) (s : Side) (start stop : ℕ) (v : Bool) (read : IsRead h s b start stop v) where
   -- how many writes of the bit had ended where the read began
@@ -90,27 +86,22 @@ module _ (law : HeldIsByInterval) (shape : Shape) (h : List Event) (lawful : IsL
       ],
     )
 
-    -- those that began before it had ended where it begins
-    each_ended : (q : ℕ) (e : Event) (x : Bool) → q < r.place → slice_get h q ≡ Some e → write_of b e ≡ Some x → end_of (writer b) h q < r.place
-    each_ended q e x before at is =
-        let its : begun_by e ≡ Some (Write b x) = write_of-from b e x is in
-        elim (cases_lt (end_of (writer b) h q) r.place) [
-          | inl l ↦ l
-          | inr l ↦
-              let still : IsOpenAt h (writer b) (Write b x) r.place =
-              (q, end_of (writer b) h q, record { event = e; at_start = at; by_side = by_writer shape h lawful q e at b x its; begins = its; ends = refl }, before, l) in
-              absurd (begins_alone shape h lawful r.place r.event r.at_place (Write b r.what) begins (Write b x) (subst (λ t. IsOpenAt h t (Write b x) r.place) (sym by_side) still))
-        ]
-
     place_within : r.place < length h
     place_within = slice_get_within h r.place r.event r.at_place
+
+    -- those that began before it had ended where it begins
+    all_before : ended (write_of b) (writer b) h r.place ≡ had_ended
+    all_before =
+        all_ended (write_of b) (writer b) h r.place (omega (arith, place_within))
+        (each_ended (write_of b) (writer b) (λ e x is. (b, x, write_of-from b e x is, refl)) shape h lawful r.place r.event r.what r.at_place r.begins_it)
+        ∙ r.number
 
     -- so what the bit holds there is what those that had ended where the read began left
     held_there : held b (take r.place h) ≡ last_value (first_value b) (take had_ended (writes_begun b h))
     held_there =
         ap (last_value (first_value b))
         (sym (take-ended (write_of b) (writer b) h r.place)
-        ∙ ap (λ n. take n (writes_begun b h)) (all_ended (write_of b) (writer b) h r.place (omega (arith, place_within)) each_ended ∙ r.number))
+        ∙ ap (λ n. take n (writes_begun b h)) all_before)
 
     -- it writes another value than the bit then holds
     changes : r.what ≢ last_value (first_value b) (take had_ended (writes_begun b h))

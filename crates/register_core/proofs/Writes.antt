@@ -16,14 +16,14 @@ use Rattle.bits_core.specs.Bits.{writer, same_bit, doer, begun_access, begun_by,
 use Rattle.bits_core.specs.Intervals.{IsAccess, IsRead, IsOpenAt}
 use Rattle.bits_core.specs.Lawful.{TakesTurn, IsLawful}
 
-same_bit-true : (a b : Bit) → same_bit a b ≡ true → a ≡ b
+pub same_bit-true : (a b : Bit) → same_bit a b ≡ true → a ≡ b
 same_bit-true (S i) (S j) e = grind (arith, nat_tests)
 same_bit-true (R i) (R j) e = grind (arith, nat_tests)
 same_bit-true X X e = refl
 same_bit-true (Cell i l) (Cell j k) e = grind (arith, nat_tests)
 same_bit-true a b e = cc
 
-same_bit-same : (b : Bit) → same_bit b b ≡ true
+pub same_bit-same : (b : Bit) → same_bit b b ≡ true
 same_bit-same (S i) = eq-eqb i i refl
 same_bit-same (R i) = eq-eqb i i refl
 same_bit-same X = refl

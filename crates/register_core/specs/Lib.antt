@@ -8,4 +8,5 @@ pub mod BitState
 pub mod ScanState
 pub mod Unary
 pub mod UnaryState
+pub mod UnaryMoments
 pub mod UnaryLaw

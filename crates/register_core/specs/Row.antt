@@ -1,7 +1,9 @@
 -- A row: the bits of one register by their numbers, and the writes that its one writer makes to them.
-use Rattle.std.specs.Prelude.{ℕ, Bool, cond, List, [], ◌∷◌, map, nat_eq}
+use Rattle.std.specs.Prelude.{ℕ, Bool, cond, Option, Some, None, List, [], ◌∷◌, map, nat_eq}
 use Rattle.bits_core.specs.declared.events.Side.{Side}
 use Rattle.bits_core.specs.declared.events.Side.TheVariants.{P, C}
+use Rattle.bits_core.specs.declared.events.Act.{Act}
+use Rattle.bits_core.specs.declared.events.Act.TheVariants.{ReadBegin, ReadEnd, WriteBegin, WriteEnd}
 use Rattle.bits_core.specs.declared.events.Bit.{Bit}
 use Rattle.bits_core.specs.declared.events.Bit.TheVariants.{S, R}
 use Rattle.bits_core.specs.Made.{Made, Write}
@@ -32,3 +34,11 @@ bits_with bits w i = cond (nat_eq i w.bit) w.value (bits i)
 abbrev pub bits_after : (ℕ → Bool) → List RowWrite → ℕ → Bool
 bits_after bits [] = bits
 bits_after bits (w ∷ writes) = bits_after (bits_with bits w) writes
+
+-- the write of a value to a bit of a row, by the bit's number, that an act begins
+abbrev pub row_write : Option ℕ → Act → Option RowWrite
+row_write None act = None
+row_write (Some i) ReadBegin = None
+row_write (Some i) (ReadEnd v) = None
+row_write (Some i) (WriteBegin v) = Some (record { bit = i; value = v })
+row_write (Some i) WriteEnd = None

@@ -11,9 +11,8 @@ use Rattle.bits_core.specs.History.{before_last}
 use Rattle.bits_core.specs.Intervals.{IsRead}
 use Rattle.bits_core.specs.Lawful.{IsLawful}
 use Rattle.bits_core.specs.Made.{IsBeginning}
-use Rattle.register_core.specs.Row.{RowWrite, row_bit}
+use Rattle.register_core.specs.Row.{RowWrite, row_bit, row_write}
 use Rattle.register_core.specs.Unary.{writes_of, numbered_of, numbered_value, ended, begun}
-use Rattle.register_core.specs.WordLaw.{row_write}
 
 -- the number of a bit of the count that a side writes
 abbrev pub number_in_count : Side → Bit → Option ℕ

@@ -3,14 +3,12 @@ use Rattle.std.specs.Prelude.{◌≡◌, ℕ, suc, ◌+◌, ◌-◌, ◌*◌, �
 use Rattle.bits_core.specs.declared.events.Side.TheVariants.{C}
 use Rattle.bits_core.specs.declared.events.Bit.{Bit}
 use Rattle.bits_core.specs.declared.events.Bit.TheVariants.{S, R, X, Cell}
-use Rattle.bits_core.specs.declared.events.Act.{Act}
-use Rattle.bits_core.specs.declared.events.Act.TheVariants.{ReadBegin, ReadEnd, WriteBegin, WriteEnd}
 use Rattle.bits_core.specs.declared.events.Event.{Event}
 use Rattle.bits_core.specs.declared.shapes.Shape.{Shape}
 use Rattle.bits_core.specs.Intervals.{IsRead, IsWrite, Overlap}
 use Rattle.bits_core.specs.Lawful.{IsLawful}
 use Rattle.bits_core.specs.Made.{IsBeginning}
-use Rattle.register_core.specs.Row.{RowWrite}
+use Rattle.register_core.specs.Row.{RowWrite, row_write}
 use Rattle.register_core.specs.Word.{digit, word_writes}
 
 -- the number of a digit of the cell
@@ -19,14 +17,6 @@ number_in_cell j (S i) = None
 number_in_cell j (R i) = None
 number_in_cell j X = None
 number_in_cell j (Cell l i) = cond (nat_eq j l) (Some i) None
-
--- the write of a value to a bit of a row, by the bit's number, that an act begins
-abbrev pub row_write : Option ℕ → Act → Option RowWrite
-row_write None act = None
-row_write (Some i) ReadBegin = None
-row_write (Some i) (ReadEnd v) = None
-row_write (Some i) (WriteBegin v) = Some (record { bit = i; value = v })
-row_write (Some i) WriteEnd = None
 
 -- the write to a digit of the cell that an event begins
 abbrev pub cell_write : ℕ → Event → Option RowWrite

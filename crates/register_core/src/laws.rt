@@ -1,5 +1,6 @@
 //! What reads of registers can answer in a lawful history, whatever overlapped safe bits answer.
 ghost use Rattle.register_core.specs.BitLaw.{BitIsRegular};
+ghost use Rattle.register_core.specs.UnaryLaw.{UnaryIsRegular, UnaryHasOne};
 ghost use Rattle.register_core.specs.WordLaw.{WordIsSafe};
 
 use bits_core::laws::held_is_by_interval;
@@ -15,6 +16,22 @@ pub fn bit_is_regular()
 /// before it, and 0 where there is none.
 pub fn word_is_safe()
     ensures { WordIsSafe }
+{
+    held_is_by_interval();
+}
+
+/// A scan of a unary register gives the value of a write whose number lies from those that had ended
+/// where it began to those that had begun where it ended.
+pub fn unary_is_regular()
+    ensures { UnaryIsRegular }
+{
+    held_is_by_interval();
+}
+
+/// Where no value is above the last bit's number, a scan that read 0 in all bits below the last does
+/// not read 0 in it.
+pub fn unary_has_one()
+    ensures { UnaryHasOne }
 {
     held_is_by_interval();
 }
