@@ -20,3 +20,4 @@ pub mod Covering
 pub mod UnaryMoments
 pub mod Counts
 pub mod UnaryLaw
+pub mod MadeWrites

@@ -10,3 +10,4 @@ pub mod Unary
 pub mod UnaryState
 pub mod UnaryMoments
 pub mod UnaryLaw
+pub mod MadeWrites

@@ -1,5 +1,6 @@
 //! What reads of registers can answer in a lawful history, whatever overlapped safe bits answer.
 ghost use Rattle.register_core.specs.BitLaw.{BitIsRegular};
+ghost use Rattle.register_core.specs.MadeWrites.{CellWritesAreMade, CountWritesAreMade, BitWritesAreMade, WordsWrite, CountsWrite, BitsWrite};
 ghost use Rattle.register_core.specs.UnaryLaw.{UnaryIsRegular, UnaryHasOne};
 ghost use Rattle.register_core.specs.WordLaw.{WordIsSafe};
 
@@ -35,3 +36,18 @@ pub fn unary_has_one()
 {
     held_is_by_interval();
 }
+
+/// Where a side's own events are a beginning of the events of accesses, its writes to the digits of a
+/// cell, to its count and to a bit are a beginning of those among the accesses.
+pub fn writes_are_made()
+    ensures cells { CellWritesAreMade }
+    ensures counts { CountWritesAreMade }
+    ensures bits { BitWritesAreMade }
+{}
+
+/// The accesses of word writes, unary writes and logical writes have these writes and no others.
+pub fn phrases_write()
+    ensures words { WordsWrite }
+    ensures counts { CountsWrite }
+    ensures bits { BitsWrite }
+{}

@@ -1,0 +1,113 @@
+-- The writes of a side are those of the accesses that it made.
+use Rattle.std.proofs.Common.{◌≡◌, ℕ, suc, Bool, true, false, Option, Some, None, List, [], ◌∷◌, ◌++◌, filter_map, slice_get, refl, sym, ap, ◌∙◌}
+use Rattle.std.specs.List.{cons_option}
+use Rattle.std.proofs.lemmas.Option.{none-some}
+use Rattle.std.proofs.lemmas.List.Elements.{filter_map-append}
+use Rattle.bits_core.specs.declared.events.Side.{Side}
+use Rattle.bits_core.specs.declared.events.Side.TheVariants.{P, C}
+use Rattle.bits_core.specs.declared.events.Bit.{Bit}
+use Rattle.bits_core.specs.declared.events.Bit.TheVariants.{Cell}
+use Rattle.bits_core.specs.declared.events.Access.TheVariants as access
+use Rattle.bits_core.specs.declared.events.Event.{Event}
+use Rattle.bits_core.specs.declared.shapes.Shape.{Shape}
+use Rattle.bits_core.specs.Bits.{writer, is_by, same_side, begun_by, write_of}
+use Rattle.bits_core.specs.Lawful.{IsLawful}
+use Rattle.bits_core.specs.Made.{Made, Read, Write, begin_event, end_event, events_of, own, IsBeginning}
+use Rattle.register_core.specs.Row.{RowWrite, row_bit, writes_in}
+use Rattle.register_core.specs.Word.{word_writes}
+use Rattle.register_core.specs.WordLaw.{cell_write}
+use Rattle.register_core.specs.BitLaw.{logical_writes}
+use Rattle.register_core.specs.BitState.{writes_to}
+use Rattle.register_core.specs.Unary.{writes_of}
+use Rattle.register_core.specs.UnaryLaw.{count_write}
+use Rattle.register_core.specs.MadeWrites.{made_writes, CellWritesAreMade, CountWritesAreMade, BitWritesAreMade, WordsWrite, CountsWrite, BitsWrite}
+use Rattle.register_core.proofs.Writes.{write_of-from, write_of-to, by_writer}
+use Rattle.register_core.proofs.Turns.{BeginsWrites}
+use Rattle.register_core.proofs.Cells.{cell_write-to, cell_write-from}
+use Rattle.register_core.proofs.Counts.{count_write-to, count_write-its}
+
+side_same : (s : Side) → same_side s s ≡ true
+side_same P = refl
+side_same C = refl
+
+end_begins_none : (s : Side) (x : Made) → begun_by (end_event s x) ≡ None
+end_begins_none s (Read b v) = refl
+end_begins_none s (Write b v) = refl
+
+module _ {W : Type 0} (begins : Event → Option W) (s : Side) (its : BeginsWrites begins s) where
+  none : (e : Event) → ((w : W) → begins e ≡ Some w → ⊥) → begins e ≡ None
+  none e never = go (begins e) refl
+    where
+      go : (o : Option W) → begins e ≡ o → begins e ≡ None
+      go None is = is
+      go (Some w) is = absurd (never w is)
+
+  -- each write is begun by the side
+  abbrev Own : List Event → Type 0
+  Own h = (place : ℕ) (e : Event) (w : W) → slice_get h place ≡ Some e → begins e ≡ Some w → is_by s e ≡ true
+
+  own_of : (shape : Shape) (h : List Event) → IsLawful shape h → Own h
+  own_of shape h lawful place e w at is =
+      let r = its e w is in
+      ap (same_side s) (by_writer shape h lawful place e at r.0 r.1 r.2 ∙ r.3) ∙ side_same s
+
+  from_own : (h : List Event) → Own h → filter_map begins h ≡ filter_map begins (own s h)
+  from_own [] by = refl
+  from_own (e ∷ h) by = go (is_by s e) refl (from_own h (λ place d w at is. by (suc place) d w at is))
+    where
+      go : (t : Bool) → is_by s e ≡ t → filter_map begins h ≡ filter_map begins (own s h) → filter_map begins (e ∷ h) ≡ filter_map begins (own s (e ∷ h))
+      go true is rest = rw is (ap (cons_option (begins e)) rest)
+      go false is rest =
+          let nothing : begins e ≡ None = none e (λ w b. let k : false ≡ true = sym is ∙ by 0 e w refl b in cc) in
+          rw (is, nothing) rest
+
+  from_events : (made : List Made) → filter_map begins (events_of s made) ≡ made_writes begins s made
+  from_events [] = refl
+  from_events (x ∷ made) =
+      let nothing : begins (end_event s x) ≡ None =
+      none (end_event s x) (λ w b. let r = its (end_event s x) w b in none-some (access.Write r.0 r.1) (sym (end_begins_none s x) ∙ r.2)) in
+      ap (cons_option (begins (begin_event s x))) (ap (λ o. cons_option o (filter_map begins (events_of s made))) nothing ∙ from_events made)
+
+  pub are_made : (shape : Shape) (h : List Event) → IsLawful shape h → (made : List Made) → IsBeginning (own s h) (events_of s made) → IsBeginning (filter_map begins h) (made_writes begins s made)
+  are_made shape h lawful made (rest, e) = (
+    filter_map begins rest,
+    ap (λ l. l ++ filter_map begins rest) (from_own h (own_of shape h lawful))
+        ∙ sym (filter_map-append begins (own s h) rest)
+        ∙ ap (filter_map begins) e
+        ∙ from_events made,
+  )
+
+pub cell_writes-are : CellWritesAreMade
+cell_writes-are shape h lawful made follows j =
+    are_made (cell_write j) P (λ e w is. (Cell j w.bit, w.value, cell_write-from j e w is, refl)) shape h lawful made follows
+
+pub count_writes-are : CountWritesAreMade
+count_writes-are shape h lawful s made follows = are_made (count_write s) s (count_write-its s) shape h lawful made follows
+
+pub bit_writes-are : BitWritesAreMade
+bit_writes-are shape h lawful b made follows =
+    are_made (write_of b) (writer b) (λ e v is. (b, v, write_of-from b e v is, refl)) shape h lawful made follows
+
+-- the writes of a row, as accesses, are these
+row_writes-same : (begins : Event → Option RowWrite) (s : Side) (row : ℕ → Bit) →
+    ((i : ℕ) (v : Bool) (e : Event) → begun_by e ≡ Some (access.Write (row i) v) → begins e ≡ Some (record { bit = i; value = v })) →
+    (writes : List RowWrite) → made_writes begins s (writes_in row writes) ≡ writes
+row_writes-same begins s row to [] = refl
+row_writes-same begins s row to (w ∷ writes) =
+    ap (λ o. cons_option o (made_writes begins s (writes_in row writes))) (to w.bit w.value (begin_event s (Write (row w.bit) w.value)) refl)
+    ∙ ap (λ l. w ∷ l) (row_writes-same begins s row to writes)
+
+pub words-write : WordsWrite
+words-write width j items = row_writes-same (cell_write j) P (Cell j) (cell_write-to j) (word_writes width items)
+
+pub counts-write : CountsWrite
+counts-write s values = row_writes-same (count_write s) s (row_bit s) (count_write-to s) (writes_of values)
+
+bits_same : (b : Bit) (values : List Bool) → made_writes (write_of b) (writer b) (writes_to b values) ≡ values
+bits_same b [] = refl
+bits_same b (v ∷ values) =
+    ap (λ o. cons_option o (made_writes (write_of b) (writer b) (writes_to b values))) (write_of-to b (begin_event (writer b) (Write b v)) v refl)
+    ∙ ap (λ l. v ∷ l) (bits_same b values)
+
+pub bits-write : BitsWrite
+bits-write b first values = bits_same b (logical_writes first values)
