@@ -7,7 +7,7 @@ use Rattle.bits_core.specs.declared.events.Event.{Event}
 use Rattle.bits_core.specs.Bits.{is_by}
 use Rattle.bits_core.specs.Intervals.{first_place}
 use Rattle.bits_core.specs.Made.{own, clock, place_of, IsPlaceOf}
-use Rattle.bits_core.specs.Laws.{OwnChanges, OwnHasPlace, OwnHasOnePlace}
+use Rattle.bits_core.specs.Laws.{OwnChanges, OwnHasPlace, OwnHasOnePlace, ClockCountsPlaces}
 
 -- by a test, with what it gave
 pub by_case : {G : Type 0} → (b : Bool) → (b ≡ true → G) → (b ≡ false → G) → G
@@ -129,3 +129,17 @@ own_at s (x ∷ h) (suc place) e at by =
       own_event = rw (clock-no s x h place q, own-no s x h q) r.own_event;
       tick = clock-no s x h (suc place) q ∙ r.tick ∙ ap suc (sym (clock-no s x h place q));
     })
+
+-- an own event stands before a place exactly where its number is below the clock there
+pub clock_counts_places : ClockCountsPlaces
+clock_counts_places s h i place within =
+    let q : IsPlaceOf s h i (place_of s h i) = own_has_place s h i within in (
+      (λ before. omega (arith, q.past, clock_rises s h (suc (place_of s h i)) place before)),
+      (λ below. elim (split place (place_of s h i)) [
+        | inl le ↦ absurd (omega (arith, q.before, below, clock_rises s h place (place_of s h i) le))
+        | inr above ↦ above
+      ]),
+    )
+  where
+    split : (a b : ℕ) → (a ≤ b) ⊎ (b < a)
+    split a b = grind arith

@@ -15,7 +15,7 @@ use Rattle.bits_core.specs.Intervals.{IsAccess, IsHeld, IsOpenAt, IsRead, HasOve
 use Rattle.bits_core.specs.Lawful.{IsLawful}
 use Rattle.bits_core.specs.Memory.{EndsOverlappedRead, is_flicker_at}
 use Rattle.bits_core.specs.Steps.{MayFollow}
-use Rattle.bits_core.specs.Made.{Made, access_of, events_of, IsBeginning, own, place_of, IsPlaceOf, IsMadeAt}
+use Rattle.bits_core.specs.Made.{Made, access_of, events_of, IsBeginning, own, clock, place_of, IsPlaceOf, IsMadeAt}
 
 -- nothing has happened
 abbrev pub EmptyIsLawful : Type 0
@@ -90,6 +90,10 @@ OwnHasPlace = (s : Side) (h : List Event) (i : ℕ) → i < length (own s h) →
 -- and that is its only place
 abbrev pub OwnHasOnePlace : Type 0
 OwnHasOnePlace = (s : Side) (h : List Event) (i place : ℕ) → IsPlaceOf s h i place → place ≡ place_of s h i
+
+-- an own event stands before a place exactly where its number is below the clock there
+abbrev pub ClockCountsPlaces : Type 0
+ClockCountsPlaces = (s : Side) (h : List Event) (i place : ℕ) → i < length (own s h) → (place_of s h i < place) ↔ (i < clock s h place)
 
 -- where a side's events are a beginning of the events of accesses that were made, each of these that began is an access of the history
 abbrev pub MadeIsAccess : Type 0

@@ -1,6 +1,6 @@
 //! The laws of histories and of trace text that the layers above stand on, each the contract of a
 //! function that does nothing.
-ghost use Rattle.bits_core.specs.Laws.{AccessIsMade, BeginningIsLawful, EmptyIsLawful, FaultyIsNoTrace, FlickerIsByInterval, HeldAtBeginChanges, HeldChanges, HeldIsByInterval, LawfulByOneMore, MadeIsAccess, OneFault, OneReading, OneVerdict, OpenChanges, OpenIsByInterval, OpenWriteChanges, OverlapChanges, OverlapIsByInterval, OverlapIsDecidable, OwnChanges, OwnHasOnePlace, OwnHasPlace};
+ghost use Rattle.bits_core.specs.Laws.{AccessIsMade, BeginningIsLawful, ClockCountsPlaces, EmptyIsLawful, FaultyIsNoTrace, FlickerIsByInterval, HeldAtBeginChanges, HeldChanges, HeldIsByInterval, LawfulByOneMore, MadeIsAccess, OneFault, OneReading, OneVerdict, OpenChanges, OpenIsByInterval, OpenWriteChanges, OverlapChanges, OverlapIsByInterval, OverlapIsDecidable, OwnChanges, OwnHasOnePlace, OwnHasPlace};
 
 /// The history with no event is lawful.
 pub fn empty_is_lawful()
@@ -100,6 +100,11 @@ pub fn own_has_place()
 /// An own event of a side has no other place.
 pub fn own_has_one_place()
     ensures { OwnHasOnePlace }
+{}
+
+/// The clock of a side counts its own events before a place.
+pub fn clock_counts_places()
+    ensures { ClockCountsPlaces }
 {}
 
 /// Each access that a side made and that began is an access of the history.

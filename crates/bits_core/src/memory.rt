@@ -7,6 +7,7 @@ ghost use Rattle.bits_core.specs.Lawful.{IsLawful};
 ghost use Rattle.bits_core.specs.Memory.{ends_read, flicker_count, held_for_read, is_read_overlapped, open_bit, unused, with_answer, with_event};
 ghost use Rattle.bits_core.specs.Open.{IsOpenRight, IsReading, IsWriting};
 ghost use Rattle.bits_core.specs.Steps.{MayFollow};
+ghost use Rattle.bits_core.specs.Trace.{AreOfShape};
 
 use crate::events::{Access, Act, Bit, Event, Side};
 use crate::oracles::Oracle;
@@ -93,6 +94,7 @@ impl<A: Allocator> Memory<A> {
     pub fn events(&self) -> &[Event]
         ensures events { result.now ≡ self.now.events }
         ensures lawful { IsLawful self.now.shape self.now.events }
+        ensures of_shape { AreOfShape self.now.shape result.now }
     {
         self.events.as_slice()
     }
@@ -101,6 +103,7 @@ impl<A: Allocator> Memory<A> {
     pub fn into_events(self) -> Vec<Event, A>
         ensures events { result.items ≡ self.events }
         ensures lawful { IsLawful self.shape self.events }
+        ensures of_shape { AreOfShape self.shape result.items }
     {
         let Memory {
             shape: _,

@@ -40,12 +40,10 @@ fn expect_round_trip<A: Allocator>(
     let shape = memory.shape();
     let events = memory.events();
     assert_eq!(rt; audit_bits(&shape, events), Verdict::Lawful);
-    if events.iter().all(|event| shape.has(event.bit)) {
-        let text = write_trace(rt.alloc(), &shape, events)?;
-        let (shape_again, events_again) = read_trace(rt.alloc(), text.as_bytes())?;
-        assert_eq!(rt; shape_again, shape);
-        assert!(rt; events_again.as_slice() == events);
-    }
+    let text = write_trace(rt.alloc(), &shape, events)?;
+    let (shape_again, events_again) = read_trace(rt.alloc(), text.as_bytes())?;
+    assert_eq!(rt; shape_again, shape);
+    assert!(rt; events_again.as_slice() == events);
     Ok(())
 }
 
@@ -88,14 +86,13 @@ fn overlapped_reads_of_one_bit(rt: HostRuntime) -> Result<(), Fail> {
     assert_eq!(rt; memory.flickers(), 2);
     assert_eq!(rt; memory.events().len(), 8);
     expect_round_trip(&rt, &memory)?;
+    let shape = memory.shape();
     let events = memory.into_events();
-    if events.iter().all(|event| shape.has(event.bit)) {
-        let text = write_trace(rt.alloc(), &shape, events.as_slice())?;
-        assert_eq!(rt;
-            text.as_str(),
-            "shape 1 3 1\nP write s0 0\nC read s0\nC got s0 1\nC read s0\nC got s0 0\nP wrote s0\nC read s0\nC got s0 0\n"
-        );
-    }
+    let text = write_trace(rt.alloc(), &shape, events.as_slice())?;
+    assert_eq!(rt;
+        text.as_str(),
+        "shape 1 3 1\nP write s0 0\nC read s0\nC got s0 1\nC read s0\nC got s0 0\nP wrote s0\nC read s0\nC got s0 0\n"
+    );
     Ok(())
 }
 
@@ -161,6 +158,7 @@ fn each_refused_growth_changes_nothing(rt: HostRuntime) -> Result<(), Fail> {
         let mut other_oracle = Flip::new();
         for choice in CHOICES {
             if make(&mut memory, &mut oracle, choice).is_err() {
+                assert!(rt; alloc.has_refused());
                 expect_same(&rt, &memory, &other);
                 assert_eq!(rt; oracle, other_oracle);
                 match memory.pending(choice.0) {
@@ -193,18 +191,17 @@ fn write_trace_refuses_at_each_growth(rt: HostRuntime) -> Result<(), Fail> {
     for choice in CHOICES {
         make(&mut memory, &mut oracle, choice)?;
     }
+    let shape = memory.shape();
     let events = memory.events();
     for allocations in 0..40 {
         let alloc = Refusing::after(rt.alloc(), allocations);
-        if events.iter().all(|event| shape.has(event.bit)) {
-            let fault = write_trace(&alloc, &shape, events).err();
-            if !alloc.has_refused() {
-                assert_eq!(rt; fault, None);
-                assert!(rt; 1 <= allocations);
-                break;
-            }
-            assert_eq!(rt; fault, Some(TraceFault::OutOfMemory));
+        let fault = write_trace(&alloc, &shape, events).err();
+        if !alloc.has_refused() {
+            assert_eq!(rt; fault, None);
+            assert!(rt; 1 <= allocations);
+            break;
         }
+        assert_eq!(rt; fault, Some(TraceFault::OutOfMemory));
     }
     Ok(())
 }

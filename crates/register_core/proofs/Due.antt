@@ -2,7 +2,7 @@
 use Rattle.std.proofs.Common.{◌≡◌, ℕ, zero, suc, ◌-◌, ◌<◌, ◌≤◌, Bool, true, false, cond, List, [], ◌∷◌, ◌++◌, slice_set, sym, ap, arith, ◌∙◌, ◌⊎◌, inl, inr, eq-or-lt_of_le}
 use Rattle.std.proofs.lemmas.Bool.{cases_lt}
 use Rattle.register_core.specs.Unary.{clearing, unary_phrase}
-use Rattle.register_core.specs.UnaryState.{UnaryState, IsAt, bit_in, due_writes, row_fed, row_with}
+use Rattle.register_core.specs.UnaryState.{UnaryState, IsClearDownTo, bit_in, due_writes, row_fed, row_with}
 
 pub clearing-set : (bits : ℕ → Bool) (j : ℕ) → bits j ≡ true →
     clearing bits (suc j) ≡ record { bit = j; value = false } ∷ clearing bits j
@@ -30,12 +30,12 @@ unary_phrase-set bits v e = ap (λ b. cond b [] (record { bit = v; value = true 
 
 -- Where the value's bit is set, what is due is found below the place.
 pub due-below : {modulus : ℕ} {memory : List Bool} {value place : ℕ} →
-    IsAt modulus memory value place → bit_in memory value ≡ true →
+    IsClearDownTo modulus memory value place → bit_in memory value ≡ true →
     unary_phrase (bit_in memory) value ≡ clearing (bit_in memory) place
 due-below {modulus} {memory} {value} {place} at e =
     unary_phrase-set (bit_in memory) value e ∙ clearing-down (bit_in memory) value place at.within at.clear
 
-module _ (w : UnaryState) (place : ℕ) (at : IsAt w.modulus w.bits w.value place) (is_set : bit_in w.bits w.value ≡ true) where
+module _ (w : UnaryState) (place : ℕ) (at : IsClearDownTo w.modulus w.bits w.value place) (is_set : bit_in w.bits w.value ≡ true) where
   pub due-clears : 0 < place →
       due_writes w ≡ record { bit = place - 1; value = false } ∷ clearing (bit_in w.bits) (place - 1)
   due-clears some =

@@ -46,7 +46,7 @@ abbrev pub row_fed : UnaryState → UnaryState
 row_fed w = row_with w (due_writes w)
 
 -- the bits from the place up to the value are clear, and the one below the place is set
-pub record IsAt (modulus : ℕ) (bits : List Bool) (value place : ℕ) : Type 0 where
+pub record IsClearDownTo (modulus : ℕ) (bits : List Bool) (value place : ℕ) : Type 0 where
   pub below : value < modulus
   pub fits : modulus ≤ 256
   pub within : place ≤ value

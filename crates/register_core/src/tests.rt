@@ -121,6 +121,29 @@ fn sets_and_then_clears_downwards(rt: HostRuntime) -> Result<(), Fail> {
 }
 
 #[test]
+fn writes_each_value_over_what_the_last_ones_left(rt: HostRuntime) -> Result<(), Fail> {
+    let shape = Shape::new(2, 4, 1)?;
+    let mut writer = UnaryWriter::new(&shape, Side::P);
+    write_count(&rt, &mut writer, 2);
+    expect_bit(&rt, &mut writer, Bit::S(2), true);
+    expect_bit(&rt, &mut writer, Bit::S(0), false);
+    write_count(&rt, &mut writer, 0);
+    expect_bit(&rt, &mut writer, Bit::S(0), true);
+    write_count(&rt, &mut writer, 1);
+    expect_bit(&rt, &mut writer, Bit::S(1), true);
+    expect_bit(&rt, &mut writer, Bit::S(0), false);
+    write_count(&rt, &mut writer, 0);
+    expect_bit(&rt, &mut writer, Bit::S(0), true);
+    write_count(&rt, &mut writer, 3);
+    expect_bit(&rt, &mut writer, Bit::S(3), true);
+    expect_bit(&rt, &mut writer, Bit::S(2), false);
+    expect_bit(&rt, &mut writer, Bit::S(1), false);
+    expect_bit(&rt, &mut writer, Bit::S(0), false);
+    assert_eq!(rt; writer.next(), None);
+    Ok(())
+}
+
+#[test]
 fn the_consumer_writes_its_own_count(rt: HostRuntime) -> Result<(), Fail> {
     let shape = Shape::new(1, 4, 1)?;
     let mut writer = UnaryWriter::new(&shape, Side::C);

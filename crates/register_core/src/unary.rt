@@ -15,31 +15,31 @@ use std::marker::Model;
 pub struct UnaryWriter {
     side: Side,
     modulus: u64,
-    memory: [bool; 256],
+    bits: [bool; 256],
     value: usize,
     place: usize,
 }
 
 impl Model for UnaryWriter {
-    ghost use Rattle.register_core.specs.UnaryState.{UnaryState, IsAt};
+    ghost use Rattle.register_core.specs.UnaryState.{UnaryState, IsClearDownTo};
 
     ghost Value = { UnaryState };
 
-    ghost view = { λ w. record { side = w.side; modulus = w.modulus; bits = w.memory; value = w.value } };
+    ghost view = { λ w. record { side = w.side; modulus = w.modulus; bits = w.bits; value = w.value } };
 
     // The bits from the place up to the value are clear, and the one below the place is set.
-    ghost invariant = { λ w. IsAt w.modulus w.memory w.value w.place };
+    ghost invariant = { λ w. IsClearDownTo w.modulus w.bits w.value w.place };
 }
 
 /// The place down to which the bits below `from` are clear.
-fn clear_down(memory: &[bool; 256], from: usize) -> usize
+fn clear_down(bits: &[bool; 256], from: usize) -> usize
     requires { from ≤ 256 }
     ensures within { result ≤ from }
-    ensures clear { (k : ℕ) → result ≤ k → k < from → slice_index_or memory.now k false ≡ false }
-    ensures set { (k : ℕ) → result ≡ suc k → slice_index_or memory.now k false ≡ true }
+    ensures clear { (k : ℕ) → result ≤ k → k < from → slice_index_or bits.now k false ≡ false }
+    ensures set { (k : ℕ) → result ≡ suc k → slice_index_or bits.now k false ≡ true }
 {
     for j in (0..from).rev() {
-        if memory[j] {
+        if bits[j] {
             return j + 1;
         }
     }
@@ -55,12 +55,12 @@ impl UnaryWriter {
         ensures state { result ≡ new_row side (modulus_of shape.now) }
         ensures stands { UnaryStands result [] [] }
     {
-        let mut memory = [false; 256];
-        memory[0] = true;
+        let mut bits = [false; 256];
+        bits[0] = true;
         UnaryWriter {
             side,
             modulus: shape.modulus(),
-            memory,
+            bits,
             value: 0,
             place: 0,
         }
@@ -74,7 +74,7 @@ impl UnaryWriter {
         ensures stands { (values : List ℕ) (made : List Made) → UnaryStands self.old values made → UnaryStands self.new (values ++ value ∷ []) made }
     {
         self.value = value as usize;
-        self.place = clear_down(&self.memory, self.value);
+        self.place = clear_down(&self.bits, self.value);
     }
 
     /// The bit write that is due, and none once the value is written.
@@ -82,7 +82,7 @@ impl UnaryWriter {
         ensures due { result ≡ due_unary self.now }
         ensures stands { (values : List ℕ) (made : List Made) → UnaryStands self.now values made → IsNext (count_writes self.now.side values) made result }
     {
-        if !self.memory[self.value] {
+        if !self.bits[self.value] {
             Some(write_to(self.side, self.value as u8, true))
         } else if self.place > 0 {
             Some(write_to(self.side, (self.place - 1) as u8, false))
@@ -100,11 +100,11 @@ impl UnaryWriter {
         ensures stands { (values : List ℕ) (made : List Made) (access : Access) → UnaryStands self.old values made → due_unary self.old ≡ Some access → UnaryStands self.new values (made ++ answered access answer ∷ []) }
     {
         let _ = answer;
-        if !self.memory[self.value] {
-            self.memory[self.value] = true;
+        if !self.bits[self.value] {
+            self.bits[self.value] = true;
         } else {
-            self.memory[self.place - 1] = false;
-            self.place = clear_down(&self.memory, self.place - 1);
+            self.bits[self.place - 1] = false;
+            self.place = clear_down(&self.bits, self.place - 1);
         }
     }
 }

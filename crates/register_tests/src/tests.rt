@@ -282,6 +282,56 @@ fn scans_under_writes_are_regular(rt: HostRuntime) -> Result<(), Fail> {
     Ok(())
 }
 
+// A whole scan, with no other step in between.
+fn scanned<A: Allocator, O: Oracle>(
+    memory: &mut Memory<A>,
+    oracle: &mut O,
+) -> Result<Option<u64>, MemoryFault> {
+    let mut scan = UnaryScan::new(&memory.shape(), Side::C);
+    for _ in 0..8 {
+        step(memory, Side::C, &mut scan, oracle)?;
+    }
+    Ok(scan.value())
+}
+
+#[test]
+fn scans_during_one_write_may_go_back(rt: HostRuntime) -> Result<(), Fail> {
+    let shape = Shape::new(2, 4, 1)?;
+    let mut memory = Memory::new(rt.alloc(), shape);
+    let mut ones = Always(true);
+    let mut count = Count {
+        writer: UnaryWriter::new(&shape, Side::P),
+    };
+    // the last write stops where its write of 0 to s1 is open
+    for (value, events) in [(2, 4), (0, 2), (1, 4), (0, 2), (3, 5)] {
+        assert_eq!(rt; count.due(), None);
+        count.write(value);
+        for _ in 0..events {
+            step(&mut memory, Side::P, &mut count, &mut ones)?;
+        }
+    }
+    assert_eq!(rt;
+        memory.pending(Side::P),
+        Some(Access::Write(Bit::S(1), false))
+    );
+    assert_eq!(rt; scanned(&mut memory, &mut ones)?, Some(0));
+    for _ in 0..2 {
+        step(&mut memory, Side::P, &mut count, &mut ones)?;
+    }
+    assert_eq!(rt;
+        memory.pending(Side::P),
+        Some(Access::Write(Bit::S(0), false))
+    );
+    // the new value, and then the old one
+    assert_eq!(rt; scanned(&mut memory, &mut Always(false))?, Some(3));
+    assert_eq!(rt; scanned(&mut memory, &mut ones)?, Some(0));
+    expect_lawful(&rt, &memory, 31, 2);
+    step(&mut memory, Side::P, &mut count, &mut ones)?;
+    assert_eq!(rt; count.due(), None);
+    assert_eq!(rt; scanned(&mut memory, &mut ones)?, Some(3));
+    Ok(())
+}
+
 #[test]
 fn clears_upwards_are_not_regular(rt: HostRuntime) -> Result<(), Fail> {
     let shape = Shape::new(2, 4, 1)?;

@@ -11,23 +11,23 @@ some_due w due none = due (ap (first_access (row_bit w.side)) none)
 
 pub overflow_sub-self : goal.overflow_sub-self
 overflow_sub-self c =
-    let w : UnaryState = record { side = c.self.inside.side; modulus = c.self.inside.modulus; bits = c.self.inside.memory; value = c.self.inside.value } in
+    let w : UnaryState = record { side = c.self.inside.side; modulus = c.self.inside.modulus; bits = c.self.inside.bits; value = c.self.inside.value } in
     due-place w c.self.inside.place c.self.invariant c.if-not-self.false (some_due w (rw (← c.self.view_is) at c.requires))
 
 pub overflow_sub-self-inside : goal.overflow_sub-self-inside
 overflow_sub-self-inside c =
-    let w : UnaryState = record { side = c.self.inside.side; modulus = c.self.inside.modulus; bits = c.self.inside.memory; value = c.self.inside.value } in
+    let w : UnaryState = record { side = c.self.inside.side; modulus = c.self.inside.modulus; bits = c.self.inside.bits; value = c.self.inside.value } in
     due-place w c.self.inside.place c.self.invariant c.if-not-self.false (some_due w (rw (← c.self.view_is) at c.requires))
 
 pub returns-else-not-self-clause-state : goal.returns-else-not-self-clause-state
 returns-else-not-self-clause-state c =
-    let w : UnaryState = record { side = c.self.inside.side; modulus = c.self.inside.modulus; bits = c.self.inside.memory; value = c.self.inside.value } in
+    let w : UnaryState = record { side = c.self.inside.side; modulus = c.self.inside.modulus; bits = c.self.inside.bits; value = c.self.inside.value } in
     let some = due-place w c.self.inside.place c.self.invariant c.if-not-self.false (some_due w (rw (← c.self.view_is) at c.requires)) in
     rw (← c.self.view_is) (sym (fed-clears w c.self.inside.place c.self.invariant c.if-not-self.false some))
 
 pub returns-then-not-self-clause-state : goal.returns-then-not-self-clause-state
 returns-then-not-self-clause-state c =
-    let w : UnaryState = record { side = c.self.inside.side; modulus = c.self.inside.modulus; bits = c.self.inside.memory; value = c.self.inside.value } in
+    let w : UnaryState = record { side = c.self.inside.side; modulus = c.self.inside.modulus; bits = c.self.inside.bits; value = c.self.inside.value } in
     rw (← c.self.view_is) (sym (fed-sets w c.if-not-self.true))
 
 pub returns-then-not-self-clause-stands : goal.returns-then-not-self-clause-stands
@@ -38,14 +38,14 @@ returns-else-not-self-clause-stands c = feed-stands c.args.self.now _ (returns-e
 
 pub returns-then-not-self-clause-left : goal.returns-then-not-self-clause-left
 returns-then-not-self-clause-left c =
-    let w : UnaryState = record { side = c.self.inside.side; modulus = c.self.inside.modulus; bits = c.self.inside.memory; value = c.self.inside.value } in
+    let w : UnaryState = record { side = c.self.inside.side; modulus = c.self.inside.modulus; bits = c.self.inside.bits; value = c.self.inside.value } in
     let within : w.value < length w.bits = omega (arith, c.self.invariant.below, c.self.invariant.fits, c.self.told) in
     let within' = subst (λ (u : UnaryState). u.value < length u.bits) c.self.view_is within in
     feed-left c.args.self.now _ within' (returns-then-not-self-clause-state c)
 
 pub returns-else-not-self-clause-left : goal.returns-else-not-self-clause-left
 returns-else-not-self-clause-left c =
-    let w : UnaryState = record { side = c.self.inside.side; modulus = c.self.inside.modulus; bits = c.self.inside.memory; value = c.self.inside.value } in
+    let w : UnaryState = record { side = c.self.inside.side; modulus = c.self.inside.modulus; bits = c.self.inside.bits; value = c.self.inside.value } in
     let within : w.value < length w.bits = omega (arith, c.self.invariant.below, c.self.invariant.fits, c.self.told) in
     let within' = subst (λ (u : UnaryState). u.value < length u.bits) c.self.view_is within in
     feed-left c.args.self.now _ within' (returns-else-not-self-clause-state c)

@@ -1,0 +1,187 @@
+-- Lists of accesses that begin with phrases: the phrase and what follows it are read off the list.
+use Rattle.std.proofs.Common.{◌≡◌, ℕ, zero, suc, ◌/◌, ◌%◌, ◌^◌, ◌<◌, ◌==◌, Bool, true, false, List, [], ◌∷◌, ◌++◌, length, refl, sym, ap, ◌∙◌, arith, ◌⊎◌, inl, inr, length-append, append_assoc, pow-suc}
+use Rattle.std.proofs.lemmas.Nat.Bits.{bit_at_lowest, bit_at-suc}
+use Rattle.bits_core.specs.declared.events.Side.{Side}
+use Rattle.bits_core.specs.declared.events.Act.TheVariants.{ReadBegin, ReadEnd, WriteBegin}
+use Rattle.bits_core.specs.declared.events.Bit.{Bit}
+use Rattle.bits_core.specs.declared.events.Bit.TheVariants.{Cell}
+use Rattle.bits_core.specs.declared.events.Event.{Event}
+use Rattle.bits_core.specs.Made.{Made, Read, Write, begin_event, end_event, events_of}
+use Rattle.register_core.specs.Row.{RowWrite, writes_in}
+use Rattle.register_core.specs.Word.{digit, digit_writes, digit_reads, word_write, word_read}
+use Rattle.register_core.specs.ScanState.{zero_reads, scan_phrase}
+
+-- ---- calls one after the other
+
+-- the phrases of a call, what follows the call, and the end
+pub joined : (s t r z : List Made) → ((s ++ t) ++ r) ++ z ≡ s ++ (t ++ (r ++ z))
+joined s t r z = append_assoc (s ++ t) r z ∙ append_assoc s t (r ++ z)
+
+pub joined_two : (s t u r z : List Made) → (((s ++ t) ++ u) ++ r) ++ z ≡ s ++ (t ++ (u ++ (r ++ z)))
+joined_two s t u r z = joined (s ++ t) u r z ∙ append_assoc s t (u ++ (r ++ z))
+
+-- ---- events and accesses
+
+same_made : (s : Side) (x y : Made) → begin_event s x ≡ begin_event s y → end_event s x ≡ end_event s y → x ≡ y
+same_made s (Read b v) (Read c w) e f =
+    let bits : b ≡ c = ap (λ (x : Event). x.bit) e in
+    let acts : ReadEnd v ≡ ReadEnd w = ap (λ (x : Event). x.act) f in
+    cc
+same_made s (Read b v) (Write c w) e f = let acts : ReadBegin ≡ WriteBegin w = ap (λ (x : Event). x.act) e in absurd (cc)
+same_made s (Write b v) (Read c w) e f = let acts : WriteBegin v ≡ ReadBegin = ap (λ (x : Event). x.act) e in absurd (cc)
+same_made s (Write b v) (Write c w) e f =
+    let bits : b ≡ c = ap (λ (x : Event). x.bit) e in
+    let acts : WriteBegin v ≡ WriteBegin w = ap (λ (x : Event). x.act) e in
+    cc
+
+-- equal events are those of equal accesses
+pub same_accesses : (s : Side) (xs ys : List Made) → events_of s xs ≡ events_of s ys → xs ≡ ys
+same_accesses s [] [] e = refl
+same_accesses s [] (y ∷ ys) e = absurd (cc)
+same_accesses s (x ∷ xs) [] e = absurd (cc)
+same_accesses s (x ∷ xs) (y ∷ ys) e =
+    let head : x ≡ y = same_made s x y (cc) (cc) in
+    let tail : xs ≡ ys = same_accesses s xs ys (cc) in
+    cc
+
+-- ---- scans
+
+-- a scan from its first read on
+zero_reads-front : (row : ℕ → Bit) (n : ℕ) → zero_reads row (suc n) ≡ Read (row 0) false ∷ zero_reads (λ i. row (suc i)) n
+zero_reads-front row zero = refl
+zero_reads-front row (suc n) = ap (λ l. l ++ Read (row (suc n)) false ∷ []) (zero_reads-front row n)
+
+scan-front : (row : ℕ → Bit) (c : ℕ) → scan_phrase row (suc c) ≡ Read (row 0) false ∷ scan_phrase (λ i. row (suc i)) c
+scan-front row c = ap (λ l. l ++ Read (row (suc c)) true ∷ []) (zero_reads-front row c)
+
+-- a scan begins with a read of bit 0
+pub scan_begins : (row : ℕ → Bit) (c : ℕ) (xs : List Made) → (v : Bool) × (rest : List Made) × (scan_phrase row c ++ xs ≡ Read (row 0) v ∷ rest)
+scan_begins row zero xs = (true, xs, refl)
+scan_begins row (suc c) xs = (false, scan_phrase (λ i. row (suc i)) c ++ xs, ap (λ l. l ++ xs) (scan-front row c))
+
+pub same_scan : (row : ℕ → Bit) (a b : ℕ) (xs ys : List Made) → scan_phrase row a ++ xs ≡ scan_phrase row b ++ ys → (a ≡ b) × (xs ≡ ys)
+same_scan row zero zero xs ys e = (refl, cc)
+same_scan row zero (suc b) xs ys e =
+    let f : Read (row 0) true ∷ xs ≡ Read (row 0) false ∷ (scan_phrase (λ i. row (suc i)) b ++ ys) = e ∙ ap (λ l. l ++ ys) (scan-front row b) in
+    absurd (cc)
+same_scan row (suc a) zero xs ys e =
+    let f : Read (row 0) false ∷ (scan_phrase (λ i. row (suc i)) a ++ xs) ≡ Read (row 0) true ∷ ys = sym (ap (λ l. l ++ xs) (scan-front row a)) ∙ e in
+    absurd (cc)
+same_scan row (suc a) (suc b) xs ys e =
+    let f : Read (row 0) false ∷ (scan_phrase (λ i. row (suc i)) a ++ xs) ≡ Read (row 0) false ∷ (scan_phrase (λ i. row (suc i)) b ++ ys) =
+    sym (ap (λ l. l ++ xs) (scan-front row a)) ∙ e ∙ ap (λ l. l ++ ys) (scan-front row b) in
+    let g : scan_phrase (λ i. row (suc i)) a ++ xs ≡ scan_phrase (λ i. row (suc i)) b ++ ys = cc in
+    let rest : (a ≡ b) × (xs ≡ ys) = same_scan (λ i. row (suc i)) a b xs ys g in
+    (ap suc rest.0, rest.1)
+
+-- a scan is not nothing
+pub no_scan : (row : ℕ → Bit) (c : ℕ) (xs : List Made) → [] ≡ scan_phrase row c ++ xs → ⊥
+no_scan row c xs e =
+    let begins : (v : Bool) × (rest : List Made) × (scan_phrase row c ++ xs ≡ Read (row 0) v ∷ rest) = scan_begins row c xs in
+    let clash : [] ≡ Read (row 0) begins.0 ∷ begins.1 = e ∙ begins.2 in
+    absurd (cc)
+
+-- ---- words
+
+digit-half : (i item : ℕ) → digit i (item / 2) ≡ digit (suc i) item
+digit-half i item = ap (λ x. x == 1) (sym (bit_at-suc item i))
+
+same_low : (x y : ℕ) → x < 2 → y < 2 → (x == 1) ≡ (y == 1) → x ≡ y
+same_low zero zero l m e = refl
+same_low (suc zero) (suc zero) l m e = refl
+same_low zero (suc zero) l m e = absurd (cc)
+same_low (suc zero) zero l m e = absurd (cc)
+same_low (suc (suc x)) y l m e = absurd (omega arith)
+same_low x (suc (suc y)) l m e = absurd (omega arith)
+
+-- items of a width are told apart by their digits
+same_item : (width a b : ℕ) → a < 2 ^ width → b < 2 ^ width → ((i : ℕ) → i < width → digit i a ≡ digit i b) → a ≡ b
+same_item zero a b l m same = omega arith
+same_item (suc width) a b l m same =
+    let high : a / 2 ≡ b / 2 =
+    same_item width (a / 2) (b / 2) (omega (arith, pow-suc 2 width)) (omega (arith, pow-suc 2 width)) (λ i k. digit-half i a ∙ same (suc i) (omega arith) ∙ sym (digit-half i b)) in
+    let lowest : (a % 2 == 1) ≡ (b % 2 == 1) = sym (ap (λ x. x == 1) (bit_at_lowest a)) ∙ same 0 (omega arith) ∙ ap (λ x. x == 1) (bit_at_lowest b) in
+    let low : a % 2 ≡ b % 2 = same_low (a % 2) (b % 2) (omega arith) (omega arith) lowest in
+    omega arith
+
+-- beginnings of one length
+same_parts : {A : Type 0} → (us vs xs ys : List A) → length us ≡ length vs → us ++ xs ≡ vs ++ ys → (us ≡ vs) × (xs ≡ ys)
+same_parts [] [] xs ys n e = (refl, e)
+same_parts [] (v ∷ vs) xs ys n e = absurd (cc)
+same_parts (u ∷ us) [] xs ys n e = absurd (cc)
+same_parts (u ∷ us) (v ∷ vs) xs ys n e =
+    let rest : (us ≡ vs) × (xs ≡ ys) = same_parts us vs xs ys (omega (arith, n)) (cc) in
+    let head : u ≡ v = cc in
+    let tail : us ≡ vs = rest.0 in
+    (cc, rest.1)
+
+length-digit_reads : (cell item n : ℕ) → length (digit_reads cell item n) ≡ n
+length-digit_reads cell item zero = refl
+length-digit_reads cell item (suc n) = omega (arith, length-digit_reads cell item n, length-append (digit_reads cell item n) (Read (Cell cell n) (digit n item) ∷ []))
+
+length-digit_writes : (item n : ℕ) → length (digit_writes item n) ≡ n
+length-digit_writes item zero = refl
+length-digit_writes item (suc n) =
+    omega (arith, length-digit_writes item n, length-append (digit_writes item n) (record { bit = n; value = digit n item } ∷ []))
+
+at_or_below : (i n : ℕ) → i < suc n → (i ≡ n) ⊎ (i < n)
+at_or_below i n l = grind arith
+
+digits_read : (cell n a b : ℕ) → digit_reads cell a n ≡ digit_reads cell b n → (i : ℕ) → i < n → digit i a ≡ digit i b
+digits_read cell zero a b e i l = absurd (omega arith)
+digits_read cell (suc n) a b e i l =
+    let parts : (digit_reads cell a n ≡ digit_reads cell b n) × (Read (Cell cell n) (digit n a) ∷ [] ≡ Read (Cell cell n) (digit n b) ∷ []) =
+    same_parts (digit_reads cell a n) (digit_reads cell b n) (Read (Cell cell n) (digit n a) ∷ []) (Read (Cell cell n) (digit n b) ∷ []) (length-digit_reads cell a n ∙ sym (length-digit_reads cell b n)) e in
+    elim (at_or_below i n l) [
+      | inl q ↦ let last : digit n a ≡ digit n b = (let f : Read (Cell cell n) (digit n a) ∷ [] ≡ Read (Cell cell n) (digit n b) ∷ [] = parts.1 in cc) in ap (λ k. digit k a) q ∙ last ∙ sym (ap (λ k. digit k b) q)
+      | inr below ↦ digits_read cell n a b parts.0 i below
+    ]
+
+pub same_word_read :
+    (width cell a b : ℕ) (xs ys : List Made) → a < 2 ^ width → b < 2 ^ width →
+    word_read width cell a ++ xs ≡ word_read width cell b ++ ys → (a ≡ b) × (xs ≡ ys)
+same_word_read width cell a b xs ys l m e =
+    let parts : (digit_reads cell a width ≡ digit_reads cell b width) × (xs ≡ ys) =
+    same_parts (digit_reads cell a width) (digit_reads cell b width) xs ys (length-digit_reads cell a width ∙ sym (length-digit_reads cell b width)) e in
+    (same_item width a b l m (digits_read cell width a b parts.0), parts.1)
+
+abbrev with_parts : ℕ → Bool → RowWrite
+with_parts b v = record { bit = b; value = v }
+
+same_row : (u v : RowWrite) → u.bit ≡ v.bit → u.value ≡ v.value → u ≡ v
+same_row u v e f = ap (λ b. with_parts b u.value) e ∙ ap (with_parts v.bit) f
+
+-- the writes of a row are read off their accesses
+same_writes :
+    (cell : ℕ) (us vs : List RowWrite) (xs ys : List Made) → length us ≡ length vs →
+    writes_in (Cell cell) us ++ xs ≡ writes_in (Cell cell) vs ++ ys → (us ≡ vs) × (xs ≡ ys)
+same_writes cell [] [] xs ys n e = (refl, e)
+same_writes cell [] (v ∷ vs) xs ys n e = absurd (cc)
+same_writes cell (u ∷ us) [] xs ys n e = absurd (cc)
+same_writes cell (u ∷ us) (v ∷ vs) xs ys n e =
+    let rest : (us ≡ vs) × (xs ≡ ys) = same_writes cell us vs xs ys (omega (arith, n)) (cc) in
+    let bits : u.bit ≡ v.bit = cc in
+    let values : u.value ≡ v.value = cc in
+    let head : u ≡ v = same_row u v bits values in
+    let tail : us ≡ vs = rest.0 in
+    (cc, rest.1)
+
+digits_written : (n a b : ℕ) → digit_writes a n ≡ digit_writes b n → (i : ℕ) → i < n → digit i a ≡ digit i b
+digits_written zero a b e i l = absurd (omega arith)
+digits_written (suc n) a b e i l =
+    let x : List RowWrite = record { bit = n; value = digit n a } ∷ [] in
+    let y : List RowWrite = record { bit = n; value = digit n b } ∷ [] in
+    let parts : (digit_writes a n ≡ digit_writes b n) × (x ≡ y) =
+    same_parts (digit_writes a n) (digit_writes b n) x y (length-digit_writes a n ∙ sym (length-digit_writes b n)) e in
+    elim (at_or_below i n l) [
+      | inl q ↦ let last : digit n a ≡ digit n b = (let f : x ≡ y = parts.1 in let head : with_parts n (digit n a) ≡ with_parts n (digit n b) = cc in ap (λ (w : RowWrite). w.value) head) in ap (λ k. digit k a) q ∙ last ∙ sym (ap (λ k. digit k b) q)
+      | inr below ↦ digits_written n a b parts.0 i below
+    ]
+
+pub same_word_write :
+    (width cell a b : ℕ) (xs ys : List Made) → a < 2 ^ width → b < 2 ^ width →
+    word_write width cell a ++ xs ≡ word_write width cell b ++ ys → (a ≡ b) × (xs ≡ ys)
+same_word_write width cell a b xs ys l m e =
+    let parts : (digit_writes a width ≡ digit_writes b width) × (xs ≡ ys) =
+    same_writes cell (digit_writes a width) (digit_writes b width) xs ys (length-digit_writes a width ∙ sym (length-digit_writes b width)) e in
+    (same_item width a b l m (digits_written width a b parts.0), parts.1)

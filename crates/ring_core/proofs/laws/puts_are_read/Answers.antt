@@ -1,0 +1,5 @@
+use Rattle.ring_core.proofs.PutsRead.{puts-are_read}
+use Rattle.ring_core.proofs.laws.puts_are_read.Goals as goal
+
+pub returns : goal.returns
+returns c = puts-are_read

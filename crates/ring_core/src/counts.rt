@@ -1,0 +1,37 @@
+//! What the two counts of a ring show, each kept modulo the modulus.
+ghost use Rattle.std.specs.Prelude.{◌≡◌, ◌<◌, ◌↔◌, IsTrue};
+ghost use Rattle.bits_core.specs.Shape.{modulus_of};
+ghost use Rattle.ring_core.specs.Counts as counts;
+
+use bits_core::Shape;
+
+/// How far `a` is ahead of `b` modulo a modulus above both.
+pub fn distance(a: u64, b: u64, modulus: u64) -> u64
+    requires a { a < modulus }
+    requires b { b < modulus }
+    ensures value { result ≡ counts.distance modulus a b }
+    ensures below { result < modulus }
+{
+    if a >= b { a - b } else { modulus - (b - a) }
+}
+
+/// Whether the producer's count `c` shows an item to a consumer that has taken `k`: `c` is 1 to the
+/// capacity ahead of it. Both are below the modulus.
+pub fn has_item(shape: &Shape, c: u64, k: u64) -> bool
+    requires c { c < modulus_of shape.now }
+    requires k { k < modulus_of shape.now }
+    ensures { IsTrue result ↔ counts.ShowsItem shape.now c k }
+{
+    let ahead = distance(c, k, shape.modulus());
+    ahead > 0 && ahead <= shape.capacity()
+}
+
+/// Whether the consumer's count `d` leaves room to a producer that has put `n`: it is less than the
+/// capacity ahead of `d`. Both are below the modulus.
+pub fn has_room(shape: &Shape, n: u64, d: u64) -> bool
+    requires n { n < modulus_of shape.now }
+    requires d { d < modulus_of shape.now }
+    ensures { IsTrue result ↔ counts.LeavesRoom shape.now n d }
+{
+    distance(n, d, shape.modulus()) < shape.capacity()
+}

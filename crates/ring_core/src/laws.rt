@@ -1,0 +1,12 @@
+//! What the programs of the two sides say of their accesses.
+ghost use Rattle.ring_core.specs.Readings.{PutsAreRead, TakesAreRead};
+
+/// The events of whole calls of the producer are the events of no other calls.
+pub fn puts_are_read()
+    ensures { PutsAreRead }
+{}
+
+/// The events of whole calls of the consumer are the events of no other calls.
+pub fn takes_are_read()
+    ensures { TakesAreRead }
+{}
