@@ -20,7 +20,7 @@ use Rattle.register_core.specs.BitLaw.{logical_writes}
 use Rattle.register_core.specs.BitState.{writes_to}
 use Rattle.register_core.specs.Unary.{writes_of}
 use Rattle.register_core.specs.UnaryLaw.{count_write}
-use Rattle.register_core.specs.MadeWrites.{made_writes, CellWritesAreMade, CountWritesAreMade, BitWritesAreMade, WordsWrite, CountsWrite, BitsWrite}
+use Rattle.register_core.specs.MadeWrites.{made_writes, CellWritesAreMade, CountWritesAreMade, BitWritesAreMade, WordsWrite, CountsWrite, BitsWrite, PartsWrite}
 use Rattle.register_core.proofs.Writes.{write_of-from, write_of-to, by_writer}
 use Rattle.register_core.proofs.Turns.{BeginsWrites}
 use Rattle.register_core.proofs.Cells.{cell_write-to, cell_write-from}
@@ -111,3 +111,13 @@ bits_same b (v ∷ values) =
 
 pub bits-write : BitsWrite
 bits-write b first values = bits_same b (logical_writes first values)
+
+in_parts : {W : Type 0} (begins : Event → Option W) (s : Side) (xs ys : List Made) → made_writes begins s (xs ++ ys) ≡ made_writes begins s xs ++ made_writes begins s ys
+in_parts begins s xs ys = filter_map-append (λ x. begins (begin_event s x)) xs ys
+
+pub parts-write : PartsWrite
+parts-write xs ys = (
+  (λ j. in_parts (cell_write j) P xs ys),
+  (λ s. in_parts (count_write s) s xs ys),
+  (λ b. in_parts (write_of b) (writer b) xs ys),
+)

@@ -22,7 +22,7 @@ abbrev pub logical_writes : Bool → List Bool → List Bool
 logical_writes v [] = []
 logical_writes v (w ∷ values) = logical_write v w ++ logical_writes w values
 
--- the writes of the bit that began are logical writes of these values, one after the other
+-- the writes of the bit that began are a beginning of logical writes of these values, one after the other
 abbrev pub WritesLogically : Bit → List Event → List Bool → Type 0
 WritesLogically b h values = IsBeginning (writes_begun b h) (logical_writes (first_value b) values)
 

@@ -1,5 +1,5 @@
 -- The writes of a side, where the accesses that it made are known.
-use Rattle.std.specs.Prelude.{◌≡◌, ℕ, Bool, Option, List, filter_map}
+use Rattle.std.specs.Prelude.{◌≡◌, ℕ, Bool, Option, List, ◌++◌, filter_map}
 use Rattle.bits_core.specs.declared.events.Side.{Side}
 use Rattle.bits_core.specs.declared.events.Side.TheVariants.{P}
 use Rattle.bits_core.specs.declared.events.Bit.{Bit}
@@ -48,3 +48,11 @@ CountsWrite = (s : Side) (values : List ℕ) → made_writes (count_write s) s (
 
 abbrev pub BitsWrite : Type 0
 BitsWrite = (b : Bit) (first : Bool) (values : List Bool) → made_writes (write_of b) (writer b) (bit_writes b first values) ≡ logical_writes first values
+
+-- The writes of two lists of accesses, one after the other, are those of the one and then of the other.
+abbrev pub PartsWrite : Type 0
+PartsWrite =
+    (xs ys : List Made) →
+    ((j : ℕ) → made_writes (cell_write j) P (xs ++ ys) ≡ made_writes (cell_write j) P xs ++ made_writes (cell_write j) P ys) ×
+    ((s : Side) → made_writes (count_write s) s (xs ++ ys) ≡ made_writes (count_write s) s xs ++ made_writes (count_write s) s ys) ×
+    ((b : Bit) → made_writes (write_of b) (writer b) (xs ++ ys) ≡ made_writes (write_of b) (writer b) xs ++ made_writes (write_of b) (writer b) ys)

@@ -36,7 +36,7 @@ count_begun s h = filter_map (count_write s) h
 abbrev pub count_ended : Side → List Event → List RowWrite
 count_ended s h = count_begun s (before_last s h)
 
--- the writes to the side's count are unary writes of these values, one after the other, the last perhaps cut
+-- the writes to the side's count are a beginning of those of unary writes of these values, one after the other
 abbrev pub WritesUnary : Side → List Event → List ℕ → Type 0
 WritesUnary s h values = IsBeginning (count_begun s h) (writes_of values)
 

@@ -26,7 +26,7 @@ cell_write j e = row_write (number_in_cell j e.bit) e.act
 abbrev pub cell_writes : ℕ → List Event → List RowWrite
 cell_writes j h = filter_map (cell_write j) h
 
--- the writes to the digits of the cell are word writes of these items, one after the other, the last perhaps cut
+-- the writes to the digits of the cell are a beginning of those of word writes of these items, one after the other
 abbrev pub WritesWords : ℕ → ℕ → List Event → List ℕ → Type 0
 WritesWords width j h items = IsBeginning (cell_writes j h) (word_writes width items)
 

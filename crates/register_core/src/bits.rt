@@ -27,7 +27,7 @@ impl Model for BitWriter {
 impl BitWriter {
     ghost use Rattle.register_core.specs.BitState.{new_bit, due_change, bit_writes, BitStands};
 
-    /// The writer of a bit that holds the first value. No access is due.
+    /// The writer of a bit that holds `first` now. No access is due.
     pub fn new(bit: Bit, first: bool) -> Self
         ensures state { result ≡ new_bit bit first }
         ensures stands { BitStands result first [] [] }

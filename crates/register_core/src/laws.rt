@@ -1,6 +1,6 @@
 //! What reads of registers can answer in a lawful history, whatever overlapped safe bits answer.
 ghost use Rattle.register_core.specs.BitLaw.{BitIsRegular};
-ghost use Rattle.register_core.specs.MadeWrites.{CellWritesAreMade, CountWritesAreMade, BitWritesAreMade, WordsWrite, CountsWrite, BitsWrite};
+ghost use Rattle.register_core.specs.MadeWrites.{CellWritesAreMade, CountWritesAreMade, BitWritesAreMade, WordsWrite, CountsWrite, PartsWrite, BitsWrite};
 ghost use Rattle.register_core.specs.UnaryLaw.{UnaryIsRegular, UnaryHasOne};
 ghost use Rattle.register_core.specs.WordLaw.{WordIsSafe};
 
@@ -13,24 +13,25 @@ pub fn bit_is_regular()
     held_is_by_interval();
 }
 
-/// A word read that no word write of its cell overlaps gives the item of the last word write that ended
-/// before it, and 0 where there is none.
+/// Where the writes to a cell are word writes one after the other, a word read that none of them overlaps
+/// gives the item of the last that ended before it, and 0 where there is none.
 pub fn word_is_safe()
     ensures { WordIsSafe }
 {
     held_is_by_interval();
 }
 
-/// A scan of a unary register gives the value of a write whose number lies from those that had ended
-/// where it began to those that had begun where it ended.
+/// Where the writes to a count are unary writes of any values one after the other, a scan of it gives the
+/// value of a write whose number lies from those that had ended where it began to those that had begun
+/// where it ended.
 pub fn unary_is_regular()
     ensures { UnaryIsRegular }
 {
     held_is_by_interval();
 }
 
-/// Where no value is above the last bit's number, a scan that read 0 in all bits below the last does
-/// not read 0 in it.
+/// Where, moreover, no value is above the last bit's number, a scan that read 0 in all bits below the last
+/// does not read 0 in it.
 pub fn unary_has_one()
     ensures { UnaryHasOne }
 {
@@ -45,9 +46,11 @@ pub fn writes_are_made()
     ensures bits { BitWritesAreMade }
 {}
 
-/// The accesses of word writes, unary writes and logical writes have these writes and no others.
+/// The accesses of word writes, unary writes and logical writes have these writes and no others; those of
+/// two lists, one after the other, have those of the one and then of the other.
 pub fn phrases_write()
     ensures words { WordsWrite }
     ensures counts { CountsWrite }
     ensures bits { BitsWrite }
+    ensures parts { PartsWrite }
 {}

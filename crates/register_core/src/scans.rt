@@ -79,7 +79,8 @@ impl UnaryScan {
         if self.found { Some(self.zeros) } else { None }
     }
 
-    /// Whether the last bit of the row is due. In a lawful history it answers 1, as all others answered 0.
+    /// Whether the last bit of the count is due. Where the count is written by unary writes of values below
+    /// the modulus it answers 1, as all others answered 0 (law `unary_has_one`).
     pub fn expects_one(&self) -> bool
         ensures { IsTrue result ↔ LastIsDue self.now }
     {
