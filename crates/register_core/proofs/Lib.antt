@@ -21,3 +21,4 @@ pub mod UnaryMoments
 pub mod Counts
 pub mod UnaryLaw
 pub mod MadeWrites
+pub mod MadeReads

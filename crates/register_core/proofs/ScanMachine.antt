@@ -4,7 +4,7 @@ use Rattle.bits_core.specs.declared.events.Bit.{Bit}
 use Rattle.bits_core.specs.Made.{Made, Read}
 use Rattle.register_core.specs.ScanState.{zero_reads, BeginsScan}
 
-length-zeros : (row : ℕ → Bit) (n : ℕ) → length (zero_reads row n) ≡ n
+pub length-zeros : (row : ℕ → Bit) (n : ℕ) → length (zero_reads row n) ≡ n
 length-zeros row zero = refl
 length-zeros row (suc n) = omega (arith, length-append (zero_reads row n) (Read (row n) false ∷ []), length-zeros row n)
 

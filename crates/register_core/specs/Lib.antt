@@ -11,3 +11,4 @@ pub mod UnaryState
 pub mod UnaryMoments
 pub mod UnaryLaw
 pub mod MadeWrites
+pub mod MadeReads

@@ -1,10 +1,13 @@
 //! What reads of registers can answer in a lawful history, whatever overlapped safe bits answer.
 ghost use Rattle.register_core.specs.BitLaw.{BitIsRegular};
 ghost use Rattle.register_core.specs.MadeWrites.{CellWritesAreMade, CountWritesAreMade, BitWritesAreMade, WordsWrite, CountsWrite, PartsWrite, BitsWrite};
+ghost use Rattle.register_core.specs.MadeReads.{ScansAreMade, ZerosAreMade, WordReadsAreMade};
 ghost use Rattle.register_core.specs.UnaryLaw.{UnaryIsRegular, UnaryHasOne};
 ghost use Rattle.register_core.specs.WordLaw.{WordIsSafe};
 
-use bits_core::laws::held_is_by_interval;
+use bits_core::laws::{
+    clock_counts_places, held_is_by_interval, made_is_access, own_has_one_place, own_has_place,
+};
 
 /// A bit whose writer makes logical writes is regular.
 pub fn bit_is_regular()
@@ -54,3 +57,16 @@ pub fn phrases_write()
     ensures bits { BitsWrite }
     ensures parts { PartsWrite }
 {}
+
+/// Where a side's own events are a beginning of the events of accesses, the scans and the word reads among
+/// these that have ended are scans and word reads of the history.
+pub fn reads_are_made()
+    ensures scans { ScansAreMade }
+    ensures zeros { ZerosAreMade }
+    ensures words { WordReadsAreMade }
+{
+    made_is_access();
+    own_has_place();
+    own_has_one_place();
+    clock_counts_places();
+}
