@@ -1,6 +1,6 @@
 -- Items in cells: one bit for each binary digit, the lowest being number 0. A word write writes every digit and a word
 -- read reads every digit, from the lowest upwards.
-use Rattle.std.specs.Prelude.{ℕ, zero, suc, ◌==◌, Bool, List, [], ◌∷◌, ◌++◌}
+use Rattle.std.specs.Prelude.{◌≡◌, ℕ, zero, suc, ◌^◌, ◌<◌, ◌==◌, Bool, List, [], ◌∷◌, ◌++◌}
 use Rattle.std.specs.Int.{bit_at}
 use Rattle.bits_core.specs.declared.events.Bit.TheVariants.{Cell}
 use Rattle.bits_core.specs.Made.{Made, Read}
@@ -32,3 +32,7 @@ digit_reads cell item (suc n) = digit_reads cell item n ++ Read (Cell cell n) (d
 -- the accesses of a word read of a cell that gives an item
 abbrev pub word_read : ℕ → ℕ → ℕ → List Made
 word_read width cell item = digit_reads cell item width
+
+-- items of a width are told apart by their digits
+abbrev pub DigitsTellItems : Type 0
+DigitsTellItems = (width a b : ℕ) → a < 2 ^ width → b < 2 ^ width → ((i : ℕ) → i < width → digit i a ≡ digit i b) → a ≡ b

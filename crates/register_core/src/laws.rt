@@ -3,6 +3,7 @@ ghost use Rattle.register_core.specs.BitLaw.{BitIsRegular};
 ghost use Rattle.register_core.specs.MadeWrites.{CellWritesAreMade, CountWritesAreMade, BitWritesAreMade, WordsWrite, CountsWrite, PartsWrite, BitsWrite};
 ghost use Rattle.register_core.specs.MadeReads.{ScansAreMade, ZerosAreMade, WordReadsAreMade};
 ghost use Rattle.register_core.specs.UnaryLaw.{UnaryIsRegular, UnaryHasOne};
+ghost use Rattle.register_core.specs.Word.{DigitsTellItems};
 ghost use Rattle.register_core.specs.WordLaw.{WordIsSafe};
 
 use bits_core::laws::{
@@ -70,3 +71,8 @@ pub fn reads_are_made()
     own_has_one_place();
     clock_counts_places();
 }
+
+/// Items of a width are told apart by their digits.
+pub fn digits_tell_items()
+    ensures { DigitsTellItems }
+{}

@@ -58,6 +58,18 @@ fn write_count(rt: &impl Abort, writer: &mut UnaryWriter, value: u64)
     }
 }
 
+// A new row is written 2 and then 0.
+fn write_2_and_0(rt: &impl Abort, writer: &mut UnaryWriter)
+    requires { 2 < writer.old.modulus }
+    ensures { writer.new.modulus ≡ writer.old.modulus }
+{
+    write_count(rt, writer, 2);
+    expect_bit(rt, writer, Bit::S(2), true);
+    expect_bit(rt, writer, Bit::S(0), false);
+    write_count(rt, writer, 0);
+    expect_bit(rt, writer, Bit::S(0), true);
+}
+
 #[test]
 fn writes_digits_upwards(rt: HostRuntime) -> Result<(), Fail> {
     let shape = Shape::new(1, 3, 3)?;
@@ -107,11 +119,7 @@ fn an_unchanged_write_has_no_access(rt: HostRuntime) {
 fn sets_and_then_clears_downwards(rt: HostRuntime) -> Result<(), Fail> {
     let shape = Shape::new(1, 3, 1)?;
     let mut writer = UnaryWriter::new(&shape, Side::P);
-    write_count(&rt, &mut writer, 2);
-    expect_bit(&rt, &mut writer, Bit::S(2), true);
-    expect_bit(&rt, &mut writer, Bit::S(0), false);
-    write_count(&rt, &mut writer, 0);
-    expect_bit(&rt, &mut writer, Bit::S(0), true);
+    write_2_and_0(&rt, &mut writer);
     write_count(&rt, &mut writer, 2);
     expect_bit(&rt, &mut writer, Bit::S(0), false);
     write_count(&rt, &mut writer, 1);
@@ -124,11 +132,7 @@ fn sets_and_then_clears_downwards(rt: HostRuntime) -> Result<(), Fail> {
 fn writes_each_value_over_what_the_last_ones_left(rt: HostRuntime) -> Result<(), Fail> {
     let shape = Shape::new(2, 4, 1)?;
     let mut writer = UnaryWriter::new(&shape, Side::P);
-    write_count(&rt, &mut writer, 2);
-    expect_bit(&rt, &mut writer, Bit::S(2), true);
-    expect_bit(&rt, &mut writer, Bit::S(0), false);
-    write_count(&rt, &mut writer, 0);
-    expect_bit(&rt, &mut writer, Bit::S(0), true);
+    write_2_and_0(&rt, &mut writer);
     write_count(&rt, &mut writer, 1);
     expect_bit(&rt, &mut writer, Bit::S(1), true);
     expect_bit(&rt, &mut writer, Bit::S(0), false);

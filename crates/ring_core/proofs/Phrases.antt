@@ -1,6 +1,5 @@
 -- Lists of accesses that begin with phrases: the phrase and what follows it are read off the list.
-use Rattle.std.proofs.Common.{◌≡◌, ℕ, zero, suc, ◌/◌, ◌%◌, ◌^◌, ◌<◌, ◌==◌, Bool, true, false, List, [], ◌∷◌, ◌++◌, length, refl, sym, ap, ◌∙◌, arith, ◌⊎◌, inl, inr, length-append, append_assoc, pow-suc}
-use Rattle.std.proofs.lemmas.Nat.Bits.{bit_at_lowest, bit_at-suc}
+use Rattle.std.proofs.Common.{◌≡◌, ℕ, zero, suc, ◌^◌, ◌<◌, Bool, true, false, List, [], ◌∷◌, ◌++◌, length, refl, sym, ap, ◌∙◌, arith, ◌⊎◌, inl, inr, length-append, append_assoc}
 use Rattle.bits_core.specs.declared.events.Side.{Side}
 use Rattle.bits_core.specs.declared.events.Act.TheVariants.{ReadBegin, ReadEnd, WriteBegin}
 use Rattle.bits_core.specs.declared.events.Bit.{Bit}
@@ -8,7 +7,7 @@ use Rattle.bits_core.specs.declared.events.Bit.TheVariants.{Cell}
 use Rattle.bits_core.specs.declared.events.Event.{Event}
 use Rattle.bits_core.specs.Made.{Made, Read, Write, begin_event, end_event, events_of}
 use Rattle.register_core.specs.Row.{RowWrite, writes_in}
-use Rattle.register_core.specs.Word.{digit, digit_writes, digit_reads, word_write, word_read}
+use Rattle.register_core.specs.Word.{digit, digit_writes, digit_reads, word_write, word_read, DigitsTellItems}
 use Rattle.register_core.specs.ScanState.{zero_reads, scan_phrase}
 
 -- ---- calls one after the other
@@ -47,62 +46,41 @@ same_accesses s (x ∷ xs) (y ∷ ys) e =
 -- ---- scans
 
 -- a scan from its first read on
-zero_reads-front : (row : ℕ → Bit) (n : ℕ) → zero_reads row (suc n) ≡ Read (row 0) false ∷ zero_reads (λ i. row (suc i)) n
-zero_reads-front row zero = refl
-zero_reads-front row (suc n) = ap (λ l. l ++ Read (row (suc n)) false ∷ []) (zero_reads-front row n)
+zero_reads-front : (bit_of : ℕ → Bit) (n : ℕ) → zero_reads bit_of (suc n) ≡ Read (bit_of 0) false ∷ zero_reads (λ i. bit_of (suc i)) n
+zero_reads-front bit_of zero = refl
+zero_reads-front bit_of (suc n) = ap (λ l. l ++ Read (bit_of (suc n)) false ∷ []) (zero_reads-front bit_of n)
 
-scan-front : (row : ℕ → Bit) (c : ℕ) → scan_phrase row (suc c) ≡ Read (row 0) false ∷ scan_phrase (λ i. row (suc i)) c
-scan-front row c = ap (λ l. l ++ Read (row (suc c)) true ∷ []) (zero_reads-front row c)
+scan-front : (bit_of : ℕ → Bit) (c : ℕ) → scan_phrase bit_of (suc c) ≡ Read (bit_of 0) false ∷ scan_phrase (λ i. bit_of (suc i)) c
+scan-front bit_of c = ap (λ l. l ++ Read (bit_of (suc c)) true ∷ []) (zero_reads-front bit_of c)
 
 -- a scan begins with a read of bit 0
-pub scan_begins : (row : ℕ → Bit) (c : ℕ) (xs : List Made) → (v : Bool) × (rest : List Made) × (scan_phrase row c ++ xs ≡ Read (row 0) v ∷ rest)
-scan_begins row zero xs = (true, xs, refl)
-scan_begins row (suc c) xs = (false, scan_phrase (λ i. row (suc i)) c ++ xs, ap (λ l. l ++ xs) (scan-front row c))
+pub scan_begins : (bit_of : ℕ → Bit) (c : ℕ) (xs : List Made) → (v : Bool) × (rest : List Made) × (scan_phrase bit_of c ++ xs ≡ Read (bit_of 0) v ∷ rest)
+scan_begins bit_of zero xs = (true, xs, refl)
+scan_begins bit_of (suc c) xs = (false, scan_phrase (λ i. bit_of (suc i)) c ++ xs, ap (λ l. l ++ xs) (scan-front bit_of c))
 
-pub same_scan : (row : ℕ → Bit) (a b : ℕ) (xs ys : List Made) → scan_phrase row a ++ xs ≡ scan_phrase row b ++ ys → (a ≡ b) × (xs ≡ ys)
-same_scan row zero zero xs ys e = (refl, cc)
-same_scan row zero (suc b) xs ys e =
-    let f : Read (row 0) true ∷ xs ≡ Read (row 0) false ∷ (scan_phrase (λ i. row (suc i)) b ++ ys) = e ∙ ap (λ l. l ++ ys) (scan-front row b) in
+pub same_scan : (bit_of : ℕ → Bit) (a b : ℕ) (xs ys : List Made) → scan_phrase bit_of a ++ xs ≡ scan_phrase bit_of b ++ ys → (a ≡ b) × (xs ≡ ys)
+same_scan bit_of zero zero xs ys e = (refl, cc)
+same_scan bit_of zero (suc b) xs ys e =
+    let f : Read (bit_of 0) true ∷ xs ≡ Read (bit_of 0) false ∷ (scan_phrase (λ i. bit_of (suc i)) b ++ ys) = e ∙ ap (λ l. l ++ ys) (scan-front bit_of b) in
     absurd (cc)
-same_scan row (suc a) zero xs ys e =
-    let f : Read (row 0) false ∷ (scan_phrase (λ i. row (suc i)) a ++ xs) ≡ Read (row 0) true ∷ ys = sym (ap (λ l. l ++ xs) (scan-front row a)) ∙ e in
+same_scan bit_of (suc a) zero xs ys e =
+    let f : Read (bit_of 0) false ∷ (scan_phrase (λ i. bit_of (suc i)) a ++ xs) ≡ Read (bit_of 0) true ∷ ys = sym (ap (λ l. l ++ xs) (scan-front bit_of a)) ∙ e in
     absurd (cc)
-same_scan row (suc a) (suc b) xs ys e =
-    let f : Read (row 0) false ∷ (scan_phrase (λ i. row (suc i)) a ++ xs) ≡ Read (row 0) false ∷ (scan_phrase (λ i. row (suc i)) b ++ ys) =
-    sym (ap (λ l. l ++ xs) (scan-front row a)) ∙ e ∙ ap (λ l. l ++ ys) (scan-front row b) in
-    let g : scan_phrase (λ i. row (suc i)) a ++ xs ≡ scan_phrase (λ i. row (suc i)) b ++ ys = cc in
-    let rest : (a ≡ b) × (xs ≡ ys) = same_scan (λ i. row (suc i)) a b xs ys g in
+same_scan bit_of (suc a) (suc b) xs ys e =
+    let f : Read (bit_of 0) false ∷ (scan_phrase (λ i. bit_of (suc i)) a ++ xs) ≡ Read (bit_of 0) false ∷ (scan_phrase (λ i. bit_of (suc i)) b ++ ys) =
+    sym (ap (λ l. l ++ xs) (scan-front bit_of a)) ∙ e ∙ ap (λ l. l ++ ys) (scan-front bit_of b) in
+    let g : scan_phrase (λ i. bit_of (suc i)) a ++ xs ≡ scan_phrase (λ i. bit_of (suc i)) b ++ ys = cc in
+    let rest : (a ≡ b) × (xs ≡ ys) = same_scan (λ i. bit_of (suc i)) a b xs ys g in
     (ap suc rest.0, rest.1)
 
 -- a scan is not nothing
-pub no_scan : (row : ℕ → Bit) (c : ℕ) (xs : List Made) → [] ≡ scan_phrase row c ++ xs → ⊥
-no_scan row c xs e =
-    let begins : (v : Bool) × (rest : List Made) × (scan_phrase row c ++ xs ≡ Read (row 0) v ∷ rest) = scan_begins row c xs in
-    let clash : [] ≡ Read (row 0) begins.0 ∷ begins.1 = e ∙ begins.2 in
+pub no_scan : (bit_of : ℕ → Bit) (c : ℕ) (xs : List Made) → [] ≡ scan_phrase bit_of c ++ xs → ⊥
+no_scan bit_of c xs e =
+    let begins : (v : Bool) × (rest : List Made) × (scan_phrase bit_of c ++ xs ≡ Read (bit_of 0) v ∷ rest) = scan_begins bit_of c xs in
+    let clash : [] ≡ Read (bit_of 0) begins.0 ∷ begins.1 = e ∙ begins.2 in
     absurd (cc)
 
 -- ---- words
-
-digit-half : (i item : ℕ) → digit i (item / 2) ≡ digit (suc i) item
-digit-half i item = ap (λ x. x == 1) (sym (bit_at-suc item i))
-
-same_low : (x y : ℕ) → x < 2 → y < 2 → (x == 1) ≡ (y == 1) → x ≡ y
-same_low zero zero l m e = refl
-same_low (suc zero) (suc zero) l m e = refl
-same_low zero (suc zero) l m e = absurd (cc)
-same_low (suc zero) zero l m e = absurd (cc)
-same_low (suc (suc x)) y l m e = absurd (omega arith)
-same_low x (suc (suc y)) l m e = absurd (omega arith)
-
--- items of a width are told apart by their digits
-same_item : (width a b : ℕ) → a < 2 ^ width → b < 2 ^ width → ((i : ℕ) → i < width → digit i a ≡ digit i b) → a ≡ b
-same_item zero a b l m same = omega arith
-same_item (suc width) a b l m same =
-    let high : a / 2 ≡ b / 2 =
-    same_item width (a / 2) (b / 2) (omega (arith, pow-suc 2 width)) (omega (arith, pow-suc 2 width)) (λ i k. digit-half i a ∙ same (suc i) (omega arith) ∙ sym (digit-half i b)) in
-    let lowest : (a % 2 == 1) ≡ (b % 2 == 1) = sym (ap (λ x. x == 1) (bit_at_lowest a)) ∙ same 0 (omega arith) ∙ ap (λ x. x == 1) (bit_at_lowest b) in
-    let low : a % 2 ≡ b % 2 = same_low (a % 2) (b % 2) (omega arith) (omega arith) lowest in
-    omega arith
 
 -- beginnings of one length
 same_parts : {A : Type 0} → (us vs xs ys : List A) → length us ≡ length vs → us ++ xs ≡ vs ++ ys → (us ≡ vs) × (xs ≡ ys)
@@ -138,9 +116,9 @@ digits_read cell (suc n) a b e i l =
     ]
 
 pub same_word_read :
-    (width cell a b : ℕ) (xs ys : List Made) → a < 2 ^ width → b < 2 ^ width →
+    DigitsTellItems → (width cell a b : ℕ) (xs ys : List Made) → a < 2 ^ width → b < 2 ^ width →
     word_read width cell a ++ xs ≡ word_read width cell b ++ ys → (a ≡ b) × (xs ≡ ys)
-same_word_read width cell a b xs ys l m e =
+same_word_read same_item width cell a b xs ys l m e =
     let parts : (digit_reads cell a width ≡ digit_reads cell b width) × (xs ≡ ys) =
     same_parts (digit_reads cell a width) (digit_reads cell b width) xs ys (length-digit_reads cell a width ∙ sym (length-digit_reads cell b width)) e in
     (same_item width a b l m (digits_read cell width a b parts.0), parts.1)
@@ -179,9 +157,9 @@ digits_written (suc n) a b e i l =
     ]
 
 pub same_word_write :
-    (width cell a b : ℕ) (xs ys : List Made) → a < 2 ^ width → b < 2 ^ width →
+    DigitsTellItems → (width cell a b : ℕ) (xs ys : List Made) → a < 2 ^ width → b < 2 ^ width →
     word_write width cell a ++ xs ≡ word_write width cell b ++ ys → (a ≡ b) × (xs ≡ ys)
-same_word_write width cell a b xs ys l m e =
+same_word_write same_item width cell a b xs ys l m e =
     let parts : (digit_writes a width ≡ digit_writes b width) × (xs ≡ ys) =
     same_writes cell (digit_writes a width) (digit_writes b width) xs ys (length-digit_writes a width ∙ sym (length-digit_writes b width)) e in
     (same_item width a b l m (digits_written width a b parts.0), parts.1)

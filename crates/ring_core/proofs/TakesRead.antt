@@ -6,7 +6,7 @@ use Rattle.bits_core.specs.declared.events.Bit.TheVariants.{X}
 use Rattle.bits_core.specs.declared.shapes.Shape.{Shape}
 use Rattle.bits_core.specs.Shape.{capacity_of, modulus_of, width_of}
 use Rattle.bits_core.specs.Made.{Made, Read}
-use Rattle.register_core.specs.Word.{word_read}
+use Rattle.register_core.specs.Word.{word_read, DigitsTellItems}
 use Rattle.register_core.specs.ScanState.{scan_phrase, row_read_by}
 use Rattle.ring_core.specs.Counts.{ShowsItem, count_phrase}
 use Rattle.ring_core.specs.Takes.{Take, Takes, End, Item, ItemAfterClose, Empty, Open, Closed, item_phrase, take_phrases, end_phrase, take_program, SeesItem, SeesNone, AreTakes}
@@ -66,98 +66,99 @@ after_or_closed :
     scan c ++ (Read X true ∷ (scan d ++ xs)) ≡ scan c' ++ (Read X true ∷ (scan d' ++ ys)) → ⊥
 after_or_closed shape k c d c' d' xs ys sees none e = item_or_none shape k d d' xs ys sees none (same_twice c d c' d' xs ys e).1
 
-same_item_phrase :
-    (shape : Shape) (k i j : ℕ) (xs ys : List Made) → i < 2 ^ width_of shape → j < 2 ^ width_of shape →
-    item_phrase shape k i ++ xs ≡ item_phrase shape k j ++ ys → (i ≡ j) × (xs ≡ ys)
-same_item_phrase shape k i j xs ys fits fits' e =
-    let word : ℕ → List Made = word_read (width_of shape) (k % capacity_of shape) in
-    let count : List Made = count_phrase shape C k in
-    let words : (i ≡ j) × (count ++ xs ≡ count ++ ys) =
-    same_word_read (width_of shape) (k % capacity_of shape) i j (count ++ xs) (count ++ ys) fits fits' (sym (append_assoc (word i) count xs) ∙ e ∙ append_assoc (word j) count ys) in
-    (words.0, append_cancel_left count xs ys words.1)
+module _ (tell : DigitsTellItems) where
+  same_item_phrase :
+      (shape : Shape) (k i j : ℕ) (xs ys : List Made) → i < 2 ^ width_of shape → j < 2 ^ width_of shape →
+      item_phrase shape k i ++ xs ≡ item_phrase shape k j ++ ys → (i ≡ j) × (xs ≡ ys)
+  same_item_phrase shape k i j xs ys fits fits' e =
+      let word : ℕ → List Made = word_read (width_of shape) (k % capacity_of shape) in
+      let count : List Made = count_phrase shape C k in
+      let words : (i ≡ j) × (count ++ xs ≡ count ++ ys) =
+      same_word_read tell (width_of shape) (k % capacity_of shape) i j (count ++ xs) (count ++ ys) fits fits' (sym (append_assoc (word i) count xs) ∙ e ∙ append_assoc (word j) count ys) in
+      (words.0, append_cancel_left count xs ys words.1)
 
-same_takes :
-    (shape : Shape) (k : ℕ) (xs ys : List Take) (a b : End) → AreTakes shape k xs a → AreTakes shape k ys b →
-    calls_from shape k xs a ≡ calls_from shape k ys b → (xs ≡ ys) × (a ≡ b)
-same_takes shape k [] [] Open Open p q e = (refl, refl)
-same_takes shape k [] [] Open (Closed d d') p q e = absurd (no_scan (row_read_by C) d _ (e ∙ closed_first shape k d d'))
-same_takes shape k [] (Item d j ∷ ys) Open b p q e = absurd (no_scan (row_read_by C) d _ (e ∙ item_first shape k d j ys b))
-same_takes shape k [] (ItemAfterClose d d' j ∷ ys) Open b p q e = absurd (no_scan (row_read_by C) d _ (e ∙ after_first shape k d d' j ys b))
-same_takes shape k [] (Empty d ∷ ys) Open b p q e = absurd (no_scan (row_read_by C) d _ (e ∙ empty_first shape k d ys b))
-same_takes shape k [] [] (Closed c c') Open p q e = absurd (no_scan (row_read_by C) c _ (sym e ∙ closed_first shape k c c'))
-same_takes shape k (Item c i ∷ xs) [] a Open p q e = absurd (no_scan (row_read_by C) c _ (sym e ∙ item_first shape k c i xs a))
-same_takes shape k (ItemAfterClose c c' i ∷ xs) [] a Open p q e = absurd (no_scan (row_read_by C) c _ (sym e ∙ after_first shape k c c' i xs a))
-same_takes shape k (Empty c ∷ xs) [] a Open p q e = absurd (no_scan (row_read_by C) c _ (sym e ∙ empty_first shape k c xs a))
-same_takes shape k [] [] (Closed c c') (Closed d d') p q e =
-    let twice : (c ≡ d) × (scan c' ++ [] ≡ scan d' ++ []) = same_twice c c' d d' [] [] (sym (closed_first shape k c c') ∙ e ∙ closed_first shape k d d') in
-    let first : c ≡ d = twice.0 in
-    let second : c' ≡ d' = (same_scan (row_read_by C) c' d' [] [] twice.1).0 in
-    (refl, cc)
-same_takes shape k [] (Item d j ∷ ys) (Closed c c') b (none, none') ((sees, fits), q) e =
-    absurd (item_or_none shape k d c _ _ sees none (sym (item_first shape k d j ys b) ∙ sym e ∙ closed_first shape k c c'))
-same_takes shape k [] (ItemAfterClose d d' j ∷ ys) (Closed c c') b (none, none') ((other, sees, fits), q) e =
-    absurd (after_or_closed shape k d d' c c' _ _ sees none' (sym (after_first shape k d d' j ys b) ∙ sym e ∙ closed_first shape k c c'))
-same_takes shape k [] (Empty d ∷ ys) (Closed c c') b p q e =
-    absurd (open_or_closed d c _ _ (sym (empty_first shape k d ys b) ∙ sym e ∙ closed_first shape k c c'))
-same_takes shape k (Item c i ∷ xs) [] a (Closed d d') ((sees, fits), p) (none, none') e =
-    absurd (item_or_none shape k c d _ _ sees none (sym (item_first shape k c i xs a) ∙ e ∙ closed_first shape k d d'))
-same_takes shape k (ItemAfterClose c c' i ∷ xs) [] a (Closed d d') ((other, sees, fits), p) (none, none') e =
-    absurd (after_or_closed shape k c c' d d' _ _ sees none' (sym (after_first shape k c c' i xs a) ∙ e ∙ closed_first shape k d d'))
-same_takes shape k (Empty c ∷ xs) [] a (Closed d d') p q e =
-    absurd (open_or_closed c d _ _ (sym (empty_first shape k c xs a) ∙ e ∙ closed_first shape k d d'))
-same_takes shape k (Item c i ∷ xs) (ItemAfterClose d d' j ∷ ys) a b ((sees, fits), p) ((none, sees', fits'), q) e =
-    absurd (item_or_none shape k c d _ _ sees none (sym (item_first shape k c i xs a) ∙ e ∙ after_first shape k d d' j ys b))
-same_takes shape k (Item c i ∷ xs) (Empty d ∷ ys) a b ((sees, fits), p) (none, q) e =
-    absurd (item_or_none shape k c d _ _ sees none (sym (item_first shape k c i xs a) ∙ e ∙ empty_first shape k d ys b))
-same_takes shape k (ItemAfterClose c c' i ∷ xs) (Item d j ∷ ys) a b ((none, sees', fits'), p) ((sees, fits), q) e =
-    absurd (item_or_none shape k d c _ _ sees none (sym (item_first shape k d j ys b) ∙ sym e ∙ after_first shape k c c' i xs a))
-same_takes shape k (ItemAfterClose c c' i ∷ xs) (Empty d ∷ ys) a b p q e =
-    absurd (open_or_closed d c _ _ (sym (empty_first shape k d ys b) ∙ sym e ∙ after_first shape k c c' i xs a))
-same_takes shape k (Empty c ∷ xs) (Item d j ∷ ys) a b (none, p) ((sees, fits), q) e =
-    absurd (item_or_none shape k d c _ _ sees none (sym (item_first shape k d j ys b) ∙ sym e ∙ empty_first shape k c xs a))
-same_takes shape k (Empty c ∷ xs) (ItemAfterClose d d' j ∷ ys) a b p q e =
-    absurd (open_or_closed c d _ _ (sym (empty_first shape k c xs a) ∙ e ∙ after_first shape k d d' j ys b))
-same_takes shape k (Item c i ∷ xs) (Item d j ∷ ys) a b ((sees, fits), p) ((sees', fits'), q) e =
-    let left : List Made = calls_from shape (suc k) xs a in
-    let right : List Made = calls_from shape (suc k) ys b in
-    let scans : (c ≡ d) × (item_phrase shape k i ++ left ≡ item_phrase shape k j ++ right) =
-    same_scan (row_read_by C) c d _ _ (sym (item_first shape k c i xs a) ∙ e ∙ item_first shape k d j ys b) in
-    let items : (i ≡ j) × (left ≡ right) = same_item_phrase shape k i j left right fits fits' scans.1 in
-    let rest : (xs ≡ ys) × (a ≡ b) = same_takes shape (suc k) xs ys a b p q items.1 in
-    let seen : c ≡ d = scans.0 in
-    let item : i ≡ j = items.0 in
-    let more : xs ≡ ys = rest.0 in
-    (cc, rest.1)
-same_takes shape k (ItemAfterClose c c' i ∷ xs) (ItemAfterClose d d' j ∷ ys) a b ((none, sees, fits), p) ((none', sees', fits'), q) e =
-    let left : List Made = calls_from shape (suc k) xs a in
-    let right : List Made = calls_from shape (suc k) ys b in
-    let twice : (c ≡ d) × (scan c' ++ (item_phrase shape k i ++ left) ≡ scan d' ++ (item_phrase shape k j ++ right)) =
-    same_twice c c' d d' _ _ (sym (after_first shape k c c' i xs a) ∙ e ∙ after_first shape k d d' j ys b) in
-    let scans : (c' ≡ d') × (item_phrase shape k i ++ left ≡ item_phrase shape k j ++ right) = same_scan (row_read_by C) c' d' _ _ twice.1 in
-    let items : (i ≡ j) × (left ≡ right) = same_item_phrase shape k i j left right fits fits' scans.1 in
-    let rest : (xs ≡ ys) × (a ≡ b) = same_takes shape (suc k) xs ys a b p q items.1 in
-    let seen : c ≡ d = twice.0 in
-    let again : c' ≡ d' = scans.0 in
-    let item : i ≡ j = items.0 in
-    let more : xs ≡ ys = rest.0 in
-    (cc, rest.1)
-same_takes shape k (Empty c ∷ xs) (Empty d ∷ ys) a b (none, p) (none', q) e =
-    let left : List Made = calls_from shape k xs a in
-    let right : List Made = calls_from shape k ys b in
-    let scans : (c ≡ d) × (Read X false ∷ left ≡ Read X false ∷ right) =
-    same_scan (row_read_by C) c d _ _ (sym (empty_first shape k c xs a) ∙ e ∙ empty_first shape k d ys b) in
-    let same : Read X false ∷ left ≡ Read X false ∷ right = scans.1 in
-    let tail : left ≡ right = cc in
-    let rest : (xs ≡ ys) × (a ≡ b) = same_takes shape k xs ys a b p q tail in
-    let seen : c ≡ d = scans.0 in
-    let more : xs ≡ ys = rest.0 in
-    (cc, rest.1)
+  same_takes :
+      (shape : Shape) (k : ℕ) (xs ys : List Take) (a b : End) → AreTakes shape k xs a → AreTakes shape k ys b →
+      calls_from shape k xs a ≡ calls_from shape k ys b → (xs ≡ ys) × (a ≡ b)
+  same_takes shape k [] [] Open Open p q e = (refl, refl)
+  same_takes shape k [] [] Open (Closed d d') p q e = absurd (no_scan (row_read_by C) d _ (e ∙ closed_first shape k d d'))
+  same_takes shape k [] (Item d j ∷ ys) Open b p q e = absurd (no_scan (row_read_by C) d _ (e ∙ item_first shape k d j ys b))
+  same_takes shape k [] (ItemAfterClose d d' j ∷ ys) Open b p q e = absurd (no_scan (row_read_by C) d _ (e ∙ after_first shape k d d' j ys b))
+  same_takes shape k [] (Empty d ∷ ys) Open b p q e = absurd (no_scan (row_read_by C) d _ (e ∙ empty_first shape k d ys b))
+  same_takes shape k [] [] (Closed c c') Open p q e = absurd (no_scan (row_read_by C) c _ (sym e ∙ closed_first shape k c c'))
+  same_takes shape k (Item c i ∷ xs) [] a Open p q e = absurd (no_scan (row_read_by C) c _ (sym e ∙ item_first shape k c i xs a))
+  same_takes shape k (ItemAfterClose c c' i ∷ xs) [] a Open p q e = absurd (no_scan (row_read_by C) c _ (sym e ∙ after_first shape k c c' i xs a))
+  same_takes shape k (Empty c ∷ xs) [] a Open p q e = absurd (no_scan (row_read_by C) c _ (sym e ∙ empty_first shape k c xs a))
+  same_takes shape k [] [] (Closed c c') (Closed d d') p q e =
+      let twice : (c ≡ d) × (scan c' ++ [] ≡ scan d' ++ []) = same_twice c c' d d' [] [] (sym (closed_first shape k c c') ∙ e ∙ closed_first shape k d d') in
+      let first : c ≡ d = twice.0 in
+      let second : c' ≡ d' = (same_scan (row_read_by C) c' d' [] [] twice.1).0 in
+      (refl, cc)
+  same_takes shape k [] (Item d j ∷ ys) (Closed c c') b (none, none') ((sees, fits), q) e =
+      absurd (item_or_none shape k d c _ _ sees none (sym (item_first shape k d j ys b) ∙ sym e ∙ closed_first shape k c c'))
+  same_takes shape k [] (ItemAfterClose d d' j ∷ ys) (Closed c c') b (none, none') ((other, sees, fits), q) e =
+      absurd (after_or_closed shape k d d' c c' _ _ sees none' (sym (after_first shape k d d' j ys b) ∙ sym e ∙ closed_first shape k c c'))
+  same_takes shape k [] (Empty d ∷ ys) (Closed c c') b p q e =
+      absurd (open_or_closed d c _ _ (sym (empty_first shape k d ys b) ∙ sym e ∙ closed_first shape k c c'))
+  same_takes shape k (Item c i ∷ xs) [] a (Closed d d') ((sees, fits), p) (none, none') e =
+      absurd (item_or_none shape k c d _ _ sees none (sym (item_first shape k c i xs a) ∙ e ∙ closed_first shape k d d'))
+  same_takes shape k (ItemAfterClose c c' i ∷ xs) [] a (Closed d d') ((other, sees, fits), p) (none, none') e =
+      absurd (after_or_closed shape k c c' d d' _ _ sees none' (sym (after_first shape k c c' i xs a) ∙ e ∙ closed_first shape k d d'))
+  same_takes shape k (Empty c ∷ xs) [] a (Closed d d') p q e =
+      absurd (open_or_closed c d _ _ (sym (empty_first shape k c xs a) ∙ e ∙ closed_first shape k d d'))
+  same_takes shape k (Item c i ∷ xs) (ItemAfterClose d d' j ∷ ys) a b ((sees, fits), p) ((none, sees', fits'), q) e =
+      absurd (item_or_none shape k c d _ _ sees none (sym (item_first shape k c i xs a) ∙ e ∙ after_first shape k d d' j ys b))
+  same_takes shape k (Item c i ∷ xs) (Empty d ∷ ys) a b ((sees, fits), p) (none, q) e =
+      absurd (item_or_none shape k c d _ _ sees none (sym (item_first shape k c i xs a) ∙ e ∙ empty_first shape k d ys b))
+  same_takes shape k (ItemAfterClose c c' i ∷ xs) (Item d j ∷ ys) a b ((none, sees', fits'), p) ((sees, fits), q) e =
+      absurd (item_or_none shape k d c _ _ sees none (sym (item_first shape k d j ys b) ∙ sym e ∙ after_first shape k c c' i xs a))
+  same_takes shape k (ItemAfterClose c c' i ∷ xs) (Empty d ∷ ys) a b p q e =
+      absurd (open_or_closed d c _ _ (sym (empty_first shape k d ys b) ∙ sym e ∙ after_first shape k c c' i xs a))
+  same_takes shape k (Empty c ∷ xs) (Item d j ∷ ys) a b (none, p) ((sees, fits), q) e =
+      absurd (item_or_none shape k d c _ _ sees none (sym (item_first shape k d j ys b) ∙ sym e ∙ empty_first shape k c xs a))
+  same_takes shape k (Empty c ∷ xs) (ItemAfterClose d d' j ∷ ys) a b p q e =
+      absurd (open_or_closed c d _ _ (sym (empty_first shape k c xs a) ∙ e ∙ after_first shape k d d' j ys b))
+  same_takes shape k (Item c i ∷ xs) (Item d j ∷ ys) a b ((sees, fits), p) ((sees', fits'), q) e =
+      let left : List Made = calls_from shape (suc k) xs a in
+      let right : List Made = calls_from shape (suc k) ys b in
+      let scans : (c ≡ d) × (item_phrase shape k i ++ left ≡ item_phrase shape k j ++ right) =
+      same_scan (row_read_by C) c d _ _ (sym (item_first shape k c i xs a) ∙ e ∙ item_first shape k d j ys b) in
+      let items : (i ≡ j) × (left ≡ right) = same_item_phrase shape k i j left right fits fits' scans.1 in
+      let rest : (xs ≡ ys) × (a ≡ b) = same_takes shape (suc k) xs ys a b p q items.1 in
+      let seen : c ≡ d = scans.0 in
+      let item : i ≡ j = items.0 in
+      let more : xs ≡ ys = rest.0 in
+      (cc, rest.1)
+  same_takes shape k (ItemAfterClose c c' i ∷ xs) (ItemAfterClose d d' j ∷ ys) a b ((none, sees, fits), p) ((none', sees', fits'), q) e =
+      let left : List Made = calls_from shape (suc k) xs a in
+      let right : List Made = calls_from shape (suc k) ys b in
+      let twice : (c ≡ d) × (scan c' ++ (item_phrase shape k i ++ left) ≡ scan d' ++ (item_phrase shape k j ++ right)) =
+      same_twice c c' d d' _ _ (sym (after_first shape k c c' i xs a) ∙ e ∙ after_first shape k d d' j ys b) in
+      let scans : (c' ≡ d') × (item_phrase shape k i ++ left ≡ item_phrase shape k j ++ right) = same_scan (row_read_by C) c' d' _ _ twice.1 in
+      let items : (i ≡ j) × (left ≡ right) = same_item_phrase shape k i j left right fits fits' scans.1 in
+      let rest : (xs ≡ ys) × (a ≡ b) = same_takes shape (suc k) xs ys a b p q items.1 in
+      let seen : c ≡ d = twice.0 in
+      let again : c' ≡ d' = scans.0 in
+      let item : i ≡ j = items.0 in
+      let more : xs ≡ ys = rest.0 in
+      (cc, rest.1)
+  same_takes shape k (Empty c ∷ xs) (Empty d ∷ ys) a b (none, p) (none', q) e =
+      let left : List Made = calls_from shape k xs a in
+      let right : List Made = calls_from shape k ys b in
+      let scans : (c ≡ d) × (Read X false ∷ left ≡ Read X false ∷ right) =
+      same_scan (row_read_by C) c d _ _ (sym (empty_first shape k c xs a) ∙ e ∙ empty_first shape k d ys b) in
+      let same : Read X false ∷ left ≡ Read X false ∷ right = scans.1 in
+      let tail : left ≡ right = cc in
+      let rest : (xs ≡ ys) × (a ≡ b) = same_takes shape k xs ys a b p q tail in
+      let seen : c ≡ d = scans.0 in
+      let more : xs ≡ ys = rest.0 in
+      (cc, rest.1)
 
-abbrev takes_of : List Take → End → Takes
-takes_of takes end = record { takes = takes; end = end }
+  abbrev takes_of : List Take → End → Takes
+  takes_of takes end = record { takes = takes; end = end }
 
-pub takes-are_read : TakesAreRead
-takes-are_read shape a b p q e =
-    let same : (a.takes ≡ b.takes) × (a.end ≡ b.end) =
-    same_takes shape 0 a.takes b.takes a.end b.end p q (same_accesses C (take_program shape a) (take_program shape b) e) in
-    ap (λ l. takes_of l a.end) same.0 ∙ ap (takes_of b.takes) same.1
+  pub takes-are_read : TakesAreRead
+  takes-are_read shape a b p q e =
+      let same : (a.takes ≡ b.takes) × (a.end ≡ b.end) =
+      same_takes shape 0 a.takes b.takes a.end b.end p q (same_accesses C (take_program shape a) (take_program shape b) e) in
+      ap (λ l. takes_of l a.end) same.0 ∙ ap (takes_of b.takes) same.1

@@ -2,4 +2,4 @@ use Rattle.ring_core.proofs.PutsRead.{puts-are_read}
 use Rattle.ring_core.proofs.laws.puts_are_read.Goals as goal
 
 pub returns : goal.returns
-returns c = puts-are_read
+returns c = puts-are_read c.digits_tell_items.ensures
