@@ -21,7 +21,7 @@ joined_two s t u r z = joined (s ++ t) u r z ∙ append_assoc s t (u ++ (r ++ z)
 
 -- ---- events and accesses
 
-same_made : (s : Side) (x y : Made) → begin_event s x ≡ begin_event s y → end_event s x ≡ end_event s y → x ≡ y
+pub same_made : (s : Side) (x y : Made) → begin_event s x ≡ begin_event s y → end_event s x ≡ end_event s y → x ≡ y
 same_made s (Read b v) (Read c w) e f =
     let bits : b ≡ c = ap (λ (x : Event). x.bit) e in
     let acts : ReadEnd v ≡ ReadEnd w = ap (λ (x : Event). x.act) f in
@@ -93,16 +93,17 @@ same_parts (u ∷ us) (v ∷ vs) xs ys n e =
     let tail : us ≡ vs = rest.0 in
     (cc, rest.1)
 
-length-digit_reads : (cell item n : ℕ) → length (digit_reads cell item n) ≡ n
+-- reads and writes of the first n digits
+pub length-digit_reads : (cell item n : ℕ) → length (digit_reads cell item n) ≡ n
 length-digit_reads cell item zero = refl
 length-digit_reads cell item (suc n) = omega (arith, length-digit_reads cell item n, length-append (digit_reads cell item n) (Read (Cell cell n) (digit n item) ∷ []))
 
-length-digit_writes : (item n : ℕ) → length (digit_writes item n) ≡ n
+pub length-digit_writes : (item n : ℕ) → length (digit_writes item n) ≡ n
 length-digit_writes item zero = refl
 length-digit_writes item (suc n) =
     omega (arith, length-digit_writes item n, length-append (digit_writes item n) (record { bit = n; value = digit n item } ∷ []))
 
-at_or_below : (i n : ℕ) → i < suc n → (i ≡ n) ⊎ (i < n)
+pub at_or_below : (i n : ℕ) → i < suc n → (i ≡ n) ⊎ (i < n)
 at_or_below i n l = grind arith
 
 digits_read : (cell n a b : ℕ) → digit_reads cell a n ≡ digit_reads cell b n → (i : ℕ) → i < n → digit i a ≡ digit i b

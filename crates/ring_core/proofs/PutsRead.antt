@@ -15,7 +15,7 @@ use Rattle.ring_core.specs.Readings.{PutsAreRead}
 use Rattle.ring_core.proofs.Phrases.{same_accesses, scan_begins, same_scan, same_word_write, joined_two, no_scan}
 
 -- a scan is no close
-no_close : (a : Bool) (bit_of : ℕ → Bit) (c : ℕ) (xs : List Made) → close_phrase a ≡ scan_phrase bit_of c ++ xs → ⊥
+pub no_close : (a : Bool) (bit_of : ℕ → Bit) (c : ℕ) (xs : List Made) → close_phrase a ≡ scan_phrase bit_of c ++ xs → ⊥
 no_close false bit_of c xs e = no_scan bit_of c xs e
 no_close true bit_of c xs e =
     let begins : (v : Bool) × (rest : List Made) × (scan_phrase bit_of c ++ xs ≡ Read (bit_of 0) v ∷ rest) = scan_begins bit_of c xs in
@@ -29,20 +29,20 @@ same_close false true e = absurd (cc)
 same_close true false e = absurd (cc)
 
 -- a list of puts and its close, from the first put on
-puts_stored :
+pub puts_stored :
     (shape : Shape) (n seen item : ℕ) (puts : List Put) (close : Bool) →
     put_phrases shape n (Stored seen item ∷ puts) ++ close_phrase close ≡
     scan_phrase (row_read_by P) seen ++ (word_write (width_of shape) (n % capacity_of shape) item ++ (count_phrase shape P n ++ (put_phrases shape (suc n) puts ++ close_phrase close)))
 puts_stored shape n seen item puts close =
     joined_two (scan_phrase (row_read_by P) seen) (word_write (width_of shape) (n % capacity_of shape) item) (count_phrase shape P n) (put_phrases shape (suc n) puts) (close_phrase close)
 
-puts_full :
+pub puts_full :
     (shape : Shape) (n seen : ℕ) (puts : List Put) (close : Bool) →
     put_phrases shape n (Full seen ∷ puts) ++ close_phrase close ≡ scan_phrase (row_read_by P) seen ++ (put_phrases shape n puts ++ close_phrase close)
 puts_full shape n seen puts close = append_assoc (scan_phrase (row_read_by P) seen) (put_phrases shape n puts) (close_phrase close)
 
 -- a count that leaves room is no count that leaves none
-no_room :
+pub no_room :
     (shape : Shape) (n c d : ℕ) (xs ys : List Made) → LeavesRoom shape (n % modulus_of shape) c → ¬ LeavesRoom shape (n % modulus_of shape) d →
     scan_phrase (row_read_by P) c ++ xs ≡ scan_phrase (row_read_by P) d ++ ys → ⊥
 no_room shape n c d xs ys room none e =

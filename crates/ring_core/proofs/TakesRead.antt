@@ -14,46 +14,46 @@ use Rattle.ring_core.specs.Readings.{TakesAreRead}
 use Rattle.ring_core.proofs.Phrases.{same_accesses, no_scan, same_scan, same_word_read, joined, joined_two}
 
 -- the consumer's scan of a count
-abbrev scan : ℕ → List Made
+abbrev pub scan : ℕ → List Made
 scan c = scan_phrase (row_read_by C) c
 
 -- the takes after k of them, and their end
-abbrev calls_from : Shape → ℕ → List Take → End → List Made
+abbrev pub calls_from : Shape → ℕ → List Take → End → List Made
 calls_from shape k takes end = take_phrases shape k takes ++ end_phrase end
 
 -- takes and their end, from the first take on
-item_first :
+pub item_first :
     (shape : Shape) (k seen item : ℕ) (takes : List Take) (end : End) →
     calls_from shape k (Item seen item ∷ takes) end ≡ scan seen ++ (item_phrase shape k item ++ calls_from shape (suc k) takes end)
 item_first shape k seen item takes end = joined (scan seen) (item_phrase shape k item) (take_phrases shape (suc k) takes) (end_phrase end)
 
-after_first :
+pub after_first :
     (shape : Shape) (k seen again item : ℕ) (takes : List Take) (end : End) →
     calls_from shape k (ItemAfterClose seen again item ∷ takes) end ≡ scan seen ++ (Read X true ∷ (scan again ++ (item_phrase shape k item ++ calls_from shape (suc k) takes end)))
 after_first shape k seen again item takes end =
     joined_two (scan seen) (Read X true ∷ scan again) (item_phrase shape k item) (take_phrases shape (suc k) takes) (end_phrase end)
 
-empty_first :
+pub empty_first :
     (shape : Shape) (k seen : ℕ) (takes : List Take) (end : End) →
     calls_from shape k (Empty seen ∷ takes) end ≡ scan seen ++ (Read X false ∷ calls_from shape k takes end)
 empty_first shape k seen takes end = joined (scan seen) (Read X false ∷ []) (take_phrases shape k takes) (end_phrase end)
 
-closed_first : (shape : Shape) (k seen again : ℕ) → calls_from shape k [] (Closed seen again) ≡ scan seen ++ (Read X true ∷ (scan again ++ []))
+pub closed_first : (shape : Shape) (k seen again : ℕ) → calls_from shape k [] (Closed seen again) ≡ scan seen ++ (Read X true ∷ (scan again ++ []))
 closed_first shape k seen again = ap (λ l. scan seen ++ (Read X true ∷ l)) (sym (append-nil (scan again)))
 
 -- what tells the takes apart: a count that shows an item shows it, and the close bit is 0 or 1
-item_or_none :
+pub item_or_none :
     (shape : Shape) (k c d : ℕ) (xs ys : List Made) → SeesItem shape k c → SeesNone shape k d → scan c ++ xs ≡ scan d ++ ys → ⊥
 item_or_none shape k c d xs ys (below, shows) (below', none) e =
     none (subst (λ s. ShowsItem shape s (k % modulus_of shape)) (same_scan (row_read_by C) c d xs ys e).0 shows)
 
-open_or_closed : (c d : ℕ) (xs ys : List Made) → scan c ++ (Read X false ∷ xs) ≡ scan d ++ (Read X true ∷ ys) → ⊥
+pub open_or_closed : (c d : ℕ) (xs ys : List Made) → scan c ++ (Read X false ∷ xs) ≡ scan d ++ (Read X true ∷ ys) → ⊥
 open_or_closed c d xs ys e =
     let rest : Read X false ∷ xs ≡ Read X true ∷ ys = (same_scan (row_read_by C) c d (Read X false ∷ xs) (Read X true ∷ ys) e).1 in
     absurd (cc)
 
 -- scans of two counts, with a close bit between them that is 1
-same_twice :
+pub same_twice :
     (c d c' d' : ℕ) (xs ys : List Made) → scan c ++ (Read X true ∷ (scan d ++ xs)) ≡ scan c' ++ (Read X true ∷ (scan d' ++ ys)) →
     (c ≡ c') × (scan d ++ xs ≡ scan d' ++ ys)
 same_twice c d c' d' xs ys e =
@@ -61,13 +61,13 @@ same_twice c d c' d' xs ys e =
     let rest : Read X true ∷ (scan d ++ xs) ≡ Read X true ∷ (scan d' ++ ys) = scans.1 in
     (scans.0, cc)
 
-after_or_closed :
+pub after_or_closed :
     (shape : Shape) (k c d c' d' : ℕ) (xs ys : List Made) → SeesItem shape k d → SeesNone shape k d' →
     scan c ++ (Read X true ∷ (scan d ++ xs)) ≡ scan c' ++ (Read X true ∷ (scan d' ++ ys)) → ⊥
 after_or_closed shape k c d c' d' xs ys sees none e = item_or_none shape k d d' xs ys sees none (same_twice c d c' d' xs ys e).1
 
 module _ (tell : DigitsTellItems) where
-  same_item_phrase :
+  pub same_item_phrase :
       (shape : Shape) (k i j : ℕ) (xs ys : List Made) → i < 2 ^ width_of shape → j < 2 ^ width_of shape →
       item_phrase shape k i ++ xs ≡ item_phrase shape k j ++ ys → (i ≡ j) × (xs ≡ ys)
   same_item_phrase shape k i j xs ys fits fits' e =

@@ -1,5 +1,5 @@
 -- The two counts of a ring, modulo its modulus.
-use Rattle.std.specs.Prelude.{ℕ, zero, suc, ◌+◌, ◌-◌, ◌%◌, ◌<◌, ◌≤◌, Bool, List}
+use Rattle.std.specs.Prelude.{ℕ, zero, suc, ◌+◌, ◌-◌, ◌%◌, ◌<◌, ◌≤◌, Bool, List, [], ◌∷◌, ◌++◌}
 use Rattle.bits_core.specs.declared.events.Side.{Side}
 use Rattle.bits_core.specs.declared.shapes.Shape.{Shape}
 use Rattle.bits_core.specs.Shape.{capacity_of, modulus_of}
@@ -27,3 +27,8 @@ bits_held shape (suc n) = bits_after (bits_held shape n) (unary_phrase (bits_hel
 -- the accesses of the unary write, by a side, of its count after n calls that count
 abbrev pub count_phrase : Shape → Side → ℕ → List Made
 count_phrase shape s n = writes_in (row_bit s) (unary_phrase (bits_held shape n) (suc n % modulus_of shape))
+
+-- the values of the first n unary writes of a count
+abbrev pub counted : Shape → ℕ → List ℕ
+counted shape zero = []
+counted shape (suc n) = counted shape n ++ suc n % modulus_of shape ∷ []

@@ -25,6 +25,11 @@ abbrev pub stored_after : ℕ → Put → ℕ
 stored_after n (Stored seen item) = suc n
 stored_after n (Full seen) = n
 
+-- how many are, after these puts
+abbrev pub stored_in : ℕ → List Put → ℕ
+stored_in n [] = n
+stored_in n (x ∷ puts) = stored_in (stored_after n x) puts
+
 -- the accesses of a put, after n stored items: a scan of the consumer's count; then, where it stores, the item's word and
 -- the producer's count
 abbrev pub put_phrase : Shape → ℕ → Put → List Made

@@ -33,6 +33,11 @@ taken_after k (Item seen item) = suc k
 taken_after k (ItemAfterClose seen again item) = suc k
 taken_after k (Empty seen) = k
 
+-- how many are, after these takes
+abbrev pub taken_in : ℕ → List Take → ℕ
+taken_in k [] = k
+taken_in k (x ∷ takes) = taken_in (taken_after k x) takes
+
 -- the accesses that take an item, after k taken items: its word, and the consumer's count
 abbrev pub item_phrase : Shape → ℕ → ℕ → List Made
 item_phrase shape k item = word_read (width_of shape) (k % capacity_of shape) item ++ count_phrase shape C k

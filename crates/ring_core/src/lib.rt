@@ -1,10 +1,15 @@
-//! The ring: what its two counts show, and the programs of its producer and its consumer.
+//! The ring: what its two counts show, its producer and its consumer, which tell the accesses of
+//! their calls one by one, and the programs that these accesses follow.
 #![tactic(auto)]
 
+mod consumers;
 mod counts;
 pub mod laws;
+mod producers;
 
+pub use consumers::{Consumer, TakeReply};
 pub use counts::{distance, has_item, has_room};
+pub use producers::{Producer, PutReply};
 
 #[cfg(test)]
 mod tests;

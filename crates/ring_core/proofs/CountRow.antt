@@ -1,0 +1,259 @@
+-- The bits of a count: which of them are set after n unary writes, and how many bit writes the next one has.
+use Rattle.std.proofs.Common.{◌≡◌, ℕ, zero, suc, ◌+◌, ◌%◌, ◌<◌, ◌≤◌, Bool, true, false, cond, nat_eq, List, [], ◌∷◌, ◌++◌, length, refl, sym, ap, arith, ◌∙◌, ◌⊎◌, inl, inr, append_assoc, append-nil, length-append}
+use Rattle.std.proofs.lemmas.Bool.{cases_lt}
+use Rattle.std.proofs.lemmas.Bool.Decides.{nat_tests}
+use Rattle.std.proofs.lemmas.List.{length-map}
+use Rattle.std.proofs.lemmas.Nat.{mod_below}
+use Rattle.std.proofs.Math.Nat.{suc-mod, mod_self, mod-eq_of_lt, zero-mod}
+use Rattle.bits_core.specs.declared.events.Side.{Side}
+use Rattle.bits_core.specs.declared.shapes.Shape.{Shape}
+use Rattle.bits_core.specs.Shape.{modulus_of}
+use Rattle.bits_core.specs.Made.{Write}
+use Rattle.register_core.specs.Row.{RowWrite, row_bit, first_bits, bits_with, bits_after}
+use Rattle.register_core.specs.Unary.{clearing, setting, unary_phrase, unary_writes, row_writes, writes_of}
+use Rattle.ring_core.specs.Counts.{bits_held, counted, count_phrase}
+
+-- ---- a unary write over any bits
+
+-- a write leaves the other bits
+other_bit : (bits : ℕ → Bool) (k j : ℕ) (b : Bool) → (k ≡ j → ⊥) → cond (nat_eq k j) b (bits k) ≡ bits k
+other_bit bits k j b h = grind (arith, nat_tests)
+
+-- a write sets its own bit
+same_bit : (bits : ℕ → Bool) (k j : ℕ) (b : Bool) → k ≡ j → cond (nat_eq k j) b (bits k) ≡ b
+same_bit bits k j b h = grind (arith, nat_tests)
+
+-- the bits after two lists of writes
+pub bits_after-append : (xs ys : List RowWrite) (bits : ℕ → Bool) → bits_after bits (xs ++ ys) ≡ bits_after (bits_after bits xs) ys
+bits_after-append [] ys bits = refl
+bits_after-append (w ∷ xs) ys bits = bits_after-append xs ys (bits_with bits w)
+
+-- the write of 1 to a bit, and of 0
+abbrev set_to_1 : ℕ → RowWrite
+set_to_1 j = record { bit = j; value = true }
+
+abbrev set_to_0 : ℕ → RowWrite
+set_to_0 j = record { bit = j; value = false }
+
+-- writes of 0 below a place keep the bits from there on
+abbrev KeepsFrom : (ℕ → Bool) → ℕ → Type 0
+KeepsFrom old j = (bits : ℕ → Bool) (k : ℕ) → j ≤ k → bits_after bits (clearing old j) k ≡ bits k
+
+-- one place further, by the bit that was remembered there
+keeps_step :
+    (old : ℕ → Bool) (j : ℕ) → KeepsFrom old j → (b : Bool) (bits : ℕ → Bool) (k : ℕ) → suc j ≤ k →
+    bits_after bits (cond b (set_to_0 j ∷ clearing old j) (clearing old j)) k ≡ bits k
+keeps_step old j rest true bits k above = rest (bits_with bits (set_to_0 j)) k (omega arith) ∙ other_bit bits k j false (omega arith)
+keeps_step old j rest false bits k above = rest bits k (omega arith)
+
+-- so they do, whatever was remembered
+clearing_keeps : (old : ℕ → Bool) (j : ℕ) → KeepsFrom old j
+clearing_keeps old zero bits k above = refl
+clearing_keeps old (suc j) bits k above = keeps_step old j (clearing_keeps old j) (old j) bits k above
+
+-- writes of 0 to the set bits below a place leave none set there
+abbrev ClearsBelow : (ℕ → Bool) → ℕ → Type 0
+ClearsBelow old j = (bits : ℕ → Bool) → ((k : ℕ) → k < j → bits k ≡ old k) → (k : ℕ) → k < j → bits_after bits (clearing old j) k ≡ false
+
+-- one place further, by the bit that was remembered there
+clears_step :
+    (old : ℕ → Bool) (j : ℕ) → ClearsBelow old j → (b : Bool) → old j ≡ b → (bits : ℕ → Bool) →
+    ((k : ℕ) → k < suc j → bits k ≡ old k) → (k : ℕ) → (k ≡ j) ⊎ (k < j) →
+    bits_after bits (cond b (set_to_0 j ∷ clearing old j) (clearing old j)) k ≡ false
+clears_step old j rest true e bits same k (inl q) =
+    clearing_keeps old j (bits_with bits (set_to_0 j)) k (omega arith) ∙ same_bit bits k j false q
+clears_step old j rest true e bits same k (inr below) =
+    rest (bits_with bits (set_to_0 j)) (λ i h. other_bit bits i j false (omega arith) ∙ same i (omega arith)) k below
+clears_step old j rest false e bits same k (inl q) = clearing_keeps old j bits k (omega arith) ∙ same k (omega arith) ∙ ap old q ∙ e
+clears_step old j rest false e bits same k (inr below) = rest bits (λ i h. same i (omega arith)) k below
+
+-- below the next place is at this one or below it
+at_or_below : (i n : ℕ) → i < suc n → (i ≡ n) ⊎ (i < n)
+at_or_below i n l = grind arith
+
+-- so they do, where the bits below are those that were remembered
+clearing_clears : (old : ℕ → Bool) (j : ℕ) → ClearsBelow old j
+clearing_clears old zero bits same k below = absurd (omega arith)
+clearing_clears old (suc j) bits same k below =
+    clears_step old j (clearing_clears old j) (old j) refl bits same k (at_or_below k j below)
+
+-- the bit of the value, by what it was
+value_set : (bits : ℕ → Bool) (v : ℕ) (b : Bool) → bits v ≡ b → bits_after bits (cond b [] (set_to_1 v ∷ []) ++ clearing bits v) v ≡ true
+value_set bits v true e = clearing_keeps bits v bits v (omega arith) ∙ e
+value_set bits v false e = clearing_keeps bits v (bits_with bits (set_to_1 v)) v (omega arith) ∙ same_bit bits v v true refl
+
+-- the bits below the value, by what its own was
+below_clear :
+    (bits : ℕ → Bool) (v : ℕ) (b : Bool) (j : ℕ) → j < v →
+    bits_after bits (cond b [] (set_to_1 v ∷ []) ++ clearing bits v) j ≡ false
+below_clear bits v true j below = clearing_clears bits v bits (λ k _. refl) j below
+below_clear bits v false j below =
+    clearing_clears bits v (bits_with bits (set_to_1 v)) (λ k h. other_bit bits k v true (omega arith)) j below
+
+-- after a unary write of v the bit v is set
+pub phrase_sets : (bits : ℕ → Bool) (v : ℕ) → bits_after bits (unary_phrase bits v) v ≡ true
+phrase_sets bits v = value_set bits v (bits v) refl
+
+-- after a unary write of v the bits below v are clear
+pub phrase_clears : (bits : ℕ → Bool) (v j : ℕ) → j < v → bits_after bits (unary_phrase bits v) j ≡ false
+phrase_clears bits v j below = below_clear bits v (bits v) j below
+
+-- ---- the bits of a count
+
+-- after n unary writes the bit of n, modulo the modulus, is set
+pub held_sets : (shape : Shape) (n : ℕ) → bits_held shape n (n % modulus_of shape) ≡ true
+held_sets shape zero = ap first_bits (zero-mod (modulus_of shape))
+held_sets shape (suc n) = phrase_sets (bits_held shape n) (suc n % modulus_of shape)
+
+-- after n unary writes the bits below that one are clear
+pub held_clears : (shape : Shape) (n j : ℕ) → j < n % modulus_of shape → bits_held shape n j ≡ false
+held_clears shape zero j below = absurd (omega (arith, below, zero-mod (modulus_of shape)))
+held_clears shape (suc n) j below = phrase_clears (bits_held shape n) (suc n % modulus_of shape) j below
+
+-- ---- how many bit writes the next unary write has
+
+-- the next number is one more, or it is 0 after the last one
+pub next_modulo : (n m : ℕ) → 0 < m → (suc n % m ≡ suc (n % m)) ⊎ ((suc n % m ≡ 0) × (suc (n % m) ≡ m))
+next_modulo n m some = place (cases_lt (suc (n % m)) m)
+  where
+    place : (suc (n % m) < m) ⊎ (m ≤ suc (n % m)) → (suc n % m ≡ suc (n % m)) ⊎ ((suc n % m ≡ 0) × (suc (n % m) ≡ m))
+    place (inl h) = inl (suc-mod n m ∙ mod-eq_of_lt h)
+    place (inr h) =
+        let last : suc (n % m) ≡ m = omega (arith, h, mod_below n m some) in
+        inr (suc-mod n m ∙ ap (λ k. k % m) last ∙ mod_self m, last)
+
+-- where no bit below the place is set, none is cleared
+clearing_none : (bits : ℕ → Bool) (v : ℕ) → ((j : ℕ) → j < v → bits j ≡ false) → clearing bits v ≡ []
+clearing_none bits zero clear = refl
+clearing_none bits (suc v) clear =
+    ap (λ b. cond b (set_to_0 v ∷ clearing bits v) (clearing bits v)) (clear v (omega arith)) ∙ clearing_none bits v (λ j h. clear j (omega arith))
+
+-- where the last bit below the place is the only one that is set, it alone is cleared
+clearing_one : (bits : ℕ → Bool) (v : ℕ) → bits v ≡ true → ((j : ℕ) → j < v → bits j ≡ false) → clearing bits (suc v) ≡ set_to_0 v ∷ []
+clearing_one bits v set clear =
+    ap (λ b. cond b (set_to_0 v ∷ clearing bits v) (clearing bits v)) set ∙ ap (λ l. set_to_0 v ∷ l) (clearing_none bits v clear)
+
+-- at most one bit is set
+setting_short : (v : ℕ) (b : Bool) → length (cond b [] (set_to_1 v ∷ [])) ≤ 1
+setting_short v true = omega arith
+setting_short v false = omega arith
+
+-- the bit writes of a unary write are those that set and those that clear
+length_phrase : (bits : ℕ → Bool) (v : ℕ) → length (unary_phrase bits v) ≡ length (setting bits v) + length (clearing bits v)
+length_phrase bits v = length-append (setting bits v) (clearing bits v)
+
+-- a modulus is above 1
+some_modulus : (shape : Shape) → 1 < modulus_of shape
+some_modulus shape = omega (arith, shape.room_to_count)
+
+-- where the number is one more, the one bit that is set is cleared
+next_clears :
+    (shape : Shape) (n : ℕ) → suc n % modulus_of shape ≡ suc (n % modulus_of shape) →
+    length (clearing (bits_held shape n) (suc n % modulus_of shape)) ≡ 1
+next_clears shape n more =
+    ap (λ v. length (clearing (bits_held shape n) v)) more ∙
+    ap length (clearing_one (bits_held shape n) (n % modulus_of shape) (held_sets shape n) (held_clears shape n))
+
+-- where the number is 0, nothing is cleared
+last_clears : (shape : Shape) (n : ℕ) → suc n % modulus_of shape ≡ 0 → length (clearing (bits_held shape n) (suc n % modulus_of shape)) ≡ 0
+last_clears shape n last = ap (λ v. length (clearing (bits_held shape n) v)) last
+
+-- where the number is 0, the one before it was not, so bit 0 is set anew
+last_sets :
+    (shape : Shape) (n : ℕ) → suc n % modulus_of shape ≡ 0 → suc (n % modulus_of shape) ≡ modulus_of shape →
+    length (setting (bits_held shape n) (suc n % modulus_of shape)) ≡ 1
+last_sets shape n last top =
+    let clear : bits_held shape n 0 ≡ false = held_clears shape n 0 (omega (arith, some_modulus shape, top)) in
+    ap (λ v. length (setting (bits_held shape n) v)) last ∙ ap (λ b. length (cond b [] (set_to_1 0 ∷ []))) clear
+
+-- the next unary write has one bit write or two
+next_length :
+    (shape : Shape) (n : ℕ) →
+    (1 ≤ length (unary_phrase (bits_held shape n) (suc n % modulus_of shape))) × (length (unary_phrase (bits_held shape n) (suc n % modulus_of shape)) ≤ 2)
+next_length shape n = count (next_modulo n (modulus_of shape) (omega (arith, some_modulus shape)))
+  where
+    count :
+        (suc n % modulus_of shape ≡ suc (n % modulus_of shape)) ⊎ ((suc n % modulus_of shape ≡ 0) × (suc (n % modulus_of shape) ≡ modulus_of shape)) →
+        (1 ≤ length (unary_phrase (bits_held shape n) (suc n % modulus_of shape))) × (length (unary_phrase (bits_held shape n) (suc n % modulus_of shape)) ≤ 2)
+    count (inl more) =
+        let v : ℕ = suc n % modulus_of shape in
+        let whole : length (unary_phrase (bits_held shape n) v) ≡ length (setting (bits_held shape n) v) + length (clearing (bits_held shape n) v) =
+        length_phrase (bits_held shape n) v in
+        let ones : length (setting (bits_held shape n) v) ≤ 1 = setting_short v (bits_held shape n v) in
+        let zeros : length (clearing (bits_held shape n) v) ≡ 1 = next_clears shape n more in
+        (omega (arith, whole, zeros), omega (arith, whole, ones, zeros))
+    count (inr (last, top)) =
+        let v : ℕ = suc n % modulus_of shape in
+        let whole : length (unary_phrase (bits_held shape n) v) ≡ length (setting (bits_held shape n) v) + length (clearing (bits_held shape n) v) =
+        length_phrase (bits_held shape n) v in
+        let ones : length (setting (bits_held shape n) v) ≡ 1 = last_sets shape n last top in
+        let zeros : length (clearing (bits_held shape n) v) ≡ 0 = last_clears shape n last in
+        (omega (arith, whole, ones, zeros), omega (arith, whole, ones, zeros))
+
+-- the next unary write has at most two bit writes
+pub next_short : (shape : Shape) (n : ℕ) → length (unary_phrase (bits_held shape n) (suc n % modulus_of shape)) ≤ 2
+next_short shape n = (next_length shape n).1
+
+-- the next unary write has at least one bit write
+pub next_long : (shape : Shape) (n : ℕ) → 1 ≤ length (unary_phrase (bits_held shape n) (suc n % modulus_of shape))
+next_long shape n = (next_length shape n).0
+
+-- the next unary write is not nothing
+pub next_some : (shape : Shape) (n : ℕ) → unary_phrase (bits_held shape n) (suc n % modulus_of shape) ≡ [] → ⊥
+next_some shape n e =
+    let none : length (unary_phrase (bits_held shape n) (suc n % modulus_of shape)) ≡ 0 = ap length e in
+    absurd (omega (arith, none, next_long shape n))
+
+-- ---- the unary writes of a count, one after the other
+
+-- one more unary write, over the bits after the others
+pub row_writes-push :
+    (values : List ℕ) (v : ℕ) (bits : ℕ → Bool) →
+    row_writes (unary_writes bits (values ++ v ∷ [])) ≡
+    row_writes (unary_writes bits values) ++ unary_phrase (bits_after bits (row_writes (unary_writes bits values))) v
+row_writes-push [] v bits = append-nil (unary_phrase bits v)
+row_writes-push (u ∷ values) v bits =
+    let first : List RowWrite = unary_phrase bits u in
+    let after : ℕ → Bool = bits_after bits first in
+    let rest : List RowWrite = row_writes (unary_writes after values) in
+    ap (λ l. first ++ l) (row_writes-push values v after) ∙
+    sym (append_assoc first rest (unary_phrase (bits_after after rest) v)) ∙
+    ap (λ b. (first ++ rest) ++ unary_phrase b v) (sym (bits_after-append first rest bits))
+
+-- one more unary write of a count, once the bits before it are known
+held_step :
+    (shape : Shape) (n : ℕ) → bits_after first_bits (writes_of (counted shape n)) ≡ bits_held shape n →
+    writes_of (counted shape (suc n)) ≡ writes_of (counted shape n) ++ unary_phrase (bits_held shape n) (suc n % modulus_of shape)
+held_step shape n held =
+    row_writes-push (counted shape n) (suc n % modulus_of shape) first_bits ∙
+    ap (λ b. writes_of (counted shape n) ++ unary_phrase b (suc n % modulus_of shape)) held
+
+-- the bits after the first n unary writes
+pub counted_holds : (shape : Shape) (n : ℕ) → bits_after first_bits (writes_of (counted shape n)) ≡ bits_held shape n
+counted_holds shape zero = refl
+counted_holds shape (suc n) =
+    let next : List RowWrite = unary_phrase (bits_held shape n) (suc n % modulus_of shape) in
+    ap (bits_after first_bits) (held_step shape n (counted_holds shape n)) ∙
+    bits_after-append (writes_of (counted shape n)) next first_bits ∙
+    ap (λ b. bits_after b next) (counted_holds shape n)
+
+-- the bit writes of one more unary write
+pub counted_writes :
+    (shape : Shape) (n : ℕ) →
+    writes_of (counted shape (suc n)) ≡ writes_of (counted shape n) ++ unary_phrase (bits_held shape n) (suc n % modulus_of shape)
+counted_writes shape n = held_step shape n (counted_holds shape n)
+
+-- ---- the accesses of the next unary write
+
+-- a count write has an access for each bit write
+length_count :
+    (shape : Shape) (s : Side) (n : ℕ) → length (count_phrase shape s n) ≡ length (unary_phrase (bits_held shape n) (suc n % modulus_of shape))
+length_count shape s n = length-map (unary_phrase (bits_held shape n) (suc n % modulus_of shape)) (λ w. Write (row_bit s w.bit) w.value)
+
+-- a count write has at most two accesses
+pub count_short : (shape : Shape) (s : Side) (n : ℕ) → length (count_phrase shape s n) ≤ 2
+count_short shape s n = omega (arith, length_count shape s n, next_short shape n)
+
+-- a count write has at least one access
+pub count_long : (shape : Shape) (s : Side) (n : ℕ) → 1 ≤ length (count_phrase shape s n)
+count_long shape s n = omega (arith, length_count shape s n, next_long shape n)

@@ -1,0 +1,25 @@
+-- A side that has made a beginning of the accesses of calls follows these.
+use Rattle.std.proofs.Common.{◌≡◌, List, [], ◌∷◌, ◌++◌, refl, sym, ap, ◌∙◌, append_assoc}
+use Rattle.bits_core.specs.declared.events.Side.{Side}
+use Rattle.bits_core.specs.declared.events.Side.TheVariants.{P, C}
+use Rattle.bits_core.specs.declared.events.Event.{Event}
+use Rattle.bits_core.specs.Made.{Made, begin_event, end_event, events_of, IsBeginning}
+use Rattle.ring_core.specs.Following.{PutsAreFollowed, TakesAreFollowed}
+
+-- the events of two lists of accesses, one after the other
+pub events_of-append : (s : Side) (xs ys : List Made) → events_of s (xs ++ ys) ≡ events_of s xs ++ events_of s ys
+events_of-append s [] ys = refl
+events_of-append s (x ∷ xs) ys = ap (λ l. begin_event s x ∷ end_event s x ∷ l) (events_of-append s xs ys)
+
+-- what begins the events of a beginning begins the events of the whole
+through : (s : Side) (es : List Event) (made whole : List Made) → IsBeginning made whole → IsBeginning es (events_of s made) → IsBeginning es (events_of s whole)
+through s es made whole (more, e) (rest, f) = (
+  rest ++ events_of s more,
+  sym (append_assoc es rest (events_of s more)) ∙ ap (λ l. l ++ events_of s more) f ∙ sym (events_of-append s made more) ∙ ap (events_of s) e,
+)
+
+pub puts-are_followed : PutsAreFollowed
+puts-are_followed shape h calls made are begins events = record { are = are; events = through P _ made _ begins events }
+
+pub takes-are_followed : TakesAreFollowed
+takes-are_followed shape h calls made are begins events = record { are = are; events = through C _ made _ begins events }

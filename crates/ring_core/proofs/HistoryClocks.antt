@@ -1,0 +1,73 @@
+-- The clocks of the two sides of a history.
+use Rattle.std.proofs.Common.{◌≡◌, ◌⊎◌, inl, inr, ℕ, zero, suc, ◌+◌, ◌≤◌, Bool, true, false, List, [], ◌∷◌, if◌then◌else◌, length, take, ap, refl, arith}
+use Rattle.bits_core.specs.declared.events.Side.{Side}
+use Rattle.bits_core.specs.declared.events.Side.TheVariants.{P, C}
+use Rattle.bits_core.specs.declared.events.Event.{Event}
+use Rattle.bits_core.specs.Bits.{same_side, is_by}
+use Rattle.bits_core.specs.Made.{own, clock}
+use Rattle.ring_core.specs.Clocks.{Clocks}
+
+-- a side's own events behind a first event, which is its own or not
+own-first : (s : Side) (e : Event) (h : List Event) (b : Bool) → is_by s e ≡ b → own s (e ∷ h) ≡ (if b then e ∷ own s h else own s h)
+own-first s e h b by = rw by refl
+
+clock-yes : (s : Side) (e : Event) (h : List Event) (place : ℕ) → is_by s e ≡ true → clock s (e ∷ h) (suc place) ≡ suc (clock s h place)
+clock-yes s e h place by = ap length (own-first s e (take place h) true by)
+
+clock-no : (s : Side) (e : Event) (h : List Event) (place : ℕ) → is_by s e ≡ false → clock s (e ∷ h) (suc place) ≡ clock s h place
+clock-no s e h place by = ap length (own-first s e (take place h) false by)
+
+-- a clock begins at 0
+clock-zero : (s : Side) (h : List Event) → clock s h 0 ≡ 0
+clock-zero s [] = refl
+clock-zero s (e ∷ h) = refl
+
+-- an event is of one of the two sides
+by_one : (s : Side) → ((same_side P s ≡ true) × (same_side C s ≡ false)) ⊎ ((same_side P s ≡ false) × (same_side C s ≡ true))
+by_one P = inl (refl, refl)
+by_one C = inr (refl, refl)
+
+-- a position that is passed counts for one clock, or, past the end, for none
+abbrev Ticks : List Event → ℕ → Type 0
+Ticks h t =
+    ((clock P h (suc t) ≡ suc (clock P h t)) × (clock C h (suc t) ≡ clock C h t)) ⊎
+    ((clock P h (suc t) ≡ clock P h t) × (clock C h (suc t) ≡ suc (clock C h t))) ⊎
+    ((clock P h (suc t) ≡ clock P h t) × (clock C h (suc t) ≡ clock C h t))
+
+-- behind a first event, which counts m for the producer and n for the consumer
+behind_first :
+    (e : Event) (h : List Event) (t m n : ℕ) →
+    (clock P (e ∷ h) (suc t) ≡ m + clock P h t) → (clock P (e ∷ h) (suc (suc t)) ≡ m + clock P h (suc t)) →
+    (clock C (e ∷ h) (suc t) ≡ n + clock C h t) → (clock C (e ∷ h) (suc (suc t)) ≡ n + clock C h (suc t)) → Ticks h t → Ticks (e ∷ h) (suc t)
+behind_first e h t m n a b c d (inl r) = inl (omega (arith, r, a, b), omega (arith, r, c, d))
+behind_first e h t m n a b c d (inr (inl r)) = inr (inl (omega (arith, r, a, b), omega (arith, r, c, d)))
+behind_first e h t m n a b c d (inr (inr r)) = inr (inr (omega (arith, r, a, b), omega (arith, r, c, d)))
+
+tick : (h : List Event) (t : ℕ) → Ticks h t
+tick [] zero = inr (inr (refl, refl))
+tick [] (suc t) = inr (inr (refl, refl))
+tick (e ∷ h) zero = elim (by_one e.side) [
+  | inl by ↦ inl (omega (arith, clock-yes P e h 0 by.0, clock-zero P h), omega (arith, clock-no C e h 0 by.1, clock-zero C h))
+  | inr by ↦ inr (inl (omega (arith, clock-no P e h 0 by.0, clock-zero P h), omega (arith, clock-yes C e h 0 by.1, clock-zero C h)))
+]
+tick (e ∷ h) (suc t) = elim (by_one e.side) [
+  | inl by ↦ behind_first e h t 1 0 (omega (arith, clock-yes P e h t by.0)) (omega (arith, clock-yes P e h (suc t) by.0))
+      (omega (arith, clock-no C e h t by.1)) (omega (arith, clock-no C e h (suc t) by.1)) (tick h t)
+  | inr by ↦ behind_first e h t 0 1 (omega (arith, clock-no P e h t by.0)) (omega (arith, clock-no P e h (suc t) by.0))
+      (omega (arith, clock-yes C e h t by.1)) (omega (arith, clock-yes C e h (suc t) by.1)) (tick h t)
+]
+
+-- the two clocks of a history are such clocks
+pub clocks_of : (h : List Event) → Clocks (clock P h) (clock C h)
+clocks_of h = record { producer = clock-zero P h; consumer = clock-zero C h; tick = tick h }
+
+by_owner : (s : Side) (e : Event) (h : List Event) (place : ℕ) → clock s h place ≤ length (own s h) → (b : Bool) → is_by s e ≡ b → clock s (e ∷ h) (suc place) ≤ length (own s (e ∷ h))
+by_owner s e h place rest true by = omega (arith, clock-yes s e h place by, ap length (own-first s e h true by), rest)
+by_owner s e h place rest false by = omega (arith, clock-no s e h place by, ap length (own-first s e h false by), rest)
+
+-- a clock counts at most all events of the side
+pub clock_within : (s : Side) (h : List Event) (place : ℕ) → clock s h place ≤ length (own s h)
+clock_within s [] zero = omega arith
+clock_within s [] (suc place) = omega arith
+clock_within s (e ∷ h) zero = omega arith
+clock_within s (e ∷ h) (suc place) = by_owner s e h place (clock_within s h place) (is_by s e) refl

@@ -1,0 +1,200 @@
+-- The own events of a side before a place of a history, and the writes of its count among them.
+use Rattle.std.proofs.Common.{◌≡◌, inl, inr, ℕ, zero, suc, ◌-◌, ◌≤◌, Bool, true, false, Some, None, List, [], ◌∷◌, ◌++◌, length, take, drop, slice_get, if◌then◌else◌, refl, sym, ap, ◌∙◌, take-append-drop, length-append, arith}
+use Rattle.std.specs.List.{cons_option}
+use Rattle.std.proofs.Math.Seq.{take-append_seam}
+use Rattle.std.proofs.lemmas.List.Elements.{filter-append}
+use Rattle.bits_core.specs.declared.events.Side.{Side}
+use Rattle.bits_core.specs.declared.events.Side.TheVariants.{P, C}
+use Rattle.bits_core.specs.declared.events.Bit.{Bit}
+use Rattle.bits_core.specs.declared.events.Bit.TheVariants.{S, R, X, Cell}
+use Rattle.bits_core.specs.declared.events.Act.{Act}
+use Rattle.bits_core.specs.declared.events.Act.TheVariants.{ReadBegin, ReadEnd, WriteBegin, WriteEnd}
+use Rattle.bits_core.specs.declared.events.Event.{Event}
+use Rattle.bits_core.specs.declared.shapes.Shape.{Shape}
+use Rattle.bits_core.specs.Bits.{same_side, is_by, doer}
+use Rattle.bits_core.specs.History.{has_event, before_last}
+use Rattle.bits_core.specs.Lawful.{IsLawful}
+use Rattle.bits_core.specs.Laws.{OwnHasPlace}
+use Rattle.bits_core.specs.Made.{own, clock, place_of}
+use Rattle.register_core.specs.Row.{row_write}
+use Rattle.register_core.specs.UnaryLaw.{number_in_count, count_write, count_begun, count_ended}
+use Rattle.ring_core.specs.Clocks.{IsPlace}
+use Rattle.ring_core.proofs.Cuts.{at_most_or_above}
+use Rattle.ring_core.proofs.Gates.{clock_up, clock_p, clock_c}
+use Rattle.ring_core.proofs.HistoryClocks.{clocks_of}
+
+by_case : {G : Type 0} → (b : Bool) → (b ≡ true → G) → (b ≡ false → G) → G
+by_case true yet other = yet refl
+by_case false yet other = other refl
+
+-- ---- clocks and places
+
+own-yes : (s : Side) (e : Event) (h : List Event) → is_by s e ≡ true → own s (e ∷ h) ≡ e ∷ own s h
+own-yes s e h f = ap (λ (b : Bool). if b then e ∷ own s h else own s h) f
+
+own-no : (s : Side) (e : Event) (h : List Event) → is_by s e ≡ false → own s (e ∷ h) ≡ own s h
+own-no s e h f = ap (λ (b : Bool). if b then e ∷ own s h else own s h) f
+
+-- the own events before a place, and those from there on
+own_parts : (s : Side) (h : List Event) (place : ℕ) → own s h ≡ own s (take place h) ++ own s (drop place h)
+own_parts s h place = ap (own s) (sym (take-append-drop place h)) ∙ filter-append (is_by s) (take place h) (drop place h)
+
+-- the own events before a place are as many first own events as the clock says there
+own_take : (s : Side) (h : List Event) (place : ℕ) → own s (take place h) ≡ take (clock s h place) (own s h)
+own_take s h place =
+    sym (ap (take (length (own s (take place h)))) (own_parts s h place) ∙ take-append_seam (own s (take place h)) (own s (drop place h)))
+
+-- the clock says no more than there are
+pub clock_within : (s : Side) (h : List Event) (place : ℕ) → clock s h place ≤ length (own s h)
+clock_within s h place =
+    omega (arith, ap length (own_parts s h place), length-append (own s (take place h)) (own s (drop place h)))
+
+-- a clock goes up
+clock_rises : (s : Side) (h : List Event) (a b : ℕ) → a ≤ b → clock s h a ≤ clock s h b
+clock_rises P h a b l = clock_up (clock P h) (clock_p (clock P h) (clock C h) (clocks_of h)) a b l
+clock_rises C h a b l = clock_up (clock C h) (clock_c (clock P h) (clock C h) (clocks_of h)) a b l
+
+-- an own event has one place
+pub one_place : OwnHasPlace → (s : Side) (h : List Event) (i place : ℕ) → IsPlace (clock s h) i place → place ≡ place_of s h i
+one_place has_place s h i place (before, past) =
+    let q = has_place s h i (omega (arith, past, clock_within s h (suc place))) in
+    elim (at_most_or_above place (place_of s h i)) [
+      | inl l ↦ elim (at_most_or_above (place_of s h i) place) [
+        | inl m ↦ omega (arith, l, m)
+        | inr m ↦ absurd (omega (arith, past, q.before, clock_rises s h (suc place) (place_of s h i) (omega (arith, m))))
+      ]
+      | inr l ↦ absurd (omega (arith, before, q.past, clock_rises s h (suc (place_of s h i)) place (omega (arith, l))))
+    ]
+
+-- ---- each event is by the side that may do it
+
+abbrev AreByDoers : List Event → Type 0
+AreByDoers [] = Unit {0}
+AreByDoers (e ∷ h) = (e.side ≡ doer e.bit e.act) × AreByDoers h
+
+by_doers : (h : List Event) → ((place : ℕ) (e : Event) → slice_get h place ≡ Some e → e.side ≡ doer e.bit e.act) → AreByDoers h
+by_doers [] each = tt
+by_doers (e ∷ h) each = (each 0 e refl, by_doers h (λ place x at. each (suc place) x at))
+
+lawful_doers : (shape : Shape) (h : List Event) → IsLawful shape h → AreByDoers h
+lawful_doers shape h lawful = by_doers h (λ place e at. (lawful.each place e at).right_side.by_doer)
+
+doers_take : (h : List Event) (place : ℕ) → AreByDoers h → AreByDoers (take place h)
+doers_take h zero d = tt
+doers_take [] (suc place) d = tt
+doers_take (e ∷ h) (suc place) d = (d.0, doers_take h place d.1)
+
+before_last-yes : (s : Side) (e : Event) (h : List Event) → has_event s h ≡ true → before_last s (e ∷ h) ≡ e ∷ before_last s h
+before_last-yes s e h f = ap (λ (b : Bool). if b then e ∷ before_last s h else []) f
+
+before_last-no : (s : Side) (e : Event) (h : List Event) → has_event s h ≡ false → before_last s (e ∷ h) ≡ []
+before_last-no s e h f = ap (λ (b : Bool). if b then e ∷ before_last s h else []) f
+
+doers_before : (s : Side) (h : List Event) → AreByDoers h → AreByDoers (before_last s h)
+doers_before s [] d = tt
+doers_before s (e ∷ h) d =
+    by_case (has_event s h) (λ f. rw (before_last-yes s e h f) (d.0, doers_before s h d.1)) (λ f. rw (before_last-no s e h f) tt)
+
+-- ---- the writes of a side's count are its own
+
+other_none : (s by : Side) (b : Bit) (act : Act) → by ≡ doer b act → same_side s by ≡ false → row_write (number_in_count s b) act ≡ None
+other_none P by (S i) ReadBegin d f = refl
+other_none P by (S i) (ReadEnd v) d f = refl
+other_none P by (S i) (WriteBegin v) d f = absurd (let g : true ≡ false = ap (same_side P) (sym d) ∙ f in cc)
+other_none P by (S i) WriteEnd d f = refl
+other_none P by (R i) act d f = refl
+other_none P by X act d f = refl
+other_none P by (Cell j i) act d f = refl
+other_none C by (S i) act d f = refl
+other_none C by (R i) ReadBegin d f = refl
+other_none C by (R i) (ReadEnd v) d f = refl
+other_none C by (R i) (WriteBegin v) d f = absurd (let g : true ≡ false = ap (same_side C) (sym d) ∙ f in cc)
+other_none C by (R i) WriteEnd d f = refl
+other_none C by X act d f = refl
+other_none C by (Cell j i) act d f = refl
+
+own_count : (s : Side) (h : List Event) → AreByDoers h → count_begun s h ≡ count_begun s (own s h)
+own_count s [] d = refl
+own_count s (e ∷ h) d =
+    by_case (is_by s e)
+    (λ f. rw (own-yes s e h f) (ap (cons_option (count_write s e)) (own_count s h d.1)))
+    (λ f. rw (own-no s e h f, other_none s e.side e.bit e.act d.0 f) (own_count s h d.1))
+
+-- in a lawful history
+pub count_begun_own : (shape : Shape) (s : Side) (h : List Event) → IsLawful shape h → count_begun s h ≡ count_begun s (own s h)
+count_begun_own shape s h lawful = own_count s h (lawful_doers shape h lawful)
+
+-- before a place
+pub count_begun_before :
+    (shape : Shape) (s : Side) (h : List Event) → IsLawful shape h → (place : ℕ) →
+    count_begun s (take place h) ≡ count_begun s (take (clock s h place) (own s h))
+count_begun_before shape s h lawful place =
+    own_count s (take place h) (doers_take h place (lawful_doers shape h lawful)) ∙ ap (count_begun s) (own_take s h place)
+
+-- ---- the own events but the last
+
+some_own : (s : Side) (h : List Event) → has_event s h ≡ true → 1 ≤ length (own s h)
+some_own s [] f = absurd (let g : true ≡ false = sym f in cc)
+some_own s (e ∷ h) f =
+    by_case (is_by s e)
+    (λ g. omega (arith, ap length (own-yes s e h g)))
+    (λ g.
+    let k : has_event s h ≡ true = rw g at f in
+    omega (arith, ap length (own-no s e h g), some_own s h k))
+
+none_own : (s : Side) (h : List Event) → has_event s h ≡ false → own s h ≡ []
+none_own s [] f = refl
+none_own s (e ∷ h) f =
+    by_case (is_by s e)
+    (λ g. absurd (let k : true ≡ false = rw g at f in cc))
+    (λ g.
+    let k : has_event s h ≡ false = rw g at f in
+    own-no s e h g ∙ none_own s h k)
+
+take_more : (n : ℕ) (e : Event) (xs : List Event) → 1 ≤ n → e ∷ take (n - 1) xs ≡ take n (e ∷ xs)
+take_more zero e xs l = absurd (omega (arith, l))
+take_more (suc n) e xs l =
+    let same : suc n - 1 ≡ n = omega arith in
+    ap (λ (k : ℕ). e ∷ take k xs) same
+
+own_before : (s : Side) (h : List Event) → own s (before_last s h) ≡ take (length (own s h) - 1) (own s h)
+own_before s [] = refl
+own_before s (e ∷ h) =
+    by_case (has_event s h)
+    (λ f. by_case (is_by s e)
+    (λ g.
+    let n : ℕ = length (own s h) in
+    let less : suc n - 1 ≡ n = omega arith in
+    ap (own s) (before_last-yes s e h f) ∙ own-yes s e (before_last s h) g ∙ ap (λ (l : List Event). e ∷ l) (own_before s h) ∙
+    take_more n e (own s h) (some_own s h f) ∙ ap (λ (k : ℕ). take k (e ∷ own s h)) (sym less) ∙
+    ap (λ (l : List Event). take (length l - 1) l) (sym (own-yes s e h g)))
+    (λ g.
+    ap (own s) (before_last-yes s e h f) ∙ own-no s e (before_last s h) g ∙ own_before s h ∙
+    ap (λ (l : List Event). take (length l - 1) l) (sym (own-no s e h g))))
+    (λ f. by_case (is_by s e)
+    (λ g.
+    ap (own s) (before_last-no s e h f) ∙
+    ap (λ (l : List Event). take (length l - 1) l) (sym (own-yes s e h g ∙ ap (λ (l : List Event). e ∷ l) (none_own s h f))))
+    (λ g.
+    ap (own s) (before_last-no s e h f) ∙ ap (λ (l : List Event). take (length l - 1) l) (sym (own-no s e h g ∙ none_own s h f))))
+
+take-take_less : (xs : List Event) (n : ℕ) → n ≤ length xs → take (length (take n xs) - 1) (take n xs) ≡ take (n - 1) xs
+take-take_less xs zero l = refl
+take-take_less [] (suc n) l = absurd (omega (arith, l))
+take-take_less (x ∷ xs) (suc zero) l = refl
+take-take_less (x ∷ []) (suc (suc n)) l = absurd (omega (arith, l))
+take-take_less (x ∷ y ∷ xs) (suc (suc n)) l =
+    let rest = take-take_less (y ∷ xs) (suc n) (omega (arith, l)) in
+    let one : suc (suc n) - 1 ≡ suc (suc n - 1) = omega arith in
+    let two : length (take (suc (suc n)) (x ∷ y ∷ xs)) - 1 ≡ suc (length (take (suc n) (y ∷ xs)) - 1) = omega arith in
+    ap (λ (k : ℕ). take k (take (suc (suc n)) (x ∷ y ∷ xs))) two ∙ ap (λ (l : List Event). x ∷ l) rest ∙ ap (λ (k : ℕ). take k (x ∷ y ∷ xs)) (sym one)
+
+-- the writes of a side's count that had ended before a place are those of its own events there but the last
+pub count_ended_before :
+    (shape : Shape) (s : Side) (h : List Event) → IsLawful shape h → (place : ℕ) →
+    count_ended s (take place h) ≡ count_begun s (take (clock s h place - 1) (own s h))
+count_ended_before shape s h lawful place =
+    own_count s (before_last s (take place h)) (doers_before s (take place h) (doers_take h place (lawful_doers shape h lawful))) ∙
+    ap (count_begun s)
+    (own_before s (take place h) ∙ ap (λ (l : List Event). take (length l - 1) l) (own_take s h place) ∙
+    take-take_less (own s h) (clock s h place) (clock_within s h place))

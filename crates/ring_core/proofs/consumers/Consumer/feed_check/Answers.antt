@@ -1,0 +1,13 @@
+use Rattle.ring_core.specs.contracts.consumers.Consumer.{the_view}
+use Rattle.ring_core.proofs.ConsumerMoves.{check_one, check_zero}
+use Rattle.ring_core.proofs.consumers.Consumer.feed_check.Goals as goal
+
+pub returns-then-answer-clause-stands : goal.returns-then-answer-clause-stands
+returns-then-answer-clause-stands c =
+    rw (← c.self.view_is)
+    (check_one (the_view c.self.inside) c.new-self-inside.result c.args.answer (rw (← c.self.view_is) at c.requires.stage)
+    c.new-self-inside.ensures.stands c.if-answer.true)
+
+pub returns-else-answer-clause-stands : goal.returns-else-answer-clause-stands
+returns-else-answer-clause-stands c =
+    rw (← c.self.view_is) (check_zero (the_view c.self.inside) c.args.answer (rw (← c.self.view_is) at c.requires.stage) c.if-answer.false)

@@ -1,0 +1,78 @@
+-- What the consumer's machine remembers, and the access that is due.
+use Rattle.std.specs.Prelude.{◌≡◌, ℕ, ◌<◌, Bool, true, false, Option, Some, None}
+use Rattle.bits_core.specs.declared.events.Side.TheVariants.{C}
+use Rattle.bits_core.specs.declared.events.Bit.TheVariants.{X}
+use Rattle.bits_core.specs.declared.events.Access.{Access}
+use Rattle.bits_core.specs.declared.events.Access.TheVariants.{Read}
+use Rattle.bits_core.specs.declared.shapes.Shape.{Shape}
+use Rattle.bits_core.specs.Shape.{capacity_of, modulus_of, width_of}
+use Rattle.register_core.specs.ScanState.{ScanState, due_scan}
+use Rattle.register_core.specs.WordState.{ReaderState, due_read}
+use Rattle.register_core.specs.UnaryState.{UnaryState, due_unary}
+use Rattle.ring_core.specs.Calls.{IsScanning, IsCounted, IsBeingCounted}
+use Rattle.ring_core.specs.declared.consumers.TakeReply.{TakeReply}
+use Rattle.ring_core.specs.declared.consumers.Stage.{Stage}
+use Rattle.ring_core.specs.declared.consumers.Stage.TheVariants.{Idle, Scanning, Checking, Rescanning, Loading, Counting}
+
+-- the shape, the two counts' remainders by the modulus and by the capacity, the machines of the take under way or of the
+-- last one, whether a take was told that the ring is closed, and what the last take was answered
+pub record ConsumerState : Type 0 where
+  pub shape : Shape
+  pub count : ℕ
+  pub cell : ℕ
+  pub stage : Stage
+  pub scan : ScanState
+  pub word : ReaderState
+  pub row : UnaryState
+  pub told : Bool
+  pub reply : Option TakeReply
+
+-- the access that is due, by the stage
+abbrev pub due_at : Stage → ConsumerState → Option Access
+due_at Idle p = None
+due_at Scanning p = due_scan p.scan
+due_at Checking p = Some (Read X)
+due_at Rescanning p = due_scan p.scan
+due_at Loading p = due_read p.word
+due_at Counting p = due_unary p.row
+
+abbrev pub due_take : ConsumerState → Option Access
+due_take p = due_at p.stage p
+
+-- whether a take is under way
+abbrev pub takes_at : Stage → Bool
+takes_at Idle = false
+takes_at Scanning = true
+takes_at Checking = true
+takes_at Rescanning = true
+takes_at Loading = true
+takes_at Counting = true
+
+abbrev pub is_taking : ConsumerState → Bool
+is_taking p = takes_at p.stage
+
+-- a take is under way
+pub record IsTaking (p : ConsumerState) : Type 0 where
+  pub not_told : p.told ≡ false
+  pub not_answered : p.reply ≡ None
+
+-- the word machine reads the consumer's cell
+pub record IsLoading (p : ConsumerState) : Type 0 where
+  pub width_is : p.word.width ≡ width_of p.shape
+  pub cell_is : p.word.cell ≡ p.cell
+
+-- what holds at each stage
+abbrev pub IsAt : Stage → ConsumerState → Type 0
+IsAt Idle p = IsCounted p.row p.count
+IsAt Scanning p = IsCounted p.row p.count × IsTaking p × IsScanning C (modulus_of p.shape) p.scan
+IsAt Checking p = IsCounted p.row p.count × IsTaking p
+IsAt Rescanning p = IsCounted p.row p.count × IsTaking p × IsScanning C (modulus_of p.shape) p.scan
+IsAt Loading p = IsCounted p.row p.count × IsTaking p × IsLoading p × (p.word.read < p.word.width)
+IsAt Counting p = IsBeingCounted p.row (modulus_of p.shape) p.count × IsTaking p × IsLoading p × (p.word.read ≡ p.word.width)
+
+pub record IsConsumer (p : ConsumerState) : Type 0 where
+  pub count_below : p.count < modulus_of p.shape
+  pub cell_below : p.cell < capacity_of p.shape
+  pub row_side : p.row.side ≡ C
+  pub row_modulus : p.row.modulus ≡ modulus_of p.shape
+  pub at : IsAt p.stage p

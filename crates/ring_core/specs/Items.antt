@@ -1,0 +1,73 @@
+-- What was put, taken and told among the first events of the calls of a side.
+use Rattle.std.specs.Prelude.{◌≡◌, ℕ, suc, ◌-◌, ◌*◌, ◌%◌, ◌≤◌, nat_lt, nat_le, List, [], ◌∷◌, ◌++◌, length, if◌then◌else◌}
+use Rattle.bits_core.specs.declared.events.Side.TheVariants.{P, C}
+use Rattle.bits_core.specs.declared.events.Event.{Event}
+use Rattle.bits_core.specs.declared.shapes.Shape.{Shape}
+use Rattle.bits_core.specs.Shape.{capacity_of, width_of}
+use Rattle.bits_core.specs.Made.{Made, own}
+use Rattle.register_core.specs.Word.{word_write}
+use Rattle.register_core.specs.ScanState.{scan_phrase, row_read_by}
+use Rattle.ring_core.specs.Puts.{Put, Stored, Full, put_phrase, Puts, FollowsPuts}
+use Rattle.ring_core.specs.Takes.{Take, Item, ItemAfterClose, Empty, End, Open, Closed, take_phrase, take_program, Takes, FollowsTakes}
+
+-- how many events these accesses have
+abbrev pub events_in : List Made → ℕ
+events_in made = 2 * length made
+
+-- the accesses of a put that stores, up to its count write
+abbrev pub before_count : Shape → ℕ → ℕ → ℕ → List Made
+before_count shape n seen item = scan_phrase (row_read_by P) seen ++ word_write (width_of shape) (n % capacity_of shape) item
+
+-- the items of the puts whose count write has begun within the first t events, where n items were stored before them
+abbrev pub items_put : Shape → ℕ → List Put → ℕ → List ℕ
+items_put shape n [] t = []
+items_put shape n (Stored seen item ∷ puts) t =
+    (if nat_lt (events_in (before_count shape n seen item)) t then item ∷ [] else [])
+    ++ items_put shape (suc n) puts (t - events_in (put_phrase shape n (Stored seen item)))
+items_put shape n (Full seen ∷ puts) t = items_put shape n puts (t - events_in (put_phrase shape n (Full seen)))
+
+-- the items of all these puts
+abbrev pub all_put : List Put → List ℕ
+all_put [] = []
+all_put (Stored seen item ∷ puts) = item ∷ all_put puts
+all_put (Full seen ∷ puts) = all_put puts
+
+-- the items of the takes that have ended within the first t events, where k items were taken before them
+abbrev pub items_taken : Shape → ℕ → List Take → ℕ → List ℕ
+items_taken shape k [] t = []
+items_taken shape k (Item seen item ∷ takes) t =
+    (if nat_le (events_in (take_phrase shape k (Item seen item))) t then item ∷ [] else [])
+    ++ items_taken shape (suc k) takes (t - events_in (take_phrase shape k (Item seen item)))
+items_taken shape k (ItemAfterClose seen again item ∷ takes) t =
+    (if nat_le (events_in (take_phrase shape k (ItemAfterClose seen again item))) t then item ∷ [] else [])
+    ++ items_taken shape (suc k) takes (t - events_in (take_phrase shape k (ItemAfterClose seen again item)))
+items_taken shape k (Empty seen ∷ takes) t = items_taken shape k takes (t - events_in (take_phrase shape k (Empty seen)))
+
+-- whether the last of the takes is one that is told the ring is closed
+abbrev pub Tells : End → Type 0
+Tells Open = ⊥
+Tells (Closed seen again) = Unit {0}
+
+-- within the first t events the takes have ended, the last being told that the ring is closed
+abbrev pub IsTold : Shape → Takes → ℕ → Type 0
+IsTold shape calls t = Tells calls.end × (events_in (take_program shape calls) ≤ t)
+
+-- the items put in a history, the items taken in it, and whether its consumer was told that the ring is closed, by the
+-- calls that its sides follow
+abbrev pub items_put_in : Shape → List Event → Puts → List ℕ
+items_put_in shape h calls = items_put shape 0 calls.puts (length (own P h))
+
+abbrev pub items_taken_in : Shape → List Event → Takes → List ℕ
+items_taken_in shape h calls = items_taken shape 0 calls.takes (length (own C h))
+
+abbrev pub ToldIn : Shape → List Event → Takes → Type 0
+ToldIn shape h calls = IsTold shape calls (length (own C h))
+
+-- they are the history's own: whichever calls its events are read as, they are the same
+abbrev pub ItemsAreRead : Type 0
+ItemsAreRead = (shape : Shape) (h : List Event) (a b : Puts) → FollowsPuts shape h a → FollowsPuts shape h b → items_put_in shape h a ≡ items_put_in shape h b
+
+abbrev pub TakenAreRead : Type 0
+TakenAreRead =
+    (shape : Shape) (h : List Event) (a b : Takes) → FollowsTakes shape h a → FollowsTakes shape h b →
+    (items_taken_in shape h a ≡ items_taken_in shape h b) × (ToldIn shape h a → ToldIn shape h b)

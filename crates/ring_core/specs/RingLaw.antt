@@ -1,0 +1,103 @@
+-- The law of the ring, for every lawful history whose two sides follow their programs. A moment is a place of the history;
+-- what stands before it is told by the clocks of the two sides.
+use Rattle.std.specs.Prelude.{◌≡◌, ◌⊎◌, ℕ, ◌+◌, ◌-◌, ◌<◌, ◌≤◌, ◌%◌, true, false, List, length}
+use Rattle.bits_core.specs.declared.events.Side.{Side}
+use Rattle.bits_core.specs.declared.events.Side.TheVariants.{P, C}
+use Rattle.bits_core.specs.declared.events.Event.{Event}
+use Rattle.bits_core.specs.declared.shapes.Shape.{Shape}
+use Rattle.bits_core.specs.Shape.{capacity_of, modulus_of}
+use Rattle.bits_core.specs.Intervals as intervals
+use Rattle.bits_core.specs.Lawful.{IsLawful}
+use Rattle.bits_core.specs.Made.{own, clock, IsPlaceOf, IsBeginning}
+use Rattle.ring_core.specs.Puts.{Puts, put_phrases, FollowsPuts}
+use Rattle.ring_core.specs.Takes.{Takes, FollowsTakes}
+use Rattle.ring_core.specs.Items.{events_in, items_put, items_taken, all_put, IsTold, items_put_in, items_taken_in, ToldIn}
+use Rattle.ring_core.specs.Spans.{Span, Asks, counts, before_count, begun, ended, Stands}
+use Rattle.ring_core.specs.Clocks.{IsPlace}
+use Rattle.ring_core.specs.Looks.{put_spans, take_spans}
+
+-- a lawful history whose two sides follow these calls
+pub record IsRun (shape : Shape) (h : List Event) (puts : Puts) (takes : Takes) : Type 0 where
+  pub lawful : IsLawful shape h
+  pub puts_follow : FollowsPuts shape h puts
+  pub takes_follow : FollowsTakes shape h takes
+
+-- the puts whose count write has begun before a place, those that have ended before it, and the same of takes
+abbrev pub puts_begun : Shape → List Event → Puts → ℕ → ℕ
+puts_begun shape h puts t = begun (put_spans shape puts) (clock P h t)
+
+abbrev pub puts_ended : Shape → List Event → Puts → ℕ → ℕ
+puts_ended shape h puts t = ended (put_spans shape puts) (clock P h t)
+
+abbrev pub takes_begun : Shape → List Event → Takes → ℕ → ℕ
+takes_begun shape h takes t = begun (take_spans shape takes) (clock C h t)
+
+abbrev pub takes_ended : Shape → List Event → Takes → ℕ → ℕ
+takes_ended shape h takes t = ended (take_spans shape takes) (clock C h t)
+
+-- An ended scan gives the number of a count write of the other side, modulo the modulus: one from least to most, not older
+-- than those that had ended where the scan began, and begun before it ended.
+pub record ReadsCount (modulus : ℕ) (own other : ℕ → ℕ) (writes : List Span) (s : ℕ) (x : Span) (least most : ℕ) : Type 0 where
+  pub number : ℕ
+  pub value : x.seen ≡ number % modulus
+  pub low : least ≤ number
+  pub high : number ≤ most
+  pub not_older : (first : ℕ) → IsPlace own s first → ended writes (other first) ≤ number
+  pub not_newer : (last : ℕ) → IsPlace own (s + (x.scan - 1)) last → number ≤ begun writes (other last)
+
+-- from the place of a side's own event i to that of its own event e, or past the end of the history where that one has not come
+pub record IsInterval (s : Side) (h : List Event) (i e start stop : ℕ) : Type 0 where
+  pub begins : IsPlaceOf s h i start
+  pub ends : IsPlaceOf s h e stop ⊎ ((length (own s h) ≤ e) × (stop ≡ length h))
+
+-- the word access of a look that has one, from its first begin to its last end, where the look stands at own event s
+abbrev pub IsWordAccess : Side → List Event → ℕ → Span → ℕ → ℕ → Type 0
+IsWordAccess side h s x start stop = IsInterval side h (s + x.scan) (s + before_count x - 1) start stop
+
+pub record RingLaw (shape : Shape) (h : List Event) (puts : Puts) (takes : Takes) : Type 0 where
+  -- at every moment no more items are taken than put, and at most as many are put and not taken as the ring has cells
+  pub within :
+      (t : ℕ) → (takes_begun shape h takes t ≤ puts_begun shape h puts t) × (puts_begun shape h puts t ≤ takes_begun shape h takes t + capacity_of shape)
+  -- put number n reads a count from n - capacity - 1 to n
+  pub put_range :
+      (s n : ℕ) (x : Span) → Stands (put_spans shape puts) s n x → s + x.scan ≤ length (own P h) →
+      ReadsCount (modulus_of shape) (clock P h) (clock C h) (take_spans shape takes) s x (n - (capacity_of shape + 1)) n
+  -- take number k reads counts from k - 1 to k + capacity
+  pub take_range :
+      (s k : ℕ) (x : Span) → Stands (take_spans shape takes) s k x → s + x.scan ≤ length (own C h) →
+      ReadsCount (modulus_of shape) (clock C h) (clock P h) (put_spans shape puts) s x (k - 1) (k + capacity_of shape)
+  -- no word read of a cell overlaps a word write of it
+  pub quiet :
+      (s n : ℕ) (x : Span) → Stands (put_spans shape puts) s n x → counts x.outcome ≡ 1 →
+      (s' k : ℕ) (y : Span) → Stands (take_spans shape takes) s' k y → counts y.outcome ≡ 1 → n % capacity_of shape ≡ k % capacity_of shape →
+      (start stop start' stop' : ℕ) → IsWordAccess P h s x start stop → IsWordAccess C h s' y start' stop' →
+      ¬ intervals.Overlap start stop start' stop'
+  -- the items taken are a prefix of the items put
+  pub prefix :
+      (t : ℕ) → IsBeginning (items_taken shape 0 takes.takes (clock C h t)) (items_put shape 0 puts.puts (clock P h t))
+  -- a take that finds the ring empty: each put that had ended where it began was taken by a take that had ended then, and no
+  -- close had ended
+  pub empty :
+      (s k : ℕ) (x : Span) → Stands (take_spans shape takes) s k x → x.outcome ≡ Asks false → s + before_count x ≤ length (own C h) →
+      (first : ℕ) → IsPlaceOf C h s first →
+      (puts_ended shape h puts first ≤ takes_ended shape h takes first) × (clock P h first < events_in (put_phrases shape 0 puts.puts) + 2)
+  -- a put that finds the ring full: the puts before it, less the takes that had ended where it began, are at least the capacity
+  pub full :
+      (s n : ℕ) (x : Span) → Stands (put_spans shape puts) s n x → counts x.outcome ≡ 0 → s + x.scan ≤ length (own P h) →
+      (first : ℕ) → IsPlaceOf P h s first → takes_ended shape h takes first + capacity_of shape ≤ n
+  -- once the consumer was told that the ring is closed, at every later moment the close has begun, behind all puts, and every
+  -- item put was taken
+  pub closed :
+      (t u : ℕ) → IsTold shape takes (clock C h t) → t ≤ u →
+      (items_put shape 0 puts.puts (clock P h u) ≡ all_put puts.puts) × (items_taken shape 0 takes.takes (clock C h u) ≡ all_put puts.puts) ×
+      (puts.closes ≡ true) × (events_in (put_phrases shape 0 puts.puts) < clock P h u)
+
+abbrev pub RingHolds : Type 0
+RingHolds = (shape : Shape) (h : List Event) (puts : Puts) (takes : Takes) → IsRun shape h puts takes → RingLaw shape h puts takes
+
+-- Once the consumer was told that the ring is closed, in every longer history the lists are the same.
+abbrev pub ClosedStays : Type 0
+ClosedStays =
+    (shape : Shape) (h h' : List Event) (puts puts' : Puts) (takes takes' : Takes) → IsRun shape h puts takes → IsRun shape h' puts' takes' →
+    IsBeginning h h' → ToldIn shape h takes →
+    (items_put_in shape h' puts' ≡ items_put_in shape h puts) × (items_taken_in shape h' takes' ≡ items_taken_in shape h takes)

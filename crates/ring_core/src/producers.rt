@@ -1,0 +1,221 @@
+//! The producer's machine.
+ghost use Rattle.std.specs.Prelude.{◌≡◌, ◌≢◌, ℕ, ◌^◌, ◌<◌, true, false, Some, None, List, [], ◌∷◌, ◌++◌, ◌↔◌, IsTrue};
+ghost use Rattle.bits_core.specs.declared.events.Side.TheVariants.{P};
+ghost use Rattle.bits_core.specs.Shape.{capacity_of, modulus_of, width_of};
+ghost use Rattle.bits_core.specs.Made.{Made, answered};
+
+use crate::counts::has_room;
+use bits_core::{Access, Bit, Shape, Side};
+use register_core::{UnaryScan, UnaryWriter, WordWriter};
+use std::marker::Model;
+
+/// What a put was answered.
+#[derive(Clone, Copy, PartialEq, Eq, Debug)]
+pub enum PutReply {
+    /// The item was stored.
+    Stored,
+    /// The ring was full.
+    Full,
+    /// The producer had closed the ring.
+    Closed,
+}
+
+/// How far the call under way has come.
+#[derive(Clone, Copy, PartialEq, Eq, Debug)]
+enum Stage {
+    Idle,
+    Scanning,
+    Storing,
+    Counting,
+    Closing,
+}
+
+/// The side that puts items: it tells the accesses of its calls one by one.
+#[derive(Drop)]
+pub struct Producer {
+    shape: Shape,
+    count: u64,
+    cell: u64,
+    stage: Stage,
+    scan: UnaryScan,
+    word: WordWriter,
+    row: UnaryWriter,
+    closed: bool,
+    reply: Option<PutReply>,
+}
+
+impl Model for Producer {
+    ghost use Rattle.ring_core.specs.ProducerState.{ProducerState, IsProducer};
+
+    ghost Value = { ProducerState };
+
+    ghost view = { λ p. record { shape = p.shape; count = p.count; cell = p.cell; stage = p.stage; scan = p.scan; word = p.word; row = p.row; closed = p.closed; reply = p.reply } };
+
+    ghost invariant = { λ p. IsProducer (record { shape = p.shape; count = p.count; cell = p.cell; stage = p.stage; scan = p.scan; word = p.word; row = p.row; closed = p.closed; reply = p.reply }) };
+}
+
+impl Producer {
+    ghost use Rattle.ring_core.specs.Calls.{LastBitIsDue};
+    ghost use Rattle.ring_core.specs.declared.producers.Stage.TheVariants.{Scanning, Storing, Counting};
+    ghost use Rattle.ring_core.specs.declared.producers.PutReply.TheVariants.{Closed};
+    ghost use Rattle.ring_core.specs.Puts.{Puts};
+    ghost use Rattle.ring_core.specs.ProducerCalls.{new_producer, no_puts, ProducerStands, IsNextPut, HasMoved, IsReply, closes_with};
+    ghost use Rattle.ring_core.specs.ProducerState.{Call, Put, Close, due_put, call_of};
+
+    /// The producer of a ring of this shape that has made no access.
+    pub fn new(shape: &Shape) -> Self
+        ensures state { result ≡ new_producer shape.now }
+        ensures stands { ProducerStands result no_puts [] }
+    {
+        Producer {
+            shape: *shape,
+            count: 0,
+            cell: 0,
+            stage: Stage::Idle,
+            scan: UnaryScan::new(shape, Side::P),
+            word: WordWriter::new(shape, 0, 0),
+            row: UnaryWriter::new(shape, Side::P),
+            closed: false,
+            reply: None,
+        }
+    }
+
+    /// Begins a put of an item that fits the shape. No access may be due. After a close it is answered
+    /// `Closed` at once, with no access.
+    pub fn put(&mut self, item: u64)
+        requires idle { due_put self.old ≡ None }
+        requires fits { item < 2 ^ width_of self.old.shape }
+        ensures shape { self.new.shape ≡ self.old.shape }
+        ensures begun { self.old.closed ≡ false → (call_of self.new ≡ Some (Put item)) × (self.new.closed ≡ false) }
+        ensures refused { self.old.closed ≡ true → self.new ≡ record self.old { reply = Some Closed } }
+        ensures stands { (calls : Puts) (made : List Made) → ProducerStands self.old calls made → ProducerStands self.new calls made }
+    {
+        if self.closed {
+            self.reply = Some(PutReply::Closed);
+        } else {
+            self.scan = UnaryScan::new(&self.shape, Side::P);
+            self.word = WordWriter::new(&self.shape, self.cell, item);
+            self.reply = None;
+            self.stage = Stage::Scanning;
+        }
+    }
+
+    /// Begins a close. No access may be due. A second close has no access.
+    pub fn close(&mut self)
+        requires { due_put self.old ≡ None }
+        ensures shape { self.new.shape ≡ self.old.shape }
+        ensures begun { self.old.closed ≡ false → call_of self.new ≡ Some Close }
+        ensures again { self.old.closed ≡ true → self.new ≡ record self.old { reply = None } }
+        ensures stands { (calls : Puts) (made : List Made) → ProducerStands self.old calls made → ProducerStands self.new calls made }
+    {
+        self.reply = None;
+        if !self.closed {
+            self.closed = true;
+            self.stage = Stage::Closing;
+        }
+    }
+
+    /// The access that is due, and none where no call is under way.
+    pub fn next(&self) -> Option<Access>
+        ensures due { result ≡ due_put self.now }
+        ensures stands { (calls : Puts) (made : List Made) → ProducerStands self.now calls made → IsNextPut self.now.shape calls (call_of self.now) made result }
+    {
+        match self.stage {
+            Stage::Idle => None,
+            Stage::Scanning => self.scan.next(),
+            Stage::Storing => self.word.next(),
+            Stage::Counting => self.row.next(),
+            Stage::Closing => Some(Access::Write(Bit::X, true)),
+        }
+    }
+
+    /// The due access was made and answered so; the answer to a write says nothing. Where
+    /// [`expects_one`](Self::expects_one), the answer must be 1.
+    pub fn feed(&mut self, answer: bool)
+        requires due { due_put self.old ≢ None }
+        requires one { LastBitIsDue self.old.shape P (due_put self.old) → answer ≡ true }
+        ensures shape { self.new.shape ≡ self.old.shape }
+        ensures stands { (calls : Puts) (made : List Made) (access : Access) → ProducerStands self.old calls made → due_put self.old ≡ Some access → HasMoved self.old self.new calls (made ++ answered access answer ∷ []) }
+    {
+        match self.stage {
+            Stage::Idle => {}
+            Stage::Scanning => self.feed_scan(answer),
+            Stage::Storing => self.feed_word(answer),
+            Stage::Counting => self.feed_count(answer),
+            Stage::Closing => self.stage = Stage::Idle,
+        }
+    }
+
+    fn feed_scan(&mut self, answer: bool)
+        requires stage { self.old.stage ≡ Scanning }
+        requires one { LastBitIsDue self.old.shape P (due_put self.old) → answer ≡ true }
+        ensures shape { self.new.shape ≡ self.old.shape }
+        ensures stands { (calls : Puts) (made : List Made) (access : Access) → ProducerStands self.old calls made → due_put self.old ≡ Some access → HasMoved self.old self.new calls (made ++ answered access answer ∷ []) }
+    {
+        self.scan.feed(answer);
+        match self.scan.value() {
+            None => {}
+            Some(seen) => {
+                if has_room(&self.shape, self.count, seen) {
+                    self.stage = Stage::Storing;
+                } else {
+                    self.reply = Some(PutReply::Full);
+                    self.stage = Stage::Idle;
+                }
+            }
+        }
+    }
+
+    fn feed_word(&mut self, answer: bool)
+        requires stage { self.old.stage ≡ Storing }
+        ensures shape { self.new.shape ≡ self.old.shape }
+        ensures stands { (calls : Puts) (made : List Made) (access : Access) → ProducerStands self.old calls made → due_put self.old ≡ Some access → HasMoved self.old self.new calls (made ++ answered access answer ∷ []) }
+    {
+        self.word.feed(answer);
+        if self.word.next().is_none() {
+            self.row.write((self.count + 1) % self.shape.modulus());
+            self.stage = Stage::Counting;
+        }
+    }
+
+    fn feed_count(&mut self, answer: bool)
+        requires stage { self.old.stage ≡ Counting }
+        ensures shape { self.new.shape ≡ self.old.shape }
+        ensures stands { (calls : Puts) (made : List Made) (access : Access) → ProducerStands self.old calls made → due_put self.old ≡ Some access → HasMoved self.old self.new calls (made ++ answered access answer ∷ []) }
+    {
+        self.row.feed(answer);
+        if self.row.next().is_none() {
+            self.count = (self.count + 1) % self.shape.modulus();
+            self.cell = (self.cell + 1) % self.shape.capacity();
+            self.reply = Some(PutReply::Stored);
+            self.stage = Stage::Idle;
+        }
+    }
+
+    /// What the last put was answered: none before the first one, during a call, and after a close.
+    pub fn reply(&self) -> Option<PutReply>
+        ensures state { result ≡ self.now.reply }
+        ensures stands { (calls : Puts) (made : List Made) → ProducerStands self.now calls made → IsReply calls (call_of self.now) result }
+    {
+        self.reply
+    }
+
+    /// Whether a close was made or is under way.
+    pub fn is_closed(&self) -> bool
+        ensures state { result ≡ self.now.closed }
+        ensures stands { (calls : Puts) (made : List Made) → ProducerStands self.now calls made → result ≡ closes_with calls (call_of self.now) }
+    {
+        self.closed
+    }
+
+    /// Whether the last bit of the consumer's count is due. Over a lawful history whose consumer follows its
+    /// program it answers 1.
+    pub fn expects_one(&self) -> bool
+        ensures { IsTrue result ↔ LastBitIsDue self.now.shape P (due_put self.now) }
+    {
+        match self.stage {
+            Stage::Scanning => self.scan.expects_one(),
+            _ => false,
+        }
+    }
+}

@@ -1,0 +1,508 @@
+ghost use Rattle.std.specs.Prelude.{◌≡◌};
+
+use bits_core::{
+    Access, Act, Always, Bit, Event, Memory, MemoryFault, Oracle, Shape, Side, Tape, Verdict,
+    audit_bits,
+};
+use ring_core::{Consumer, Producer, PutReply, TakeReply};
+use std::alloc::Allocator;
+use std::process::Abort;
+use std::test::Fail;
+
+// Both machines of a ring, and what is still to be put and taken.
+#[derive(Drop)]
+struct Ring<'a> {
+    shape: Shape,
+    producer: Producer,
+    consumer: Consumer,
+    items: &'a [u64],
+    takes: usize,
+    closes: bool,
+    // the replies so far
+    stored: usize,
+    full: u64,
+    taken: usize,
+    empty: u64,
+    told: bool,
+    // whether each item taken is the one put at its turn
+    in_order: bool,
+    ghost of_producer: { producer.shape ≡ shape },
+    ghost of_consumer: { consumer.shape ≡ shape },
+}
+
+// What a step of a side was.
+#[derive(Drop)]
+enum Step {
+    Nothing,
+    Begin,
+    End(bool),
+}
+
+// The side's next event: the end of the access that it has open, or the begin of the one that is due.
+fn next_event<A: Allocator, O: Oracle>(
+    memory: &mut Memory<A>,
+    side: Side,
+    due: Option<Access>,
+    oracle: &mut O,
+) -> Result<Step, MemoryFault> {
+    match memory.pending(side) {
+        Some(Access::Read(_)) => return Ok(Step::End(memory.end_read(side, oracle)?)),
+        Some(Access::Write(_, _)) => {
+            memory.end_write(side)?;
+            return Ok(Step::End(false));
+        }
+        None => {}
+    }
+    match due {
+        Some(Access::Read(bit)) if memory.shape().has(bit) && side == bit.reader() => {
+            memory.begin_read(side, bit)?;
+            Ok(Step::Begin)
+        }
+        Some(Access::Write(bit, value)) if memory.shape().has(bit) && side == bit.writer() => {
+            memory.begin_write(side, bit, value)?;
+            Ok(Step::Begin)
+        }
+        _ => Ok(Step::Nothing),
+    }
+}
+
+impl<'a> Ring<'a> {
+    fn new(shape: &Shape, items: &'a [u64], takes: usize, closes: bool) -> Ring<'a> {
+        Ring {
+            shape: *shape,
+            producer: Producer::new(shape),
+            consumer: Consumer::new(shape),
+            items,
+            takes,
+            closes,
+            stored: 0,
+            full: 0,
+            taken: 0,
+            empty: 0,
+            told: false,
+            in_order: true,
+        }
+    }
+
+    // One event of the producer, which begins its next call where it is idle; nothing once it is done.
+    fn step_producer<A: Allocator, O: Oracle>(
+        &mut self,
+        memory: &mut Memory<A>,
+        oracle: &mut O,
+    ) -> Result<(), MemoryFault> {
+        if self.producer.next().is_none() {
+            match self.items.get(self.stored) {
+                Some(item) if self.shape.fits(*item) => self.producer.put(*item),
+                _ if self.closes && !self.producer.is_closed() => self.producer.close(),
+                _ => {}
+            }
+        }
+        if let Step::End(answer) = next_event(memory, Side::P, self.producer.next(), oracle)?
+            && self.producer.next().is_some()
+            && (answer || !self.producer.expects_one())
+        {
+            self.producer.feed(answer);
+            match self.producer.reply() {
+                Some(PutReply::Stored) => self.stored = self.stored.saturating_add(1),
+                Some(PutReply::Full) => self.full = self.full.saturating_add(1),
+                _ => {}
+            }
+        }
+        Ok(())
+    }
+
+    // One event of the consumer, which begins its next take where it is idle; nothing once it is done.
+    fn step_consumer<A: Allocator, O: Oracle>(
+        &mut self,
+        memory: &mut Memory<A>,
+        oracle: &mut O,
+    ) -> Result<(), MemoryFault> {
+        if self.consumer.next().is_none() && self.taken < self.takes && !self.told {
+            self.consumer.take();
+        }
+        if let Step::End(answer) = next_event(memory, Side::C, self.consumer.next(), oracle)?
+            && self.consumer.next().is_some()
+            && (answer || !self.consumer.expects_one())
+        {
+            self.consumer.feed(answer);
+            match self.consumer.reply() {
+                Some(TakeReply::Item(item)) => {
+                    self.in_order = self.in_order && self.items.get(self.taken) == Some(&item);
+                    self.taken = self.taken.saturating_add(1);
+                }
+                Some(TakeReply::Empty) => self.empty = self.empty.saturating_add(1),
+                Some(TakeReply::Closed) => self.told = true,
+                None => {}
+            }
+        }
+        Ok(())
+    }
+
+    // So many steps of each side in turn.
+    fn run<A: Allocator, O: Oracle>(
+        &mut self,
+        memory: &mut Memory<A>,
+        oracle: &mut O,
+        schedule: &[(Side, u64)],
+    ) -> Result<(), MemoryFault> {
+        for (side, count) in schedule {
+            for _ in 0..*count {
+                match side {
+                    Side::P => self.step_producer(memory, oracle)?,
+                    Side::C => self.step_consumer(memory, oracle)?,
+                }
+            }
+        }
+        Ok(())
+    }
+}
+
+// What a run ends with: how many events, items stored and taken, calls answered full and empty, whether the
+// consumer was told that the ring is closed, and how many reads were overlapped.
+#[derive(Clone, Copy, PartialEq, Eq, Debug)]
+struct Report {
+    events: usize,
+    stored: usize,
+    taken: usize,
+    full: u64,
+    empty: u64,
+    told: bool,
+    flickers: u64,
+}
+
+fn expect_report<A: Allocator>(rt: &impl Abort, ring: &Ring, memory: &Memory<A>, report: Report) {
+    let made = Report {
+        events: memory.events().len(),
+        stored: ring.stored,
+        taken: ring.taken,
+        full: ring.full,
+        empty: ring.empty,
+        told: ring.told,
+        flickers: memory.flickers(),
+    };
+    assert_eq!(rt; made, report);
+    assert!(rt; ring.in_order);
+    assert_eq!(rt;
+        audit_bits(&memory.shape(), memory.events()),
+        Verdict::Lawful
+    );
+}
+
+// The report of a run in which nothing was refused and no read was overlapped.
+fn plain(events: usize, stored: usize, taken: usize) -> Report {
+    Report {
+        events,
+        stored,
+        taken,
+        full: 0,
+        empty: 0,
+        told: false,
+        flickers: 0,
+    }
+}
+
+#[test]
+fn an_item_goes_through(rt: HostRuntime) -> Result<(), Fail> {
+    let shape = Shape::new(1, 3, 1)?;
+    let mut memory = Memory::new(rt.alloc(), shape);
+    let mut ring = Ring::new(&shape, &[1], 1, false);
+    ring.run(
+        &mut memory,
+        &mut Always(false),
+        &[(Side::P, 8), (Side::C, 10)],
+    )?;
+    expect_report(&rt, &ring, &memory, plain(18, 1, 1));
+    Ok(())
+}
+
+#[test]
+fn a_second_put_finds_one_cell_full(rt: HostRuntime) -> Result<(), Fail> {
+    let shape = Shape::new(1, 3, 1)?;
+    let mut memory = Memory::new(rt.alloc(), shape);
+    let mut ring = Ring::new(&shape, &[1, 1], 0, false);
+    ring.run(&mut memory, &mut Always(false), &[(Side::P, 10)])?;
+    expect_report(
+        &rt,
+        &ring,
+        &memory,
+        Report {
+            full: 1,
+            ..plain(10, 1, 0)
+        },
+    );
+    assert_eq!(rt; ring.producer.reply(), Some(PutReply::Full));
+    Ok(())
+}
+
+#[test]
+fn a_second_scan_finds_the_item(rt: HostRuntime) -> Result<(), Fail> {
+    let shape = Shape::new(1, 3, 1)?;
+    let mut memory = Memory::new(rt.alloc(), shape);
+    let mut ring = Ring::new(&shape, &[1], 2, true);
+    let mut zeros = Always(false);
+    // a take begins its scan; then an item is put and the ring is closed
+    ring.run(&mut memory, &mut zeros, &[(Side::C, 2), (Side::P, 10)])?;
+    expect_report(&rt, &ring, &memory, plain(12, 1, 0));
+    assert!(rt; ring.producer.is_closed());
+    ring.run(&mut memory, &mut zeros, &[(Side::C, 12)])?;
+    expect_report(&rt, &ring, &memory, plain(24, 1, 1));
+    assert_eq!(rt; ring.consumer.reply(), Some(TakeReply::Item(1)));
+    ring.run(&mut memory, &mut zeros, &[(Side::C, 10)])?;
+    expect_report(
+        &rt,
+        &ring,
+        &memory,
+        Report {
+            told: true,
+            ..plain(34, 1, 1)
+        },
+    );
+    // both sides are done
+    ring.run(&mut memory, &mut zeros, &[(Side::P, 3), (Side::C, 5)])?;
+    expect_report(
+        &rt,
+        &ring,
+        &memory,
+        Report {
+            told: true,
+            ..plain(34, 1, 1)
+        },
+    );
+    Ok(())
+}
+
+#[test]
+fn two_cells_hold_two_items(rt: HostRuntime) -> Result<(), Fail> {
+    let shape = Shape::new(2, 4, 2)?;
+    let mut memory = Memory::new(rt.alloc(), shape);
+    let mut ring = Ring::new(&shape, &[2, 1, 3], 1, false);
+    let mut zeros = Always(false);
+    ring.run(&mut memory, &mut zeros, &[(Side::P, 22)])?;
+    expect_report(
+        &rt,
+        &ring,
+        &memory,
+        Report {
+            full: 1,
+            ..plain(22, 2, 0)
+        },
+    );
+    ring.run(&mut memory, &mut zeros, &[(Side::C, 14), (Side::P, 12)])?;
+    expect_report(
+        &rt,
+        &ring,
+        &memory,
+        Report {
+            full: 1,
+            ..plain(48, 3, 1)
+        },
+    );
+    Ok(())
+}
+
+#[test]
+fn the_largest_shape_works(rt: HostRuntime) -> Result<(), Fail> {
+    let shape = Shape::new(1, 256, 64)?;
+    let mut memory = Memory::new(rt.alloc(), shape);
+    let mut ring = Ring::new(&shape, &[u64::MAX], 1, false);
+    ring.run(
+        &mut memory,
+        &mut Always(true),
+        &[(Side::P, 134), (Side::C, 136)],
+    )?;
+    expect_report(&rt, &ring, &memory, plain(270, 1, 1));
+    assert_eq!(rt; ring.consumer.reply(), Some(TakeReply::Item(u64::MAX)));
+    Ok(())
+}
+
+// The write to a bit of a count that an event begins: the bit's number, and the value.
+fn count_write(event: &Event) -> Option<(u8, bool)> {
+    match (event.bit, event.act) {
+        (Bit::S(number), Act::WriteBegin(value)) => Some((number, value)),
+        (Bit::R(number), Act::WriteBegin(value)) => Some((number, value)),
+        _ => None,
+    }
+}
+
+// One whole call of the side: so many events, and these writes to its count.
+fn expect_call<A: Allocator>(
+    rt: &impl Abort,
+    ring: &mut Ring,
+    memory: &mut Memory<A>,
+    side: Side,
+    events: usize,
+    writes: &[(u8, bool)],
+) -> Result<(), MemoryFault> {
+    let before = memory.events().len();
+    for _ in 0..events {
+        match side {
+            Side::P => ring.step_producer(memory, &mut Always(false))?,
+            Side::C => ring.step_consumer(memory, &mut Always(false))?,
+        }
+    }
+    assert_eq!(rt; ring.producer.next(), None);
+    assert_eq!(rt; ring.consumer.next(), None);
+    assert_eq!(rt; memory.events().len().checked_sub(before), Some(events));
+    let mut place = 0;
+    for event in memory.events().iter().skip(before) {
+        if let Some(write) = count_write(event) {
+            assert_eq!(rt; writes.get(place).copied(), Some(write));
+            place = place.saturating_add(1);
+        }
+    }
+    assert_eq!(rt; place, writes.len());
+    Ok(())
+}
+
+#[test]
+fn five_items_write_the_count_two_with_one_access(rt: HostRuntime) -> Result<(), Fail> {
+    let shape = Shape::new(1, 3, 1)?;
+    let mut memory = Memory::new(rt.alloc(), shape);
+    let mut ring = Ring::new(&shape, &[1, 0, 0, 1, 1], 5, false);
+    let to_one: [(u8, bool); 2] = [(1, true), (0, false)];
+    let to_two: [(u8, bool); 2] = [(2, true), (1, false)];
+    let to_zero: [(u8, bool); 1] = [(0, true)];
+    let clear_one: [(u8, bool); 1] = [(1, false)];
+    expect_call(&rt, &mut ring, &mut memory, Side::P, 8, &to_one)?;
+    expect_call(&rt, &mut ring, &mut memory, Side::C, 10, &to_one)?;
+    expect_call(&rt, &mut ring, &mut memory, Side::P, 10, &to_two)?;
+    expect_call(&rt, &mut ring, &mut memory, Side::C, 12, &to_two)?;
+    // bit 2 stays set, so the next write of 2 has the one access that clears bit 1
+    expect_call(&rt, &mut ring, &mut memory, Side::P, 10, &to_zero)?;
+    expect_call(&rt, &mut ring, &mut memory, Side::C, 6, &to_zero)?;
+    expect_call(&rt, &mut ring, &mut memory, Side::P, 8, &to_one)?;
+    expect_call(&rt, &mut ring, &mut memory, Side::C, 10, &to_one)?;
+    expect_call(&rt, &mut ring, &mut memory, Side::P, 8, &clear_one)?;
+    expect_call(&rt, &mut ring, &mut memory, Side::C, 10, &clear_one)?;
+    expect_report(&rt, &ring, &memory, plain(92, 5, 5));
+    Ok(())
+}
+
+#[test]
+fn an_open_count_write_is_seen_and_then_not(rt: HostRuntime) -> Result<(), Fail> {
+    let shape = Shape::new(1, 3, 1)?;
+    let mut memory = Memory::new(rt.alloc(), shape);
+    let mut ring = Ring::new(&shape, &[1], 2, false);
+    // the write of 0 to s0 stays open: the first scan gives 1, and the second one the old count
+    ring.run(
+        &mut memory,
+        &mut Tape::new(&[false, true]),
+        &[(Side::P, 7), (Side::C, 14)],
+    )?;
+    expect_report(
+        &rt,
+        &ring,
+        &memory,
+        Report {
+            empty: 1,
+            flickers: 2,
+            ..plain(21, 0, 1)
+        },
+    );
+    Ok(())
+}
+
+#[test]
+fn a_count_wraps_while_its_write_is_open(rt: HostRuntime) -> Result<(), Fail> {
+    let shape = Shape::new(1, 3, 1)?;
+    let mut memory = Memory::new(rt.alloc(), shape);
+    let mut ring = Ring::new(&shape, &[1, 0, 1], 3, false);
+    let schedule: [(Side, u64); 6] = [
+        (Side::P, 8),
+        (Side::C, 10),
+        (Side::P, 10),
+        (Side::C, 12),
+        (Side::P, 9),
+        (Side::C, 14),
+    ];
+    // the count goes from 2 to 0: the scans give 2 and then 0
+    ring.run(&mut memory, &mut Tape::new(&[false, true]), &schedule)?;
+    expect_report(
+        &rt,
+        &ring,
+        &memory,
+        Report {
+            empty: 1,
+            flickers: 2,
+            ..plain(63, 2, 3)
+        },
+    );
+    Ok(())
+}
+
+#[test]
+fn calls_after_the_close_are_answered_at_once(rt: HostRuntime) -> Result<(), Fail> {
+    let shape = Shape::new(1, 3, 1)?;
+    let mut memory = Memory::new(rt.alloc(), shape);
+    let mut zeros = Always(false);
+    let mut ring = Ring::new(&shape, &[], 1, true);
+    assert_eq!(rt; ring.producer.reply(), None);
+    assert_eq!(rt; ring.consumer.reply(), None);
+    assert!(rt; !ring.producer.is_closed());
+    ring.run(&mut memory, &mut zeros, &[(Side::P, 1)])?;
+    assert!(rt; ring.producer.is_closed());
+    ring.run(&mut memory, &mut zeros, &[(Side::P, 1), (Side::C, 6)])?;
+    expect_report(
+        &rt,
+        &ring,
+        &memory,
+        Report {
+            told: true,
+            ..plain(8, 0, 0)
+        },
+    );
+    assert_eq!(rt; ring.producer.reply(), None);
+    if ring.producer.next().is_none() && ring.shape.fits(1) {
+        ring.producer.put(1);
+    }
+    assert_eq!(rt; ring.producer.next(), None);
+    assert_eq!(rt; ring.producer.reply(), Some(PutReply::Closed));
+    if ring.producer.next().is_none() {
+        ring.producer.close();
+    }
+    assert_eq!(rt; ring.producer.next(), None);
+    assert_eq!(rt; ring.producer.reply(), None);
+    assert!(rt; ring.producer.is_closed());
+    assert_eq!(rt; ring.consumer.reply(), Some(TakeReply::Closed));
+    if ring.consumer.next().is_none() {
+        ring.consumer.take();
+    }
+    assert_eq!(rt; ring.consumer.next(), None);
+    assert_eq!(rt; ring.consumer.reply(), Some(TakeReply::Closed));
+    expect_report(
+        &rt,
+        &ring,
+        &memory,
+        Report {
+            told: true,
+            ..plain(8, 0, 0)
+        },
+    );
+    Ok(())
+}
+
+#[test]
+fn the_last_bit_of_a_count_expects_one(rt: HostRuntime) -> Result<(), Fail> {
+    let shape = Shape::new(1, 3, 1)?;
+    let mut producer = Producer::new(&shape);
+    assert!(rt; !producer.expects_one());
+    producer.put(1);
+    for bit in 0..3 {
+        assert_eq!(rt; producer.next(), Some(Access::Read(Bit::R(bit))));
+        assert_eq!(rt; producer.expects_one(), bit == 2);
+        if producer.next().is_some() && !producer.expects_one() {
+            producer.feed(false);
+        }
+    }
+    let mut consumer = Consumer::new(&shape);
+    assert!(rt; !consumer.expects_one());
+    consumer.take();
+    for bit in 0..3 {
+        assert_eq!(rt; consumer.next(), Some(Access::Read(Bit::S(bit))));
+        assert_eq!(rt; consumer.expects_one(), bit == 2);
+        if consumer.next().is_some() && !consumer.expects_one() {
+            consumer.feed(false);
+        }
+    }
+    Ok(())
+}
