@@ -95,7 +95,7 @@ close_there : (xs : List Made) → slice_get (xs ++ Write X true ∷ []) (length
 close_there [] = refl
 close_there (x ∷ xs) = close_there xs
 
-length-events : (s : Side) (xs : List Made) → length (events_of s xs) ≡ 2 * length xs
+pub length-events : (s : Side) (xs : List Made) → length (events_of s xs) ≡ 2 * length xs
 length-events s [] = refl
 length-events s (x ∷ xs) = omega (arith, length-events s xs)
 

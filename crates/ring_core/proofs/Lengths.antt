@@ -19,7 +19,7 @@ use Rattle.ring_core.proofs.CountRow.{count_short}
 -- ---- phrases
 
 -- n reads of 0
-length-zero_reads : (row : ℕ → Bit) (n : ℕ) → length (zero_reads row n) ≡ n
+pub length-zero_reads : (row : ℕ → Bit) (n : ℕ) → length (zero_reads row n) ≡ n
 length-zero_reads row zero = refl
 length-zero_reads row (suc n) = omega (arith, length-zero_reads row n, length-append (zero_reads row n) (Read (row n) false ∷ []))
 

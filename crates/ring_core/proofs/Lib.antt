@@ -30,3 +30,11 @@ pub mod Looks
 pub mod CountTimes
 pub mod OwnEvents
 pub mod RegularScans
+pub mod CellPlaces
+pub mod CellWrites
+pub mod SafeWords
+pub mod RingHolds
+pub mod ClosedStays
+pub mod OneMore
+pub mod Witness
+pub mod NeverMisses

@@ -35,7 +35,7 @@ module _
     (shape : Shape) (h : List Event) (lawful : IsLawful shape h) (w : Side) (looks : List Look) (behind : List Made)
     (follows : IsBeginning (own w h) (events_of w (look_accesses w shape 0 looks behind))) where
   -- the writes to its count are those of unary writes of its counts
-  writes_unary : IsQuiet w behind → WritesUnary w h (counted_in shape looks)
+  pub writes_unary : IsQuiet w behind → WritesUnary w h (counted_in shape looks)
   writes_unary quiet = (
     count_begun w follows.0,
     ap (λ l. l ++ count_begun w follows.0) (count_begun_own shape w h lawful) ∙

@@ -1,10 +1,17 @@
-//! What the programs of the two sides say of their accesses.
+//! The law of the ring, and what the programs of its two sides say of their accesses.
 ghost use Rattle.ring_core.specs.Following.{PutsAreFollowed, TakesAreFollowed};
 ghost use Rattle.ring_core.specs.Items.{ItemsAreRead, TakenAreRead};
 ghost use Rattle.ring_core.specs.Lengths.{PutsAreShort, TakesAreShort, EndsAreShort};
 ghost use Rattle.ring_core.specs.Readings.{PutsAreRead, TakesAreRead};
+ghost use Rattle.ring_core.specs.RingLaw.{CellsAreQuiet, ClosedIsTrue, ClosedStays, EmptyIsFresh, FullIsFresh, HasARun, InEveryRun, IsWithin, PutsAreInRange, PutsAreSeen, RunsByPut, RunsByTake, TakenArePrefix, TakesAreInRange, TakesAreSeen};
 
-use register_core::laws::digits_tell_items;
+use bits_core::laws::{
+    access_is_made, clock_counts_places, empty_is_lawful, lawful_by_one_more, made_is_access,
+    own_changes, own_has_one_place, own_has_place,
+};
+use register_core::laws::{
+    digits_tell_items, reads_are_made, unary_has_one, unary_is_regular, word_is_safe, writes_are_made,
+};
 
 /// The events of whole calls of the producer are the events of no other calls.
 pub fn puts_are_read()
@@ -48,3 +55,75 @@ pub fn calls_are_followed()
     ensures puts { PutsAreFollowed }
     ensures takes { TakesAreFollowed }
 {}
+
+/// A side whose other side follows its program never reads 0 in all bits of that one's count.
+pub fn last_bit_is_one()
+    ensures puts { PutsAreSeen }
+    ensures takes { TakesAreSeen }
+{
+    unary_has_one();
+    reads_are_made();
+    made_is_access();
+    own_has_one_place();
+}
+
+/// A history whose two sides follow their programs has that again after one event more, where the event may
+/// follow the history's and is of its side's program.
+pub fn runs_by_one_more()
+    ensures put { RunsByPut }
+    ensures take { RunsByTake }
+{
+    lawful_by_one_more();
+    own_changes();
+}
+
+/// There is a lawful history whose two sides follow their programs and in which a write overlaps a read. So
+/// the law of the ring is not empty.
+pub fn has_a_run()
+    ensures { HasARun }
+{
+    empty_is_lawful();
+    lawful_by_one_more();
+}
+
+/// The law of the ring. In every lawful history of safe bits whose two sides follow their programs:
+/// - `within`: no more items are taken than put, and at most as many as there are cells are put and not taken;
+/// - `put_range`, `take_range`: each scan gives the number of a count write, modulo the modulus, that lies
+///   within a range which the modulus tells apart;
+/// - `quiet`: no word read of a cell overlaps a word write of it;
+/// - `prefix`: the items taken are a prefix of the items put;
+/// - `empty`, `full`: a take finds the ring empty, and a put finds it full, only where the calls ended
+///   before it require it;
+/// - `closed`: once the consumer was told that the ring is closed, all items were put and taken.
+///
+/// Lamport 1977, over the unary registers of 1986.
+pub fn ring_law()
+    ensures within { InEveryRun IsWithin }
+    ensures put_range { InEveryRun PutsAreInRange }
+    ensures take_range { InEveryRun TakesAreInRange }
+    ensures quiet { InEveryRun CellsAreQuiet }
+    ensures prefix { InEveryRun TakenArePrefix }
+    ensures empty { InEveryRun EmptyIsFresh }
+    ensures full { InEveryRun FullIsFresh }
+    ensures closed { InEveryRun ClosedIsTrue }
+{
+    own_has_place();
+    own_has_one_place();
+    clock_counts_places();
+    made_is_access();
+    access_is_made();
+    unary_is_regular();
+    word_is_safe();
+    reads_are_made();
+    writes_are_made();
+}
+
+/// Once the consumer was told that the ring is closed, the items put and the items taken are the same in every
+/// longer lawful history whose two sides follow their programs.
+pub fn closed_stays()
+    ensures { ClosedStays }
+{
+    ring_law();
+    items_put_are_read();
+    items_taken_are_read();
+}

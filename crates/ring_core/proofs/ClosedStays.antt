@@ -1,0 +1,42 @@
+-- Once the consumer was told that the ring is closed, the lists of every longer history are the same.
+use Rattle.std.proofs.Common.{◌≡◌, ℕ, ◌≤◌, List, [], ◌++◌, length, take, refl, sym, ap, subst, ◌∙◌, arith, append_assoc, length-append}
+use Rattle.std.proofs.Math.Seq.{take-append_seam, take-length}
+use Rattle.std.proofs.lemmas.List.Elements.{filter-append}
+use Rattle.bits_core.specs.declared.events.Side.{Side}
+use Rattle.bits_core.specs.declared.events.Side.TheVariants.{P, C}
+use Rattle.bits_core.specs.declared.events.Event.{Event}
+use Rattle.bits_core.specs.declared.shapes.Shape.{Shape}
+use Rattle.bits_core.specs.Bits.{is_by}
+use Rattle.bits_core.specs.Made.{events_of, own, clock, IsBeginning}
+use Rattle.ring_core.specs.Puts.{Puts, put_program, FollowsPuts}
+use Rattle.ring_core.specs.Takes.{Takes, take_program, FollowsTakes}
+use Rattle.ring_core.specs.Items.{items_put, items_taken, all_put, items_put_in, items_taken_in, ToldIn, IsTold, ItemsAreRead, TakenAreRead}
+use Rattle.ring_core.specs.RingLaw.{IsRun, RingLaw, InEveryRun, ClosedStays}
+
+-- the own events of a beginning begin those of the whole
+own_begins : (s : Side) (h h' : List Event) (program : List Event) → IsBeginning h h' → IsBeginning (own s h') program → IsBeginning (own s h) program
+own_begins s h h' program (later, e) (rest, f) =
+    (own s later ++ rest,
+     sym (append_assoc (own s h) (own s later) rest) ∙ ap (λ l. l ++ rest) (sym (filter-append (is_by s) h later) ∙ ap (own s) e) ∙ f)
+
+-- the clock of the whole at the end of a beginning
+clock_there : (s : Side) (h h' : List Event) → IsBeginning h h' → clock s h' (length h) ≡ length (own s h)
+clock_there s h h' (later, e) = ap (λ l. length (own s (take (length h) l))) (sym e) ∙ ap (λ l. length (own s l)) (take-append_seam h later)
+
+pub closed-stays : InEveryRun RingLaw → ItemsAreRead → TakenAreRead → ClosedStays
+closed-stays holds puts_read takes_read shape h h' puts puts' takes takes' run run' begins told =
+    let follows_puts : FollowsPuts shape h puts' = record { are = run'.puts_follow.are; events = own_begins P h h' _ begins run'.puts_follow.events } in
+    let follows_takes : FollowsTakes shape h takes' = record { are = run'.takes_follow.are; events = own_begins C h h' _ begins run'.takes_follow.events } in
+    let put_same : items_put_in shape h puts ≡ items_put_in shape h puts' = puts_read shape h puts puts' run.puts_follow follows_puts in
+    let (taken_same, told_same) = takes_read shape h takes takes' run.takes_follow follows_takes in
+    let at : ℕ = length h in
+    let told' : IsTold shape takes' (clock C h' at) = subst (λ t. IsTold shape takes' t) (sym (clock_there C h h' begins)) (told_same told) in
+    let law = holds shape h' puts' takes' run' in
+    let (later, e) = begins in
+    let longer : at ≤ length h' = omega (arith, length-append h later, ap length e) in
+    let here = law.closed at at told' (omega arith) in
+    let end = law.closed at (length h') told' longer in
+    let end_p : clock P h' (length h') ≡ length (own P h') = ap (λ l. length (own P l)) (take-length h') in
+    let end_c : clock C h' (length h') ≡ length (own C h') = ap (λ l. length (own C l)) (take-length h') in
+    (ap (items_put shape 0 puts'.puts) (sym end_p) ∙ end.0 ∙ sym here.0 ∙ ap (items_put shape 0 puts'.puts) (clock_there P h h' begins) ∙ sym put_same,
+     ap (items_taken shape 0 takes'.takes) (sym end_c) ∙ end.1 ∙ sym here.1 ∙ ap (items_taken shape 0 takes'.takes) (clock_there C h h' begins) ∙ sym taken_same)

@@ -1,0 +1,121 @@
+-- A count whose writer follows its program is never read as 0 in all its bits.
+use Rattle.std.proofs.Common.{◌≡◌, inl, inr, ℕ, zero, suc, ◌+◌, ◌-◌, ◌*◌, ◌%◌, ◌<◌, ◌≤◌, false, Some, List, [], ◌∷◌, ◌++◌, length, refl, sym, ap, subst, ◌∙◌, arith, append_assoc}
+use Rattle.std.specs.Prelude.{All, slice_get}
+use Rattle.std.proofs.lemmas.List.Elements.{All-nil, All-append}
+use Rattle.std.proofs.lemmas.Nat.{mod_below}
+use Rattle.bits_core.specs.declared.events.Side.{Side}
+use Rattle.bits_core.specs.declared.events.Side.TheVariants.{P, C}
+use Rattle.bits_core.specs.declared.events.Event.{Event}
+use Rattle.bits_core.specs.declared.shapes.Shape.{Shape}
+use Rattle.bits_core.specs.Shape.{modulus_of}
+use Rattle.bits_core.specs.Bits.{other}
+use Rattle.bits_core.specs.Intervals.{IsRead}
+use Rattle.bits_core.specs.Lawful.{IsLawful}
+use Rattle.bits_core.specs.Laws.{OwnHasOnePlace, MadeIsAccess}
+use Rattle.bits_core.specs.Made.{Made, Read, events_of, own, IsBeginning}
+use Rattle.register_core.specs.Row.{row_bit}
+use Rattle.register_core.specs.ScanState.{zero_reads, row_read_by}
+use Rattle.register_core.specs.UnaryLaw.{ReadsZeros, UnaryHasOne}
+use Rattle.register_core.specs.MadeReads.{begin_place, end_place, ZerosAreMade}
+use Rattle.ring_core.specs.Counts.{counted}
+use Rattle.ring_core.specs.Puts.{close_phrase}
+use Rattle.ring_core.specs.Looks.{Look, put_looks, take_looks, look_accesses}
+use Rattle.ring_core.specs.RingLaw.{NeverReadsAll, NeverMisses, PutsAreSeen, TakesAreSeen}
+use Rattle.ring_core.proofs.Cuts.{at_most_or_above}
+use Rattle.ring_core.proofs.CountTimes.{IsQuiet, quiet_close, counts_in, counted_in}
+use Rattle.ring_core.proofs.Lengths.{length-zero_reads}
+use Rattle.ring_core.proofs.RegularScans.{writes_unary, put_events, take_events}
+
+-- ---- the values of a count
+
+one_within : (last v : ℕ) → v ≤ last → All (λ u. u ≤ last) (v ∷ [])
+one_within last v l zero d m = l
+one_within last v l (suc k) d m = absurd (omega (arith, m))
+
+-- none is above the number of the last bit
+counted_within : (shape : Shape) (k last : ℕ) → suc last ≡ modulus_of shape → All (λ v. v ≤ last) (counted shape k)
+counted_within shape zero last e = All-nil _
+counted_within shape (suc k) last e =
+    let v : ℕ = suc k % modulus_of shape in
+    let below : v < modulus_of shape = mod_below (suc k) (modulus_of shape) (omega (arith, e)) in
+    All-append (λ u. u ≤ last) (counted shape k) (v ∷ []) (counted_within shape k last e) (one_within last v (omega (arith, e, below)))
+
+-- so the last bit is not read as 0 behind all others
+never_reads :
+    UnaryHasOne → (shape : Shape) (h : List Event) → IsLawful shape h → (s : Side) (looks : List Look) (behind : List Made) → IsQuiet s behind →
+    IsBeginning (own s h) (events_of s (look_accesses s shape 0 looks behind)) → NeverReadsAll s shape h
+never_reads has_one shape h lawful s looks behind quiet follows last e start stop zeros =
+    has_one shape h lawful s (counted_in shape looks) (writes_unary shape h lawful s looks behind follows quiet) last
+    (counted_within shape (counts_in looks) last e) start stop zeros
+
+-- ---- the reads of a list of accesses
+
+other_twice : (s : Side) → other (other s) ≡ s
+other_twice P = refl
+other_twice C = refl
+
+-- what stands behind a list
+behind_list : (xs ys : List Made) (i n : ℕ) (x : Made) → n ≡ length xs + i → slice_get ys i ≡ Some x → slice_get (xs ++ ys) n ≡ Some x
+behind_list [] ys i n x e at = let same : n ≡ i = omega (arith, e) in ap (slice_get ys) same ∙ at
+behind_list (y ∷ xs) ys i zero x e at = absurd (omega (arith, e))
+behind_list (y ∷ xs) ys i (suc n) x e at = behind_list xs ys i n x (omega (arith, e)) at
+
+module _ (has_one : UnaryHasOne) (zeros_made : ZerosAreMade) (made_is : MadeIsAccess) (one_place : OwnHasOnePlace) where
+  module _ (s : Side) (h : List Event) (made : List Made) (follows : IsBeginning (own (other s) h) (events_of (other s) made))
+      (before after : List Made) (last : ℕ) (parts : made ≡ before ++ (zero_reads (row_bit s) last ++ Read (row_bit s last) false ∷ after))
+      (ended : 2 * (length before + suc last) ≤ length (own (other s) h)) where
+    -- the reads of 0 below the last bit are reads of the history
+    zeros_there : ReadsZeros s h last (begin_place (other s) h (length before)) (end_place (other s) h (length before))
+    zeros_there =
+        let parts' : made ≡ before ++ (zero_reads (row_read_by (other s)) last ++ Read (row_bit s last) false ∷ after) =
+        subst (λ (w : Side). made ≡ before ++ (zero_reads (row_bit w) last ++ Read (row_bit s last) false ∷ after)) (sym (other_twice s)) parts in
+        subst (λ (w : Side). ReadsZeros w h last (begin_place (other s) h (length before)) (end_place (other s) h (length before))) (other_twice s)
+        (zeros_made (other s) h made follows before (Read (row_bit s last) false ∷ after) last parts' (omega (arith, ended)))
+
+    -- and so is that of the last bit
+    last_there :
+        IsRead h (other s) (row_bit s last) (begin_place (other s) h (length before) last) (end_place (other s) h (length before) last) false
+    last_there =
+        let n : ℕ = length before + last in
+        let x : Made = Read (row_bit s last) false in
+        let zeros : List Made = zero_reads (row_bit s) last in
+        let there : slice_get made n ≡ Some x =
+        ap (λ l. slice_get l n) parts ∙
+        behind_list before (zeros ++ x ∷ after) last n x refl
+        (behind_list zeros (x ∷ after) 0 last x (omega (arith, length-zero_reads (row_bit s) last)) refl) in
+        let (stop, there_at) = made_is (other s) h made follows n x there (omega (arith, ended)) in
+        let (stop_is, ends) = there_at.ended (omega (arith, ended)) in
+        let read : IsRead h (other s) (row_bit s last) (begin_place (other s) h (length before) last) stop false =
+        record { access = there_at.access; ends = ends } in
+        subst (λ (p : ℕ). IsRead h (other s) (row_bit s last) (begin_place (other s) h (length before) last) p false)
+        (one_place (other s) h (suc (2 * n)) stop stop_is) read
+
+  -- so these reads have not all ended
+  never_misses : (s : Side) (shape : Shape) (h : List Event) → NeverReadsAll s shape h → NeverMisses s shape h
+  never_misses s shape h never made before after follows parts =
+      let last : ℕ = modulus_of shape - 1 in
+      let size : suc last ≡ modulus_of shape = omega (arith, shape.room_to_count) in
+      let parts' : made ≡ before ++ (zero_reads (row_bit s) last ++ Read (row_bit s last) false ∷ after) =
+      parts ∙ ap (λ n. before ++ (zero_reads (row_bit s) n ++ after)) (sym size) ∙
+      ap (λ l. before ++ l) (append_assoc (zero_reads (row_bit s) last) (Read (row_bit s last) false ∷ []) after) in
+      elim (at_most_or_above (2 * (length before + modulus_of shape)) (length (own (other s) h))) [
+        | inr m ↦ m
+        | inl m ↦ absurd (
+            let ended : 2 * (length before + suc last) ≤ length (own (other s) h) = omega (arith, m, size) in
+            never last size (begin_place (other s) h (length before)) (end_place (other s) h (length before))
+            (zeros_there s h made follows before after last parts' ended) (last_there s h made follows before after last parts' ended))
+      ]
+
+  -- a consumer does not read the producer's count as 0 in all bits
+  pub puts-are_seen : PutsAreSeen
+  puts-are_seen shape h puts lawful follows =
+      let never : NeverReadsAll P shape h =
+      never_reads has_one shape h lawful P (put_looks puts.puts) (close_phrase puts.closes) (quiet_close puts.closes) (put_events shape h puts follows) in
+      (never, never_misses P shape h never)
+
+  -- a producer does not read the consumer's count as 0 in all bits
+  pub takes-are_seen : TakesAreSeen
+  takes-are_seen shape h takes lawful follows =
+      let never : NeverReadsAll C shape h =
+      never_reads has_one shape h lawful C (take_looks takes.takes takes.end) [] tt (take_events shape h takes follows) in
+      (never, never_misses C shape h never)

@@ -1,0 +1,259 @@
+-- The law of the ring for lawful histories: the rules and the registers of a history make a ring of spans, and its law is read
+-- off that of the spans.
+use Rattle.std.proofs.Common.{◌≡◌, ◌⊎◌, inl, inr, ℕ, zero, suc, ◌+◌, ◌-◌, ◌*◌, ◌%◌, ◌<◌, ◌≤◌, Bool, true, false, Some, None, List, [], ◌∷◌, ◌++◌, length, take, refl, sym, ap, ap₂, subst, ◌∙◌, arith, append_assoc, append-nil, length-append}
+use Rattle.std.specs.Prelude.{slice_get}
+use Rattle.std.proofs.Math.Seq.{take-length}
+use Rattle.bits_core.specs.declared.events.Side.{Side}
+use Rattle.bits_core.specs.declared.events.Side.TheVariants.{P, C}
+use Rattle.bits_core.specs.declared.events.Bit.TheVariants.{X}
+use Rattle.bits_core.specs.declared.events.Event.{Event}
+use Rattle.bits_core.specs.declared.shapes.Shape.{Shape}
+use Rattle.bits_core.specs.Shape.{capacity_of, modulus_of, width_of}
+use Rattle.bits_core.specs.Intervals as intervals
+use Rattle.bits_core.specs.Laws.{OwnHasPlace}
+use Rattle.bits_core.specs.Lawful.{IsLawful}
+use Rattle.bits_core.specs.Made.{Made, Read, access_of, end_event, events_of, own, clock, place_of, IsPlaceOf, IsMadeAt, IsBeginning}
+use Rattle.register_core.specs.MadeReads.{ScansAreMade, WordReadsAreMade}
+use Rattle.register_core.specs.MadeWrites.{CellWritesAreMade}
+use Rattle.register_core.specs.ScanState.{scan_phrase, row_read_by}
+use Rattle.register_core.specs.UnaryLaw.{UnaryIsRegular}
+use Rattle.register_core.specs.WordLaw.{WordIsSafe}
+use Rattle.ring_core.specs.Puts.{Put, Puts, Stored, Full, put_phrases, close_phrase, put_program, FollowsPuts}
+use Rattle.ring_core.specs.Takes.{Take, Takes, Open, Closed, End, take_program, FollowsTakes}
+use Rattle.ring_core.specs.Items.{events_in, items_put, items_taken, all_put, IsTold, Tells}
+use Rattle.ring_core.specs.Spans.{Span, Outcome, Passes, Stops, Asks, counts, before_count, all_items, total, Stands}
+use Rattle.ring_core.specs.Clocks.{IsPlace, AreCloseReads, Ring}
+use Rattle.ring_core.specs.Clocks as clocks
+use Rattle.ring_core.specs.Looks.{Look, look, put_looks, take_looks, word_part, count_part, look_accesses, span_of, spans, put_spans, take_spans}
+use Rattle.ring_core.specs.RingLaw.{IsRun, RingLaw, PutsAreInRange, TakesAreInRange, CellsAreQuiet, TakenArePrefix, EmptyIsFresh, FullIsFresh, ClosedIsTrue}
+use Rattle.ring_core.proofs.Timeline.{AllProper}
+use Rattle.ring_core.proofs.Cuts.{at_most_or_above}
+use Rattle.ring_core.proofs.Gates.{Clock, clock_up, clock_p, clock_c}
+use Rattle.ring_core.proofs.SpanLaw.{SpanLaw, span_law, IsToldAt, LastTwo}
+use Rattle.ring_core.proofs.HistoryClocks.{clocks_of, clock_within}
+use Rattle.ring_core.proofs.Looks.{puts_as_looks, takes_as_looks, all_proper, total_is, LookAt, look_from_first, word_some, asks_word, puts_items, takes_items, put_rules, take_rules, put_fits, take_fits, last_two}
+use Rattle.ring_core.proofs.RegularScans.{put_events, take_events, puts_regular, takes_regular}
+use Rattle.ring_core.proofs.CloseReads.{OwnFacts, place_is, read_of_close, length-events}
+use Rattle.ring_core.proofs.SafeWords.{close_to_cell, words_are_safe}
+
+-- ---- reads of the close bit
+
+there : (xs : List Made) (y : Made) (ys : List Made) → slice_get (xs ++ y ∷ ys) (length xs) ≡ Some y
+there [] y ys = refl
+there (x ∷ xs) y ys = there xs y ys
+
+-- what is read behind a scan
+abbrev AsksAt : List Made → ℕ → ℕ → Bool → Type 0
+AsksAt program start scan answer = (front : List Made) × (back : List Made) × (program ≡ front ++ Read X answer ∷ back) × (start + scan ≡ 2 * length front)
+
+asks_at :
+    (shape : Shape) (program : List Made) (k start : ℕ) (x : Span) (answer : Bool) → LookAt C shape program k start x → x.outcome ≡ Asks answer →
+    AsksAt program start x.scan answer
+asks_at shape program k start x answer r asks =
+    let outcome : r.look.outcome ≡ Asks answer = sym (ap (λ (y : Span). y.outcome) r.is_x) ∙ asks in
+    let scan : List Made = scan_phrase (row_read_by C) r.look.seen in
+    let word : word_part C shape k r.look.outcome ≡ Read X answer ∷ [] = ap (word_part C shape k) outcome in
+    let rest : List Made = count_part C shape k r.look.outcome ++ r.after in
+    (r.before ++ scan, rest,
+     r.program_is ∙ ap (λ l. r.before ++ (scan ++ (l ++ rest))) word ∙ sym (append_assoc r.before scan (Read X answer ∷ rest)),
+     omega (arith, r.start_is, ap (λ (y : Span). y.scan) r.is_x, length-append r.before scan))
+
+-- the two places of the producer's and the consumer's events
+own_ends : (s : Side) (h : List Event) (i place : ℕ) → IsPlace (clock s h) i place → i < length (own s h)
+own_ends s h i place (here, past) = omega (arith, past, clock_within s h (suc place))
+
+-- how many events the puts of a program have
+pub put_total : (shape : Shape) (calls : Puts) → total (put_spans shape calls) ≡ 2 * length (put_phrases shape 0 calls.puts)
+put_total shape calls =
+    total_is P shape 0 (put_looks calls.puts) ∙
+    ap (λ l. 2 * length l) (sym (puts_as_looks shape 0 calls.puts false) ∙ append-nil (put_phrases shape 0 calls.puts))
+
+take_total : (shape : Shape) (calls : Takes) → total (take_spans shape calls) ≡ 2 * length (take_program shape calls)
+take_total shape calls = total_is C shape 0 (take_looks calls.takes calls.end) ∙ ap (λ l. 2 * length l) (sym (takes_as_looks shape 0 calls.takes calls.end))
+
+-- the items of all puts
+all_is : (shape : Shape) (n : ℕ) (puts : List Put) → all_items (spans P shape n (put_looks puts)) ≡ all_put puts
+all_is shape n [] = refl
+all_is shape n (Stored seen item ∷ puts) = ap (λ l. item ∷ l) (all_is shape (suc n) puts)
+all_is shape n (Full seen ∷ puts) = all_is shape n puts
+
+from_none : (n : ℕ) → 0 + n ≡ n
+from_none n = omega arith
+
+module _ (facts : OwnFacts) (regular : UnaryIsRegular) (scans_made : ScansAreMade) (safe : WordIsSafe) (cells_made : CellWritesAreMade) (words_made : WordReadsAreMade)
+  (shape : Shape) (h : List Event) (puts : Puts) (takes : Takes) (run : IsRun shape h puts takes) where
+  close_reads : AreCloseReads (clock P h) (clock C h) (put_spans shape puts) (take_spans shape takes)
+  close_reads s k x answer st asks first last e is_first is_last ends =
+      let program : List Made = look_accesses C shape 0 (take_looks takes.takes takes.end) [] in
+      let follows : IsBeginning (own C h) (events_of C program) = take_events shape h takes run.takes_follow in
+      let (front, back, program_is, start_is) =
+          asks_at shape program k s x answer (look_from_first C shape (take_looks takes.takes takes.end) [] s k x st) asks in
+      let word : x.word ≡ 2 = asks_word C shape (take_looks takes.takes takes.end) s k x answer st asks in
+      let e_is : e ≡ suc (2 * length front) = omega (arith, ends, word, start_is) in
+      let last_own : suc (2 * length front) < length (own C h) = omega (arith, own_ends C h e last is_last, e_is) in
+      let x_at : slice_get program (length front) ≡ Some (Read X answer) = ap (λ l. slice_get l (length front)) program_is ∙ there front (Read X answer) back in
+      let (stop, made_at) = facts.made C h program follows (length front) (Read X answer) x_at (omega (arith, last_own)) in
+      let (stop_is, answers) = made_at.ended last_own in
+      let first_is : first ≡ place_of C h (2 * length front) =
+          place_is facts.counts C h (2 * length front) first (omega (arith, last_own)) (subst (λ i. IsPlace (clock C h) i first) start_is is_first) in
+      let last_is : last ≡ stop =
+          place_is facts.counts C h (suc (2 * length front)) last last_own (subst (λ i. IsPlace (clock C h) i last) e_is is_last) ∙ sym (facts.one_place C h (suc (2 * length front)) stop stop_is) in
+      let read : intervals.IsRead h C X first last answer =
+          subst (λ a. intervals.IsRead h C X a last answer) (sym first_is)
+          (subst (λ b. intervals.IsRead h C X (place_of C h (2 * length front)) b answer) (sym last_is) (record { access = made_at.access; ends = answers })) in
+      let order : first ≤ last =
+          elim (at_most_or_above first last) [
+            | inl m ↦ m
+            | inr m ↦ absurd (omega (arith, clock_up (clock C h) (clock_c (clock P h) (clock C h) (clocks_of h)) (suc last) first m, is_first, is_last, e_is, start_is))
+          ] in
+      let (on_zero, on_one) = read_of_close facts shape h run.lawful puts.puts puts.closes run.puts_follow.events first last answer read order in
+      ((λ f. omega (arith, on_zero f, put_total shape puts)), (λ t. omega (arith, on_one t, put_total shape puts)))
+
+  -- the two sides of the history make a ring
+  pub ring : Ring (modulus_of shape) (capacity_of shape) (clock P h) (clock C h) (put_spans shape puts) (take_spans shape takes)
+  ring = record {
+    modulus_fits = shape.room_to_count;
+    clocks = clocks_of h;
+    puts_rule = λ s n x st. subst (λ i. clocks.IsPut (modulus_of shape) (capacity_of shape) i x) (from_none n) (put_rules shape 0 puts.puts run.puts_follow.are s n x st);
+    takes_rule = λ s k x st. subst (λ i. clocks.IsTake (modulus_of shape) (capacity_of shape) i x) (from_none k) (take_rules shape 0 takes.takes takes.end run.takes_follow.are s k x st);
+    puts_regular = puts_regular regular scans_made facts.has_place shape h run.lawful puts takes run.puts_follow run.takes_follow;
+    takes_regular = takes_regular regular scans_made facts.has_place shape h run.lawful puts takes run.puts_follow run.takes_follow;
+    words_safe = words_are_safe facts safe cells_made words_made shape h run.lawful (put_looks puts.puts) (take_looks takes.takes takes.end) (close_phrase puts.closes)
+        (close_to_cell puts.closes) (put_events shape h puts run.puts_follow) (take_events shape h takes run.takes_follow)
+        (λ s n x item st e. (put_fits shape 0 puts.puts run.puts_follow.are s n x st).item item e)
+        (λ s n x item st e. (take_fits shape 0 takes.takes takes.end run.takes_follow.are s n x st).item item e);
+    close_reads = close_reads;
+    puts_words = word_some P shape (put_looks puts.puts);
+    takes_words = word_some C shape (take_looks takes.takes takes.end);
+    asks_words = λ s k x answer st e. omega (arith, asks_word C shape (take_looks takes.takes takes.end) s k x answer st e)
+  }
+
+  pub law : SpanLaw (modulus_of shape) (capacity_of shape) (clock P h) (clock C h) (put_spans shape puts) (take_spans shape takes)
+  law = span_law (modulus_of shape) (capacity_of shape) (clock P h) (clock C h) (put_spans shape puts) (take_spans shape takes)
+      (all_proper P shape 0 (put_looks puts.puts)) (all_proper C shape 0 (take_looks takes.takes takes.end)) ring
+
+  -- ---- the law, in the words of calls
+
+  clock_end : (s : Side) → clock s h (length h) ≡ length (own s h)
+  clock_end s = ap (λ l. length (own s l)) (take-length h)
+
+  is_place : (s : Side) (i place : ℕ) → IsPlaceOf s h i place → IsPlace (clock s h) i place
+  is_place s i place q = (q.before, q.past)
+
+  put_range : PutsAreInRange shape h puts takes
+  put_range s n x st l =
+      let r = law.put_range (length h) s n x st (omega (arith, l, clock_end P)) in
+      record { number = r.number; value = r.value; low = r.low; high = r.high; not_older = r.not_older; not_newer = r.not_newer }
+
+  take_range : TakesAreInRange shape h puts takes
+  take_range s k x st l =
+      let r = law.take_range (length h) s k x st (omega (arith, l, clock_end C)) in
+      record { number = r.number; value = r.value; low = r.low; high = r.high; not_older = r.not_older; not_newer = r.not_newer }
+
+  prefix : TakenArePrefix shape h puts takes
+  prefix t =
+      let (rest, e) = law.prefix t in
+      (rest, ap (λ l. l ++ rest) (takes_items shape 0 takes.takes takes.end (clock C h t)) ∙ e ∙ sym (puts_items shape 0 puts.puts (clock P h t)))
+
+  empty : EmptyIsFresh shape h puts takes
+  empty s k x st o l first q =
+      let (all, not_closed) = law.empty (length h) s k x st o (omega (arith, l, clock_end C)) first (is_place C s first q) in
+      (all, omega (arith, not_closed, put_total shape puts))
+
+  full : FullIsFresh shape h puts takes
+  full s n x st o l first q = law.full (length h) s n x st o (omega (arith, l, clock_end P)) first (is_place P s first q)
+
+  closed : ClosedIsTrue shape h puts takes
+  closed t u (tells, ended) l =
+      let told : IsToldAt (clock C h) (take_spans shape takes) t = record { two = ends_told takes.end tells; ended = omega (arith, ended, take_total shape takes) } in
+      let (put, taken, begun) = law.closed t u told l in
+      let behind : events_in (put_phrases shape 0 puts.puts) < clock P h u = omega (arith, begun, put_total shape puts) in
+      (puts_items shape 0 puts.puts (clock P h u) ∙ put ∙ all_is shape 0 puts.puts,
+       takes_items shape 0 takes.takes takes.end (clock C h u) ∙ taken ∙ all_is shape 0 puts.puts,
+       is_closed puts.closes run.puts_follow.events (omega (arith, behind, clock_within P h u)), behind)
+    where
+      ends_told : (end : End) → Tells end → LastTwo (spans C shape 0 (take_looks takes.takes end))
+      ends_told Open told = absurd told
+      ends_told (Closed seen again) told = last_two shape 0 takes.takes seen again
+      is_closed : (b : Bool) → IsBeginning (own P h) (events_of P (put_phrases shape 0 puts.puts ++ close_phrase b)) → 2 * length (put_phrases shape 0 puts.puts) < length (own P h) → b ≡ true
+      is_closed true follows more = refl
+      is_closed false (rest, e) more =
+          absurd (omega (arith, more, length-append (own P h) rest, ap length e, length-events P (put_phrases shape 0 puts.puts ++ []), length-append (put_phrases shape 0 puts.puts) []))
+
+  up : (s : Side) (t u : ℕ) → t ≤ u → clock s h t ≤ clock s h u
+  up P = clock_up (clock P h) (clock_p (clock P h) (clock C h) (clocks_of h))
+  up C = clock_up (clock C h) (clock_c (clock P h) (clock C h) (clocks_of h))
+
+  -- the clock where an interval ends
+  at_end : (s : Side) (stop e : ℕ) → IsPlaceOf s h e stop ⊎ ((length (own s h) ≤ e) × (stop ≡ length h)) → clock s h stop ≤ e
+  at_end s stop e (inl q) = omega (arith, q.before)
+  at_end s stop e (inr (few, past)) = omega (arith, few, clock_within s h stop)
+
+  -- an own event stands before the end of an interval that ends with a later one
+  by_end : (s : Side) (start stop i e : ℕ) → IsPlaceOf s h i start → IsPlaceOf s h e stop ⊎ ((length (own s h) ≤ e) × (stop ≡ length h)) → stop < start → i ≤ e → ⊥
+  by_end s start stop i e q (inl r) l m = absurd (omega (arith, up s (suc stop) start l, r.past, q.before, m))
+  by_end s start stop i e q (inr (few, past)) l m =
+      absurd (omega (arith, up s stop start (omega arith), ap (clock s h) past, clock_end s, q.before, q.past, clock_within s h (suc start)))
+
+  -- an event of the producer is none of the consumer, and none past the end
+  apart : (start stop i e : ℕ) → IsPlaceOf P h i start → IsPlaceOf C h e stop ⊎ ((length (own C h) ≤ e) × (stop ≡ length h)) → start ≡ stop → ⊥
+  apart start stop i e q (inl r) same =
+      let both : clock C h (suc start) ≡ suc (clock C h start) = ap (λ t. clock C h (suc t)) same ∙ r.past ∙ ap suc (sym r.before) ∙ ap (λ t. suc (clock C h t)) (sym same) in
+      one_at_once ((clocks_of h).tick start) (omega (arith, q.before, q.past)) both
+    where
+      one_at_once :
+          ((clock P h (suc start) ≡ suc (clock P h start)) × (clock C h (suc start) ≡ clock C h start)) ⊎
+          ((clock P h (suc start) ≡ clock P h start) × (clock C h (suc start) ≡ suc (clock C h start))) ⊎
+          ((clock P h (suc start) ≡ clock P h start) × (clock C h (suc start) ≡ clock C h start)) →
+          clock P h (suc start) ≡ suc (clock P h start) → clock C h (suc start) ≡ suc (clock C h start) → ⊥
+      one_at_once (inl (p, c)) p' c' = omega (arith, c, c')
+      one_at_once (inr (inl (p, c))) p' c' = omega (arith, p, p')
+      one_at_once (inr (inr (p, c))) p' c' = omega (arith, p, p')
+  apart start stop i e q (inr (few, past)) same =
+      absurd (omega (arith, ap (clock P h) same, ap (clock P h) past, clock_end P, q.before, q.past, clock_within P h (suc start)))
+
+  quiet : CellsAreQuiet shape h puts takes
+  quiet s n x st stores s' k y st' takes_one cell start stop start' stop' a b (not_after, not_before) =
+      let word : 1 ≤ x.word = word_some P shape (put_looks puts.puts) s n x st stores in
+      let word' : 1 ≤ y.word = word_some C shape (take_looks takes.takes takes.end) s' k y st' takes_one in
+      let ended : (place : ℕ) → place ≤ stop → clock P h place < s + before_count x =
+          (λ place l. omega (arith, up P place stop l, at_end P stop (s + before_count x - 1) a.ends, word)) in
+      let ended' : clock C h stop' ≤ s' + before_count y = omega (arith, at_end C stop' (s' + before_count y - 1) b.ends) in
+      let order : start' ≤ stop' =
+          elim (at_most_or_above start' stop') [
+            | inl m ↦ m
+            | inr m ↦ absurd (by_end C start' stop' (s' + y.scan) (s' + before_count y - 1) b.begins b.ends m (omega (arith, word')))
+          ] in
+      let begun : start < stop' =
+          elim (at_most_or_above stop' start) [
+            | inr m ↦ m
+            | inl m ↦ absurd (apart start stop' (s + x.scan) (s' + before_count y - 1) a.begins b.ends (same_place start stop' m not_before))
+          ] in
+      law.quiet s' k y st' takes_one start' stop' order (omega (arith, b.begins.before)) ended'
+      (record {
+         start = s;
+         number = n;
+         put = x;
+         stands = st;
+         stored = stores;
+         same_cell = cell;
+         begun_before = omega (arith, up P (suc start) stop' begun, a.begins.past);
+         not_ended = ended start' (at_most start' stop not_after)
+       })
+    where
+      at_most : (i j : ℕ) → (j < i → ⊥) → i ≤ j
+      at_most i j f = grind arith
+      same_place : (i j : ℕ) → j ≤ i → (j < i → ⊥) → i ≡ j
+      same_place i j m f = grind arith
+
+  pub ring_law : RingLaw shape h puts takes
+  ring_law = record {
+    within = law.within;
+    put_range = put_range;
+    take_range = take_range;
+    quiet = quiet;
+    prefix = prefix;
+    empty = empty;
+    full = full;
+    closed = closed
+  }
