@@ -1,23 +1,23 @@
 -- Once the consumer was told that the ring is closed, the lists of every longer history are the same.
-use Rattle.std.proofs.Common.{◌≡◌, ℕ, ◌≤◌, List, [], ◌++◌, length, take, refl, sym, ap, subst, ◌∙◌, arith, append_assoc, length-append}
+use Rattle.std.proofs.Common.{◌≡◌, ℕ, ◌≤◌, List, ◌++◌, length, take, sym, ap, subst, ◌∙◌, arith, append_assoc, length-append}
 use Rattle.std.proofs.Math.Seq.{take-append_seam, take-length}
 use Rattle.std.proofs.lemmas.List.Elements.{filter-append}
 use Rattle.bits_core.specs.declared.events.Side.{Side}
 use Rattle.bits_core.specs.declared.events.Side.TheVariants.{P, C}
 use Rattle.bits_core.specs.declared.events.Event.{Event}
-use Rattle.bits_core.specs.declared.shapes.Shape.{Shape}
 use Rattle.bits_core.specs.Bits.{is_by}
-use Rattle.bits_core.specs.Made.{events_of, own, clock, IsBeginning}
-use Rattle.ring_core.specs.Puts.{Puts, put_program, FollowsPuts}
-use Rattle.ring_core.specs.Takes.{Takes, take_program, FollowsTakes}
-use Rattle.ring_core.specs.Items.{items_put, items_taken, all_put, items_put_in, items_taken_in, ToldIn, IsTold, ItemsAreRead, TakenAreRead}
-use Rattle.ring_core.specs.RingLaw.{IsRun, RingLaw, InEveryRun, ClosedStays}
+use Rattle.bits_core.specs.Made.{own, clock, IsBeginning}
+use Rattle.ring_core.specs.Puts.{FollowsPuts}
+use Rattle.ring_core.specs.Takes.{FollowsTakes}
+use Rattle.ring_core.specs.Items.{items_put, items_taken, items_put_in, IsTold, ItemsAreRead, TakenAreRead}
+use Rattle.ring_core.specs.RingLaw.{RingLaw, InEveryRun, ClosedStays}
 
 -- the own events of a beginning begin those of the whole
 own_begins : (s : Side) (h h' : List Event) (program : List Event) → IsBeginning h h' → IsBeginning (own s h') program → IsBeginning (own s h) program
-own_begins s h h' program (later, e) (rest, f) =
-    (own s later ++ rest,
-     sym (append_assoc (own s h) (own s later) rest) ∙ ap (λ l. l ++ rest) (sym (filter-append (is_by s) h later) ∙ ap (own s) e) ∙ f)
+own_begins s h h' program (later, e) (rest, f) = (
+  own s later ++ rest,
+  sym (append_assoc (own s h) (own s later) rest) ∙ ap (λ l. l ++ rest) (sym (filter-append (is_by s) h later) ∙ ap (own s) e) ∙ f,
+)
 
 -- the clock of the whole at the end of a beginning
 clock_there : (s : Side) (h h' : List Event) → IsBeginning h h' → clock s h' (length h) ≡ length (own s h)
@@ -37,6 +37,7 @@ closed-stays holds puts_read takes_read shape h h' puts puts' takes takes' run r
     let here = law.closed at at told' (omega arith) in
     let end = law.closed at (length h') told' longer in
     let end_p : clock P h' (length h') ≡ length (own P h') = ap (λ l. length (own P l)) (take-length h') in
-    let end_c : clock C h' (length h') ≡ length (own C h') = ap (λ l. length (own C l)) (take-length h') in
-    (ap (items_put shape 0 puts'.puts) (sym end_p) ∙ end.0 ∙ sym here.0 ∙ ap (items_put shape 0 puts'.puts) (clock_there P h h' begins) ∙ sym put_same,
-     ap (items_taken shape 0 takes'.takes) (sym end_c) ∙ end.1 ∙ sym here.1 ∙ ap (items_taken shape 0 takes'.takes) (clock_there C h h' begins) ∙ sym taken_same)
+    let end_c : clock C h' (length h') ≡ length (own C h') = ap (λ l. length (own C l)) (take-length h') in (
+      ap (items_put shape 0 puts'.puts) (sym end_p) ∙ end.0 ∙ sym here.0 ∙ ap (items_put shape 0 puts'.puts) (clock_there P h h' begins) ∙ sym put_same,
+      ap (items_taken shape 0 takes'.takes) (sym end_c) ∙ end.1 ∙ sym here.1 ∙ ap (items_taken shape 0 takes'.takes) (clock_there C h h' begins) ∙ sym taken_same,
+    )

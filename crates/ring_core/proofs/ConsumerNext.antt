@@ -14,19 +14,19 @@ use Rattle.register_core.specs.Machine.{IsNext}
 use Rattle.register_core.specs.Row.{row_bit}
 use Rattle.register_core.specs.Word.{word_read}
 use Rattle.register_core.specs.WordState.{ReaderState, ReaderStands, IsNextRead, due_read}
-use Rattle.register_core.specs.ScanState.{scan_phrase, row_read_by, due_scan}
+use Rattle.register_core.specs.ScanState.{scan_phrase, row_read_by, due_scan, LastIsDue}
 use Rattle.register_core.specs.Unary.{count_writes}
 use Rattle.register_core.specs.UnaryState.{UnaryStands, due_unary, due_writes}
 use Rattle.ring_core.specs.declared.consumers.Stage.TheVariants.{Scanning, Checking, Rescanning, Loading, Counting}
 use Rattle.ring_core.specs.Counts.{ShowsItem, distance, counted, count_phrase}
-use Rattle.ring_core.specs.Calls.{LastBitIsDue, IsScanning}
+use Rattle.ring_core.specs.Calls.{LastBitIsDue, IsScanning, EndsInZeros}
 use Rattle.ring_core.specs.Lengths.{longest_take}
 use Rattle.ring_core.specs.Takes.{Take, Takes, Item, ItemAfterClose, Empty, Open, Closed, taken_in, item_phrase, take_phrase, take_phrases, end_phrase, take_program, IsTake, SeesNone, AreTakes}
 use Rattle.ring_core.specs.ConsumerState.{ConsumerState, IsLoading, takes_at, is_taking}
 use Rattle.ring_core.specs.ConsumerCalls.{ConsumerStands, Look, Twice, look_phrase, Finds, and_take, and_end, Begins, IsNextTake}
 use Rattle.ring_core.proofs.Lengths.{takes-are_short, ends-are_short}
 use Rattle.ring_core.proofs.MachineParts.{count_writes-push, longer}
-use Rattle.ring_core.proofs.NextParts.{begins_more, begins_behind, length-part, scan_due, scan_goes_on, answered_write, first_writes}
+use Rattle.ring_core.proofs.NextParts.{begins_more, begins_behind, length-part, scan_due, scan_reads, scan_goes_on, answered_write, first_writes}
 use Rattle.ring_core.proofs.TakeCalls.{are-push, are-last, are-end, end-sees_none, program_open, program-push, take_of, take_of-is, take_of-phrase}
 use Rattle.ring_core.proofs.ConsumerMoves.{made_at, open_at}
 
@@ -263,3 +263,19 @@ next_count_write p calls made due e stands side some due_is next =
     (ap (λ l. l ++ y) made_is ∙ longer front (scans ++ word) writes y)
     (subst (λ l. IsBeginning ((scans ++ word) ++ (writes ++ y)) l) (append_assoc scans word count)
     (begins_behind (scans ++ word) (writes ++ y) count (rest, all))))
+
+-- ---- the last bit of the producer's count
+
+-- where it is due in the second scan of a take, that scan has read 0 in all bits below
+pub rescan_zeros :
+    (p : ConsumerState) (calls : Takes) (made : List Made) → p.stage ≡ Rescanning → ConsumerStands p calls made → IsScanning C (modulus_of p.shape) p.scan →
+    LastIsDue p.scan → EndsInZeros p.shape C made
+rescan_zeros p calls made e stands scans (not_found, last) =
+    let (rests, seen, none, reads, scan_stands, made_is) = made_at Rescanning p calls made e stands in
+    let front : List Made = take_phrases p.shape 0 calls.takes in
+    let asked : List Made = scan_phrase (row_read_by C) seen ++ Read X true ∷ [] in (
+      front ++ asked,
+      p.scan.zeros,
+      last ∙ scans.modulus_is,
+      made_is ∙ sym (append_assoc front asked reads) ∙ ap (λ l. (front ++ asked) ++ l) (scan_reads C (modulus_of p.shape) p.scan reads scans scan_stands),
+    )

@@ -33,7 +33,7 @@ pub scan_due : (side : Side) (modulus : ℕ) (s : ScanState) → IsScanning side
 scan_due side modulus s is =
     ap (λ b. if b then None else Some (begins.Read (row_read_by s.side s.zeros))) is.not_found ∙ ap (λ t. Some (begins.Read (row_read_by t s.zeros))) is.side_is
 
-scan_reads :
+pub scan_reads :
     (side : Side) (modulus : ℕ) (s : ScanState) (reads : List Made) → IsScanning side modulus s → ScanStands s reads →
     reads ≡ zero_reads (row_read_by side) s.zeros
 scan_reads side modulus s reads is stands =

@@ -1,6 +1,6 @@
 -- The law of the ring for lawful histories: the rules and the registers of a history make a ring of spans, and its law is read
 -- off that of the spans.
-use Rattle.std.proofs.Common.{◌≡◌, ◌⊎◌, inl, inr, ℕ, zero, suc, ◌+◌, ◌-◌, ◌*◌, ◌%◌, ◌<◌, ◌≤◌, Bool, true, false, Some, None, List, [], ◌∷◌, ◌++◌, length, take, refl, sym, ap, ap₂, subst, ◌∙◌, arith, append_assoc, append-nil, length-append}
+use Rattle.std.proofs.Common.{◌≡◌, ◌⊎◌, inl, inr, ℕ, suc, ◌+◌, ◌-◌, ◌*◌, ◌<◌, ◌≤◌, Bool, true, false, Some, List, [], ◌∷◌, ◌++◌, length, refl, sym, ap, subst, ◌∙◌, arith, append_assoc, append-nil, length-append}
 use Rattle.std.specs.Prelude.{slice_get}
 use Rattle.std.proofs.Math.Seq.{take-length}
 use Rattle.bits_core.specs.declared.events.Side.{Side}
@@ -8,27 +8,24 @@ use Rattle.bits_core.specs.declared.events.Side.TheVariants.{P, C}
 use Rattle.bits_core.specs.declared.events.Bit.TheVariants.{X}
 use Rattle.bits_core.specs.declared.events.Event.{Event}
 use Rattle.bits_core.specs.declared.shapes.Shape.{Shape}
-use Rattle.bits_core.specs.Shape.{capacity_of, modulus_of, width_of}
+use Rattle.bits_core.specs.Shape.{capacity_of, modulus_of}
 use Rattle.bits_core.specs.Intervals as intervals
-use Rattle.bits_core.specs.Laws.{OwnHasPlace}
-use Rattle.bits_core.specs.Lawful.{IsLawful}
-use Rattle.bits_core.specs.Made.{Made, Read, access_of, end_event, events_of, own, clock, place_of, IsPlaceOf, IsMadeAt, IsBeginning}
+use Rattle.bits_core.specs.Made.{Made, Read, events_of, own, clock, place_of, IsPlaceOf, IsBeginning}
 use Rattle.register_core.specs.MadeReads.{ScansAreMade, WordReadsAreMade}
 use Rattle.register_core.specs.MadeWrites.{CellWritesAreMade}
 use Rattle.register_core.specs.ScanState.{scan_phrase, row_read_by}
 use Rattle.register_core.specs.UnaryLaw.{UnaryIsRegular}
 use Rattle.register_core.specs.WordLaw.{WordIsSafe}
-use Rattle.ring_core.specs.Puts.{Put, Puts, Stored, Full, put_phrases, close_phrase, put_program, FollowsPuts}
-use Rattle.ring_core.specs.Takes.{Take, Takes, Open, Closed, End, take_program, FollowsTakes}
-use Rattle.ring_core.specs.Items.{events_in, items_put, items_taken, all_put, IsTold, Tells}
-use Rattle.ring_core.specs.Spans.{Span, Outcome, Passes, Stops, Asks, counts, before_count, all_items, total, Stands}
+use Rattle.ring_core.specs.Puts.{Put, Puts, Stored, Full, put_phrases, close_phrase}
+use Rattle.ring_core.specs.Takes.{Takes, Open, Closed, End, take_program}
+use Rattle.ring_core.specs.Items.{events_in, all_put, Tells}
+use Rattle.ring_core.specs.Spans.{Span, Asks, before_count, all_items, total}
 use Rattle.ring_core.specs.Clocks.{IsPlace, AreCloseReads, Ring}
 use Rattle.ring_core.specs.Clocks as clocks
-use Rattle.ring_core.specs.Looks.{Look, look, put_looks, take_looks, word_part, count_part, look_accesses, span_of, spans, put_spans, take_spans}
+use Rattle.ring_core.specs.Looks.{put_looks, take_looks, word_part, count_part, look_accesses, spans, put_spans, take_spans}
 use Rattle.ring_core.specs.RingLaw.{IsRun, RingLaw, PutsAreInRange, TakesAreInRange, CellsAreQuiet, TakenArePrefix, EmptyIsFresh, FullIsFresh, ClosedIsTrue}
-use Rattle.ring_core.proofs.Timeline.{AllProper}
 use Rattle.ring_core.proofs.Cuts.{at_most_or_above}
-use Rattle.ring_core.proofs.Gates.{Clock, clock_up, clock_p, clock_c}
+use Rattle.ring_core.proofs.Gates.{clock_up, clock_p, clock_c}
 use Rattle.ring_core.proofs.SpanLaw.{SpanLaw, span_law, IsToldAt, LastTwo}
 use Rattle.ring_core.proofs.HistoryClocks.{clocks_of, clock_within}
 use Rattle.ring_core.proofs.Looks.{puts_as_looks, takes_as_looks, all_proper, total_is, LookAt, look_from_first, word_some, asks_word, puts_items, takes_items, put_rules, take_rules, put_fits, take_fits, last_two}
@@ -53,10 +50,12 @@ asks_at shape program k start x answer r asks =
     let outcome : r.look.outcome ≡ Asks answer = sym (ap (λ (y : Span). y.outcome) r.is_x) ∙ asks in
     let scan : List Made = scan_phrase (row_read_by C) r.look.seen in
     let word : word_part C shape k r.look.outcome ≡ Read X answer ∷ [] = ap (word_part C shape k) outcome in
-    let rest : List Made = count_part C shape k r.look.outcome ++ r.after in
-    (r.before ++ scan, rest,
-     r.program_is ∙ ap (λ l. r.before ++ (scan ++ (l ++ rest))) word ∙ sym (append_assoc r.before scan (Read X answer ∷ rest)),
-     omega (arith, r.start_is, ap (λ (y : Span). y.scan) r.is_x, length-append r.before scan))
+    let rest : List Made = count_part C shape k r.look.outcome ++ r.after in (
+      r.before ++ scan,
+      rest,
+      r.program_is ∙ ap (λ l. r.before ++ (scan ++ (l ++ rest))) word ∙ sym (append_assoc r.before scan (Read X answer ∷ rest)),
+      omega (arith, r.start_is, ap (λ (y : Span). y.scan) r.is_x, length-append r.before scan),
+    )
 
 -- the two places of the producer's and the consumer's events
 own_ends : (s : Side) (h : List Event) (i place : ℕ) → IsPlace (clock s h) i place → i < length (own s h)
@@ -81,13 +80,13 @@ from_none : (n : ℕ) → 0 + n ≡ n
 from_none n = omega arith
 
 module _ (facts : OwnFacts) (regular : UnaryIsRegular) (scans_made : ScansAreMade) (safe : WordIsSafe) (cells_made : CellWritesAreMade) (words_made : WordReadsAreMade)
-  (shape : Shape) (h : List Event) (puts : Puts) (takes : Takes) (run : IsRun shape h puts takes) where
+    (shape : Shape) (h : List Event) (puts : Puts) (takes : Takes) (run : IsRun shape h puts takes) where
   close_reads : AreCloseReads (clock P h) (clock C h) (put_spans shape puts) (take_spans shape takes)
   close_reads s k x answer st asks first last e is_first is_last ends =
       let program : List Made = look_accesses C shape 0 (take_looks takes.takes takes.end) [] in
       let follows : IsBeginning (own C h) (events_of C program) = take_events shape h takes run.takes_follow in
       let (front, back, program_is, start_is) =
-          asks_at shape program k s x answer (look_from_first C shape (take_looks takes.takes takes.end) [] s k x st) asks in
+      asks_at shape program k s x answer (look_from_first C shape (take_looks takes.takes takes.end) [] s k x st) asks in
       let word : x.word ≡ 2 = asks_word C shape (take_looks takes.takes takes.end) s k x answer st asks in
       let e_is : e ≡ suc (2 * length front) = omega (arith, ends, word, start_is) in
       let last_own : suc (2 * length front) < length (own C h) = omega (arith, own_ends C h e last is_last, e_is) in
@@ -95,17 +94,17 @@ module _ (facts : OwnFacts) (regular : UnaryIsRegular) (scans_made : ScansAreMad
       let (stop, made_at) = facts.made C h program follows (length front) (Read X answer) x_at (omega (arith, last_own)) in
       let (stop_is, answers) = made_at.ended last_own in
       let first_is : first ≡ place_of C h (2 * length front) =
-          place_is facts.counts C h (2 * length front) first (omega (arith, last_own)) (subst (λ i. IsPlace (clock C h) i first) start_is is_first) in
+      place_is facts.counts C h (2 * length front) first (omega (arith, last_own)) (subst (λ i. IsPlace (clock C h) i first) start_is is_first) in
       let last_is : last ≡ stop =
-          place_is facts.counts C h (suc (2 * length front)) last last_own (subst (λ i. IsPlace (clock C h) i last) e_is is_last) ∙ sym (facts.one_place C h (suc (2 * length front)) stop stop_is) in
+      place_is facts.counts C h (suc (2 * length front)) last last_own (subst (λ i. IsPlace (clock C h) i last) e_is is_last) ∙ sym (facts.one_place C h (suc (2 * length front)) stop stop_is) in
       let read : intervals.IsRead h C X first last answer =
-          subst (λ a. intervals.IsRead h C X a last answer) (sym first_is)
-          (subst (λ b. intervals.IsRead h C X (place_of C h (2 * length front)) b answer) (sym last_is) (record { access = made_at.access; ends = answers })) in
+      subst (λ a. intervals.IsRead h C X a last answer) (sym first_is)
+      (subst (λ b. intervals.IsRead h C X (place_of C h (2 * length front)) b answer) (sym last_is) (record { access = made_at.access; ends = answers })) in
       let order : first ≤ last =
-          elim (at_most_or_above first last) [
-            | inl m ↦ m
-            | inr m ↦ absurd (omega (arith, clock_up (clock C h) (clock_c (clock P h) (clock C h) (clocks_of h)) (suc last) first m, is_first, is_last, e_is, start_is))
-          ] in
+      elim (at_most_or_above first last) [
+        | inl m ↦ m
+        | inr m ↦ absurd (omega (arith, clock_up (clock C h) (clock_c (clock P h) (clock C h) (clocks_of h)) (suc last) first m, is_first, is_last, e_is, start_is))
+      ] in
       let (on_zero, on_one) = read_of_close facts shape h run.lawful puts.puts puts.closes run.puts_follow.events first last answer read order in
       ((λ f. omega (arith, on_zero f, put_total shape puts)), (λ t. omega (arith, on_one t, put_total shape puts)))
 
@@ -125,7 +124,7 @@ module _ (facts : OwnFacts) (regular : UnaryIsRegular) (scans_made : ScansAreMad
     close_reads = close_reads;
     puts_words = word_some P shape (put_looks puts.puts);
     takes_words = word_some C shape (take_looks takes.takes takes.end);
-    asks_words = λ s k x answer st e. omega (arith, asks_word C shape (take_looks takes.takes takes.end) s k x answer st e)
+    asks_words = λ s k x answer st e. omega (arith, asks_word C shape (take_looks takes.takes takes.end) s k x answer st e);
   }
 
   pub law : SpanLaw (modulus_of shape) (capacity_of shape) (clock P h) (clock C h) (put_spans shape puts) (take_spans shape takes)
@@ -167,14 +166,17 @@ module _ (facts : OwnFacts) (regular : UnaryIsRegular) (scans_made : ScansAreMad
   closed t u (tells, ended) l =
       let told : IsToldAt (clock C h) (take_spans shape takes) t = record { two = ends_told takes.end tells; ended = omega (arith, ended, take_total shape takes) } in
       let (put, taken, begun) = law.closed t u told l in
-      let behind : events_in (put_phrases shape 0 puts.puts) < clock P h u = omega (arith, begun, put_total shape puts) in
-      (puts_items shape 0 puts.puts (clock P h u) ∙ put ∙ all_is shape 0 puts.puts,
-       takes_items shape 0 takes.takes takes.end (clock C h u) ∙ taken ∙ all_is shape 0 puts.puts,
-       is_closed puts.closes run.puts_follow.events (omega (arith, behind, clock_within P h u)), behind)
+      let behind : events_in (put_phrases shape 0 puts.puts) < clock P h u = omega (arith, begun, put_total shape puts) in (
+        puts_items shape 0 puts.puts (clock P h u) ∙ put ∙ all_is shape 0 puts.puts,
+        takes_items shape 0 takes.takes takes.end (clock C h u) ∙ taken ∙ all_is shape 0 puts.puts,
+        is_closed puts.closes run.puts_follow.events (omega (arith, behind, clock_within P h u)),
+        behind,
+      )
     where
       ends_told : (end : End) → Tells end → LastTwo (spans C shape 0 (take_looks takes.takes end))
       ends_told Open told = absurd told
       ends_told (Closed seen again) told = last_two shape 0 takes.takes seen again
+
       is_closed : (b : Bool) → IsBeginning (own P h) (events_of P (put_phrases shape 0 puts.puts ++ close_phrase b)) → 2 * length (put_phrases shape 0 puts.puts) < length (own P h) → b ≡ true
       is_closed true follows more = refl
       is_closed false (rest, e) more =
@@ -217,32 +219,33 @@ module _ (facts : OwnFacts) (regular : UnaryIsRegular) (scans_made : ScansAreMad
       let word : 1 ≤ x.word = word_some P shape (put_looks puts.puts) s n x st stores in
       let word' : 1 ≤ y.word = word_some C shape (take_looks takes.takes takes.end) s' k y st' takes_one in
       let ended : (place : ℕ) → place ≤ stop → clock P h place < s + before_count x =
-          (λ place l. omega (arith, up P place stop l, at_end P stop (s + before_count x - 1) a.ends, word)) in
+      (λ place l. omega (arith, up P place stop l, at_end P stop (s + before_count x - 1) a.ends, word)) in
       let ended' : clock C h stop' ≤ s' + before_count y = omega (arith, at_end C stop' (s' + before_count y - 1) b.ends) in
       let order : start' ≤ stop' =
-          elim (at_most_or_above start' stop') [
-            | inl m ↦ m
-            | inr m ↦ absurd (by_end C start' stop' (s' + y.scan) (s' + before_count y - 1) b.begins b.ends m (omega (arith, word')))
-          ] in
+      elim (at_most_or_above start' stop') [
+        | inl m ↦ m
+        | inr m ↦ absurd (by_end C start' stop' (s' + y.scan) (s' + before_count y - 1) b.begins b.ends m (omega (arith, word')))
+      ] in
       let begun : start < stop' =
-          elim (at_most_or_above stop' start) [
-            | inr m ↦ m
-            | inl m ↦ absurd (apart start stop' (s + x.scan) (s' + before_count y - 1) a.begins b.ends (same_place start stop' m not_before))
-          ] in
+      elim (at_most_or_above stop' start) [
+        | inr m ↦ m
+        | inl m ↦ absurd (apart start stop' (s + x.scan) (s' + before_count y - 1) a.begins b.ends (same_place start stop' m not_before))
+      ] in
       law.quiet s' k y st' takes_one start' stop' order (omega (arith, b.begins.before)) ended'
       (record {
-         start = s;
-         number = n;
-         put = x;
-         stands = st;
-         stored = stores;
-         same_cell = cell;
-         begun_before = omega (arith, up P (suc start) stop' begun, a.begins.past);
-         not_ended = ended start' (at_most start' stop not_after)
-       })
+        start = s;
+        number = n;
+        put = x;
+        stands = st;
+        stored = stores;
+        same_cell = cell;
+        begun_before = omega (arith, up P (suc start) stop' begun, a.begins.past);
+        not_ended = ended start' (at_most start' stop not_after);
+      })
     where
       at_most : (i j : ℕ) → (j < i → ⊥) → i ≤ j
       at_most i j f = grind arith
+
       same_place : (i j : ℕ) → j ≤ i → (j < i → ⊥) → i ≡ j
       same_place i j m f = grind arith
 
@@ -255,5 +258,5 @@ module _ (facts : OwnFacts) (regular : UnaryIsRegular) (scans_made : ScansAreMad
     prefix = prefix;
     empty = empty;
     full = full;
-    closed = closed
+    closed = closed;
   }

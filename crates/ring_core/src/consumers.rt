@@ -57,7 +57,7 @@ impl Model for Consumer {
 impl Consumer {
     ghost use Rattle.ring_core.specs.declared.consumers.Stage.TheVariants.{Scanning, Checking, Rescanning, Loading, Counting};
     ghost use Rattle.ring_core.specs.declared.consumers.TakeReply.TheVariants.{Closed};
-    ghost use Rattle.ring_core.specs.Calls.{LastBitIsDue};
+    ghost use Rattle.ring_core.specs.Calls.{LastBitIsDue, EndsInZeros};
     ghost use Rattle.ring_core.specs.Takes.{Takes};
     ghost use Rattle.ring_core.specs.ConsumerState.{due_take, is_taking};
     ghost use Rattle.ring_core.specs.ConsumerCalls.{new_consumer, no_takes, ConsumerStands, IsNextTake, HasMoved, IsReply};
@@ -224,7 +224,8 @@ impl Consumer {
     /// Whether the last bit of the producer's count is due. Over a lawful history whose producer follows its
     /// program it answers 1.
     pub fn expects_one(&self) -> bool
-        ensures { IsTrue result ↔ LastBitIsDue self.now.shape C (due_take self.now) }
+        ensures due { IsTrue result ↔ LastBitIsDue self.now.shape C (due_take self.now) }
+        ensures stands { (calls : Takes) (made : List Made) → ConsumerStands self.now calls made → IsTrue result → EndsInZeros self.now.shape C made }
     {
         match self.stage {
             Stage::Scanning => self.scan.expects_one(),

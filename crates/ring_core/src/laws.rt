@@ -10,7 +10,8 @@ use bits_core::laws::{
     own_changes, own_has_one_place, own_has_place,
 };
 use register_core::laws::{
-    digits_tell_items, reads_are_made, unary_has_one, unary_is_regular, word_is_safe, writes_are_made,
+    digits_tell_items, reads_are_made, unary_has_one, unary_is_regular, word_is_safe,
+    writes_are_made,
 };
 
 /// The events of whole calls of the producer are the events of no other calls.

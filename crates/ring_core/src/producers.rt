@@ -55,7 +55,7 @@ impl Model for Producer {
 }
 
 impl Producer {
-    ghost use Rattle.ring_core.specs.Calls.{LastBitIsDue};
+    ghost use Rattle.ring_core.specs.Calls.{LastBitIsDue, EndsInZeros};
     ghost use Rattle.ring_core.specs.declared.producers.Stage.TheVariants.{Scanning, Storing, Counting};
     ghost use Rattle.ring_core.specs.declared.producers.PutReply.TheVariants.{Closed};
     ghost use Rattle.ring_core.specs.Puts.{Puts};
@@ -211,7 +211,8 @@ impl Producer {
     /// Whether the last bit of the consumer's count is due. Over a lawful history whose consumer follows its
     /// program it answers 1.
     pub fn expects_one(&self) -> bool
-        ensures { IsTrue result ↔ LastBitIsDue self.now.shape P (due_put self.now) }
+        ensures due { IsTrue result ↔ LastBitIsDue self.now.shape P (due_put self.now) }
+        ensures stands { (calls : Puts) (made : List Made) → ProducerStands self.now calls made → IsTrue result → EndsInZeros self.now.shape P made }
     {
         match self.stage {
             Stage::Scanning => self.scan.expects_one(),

@@ -1,5 +1,7 @@
-//! Tests of the ring's two machines over a memory of safe bits.
+//! Tests of the ring's two machines over a memory of safe bits, and of rings that are nearly right.
 #![tactic(auto)]
 
+#[cfg(test)]
+mod near_misses;
 #[cfg(test)]
 mod tests;

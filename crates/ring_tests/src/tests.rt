@@ -32,14 +32,14 @@ struct Ring<'a> {
 
 // What a step of a side was.
 #[derive(Drop)]
-enum Step {
+pub enum Step {
     Nothing,
     Begin,
     End(bool),
 }
 
 // The side's next event: the end of the access that it has open, or the begin of the one that is due.
-fn next_event<A: Allocator, O: Oracle>(
+pub fn next_event<A: Allocator, O: Oracle>(
     memory: &mut Memory<A>,
     side: Side,
     due: Option<Access>,

@@ -1,4 +1,3 @@
-use Rattle.ring_core.specs.RingLaw.{RingLaw}
 use Rattle.ring_core.proofs.ClosedStays.{closed-stays}
 use Rattle.ring_core.proofs.laws.closed_stays.Goals as goal
 
@@ -6,13 +5,13 @@ pub returns : goal.returns
 returns c =
     closed-stays
     (λ shape h puts takes run. record {
-       within = c.ring_law.ensures.within shape h puts takes run;
-       put_range = c.ring_law.ensures.put_range shape h puts takes run;
-       take_range = c.ring_law.ensures.take_range shape h puts takes run;
-       quiet = c.ring_law.ensures.quiet shape h puts takes run;
-       prefix = c.ring_law.ensures.prefix shape h puts takes run;
-       empty = c.ring_law.ensures.empty shape h puts takes run;
-       full = c.ring_law.ensures.full shape h puts takes run;
-       closed = c.ring_law.ensures.closed shape h puts takes run
-     })
+      within = c.ring_law.ensures.within shape h puts takes run;
+      put_range = c.ring_law.ensures.put_range shape h puts takes run;
+      take_range = c.ring_law.ensures.take_range shape h puts takes run;
+      quiet = c.ring_law.ensures.quiet shape h puts takes run;
+      prefix = c.ring_law.ensures.prefix shape h puts takes run;
+      empty = c.ring_law.ensures.empty shape h puts takes run;
+      full = c.ring_law.ensures.full shape h puts takes run;
+      closed = c.ring_law.ensures.closed shape h puts takes run;
+    })
     c.items_put_are_read.ensures c.items_taken_are_read.ensures

@@ -7,12 +7,12 @@ every : goal.After-writes_are_made → InEveryRun RingLaw
 every c =
     ring_law
     (record {
-       has_place = c.own_has_place.ensures;
-       one_place = c.own_has_one_place.ensures;
-       counts = c.clock_counts_places.ensures;
-       made = c.made_is_access.ensures;
-       accesses = c.access_is_made.ensures
-     })
+      has_place = c.own_has_place.ensures;
+      one_place = c.own_has_one_place.ensures;
+      counts = c.clock_counts_places.ensures;
+      made = c.made_is_access.ensures;
+      accesses = c.access_is_made.ensures;
+    })
     c.unary_is_regular.ensures c.reads_are_made.ensures.scans c.word_is_safe.ensures c.writes_are_made.ensures.cells c.reads_are_made.ensures.words
 
 pub returns-clause-within : goal.returns-clause-within
