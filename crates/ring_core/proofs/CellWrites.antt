@@ -20,6 +20,7 @@ use Rattle.bits_core.specs.Lawful.{IsLawful}
 use Rattle.bits_core.specs.Made.{Made, Read, Write, begin_event, end_event, events_of, own, clock, IsBeginning}
 use Rattle.register_core.specs.Row.{RowWrite, row_write}
 use Rattle.register_core.specs.WordLaw.{number_in_cell, cell_write, cell_writes}
+use Rattle.ring_core.proofs.Following.{events_of-append, length-events}
 use Rattle.ring_core.proofs.Cuts.{cut}
 use Rattle.ring_core.proofs.CellTimes.{to_cell, own_number}
 
@@ -83,14 +84,6 @@ events_write : (j : ℕ) (made : List Made) → cell_writes j (events_of P made)
 events_write j [] = refl
 events_write j (Read b v ∷ made) = made_writes_cons j (Read b v) made (no_row-answer (number_in_cell j b) v) (events_write j made)
 events_write j (Write b v ∷ made) = made_writes_cons j (Write b v) made (no_row-end (number_in_cell j b)) (events_write j made)
-
-events_of-append : (s : Side) (xs ys : List Made) → events_of s (xs ++ ys) ≡ events_of s xs ++ events_of s ys
-events_of-append s [] ys = refl
-events_of-append s (x ∷ xs) ys = ap (λ l. begin_event s x ∷ end_event s x ∷ l) (events_of-append s xs ys)
-
-length-events : (s : Side) (xs : List Made) → length (events_of s xs) ≡ 2 * length xs
-length-events s [] = refl
-length-events s (x ∷ xs) = omega (arith, length-events s xs)
 
 -- a side's events before a place are those of its first accesses
 own_before :

@@ -18,22 +18,11 @@ use Rattle.register_core.specs.Word.{word_write, digit_writes}
 use Rattle.register_core.specs.ScanState.{scan_phrase, zero_reads, row_read_by}
 use Rattle.ring_core.specs.Counts.{count_phrase}
 use Rattle.ring_core.specs.Puts.{Put, Stored, Full, stored_after, put_phrase, put_phrases, close_phrase}
-use Rattle.ring_core.specs.Clocks.{IsPlace}
+use Rattle.ring_core.proofs.Following.{length-events}
 use Rattle.ring_core.proofs.Cuts.{at_most_or_above}
 use Rattle.ring_core.proofs.Gates.{Clock, clock_up, clock_p, clock_c}
-use Rattle.ring_core.proofs.HistoryClocks.{clocks_of, clock_within}
-
--- ---- places
-
--- a place that is told by the clock is the place of the own event
-pub place_is :
-    ClockCountsPlaces → (s : Side) (h : List Event) (i place : ℕ) → i < length (own s h) → IsPlace (clock s h) i place → place ≡ place_of s h i
-place_is counts s h i place l (here, past) =
-    let (before, behind) = counts s h i place l in
-    let (before', behind') = counts s h i (suc place) l in
-    let not_before : place_of s h i < place → ⊥ = (λ m. absurd (omega (arith, before m, here))) in
-    let within : place_of s h i < suc place = behind' (omega (arith, past)) in
-    grind (arith, not_before, within)
+use Rattle.ring_core.proofs.HistoryClocks.{clocks_of}
+use Rattle.ring_core.proofs.OwnEvents.{clock_within}
 
 -- ---- the only write of the close bit
 
@@ -94,10 +83,6 @@ only_close (y ∷ xs) none closes (suc n) x v e f =
 close_there : (xs : List Made) → slice_get (xs ++ Write X true ∷ []) (length xs) ≡ Some (Write X true)
 close_there [] = refl
 close_there (x ∷ xs) = close_there xs
-
-pub length-events : (s : Side) (xs : List Made) → length (events_of s xs) ≡ 2 * length xs
-length-events s [] = refl
-length-events s (x ∷ xs) = omega (arith, length-events s xs)
 
 -- ---- reads of it
 

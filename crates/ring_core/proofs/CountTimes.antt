@@ -26,7 +26,7 @@ use Rattle.ring_core.specs.Spans.{Outcome, Passes, Stops, Asks, Span, counts, be
 use Rattle.ring_core.specs.Looks.{Look, word_part, count_part, after_look, look_accesses, spans}
 use Rattle.ring_core.proofs.Cuts.{at_most_or_above}
 use Rattle.ring_core.proofs.CountRow.{next_long}
-use Rattle.ring_core.proofs.Following.{events_of-append}
+use Rattle.ring_core.proofs.Following.{events_of-append, length-events}
 use Rattle.ring_core.proofs.Timeline.{AllProper, ended_zero}
 use Rattle.ring_core.proofs.Looks.{all_proper}
 
@@ -58,11 +58,6 @@ bits-append s (x ∷ xs) ys (suc i) =
         length (cons_option o (count_begun s (take i (xs ++ ys)))) ≡ length (cons_option o (count_begun s (take i xs))) + bit_writes s ys (i - length xs)
     one None e = e
     one (Some w) e = omega (arith, e)
-
--- an access has two events
-length-events : (s : Side) (xs : List Made) → length (events_of s xs) ≡ 2 * length xs
-length-events s [] = refl
-length-events s (x ∷ xs) = omega (arith, length-events s xs)
 
 -- and so for accesses, one after the other
 made-append :

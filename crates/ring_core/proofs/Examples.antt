@@ -7,8 +7,9 @@ use Rattle.ring_core.specs.Puts.{Puts, Stored, put_program, ArePuts}
 use Rattle.ring_core.specs.Takes.{Takes, Item, ItemAfterClose, Empty, Open, Closed, take_program, AreTakes}
 use Rattle.ring_core.specs.Items.{items_put, items_taken, IsTold}
 
-shape : Shape
-shape = record {
+-- one cell, modulus 3, items of one digit
+unfoldable pub one_cell : Shape
+one_cell = record {
   capacity = 1;
   modulus = 3;
   width = 1;
@@ -28,25 +29,25 @@ one_put = record { puts = Stored 0 1 ∷ []; closes = false }
 abbrev one_take : Takes
 one_take = record { takes = Item 1 1 ∷ []; end = Open }
 
-one_put-is : put_program shape one_put ≡ Read (R 0) true ∷ Write (Cell 0 0) true ∷ Write (S 1) true ∷ Write (S 0) false ∷ []
-unfolding shape
+one_put-is : put_program one_cell one_put ≡ Read (R 0) true ∷ Write (Cell 0 0) true ∷ Write (S 1) true ∷ Write (S 0) false ∷ []
+unfolding one_cell
 one_put-is = refl
 
-one_put-are : ArePuts shape 0 one_put.puts
-unfolding shape
+one_put-are : ArePuts one_cell 0 one_put.puts
+unfolding one_cell
 one_put-are = ((omega arith, omega arith, omega arith), record {})
 
-one_take-is : take_program shape one_take ≡ Read (S 0) false ∷ Read (S 1) true ∷ Read (Cell 0 0) true ∷ Write (R 1) true ∷ Write (R 0) false ∷ []
-unfolding shape
+one_take-is : take_program one_cell one_take ≡ Read (S 0) false ∷ Read (S 1) true ∷ Read (Cell 0 0) true ∷ Write (R 1) true ∷ Write (R 0) false ∷ []
+unfolding one_cell
 one_take-is = refl
 
-one_take-are : AreTakes shape 0 one_take.takes one_take.end
-unfolding shape
+one_take-are : AreTakes one_cell 0 one_take.takes one_take.end
+unfolding one_cell
 one_take-are = (((omega arith, (omega arith, omega arith)), omega arith), record {})
 
 -- the item is put with the begin of its count write, which is event 4 of the producer, and taken with its take's last event
-one_put-item : (items_put shape 0 one_put.puts 4 ≡ []) × (items_put shape 0 one_put.puts 5 ≡ 1 ∷ []) × (items_taken shape 0 one_take.takes 9 ≡ []) × (items_taken shape 0 one_take.takes 10 ≡ 1 ∷ [])
-unfolding shape
+one_put-item : (items_put one_cell 0 one_put.puts 4 ≡ []) × (items_put one_cell 0 one_put.puts 5 ≡ 1 ∷ []) × (items_taken one_cell 0 one_take.takes 9 ≡ []) × (items_taken one_cell 0 one_take.takes 10 ≡ 1 ∷ [])
+unfolding one_cell
 one_put-item = (refl, refl, refl, refl)
 
 -- ---- a count write is open, and then the old count is seen: the first scan gives 1 and the second one 0
@@ -55,14 +56,14 @@ abbrev seen_old : Takes
 seen_old = record { takes = Item 1 1 ∷ Empty 0 ∷ []; end = Open }
 
 seen_old-is :
-    take_program shape seen_old ≡
+    take_program one_cell seen_old ≡
     Read (S 0) false ∷ Read (S 1) true ∷ Read (Cell 0 0) true ∷ Write (R 1) true ∷ Write (R 0) false ∷
     Read (S 0) true ∷ Read X false ∷ []
-unfolding shape
+unfolding one_cell
 seen_old-is = refl
 
-seen_old-are : AreTakes shape 0 seen_old.takes seen_old.end
-unfolding shape
+seen_old-are : AreTakes one_cell 0 seen_old.takes seen_old.end
+unfolding one_cell
 seen_old-are = (((omega arith, (omega arith, omega arith)), omega arith), ((omega arith, λ (low, high). omega (arith, high)), record {}))
 
 -- ---- a second scan finds the item, and the next take is told that the ring is closed
@@ -74,27 +75,27 @@ abbrev second_scan : Takes
 second_scan = record { takes = ItemAfterClose 0 1 1 ∷ []; end = Closed 1 1 }
 
 put_and_close-is :
-    put_program shape put_and_close ≡ Read (R 0) true ∷ Write (Cell 0 0) true ∷ Write (S 1) true ∷ Write (S 0) false ∷ Write X true ∷ []
-unfolding shape
+    put_program one_cell put_and_close ≡ Read (R 0) true ∷ Write (Cell 0 0) true ∷ Write (S 1) true ∷ Write (S 0) false ∷ Write X true ∷ []
+unfolding one_cell
 put_and_close-is = refl
 
 second_scan-is :
-    take_program shape second_scan ≡
+    take_program one_cell second_scan ≡
     Read (S 0) true ∷ Read X true ∷ Read (S 0) false ∷ Read (S 1) true ∷ Read (Cell 0 0) true ∷ Write (R 1) true ∷ Write (R 0) false ∷
     Read (S 0) false ∷ Read (S 1) true ∷ Read X true ∷ Read (S 0) false ∷ Read (S 1) true ∷ []
-unfolding shape
+unfolding one_cell
 second_scan-is = refl
 
-second_scan-are : AreTakes shape 0 second_scan.takes second_scan.end
-unfolding shape
+second_scan-are : AreTakes one_cell 0 second_scan.takes second_scan.end
+unfolding one_cell
 second_scan-are = (
   ((omega arith, λ (low, high). omega (arith, low)), (omega arith, (omega arith, omega arith)), omega arith),
   ((omega arith, λ (low, high). omega (arith, low)), (omega arith, λ (low, high). omega (arith, low))),
 )
 
 -- told with the last of its 24 events
-second_scan-told : (IsTold shape second_scan 23 → ⊥) × IsTold shape second_scan 24
-unfolding shape
+second_scan-told : (IsTold one_cell second_scan 23 → ⊥) × IsTold one_cell second_scan 24
+unfolding one_cell
 second_scan-told = ((λ (tells, all). omega (arith, all)), (record {}, omega arith))
 
 -- ---- the count wraps under an open write: the third put writes 0, and bit 2 stays set
@@ -106,27 +107,27 @@ abbrev wrap_takes : Takes
 wrap_takes = record { takes = Item 1 1 ∷ Item 2 0 ∷ Empty 2 ∷ Item 0 1 ∷ []; end = Open }
 
 wraps-is :
-    put_program shape wraps ≡
+    put_program one_cell wraps ≡
     Read (R 0) true ∷ Write (Cell 0 0) true ∷ Write (S 1) true ∷ Write (S 0) false ∷
     Read (R 0) false ∷ Read (R 1) true ∷ Write (Cell 0 0) false ∷ Write (S 2) true ∷ Write (S 1) false ∷
     Read (R 0) false ∷ Read (R 1) false ∷ Read (R 2) true ∷ Write (Cell 0 0) true ∷ Write (S 0) true ∷ []
-unfolding shape
+unfolding one_cell
 wraps-is = refl
 
 wrap_takes-is :
-    take_program shape wrap_takes ≡
+    take_program one_cell wrap_takes ≡
     Read (S 0) false ∷ Read (S 1) true ∷ Read (Cell 0 0) true ∷ Write (R 1) true ∷ Write (R 0) false ∷
     Read (S 0) false ∷ Read (S 1) false ∷ Read (S 2) true ∷ Read (Cell 0 0) false ∷ Write (R 2) true ∷ Write (R 1) false ∷
     Read (S 0) false ∷ Read (S 1) false ∷ Read (S 2) true ∷ Read X false ∷
     Read (S 0) true ∷ Read (Cell 0 0) true ∷ Write (R 0) true ∷ []
-unfolding shape
+unfolding one_cell
 wrap_takes-is = refl
 
-wraps-are : ArePuts shape 0 wraps.puts
-unfolding shape
+wraps-are : ArePuts one_cell 0 wraps.puts
+unfolding one_cell
 wraps-are = ((omega arith, omega arith, omega arith), ((omega arith, omega arith, omega arith), ((omega arith, omega arith, omega arith), record {})))
 
 -- with the third put's last access open, its item is put
-wraps-items : (items_put shape 0 wraps.puts 26 ≡ 1 ∷ 0 ∷ []) × (items_put shape 0 wraps.puts 27 ≡ 1 ∷ 0 ∷ 1 ∷ [])
-unfolding shape
+wraps-items : (items_put one_cell 0 wraps.puts 26 ≡ 1 ∷ 0 ∷ []) × (items_put one_cell 0 wraps.puts 27 ≡ 1 ∷ 0 ∷ 1 ∷ [])
+unfolding one_cell
 wraps-items = (refl, refl)

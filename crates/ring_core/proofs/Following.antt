@@ -1,5 +1,5 @@
 -- A side that has made a beginning of the accesses of calls follows these.
-use Rattle.std.proofs.Common.{◌≡◌, List, [], ◌∷◌, ◌++◌, refl, sym, ap, ◌∙◌, append_assoc}
+use Rattle.std.proofs.Common.{◌≡◌, ◌*◌, List, [], ◌∷◌, ◌++◌, length, refl, sym, ap, ◌∙◌, arith, append_assoc}
 use Rattle.bits_core.specs.declared.events.Side.{Side}
 use Rattle.bits_core.specs.declared.events.Side.TheVariants.{P, C}
 use Rattle.bits_core.specs.declared.events.Event.{Event}
@@ -10,6 +10,11 @@ use Rattle.ring_core.specs.Following.{PutsAreFollowed, TakesAreFollowed}
 pub events_of-append : (s : Side) (xs ys : List Made) → events_of s (xs ++ ys) ≡ events_of s xs ++ events_of s ys
 events_of-append s [] ys = refl
 events_of-append s (x ∷ xs) ys = ap (λ l. begin_event s x ∷ end_event s x ∷ l) (events_of-append s xs ys)
+
+-- an access has two events
+pub length-events : (s : Side) (xs : List Made) → length (events_of s xs) ≡ 2 * length xs
+length-events s [] = refl
+length-events s (x ∷ xs) = omega (arith, length-events s xs)
 
 -- what begins the events of a beginning begins the events of the whole
 through : (s : Side) (es : List Event) (made whole : List Made) → IsBeginning made whole → IsBeginning es (events_of s made) → IsBeginning es (events_of s whole)

@@ -1,5 +1,5 @@
 -- The clocks of the two sides of a history.
-use Rattle.std.proofs.Common.{◌≡◌, ◌⊎◌, inl, inr, ℕ, zero, suc, ◌+◌, ◌≤◌, Bool, true, false, List, [], ◌∷◌, if◌then◌else◌, length, take, ap, refl, arith}
+use Rattle.std.proofs.Common.{◌≡◌, ◌⊎◌, inl, inr, ℕ, zero, suc, ◌+◌, Bool, true, false, List, [], ◌∷◌, if◌then◌else◌, length, take, ap, refl, arith}
 use Rattle.bits_core.specs.declared.events.Side.{Side}
 use Rattle.bits_core.specs.declared.events.Side.TheVariants.{P, C}
 use Rattle.bits_core.specs.declared.events.Event.{Event}
@@ -60,14 +60,3 @@ tick (e ∷ h) (suc t) = elim (by_one e.side) [
 -- the two clocks of a history are such clocks
 pub clocks_of : (h : List Event) → Clocks (clock P h) (clock C h)
 clocks_of h = record { producer = clock-zero P h; consumer = clock-zero C h; tick = tick h }
-
-by_owner : (s : Side) (e : Event) (h : List Event) (place : ℕ) → clock s h place ≤ length (own s h) → (b : Bool) → is_by s e ≡ b → clock s (e ∷ h) (suc place) ≤ length (own s (e ∷ h))
-by_owner s e h place rest true by = omega (arith, clock-yes s e h place by, ap length (own-first s e h true by), rest)
-by_owner s e h place rest false by = omega (arith, clock-no s e h place by, ap length (own-first s e h false by), rest)
-
--- a clock counts at most all events of the side
-pub clock_within : (s : Side) (h : List Event) (place : ℕ) → clock s h place ≤ length (own s h)
-clock_within s [] zero = omega arith
-clock_within s [] (suc place) = omega arith
-clock_within s (e ∷ h) zero = omega arith
-clock_within s (e ∷ h) (suc place) = by_owner s e h place (clock_within s h place) (is_by s e) refl

@@ -27,10 +27,12 @@ use Rattle.ring_core.specs.RingLaw.{IsRun, RingLaw, PutsAreInRange, TakesAreInRa
 use Rattle.ring_core.proofs.Cuts.{at_most_or_above}
 use Rattle.ring_core.proofs.Gates.{clock_up, clock_p, clock_c}
 use Rattle.ring_core.proofs.SpanLaw.{SpanLaw, span_law, IsToldAt, LastTwo}
-use Rattle.ring_core.proofs.HistoryClocks.{clocks_of, clock_within}
+use Rattle.ring_core.proofs.HistoryClocks.{clocks_of}
+use Rattle.ring_core.proofs.OwnEvents.{clock_within, one_place}
+use Rattle.ring_core.proofs.Following.{length-events}
 use Rattle.ring_core.proofs.Looks.{puts_as_looks, takes_as_looks, all_proper, total_is, LookAt, look_from_first, word_some, asks_word, puts_items, takes_items, put_rules, take_rules, put_fits, take_fits, last_two}
 use Rattle.ring_core.proofs.RegularScans.{put_events, take_events, puts_regular, takes_regular}
-use Rattle.ring_core.proofs.CloseReads.{OwnFacts, place_is, read_of_close, length-events}
+use Rattle.ring_core.proofs.CloseReads.{OwnFacts, read_of_close}
 use Rattle.ring_core.proofs.SafeWords.{close_to_cell, words_are_safe}
 
 -- ---- reads of the close bit
@@ -94,9 +96,9 @@ module _ (facts : OwnFacts) (regular : UnaryIsRegular) (scans_made : ScansAreMad
       let (stop, made_at) = facts.made C h program follows (length front) (Read X answer) x_at (omega (arith, last_own)) in
       let (stop_is, answers) = made_at.ended last_own in
       let first_is : first ≡ place_of C h (2 * length front) =
-      place_is facts.counts C h (2 * length front) first (omega (arith, last_own)) (subst (λ i. IsPlace (clock C h) i first) start_is is_first) in
+      one_place facts.has_place C h (2 * length front) first (subst (λ i. IsPlace (clock C h) i first) start_is is_first) in
       let last_is : last ≡ stop =
-      place_is facts.counts C h (suc (2 * length front)) last last_own (subst (λ i. IsPlace (clock C h) i last) e_is is_last) ∙ sym (facts.one_place C h (suc (2 * length front)) stop stop_is) in
+      one_place facts.has_place C h (suc (2 * length front)) last (subst (λ i. IsPlace (clock C h) i last) e_is is_last) ∙ sym (facts.one_place C h (suc (2 * length front)) stop stop_is) in
       let read : intervals.IsRead h C X first last answer =
       subst (λ a. intervals.IsRead h C X a last answer) (sym first_is)
       (subst (λ b. intervals.IsRead h C X (place_of C h (2 * length front)) b answer) (sym last_is) (record { access = made_at.access; ends = answers })) in
@@ -140,14 +142,10 @@ module _ (facts : OwnFacts) (regular : UnaryIsRegular) (scans_made : ScansAreMad
   is_place s i place q = (q.before, q.past)
 
   put_range : PutsAreInRange shape h puts takes
-  put_range s n x st l =
-      let r = law.put_range (length h) s n x st (omega (arith, l, clock_end P)) in
-      record { number = r.number; value = r.value; low = r.low; high = r.high; not_older = r.not_older; not_newer = r.not_newer }
+  put_range s n x st l = law.put_range (length h) s n x st (omega (arith, l, clock_end P))
 
   take_range : TakesAreInRange shape h puts takes
-  take_range s k x st l =
-      let r = law.take_range (length h) s k x st (omega (arith, l, clock_end C)) in
-      record { number = r.number; value = r.value; low = r.low; high = r.high; not_older = r.not_older; not_newer = r.not_newer }
+  take_range s k x st l = law.take_range (length h) s k x st (omega (arith, l, clock_end C))
 
   prefix : TakenArePrefix shape h puts takes
   prefix t =

@@ -24,8 +24,9 @@ use Rattle.ring_core.specs.Clocks.{IsPlace, Overlap, IsLastWrite, AreSafe}
 use Rattle.ring_core.specs.Looks.{Look, look_accesses, spans}
 use Rattle.ring_core.proofs.Cuts.{at_most_or_above}
 use Rattle.ring_core.proofs.Gates.{Clock, clock_up, clock_p, clock_c}
-use Rattle.ring_core.proofs.HistoryClocks.{clocks_of, clock_within}
-use Rattle.ring_core.proofs.CloseReads.{OwnFacts, place_is}
+use Rattle.ring_core.proofs.HistoryClocks.{clocks_of}
+use Rattle.ring_core.proofs.OwnEvents.{clock_within, one_place}
+use Rattle.ring_core.proofs.CloseReads.{OwnFacts}
 use Rattle.ring_core.proofs.CellTimes.{to_cell, looks_to_cell, cell_items, ItemsFit, cell_items_fit}
 use Rattle.ring_core.proofs.CellPlaces.{stands_order, stands_same, CellTime, cell_time, WordTime, word_time, DigitTime, digit_time, word_events, ReadTime, read_time}
 use Rattle.ring_core.proofs.CellWrites.{writes_before, write_is_counted, write_is_counted_at_end}
@@ -335,12 +336,12 @@ module _ (facts : OwnFacts) (word_is_safe : WordIsSafe) (writes_made : CellWrite
     first_place : begins_at 0 ≡ first
     first_place =
         let below : s + x.scan < length (own C h) = omega (arith, all_come, end_is, read_events, some_digit) in
-        ap (place_of C h) (omega (arith, read_accesses.place_is)) ∙ sym (place_is facts.counts C h (s + x.scan) first below first_is)
+        ap (place_of C h) (omega (arith, read_accesses.place_is)) ∙ sym (one_place facts.has_place C h (s + x.scan) first first_is)
 
     last_place : ends_at (width - 1) ≡ last
     last_place =
         ap (place_of C h) (omega (arith, read_accesses.place_is, end_is, read_events, some_digit)) ∙
-        sym (place_is facts.counts C h e last all_come last_is)
+        sym (one_place facts.has_place C h e last last_is)
 
     word_is_read : IsWordRead width cell h begins_at ends_at item
     word_is_read =

@@ -2,20 +2,11 @@
 use Rattle.std.proofs.Common.{◌≡◌, inl, inr, ℕ, ◌+◌, ◌-◌, ◌<◌, ◌≤◌, ◌%◌, true, false, List, [], ◌∷◌, length, drop, refl, sym, ap, arith}
 use Rattle.bits_core.specs.Made.{IsBeginning}
 use Rattle.ring_core.specs.Spans.{Span, Asks, counts, before_count, whole, begun, ended, begun_items, ended_items, all_items, total, Stands}
+use Rattle.ring_core.specs.RingLaw.{ReadsCount}
 use Rattle.ring_core.specs.Clocks.{IsPlace, Overlap, Ring}
 use Rattle.ring_core.proofs.Timeline.{AllProper, before-whole}
 use Rattle.ring_core.proofs.Gates.{clock_up, clock_c, proper_at, within, shown_at, left_at}
 use Rattle.ring_core.proofs.SpanItems.{quiet, prefix, empty_fresh, empty_open, full_fresh, closed}
-
--- An ended scan gives the number of a count write of the other side, modulo the modulus: one that the register permits,
--- from least to most.
-pub record InRange (modulus : ℕ) (own other : ℕ → ℕ) (writes : List Span) (s : ℕ) (x : Span) (least most : ℕ) : Type 0 where
-  pub number : ℕ
-  pub value : x.seen ≡ number % modulus
-  pub low : least ≤ number
-  pub high : number ≤ most
-  pub not_older : (first : ℕ) → IsPlace own s first → ended writes (other first) ≤ number
-  pub not_newer : (last : ℕ) → IsPlace own (s + (x.scan - 1)) last → number ≤ begun writes (other last)
 
 -- The last two spans are a read of the close bit, which is 1, and then a scan after which nothing is taken.
 pub record LastTwo (xs : List Span) : Type 0 where
@@ -68,10 +59,10 @@ pub record SpanLaw (modulus capacity : ℕ) (p c : ℕ → ℕ) (puts takes : Li
   pub within : (t : ℕ) → (begun takes (c t) ≤ begun puts (p t)) × (begun puts (p t) ≤ begun takes (c t) + capacity)
   -- put number n reads a count from n - capacity - 1 to n
   pub put_range :
-      (t s n : ℕ) (x : Span) → Stands puts s n x → s + x.scan ≤ p t → InRange modulus p c takes s x (n - (capacity + 1)) n
+      (t s n : ℕ) (x : Span) → Stands puts s n x → s + x.scan ≤ p t → ReadsCount modulus p c takes s x (n - (capacity + 1)) n
   -- take number k reads a count from k - 1 to k + capacity
   pub take_range :
-      (t s k : ℕ) (x : Span) → Stands takes s k x → s + x.scan ≤ c t → InRange modulus c p puts s x (k - 1) (k + capacity)
+      (t s k : ℕ) (x : Span) → Stands takes s k x → s + x.scan ≤ c t → ReadsCount modulus c p puts s x (k - 1) (k + capacity)
   -- no word write of a cell overlaps a word read of it, from its begin at position first to its end, or as long as it is open
   pub quiet :
       (s k : ℕ) (x : Span) → Stands takes s k x → counts x.outcome ≡ 1 → (first last : ℕ) → first ≤ last →

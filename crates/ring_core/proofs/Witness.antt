@@ -15,6 +15,7 @@ use Rattle.bits_core.specs.Steps.{MayFollow}
 use Rattle.ring_core.specs.Puts.{Puts, Stored, FollowsPuts}
 use Rattle.ring_core.specs.Takes.{Takes, Item, Open, FollowsTakes}
 use Rattle.ring_core.specs.RingLaw.{HasARun}
+use Rattle.ring_core.proofs.Examples.{one_cell}
 
 -- each of these events may follow those before it
 abbrev EachFollows : Shape → List Event → List Event → Type 0
@@ -29,19 +30,6 @@ lawful_by_steps law shape past [] lawful steps = subst (λ (h : List Event). IsL
 lawful_by_steps law shape past (e ∷ later) lawful steps =
     subst (λ (h : List Event). IsLawful shape h) (append_assoc past (e ∷ []) later)
     (lawful_by_steps law shape (past ++ e ∷ []) later ((law shape past e).1 (lawful, steps.0)) steps.1)
-
-shape : Shape
-shape = record {
-  capacity = 1;
-  modulus = 3;
-  width = 1;
-  has_cells = omega arith;
-  few_cells = omega arith;
-  room_to_count = omega arith;
-  small_modulus = omega arith;
-  has_digits = omega arith;
-  few_digits = omega arith;
-}
 
 abbrev read : Side → Bit → Event
 read side bit = record { side = side; bit = bit; act = ReadBegin }
@@ -73,8 +61,8 @@ rest_of_take =
     read C (S 1) ∷ got C (S 1) true ∷ read C (Cell 0 0) ∷ got C (Cell 0 0) true ∷ write C (R 1) true ∷ wrote C (R 1) ∷
     write C (R 0) false ∷ wrote C (R 0) ∷ []
 
-each_follows : EachFollows shape [] events
-unfolding shape
+each_follows : EachFollows one_cell [] events
+unfolding one_cell
 each_follows = (
   record { right_side = record { in_shape = refl; by_doer = refl }; in_turn = refl; permitted = tt },
   (
@@ -101,12 +89,12 @@ each_follows = (
   ),
 )
 
-puts_follow : FollowsPuts shape events one_put
-unfolding shape
+puts_follow : FollowsPuts one_cell events one_put
+unfolding one_cell
 puts_follow = record { are = ((omega arith, omega arith, omega arith), tt); events = (wrote P (S 0) ∷ [], refl) }
 
-takes_follow : FollowsTakes shape events one_take
-unfolding shape
+takes_follow : FollowsTakes one_cell events one_take
+unfolding one_cell
 takes_follow = record {
   are = (((omega arith, (omega arith, omega arith)), omega arith), tt);
   events = (rest_of_take, refl);
@@ -129,10 +117,10 @@ overlapped = record {
 -- there is a lawful history whose two sides follow their programs, with a read that a write overlaps
 pub has-a_run : EmptyIsLawful → LawfulByOneMore → HasARun
 has-a_run empty law = (
-  shape,
+  one_cell,
   events,
   one_put,
   one_take,
-  record { lawful = lawful_by_steps law shape [] events (empty shape) each_follows; puts_follow = puts_follow; takes_follow = takes_follow },
+  record { lawful = lawful_by_steps law one_cell [] events (empty one_cell) each_follows; puts_follow = puts_follow; takes_follow = takes_follow },
   (C, S 0, 7, 8, false, read_ended, overlapped),
 )
