@@ -21,7 +21,7 @@ use Rattle.ring_core.specs.declared.consumers.Stage.TheVariants.{Idle, Scanning,
 use Rattle.ring_core.specs.Counts.{ShowsItem, counted, count_phrase}
 use Rattle.ring_core.specs.Takes.{Take, Takes, Empty, Open, taken_after, taken_in, take_phrase, take_phrases, SeesNone, IsTake, AreTakes}
 use Rattle.ring_core.specs.ConsumerState.{ConsumerState, due_take, due_at, is_taking, takes_at}
-use Rattle.ring_core.specs.ConsumerCalls.{ConsumerStands, MadeAt, Once, Twice, look_phrase, HasMoved, reply_to, and_take, and_end, HasTakeMore, IsOpenFor, tells, IsReply, IsAfter}
+use Rattle.ring_core.specs.ConsumerCalls.{ConsumerStands, MadeAt, Once, Twice, finding_phrase, HasMoved, reply_to, and_take, and_end, HasTakeMore, IsOpenFor, tells, IsReply, IsAfter}
 use Rattle.ring_core.proofs.MachineParts.{ScanGoesOn, RowGoesOn, longer, count_writes-push}
 use Rattle.ring_core.proofs.TakeCalls.{taken-push, are-push, are-end, reply-push, program-push, take_of, take_of-is, take_of-takes, take_of-replies, take_of-phrase}
 
@@ -239,7 +239,7 @@ rescan_on p s answer e goes calls made access stands due =
 -- the accesses once it has ended
 two_scans :
     (front reads made x : List Made) (seen again : ℕ) → made ≡ front ++ ((scan_phrase (row_read_by C) seen ++ Read X true ∷ []) ++ reads) →
-    reads ++ x ≡ scan_phrase (row_read_by C) again → made ++ x ≡ front ++ look_phrase (Twice seen again)
+    reads ++ x ≡ scan_phrase (row_read_by C) again → made ++ x ≡ front ++ finding_phrase (Twice seen again)
 two_scans front reads made x seen again made_is reads_are =
     let scan : List Made = scan_phrase (row_read_by C) seen in
     ap (λ l. l ++ x) made_is ∙ longer front (scan ++ Read X true ∷ []) reads x ∙
@@ -264,7 +264,7 @@ rescan_item p s w answer again e goes gives word_stands shows calls made access 
       (sees, (below, subst (λ k. ShowsItem p.shape again k) stands.count_is shows)),
       [],
       word_stands,
-      two_scans front reads made x seen again made_is reads_are ∙ ap (λ l. front ++ l) (sym (append-nil (look_phrase (Twice seen again)))),
+      two_scans front reads made x seen again made_is reads_are ∙ ap (λ l. front ++ l) (sym (append-nil (finding_phrase (Twice seen again)))),
     )
 
 -- it shows none, and the ring is closed
@@ -318,7 +318,7 @@ word_on p w answer e goes calls made access stands due =
       finds,
       reads ++ x,
       goes reads access words (due_is Loading p access e due),
-      ap (λ l. l ++ x) made_is ∙ longer (take_phrases p.shape 0 calls.takes) (look_phrase look) reads x,
+      ap (λ l. l ++ x) made_is ∙ longer (take_phrases p.shape 0 calls.takes) (finding_phrase look) reads x,
     ) in
     subst (λ st. HasMoved p (at_stage p st p.scan w p.row) calls (made ++ x)) (sym e) moved
 
@@ -334,7 +334,7 @@ word_over p w row answer e goes whole begins_row calls made access stands due =
     let x : List Made = answered access answer ∷ [] in
     let k : ℕ = taken_in 0 calls.takes in
     let front : List Made = take_phrases p.shape 0 calls.takes in
-    let scans : List Made = look_phrase look in
+    let scans : List Made = finding_phrase look in
     let word : List Made = word_read (width_of p.shape) (k % capacity_of p.shape) w.value in
     let (fits, reads_are) = whole (reads ++ x) (goes reads access words (due_is Loading p access e due)) in
     let all : reads ++ x ≡ word = reads_are ∙ ap (λ j. word_read (width_of p.shape) j w.value) stands.cell_is in
@@ -375,7 +375,7 @@ count_on p row answer e goes calls made access stands due =
       writes ++ x,
       rows',
       ap (λ l. l ++ x) made_is ∙
-          longer (take_phrases p.shape 0 calls.takes) (look_phrase look ++ word_read (width_of p.shape) (k % capacity_of p.shape) p.word.value) writes x,
+          longer (take_phrases p.shape 0 calls.takes) (finding_phrase look ++ word_read (width_of p.shape) (k % capacity_of p.shape) p.word.value) writes x,
     ) in
     subst (λ st. HasMoved p (at_stage p st p.scan p.word row) calls (made ++ x)) (sym e) moved
 
@@ -395,7 +395,7 @@ count_over p row answer reply count cell e goes reply_is count_is cell_is whole 
     let after : taken_after k took ≡ suc k = take_of-takes k look item in
     let old : List Made = count_writes C (counted p.shape k) in
     let front : List Made = take_phrases p.shape 0 calls.takes in
-    let scans : List Made = look_phrase look in
+    let scans : List Made = finding_phrase look in
     let word : List Made = word_read (width_of p.shape) (k % capacity_of p.shape) item in
     let rows' : UnaryStands row (counted p.shape (suc k)) (old ++ (writes ++ x)) =
     subst (λ l. UnaryStands row (counted p.shape (suc k)) l) (append_assoc old writes x)

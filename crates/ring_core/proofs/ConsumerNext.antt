@@ -23,7 +23,7 @@ use Rattle.ring_core.specs.Calls.{LastBitIsDue, IsScanning, EndsInZeros}
 use Rattle.ring_core.specs.Lengths.{longest_take}
 use Rattle.ring_core.specs.Takes.{Take, Takes, Item, ItemAfterClose, Empty, Open, Closed, taken_in, item_phrase, take_phrase, take_phrases, end_phrase, take_program, IsTake, SeesNone, AreTakes}
 use Rattle.ring_core.specs.ConsumerState.{ConsumerState, IsLoading, takes_at, is_taking}
-use Rattle.ring_core.specs.ConsumerCalls.{ConsumerStands, Look, Twice, look_phrase, Finds, and_take, and_end, Begins, IsNextTake}
+use Rattle.ring_core.specs.ConsumerCalls.{ConsumerStands, Finding, Twice, finding_phrase, Finds, and_take, and_end, Begins, IsNextTake}
 use Rattle.ring_core.proofs.Lengths.{takes-are_short, ends-are_short}
 use Rattle.ring_core.proofs.MachineParts.{count_writes-push, longer}
 use Rattle.ring_core.proofs.NextParts.{begins_more, begins_behind, length-part, scan_due, scan_reads, scan_goes_on, answered_write, first_writes}
@@ -50,9 +50,9 @@ begins_take shape calls made part x are o is made_is (rest, e) =
 
 -- accesses that begin a take that found an item so
 begins_found :
-    (shape : Shape) (calls : Takes) (made part : List Made) (look : Look) (item : ℕ) → AreTakes shape 0 calls.takes calls.end → calls.end ≡ Open →
+    (shape : Shape) (calls : Takes) (made part : List Made) (look : Finding) (item : ℕ) → AreTakes shape 0 calls.takes calls.end → calls.end ≡ Open →
     Finds shape (taken_in 0 calls.takes) look → item < 2 ^ width_of shape → made ≡ take_phrases shape 0 calls.takes ++ part →
-    IsBeginning part (look_phrase look ++ item_phrase shape (taken_in 0 calls.takes) item) → Begins shape calls made
+    IsBeginning part (finding_phrase look ++ item_phrase shape (taken_in 0 calls.takes) item) → Begins shape calls made
 begins_found shape calls made part look item are o finds fits made_is begins_look =
     let k : ℕ = taken_in 0 calls.takes in
     begins_take shape calls made part (take_of look item) are o (take_of-is shape k look item finds fits) made_is
@@ -97,12 +97,12 @@ begins_scan shape calls made part c are o below made_is begins_c =
 begins_rescan :
     (shape : Shape) (calls : Takes) (made part : List Made) (seen again : ℕ) → AreTakes shape 0 calls.takes calls.end → calls.end ≡ Open →
     SeesNone shape (taken_in 0 calls.takes) seen → again < modulus_of shape → made ≡ take_phrases shape 0 calls.takes ++ part →
-    IsBeginning part (look_phrase (Twice seen again)) → Begins shape calls made
+    IsBeginning part (finding_phrase (Twice seen again)) → Begins shape calls made
 begins_rescan shape calls made part seen again are o sees below made_is begins_scans =
     let k : ℕ = taken_in 0 calls.takes in
     elim (shows_or_none shape again (k % modulus_of shape)) [
       | inl shows ↦ begins_take shape calls made part (ItemAfterClose seen again 0) are o (sees, (below, shows), pow_pos (width_of shape)) made_is
-          (begins_more part (look_phrase (Twice seen again)) (item_phrase shape k 0) begins_scans)
+          (begins_more part (finding_phrase (Twice seen again)) (item_phrase shape k 0) begins_scans)
       | inr none ↦ begins_end shape calls made part seen again are o sees (below, none) made_is begins_scans
     ]
 
@@ -215,7 +215,7 @@ next_word p calls made due e stands loads unread due_is next =
     let o : calls.end ≡ Open = open_at Loading p calls made e stands in
     let k : ℕ = taken_in 0 calls.takes in
     let front : List Made = take_phrases p.shape 0 calls.takes in
-    let scans : List Made = look_phrase look in
+    let scans : List Made = finding_phrase look in
     let count : List Made = count_phrase p.shape C k in
     let access : Access = begins.Read (Cell p.word.cell p.word.read) in
     let due_some : due ≡ Some access = due_is ∙ read_due p.word unread in
@@ -245,7 +245,7 @@ next_count_write p calls made due e stands side some due_is next =
     let front : List Made = take_phrases p.shape 0 calls.takes in
     let old : List Made = count_writes C (counted p.shape k) in
     let count : List Made = count_phrase p.shape C k in
-    let scans : List Made = look_phrase look in
+    let scans : List Made = finding_phrase look in
     let word : List Made = word_read (width_of p.shape) (k % capacity_of p.shape) item in
     let (b, v, due_some) = first_writes (row_bit p.row.side) (due_writes p.row) due due_is (λ f. some (sym due_is ∙ f)) in
     let access : Access = begins.Write b v in

@@ -68,16 +68,19 @@ seen_old-are = (((omega arith, (omega arith, omega arith)), omega arith), ((omeg
 
 -- ---- a second scan finds the item, and the next take is told that the ring is closed
 
-abbrev put_and_close : Puts
+abbrev pub put_and_close : Puts
 put_and_close = record { puts = Stored 0 1 ∷ []; closes = true }
 
-abbrev second_scan : Takes
+abbrev pub second_scan : Takes
 second_scan = record { takes = ItemAfterClose 0 1 1 ∷ []; end = Closed 1 1 }
 
 put_and_close-is :
     put_program one_cell put_and_close ≡ Read (R 0) true ∷ Write (Cell 0 0) true ∷ Write (S 1) true ∷ Write (S 0) false ∷ Write X true ∷ []
 unfolding one_cell
 put_and_close-is = refl
+
+pub put_and_close-are : ArePuts one_cell 0 put_and_close.puts
+put_and_close-are = one_put-are
 
 second_scan-is :
     take_program one_cell second_scan ≡
@@ -86,7 +89,7 @@ second_scan-is :
 unfolding one_cell
 second_scan-is = refl
 
-second_scan-are : AreTakes one_cell 0 second_scan.takes second_scan.end
+pub second_scan-are : AreTakes one_cell 0 second_scan.takes second_scan.end
 unfolding one_cell
 second_scan-are = (
   ((omega arith, λ (low, high). omega (arith, low)), (omega arith, (omega arith, omega arith)), omega arith),
@@ -94,7 +97,7 @@ second_scan-are = (
 )
 
 -- told with the last of its 24 events
-second_scan-told : (IsTold one_cell second_scan 23 → ⊥) × IsTold one_cell second_scan 24
+pub second_scan-told : (IsTold one_cell second_scan 23 → ⊥) × IsTold one_cell second_scan 24
 unfolding one_cell
 second_scan-told = ((λ (tells, all). omega (arith, all)), (record {}, omega arith))
 

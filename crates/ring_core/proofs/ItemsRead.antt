@@ -10,7 +10,7 @@ use Rattle.register_core.specs.Word.{word_write, DigitsTellItems}
 use Rattle.register_core.specs.ScanState.{scan_phrase, row_read_by}
 use Rattle.ring_core.specs.Counts.{count_phrase}
 use Rattle.ring_core.specs.Puts.{Put, Stored, Full, stored_after, put_phrase, put_phrases, close_phrase, put_program, IsPut, ArePuts}
-use Rattle.ring_core.specs.Items.{events_in, before_count, items_put, ItemsAreRead}
+use Rattle.ring_core.specs.Items.{events_in, accesses_before_count, items_put, ItemsAreRead}
 use Rattle.ring_core.proofs.Phrases.{same_scan, same_word_write}
 use Rattle.ring_core.proofs.PutsRead.{no_close, puts_stored, puts_full, no_room}
 use Rattle.ring_core.proofs.Cuts.{at_most_or_above, BeginBoth, begin_both, cut, also_begins}
@@ -21,7 +21,7 @@ puts_from shape n puts close = put_phrases shape n puts ++ close_phrase close
 
 -- the accesses of a put that tell which one it is
 abbrev head_of : Shape → ℕ → Put → List Made
-head_of shape n (Stored seen item) = before_count shape n seen item
+head_of shape n (Stored seen item) = accesses_before_count shape n seen item
 head_of shape n (Full seen) = scan_phrase (row_read_by P) seen
 
 -- the accesses of a put after those
@@ -45,7 +45,7 @@ from_head shape n x puts close =
 
 -- the item of a put whose count write has begun within t events of it
 abbrev item_begun : Shape → ℕ → Put → ℕ → List ℕ
-item_begun shape n (Stored seen item) t = (if nat_lt (events_in (before_count shape n seen item)) t then item ∷ [] else [])
+item_begun shape n (Stored seen item) t = (if nat_lt (events_in (accesses_before_count shape n seen item)) t then item ∷ [] else [])
 item_begun shape n (Full seen) t = []
 
 -- the items put from the first put on
@@ -58,7 +58,7 @@ first_item shape n (Full seen) puts t = refl
 -- a put whose count write has not begun has put no item
 not_begun : (shape : Shape) (n : ℕ) (x : Put) (t : ℕ) → t ≤ events_in (head_of shape n x) → item_begun shape n x t ≡ []
 not_begun shape n (Stored seen item) t l =
-    ap (λ b. if b then item ∷ [] else []) (le-ltb (events_in (before_count shape n seen item)) t l)
+    ap (λ b. if b then item ∷ [] else []) (le-ltb (events_in (accesses_before_count shape n seen item)) t l)
 not_begun shape n (Full seen) t l = refl
 
 -- within no event no item is put

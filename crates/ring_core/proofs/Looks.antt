@@ -15,7 +15,7 @@ use Rattle.ring_core.specs.Takes.{Take, Item, ItemAfterClose, Empty, End, Open, 
 use Rattle.ring_core.specs.Items.{items_put, items_taken}
 use Rattle.ring_core.specs.Spans.{Outcome, Passes, Stops, Asks, Span, counts, whole, total, begun_items, ended_items, Stands}
 use Rattle.ring_core.specs.Clocks as clocks
-use Rattle.ring_core.specs.Looks.{Look, look, put_looks, take_looks, word_part, count_part, after_look, look_accesses, span_of, spans}
+use Rattle.ring_core.specs.Looks.{Look, look, put_looks, take_looks, word_part, count_part, after_look, look_accesses, span_of, spans, LookAt}
 use Rattle.ring_core.proofs.Timeline.{AllProper}
 use Rattle.ring_core.proofs.Cuts.{at_most_or_above}
 use Rattle.ring_core.proofs.SpanLaw.{LastTwo, two_last, two_after}
@@ -99,16 +99,6 @@ after_counts : (n : ℕ) (o : Outcome) → after_look n o ≡ n + counts o
 after_counts n (Passes item) = omega arith
 after_counts n Stops = omega arith
 after_counts n (Asks answer) = omega arith
-
--- a look of a program, behind k counts: its span, and where its accesses stand
-pub record LookAt (s : Side) (shape : Shape) (program : List Made) (k start : ℕ) (x : Span) : Type 0 where
-  pub look : Look
-  pub before : List Made
-  pub after : List Made
-  pub is_x : x ≡ span_of s shape k look
-  pub program_is :
-      program ≡ before ++ (scan_phrase (row_read_by s) look.seen ++ (word_part s shape k look.outcome ++ (count_part s shape k look.outcome ++ after)))
-  pub start_is : start ≡ 2 * length before
 
 -- the first look of a program
 first_look : (s : Side) (shape : Shape) (n : ℕ) (l : Look) (after : List Made) (start : ℕ) (x : Span) → start ≡ 0 → x ≡ span_of s shape n l →

@@ -20,7 +20,8 @@ use Rattle.ring_core.specs.Spans.{Span, begun, ended, Stands}
 use Rattle.ring_core.specs.Clocks.{IsPlace, Permitted, AreRegular}
 use Rattle.ring_core.specs.Looks.{Look, put_looks, take_looks, look_accesses, spans, put_spans, take_spans}
 use Rattle.ring_core.proofs.Lengths.{length-scan}
-use Rattle.ring_core.proofs.Looks.{LookAt, look_from_first, puts_as_looks, takes_as_looks}
+use Rattle.ring_core.specs.Looks.{LookAt}
+use Rattle.ring_core.proofs.Looks.{look_from_first, puts_as_looks, takes_as_looks}
 use Rattle.ring_core.proofs.CountTimes.{bit_writes, IsQuiet, quiet_close, counts_in, counted_in, counted_value, counted_begun, count_writes_begun, count_writes_ended, count_writes_are}
 use Rattle.ring_core.proofs.OwnEvents.{clock_within, one_place, count_begun_own, count_begun_before, count_ended_before}
 

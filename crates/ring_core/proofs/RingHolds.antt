@@ -23,14 +23,15 @@ use Rattle.ring_core.specs.Spans.{Span, Asks, before_count, all_items, total}
 use Rattle.ring_core.specs.Clocks.{IsPlace, AreCloseReads, Ring}
 use Rattle.ring_core.specs.Clocks as clocks
 use Rattle.ring_core.specs.Looks.{put_looks, take_looks, word_part, count_part, look_accesses, spans, put_spans, take_spans}
-use Rattle.ring_core.specs.RingLaw.{IsRun, RingLaw, PutsAreInRange, TakesAreInRange, CellsAreQuiet, TakenArePrefix, EmptyIsFresh, FullIsFresh, ClosedIsTrue}
+use Rattle.ring_core.specs.RingLaw.{IsRun, RingLaw, PutsAreInRange, TakesAreInRange, CellsAreQuiet, TakenArePrefix, TakesMatchPuts, EmptyIsFresh, FullIsFresh, ClosedIsTrue}
 use Rattle.ring_core.proofs.Cuts.{at_most_or_above}
 use Rattle.ring_core.proofs.Gates.{clock_up, clock_p, clock_c}
 use Rattle.ring_core.proofs.SpanLaw.{SpanLaw, span_law, IsToldAt, LastTwo}
 use Rattle.ring_core.proofs.HistoryClocks.{clocks_of}
 use Rattle.ring_core.proofs.OwnEvents.{clock_within, one_place}
 use Rattle.ring_core.proofs.Following.{length-events}
-use Rattle.ring_core.proofs.Looks.{puts_as_looks, takes_as_looks, all_proper, total_is, LookAt, look_from_first, word_some, asks_word, puts_items, takes_items, put_rules, take_rules, put_fits, take_fits, last_two}
+use Rattle.ring_core.specs.Looks.{LookAt}
+use Rattle.ring_core.proofs.Looks.{puts_as_looks, takes_as_looks, all_proper, total_is, look_from_first, word_some, asks_word, puts_items, takes_items, put_rules, take_rules, put_fits, take_fits, last_two}
 use Rattle.ring_core.proofs.RegularScans.{put_events, take_events, puts_regular, takes_regular}
 use Rattle.ring_core.proofs.CloseReads.{OwnFacts, read_of_close}
 use Rattle.ring_core.proofs.SafeWords.{close_to_cell, words_are_safe}
@@ -152,6 +153,9 @@ module _ (facts : OwnFacts) (regular : UnaryIsRegular) (scans_made : ScansAreMad
       let (rest, e) = law.prefix t in
       (rest, ap (λ l. l ++ rest) (takes_items shape 0 takes.takes takes.end (clock C h t)) ∙ e ∙ sym (puts_items shape 0 puts.puts (clock P h t)))
 
+  items : TakesMatchPuts shape h puts takes
+  items t s k x item st o l = ap (λ l. slice_get l k) (puts_items shape 0 puts.puts (clock P h t)) ∙ law.items t s k x item st o l
+
   empty : EmptyIsFresh shape h puts takes
   empty s k x st o l first q =
       let (all, not_closed) = law.empty (length h) s k x st o (omega (arith, l, clock_end C)) first (is_place C s first q) in
@@ -254,6 +258,7 @@ module _ (facts : OwnFacts) (regular : UnaryIsRegular) (scans_made : ScansAreMad
     take_range = take_range;
     quiet = quiet;
     prefix = prefix;
+    items = items;
     empty = empty;
     full = full;
     closed = closed;

@@ -1,4 +1,6 @@
 -- What follows from the counts: cells at rest, the items in order, what a full and an empty ring tell, and the close.
+use Rattle.std.specs.Prelude.{slice_get, Some}
+use Rattle.std.proofs.lemmas.Option.{slice_get-get_or}
 use Rattle.std.proofs.Common.{◌≡◌, inl, inr, ℕ, suc, ◌+◌, ◌-◌, ◌<◌, ◌≤◌, ◌%◌, true, false, List, [], ◌++◌, length, get_or, drop, append-nil, drop_of_length-le, refl, sym, ap, ◌∙◌, add-zero, arith}
 use Rattle.std.proofs.lemmas.List.Prefix.{front_from_reads}
 use Rattle.ring_core.specs.Spans.{Span, Passes, Asks, counts, before_count, whole, begun, ended, begun_items, ended_items, all_items, total, Stands}
@@ -95,6 +97,17 @@ module _ (modulus capacity : ℕ) (p c : ℕ → ℕ) (puts takes : List Span) (
             (let wy = before-whole y (proper_at puts proper_puts s' n' y sy) in
             apart capacity k n' more (omega (arith, here, ahead first.place s' n' y sy oy (omega (arith, wy)))) cell);
       })
+
+  -- so that item is among those put
+  pub taken_item :
+      (t s k : ℕ) (x : Span) (item : ℕ) → Stands takes s k x → x.outcome ≡ Passes item → s + before_count x ≤ c t →
+      slice_get (begun_items puts (p t)) k ≡ Some item
+  taken_item t s k x item st o l =
+      let one : counts x.outcome ≡ 1 = ap counts o in
+      let there : k < begun puts (p t) = behind t s k x st one (omega (arith, l)) in
+      let g = begun_find puts proper_puts (p t) k there in
+      slice_get-get_or (begun_items puts (p t)) k 0 (omega (arith, there, length-begun_items puts (p t))) ∙
+      ap Some (g.listed ∙ sym (same_item t s k x item st o l g))
 
   -- at most as many items are taken as are put
   fewer : (t : ℕ) → ended takes (c t) ≤ begun puts (p t)

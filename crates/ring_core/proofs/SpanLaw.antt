@@ -1,12 +1,13 @@
 -- The law of the ring at every moment, over the clocks of two sides and the spans of their events.
+use Rattle.std.specs.Prelude.{slice_get, Some}
 use Rattle.std.proofs.Common.{◌≡◌, inl, inr, ℕ, ◌+◌, ◌-◌, ◌<◌, ◌≤◌, ◌%◌, true, false, List, [], ◌∷◌, length, drop, refl, sym, ap, arith}
 use Rattle.bits_core.specs.Made.{IsBeginning}
-use Rattle.ring_core.specs.Spans.{Span, Asks, counts, before_count, whole, begun, ended, begun_items, ended_items, all_items, total, Stands}
+use Rattle.ring_core.specs.Spans.{Span, Passes, Asks, counts, before_count, whole, begun, ended, begun_items, ended_items, all_items, total, Stands}
 use Rattle.ring_core.specs.RingLaw.{ReadsCount}
 use Rattle.ring_core.specs.Clocks.{IsPlace, Overlap, Ring}
 use Rattle.ring_core.proofs.Timeline.{AllProper, before-whole}
 use Rattle.ring_core.proofs.Gates.{clock_up, clock_c, proper_at, within, shown_at, left_at}
-use Rattle.ring_core.proofs.SpanItems.{quiet, prefix, empty_fresh, empty_open, full_fresh, closed}
+use Rattle.ring_core.proofs.SpanItems.{quiet, taken_item, prefix, empty_fresh, empty_open, full_fresh, closed}
 
 -- The last two spans are a read of the close bit, which is 1, and then a scan after which nothing is taken.
 pub record LastTwo (xs : List Span) : Type 0 where
@@ -67,6 +68,10 @@ pub record SpanLaw (modulus capacity : ℕ) (p c : ℕ → ℕ) (puts takes : Li
   pub quiet :
       (s k : ℕ) (x : Span) → Stands takes s k x → counts x.outcome ≡ 1 → (first last : ℕ) → first ≤ last →
       s + x.scan ≤ c first → c last ≤ s + before_count x → Overlap capacity p puts (k % capacity) first last → ⊥
+  -- a take whose word read has ended has the item of the put of its number
+  pub items :
+      (t s k : ℕ) (x : Span) (item : ℕ) → Stands takes s k x → x.outcome ≡ Passes item → s + before_count x ≤ c t →
+      slice_get (begun_items puts (p t)) k ≡ Some item
   -- the items taken are a beginning of the items put
   pub prefix : (t : ℕ) → IsBeginning (ended_items takes (c t)) (begun_items puts (p t))
   -- a take that finds the ring empty: all puts that had ended before it began were taken by takes that had ended then, and
@@ -98,6 +103,7 @@ span_law modulus capacity p c puts takes proper_puts proper_takes ring =
           (let u = shown_at modulus capacity p c puts takes ring proper_puts proper_takes t s k x st l in
           record { number = u.number; value = u.value; low = omega (arith, u.low); high = u.high; not_older = u.since; not_newer = u.until });
       quiet = quiet modulus capacity p c puts takes ring proper_puts proper_takes;
+      items = taken_item modulus capacity p c puts takes ring proper_puts proper_takes;
       prefix = λ t.
           (drop (length (ended_items takes (c t))) (begun_items puts (p t)), sym (prefix modulus capacity p c puts takes ring proper_puts proper_takes t));
       empty = λ t s k x st o l first is.

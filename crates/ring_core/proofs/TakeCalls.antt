@@ -5,7 +5,7 @@ use Rattle.bits_core.specs.Shape.{width_of}
 use Rattle.ring_core.specs.declared.consumers.TakeReply.{TakeReply}
 use Rattle.ring_core.specs.declared.consumers.TakeReply.TheVariants as replies
 use Rattle.ring_core.specs.Takes.{Take, Takes, Item, ItemAfterClose, Open, Closed, taken_after, taken_in, item_phrase, take_phrase, take_phrases, end_phrase, take_program, IsTake, SeesNone, AreTakes}
-use Rattle.ring_core.specs.ConsumerCalls.{Look, Once, Twice, look_phrase, Finds, and_take, reply_to, last_reply}
+use Rattle.ring_core.specs.ConsumerCalls.{Finding, Once, Twice, finding_phrase, Finds, and_take, reply_to, last_reply}
 
 -- the accesses of takes and one more
 pub phrases-push :
@@ -64,26 +64,26 @@ program-push shape calls x = append-nil (take_phrases shape 0 (calls.takes ++ x 
 -- ---- a take that found an item
 
 -- the take that found an item so
-abbrev pub take_of : Look → ℕ → Take
+abbrev pub take_of : Finding → ℕ → Take
 take_of (Once seen) item = Item seen item
 take_of (Twice seen again) item = ItemAfterClose seen again item
 
 -- it is a take if the item fits
-pub take_of-is : (shape : Shape) (k : ℕ) (look : Look) (item : ℕ) → Finds shape k look → item < 2 ^ width_of shape → IsTake shape k (take_of look item)
+pub take_of-is : (shape : Shape) (k : ℕ) (look : Finding) (item : ℕ) → Finds shape k look → item < 2 ^ width_of shape → IsTake shape k (take_of look item)
 take_of-is shape k (Once seen) item finds fits = (finds, fits)
 take_of-is shape k (Twice seen again) item (none, finds) fits = (none, finds, fits)
 
 -- it takes one item
-pub take_of-takes : (k : ℕ) (look : Look) (item : ℕ) → taken_after k (take_of look item) ≡ suc k
+pub take_of-takes : (k : ℕ) (look : Finding) (item : ℕ) → taken_after k (take_of look item) ≡ suc k
 take_of-takes k (Once seen) item = refl
 take_of-takes k (Twice seen again) item = refl
 
 -- it is answered the item
-pub take_of-replies : (look : Look) (item : ℕ) → reply_to (take_of look item) ≡ replies.Item item
+pub take_of-replies : (look : Finding) (item : ℕ) → reply_to (take_of look item) ≡ replies.Item item
 take_of-replies (Once seen) item = refl
 take_of-replies (Twice seen again) item = refl
 
 -- its accesses are those by which it found the item, and then those that take the item
-pub take_of-phrase : (shape : Shape) (k : ℕ) (look : Look) (item : ℕ) → take_phrase shape k (take_of look item) ≡ look_phrase look ++ item_phrase shape k item
+pub take_of-phrase : (shape : Shape) (k : ℕ) (look : Finding) (item : ℕ) → take_phrase shape k (take_of look item) ≡ finding_phrase look ++ item_phrase shape k item
 take_of-phrase shape k (Once seen) item = refl
 take_of-phrase shape k (Twice seen again) item = refl

@@ -1,126 +1,186 @@
--- A lawful history whose two sides follow their programs, where a write overlaps a read: one cell, modulus 3, items of one
--- digit.
-use Rattle.std.proofs.Common.{Bool, true, false, List, [], ◌∷◌, ◌++◌, inl, inr, refl, sym, subst, append_assoc, append-nil, arith}
+-- A lawful history whose two sides follow their programs: an item is put, the ring is closed, the item is taken, and the
+-- consumer is told. A write overlaps the consumer's first read. One cell, modulus 3, items of one digit.
+use Rattle.std.proofs.Common.{◌≡◌, ◌≢◌, Bool, true, false, Some, None, List, [], ◌∷◌, ◌++◌, length, ap, inl, inr, refl, sym, subst, append_assoc, append-nil, arith}
 use Rattle.bits_core.specs.declared.events.Side.{Side}
 use Rattle.bits_core.specs.declared.events.Side.TheVariants.{P, C}
 use Rattle.bits_core.specs.declared.events.Bit.{Bit}
-use Rattle.bits_core.specs.declared.events.Bit.TheVariants.{S, R, Cell}
+use Rattle.bits_core.specs.declared.events.Bit.TheVariants.{S, R, X, Cell}
 use Rattle.bits_core.specs.declared.events.Act.TheVariants.{ReadBegin, ReadEnd, WriteBegin, WriteEnd}
+use Rattle.bits_core.specs.declared.events.Access.TheVariants as access
 use Rattle.bits_core.specs.declared.events.Event.{Event}
 use Rattle.bits_core.specs.declared.shapes.Shape.{Shape}
+use Rattle.bits_core.specs.Bits.{reader, writer}
+use Rattle.bits_core.specs.History.{open_access}
 use Rattle.bits_core.specs.Intervals.{IsRead, HasOverlap}
 use Rattle.bits_core.specs.Lawful.{IsLawful}
 use Rattle.bits_core.specs.Laws.{EmptyIsLawful, LawfulByOneMore}
-use Rattle.bits_core.specs.Steps.{MayFollow}
-use Rattle.ring_core.specs.Puts.{Puts, Stored, FollowsPuts}
-use Rattle.ring_core.specs.Takes.{Takes, Item, Open, FollowsTakes}
+use Rattle.bits_core.specs.Shape.{belongs}
+use Rattle.bits_core.specs.Steps.{IsAnswer, MayFollow}
+use Rattle.ring_core.specs.Items.{items_put_in, items_taken_in, ToldIn}
+use Rattle.ring_core.specs.Puts.{FollowsPuts}
+use Rattle.ring_core.specs.Takes.{FollowsTakes}
 use Rattle.ring_core.specs.RingLaw.{HasARun}
-use Rattle.ring_core.proofs.Examples.{one_cell}
+use Rattle.ring_core.proofs.Examples.{one_cell, put_and_close, put_and_close-are, second_scan, second_scan-are, second_scan-told}
 
+infixr 10 ◌>>◌
 -- each of these events may follow those before it
-abbrev EachFollows : Shape → List Event → List Event → Type 0
-EachFollows shape past [] = Unit {0}
-EachFollows shape past (e ∷ later) = MayFollow shape past e × EachFollows shape (past ++ e ∷ []) later
+data EachFollows (shape : Shape) : List Event → List Event → Type 0 where
+  no_more : {past : List Event} → EachFollows shape past []
+  ◌>>◌ : {past : List Event} {e : Event} {later : List Event} → MayFollow shape past e → EachFollows shape (past ++ e ∷ []) later →
+      EachFollows shape past (e ∷ later)
 
 -- so a lawful history stays lawful with them
 lawful_by_steps :
     LawfulByOneMore → (shape : Shape) (past later : List Event) → IsLawful shape past → EachFollows shape past later →
     IsLawful shape (past ++ later)
 lawful_by_steps law shape past [] lawful steps = subst (λ (h : List Event). IsLawful shape h) (sym (append-nil past)) lawful
-lawful_by_steps law shape past (e ∷ later) lawful steps =
+lawful_by_steps law shape past (e ∷ later) lawful (step >> steps) =
     subst (λ (h : List Event). IsLawful shape h) (append_assoc past (e ∷ []) later)
-    (lawful_by_steps law shape (past ++ e ∷ []) later ((law shape past e).1 (lawful, steps.0)) steps.1)
+    (lawful_by_steps law shape (past ++ e ∷ []) later ((law shape past e).1 (lawful, step)) steps)
 
+-- a read of a bit begins
 abbrev read : Side → Bit → Event
 read side bit = record { side = side; bit = bit; act = ReadBegin }
 
+-- and ends with an answer
 abbrev got : Side → Bit → Bool → Event
 got side bit answer = record { side = side; bit = bit; act = ReadEnd answer }
 
+-- a write of a bit begins
 abbrev write : Side → Bit → Bool → Event
 write side bit value = record { side = side; bit = bit; act = WriteBegin value }
 
+-- and ends
 abbrev wrote : Side → Bit → Event
 wrote side bit = record { side = side; bit = bit; act = WriteEnd }
 
--- a put, whose last write is open, and the first access of a take, which that write overlaps
+-- a read may begin where its side has no access open
+reading :
+    {shape : Shape} {past : List Event} (side : Side) (bit : Bit) → belongs shape bit ≡ true → side ≡ reader bit → open_access side past ≡ None →
+    MayFollow shape past (read side bit)
+reading side bit in_shape by_reader none_open =
+    record { right_side = record { in_shape = in_shape; by_doer = by_reader }; in_turn = none_open; permitted = tt }
+
+-- it may end with an answer that is permitted
+answered :
+    {shape : Shape} {past : List Event} (side : Side) (bit : Bit) (answer : Bool) → belongs shape bit ≡ true → side ≡ reader bit →
+    open_access side past ≡ Some (access.Read bit) → IsAnswer past side bit answer → MayFollow shape past (got side bit answer)
+answered side bit answer in_shape by_reader reads permitted =
+    record { right_side = record { in_shape = in_shape; by_doer = by_reader }; in_turn = reads; permitted = permitted }
+
+-- a write may begin where its side has no access open
+writing :
+    {shape : Shape} {past : List Event} (side : Side) (bit : Bit) (value : Bool) → belongs shape bit ≡ true → side ≡ writer bit →
+    open_access side past ≡ None → MayFollow shape past (write side bit value)
+writing side bit value in_shape by_writer none_open =
+    record { right_side = record { in_shape = in_shape; by_doer = by_writer }; in_turn = none_open; permitted = tt }
+
+-- it may end
+written :
+    {shape : Shape} {past : List Event} (side : Side) (bit : Bit) (value : Bool) → belongs shape bit ≡ true → side ≡ writer bit →
+    open_access side past ≡ Some (access.Write bit value) → MayFollow shape past (wrote side bit)
+written side bit value in_shape by_writer writes =
+    record { right_side = record { in_shape = in_shape; by_doer = by_writer }; in_turn = (value, writes); permitted = tt }
+
+-- the consumer's first read has begun when the producer puts and closes; then the consumer takes the item, and is told
 abbrev events : List Event
 events =
-    read P (R 0) ∷ got P (R 0) true ∷ write P (Cell 0 0) true ∷ wrote P (Cell 0 0) ∷ write P (S 1) true ∷ wrote P (S 1) ∷ write P (S 0) false ∷
-    read C (S 0) ∷ got C (S 0) false ∷ []
+    read C (S 0) ∷
+    read P (R 0) ∷ got P (R 0) true ∷ write P (Cell 0 0) true ∷ wrote P (Cell 0 0) ∷
+    write P (S 1) true ∷ wrote P (S 1) ∷ write P (S 0) false ∷ wrote P (S 0) ∷ write P X true ∷ wrote P X ∷
+    got C (S 0) true ∷ read C X ∷ got C X true ∷ read C (S 0) ∷ got C (S 0) false ∷ read C (S 1) ∷ got C (S 1) true ∷
+    read C (Cell 0 0) ∷ got C (Cell 0 0) true ∷ write C (R 1) true ∷ wrote C (R 1) ∷ write C (R 0) false ∷ wrote C (R 0) ∷
+    read C (S 0) ∷ got C (S 0) false ∷ read C (S 1) ∷ got C (S 1) true ∷ read C X ∷ got C X true ∷
+    read C (S 0) ∷ got C (S 0) false ∷ read C (S 1) ∷ got C (S 1) true ∷ []
 
-abbrev one_put : Puts
-one_put = record { puts = Stored 0 1 ∷ []; closes = false }
-
-abbrev one_take : Takes
-one_take = record { takes = Item 1 1 ∷ []; end = Open }
-
--- the accesses of the take that have not begun
-abbrev rest_of_take : List Event
-rest_of_take =
-    read C (S 1) ∷ got C (S 1) true ∷ read C (Cell 0 0) ∷ got C (Cell 0 0) true ∷ write C (R 1) true ∷ wrote C (R 1) ∷
-    write C (R 0) false ∷ wrote C (R 0) ∷ []
-
+-- they are lawful, one after another
 each_follows : EachFollows one_cell [] events
 unfolding one_cell
-each_follows = (
-  record { right_side = record { in_shape = refl; by_doer = refl }; in_turn = refl; permitted = tt },
-  (
-    record { right_side = record { in_shape = refl; by_doer = refl }; in_turn = refl; permitted = inr refl },
-    (
-      record { right_side = record { in_shape = refl; by_doer = refl }; in_turn = refl; permitted = tt },
-      (
-        record { right_side = record { in_shape = refl; by_doer = refl }; in_turn = (true, refl); permitted = tt },
-        (
-          record { right_side = record { in_shape = refl; by_doer = refl }; in_turn = refl; permitted = tt },
-          (
-            record { right_side = record { in_shape = refl; by_doer = refl }; in_turn = (true, refl); permitted = tt },
-            (
-              record { right_side = record { in_shape = refl; by_doer = refl }; in_turn = refl; permitted = tt },
-              (
-                record { right_side = record { in_shape = refl; by_doer = refl }; in_turn = refl; permitted = tt },
-                (record { right_side = record { in_shape = refl; by_doer = refl }; in_turn = refl; permitted = inl refl }, tt),
-              ),
-            ),
-          ),
-        ),
-      ),
-    ),
-  ),
-)
+each_follows =
+    reading C (S 0) refl refl refl >>
+    reading P (R 0) refl refl refl >>
+    answered P (R 0) true refl refl refl (inr refl) >>
+    writing P (Cell 0 0) true refl refl refl >>
+    written P (Cell 0 0) true refl refl refl >>
+    writing P (S 1) true refl refl refl >>
+    written P (S 1) true refl refl refl >>
+    writing P (S 0) false refl refl refl >>
+    written P (S 0) false refl refl refl >>
+    writing P X true refl refl refl >>
+    written P X true refl refl refl >>
+    answered C (S 0) true refl refl refl (inl refl) >>
+    reading C X refl refl refl >>
+    answered C X true refl refl refl (inr refl) >>
+    reading C (S 0) refl refl refl >>
+    answered C (S 0) false refl refl refl (inr refl) >>
+    reading C (S 1) refl refl refl >>
+    answered C (S 1) true refl refl refl (inr refl) >>
+    reading C (Cell 0 0) refl refl refl >>
+    answered C (Cell 0 0) true refl refl refl (inr refl) >>
+    writing C (R 1) true refl refl refl >>
+    written C (R 1) true refl refl refl >>
+    writing C (R 0) false refl refl refl >>
+    written C (R 0) false refl refl refl >>
+    reading C (S 0) refl refl refl >>
+    answered C (S 0) false refl refl refl (inr refl) >>
+    reading C (S 1) refl refl refl >>
+    answered C (S 1) true refl refl refl (inr refl) >>
+    reading C X refl refl refl >>
+    answered C X true refl refl refl (inr refl) >>
+    reading C (S 0) refl refl refl >>
+    answered C (S 0) false refl refl refl (inr refl) >>
+    reading C (S 1) refl refl refl >>
+    answered C (S 1) true refl refl refl (inr refl) >>
+    no_more
 
-puts_follow : FollowsPuts one_cell events one_put
+-- the producer makes all of its calls, and so does the consumer
+puts_follow : FollowsPuts one_cell events put_and_close
 unfolding one_cell
-puts_follow = record { are = ((omega arith, omega arith, omega arith), tt); events = (wrote P (S 0) ∷ [], refl) }
+puts_follow = record { are = put_and_close-are; events = ([], refl) }
 
-takes_follow : FollowsTakes one_cell events one_take
+takes_follow : FollowsTakes one_cell events second_scan
 unfolding one_cell
-takes_follow = record {
-  are = (((omega arith, (omega arith, omega arith)), omega arith), tt);
-  events = (rest_of_take, refl);
-}
+takes_follow = record { are = second_scan-are; events = ([], refl) }
 
--- the read, at places 7 and 8
-read_ended : IsRead events C (S 0) 7 8 false
+-- the consumer's first read, at places 0 and 11
+read_ended : IsRead events C (S 0) 0 11 true
 read_ended = record { access = record { event = read C (S 0); at_start = refl; by_side = refl; begins = refl; ends = refl }; ends = refl }
 
--- the write begins at place 6 and has not ended
-overlapped : HasOverlap events (S 0) 7 8
+-- a write of its bit begins at place 7 and ends at place 8
+overlapped : HasOverlap events (S 0) 0 11
 overlapped = record {
   value = false;
-  start' = 6;
-  stop' = 9;
+  start' = 7;
+  stop' = 8;
   write = record { event = write P (S 0) false; at_start = refl; by_side = refl; begins = refl; ends = refl };
   overlap = (λ l. omega (arith, l), λ l. omega (arith, l));
 }
 
--- there is a lawful history whose two sides follow their programs, with a read that a write overlaps
+-- the item is put and taken
+same_items : items_taken_in one_cell events second_scan ≡ items_put_in one_cell events put_and_close
+unfolding one_cell
+same_items = refl
+
+-- and so some item is
+some_item : items_put_in one_cell events put_and_close ≢ []
+unfolding one_cell
+some_item none = omega (arith, ap length none)
+
+-- the consumer's last take was told that the ring is closed
+told : ToldIn one_cell events second_scan
+unfolding one_cell
+told = second_scan-told.1
+
+-- there is a lawful history whose two sides follow their programs, with an overlapped read, an item taken, and the consumer told
 pub has-a_run : EmptyIsLawful → LawfulByOneMore → HasARun
 has-a_run empty law = (
   one_cell,
   events,
-  one_put,
-  one_take,
+  put_and_close,
+  second_scan,
   record { lawful = lawful_by_steps law one_cell [] events (empty one_cell) each_follows; puts_follow = puts_follow; takes_follow = takes_follow },
-  (C, S 0, 7, 8, false, read_ended, overlapped),
+  (C, S 0, 0, 11, true, read_ended, overlapped),
+  same_items,
+  some_item,
+  told,
 )

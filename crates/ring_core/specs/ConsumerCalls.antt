@@ -104,17 +104,21 @@ abbrev pub RowRests : ConsumerState → ℕ → Type 0
 RowRests p k = UnaryStands p.row (counted p.shape k) (count_writes C (counted p.shape k))
 
 -- the scans by which a take finds an item: one, or one before and one after a read of the close bit
-pub data Look : Type 0 where
-  Once : (seen : ℕ) → Look
-  Twice : (seen again : ℕ) → Look
+pub data Finding : Type 0 where
+  Once : (seen : ℕ) → Finding
+  Twice : (seen again : ℕ) → Finding
 
-abbrev pub look_phrase : Look → List Made
-look_phrase (Once seen) = scan_phrase (row_read_by C) seen
-look_phrase (Twice seen again) = scan_phrase (row_read_by C) seen ++ Read X true ∷ scan_phrase (row_read_by C) again
+abbrev pub finding_phrase : Finding → List Made
+finding_phrase (Once seen) = scan_phrase (row_read_by C) seen
+finding_phrase (Twice seen again) = scan_phrase (row_read_by C) seen ++ Read X true ∷ scan_phrase (row_read_by C) again
 
-abbrev pub Finds : Shape → ℕ → Look → Type 0
+abbrev pub Finds : Shape → ℕ → Finding → Type 0
 Finds shape k (Once seen) = SeesItem shape k seen
 Finds shape k (Twice seen again) = SeesNone shape k seen × SeesItem shape k again
+
+-- the accesses of a take of an item up to its count write
+abbrev pub take_begun : Shape → ℕ → Finding → ℕ → List Made
+take_begun shape k look item = finding_phrase look ++ word_read (width_of shape) (k % capacity_of shape) item
 
 -- the accesses made, by the stage: those of the calls, and what was made of the take under way, behind k taken items
 abbrev pub MadeAt : Stage → ConsumerState → Takes → ℕ → List Made → Type 0
@@ -126,11 +130,12 @@ MadeAt Rescanning p calls k made =
     RowRests p k × (seen : ℕ) × SeesNone p.shape k seen × (reads : List Made) × ScanStands p.scan reads ×
     (made ≡ take_phrases p.shape 0 calls.takes ++ ((scan_phrase (row_read_by C) seen ++ Read X true ∷ []) ++ reads))
 MadeAt Loading p calls k made =
-    RowRests p k × (look : Look) × Finds p.shape k look × (reads : List Made) × ReaderStands p.word reads ×
-    (made ≡ take_phrases p.shape 0 calls.takes ++ (look_phrase look ++ reads))
+    RowRests p k × (look : Finding) × Finds p.shape k look × (reads : List Made) × ReaderStands p.word reads ×
+    (made ≡ take_phrases p.shape 0 calls.takes ++ (finding_phrase look ++ reads))
 MadeAt Counting p calls k made =
-    (look : Look) × Finds p.shape k look × (p.word.value < 2 ^ width_of p.shape) × (writes : List Made) × UnaryStands p.row (counted p.shape (suc k)) (count_writes C (counted p.shape k) ++ writes) ×
-    (made ≡ take_phrases p.shape 0 calls.takes ++ ((look_phrase look ++ word_read (width_of p.shape) (k % capacity_of p.shape) p.word.value) ++ writes))
+    (look : Finding) × Finds p.shape k look × (p.word.value < 2 ^ width_of p.shape) ×
+    (writes : List Made) × UnaryStands p.row (counted p.shape (suc k)) (count_writes C (counted p.shape k) ++ writes) ×
+    (made ≡ take_phrases p.shape 0 calls.takes ++ (take_begun p.shape k look p.word.value ++ writes))
 
 -- a take is under way, so none was told that the ring is closed
 abbrev pub IsOpenFor : Bool → Takes → Type 0

@@ -15,14 +15,14 @@ abbrev pub events_in : List Made → ℕ
 events_in made = 2 * length made
 
 -- the accesses of a put that stores, up to its count write
-abbrev pub before_count : Shape → ℕ → ℕ → ℕ → List Made
-before_count shape n seen item = scan_phrase (row_read_by P) seen ++ word_write (width_of shape) (n % capacity_of shape) item
+abbrev pub accesses_before_count : Shape → ℕ → ℕ → ℕ → List Made
+accesses_before_count shape n seen item = scan_phrase (row_read_by P) seen ++ word_write (width_of shape) (n % capacity_of shape) item
 
 -- the items of the puts whose count write has begun within the first t events, where n items were stored before them
 abbrev pub items_put : Shape → ℕ → List Put → ℕ → List ℕ
 items_put shape n [] t = []
 items_put shape n (Stored seen item ∷ puts) t =
-    (if nat_lt (events_in (before_count shape n seen item)) t then item ∷ [] else [])
+    (if nat_lt (events_in (accesses_before_count shape n seen item)) t then item ∷ [] else [])
     ++ items_put shape (suc n) puts (t - events_in (put_phrase shape n (Stored seen item)))
 items_put shape n (Full seen ∷ puts) t = items_put shape n puts (t - events_in (put_phrase shape n (Full seen)))
 

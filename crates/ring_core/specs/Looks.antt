@@ -1,5 +1,5 @@
 -- The calls of a side as looks: each scan of the other side's count with what follows it.
-use Rattle.std.specs.Prelude.{ℕ, suc, ◌*◌, ◌%◌, true, false, List, [], ◌∷◌, ◌++◌, length}
+use Rattle.std.specs.Prelude.{◌≡◌, ℕ, suc, ◌*◌, ◌%◌, true, false, List, [], ◌∷◌, ◌++◌, length}
 use Rattle.bits_core.specs.declared.events.Side.{Side}
 use Rattle.bits_core.specs.declared.events.Side.TheVariants.{P, C}
 use Rattle.bits_core.specs.declared.events.Bit.TheVariants.{X}
@@ -9,9 +9,9 @@ use Rattle.bits_core.specs.Made.{Made, Read}
 use Rattle.register_core.specs.Word.{word_write, word_read}
 use Rattle.register_core.specs.ScanState.{scan_phrase, row_read_by}
 use Rattle.ring_core.specs.Counts.{count_phrase}
-use Rattle.ring_core.specs.Puts.{Put, Stored, Full, Puts}
-use Rattle.ring_core.specs.Takes.{Take, Item, ItemAfterClose, Empty, End, Open, Closed, Takes}
-use Rattle.ring_core.specs.Spans.{Outcome, Passes, Stops, Asks, Span}
+use Rattle.ring_core.specs.Puts.{Put, Stored, Full, Puts, close_phrase, put_program}
+use Rattle.ring_core.specs.Takes.{Take, Item, ItemAfterClose, Empty, End, Open, Closed, Takes, take_program}
+use Rattle.ring_core.specs.Spans.{Outcome, Passes, Stops, Asks, Span, Stands}
 
 -- a scan's value and what follows it
 pub record Look : Type 0 where
@@ -79,3 +79,28 @@ put_spans shape calls = spans P shape 0 (put_looks calls.puts)
 
 abbrev pub take_spans : Shape → Takes → List Span
 take_spans shape calls = spans C shape 0 (take_looks calls.takes calls.end)
+
+-- ---- looks and the programs
+
+-- the accesses of the calls are those of their looks
+abbrev pub PutsAreLooks : Type 0
+PutsAreLooks = (shape : Shape) (calls : Puts) → put_program shape calls ≡ look_accesses P shape 0 (put_looks calls.puts) (close_phrase calls.closes)
+
+abbrev pub TakesAreLooks : Type 0
+TakesAreLooks = (shape : Shape) (calls : Takes) → take_program shape calls ≡ look_accesses C shape 0 (take_looks calls.takes calls.end) []
+
+-- the span is that of a look of the program, behind n counts, and begins with the look's own event
+pub record LookAt (s : Side) (shape : Shape) (program : List Made) (n start : ℕ) (x : Span) : Type 0 where
+  pub look : Look
+  pub before : List Made
+  pub after : List Made
+  pub is_x : x ≡ span_of s shape n look
+  pub program_is :
+      program ≡ before ++ (scan_phrase (row_read_by s) look.seen ++ (word_part s shape n look.outcome ++ (count_part s shape n look.outcome ++ after)))
+  pub start_is : start ≡ 2 * length before
+
+-- a span that stands at an own event is that of the look there
+abbrev pub LooksStand : Type 0
+LooksStand =
+    (s : Side) (shape : Shape) (looks : List Look) (behind : List Made) (start n : ℕ) (x : Span) →
+    Stands (spans s shape 0 looks) start n x → LookAt s shape (look_accesses s shape 0 looks behind) n start x

@@ -1,6 +1,6 @@
 -- The law of the ring, for every lawful history whose two sides follow their programs. A moment is a place of the history;
 -- what stands before it is told by the clocks of the two sides.
-use Rattle.std.specs.Prelude.{◌≡◌, ◌⊎◌, ℕ, suc, ◌+◌, ◌-◌, ◌*◌, ◌<◌, ◌≤◌, ◌%◌, Bool, true, false, List, [], ◌∷◌, ◌++◌, length}
+use Rattle.std.specs.Prelude.{◌≡◌, ◌≢◌, ◌⊎◌, ℕ, suc, ◌+◌, ◌-◌, ◌*◌, ◌<◌, ◌≤◌, ◌%◌, Bool, true, false, Some, List, [], ◌∷◌, ◌++◌, length, slice_get}
 use Rattle.bits_core.specs.declared.events.Side.{Side}
 use Rattle.bits_core.specs.declared.events.Side.TheVariants.{P, C}
 use Rattle.bits_core.specs.declared.events.Bit.{Bit}
@@ -18,7 +18,7 @@ use Rattle.register_core.specs.UnaryLaw.{ReadsZeros}
 use Rattle.ring_core.specs.Puts.{Puts, put_phrases, put_program, ArePuts, FollowsPuts}
 use Rattle.ring_core.specs.Takes.{Takes, take_program, AreTakes, FollowsTakes}
 use Rattle.ring_core.specs.Items.{events_in, items_put, items_taken, all_put, IsTold, items_put_in, items_taken_in, ToldIn}
-use Rattle.ring_core.specs.Spans.{Span, Asks, counts, before_count, begun, ended, Stands}
+use Rattle.ring_core.specs.Spans.{Span, Passes, Asks, counts, before_count, begun, ended, Stands}
 use Rattle.ring_core.specs.Clocks.{IsPlace}
 use Rattle.ring_core.specs.Looks.{put_spans, take_spans}
 
@@ -90,7 +90,13 @@ abbrev pub TakenArePrefix : Shape → List Event → Puts → Takes → Type 0
 TakenArePrefix shape h puts takes =
     (t : ℕ) → IsBeginning (items_taken shape 0 takes.takes (clock C h t)) (items_put shape 0 puts.puts (clock P h t))
 
--- a take that finds the ring empty: each put that had ended where it began was taken by a take that had ended then, and no
+-- a take whose word read has ended, also where its count write is still to come, has the item of the put of its number
+abbrev pub TakesMatchPuts : Shape → List Event → Puts → Takes → Type 0
+TakesMatchPuts shape h puts takes =
+    (t s k : ℕ) (x : Span) (item : ℕ) → Stands (take_spans shape takes) s k x → x.outcome ≡ Passes item → s + before_count x ≤ clock C h t →
+    slice_get (items_put shape 0 puts.puts (clock P h t)) k ≡ Some item
+
+-- a take that finds the ring empty: each put that stored and had ended where it began was taken by a take that had ended then, and no
 -- close had ended
 abbrev pub EmptyIsFresh : Shape → List Event → Puts → Takes → Type 0
 EmptyIsFresh shape h puts takes =
@@ -98,7 +104,8 @@ EmptyIsFresh shape h puts takes =
     (first : ℕ) → IsPlaceOf C h s first →
     (puts_ended shape h puts first ≤ takes_ended shape h takes first) × (clock P h first < events_in (put_phrases shape 0 puts.puts) + 2)
 
--- a put that finds the ring full: the puts before it, less the takes that had ended where it began, are at least the capacity
+-- a put that finds the ring full: the items stored before it, less the takes of an item that had ended where it began, are at
+-- least the capacity
 abbrev pub FullIsFresh : Shape → List Event → Puts → Takes → Type 0
 FullIsFresh shape h puts takes =
     (s n : ℕ) (x : Span) → Stands (put_spans shape puts) s n x → counts x.outcome ≡ 0 → s + x.scan ≤ length (own P h) →
@@ -119,6 +126,7 @@ pub record RingLaw (shape : Shape) (h : List Event) (puts : Puts) (takes : Takes
   pub take_range : TakesAreInRange shape h puts takes
   pub quiet : CellsAreQuiet shape h puts takes
   pub prefix : TakenArePrefix shape h puts takes
+  pub items : TakesMatchPuts shape h puts takes
   pub empty : EmptyIsFresh shape h puts takes
   pub full : FullIsFresh shape h puts takes
   pub closed : ClosedIsTrue shape h puts takes
@@ -134,14 +142,13 @@ ClosedStays =
     IsBeginning h h' → ToldIn shape h takes →
     (items_put_in shape h' puts' ≡ items_put_in shape h puts) × (items_taken_in shape h' takes' ≡ items_taken_in shape h takes)
 
--- A side whose other side follows its program never reads 0 in the last bit of that one's count, where it read 0 in all
--- bits below.
+-- no read of the last bit of the count that side s writes answers 0, behind reads of 0 in all bits below, one after the other
 abbrev pub NeverReadsAll : Side → Shape → List Event → Type 0
 NeverReadsAll s shape h =
     (last : ℕ) → suc last ≡ modulus_of shape → (start stop : ℕ → ℕ) → ReadsZeros s h last start stop →
     ¬ intervals.IsRead h (other s) (row_bit s last) (start last) (stop last) false
 
--- So a side that has made the accesses of a list has not ended so many reads of 0 in a row.
+-- the other side, which has made the accesses of a list, has not ended reads of 0 in all bits of that count in a row
 abbrev pub NeverMisses : Side → Shape → List Event → Type 0
 NeverMisses s shape h =
     (made before after : List Made) → IsBeginning (own (other s) h) (events_of (other s) made) →
@@ -165,8 +172,10 @@ RunsByTake =
     (shape : Shape) (h : List Event) (e : Event) (puts : Puts) (takes more : Takes) → IsRun shape h puts takes → e.side ≡ C → MayFollow shape h e →
     AreTakes shape 0 more.takes more.end → IsBeginning (own C h ++ e ∷ []) (events_of C (take_program shape more)) → IsRun shape (h ++ e ∷ []) puts more
 
--- The premises can be met, also where a write overlaps a read that has ended.
+-- The premises can be met, also where a write overlaps a read that has ended, an item is taken, and the consumer is told that
+-- the ring is closed.
 abbrev pub HasARun : Type 0
 HasARun =
     (shape : Shape) × (h : List Event) × (puts : Puts) × (takes : Takes) × IsRun shape h puts takes ×
-    ((s : Side) × (b : Bit) × (start : ℕ) × (stop : ℕ) × (v : Bool) × intervals.IsRead h s b start stop v × intervals.HasOverlap h b start stop)
+    ((s : Side) × (b : Bit) × (start : ℕ) × (stop : ℕ) × (v : Bool) × intervals.IsRead h s b start stop v × intervals.HasOverlap h b start stop) ×
+    (items_taken_in shape h takes ≡ items_put_in shape h puts) × (items_put_in shape h puts ≢ []) × ToldIn shape h takes

@@ -30,7 +30,7 @@ enum Stage {
     Counting,
 }
 
-/// The side that takes items: it tells the accesses of its takes one by one.
+/// The side that takes items (Lamport 1977): it tells the accesses of its takes one by one. It takes no memory.
 #[derive(Drop)]
 pub struct Consumer {
     shape: Shape,
@@ -80,8 +80,8 @@ impl Consumer {
         }
     }
 
-    /// Begins a take. No access may be due. Once a take was answered `Closed`, each is answered so at once,
-    /// with no access.
+    /// Begins a take. No access may be due. The accesses made stay as they were. Once a take was answered
+    /// `Closed`, each is answered so at once, with no access, and nothing else changes.
     pub fn take(&mut self)
         requires { due_take self.old ≡ None }
         ensures shape { self.new.shape ≡ self.old.shape }

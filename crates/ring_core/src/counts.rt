@@ -5,7 +5,7 @@ ghost use Rattle.ring_core.specs.Counts as counts;
 
 use bits_core::Shape;
 
-/// How far `a` is ahead of `b` modulo a modulus above both.
+/// How far `a` is ahead of `b` modulo a modulus above both. It is below the modulus.
 pub fn distance(a: u64, b: u64, modulus: u64) -> u64
     requires a { a < modulus }
     requires b { b < modulus }

@@ -2,8 +2,9 @@
 ghost use Rattle.ring_core.specs.Following.{PutsAreFollowed, TakesAreFollowed};
 ghost use Rattle.ring_core.specs.Items.{ItemsAreRead, TakenAreRead};
 ghost use Rattle.ring_core.specs.Lengths.{PutsAreShort, TakesAreShort, EndsAreShort};
+ghost use Rattle.ring_core.specs.Looks.{LooksStand, PutsAreLooks, TakesAreLooks};
 ghost use Rattle.ring_core.specs.Readings.{PutsAreRead, TakesAreRead};
-ghost use Rattle.ring_core.specs.RingLaw.{CellsAreQuiet, ClosedIsTrue, ClosedStays, EmptyIsFresh, FullIsFresh, HasARun, InEveryRun, IsWithin, PutsAreInRange, PutsAreSeen, RunsByPut, RunsByTake, TakenArePrefix, TakesAreInRange, TakesAreSeen};
+ghost use Rattle.ring_core.specs.RingLaw.{CellsAreQuiet, ClosedIsTrue, ClosedStays, EmptyIsFresh, FullIsFresh, HasARun, InEveryRun, IsWithin, PutsAreInRange, PutsAreSeen, RunsByPut, RunsByTake, TakenArePrefix, TakesAreInRange, TakesAreSeen, TakesMatchPuts};
 
 use bits_core::laws::{
     access_is_made, clock_counts_places, empty_is_lawful, lawful_by_one_more, made_is_access,
@@ -57,7 +58,8 @@ pub fn calls_are_followed()
     ensures takes { TakesAreFollowed }
 {}
 
-/// A side whose other side follows its program never reads 0 in all bits of that one's count.
+/// Where the other side follows its program, a side's reads of that one's count, from bit 0 upwards one after
+/// the other, never all answer 0.
 pub fn last_bit_is_one()
     ensures puts { PutsAreSeen }
     ensures takes { TakesAreSeen }
@@ -78,8 +80,8 @@ pub fn runs_by_one_more()
     own_changes();
 }
 
-/// There is a lawful history whose two sides follow their programs and in which a write overlaps a read. So
-/// the law of the ring is not empty.
+/// There is a lawful history whose two sides follow their programs, in which a write overlaps a read, an item
+/// is put and taken, and the consumer is told that the ring is closed.
 pub fn has_a_run()
     ensures { HasARun }
 {
@@ -87,15 +89,20 @@ pub fn has_a_run()
     lawful_by_one_more();
 }
 
-/// The law of the ring. In every lawful history of safe bits whose two sides follow their programs:
-/// - `within`: no more items are taken than put, and at most as many as there are cells are put and not taken;
+/// The law of the ring. In every lawful history of safe bits whose two sides follow their programs, with `N`
+/// puts and `K` takes of an item whose count write has begun:
+/// - `within`: `K <= N <= K + capacity`, at every moment;
 /// - `put_range`, `take_range`: each scan gives the number of a count write, modulo the modulus, that lies
 ///   within a range which the modulus tells apart;
 /// - `quiet`: no word read of a cell overlaps a word write of it;
-/// - `prefix`: the items taken are a prefix of the items put;
-/// - `empty`, `full`: a take finds the ring empty, and a put finds it full, only where the calls ended
-///   before it require it;
-/// - `closed`: once the consumer was told that the ring is closed, all items were put and taken.
+/// - `prefix`: the items taken are a prefix of the items put, at every moment;
+/// - `items`: a take whose word read has ended has the item of the put of its number;
+/// - `empty`: a take finds the ring empty only where every item of a put that ended before it began was taken
+///   by a take that ended before it began, and no close had ended;
+/// - `full`: a put finds the ring full only where the items stored before it, less the takes of an item that
+///   ended before it began, are at least the capacity;
+/// - `closed`: once the consumer was told that the ring is closed, the close has begun, behind all puts, and
+///   every item of these puts was put and taken.
 ///
 /// Lamport 1977, over the unary registers of 1986.
 pub fn ring_law()
@@ -104,6 +111,7 @@ pub fn ring_law()
     ensures take_range { InEveryRun TakesAreInRange }
     ensures quiet { InEveryRun CellsAreQuiet }
     ensures prefix { InEveryRun TakenArePrefix }
+    ensures items { InEveryRun TakesMatchPuts }
     ensures empty { InEveryRun EmptyIsFresh }
     ensures full { InEveryRun FullIsFresh }
     ensures closed { InEveryRun ClosedIsTrue }
@@ -119,8 +127,8 @@ pub fn ring_law()
     writes_are_made();
 }
 
-/// Once the consumer was told that the ring is closed, the items put and the items taken are the same in every
-/// longer lawful history whose two sides follow their programs.
+/// Once the consumer was told that the ring is closed, the items put and the items taken stay what they are in
+/// every longer lawful history whose two sides follow their programs.
 pub fn closed_stays()
     ensures { ClosedStays }
 {
@@ -128,3 +136,11 @@ pub fn closed_stays()
     items_put_are_read();
     items_taken_are_read();
 }
+
+/// What the law says of looks, it says of the programs: the accesses of a side's calls are those of its looks,
+/// and a look that stands at own event `s` begins with access `s / 2`, behind so many calls that count.
+pub fn looks_are_made()
+    ensures puts { PutsAreLooks }
+    ensures takes { TakesAreLooks }
+    ensures stand { LooksStand }
+{}

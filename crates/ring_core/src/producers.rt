@@ -30,7 +30,7 @@ enum Stage {
     Closing,
 }
 
-/// The side that puts items: it tells the accesses of its calls one by one.
+/// The side that puts items (Lamport 1977): it tells the accesses of its calls one by one. It takes no memory.
 #[derive(Drop)]
 pub struct Producer {
     shape: Shape,
@@ -80,8 +80,8 @@ impl Producer {
         }
     }
 
-    /// Begins a put of an item that fits the shape. No access may be due. After a close it is answered
-    /// `Closed` at once, with no access.
+    /// Begins a put of an item that fits the shape. No access may be due. The accesses made stay as they were.
+    /// After a close it is answered `Closed` at once, with no access, and nothing else changes.
     pub fn put(&mut self, item: u64)
         requires idle { due_put self.old ≡ None }
         requires fits { item < 2 ^ width_of self.old.shape }
@@ -100,7 +100,8 @@ impl Producer {
         }
     }
 
-    /// Begins a close. No access may be due. A second close has no access.
+    /// Begins a close. No access may be due. The accesses made stay as they were. A second close has no access
+    /// and changes nothing but the reply.
     pub fn close(&mut self)
         requires { due_put self.old ≡ None }
         ensures shape { self.new.shape ≡ self.old.shape }

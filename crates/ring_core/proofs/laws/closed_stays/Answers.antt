@@ -10,6 +10,7 @@ returns c =
       take_range = c.ring_law.ensures.take_range shape h puts takes run;
       quiet = c.ring_law.ensures.quiet shape h puts takes run;
       prefix = c.ring_law.ensures.prefix shape h puts takes run;
+      items = c.ring_law.ensures.items shape h puts takes run;
       empty = c.ring_law.ensures.empty shape h puts takes run;
       full = c.ring_law.ensures.full shape h puts takes run;
       closed = c.ring_law.ensures.closed shape h puts takes run;

@@ -38,3 +38,6 @@ returns-clause-full c shape h puts takes run = (every c shape h puts takes run).
 
 pub returns-clause-closed : goal.returns-clause-closed
 returns-clause-closed c shape h puts takes run = (every c shape h puts takes run).closed
+
+pub returns-clause-items : goal.returns-clause-items
+returns-clause-items c shape h puts takes run = (every c shape h puts takes run).items
