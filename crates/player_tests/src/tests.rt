@@ -1,0 +1,53 @@
+use refusing::Refusing;
+use ring_player::{Script, ScriptFault};
+use std::test::Fail;
+
+const SCRIPT: &[u8] =
+    b"{\"capacity\":1,\"modulus\":3,\"width\":1,\"items\":[1,0,1,1,0],\"takes\":1,\"close\":false,\"schedule\":\"P8C10PCPCPCPC\",\"oracle\":\"01101\"}";
+
+#[test]
+fn each_growth_of_a_script_may_be_refused(rt: HostRuntime) -> Result<(), Fail> {
+    let mut refused: u64 = 0;
+    let mut done_without: u64 = 0;
+    for allocations in 0..40 {
+        let alloc = Refusing::after(rt.alloc(), allocations);
+        let script = Script::read(&alloc, rt.alloc(), SCRIPT);
+        if !alloc.has_refused() {
+            assert!(rt; script.is_ok());
+            break;
+        }
+        match script {
+            Err(fault) => {
+                assert_eq!(rt; fault, ScriptFault::OutOfMemory);
+                refused = refused.saturating_add(1);
+            }
+            // a vector whose larger growth was refused may make do with a smaller one
+            Ok(script) => {
+                assert_eq!(rt; script.items(), [1, 0, 1, 1, 0].as_slice());
+                assert_eq!(rt; script.len(), 26);
+                assert_eq!(rt;
+                    script.oracle(),
+                    [false, true, true, false, true].as_slice()
+                );
+                done_without = done_without.saturating_add(1);
+            }
+        }
+    }
+    // the first growths of the items, of the schedule's runs and of the answers
+    assert!(rt; 3 <= refused);
+    assert!(rt; refused.saturating_add(done_without) < 40);
+    Ok(())
+}
+
+#[test]
+fn a_fault_before_any_growth_needs_no_memory(rt: HostRuntime) {
+    let alloc = Refusing::after(rt.alloc(), 0);
+    for (bytes, fault) in [
+        (b"{".as_slice(), ScriptFault::NotJson),
+        (b"[]".as_slice(), ScriptFault::NotObject),
+        (b"{\"note\":1}".as_slice(), ScriptFault::UnknownField),
+    ] {
+        assert_eq!(rt; Script::read(&alloc, rt.alloc(), bytes).err(), Some(fault));
+    }
+    assert!(rt; !alloc.has_refused());
+}

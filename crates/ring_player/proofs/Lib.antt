@@ -1,0 +1,6 @@
+mod ScheduleLemmas
+mod ItemLemmas
+mod JsonLemmas
+mod NameLemmas
+mod ShapeLemmas
+mod ObjectLemmas

@@ -1,0 +1,12 @@
+use Rattle.std.proofs.Common.{◌≡◌, ◌≤◌, ◌+◌, ◌++◌, drop, length}
+use Rattle.ring_player.specs.Schedule.{letters_after, letters_of, spelled}
+use Rattle.ring_player.specs.declared.schedules.TheConstants.{LETTER_LIMIT}
+use Rattle.ring_player.proofs.schedules.runs.Given as goal
+
+-- the runs so far and what is left make the letters
+abbrev pub invariant-loop-b : goal.invariant-loop-b
+invariant-loop-b g l = record {
+  letters : spelled l.runs.items ++ letters_after l.last l.count (drop l.b-index l.rest) ≡ letters_of l.text;
+  total : l.total ≡ length (spelled l.runs.items);
+  within : l.total + l.count ≤ LETTER_LIMIT;
+}
