@@ -92,7 +92,9 @@ def main():
     for name, text, events in [
         ("audit of 1,000 events, lawful", quiet(1_000), 1_000),
         ("audit of 10,000 events, lawful", quiet(10_000), 10_000),
-        ("audit of 10,000 events, every read overlapped", overlapped(10_000), 10_000),
+        ("audit of 100,000 events, lawful", quiet(100_000), 100_000),
+        ("audit of 1,000,000 events, lawful", quiet(1_000_000), 1_000_000),
+        ("audit of 1,000,000 events, every read overlapped", overlapped(1_000_000), 1_000_000),
     ]:
         took, most = measure(AUDIT, text, b"lawful\n")
         print(f"| {name} | {len(text)} | {took} | {most} | {most - bare} | {(len(text) + 64 * events) // 1024} |")

@@ -13,6 +13,7 @@ use Rattle.bits_core.specs.Memory.{IsRecord, count_below, ends_read, flicker_cou
 use Rattle.bits_core.specs.Bits.{reader}
 use Rattle.bits_core.specs.Shape.{belongs}
 use Rattle.bits_core.specs.History.{open_access, is_overlapped, held_at_begin}
+use Rattle.bits_core.specs.Lawful.{IsLawful}
 use Rattle.bits_core.specs.Steps.{IsAnswer, MayFollow}
 use Rattle.bits_core.proofs.LawProofs.{lawful_by_one_more}
 use Rattle.bits_core.proofs.OpenAccesses.{IsAnswer-from, open_right}
@@ -65,16 +66,13 @@ IsRecord-quiet shape h n e kept follows quiet =
     let same : n + (if is_flicker h e then 1 else 0) ≡ n = ap (λ (t : Bool). n + (if t then 1 else 0)) none ∙ add-zero n in
     subst (λ (k : ℕ). IsRecord shape (h ++ e ∷ []) k) same (IsRecord-push shape h n e kept follows)
 
--- the end of a read adds one where a write overlapped it
-pub IsRecord-answer : (shape : Shape) (h : List Event) (n : ℕ) (s : Side) (b : Bit) (overlapped asked v : Bool) → IsRecord shape h n → open_access s h ≡ Some (Read b)
-    → overlapped ≡ is_overlapped s b h → v ≡ (if overlapped then asked else held_at_begin s b h)
-    → IsRecord shape (h ++ record { side = s; bit = b; act = ReadEnd v } ∷ []) (n + (if overlapped then 1 else 0))
-IsRecord-answer shape h n s b overlapped asked v kept still is answer =
-    let e : Event = record { side = s; bit = b; act = ReadEnd v } in
-    let right : (belongs shape b ≡ true) × (s ≡ reader b) = open_right shape h s (Read b) kept.lawful still in
-    let permitted : IsAnswer h s b v = IsAnswer-from h s b asked v (answer ∙ ap (λ (t : Bool). if t then asked else held_at_begin s b h) is) in
-    let follows : MayFollow shape h e = record { right_side = record { in_shape = right.0; by_doer = right.1 }; in_turn = still; permitted = permitted } in
-    subst (λ (t : Bool). IsRecord shape (h ++ e ∷ []) (n + (if t then 1 else 0))) (sym is) (IsRecord-push shape h n e kept follows)
+-- the end of a read may follow with what it is answered
+pub MayFollow-answer : (shape : Shape) (h : List Event) (s : Side) (b : Bit) (asked v : Bool) → IsLawful shape h → open_access s h ≡ Some (Read b)
+    → v ≡ (if is_overlapped s b h then asked else held_at_begin s b h) → MayFollow shape h (record { side = s; bit = b; act = ReadEnd v })
+MayFollow-answer shape h s b asked v lawful still answer =
+    let right : (belongs shape b ≡ true) × (s ≡ reader b) = open_right shape h s (Read b) lawful still in
+    let permitted : IsAnswer h s b v = IsAnswer-from h s b asked v answer in
+    record { right_side = record { in_shape = right.0; by_doer = right.1 }; in_turn = still; permitted = permitted }
 
 pub flickers-le : (shape : Shape) (h : List Event) (n : ℕ) → IsRecord shape h n → n ≤ length h
 flickers-le shape h n kept = subst (λ (k : ℕ). k ≤ length h) (sym kept.counted) (count_below-le (length h) (is_flicker_at h))

@@ -20,3 +20,4 @@ pub mod Flickers
 pub mod FlickerLaws
 pub mod OwnEvents
 pub mod MadeLemmas
+pub mod MarkLemmas

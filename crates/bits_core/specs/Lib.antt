@@ -13,3 +13,4 @@ pub mod Oracle
 pub mod Open
 pub mod Memory
 pub mod Made
+pub mod Marks

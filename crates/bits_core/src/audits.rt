@@ -1,13 +1,16 @@
 //! The audit of a recorded history of safe bits.
-ghost use Rattle.std.specs.Prelude.{◌≡◌, ℕ, ◌↔◌, IsTrue, MatchOption};
+ghost use Rattle.std.specs.Prelude.{◌≡◌, ℕ, ◌↔◌, IsTrue, List, MatchOption};
+ghost use Rattle.bits_core.specs.declared.events.Event.{Event};
+ghost use Rattle.bits_core.specs.declared.shapes.Shape.{Shape};
 ghost use Rattle.bits_core.specs.Bits.{doer};
 ghost use Rattle.bits_core.specs.Shape.{IsByRightSide};
 ghost use Rattle.bits_core.specs.Steps.{FitsOpen, IsInTurn, IsPermitted, MayFollow};
 ghost use Rattle.bits_core.specs.Lawful.{IsLawful};
 ghost use Rattle.bits_core.specs.Audit.{IsFaultAfter, IsVerdict};
+ghost use Rattle.bits_core.specs.Marks.{AreMarks, IsInTable};
 
 use crate::events::{Access, Act, Bit, Event, Side};
-use crate::searches::{held_at_begin, is_overlapped, open_access};
+use crate::marks::Marks;
 use crate::shapes::Shape;
 
 /// What is wrong with an event. Where more than one kind applies, the first is told.
@@ -81,36 +84,37 @@ fn fits_open(bit: Bit, act: Act, opened: Option<Access>) -> bool
 }
 
 // Whether the event is in turn.
-fn is_in_turn(past: &[Event], event: Event) -> bool
-    ensures { IsTrue result ↔ IsInTurn past.now event }
+fn is_in_turn(marks: &Marks, event: Event) -> bool
+    ensures { (shape : Shape) (past : List Event) → AreMarks shape past marks.now → IsTrue result ↔ IsInTurn past event }
 {
-    fits_open(event.bit, event.act, open_access(past, event.side))
+    fits_open(event.bit, event.act, marks.open_access(event.side))
 }
 
-// Whether the answer is permitted, where the event is a read's end.
-fn is_permitted(past: &[Event], event: Event) -> bool
-    ensures { IsTrue result ↔ IsPermitted past.now event }
+// Whether the answer is permitted, where the event is a read's end and in turn.
+fn is_permitted(marks: &Marks, event: Event) -> bool
+    requires { IsInTable event.bit }
+    ensures { (shape : Shape) (past : List Event) → AreMarks shape past marks.now → IsInTurn past event → IsTrue result ↔ IsPermitted past event }
 {
     match event.act {
-        Act::ReadEnd(value) => {
-            is_overlapped(past, event.side, event.bit)
-                || value == held_at_begin(past, event.side, event.bit)
-        }
+        Act::ReadEnd(value) => match marks.settled(event.side, event.bit) {
+            Some(held) => value == held,
+            None => true,
+        },
         _ => true,
     }
 }
 
 // What is wrong with an event after the events before it.
-fn fault_of(shape: &Shape, past: &[Event], event: Event) -> Option<Kind>
-    ensures { MatchOption result (MayFollow shape.now past.now event) (IsFaultAfter shape.now past.now event) }
+fn fault_of(shape: &Shape, marks: &Marks, event: Event) -> Option<Kind>
+    ensures { (past : List Event) → AreMarks shape.now past marks.now → MatchOption result (MayFollow shape.now past event) (IsFaultAfter shape.now past event) }
 {
     if !is_by_right_side(shape, event) {
         return Some(Kind::WrongSide);
     }
-    if !is_in_turn(past, event) {
+    if !is_in_turn(marks, event) {
         return Some(Kind::OutOfTurn);
     }
-    if !is_permitted(past, event) {
+    if !is_permitted(marks, event) {
         return Some(Kind::NotPermitted);
     }
     None
@@ -121,16 +125,17 @@ fn fault_of(shape: &Shape, past: &[Event], event: Event) -> Option<Kind>
 ///
 /// A read that a write of its bit overlaps may answer anything, also where the write does not
 /// change the bit; any other read answers the value that the bit held where the read began. An
-/// access may be open at the end. It searches the events for each of them, takes no memory, and
-/// serves a slice of any length.
+/// access may be open at the end. It goes through the events once, takes no memory, and serves a
+/// slice of any length.
 pub fn audit_bits(shape: &Shape, events: &[Event]) -> Verdict
     ensures verdict { IsVerdict shape.now events.now result }
     ensures lawful { (result ≡ Verdict.Lawful) ↔ IsLawful shape.now events.now }
 {
-    for i in 0..events.len() {
-        match fault_of(shape, &events[..i], events[i]) {
-            Some(kind) => return Verdict::Fault { place: i, kind },
-            None => {}
+    let mut marks = Marks::new();
+    for (place, event) in events.iter().enumerate() {
+        match fault_of(shape, &marks, *event) {
+            Some(kind) => return Verdict::Fault { place, kind },
+            None => marks.record(*event),
         }
     }
     Verdict::Lawful

@@ -4,10 +4,10 @@
 mod audits;
 mod events;
 pub mod laws;
+mod marks;
 mod memory;
 mod oracles;
 mod reading;
-mod searches;
 mod shapes;
 mod traces;
 mod writing;

@@ -1,5 +1,5 @@
 //! A memory of safe bits.
-ghost use Rattle.std.specs.Prelude.{◌≡◌, ℕ, ◌+◌, Bool, true, false, if◌then◌else◌, OnOk, OnErr, IfOk, IfSome, None};
+ghost use Rattle.std.specs.Prelude.{◌≡◌, ℕ, ◌+◌, Bool, true, false, if◌then◌else◌, OnOk, OnErr, IfOk, IfSome, IsSome, None, unwrap_or};
 ghost use Rattle.bits_core.specs.Bits.{reader, writer};
 ghost use Rattle.bits_core.specs.Shape.{belongs};
 ghost use Rattle.bits_core.specs.History.{open_access, is_overlapped, held_at_begin};
@@ -10,8 +10,8 @@ ghost use Rattle.bits_core.specs.Steps.{MayFollow};
 ghost use Rattle.bits_core.specs.Trace.{AreOfShape};
 
 use crate::events::{Access, Act, Bit, Event, Side};
+use crate::marks::Marks;
 use crate::oracles::Oracle;
-use crate::searches::{held_at_begin, is_overlapped, open_access};
 use crate::shapes::Shape;
 use std::alloc::{AllocError, AllocFailed, Allocator};
 use std::marker::Model;
@@ -52,12 +52,13 @@ impl<T: Drop> From<AllocFailed<T>> for MemoryFault {
 ///
 /// Two sides begin and end reads and writes. A read that a write of its bit overlaps answers
 /// whatever an oracle says; any other read answers the value that the bit held where the read
-/// began. Each history that a memory makes is lawful. It searches that history for what a bit held
-/// and for every overlap.
+/// began. Each history that a memory makes is lawful. What a bit holds and every overlap it knows from
+/// marks, which it keeps up event by event.
 #[derive(Drop)]
 pub struct Memory<A: Allocator> {
     shape: Shape,
     events: Vec<Event, A>,
+    marks: Marks,
     flickers: u64,
 }
 
@@ -68,7 +69,9 @@ impl<A: Allocator> Model for Memory<A> {
 
     ghost view = { λ m. record { shape = m.shape; events = m.events.items; flickers = m.flickers } };
 
-    ghost invariant = { λ m. IsRecord m.shape m.events.items m.flickers };
+    ghost use Rattle.bits_core.specs.Marks.{AreMarks};
+
+    ghost invariant = { λ m. IsRecord m.shape m.events.items m.flickers × AreMarks m.shape m.events.items m.marks };
 }
 
 impl<A: Allocator> Memory<A> {
@@ -79,6 +82,7 @@ impl<A: Allocator> Memory<A> {
         Memory {
             shape,
             events: Vec::new(alloc),
+            marks: Marks::new(),
             flickers: 0,
         }
     }
@@ -108,6 +112,7 @@ impl<A: Allocator> Memory<A> {
         let Memory {
             shape: _,
             events,
+            marks: _,
             flickers: _,
         } = self;
         events
@@ -118,7 +123,7 @@ impl<A: Allocator> Memory<A> {
         ensures access { result ≡ open_access side self.now.events }
         ensures right { IfSome result (IsOpenRight self.now.shape side) }
     {
-        open_access(self.events.as_slice(), side)
+        self.marks.open_access(side)
     }
 
     /// How many reads have ended that a write overlapped: so many answers were asked of oracles.
@@ -136,7 +141,9 @@ impl<A: Allocator> Memory<A> {
         ensures ok { OnOk result (self.new ≡ with_event self.old side bit act) }
         ensures err { OnErr result (self.new ≡ self.old) }
     {
-        self.events.push(Event { side, bit, act })?;
+        let event = Event { side, bit, act };
+        self.events.push(event)?;
+        self.marks.record(event);
         Ok(())
     }
 
@@ -197,16 +204,17 @@ impl<A: Allocator> Memory<A> {
         match self.pending(side) {
             Some(Access::Read(bit)) => {
                 self.events.reserve(1)?;
-                let past = self.events.as_slice();
-                let overlapped = is_overlapped(past, side, bit);
-                let answer = read_answer(past, side, bit, overlapped, oracle);
-                match self.events.push(Event {
+                let settled = self.marks.settled(side, bit);
+                let answer = read_answer(settled, oracle);
+                let event = Event {
                     side,
                     bit,
                     act: Act::ReadEnd(answer),
-                }) {
+                };
+                match self.events.push(event) {
                     Ok(()) => {
-                        self.flickers += u64::from(overlapped);
+                        self.marks.record(event);
+                        self.flickers += u64::from(settled.is_none());
                         Ok(answer)
                     }
                     Err(_) => unreachable!(),
@@ -217,21 +225,14 @@ impl<A: Allocator> Memory<A> {
     }
 }
 
-// What a read answers: what the oracle says where it was overlapped, else what its bit held.
-fn read_answer<O: Oracle>(
-    past: &[Event],
-    side: Side,
-    bit: Bit,
-    overlapped: bool,
-    oracle: &mut O,
-) -> bool
-    ensures value { result ≡ (if overlapped then O.answers oracle.old 0 else held_at_begin side bit past.now) }
-    ensures asked { overlapped ≡ true → (i : ℕ) → O.answers oracle.new i ≡ O.answers oracle.old (i + 1) }
-    ensures not_asked { overlapped ≡ false → oracle.new ≡ oracle.old }
+// What a read answers: what is settled, and without that what the oracle says.
+fn read_answer<O: Oracle>(settled: Option<bool>, oracle: &mut O) -> bool
+    ensures value { result ≡ unwrap_or settled (O.answers oracle.old 0) }
+    ensures asked { settled ≡ None → (i : ℕ) → O.answers oracle.new i ≡ O.answers oracle.old (i + 1) }
+    ensures not_asked { IsSome settled → oracle.new ≡ oracle.old }
 {
-    if overlapped {
-        oracle.answer()
-    } else {
-        held_at_begin(past, side, bit)
+    match settled {
+        Some(held) => held,
+        None => oracle.answer(),
     }
 }

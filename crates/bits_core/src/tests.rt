@@ -307,7 +307,7 @@ fn the_faulty_line_is_named(rt: HostRuntime) {
 #[test]
 fn a_trace_has_at_most_its_limit_of_events(rt: HostRuntime) -> Result<(), Fail> {
     let mut text = b"shape 1 3 1\n".to_vec(rt.alloc())?;
-    for _ in 0..5_000 {
+    for _ in 0..500_000 {
         text.extend_from_slice(b"C read s0\nC got s0 1\n")?;
     }
     let (shape, events) = read_trace(rt.alloc(), text.as_slice())?;

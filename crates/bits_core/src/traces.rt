@@ -11,7 +11,7 @@ use std::alloc::{AllocError, AllocFailed, Allocator};
 use thiserror::Error;
 
 /// The most events that a trace may have.
-pub const EVENT_LIMIT: usize = 10_000;
+pub const EVENT_LIMIT: usize = 1_000_000;
 
 /// Why bytes are no trace.
 #[derive(Clone, Copy, PartialEq, Eq, Debug, Error)]

@@ -149,7 +149,7 @@ fn refuses_what_is_no_trace(rt: HostRuntime) {
 fn bounds_the_events(rt: HostRuntime) -> Result<(), Fail> {
     let words = ["lamport_ring", "audit", "--bits"];
     let mut text = b"shape 1 3 1\n".to_vec(rt.alloc())?;
-    for _ in 0..5_000 {
+    for _ in 0..500_000 {
         text.extend_from_slice(b"C read s0\nC got s0 1\n")?;
     }
     expect_run(&rt, &words, text.as_slice(), 0, "lawful\n", "");

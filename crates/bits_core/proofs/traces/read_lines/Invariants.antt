@@ -1,4 +1,5 @@
 use Rattle.std.proofs.Common.{◌≡◌, ◌≤◌, ◌++◌, length, vec_len}
+use Rattle.bits_core.specs.declared.traces.TheConstants.{EVENT_LIMIT}
 use Rattle.bits_core.specs.Trace.{AreOfShape}
 use Rattle.bits_core.specs.TraceText.{trace_text}
 use Rattle.bits_core.proofs.traces.read_lines.Given as goal
@@ -9,7 +10,7 @@ invariant-loop-rest g l = record {
   text : l.bytes ≡ trace_text l.shape l.events.items ++ l.rest;
   of_shape : AreOfShape l.shape l.events.items;
   len : length l.events.items ≡ vec_len l.events;
-  within : vec_len l.events ≤ 10000;
+  within : vec_len l.events ≤ EVENT_LIMIT;
 }
 
 abbrev pub decreases-loop-rest : goal.decreases-loop-rest

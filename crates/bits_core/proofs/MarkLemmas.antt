@@ -1,0 +1,403 @@
+-- Marks, kept up event by event.
+use Rattle.std.proofs.Common.{◌≡◌, ◌≢◌, ℕ, zero, suc, ◌+◌, ◌*◌, ◌<◌, ◌≤◌, ◌||◌, Bool, true, false, not, cond, Option, Some, None, List, [], ◌∷◌, ◌++◌, length, get_or, take, refl, ap, sym, subst, ◌∙◌, arith}
+use Rattle.std.proofs.Math.ListN.{set}
+use Rattle.std.specs.Prelude.{if◌then◌else◌, is_some, unwrap_or}
+use Rattle.std.proofs.lemmas.Bool.{false≢true, or_parts, and_parts, ltb-true}
+use Rattle.std.proofs.lemmas.Bool.Decides.{nat_tests}
+use Rattle.std.proofs.lemmas.Option.{none-some}
+use Rattle.std.proofs.lemmas.List.{take_more, get_or-set_same, get_or-set_other, length-set}
+use Rattle.std.proofs.Math.Seq.{take-length}
+use Rattle.bits_core.specs.declared.events.Side.{Side}
+use Rattle.bits_core.specs.declared.events.Side.TheVariants.{P, C}
+use Rattle.bits_core.specs.declared.events.Bit.{Bit}
+use Rattle.bits_core.specs.declared.events.Bit.TheVariants.{S, R, X, Cell}
+use Rattle.bits_core.specs.declared.events.Act.{Act}
+use Rattle.bits_core.specs.declared.events.Act.TheVariants.{ReadBegin, ReadEnd, WriteBegin, WriteEnd}
+use Rattle.bits_core.specs.declared.events.Access.{Access}
+use Rattle.bits_core.specs.declared.events.Access.TheVariants.{Read, Write}
+use Rattle.bits_core.specs.declared.events.Event.{Event}
+use Rattle.bits_core.specs.declared.shapes.Shape.{Shape}
+use Rattle.bits_core.specs.declared.marks.SideMark.{SideMark}
+use Rattle.bits_core.specs.declared.marks.Marks.{Marks}
+use Rattle.bits_core.specs.Bits.{other, writer, reader, doer, first_value, same_bit, same_side, is_by, begun_by, write_of, value_written}
+use Rattle.bits_core.specs.Shape.{belongs}
+use Rattle.bits_core.specs.History.{open_access, open_write, held, held_at_begin, is_overlapped}
+use Rattle.bits_core.specs.Lawful.{IsLawful}
+use Rattle.bits_core.specs.Steps.{FitsOpen, MayFollow, EachMayFollow}
+use Rattle.bits_core.specs.Marks.{AreMarks, IsInTable, IsMark, beside, idle, is_read_of, mark_of, place_of, seat_of, settled, value_ended, with_mark, with_value}
+use Rattle.bits_core.specs.Open.{IsOpenRight}
+use Rattle.bits_core.proofs.Changes.{AllByDoer, AllByDoer-lawful, same_bit-true, same_side-same, open_write-push, held-push, held_at_begin-push, is_overlapped-push}
+use Rattle.bits_core.proofs.Histories.{open_access-push}
+use Rattle.bits_core.proofs.IntervalLemmas.{same_side-true}
+use Rattle.bits_core.proofs.LawfulLemmas.{IsLawful-to}
+use Rattle.bits_core.proofs.LawProofs.{empty_is_lawful, lawful_by_one_more}
+use Rattle.bits_core.proofs.OpenAccesses.{open_right}
+use Rattle.bits_core.proofs.StepLemmas.{EachMayFollow-take}
+
+-- ---- the table
+
+-- it has room for each bit of a shape
+pub IsInTable-belongs : (shape : Shape) (b : Bit) → belongs shape b ≡ true → IsInTable b
+IsInTable-belongs shape (S i) has =
+    let below : i < shape.modulus = ltb-true i shape.modulus has in
+    omega (arith, shape.small_modulus)
+IsInTable-belongs shape (R i) has =
+    let below : i < shape.modulus = ltb-true i shape.modulus has in
+    omega (arith, shape.small_modulus)
+IsInTable-belongs shape X has = tt
+IsInTable-belongs shape (Cell j i) has =
+    let parts = and_parts _ _ has in
+    let cell : j < shape.capacity = ltb-true j shape.capacity parts.0 in
+    let digit : i < shape.width = ltb-true i shape.width parts.1 in
+    (omega (arith, shape.few_cells), omega (arith, shape.few_digits))
+
+place-within : (b : Bit) → IsInTable b → place_of b < 4609
+place-within (S i) room = omega arith
+place-within (R i) room = omega arith
+place-within X room = omega arith
+place-within (Cell j i) room = omega arith
+
+-- two bits stand in two places
+places-apart : (b c : Bit) → IsInTable b → IsInTable c → same_bit b c ≡ false → place_of b ≢ place_of c
+places-apart (S i) (S j) p q apart = λ e. grind (arith, nat_tests)
+places-apart (S i) (R j) p q apart = λ e. omega arith
+places-apart (S i) X p q apart = λ e. omega arith
+places-apart (S i) (Cell j k) p q apart = λ e. omega arith
+places-apart (R i) (S j) p q apart = λ e. omega arith
+places-apart (R i) (R j) p q apart = λ e. grind (arith, nat_tests)
+places-apart (R i) X p q apart = λ e. omega arith
+places-apart (R i) (Cell j k) p q apart = λ e. omega arith
+places-apart X (S j) p q apart = λ e. omega arith
+places-apart X (R j) p q apart = λ e. omega arith
+places-apart X X p q apart = absurd (false≢true (sym apart))
+places-apart X (Cell j k) p q apart = λ e. omega arith
+places-apart (Cell i l) (S j) p q apart = λ e. omega arith
+places-apart (Cell i l) (R j) p q apart = λ e. omega arith
+places-apart (Cell i l) X p q apart = λ e. omega arith
+places-apart (Cell i l) (Cell j k) p q apart = λ e.
+    let cell : i ≡ j = omega arith in
+    let digit : l ≡ k = omega arith in
+    grind (arith, nat_tests)
+
+-- a value is set, and all others are as they were
+set-values : (values : List Bool) (c b : Bit) (v : Bool) → length values ≡ 4609 → IsInTable c → IsInTable b
+    → get_or (set values (place_of c) v) (place_of b) false ≡ (if same_bit b c then v else get_or values (place_of b) false)
+set-values values c b v size room there =
+    elim (same_bit b c) as (λ t. same_bit b c ≡ t → get_or (set values (place_of c) v) (place_of b) false ≡ cond t v (get_or values (place_of b) false)) [
+      | true ↦ λ same. rw (same_bit-true b c same) (get_or-set_same values (place_of c) v false (omega (arith, size, place-within c room)))
+      | false ↦ λ apart. get_or-set_other values (place_of c) (place_of b) v false (places-apart b c there room apart)
+    ] refl
+
+not_zero : (i : ℕ) → false ≡ first_value (S (suc i))
+not_zero i = grind (arith, nat_tests)
+
+-- the table of the first values
+pub first_values-at : (none : List Bool) → length none ≡ 4609 → ((k : ℕ) → k < 4609 → get_or none k false ≡ false)
+    → (b : Bit) → IsInTable b → get_or (set (set none 0 true) 256 true) (place_of b) false ≡ first_value b
+first_values-at none size all (S zero) room = get_or-set_other (set none 0 true) 256 0 true false (λ e. omega arith) ∙ get_or-set_same none 0 true false (omega (arith, size))
+first_values-at none size all (S (suc i)) room = get_or-set_other (set none 0 true) 256 (suc i) true false (λ e. omega arith) ∙ get_or-set_other none 0 (suc i) true false (λ e. omega arith) ∙ all (suc i) (omega arith) ∙ not_zero i
+first_values-at none size all (R zero) room = get_or-set_same (set none 0 true) 256 true false (omega (arith, size, length-set none 0 true))
+first_values-at none size all (R (suc i)) room = get_or-set_other (set none 0 true) 256 (256 + suc i) true false (λ e. omega arith) ∙ get_or-set_other none 0 (256 + suc i) true false (λ e. omega arith) ∙ all (256 + suc i) (omega arith) ∙ not_zero i
+first_values-at none size all X room = get_or-set_other (set none 0 true) 256 512 true false (λ e. omega arith) ∙ get_or-set_other none 0 512 true false (λ e. omega arith) ∙ all 512 (omega arith)
+first_values-at none size all (Cell j i) room = get_or-set_other (set none 0 true) 256 (513 + 64 * j + i) true false (λ e. omega arith) ∙ get_or-set_other none 0 (513 + 64 * j + i) true false (λ e. omega arith) ∙ all (513 + 64 * j + i) (omega arith)
+
+pub AreMarks-empty : (values : List Bool) → length values ≡ 4609 → ((b : Bit) → IsInTable b → get_or values (place_of b) false ≡ first_value b)
+    → (shape : Shape) → AreMarks shape [] (record { values = values; sides = idle ∷ idle ∷ [] })
+AreMarks-empty values size first shape = record {
+  lawful = empty_is_lawful shape;
+  size = size;
+  seats = refl;
+  values = first;
+  sides = λ s. elim s as (λ t. IsMark t [] (mark_of t (record { values = values; sides = idle ∷ idle ∷ [] }))) [
+    | P ↦ record { opened_is = refl; overlapped_is = λ b e. absurd (none-some (Read b) e) }
+    | C ↦ record { opened_is = refl; overlapped_is = λ b e. absurd (none-some (Read b) e) }
+  ];
+}
+
+-- ---- a read that no write overlaps: what its bit held where it began, it holds still
+
+not_other : (s t : Side) → same_side s t ≡ not (same_side (other s) t)
+not_other P P = refl
+not_other P C = refl
+not_other C P = refl
+not_other C C = refl
+
+none_when : {A : Type 0} (o : Option A) → is_some o ≡ false → o ≡ None
+none_when None e = refl
+none_when (Some x) e = absurd (false≢true (sym e))
+
+abbrev Quiet : Bit → List Event → Type 0
+Quiet b h = is_overlapped (reader b) b h ≡ false → (open_write b h ≡ None) × (held_at_begin (reader b) b h ≡ held b h)
+
+quiet-push : (b : Bit) (h : List Event) (e : Event) → AllByDoer h → Quiet b h → Quiet b (h ++ e ∷ [])
+quiet-push b h e by before none =
+    let r : Side = reader b in
+    let w : Side = writer b in
+    let turn : is_by w e ≡ not (is_by r e) = not_other w e.side in
+    elim (is_by r e) as (λ t. is_by r e ≡ t → (open_write b (h ++ e ∷ []) ≡ None) × (held_at_begin r b (h ++ e ∷ []) ≡ held b (h ++ e ∷ []))) [
+      | true ↦ λ own.
+          let not_writer : is_by w e ≡ false = turn ∙ ap not own in
+          let quiet : is_some (open_write b h) ≡ false = sym (is_overlapped-push r b h e ∙ ap (λ t. cond t (is_some (open_write b h)) (is_overlapped r b h || is_some (write_of b e))) own) ∙ none in
+          let still : open_write b (h ++ e ∷ []) ≡ open_write b h = open_write-push b h e ∙ ap (λ t. cond t (write_of b e) (open_write b h)) not_writer in
+          let begins : held_at_begin r b (h ++ e ∷ []) ≡ held b h = held_at_begin-push r b h e ∙ ap (λ t. cond t (held b h) (held_at_begin r b h)) own in
+          let holds : held b (h ++ e ∷ []) ≡ held b h = held-push b h e by ∙ ap (λ t. cond t (unwrap_or (open_write b h) (held b h)) (held b h)) not_writer in
+          (still ∙ none_when (open_write b h) quiet, begins ∙ sym holds)
+      | false ↦ λ not_own.
+          let is_writer : is_by w e ≡ true = turn ∙ ap not not_own in
+          let quiet : (is_overlapped r b h || is_some (write_of b e)) ≡ false = sym (is_overlapped-push r b h e ∙ ap (λ t. cond t (is_some (open_write b h)) (is_overlapped r b h || is_some (write_of b e))) not_own) ∙ none in
+          let parts = or_parts (is_overlapped r b h) (is_some (write_of b e)) quiet in
+          let so_far = before parts.0 in
+          let opens : open_write b (h ++ e ∷ []) ≡ write_of b e = open_write-push b h e ∙ ap (λ t. cond t (write_of b e) (open_write b h)) is_writer in
+          let begins : held_at_begin r b (h ++ e ∷ []) ≡ held_at_begin r b h = held_at_begin-push r b h e ∙ ap (λ t. cond t (held b h) (held_at_begin r b h)) not_own in
+          let holds : held b (h ++ e ∷ []) ≡ unwrap_or (open_write b h) (held b h) = held-push b h e by ∙ ap (λ t. cond t (unwrap_or (open_write b h) (held b h)) (held b h)) is_writer in
+          let same : unwrap_or (open_write b h) (held b h) ≡ held b h = ap (λ o. unwrap_or o (held b h)) so_far.0 in
+          (opens ∙ none_when (write_of b e) parts.1, begins ∙ so_far.1 ∙ sym (holds ∙ same))
+    ] refl
+
+quiet-take : (shape : Shape) (b : Bit) (h : List Event) (d : Event) → EachMayFollow shape h → (n : ℕ) → n ≤ length h → Quiet b (take n h)
+quiet-take shape b h d lawful zero within = λ none. (refl, refl)
+quiet-take shape b h d lawful (suc n) within =
+    let more : take (suc n) h ≡ take n h ++ get_or h n d ∷ [] = let e : suc n ≡ n + 1 = omega arith in ap (λ k. take k h) e ∙ take_more h n d (omega arith) in
+    subst (λ t. Quiet b t) (sym more) (quiet-push b (take n h) (get_or h n d) (AllByDoer-lawful shape (take n h) (EachMayFollow-take shape h n lawful)) (quiet-take shape b h d lawful n (omega arith)))
+
+quiet_holds : (shape : Shape) (b : Bit) (h : List Event) → IsLawful shape h → is_overlapped (reader b) b h ≡ false → held_at_begin (reader b) b h ≡ held b h
+quiet_holds shape b h lawful none =
+    let d : Event = record { side = P; bit = b; act = ReadBegin } in
+    (subst (λ t. Quiet b t) (take-length h) (quiet-take shape b h d (IsLawful-to shape h lawful) (length h) (omega arith)) none).1
+
+-- so the marks have what an open read has to answer
+pub settled-is : (shape : Shape) (h : List Event) (s : Side) (b : Bit) (marks : Marks) → AreMarks shape h marks → open_access s h ≡ Some (Read b) → IsInTable b
+    → (if (mark_of s marks).overlapped then None else Some (get_or marks.values (place_of b) false)) ≡ settled s b h
+settled-is shape h s b marks are reads room =
+    let mark = are.sides s in
+    let tells : (mark_of s marks).overlapped ≡ is_overlapped s b h = mark.overlapped_is b (mark.opened_is ∙ reads) in
+    let right : IsOpenRight shape s (Read b) = open_right shape h s (Read b) are.lawful reads in
+    let value : is_overlapped s b h ≡ false → get_or marks.values (place_of b) false ≡ held_at_begin s b h = λ none.
+    are.values b room ∙ sym (subst (λ r. is_overlapped r b h ≡ false → held_at_begin r b h ≡ held b h) (sym right.1) (quiet_holds shape b h are.lawful) none) in
+    ap (λ t. if t then None else Some (get_or marks.values (place_of b) false)) tells ∙
+    elim (is_overlapped s b h) as (λ t. is_overlapped s b h ≡ t → (if t then None else Some (get_or marks.values (place_of b) false)) ≡ (if t then None else Some (held_at_begin s b h))) [
+      | true ↦ λ e. refl
+      | false ↦ λ e. ap Some (value e)
+    ] refl
+
+-- what a read answers, by what it has to answer and what an oracle is asked
+pub overlapped-is : (s : Side) (b : Bit) (h : List Event) (due : Option Bool) (none : Bool) → due ≡ settled s b h → is_some due ≡ not none → none ≡ is_overlapped s b h
+overlapped-is s b h due none is some =
+    same none (is_overlapped s b h) (sym some ∙ ap is_some is ∙ elim (is_overlapped s b h) as (λ t. is_some (if t then None else Some (held_at_begin s b h)) ≡ not t) [ true ↦ refl | false ↦ refl ])
+  where
+    same : (x y : Bool) → not x ≡ not y → x ≡ y
+    same true true e = refl
+    same true false e = cc
+    same false true e = cc
+    same false false e = refl
+
+pub answer-is : (s : Side) (b : Bit) (h : List Event) (due : Option Bool) (asked : Bool) → due ≡ settled s b h → unwrap_or due asked ≡ (if is_overlapped s b h then asked else held_at_begin s b h)
+answer-is s b h due asked is =
+    ap (λ o. unwrap_or o asked) is ∙ elim (is_overlapped s b h) as (λ t. unwrap_or (if t then None else Some (held_at_begin s b h)) asked ≡ (if t then asked else held_at_begin s b h)) [ true ↦ refl | false ↦ refl ]
+
+-- ---- one event more
+
+both : (t : Bool) (v : Bool) → cond t v v ≡ v
+both true v = refl
+both false v = refl
+
+no_write : (o : Option Access) (s : Side) (c b : Bit) (v : Bool) → value_written b o ≡ None → cond (same_side (writer b) s) (unwrap_or (value_written b o) v) v ≡ cond (same_bit b c) v v
+no_write o s c b v none = ap (λ x. cond (same_side (writer b) s) (unwrap_or x v) v) none ∙ both (same_side (writer b) s) v ∙ sym (both (same_bit b c) v)
+
+write_ends : (s : Side) (c b : Bit) (w v : Bool) → s ≡ writer c → cond (same_side (writer b) s) (unwrap_or (cond (same_bit b c) (Some w) None) v) v ≡ cond (same_bit b c) w v
+write_ends s c b w v by =
+    elim (same_bit b c) as (λ t. same_bit b c ≡ t → cond (same_side (writer b) s) (unwrap_or (cond t (Some w) None) v) v ≡ cond t w v) [
+      | true ↦ λ same.
+          let own : same_side (writer b) s ≡ true = ap (same_side (writer b)) (by ∙ sym (ap writer (same_bit-true b c same))) ∙ same_side-same (writer b) in
+          ap (λ t. cond t w v) own
+      | false ↦ λ apart. both (same_side (writer b) s) v
+    ] refl
+
+act_ends : (o : Option Access) (s : Side) (c : Bit) (a : Act) (b : Bit) (v : Bool) → s ≡ doer c a → FitsOpen c a o
+    → cond (same_side (writer b) s) (unwrap_or (value_written b o) v) v ≡ cond (same_bit b c) (unwrap_or (value_ended a o) v) v
+act_ends o s c ReadBegin b v by fits = no_write o s c b v (ap (value_written b) fits)
+act_ends o s c (ReadEnd x) b v by fits = no_write o s c b v (ap (value_written b) fits)
+act_ends o s c (WriteBegin x) b v by fits = no_write o s c b v (ap (value_written b) fits)
+act_ends o s c WriteEnd b v by fits =
+    subst (λ (o : Option Access). cond (same_side (writer b) s) (unwrap_or (value_written b o) v) v ≡ cond (same_bit b c) (unwrap_or (value_ended WriteEnd o) v) v) (sym fits.1) (write_ends s c b fits.0 v by)
+
+-- what a bit holds changes where the write of it ends that is open
+held-ends : (shape : Shape) (h : List Event) (s : Side) (c : Bit) (a : Act) (b : Bit) → IsLawful shape h → s ≡ doer c a → FitsOpen c a (open_access s h)
+    → held b (h ++ record { side = s; bit = c; act = a } ∷ []) ≡ (if same_bit b c then unwrap_or (value_ended a (open_access s h)) (held b h) else held b h)
+held-ends shape h s c a b lawful by fits =
+    let e : Event = record { side = s; bit = c; act = a } in
+    let v : Bool = held b h in
+    let changes : held b (h ++ e ∷ []) ≡ (if same_side (writer b) s then unwrap_or (value_written b (open_access (writer b) h)) v else v) = held-push b h e (AllByDoer-lawful shape h (IsLawful-to shape h lawful)) in
+    let own : (if same_side (writer b) s then unwrap_or (value_written b (open_access (writer b) h)) v else v) ≡ (if same_side (writer b) s then unwrap_or (value_written b (open_access s h)) v else v) =
+    elim (same_side (writer b) s) as (λ t. same_side (writer b) s ≡ t → (if t then unwrap_or (value_written b (open_access (writer b) h)) v else v) ≡ (if t then unwrap_or (value_written b (open_access s h)) v else v)) [
+      | true ↦ λ same. ap (λ x. unwrap_or (value_written b (open_access x h)) v) (sym (same_side-true (writer b) s same))
+      | false ↦ λ other. refl
+    ] refl in
+    changes ∙ own ∙ act_ends (open_access s h) s c a b v by fits
+
+-- the event's own side
+mark-own : (h : List Event) (e : Event) (mark : SideMark) → mark.opened ≡ begun_by e
+    → ((b : Bit) → begun_by e ≡ Some (Read b) → mark.overlapped ≡ is_some (open_write b h)) → IsMark e.side (h ++ e ∷ []) mark
+mark-own h e mark opened overlapped =
+    let own : is_by e.side e ≡ true = same_side-same e.side in
+    record {
+      opened_is = opened ∙ sym (open_access-push e.side h e ∙ ap (λ t. cond t (begun_by e) (open_access e.side h)) own);
+      overlapped_is = λ b reads.
+          overlapped b (sym opened ∙ reads)
+          ∙ sym (is_overlapped-push e.side b h e ∙ ap (λ t. cond t (is_some (open_write b h)) (is_overlapped e.side b h || is_some (write_of b e))) own);
+    }
+
+-- the other side
+mark-beside : (s : Side) (h : List Event) (e : Event) (mark before : SideMark) → is_by s e ≡ false → IsMark s h before
+    → mark.opened ≡ before.opened → ((b : Bit) → before.opened ≡ Some (Read b) → mark.overlapped ≡ (before.overlapped || is_some (write_of b e))) → IsMark s (h ++ e ∷ []) mark
+mark-beside s h e mark before other is opened overlapped = record {
+  opened_is = opened ∙ is.opened_is ∙ sym (open_access-push s h e ∙ ap (λ t. cond t (begun_by e) (open_access s h)) other);
+  overlapped_is = λ b reads.
+      let read : before.opened ≡ Some (Read b) = sym opened ∙ reads in
+      overlapped b read ∙ ap (λ t. t || is_some (write_of b e)) (is.overlapped_is b read)
+      ∙ sym (is_overlapped-push s b h e ∙ ap (λ t. cond t (is_some (open_write b h)) (is_overlapped s b h || is_some (write_of b e))) other);
+}
+
+-- what is kept of an event
+pub record HasRecorded (before : Marks) (e : Event) (marks : Marks) : Type 0 where
+  pub seats_are : length marks.sides ≡ 2
+  pub values_are : marks.values ≡ with_value before.values e.bit (value_ended e.act (mark_of e.side before).opened)
+  pub own_opened : (mark_of e.side marks).opened ≡ begun_by e
+  pub own_overlapped : (b : Bit) → begun_by e ≡ Some (Read b) → (mark_of e.side marks).overlapped ≡ is_some (value_written b (mark_of (writer b) before).opened)
+  pub other_opened : (mark_of (other e.side) marks).opened ≡ (mark_of (other e.side) before).opened
+  pub other_overlapped : (b : Bit) → (mark_of (other e.side) before).opened ≡ Some (Read b) → (mark_of (other e.side) marks).overlapped ≡ ((mark_of (other e.side) before).overlapped || is_some (write_of b e))
+
+with_value-size : (values : List Bool) (b : Bit) (o : Option Bool) → length (with_value values b o) ≡ length values
+with_value-size values b None = refl
+with_value-size values b (Some v) = length-set values (place_of b) v
+
+with_value-at : (values : List Bool) (c b : Bit) (o : Option Bool) → length values ≡ 4609 → IsInTable c → IsInTable b
+    → get_or (with_value values c o) (place_of b) false ≡ cond (same_bit b c) (unwrap_or o (get_or values (place_of b) false)) (get_or values (place_of b) false)
+with_value-at values c b None size room there = sym (both (same_bit b c) (get_or values (place_of b) false))
+with_value-at values c b (Some v) size room there = set-values values c b v size room there
+
+by_other : (s : Side) → same_side (other s) s ≡ false
+by_other P = refl
+by_other C = refl
+
+module _ (shape : Shape) (h : List Event) (e : Event) (before marks : Marks) (are : AreMarks shape h before) (follows : MayFollow shape h e) (kept : HasRecorded before e marks) where
+  room : IsInTable e.bit
+  room = IsInTable-belongs shape e.bit follows.right_side.in_shape
+
+  own_mark : IsMark e.side (h ++ e ∷ []) (mark_of e.side marks)
+  own_mark = mark-own h e (mark_of e.side marks) kept.own_opened (λ b reads. kept.own_overlapped b reads ∙ ap (λ o. is_some (value_written b o)) (are.sides (writer b)).opened_is)
+
+  other_mark : IsMark (other e.side) (h ++ e ∷ []) (mark_of (other e.side) marks)
+  other_mark = mark-beside (other e.side) h e (mark_of (other e.side) marks) (mark_of (other e.side) before) (by_other e.side) (are.sides (other e.side)) kept.other_opened kept.other_overlapped
+
+  each_mark : (s t : Side) → IsMark s (h ++ e ∷ []) (mark_of s marks) → IsMark (other s) (h ++ e ∷ []) (mark_of (other s) marks) → IsMark t (h ++ e ∷ []) (mark_of t marks)
+  each_mark P P own beside = own
+  each_mark P C own beside = beside
+  each_mark C P own beside = beside
+  each_mark C C own beside = own
+
+  pub AreMarks-push : AreMarks shape (h ++ e ∷ []) marks
+  AreMarks-push = record {
+    lawful = (lawful_by_one_more shape h e).1 (are.lawful, follows);
+    size = ap length kept.values_are ∙ with_value-size before.values e.bit (value_ended e.act (mark_of e.side before).opened) ∙ are.size;
+    seats = kept.seats_are;
+    values = λ b there.
+        let ended : Option Bool = value_ended e.act (mark_of e.side before).opened in
+        let old : get_or before.values (place_of b) false ≡ held b h = are.values b there in
+        ap (λ values. get_or values (place_of b) false) kept.values_are
+        ∙ with_value-at before.values e.bit b ended are.size room there
+        ∙ ap (λ v. cond (same_bit b e.bit) (unwrap_or ended v) v) old
+        ∙ ap (λ o. cond (same_bit b e.bit) (unwrap_or (value_ended e.act o) (held b h)) (held b h)) (are.sides e.side).opened_is
+        ∙ sym (held-ends shape h e.side e.bit e.act b are.lawful follows.right_side.by_doer follows.in_turn);
+    sides = λ t. each_mark e.side t own_mark other_mark;
+  }
+
+-- ---- what each act leaves
+
+with_mark-own : (marks : Marks) (s : Side) (mark : SideMark) → length marks.sides ≡ 2 → mark_of s (with_mark marks s mark) ≡ mark
+with_mark-own marks P mark seats = get_or-set_same marks.sides 0 mark idle (omega (arith, seats))
+with_mark-own marks C mark seats = get_or-set_same marks.sides 1 mark idle (omega (arith, seats))
+
+with_mark-other : (marks : Marks) (s : Side) (mark : SideMark) → mark_of (other s) (with_mark marks s mark) ≡ mark_of (other s) marks
+with_mark-other marks P mark = get_or-set_other marks.sides 0 1 mark idle (λ e. omega arith)
+with_mark-other marks C mark = get_or-set_other marks.sides 1 0 mark idle (λ e. omega arith)
+
+is_some_if : (t v : Bool) → t ≡ is_some (cond t (Some v) None)
+is_some_if true v = refl
+is_some_if false v = refl
+
+or_none : (x : Bool) → x ≡ (x || false)
+or_none true = refl
+or_none false = refl
+
+module _ (before : Marks) (s : Side) (b : Bit) (seats : length before.sides ≡ 2) where
+  pub reads : (overlapped : Bool) → overlapped ≡ is_some (value_written b (mark_of (writer b) before).opened)
+      → HasRecorded before (record { side = s; bit = b; act = ReadBegin }) (with_mark before s (record { opened = Some (Read b); overlapped = overlapped }))
+  reads overlapped is =
+      let mark : SideMark = record { opened = Some (Read b); overlapped = overlapped } in
+      let own = with_mark-own before s mark seats in
+      let other_one = with_mark-other before s mark in
+      record {
+        seats_are = length-set before.sides (seat_of s) mark ∙ seats;
+        values_are = refl;
+        own_opened = ap (λ m. m.opened) own;
+        own_overlapped = λ c reads.
+            let same : b ≡ c = cc in
+            ap (λ m. m.overlapped) own ∙ is ∙ ap (λ x. is_some (value_written x (mark_of (writer x) before).opened)) same;
+        other_opened = ap (λ m. m.opened) other_one;
+        other_overlapped = λ c reads. ap (λ m. m.overlapped) other_one ∙ or_none (mark_of (other s) before).overlapped;
+      }
+
+  pub answers : (v : Bool) → HasRecorded before (record { side = s; bit = b; act = ReadEnd v }) (with_mark before s idle)
+  answers v =
+      let own = with_mark-own before s idle seats in
+      let other_one = with_mark-other before s idle in
+      record {
+        seats_are = length-set before.sides (seat_of s) idle ∙ seats;
+        values_are = refl;
+        own_opened = ap (λ m. m.opened) own;
+        own_overlapped = λ c reads. absurd (none-some (Read c) reads);
+        other_opened = ap (λ m. m.opened) other_one;
+        other_overlapped = λ c reads. ap (λ m. m.overlapped) other_one ∙ or_none (mark_of (other s) before).overlapped;
+      }
+
+  pub writes : (v : Bool) → HasRecorded before (record { side = s; bit = b; act = WriteBegin v })
+      (with_mark (with_mark before (other s) (beside (mark_of (other s) before) b)) s (record { opened = Some (Write b v); overlapped = false }))
+  writes v =
+      let mark : SideMark = record { opened = Some (Write b v); overlapped = false } in
+      let reader_mark : SideMark = beside (mark_of (other s) before) b in
+      let middle : Marks = with_mark before (other s) reader_mark in
+      let size : length middle.sides ≡ 2 = length-set before.sides (seat_of (other s)) reader_mark ∙ seats in
+      let own = with_mark-own middle s mark size in
+      let other_one : mark_of (other s) (with_mark middle s mark) ≡ reader_mark = with_mark-other middle s mark ∙ with_mark-own before (other s) reader_mark seats in
+      record {
+        seats_are = length-set middle.sides (seat_of s) mark ∙ size;
+        values_are = refl;
+        own_opened = ap (λ m. m.opened) own;
+        own_overlapped = λ c reads. cc;
+        other_opened = ap (λ m. m.opened) other_one;
+        other_overlapped = λ c reads.
+            ap (λ m. m.overlapped) other_one ∙ ap (λ (o : Option Access). (mark_of (other s) before).overlapped || is_read_of b o) reads
+            ∙ ap (λ t. (mark_of (other s) before).overlapped || t) (is_some_if (same_bit c b) v);
+      }
+
+  pub wrote : HasRecorded before (record { side = s; bit = b; act = WriteEnd })
+      (with_mark (record before { values = with_value before.values b (value_ended WriteEnd (mark_of s before).opened) }) s idle)
+  wrote =
+      let middle : Marks = record before { values = with_value before.values b (value_ended WriteEnd (mark_of s before).opened) } in
+      let own = with_mark-own middle s idle seats in
+      let other_one = with_mark-other middle s idle in
+      record {
+        seats_are = length-set before.sides (seat_of s) idle ∙ seats;
+        values_are = refl;
+        own_opened = ap (λ m. m.opened) own;
+        own_overlapped = λ c reads. absurd (none-some (Read c) reads);
+        other_opened = ap (λ m. m.opened) other_one;
+        other_overlapped = λ c reads. ap (λ m. m.overlapped) other_one ∙ or_none (mark_of (other s) before).overlapped;
+      }
+
+pub recorded : (shape : Shape) (h : List Event) (e : Event) (before marks made : Marks) (a : Act) → AreMarks shape h before → MayFollow shape h e
+    → e.act ≡ a → marks ≡ made → HasRecorded before (record { side = e.side; bit = e.bit; act = a }) made → AreMarks shape (h ++ e ∷ []) marks
+recorded shape h e before marks made a are follows act same kept =
+    let event : record { side = e.side; bit = e.bit; act = a } ≡ e = ap (λ (x : Act). record { side = e.side; bit = e.bit; act = x }) (sym act) in
+    AreMarks-push shape h e before marks are follows (subst (λ x. HasRecorded before e x) (sym same) (subst (λ x. HasRecorded before x made) event kept))
