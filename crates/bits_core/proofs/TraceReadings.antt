@@ -10,10 +10,10 @@ use Rattle.bits_core.specs.declared.events.Event.{Event}
 use Rattle.bits_core.specs.declared.reading.Numbers.{Numbers}
 use Rattle.bits_core.specs.declared.shapes.Shape.{Shape}
 use Rattle.bits_core.specs.declared.shapes.ShapeFault.{ShapeFault}
-use Rattle.bits_core.specs.declared.shapes.ShapeFault.TheVariants.{Capacity, Modulus, Width}
+use Rattle.bits_core.specs.declared.shapes.ShapeFault.TheVariants.{Capacity, Modulus, Width, Batch}
 use Rattle.bits_core.specs.declared.traces.TraceFault.{TraceFault}
 use Rattle.bits_core.specs.declared.traces.TraceFault.TheVariants.{BadShape, BadLine, TooLong, OutOfMemory}
-use Rattle.bits_core.specs.Shape.{IsRefused, belongs, capacity_of, modulus_of, width_of}
+use Rattle.bits_core.specs.Shape.{IsRefused, batch_of, belongs, capacity_of, modulus_of, width_of}
 use Rattle.bits_core.specs.TraceText.{event_line, shape_line, trace_text}
 use Rattle.bits_core.specs.TraceReading.{event_at, shape_at}
 use Rattle.bits_core.specs.Trace.{AreOfShape, BeginsWithShape, GoesOn, HasNoEvent, HasBadLine, HasBadShape, HasShapeLine, IsTooLong, IsTrace, IsTraceFault}
@@ -23,24 +23,28 @@ use Rattle.bits_core.proofs.TraceLemmas.{line_takes}
 -- ---- shapes
 
 -- shapes of the same numbers are one
-pub same_shape : (s t : Shape) → s.capacity ≡ t.capacity → s.modulus ≡ t.modulus → s.width ≡ t.width → s ≡ t
-same_shape s t c m w = λ i. record {
+pub same_shape : (s t : Shape) → s.capacity ≡ t.capacity → s.modulus ≡ t.modulus → s.width ≡ t.width → s.batch ≡ t.batch → s ≡ t
+same_shape s t c m w b = λ i. record {
   capacity = c i;
   modulus = m i;
   width = w i;
+  batch = b i;
   has_cells = is_prop→PathP (λ j. 0 < c j) (λ j. le_prop) s.has_cells t.has_cells i;
   few_cells = is_prop→PathP (λ j. c j ≤ 64) (λ j. le_prop) s.few_cells t.few_cells i;
-  room_to_count = is_prop→PathP (λ j. c j + 2 ≤ m j) (λ j. le_prop) s.room_to_count t.room_to_count i;
+  room_to_count = is_prop→PathP (λ j. c j + b j < m j) (λ j. le_prop) s.room_to_count t.room_to_count i;
   small_modulus = is_prop→PathP (λ j. m j ≤ 256) (λ j. le_prop) s.small_modulus t.small_modulus i;
   has_digits = is_prop→PathP (λ j. 0 < w j) (λ j. le_prop) s.has_digits t.has_digits i;
   few_digits = is_prop→PathP (λ j. w j ≤ 64) (λ j. le_prop) s.few_digits t.few_digits i;
+  has_batch = is_prop→PathP (λ j. 0 < b j) (λ j. le_prop) s.has_batch t.has_batch i;
+  small_batch = is_prop→PathP (λ j. b j ≤ c j) (λ j. le_prop) s.small_batch t.small_batch i;
 }
 
 -- the numbers of a shape are not refused, and others for one cause
 not_refused : (s : Shape) (fault : ShapeFault) → ¬ IsRefused (capacity_of s) (modulus_of s) (width_of s) fault
 not_refused s Capacity refused = refused (s.has_cells, s.few_cells)
-not_refused s Modulus refused = refused.1 (s.room_to_count, s.small_modulus)
+not_refused s Modulus refused = refused.1 (omega (arith, s.room_to_count, s.has_batch), s.small_modulus)
 not_refused s Width refused = refused.2 (s.has_digits, s.few_digits)
+not_refused s Batch refused = refused
 
 one_refusal : (c m w : ℕ) (f g : ShapeFault) → IsRefused c m w f → IsRefused c m w g → f ≡ g
 one_refusal c m w Capacity Capacity a b = refl
@@ -52,6 +56,10 @@ one_refusal c m w Modulus Width a b = absurd (a.1 b.1)
 one_refusal c m w Width Capacity a b = absurd (b a.0)
 one_refusal c m w Width Modulus a b = absurd (b.1 a.1)
 one_refusal c m w Width Width a b = refl
+one_refusal c m w Capacity Batch a b = absurd b
+one_refusal c m w Modulus Batch a b = absurd b
+one_refusal c m w Width Batch a b = absurd b
+one_refusal c m w Batch g a b = absurd a
 
 -- ---- the first line
 
@@ -143,13 +151,14 @@ text_begins bytes s es rest e = e ∙ text_parts s es rest
 
 record Read (bytes : List ℕ) (s : Shape) (es : List Event) (rest : List ℕ) : Type 0 where
   pub text : bytes ≡ trace_text s es ++ rest
+  pub single : batch_of s ≡ 1
   pub each : EachOf s es
 
 Read-from : (bytes : List ℕ) (s : Shape) (es : List Event) (rest : List ℕ) → GoesOn bytes s es rest → Read bytes s es rest
-Read-from bytes s es rest g = record { text = g.text; each = EachOf-from s es g.of_shape }
+Read-from bytes s es rest g = record { text = g.text; single = g.single; each = EachOf-from s es g.of_shape }
 
 Read-whole : (bytes : List ℕ) (s : Shape) (es : List Event) → IsTrace bytes s es → Read bytes s es []
-Read-whole bytes s es trace = record { text = trace.text ∙ sym (append-nil (trace_text s es)); each = EachOf-from s es trace.of_shape }
+Read-whole bytes s es trace = record { text = trace.text ∙ sym (append-nil (trace_text s es)); single = trace.single; each = EachOf-from s es trace.of_shape }
 
 -- two readings of a front of the same bytes
 record Agree (s t : Shape) (es fs : List Event) (rest rest' : List ℕ) : Type 0 where
@@ -163,7 +172,7 @@ agree bytes s t es fs rest rest' a b =
     let begins_b = text_begins bytes t fs rest' b.text in
     let same = lines_agree bytes (capacity_of s) (modulus_of s) (width_of s) (capacity_of t) (modulus_of t) (width_of t)
     (shape_has_line bytes s (lines es ++ rest) begins_a) (shape_has_line bytes t (lines fs ++ rest') begins_b) in
-    record { shape = same_shape s t same.capacity same.modulus same.width; events = compared s t es fs rest rest' a.each b.each same.others }
+    record { shape = same_shape s t same.capacity same.modulus same.width (a.single ∙ sym b.single); events = compared s t es fs rest rest' a.each b.each same.others }
 
 some_line : (e : Event) (rest : List ℕ) → event_line e ++ rest ≢ []
 some_line e rest is = omega (arith, line_takes e rest, ap length is)

@@ -2,7 +2,7 @@
 use Rattle.std.specs.Prelude.{◌≡◌, ℕ, ◌+◌, ◌<◌, ◌≤◌, Bool, true, ◌&&◌, nat_lt}
 use Rattle.bits_core.specs.declared.shapes.Shape.{Shape}
 use Rattle.bits_core.specs.declared.shapes.ShapeFault.{ShapeFault}
-use Rattle.bits_core.specs.declared.shapes.ShapeFault.TheVariants.{Capacity, Modulus, Width}
+use Rattle.bits_core.specs.declared.shapes.ShapeFault.TheVariants.{Capacity, Modulus, Width, Batch}
 use Rattle.bits_core.specs.declared.events.Event.{Event}
 use Rattle.bits_core.specs.declared.events.Bit.{Bit}
 use Rattle.bits_core.specs.declared.events.Bit.TheVariants.{S, R, X, Cell}
@@ -18,11 +18,22 @@ modulus_of shape = shape.modulus
 abbrev pub width_of : Shape → ℕ
 width_of shape = shape.width
 
--- the shape is that of these numbers
+abbrev pub batch_of : Shape → ℕ
+batch_of shape = shape.batch
+
+-- the shape is that of these numbers, with count writes of one item each
 pub record HasNumbers (capacity modulus width : ℕ) (shape : Shape) : Type 0 where
   pub capacity_is : capacity_of shape ≡ capacity
   pub modulus_is : modulus_of shape ≡ modulus
   pub width_is : width_of shape ≡ width
+  pub single : batch_of shape ≡ 1
+
+-- the shape is that of these numbers
+pub record HasBatch (capacity modulus width batch : ℕ) (shape : Shape) : Type 0 where
+  pub capacity_is : capacity_of shape ≡ capacity
+  pub modulus_is : modulus_of shape ≡ modulus
+  pub width_is : width_of shape ≡ width
+  pub batch_is : batch_of shape ≡ batch
 
 -- the range of each number
 abbrev pub IsCapacity : ℕ → Type 0
@@ -34,17 +45,33 @@ IsModulus capacity modulus = (capacity + 2 ≤ modulus) × (modulus ≤ 256)
 abbrev pub IsWidth : ℕ → Type 0
 IsWidth width = (0 < width) × (width ≤ 64)
 
+abbrev pub IsBatchSize : ℕ → ℕ → Type 0
+IsBatchSize capacity batch = (0 < batch) × (batch ≤ capacity)
+
+abbrev pub IsModulusFor : ℕ → ℕ → ℕ → Type 0
+IsModulusFor capacity batch modulus = (capacity + batch < modulus) × (modulus ≤ 256)
+
 -- the fault names the first of the three numbers that is out of its range
 abbrev pub IsRefused : ℕ → ℕ → ℕ → ShapeFault → Type 0
 IsRefused capacity modulus width Capacity = ¬ IsCapacity capacity
 IsRefused capacity modulus width Modulus = IsCapacity capacity × ¬ IsModulus capacity modulus
 IsRefused capacity modulus width Width = IsCapacity capacity × IsModulus capacity modulus × ¬ IsWidth width
+IsRefused capacity modulus width Batch = ⊥
+
+-- the same of four, where the batch comes before the modulus
+abbrev pub IsRefusedBatch : ℕ → ℕ → ℕ → ℕ → ShapeFault → Type 0
+IsRefusedBatch capacity modulus width batch Capacity = ¬ IsCapacity capacity
+IsRefusedBatch capacity modulus width batch Batch = IsCapacity capacity × ¬ IsBatchSize capacity batch
+IsRefusedBatch capacity modulus width batch Modulus = IsCapacity capacity × IsBatchSize capacity batch × ¬ IsModulusFor capacity batch modulus
+IsRefusedBatch capacity modulus width batch Width =
+    IsCapacity capacity × IsBatchSize capacity batch × IsModulusFor capacity batch modulus × ¬ IsWidth width
 
 -- the number of each fault
 abbrev pub shape_fault_number : ShapeFault → ℕ
 shape_fault_number Capacity = 1
 shape_fault_number Modulus = 2
 shape_fault_number Width = 3
+shape_fault_number Batch = 4
 
 -- whether a bit is one of the shape's
 abbrev pub belongs : Shape → Bit → Bool

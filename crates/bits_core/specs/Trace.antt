@@ -6,7 +6,7 @@ use Rattle.bits_core.specs.declared.shapes.Shape.{Shape}
 use Rattle.bits_core.specs.declared.shapes.ShapeFault.{ShapeFault}
 use Rattle.bits_core.specs.declared.traces.TraceFault.{TraceFault}
 use Rattle.bits_core.specs.declared.traces.TraceFault.TheVariants.{BadShape, BadLine, TooLong, OutOfMemory}
-use Rattle.bits_core.specs.Shape.{IsRefused, belongs, capacity_of, modulus_of, width_of}
+use Rattle.bits_core.specs.Shape.{IsRefused, batch_of, belongs, capacity_of, modulus_of, width_of}
 use Rattle.bits_core.specs.TraceText.{event_line, shape_line, trace_text}
 
 -- the number of each fault
@@ -20,9 +20,11 @@ trace_fault_number OutOfMemory = 4
 abbrev pub AreOfShape : Shape → List Event → Type 0
 AreOfShape shape events = All (λ e. belongs shape e.bit ≡ true) events
 
--- the bytes are the text of the shape and the events, which are of the shape and no more than a trace may have
+-- the bytes are the text of the shape, whose count writes count one item each, and of the events, which are of the shape and no
+-- more than a trace may have
 pub record IsTrace (bytes : List ℕ) (shape : Shape) (events : List Event) : Type 0 where
   pub text : bytes ≡ trace_text shape events
+  pub single : batch_of shape ≡ 1
   pub of_shape : AreOfShape shape events
   pub within : length events ≤ EVENT_LIMIT
 
@@ -57,6 +59,7 @@ HasNoEvent shape bytes = (e : Event) (rest : List ℕ) → ¬ BeginsWithEvent sh
 -- the bytes are the text of a shape and of events of it, and then something more
 pub record GoesOn (bytes : List ℕ) (shape : Shape) (events : List Event) (rest : List ℕ) : Type 0 where
   pub text : bytes ≡ trace_text shape events ++ rest
+  pub single : batch_of shape ≡ 1
   pub of_shape : AreOfShape shape events
   pub more : rest ≢ []
 

@@ -4,21 +4,23 @@ ghost use Rattle.std.specs.Prelude.{◌≡◌, ℕ, ◌+◌, ◌^◌, ◌<◌, �
 use crate::events::Bit;
 use thiserror::Error;
 
-/// Why three numbers are no shape.
+/// Why numbers are no shape.
 #[derive(Clone, Copy, PartialEq, Eq, Debug, Error)]
 pub enum ShapeFault {
     #[error("capacity must be from 1 to 64")]
     Capacity,
-    #[error("modulus must be from capacity + 2 to 256")]
+    #[error("modulus must be from capacity + batch + 1 to 256")]
     Modulus,
     #[error("width must be from 1 to 64")]
     Width,
+    #[error("batch must be from 1 to capacity")]
+    Batch,
 }
 
 impl ShapeFault {
     ghost use Rattle.bits_core.specs.Shape.{shape_fault_number};
 
-    /// The number of the fault: 1 `Capacity`, 2 `Modulus`, 3 `Width`.
+    /// The number of the fault: 1 `Capacity`, 2 `Modulus`, 3 `Width`, 4 `Batch`.
     pub fn number(&self) -> u8
         ensures { result ≡ shape_fault_number self.now }
     {
@@ -26,39 +28,62 @@ impl ShapeFault {
             ShapeFault::Capacity => 1,
             ShapeFault::Modulus => 2,
             ShapeFault::Width => 3,
+            ShapeFault::Batch => 4,
         }
     }
 }
 
-/// How many cells a ring has, the modulus of its two counts, and how many binary digits an item has.
+/// How many cells a ring has, the modulus of its two counts, how many binary digits an item has, and how many
+/// items one count write may count.
 ///
-/// The counts run modulo a number at least two above the capacity, so that a count that is read
+/// The counts run modulo a number above the capacity and the batch together, so that a count that is read
 /// while it is being written can still be told from all others that may be read then.
 #[derive(Clone, Copy, PartialEq, Eq, Debug)]
 pub struct Shape {
     capacity: u64,
     modulus: u64,
     width: u64,
+    batch: u64,
     pub ghost has_cells: { 0 < capacity },
     pub ghost few_cells: { capacity ≤ 64 },
-    pub ghost room_to_count: { capacity + 2 ≤ modulus },
+    pub ghost room_to_count: { capacity + batch < modulus },
     pub ghost small_modulus: { modulus ≤ 256 },
     pub ghost has_digits: { 0 < width },
     pub ghost few_digits: { width ≤ 64 },
+    pub ghost has_batch: { 0 < batch },
+    pub ghost small_batch: { batch ≤ capacity },
 }
 
 impl Shape {
-    ghost use Rattle.bits_core.specs.Shape.{HasNumbers, IsRefused, belongs, capacity_of, modulus_of, width_of};
+    ghost use Rattle.bits_core.specs.Shape.{HasNumbers, HasBatch, IsRefused, IsRefusedBatch, batch_of, belongs, capacity_of, modulus_of, width_of};
 
-    /// The shape of these numbers: a capacity from 1 to 64, a modulus from the capacity + 2 to 256,
-    /// and a width from 1 to 64. Else the first of the three that is out of its range, in this order.
+    /// The shape of these numbers, whose count writes count one item each: a capacity from 1 to 64, a modulus from
+    /// the capacity + 2 to 256, and a width from 1 to 64. Else the first of the three that is out of its range, in
+    /// this order.
     pub fn new(capacity: u64, modulus: u64, width: u64) -> Result<Shape, ShapeFault>
         ensures { MatchResult result (HasNumbers capacity modulus width) (IsRefused capacity modulus width) }
+    {
+        Shape::with_batch(capacity, modulus, width, 1)
+    }
+
+    /// The shape of these numbers: a capacity from 1 to 64, a batch from 1 to the capacity, a modulus from the
+    /// capacity + the batch + 1 to 256, and a width from 1 to 64. Else the first of the four that is out of its
+    /// range, in this order.
+    pub fn with_batch(
+        capacity: u64,
+        modulus: u64,
+        width: u64,
+        batch: u64,
+    ) -> Result<Shape, ShapeFault>
+        ensures { MatchResult result (HasBatch capacity modulus width batch) (IsRefusedBatch capacity modulus width batch) }
     {
         if capacity == 0 || capacity > 64 {
             return Err(ShapeFault::Capacity);
         }
-        if modulus < capacity + 2 || modulus > 256 {
+        if batch == 0 || batch > capacity {
+            return Err(ShapeFault::Batch);
+        }
+        if modulus <= capacity + batch || modulus > 256 {
             return Err(ShapeFault::Modulus);
         }
         if width == 0 || width > 64 {
@@ -68,6 +93,7 @@ impl Shape {
             capacity,
             modulus,
             width,
+            batch,
         })
     }
 
@@ -80,7 +106,7 @@ impl Shape {
         self.capacity
     }
 
-    /// The modulus of the two counts, from the capacity + 2 to 256.
+    /// The modulus of the two counts, from the capacity + the batch + 1 to 256.
     pub fn modulus(&self) -> u64
         ensures value { result ≡ modulus_of self.now }
         ensures room { capacity_of self.now + 2 ≤ result }
@@ -96,6 +122,15 @@ impl Shape {
         ensures few { result ≤ 64 }
     {
         self.width
+    }
+
+    /// How many items one count write of the producer may count, from 1 to the capacity.
+    pub fn batch(&self) -> u64
+        ensures value { result ≡ batch_of self.now }
+        ensures some { 0 < result }
+        ensures few { result ≤ capacity_of self.now }
+    {
+        self.batch
     }
 
     /// Whether a cell can hold the item: it is below 2 to the power of the width.

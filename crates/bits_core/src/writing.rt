@@ -1,7 +1,7 @@
 //! Writing the text of a trace.
 ghost use Rattle.std.specs.Prelude.{◌≡◌, ◌≤◌, ◌++◌, OnOk, IfOk, IfErr, decimal, length, string_bytes};
 ghost use Rattle.std.specs.List.{flat_map};
-ghost use Rattle.bits_core.specs.Shape.{capacity_of, modulus_of, width_of};
+ghost use Rattle.bits_core.specs.Shape.{batch_of, capacity_of, modulus_of, width_of};
 ghost use Rattle.bits_core.specs.Trace.{AreOfShape, IsTrace};
 ghost use Rattle.bits_core.specs.TraceText.{act_text, bit_text, event_line, shape_line, side_text, trace_text, value_text};
 
@@ -103,7 +103,7 @@ fn push_shape<A: Allocator>(text: &mut String<A>, shape: &Shape) -> Result<(), T
 }
 
 /// The text of a trace: the line of the shape, and the line of each event, whose bits are all of
-/// the shape (`Shape::has`).
+/// the shape (`Shape::has`), which has batch 1.
 ///
 /// The only fault is `OutOfMemory`. A text of at most `EVENT_LIMIT` events is read again as this
 /// shape and these events, and the text that is written for what was read is the text that was read.
@@ -112,7 +112,8 @@ pub fn write_trace<A: Allocator>(
     shape: &Shape,
     events: &[Event],
 ) -> Result<String<A>, TraceFault>
-    requires { AreOfShape shape.now events.now }
+    requires of_shape { AreOfShape shape.now events.now }
+    requires single { batch_of shape.now ≡ 1 }
     ensures text { IfOk result (λ text. string_bytes text ≡ trace_text shape.now events.now) }
     ensures again { IfOk result (λ text. length events.now ≤ EVENT_LIMIT → IsTrace (string_bytes text) shape.now events.now) }
     ensures memory { IfErr result (λ e. e ≡ TraceFault.OutOfMemory) }

@@ -1,12 +1,12 @@
 -- Which put an access to a cell belongs to, and where the accesses of a put's word stand.
-use Rattle.std.proofs.Common.{◌≡◌, inl, inr, ℕ, zero, suc, ◌+◌, ◌*◌, ◌%◌, ◌<◌, ◌≤◌, Bool, true, cond, nat_eq, Some, List, [], ◌∷◌, ◌++◌, length, refl, sym, ap, subst, ◌∙◌, arith, append_assoc, length-append}
+use Rattle.std.proofs.Common.{◌≡◌, inl, inr, ℕ, zero, suc, ◌+◌, ◌-◌, ◌*◌, ◌%◌, ◌<◌, ◌≤◌, Bool, true, cond, nat_eq, Some, List, [], ◌∷◌, ◌++◌, length, refl, sym, ap, subst, ◌∙◌, arith, append_assoc, append-nil, length-append}
 use Rattle.std.specs.Prelude.{slice_get}
 use Rattle.std.proofs.lemmas.Bool.Decides.{nat_tests}
 use Rattle.std.proofs.lemmas.List.{map-append}
-use Rattle.std.proofs.Math.Nat.{add-mul}
+use Rattle.std.proofs.Math.Nat.{add-mul, suc-mul}
 use Rattle.bits_core.specs.declared.events.Side.{Side}
 use Rattle.bits_core.specs.declared.events.Side.TheVariants.{P, C}
-use Rattle.bits_core.specs.declared.events.Bit.TheVariants.{Cell}
+use Rattle.bits_core.specs.declared.events.Bit.TheVariants.{X, Cell}
 use Rattle.bits_core.specs.declared.events.Access.TheVariants as begins
 use Rattle.bits_core.specs.declared.shapes.Shape.{Shape}
 use Rattle.bits_core.specs.Shape.{capacity_of, width_of}
@@ -14,28 +14,41 @@ use Rattle.bits_core.specs.Made.{Made, Read, Write, access_of}
 use Rattle.register_core.specs.Row.{RowWrite, writes_in}
 use Rattle.register_core.specs.Word.{digit, digit_writes, word_write, word_writes, word_read}
 use Rattle.register_core.specs.ScanState.{scan_phrase, row_read_by}
-use Rattle.ring_core.specs.Spans.{Outcome, Passes, Stops, Asks, Span, counts, whole, Stands}
+use Rattle.ring_core.specs.Counts.{Count}
+use Rattle.ring_core.specs.Puts.{words_phrase}
+use Rattle.ring_core.specs.Spans.{Outcome, Passes, Stops, Asks, Span, counts, items_of, whole, Stands}
 use Rattle.ring_core.specs.Looks.{Look, word_part, count_part, after_look, look_accesses, span_of, spans}
 use Rattle.ring_core.proofs.Phrases.{length-digit_writes, at_or_below}
-use Rattle.ring_core.proofs.Lengths.{length-word_write, length-word_read}
-use Rattle.ring_core.proofs.CellTimes.{to_cell, to_cell-append, to_cell-there, where_in, none_there, none_to_cell, no_cells-scan, no_cells-count, own_cell, look_to_cell, length-word_writes, items_here, cell_items}
+use Rattle.ring_core.proofs.Lengths.{length-word_write, length-words}
+use Rattle.ring_core.proofs.CellTimes.{to_cell, to_cell-append, to_cell-there, where_in, none_there, none_to_cell, no_cells-scan, no_cells-count, own_cell, look_to_cell, word_to_cell, length-word_writes, stored_to, items_here, cell_items}
+use Rattle.ring_core.proofs.Looks.{after_counts, length-words_read}
+use Rattle.ring_core.proofs.Cuts.{at_most_or_above}
 
 -- ---- the order of spans
 
--- a span that passes ends before each span with a larger number begins
-pub stands_order :
-    (xs : List Span) (s n s' n' : ℕ) (x x' : Span) → Stands xs s n x → counts x.outcome ≡ 1 → Stands xs s' n' x' → n < n' → s + whole x ≤ s'
-stands_order [] s n s' n' x x' st o st' l = elim st [ ]
-stands_order (y ∷ ys) s n s' n' x x' (inl a) o (inl b) l = absurd (omega (arith, a.1, b.1))
-stands_order (y ∷ ys) s n s' n' x x' (inl a) o (inr b) l = omega (arith, a.0, b.2, ap whole a.2)
-stands_order (y ∷ ys) s n s' n' x x' (inr a) o (inl b) l = absurd (omega (arith, b.1))
-stands_order (y ∷ ys) s n s' n' x x' (inr a) o (inr b) l =
-    let r = stands_order ys a.0 a.1 b.0 b.1 x x' a.4 o b.4 (omega (arith, a.3, b.3)) in
+-- a span ends before each span with a larger number begins
+pub stands_order : (xs : List Span) (s n s' n' : ℕ) (x x' : Span) → Stands xs s n x → Stands xs s' n' x' → n < n' → s + whole x ≤ s'
+stands_order [] s n s' n' x x' st st' l = elim st [ ]
+stands_order (y ∷ ys) s n s' n' x x' (inl a) (inl b) l = absurd (omega (arith, a.1, b.1, l))
+stands_order (y ∷ ys) s n s' n' x x' (inl a) (inr b) l = omega (arith, a.0, b.2, ap whole a.2)
+stands_order (y ∷ ys) s n s' n' x x' (inr a) (inl b) l = absurd (omega (arith, b.1, l))
+stands_order (y ∷ ys) s n s' n' x x' (inr a) (inr b) l =
+    let r = stands_order ys a.0 a.1 b.0 b.1 x x' a.4 b.4 (omega (arith, a.3, b.3, l)) in
     omega (arith, r, a.2, b.2)
 
--- two spans that pass with one number begin at one place
+-- behind a span there are its items too
+pub stands_numbers : (xs : List Span) (s n s' n' : ℕ) (x x' : Span) → Stands xs s n x → Stands xs s' n' x' → n < n' → n + counts x.outcome ≤ n'
+stands_numbers [] s n s' n' x x' st st' l = elim st [ ]
+stands_numbers (y ∷ ys) s n s' n' x x' (inl a) (inl b) l = absurd (omega (arith, a.1, b.1, l))
+stands_numbers (y ∷ ys) s n s' n' x x' (inl a) (inr b) l = omega (arith, a.1, b.3, ap (λ (z : Span). counts z.outcome) a.2)
+stands_numbers (y ∷ ys) s n s' n' x x' (inr a) (inl b) l = absurd (omega (arith, b.1, l))
+stands_numbers (y ∷ ys) s n s' n' x x' (inr a) (inr b) l =
+    let r = stands_numbers ys a.0 a.1 b.0 b.1 x x' a.4 b.4 (omega (arith, a.3, b.3, l)) in
+    omega (arith, r, a.3, b.3)
+
+-- two spans that count items behind the same number begin at one place
 pub stands_same :
-    (xs : List Span) (s n s' : ℕ) (x x' : Span) → Stands xs s n x → counts x.outcome ≡ 1 → Stands xs s' n x' → counts x'.outcome ≡ 1 → (s ≡ s') × (x ≡ x')
+    (xs : List Span) (s n s' : ℕ) (x x' : Span) → Stands xs s n x → 1 ≤ counts x.outcome → Stands xs s' n x' → 1 ≤ counts x'.outcome → (s ≡ s') × (x ≡ x')
 stands_same [] s n s' x x' st o st' o' = elim st [ ]
 stands_same (y ∷ ys) s n s' x x' (inl a) o (inl b) o' = (omega (arith, a.0, b.0), a.2 ∙ sym b.2)
 stands_same (y ∷ ys) s n s' x x' (inl a) o (inr b) o' = absurd (omega (arith, o, a.1, b.3, ap (λ (z : Span). counts z.outcome) a.2))
@@ -46,18 +59,42 @@ stands_same (y ∷ ys) s n s' x x' (inr a) o (inr b) o' =
     let (starts, spans') = stands_same ys a.0 a.1 b.0 x x' a.4 o st' o' in
     (omega (arith, a.2, b.2, starts), spans')
 
+-- one multiple is at most the other
+pub multiple_up : (a b w : ℕ) → a ≤ b → a * w ≤ b * w
+multiple_up a b w l =
+    let c : ℕ = b - a in
+    let sum : a + c ≡ b = omega (arith, l) in
+    omega (arith, ap (λ k. k * w) sum, add-mul a c w)
+
+-- words stand in the order of their items
+pub words_order :
+    (w : ℕ) (xs : List Span) (s n i s' n' i' : ℕ) (x x' : Span) → Stands xs s n x → Stands xs s' n' x' → i < counts x.outcome → i' < counts x'.outcome →
+    x.word ≡ 2 * (counts x.outcome * w) → n + i ≤ n' + i' → s + x.scan + 2 * (i * w) ≤ s' + x'.scan + 2 * (i' * w)
+words_order w xs s n i s' n' i' x x' st st' l l' word o = elim (at_most_or_above n n') [
+  | inr m ↦ absurd (omega (arith, stands_numbers xs s' n' s n x' x st' st m, l', o))
+  | inl m ↦ elim (at_most_or_above n' n) [
+    | inr m' ↦ omega (arith, stands_order xs s n s' n' x x' st st' m', word, multiple_up i (counts x.outcome) w (omega (arith, l)))
+    | inl m' ↦ (
+        let same : n' ≡ n = omega (arith, m, m') in
+        let st'' : Stands xs s' n x' = subst (λ (k : ℕ). Stands xs s' k x') same st' in
+        let (starts, are) = stands_same xs s n s' x x' st (omega (arith, l)) st'' (omega (arith, l')) in
+        omega (arith, starts, ap (λ (y : Span). y.scan) are, multiple_up i i' w (omega (arith, o, same))))
+  ]
+]
+
 -- ---- from an access to its put
 
--- the put whose word has its digit d behind so many events
-pub record CellTime (shape : Shape) (looks : List Look) (n j d place : ℕ) : Type 0 where
+-- the put whose word of the cell has its digit d behind so many events
+pub record CellTime (shape : Shape) (looks : List Look) (c : Count) (j d place : ℕ) : Type 0 where
   pub start : ℕ
   pub number : ℕ
+  pub index : ℕ
   pub put : Span
   pub item : ℕ
-  pub stands : Stands (spans P shape n looks) start number put
-  pub stored : put.outcome ≡ Passes item
-  pub same_cell : (n + number) % capacity_of shape ≡ j
-  pub place_is : place ≡ start + put.scan + 2 * d
+  pub stands : Stands (spans P shape c looks) start number put
+  pub stored : slice_get (items_of put.outcome) index ≡ Some item
+  pub same_cell : (c.number + (number + index)) % capacity_of shape ≡ j
+  pub place_is : place ≡ start + put.scan + 2 * (index * width_of shape) + 2 * d
   pub within : d < width_of shape
 
 -- an access in a list of one is it
@@ -98,22 +135,57 @@ digit_of c item (suc w) before x after j d v e f =
           (cells, omega (arith, places, digits), omega (arith, digits)))
     ]
 
+-- the word of these items, and its digit, that an access to a cell is of
+pub record WordOf (shape : Shape) (n j d place : ℕ) (items : List ℕ) : Type 0 where
+  pub index : ℕ
+  pub item : ℕ
+  pub stored : slice_get items index ≡ Some item
+  pub same_cell : (n + index) % capacity_of shape ≡ j
+  pub place_is : place ≡ index * width_of shape + d
+  pub within : d < width_of shape
+
+word_of :
+    (shape : Shape) (n : ℕ) (items : List ℕ) (before : List Made) (x : Made) (after : List Made) (j d : ℕ) (v : Bool) →
+    words_phrase shape n items ≡ before ++ x ∷ after → access_of x ≡ begins.Write (Cell j d) v → WordOf shape n j d (length before) items
+word_of shape n [] before x after j d v e f = absurd (none_in_nil before x after e)
+word_of shape n (item ∷ items) before x after j d v e f =
+    let cell : ℕ = n % capacity_of shape in
+    let w : ℕ = width_of shape in
+    let word : List Made = writes_in (Cell cell) (digit_writes item w) in
+    elim (where_in word (words_phrase shape (suc n) items) before x after e) [
+      | inl (rest, word_is, after_is) ↦ (
+          let (cells, places, below) = digit_of cell item w before x rest j d v word_is f in
+          let none : n + 0 ≡ n = omega arith in
+          record {
+            index = 0;
+            item = item;
+            stored = refl;
+            same_cell = ap (λ k. k % capacity_of shape) none ∙ cells;
+            place_is = omega (arith, places);
+            within = below;
+          })
+      | inr (more, before_is, rest_is) ↦ (
+          let r = word_of shape (suc n) items more x after j d v rest_is f in
+          let numbers : n + suc r.index ≡ suc n + r.index = omega arith in
+          record {
+            index = suc r.index;
+            item = r.item;
+            stored = r.stored;
+            same_cell = ap (λ k. k % capacity_of shape) numbers ∙ r.same_cell;
+            place_is = omega (arith, r.place_is, ap length before_is, length-append word more, length-digits cell item w, suc-mul r.index w);
+            within = r.within;
+          })
+    ]
+
 -- an access to a cell that follows a scan is of the word of an item
 part_time :
     (shape : Shape) (n : ℕ) (o : Outcome) (before : List Made) (x : Made) (after : List Made) (j d : ℕ) (v : Bool) →
-    word_part P shape n o ≡ before ++ x ∷ after → access_of x ≡ begins.Write (Cell j d) v →
-    (item : ℕ) × (o ≡ Passes item) × (n % capacity_of shape ≡ j) × (length before ≡ d) × (d < width_of shape)
-part_time shape n (Passes item) before x after j d v e f =
-    let (cells, places, below) = digit_of (n % capacity_of shape) item (width_of shape) before x after j d v e f in
-    (item, refl, cells, places, below)
+    word_part P shape n o ≡ before ++ x ∷ after → access_of x ≡ begins.Write (Cell j d) v → WordOf shape n j d (length before) (items_of o)
+part_time shape n (Passes items) before x after j d v e f = word_of shape n items before x after j d v e f
 part_time shape n Stops before x after j d v e f = absurd (none_in_nil before x after e)
 part_time shape n (Asks answer) before x after j d v e f =
-    absurd (let (none, same) = only_one (Read _ answer) before x after e in let g = ap access_of same ∙ f in cc)
-
-after_counts : (n : ℕ) (o : Outcome) → after_look n o ≡ n + counts o
-after_counts n (Passes item) = omega arith
-after_counts n Stops = omega arith
-after_counts n (Asks answer) = omega arith
+    let (none, same) = only_one (Read X answer) before x after e in
+    absurd (let accesses : access_of (Read X answer) ≡ begins.Write (Cell j d) v = ap access_of same ∙ f in cc)
 
 -- no access to a cell stands among accesses that write to none
 none_behind :
@@ -124,40 +196,42 @@ none_behind behind before x after j d v none e f =
 
 -- each access to a cell is of the word of a put
 pub cell_time :
-    (shape : Shape) (n : ℕ) (looks : List Look) (behind before : List Made) (x : Made) (after : List Made) (j d : ℕ) (v : Bool) → to_cell j behind ≡ [] →
-    look_accesses P shape n looks behind ≡ before ++ x ∷ after → access_of x ≡ begins.Write (Cell j d) v → CellTime shape looks n j d (2 * length before)
-cell_time shape n [] behind before x after j d v none e f = absurd (none_behind behind before x after j d v none e f)
-cell_time shape n (l ∷ looks) behind before x after j d v none e f =
+    (shape : Shape) (c : Count) (looks : List Look) (behind before : List Made) (x : Made) (after : List Made) (j d : ℕ) (v : Bool) → to_cell j behind ≡ [] →
+    look_accesses P shape c looks behind ≡ before ++ x ∷ after → access_of x ≡ begins.Write (Cell j d) v → CellTime shape looks c j d (2 * length before)
+cell_time shape c [] behind before x after j d v none e f = absurd (none_behind behind before x after j d v none e f)
+cell_time shape c (l ∷ looks) behind before x after j d v none e f =
     let us : List Made = scan_phrase (row_read_by P) l.seen in
-    let ws : List Made = word_part P shape n l.outcome in
-    let cs : List Made = count_part P shape n l.outcome in
-    let m : ℕ = after_look n l.outcome in
-    let rest : List Made = look_accesses P shape m looks behind in
+    let ws : List Made = word_part P shape c.number l.outcome in
+    let cs : List Made = count_part P shape c l.outcome in
+    let next : Count = after_look shape c l.outcome in
+    let rest : List Made = look_accesses P shape next looks behind in
     elim (where_in us (ws ++ (cs ++ rest)) before x after e) [
       | inl (r, us_is, after_is) ↦ absurd (none_there us before x r j d v (no_cells-scan l.seen) us_is f)
       | inr (more, before_is, vs_is) ↦ elim (where_in ws (cs ++ rest) more x after vs_is) [
         | inl (r, ws_is, after_is) ↦ (
-            let (item, passes, cells, places, below) = part_time shape n l.outcome more x r j d v ws_is f in
-            let zero_more : n ≡ n + 0 = omega arith in
+            let q = part_time shape c.number l.outcome more x r j d v ws_is f in
+            let numbers : c.number + (0 + q.index) ≡ c.number + q.index = omega arith in
             record {
               start = 0;
               number = 0;
-              put = span_of P shape n l;
-              item = item;
+              index = q.index;
+              put = span_of P shape c l;
+              item = q.item;
               stands = inl (refl, refl, refl);
-              stored = passes;
-              same_cell = ap (λ k. k % capacity_of shape) (sym zero_more) ∙ cells;
-              place_is = omega (arith, ap length before_is, length-append us more, places);
-              within = below;
+              stored = q.stored;
+              same_cell = ap (λ k. k % capacity_of shape) numbers ∙ q.same_cell;
+              place_is = omega (arith, ap length before_is, length-append us more, q.place_is);
+              within = q.within;
             })
         | inr (more', more_is, vs_is') ↦ elim (where_in cs rest more' x after vs_is') [
-          | inl (r, cs_is, after_is) ↦ absurd (none_there cs more' x r j d v (no_cells-count shape n l.outcome) cs_is f)
+          | inl (r, cs_is, after_is) ↦ absurd (none_there cs more' x r j d v (no_cells-count shape c l.outcome) cs_is f)
           | inr (more'', more_is', vs_is'') ↦ (
-              let r : CellTime shape looks m j d (2 * length more'') = cell_time shape m looks behind more'' x after j d v none vs_is'' f in
-              let numbers : n + (counts l.outcome + r.number) ≡ m + r.number = omega (arith, after_counts n l.outcome) in
+              let r : CellTime shape looks next j d (2 * length more'') = cell_time shape next looks behind more'' x after j d v none vs_is'' f in
+              let numbers : c.number + (counts l.outcome + r.number + r.index) ≡ next.number + (r.number + r.index) = omega (arith, after_counts c.number l.outcome) in
               record {
-                start = whole (span_of P shape n l) + r.start;
+                start = whole (span_of P shape c l) + r.start;
                 number = counts l.outcome + r.number;
+                index = r.index;
                 put = r.put;
                 item = r.item;
                 stands = inr (r.start, r.number, refl, refl, r.stands);
@@ -181,15 +255,15 @@ cell_time shape n (l ∷ looks) behind before x after j d v none e f =
 
 -- ---- from a put to its accesses
 
--- the accesses before the word of a put, how many words of its cell they have, and its item among those of the cell
-pub record WordTime (shape : Shape) (looks : List Look) (behind : List Made) (n j item place : ℕ) : Type 0 where
+-- the accesses before the word of an item, how many words of its cell they have, and the item among those of the cell
+pub record WordTime (shape : Shape) (looks : List Look) (behind : List Made) (c : Count) (j item place : ℕ) : Type 0 where
   pub front : List Made
   pub back : List Made
   pub nth : ℕ
-  pub is : look_accesses P shape n looks behind ≡ front ++ (word_write (width_of shape) j item ++ back)
+  pub is : look_accesses P shape c looks behind ≡ front ++ (word_write (width_of shape) j item ++ back)
   pub place_is : 2 * length front ≡ place
   pub written : length (to_cell j front) ≡ nth * width_of shape
-  pub listed : slice_get (cell_items shape j n looks) nth ≡ Some item
+  pub listed : slice_get (cell_items shape j c.number looks) nth ≡ Some item
 
 slice_get-past : {A : Type 0} → (xs ys : List A) (i : ℕ) → slice_get (xs ++ ys) (length xs + i) ≡ slice_get ys i
 slice_get-past [] ys i = ap (slice_get ys) (omega arith)
@@ -197,55 +271,124 @@ slice_get-past (x ∷ xs) ys i =
     let e : suc (length xs) + i ≡ suc (length xs + i) = omega arith in
     ap (slice_get (x ∷ (xs ++ ys))) e ∙ slice_get-past xs ys i
 
--- an item that is stored to the cell is the first of the look
-first_here :
-    (shape : Shape) (j n item : ℕ) (o : Outcome) (more : List ℕ) → o ≡ Passes item → n % capacity_of shape ≡ j →
-    slice_get (items_here shape j n o ++ more) 0 ≡ Some item
-first_here shape j n item o more e f =
-    let own : nat_eq j (n % capacity_of shape) ≡ true = same_yes j (n % capacity_of shape) (sym f) in
-    ap (λ z. slice_get (items_here shape j n z ++ more) 0) e ∙ ap (λ b. slice_get (cond b (item ∷ []) [] ++ more) 0) own
-  where
-    same_yes : (a b : ℕ) → a ≡ b → nat_eq a b ≡ true
-    same_yes a b h = grind (arith, nat_tests)
+-- the same among the words of one look
+pub record WordIn (shape : Shape) (n : ℕ) (items : List ℕ) (j index item : ℕ) : Type 0 where
+  pub front : List Made
+  pub back : List Made
+  pub nth : ℕ
+  pub is : words_phrase shape n items ≡ front ++ (word_write (width_of shape) j item ++ back)
+  pub place_is : length front ≡ index * width_of shape
+  pub written : length (to_cell j front) ≡ nth * width_of shape
+  pub listed : slice_get (stored_to shape j n items) nth ≡ Some item
+
+same_yes : (a b : ℕ) → a ≡ b → nat_eq a b ≡ true
+same_yes a b h = grind (arith, nat_tests)
+
+pub word_in :
+    (shape : Shape) (n : ℕ) (items : List ℕ) (j index item : ℕ) → slice_get items index ≡ Some item → (n + index) % capacity_of shape ≡ j →
+    WordIn shape n items j index item
+word_in shape n [] j index item e f = absurd (cc)
+word_in shape n (x ∷ items) j zero item e f =
+    let none : n + 0 ≡ n = omega arith in
+    let cells : n % capacity_of shape ≡ j = ap (λ k. k % capacity_of shape) (sym none) ∙ f in
+    let same : x ≡ item = cc in
+    let rest : List Made = words_phrase shape (suc n) items in
+    let own : nat_eq j (n % capacity_of shape) ≡ true = same_yes j (n % capacity_of shape) (sym cells) in
+    record {
+      front = [];
+      back = rest;
+      nth = 0;
+      is = ap (λ k. word_write (width_of shape) k x ++ rest) cells ∙ ap (λ y. word_write (width_of shape) j y ++ rest) same;
+      place_is = omega arith;
+      written = omega arith;
+      listed = ap (λ b. slice_get (cond b (x ∷ []) [] ++ stored_to shape j (suc n) items) 0) own ∙ ap Some same;
+    }
+word_in shape n (x ∷ items) j (suc index) item e f =
+    let numbers : suc n + index ≡ n + suc index = omega arith in
+    let r = word_in shape (suc n) items j index item e (ap (λ k. k % capacity_of shape) numbers ∙ f) in
+    let w : ℕ = width_of shape in
+    let cell : ℕ = n % capacity_of shape in
+    let word : List Made = word_write w cell x in
+    let here : List ℕ = cond (nat_eq j cell) (x ∷ []) [] in
+    record {
+      front = word ++ r.front;
+      back = r.back;
+      nth = length here + r.nth;
+      is = ap (λ z. word ++ z) r.is ∙ sym (append_assoc word r.front (word_write w j item ++ r.back));
+      place_is = omega (arith, length-append word r.front, length-word_write w cell x, r.place_is, suc-mul index w);
+      written = omega (
+        arith,
+        ap length (to_cell-append j word r.front),
+        length-append (to_cell j word) (to_cell j r.front),
+        ap length (word_to_cell shape j n x (nat_eq j cell) refl),
+        length-word_writes w here,
+        r.written,
+        add-mul (length here) r.nth w,
+      );
+      listed = slice_get-past here (stored_to shape j (suc n) items) r.nth ∙ r.listed;
+    }
+
+-- the words that follow a scan
+word_part_in :
+    (shape : Shape) (n : ℕ) (o : Outcome) (j index item : ℕ) → slice_get (items_of o) index ≡ Some item → (n + index) % capacity_of shape ≡ j →
+    (r : WordIn shape n (items_of o) j index item) × (word_part P shape n o ≡ words_phrase shape n (items_of o)) ×
+    (items_here shape j n o ≡ stored_to shape j n (items_of o))
+word_part_in shape n (Passes items) j index item e f = (word_in shape n items j index item e f, refl, refl)
+word_part_in shape n Stops j index item e f = absurd (cc)
+word_part_in shape n (Asks answer) j index item e f = absurd (cc)
+
+slice_get-before : {A : Type 0} → (xs ys : List A) (i : ℕ) (x : A) → slice_get xs i ≡ Some x → slice_get (xs ++ ys) i ≡ Some x
+slice_get-before [] ys i x e = absurd (cc)
+slice_get-before (y ∷ xs) ys zero x e = e
+slice_get-before (y ∷ xs) ys (suc i) x e = slice_get-before xs ys i x e
 
 -- four lists, one after the other
 past_three : (a b c r t : List Made) → a ++ (b ++ (c ++ (r ++ t))) ≡ (a ++ (b ++ (c ++ r))) ++ t
 past_three a b c r t = sym (append_assoc a (b ++ (c ++ r)) t ∙ ap (λ l. a ++ l) (append_assoc b (c ++ r) t ∙ ap (λ l. b ++ l) (append_assoc c r t)))
 
--- each put that stores to the cell has its word there
+-- each item that a put stores to the cell has its word there
 pub word_time :
-    (shape : Shape) (n : ℕ) (looks : List Look) (behind : List Made) (j start number : ℕ) (put : Span) (item : ℕ) →
-    Stands (spans P shape n looks) start number put → put.outcome ≡ Passes item → (n + number) % capacity_of shape ≡ j →
-    WordTime shape looks behind n j item (start + put.scan)
-word_time shape n [] behind j start number put item st e f = elim st [ ]
-word_time shape n (l ∷ looks) behind j start number put item (inl st) e f =
+    (shape : Shape) (c : Count) (looks : List Look) (behind : List Made) (j start number index : ℕ) (put : Span) (item : ℕ) →
+    Stands (spans P shape c looks) start number put → slice_get (items_of put.outcome) index ≡ Some item → (c.number + (number + index)) % capacity_of shape ≡ j →
+    WordTime shape looks behind c j item (start + put.scan + 2 * (index * width_of shape))
+word_time shape c [] behind j start number index put item st e f = elim st [ ]
+word_time shape c (l ∷ looks) behind j start number index put item (inl st) e f =
     let us : List Made = scan_phrase (row_read_by P) l.seen in
-    let cs : List Made = count_part P shape n l.outcome in
-    let m : ℕ = after_look n l.outcome in
-    let rest : List Made = look_accesses P shape m looks behind in
-    let passes : l.outcome ≡ Passes item = sym (ap (λ (x : Span). x.outcome) st.2) ∙ e in
-    let same : n ≡ n + number = omega (arith, st.1) in
-    let cells : n % capacity_of shape ≡ j = ap (λ k. k % capacity_of shape) same ∙ f in
-    let word : word_part P shape n l.outcome ≡ word_write (width_of shape) j item =
-    ap (word_part P shape n) passes ∙ ap (λ c. word_write (width_of shape) c item) cells in
+    let ws : List Made = word_part P shape c.number l.outcome in
+    let cs : List Made = count_part P shape c l.outcome in
+    let next : Count = after_look shape c l.outcome in
+    let rest : List Made = look_accesses P shape next looks behind in
+    let stored : slice_get (items_of l.outcome) index ≡ Some item = ap (λ (x : Span). slice_get (items_of x.outcome) index) (sym st.2) ∙ e in
+    let same : c.number + index ≡ c.number + (number + index) = omega (arith, st.1) in
+    let cells : (c.number + index) % capacity_of shape ≡ j = ap (λ k. k % capacity_of shape) same ∙ f in
+    let (r, words, here) = word_part_in shape c.number l.outcome j index item stored cells in
+    let word : List Made = word_write (width_of shape) j item in
     record {
-      front = us;
-      back = cs ++ rest;
-      nth = 0;
-      is = ap (λ z. us ++ (z ++ (cs ++ rest))) word;
-      place_is = omega (arith, st.0, ap (λ (x : Span). x.scan) st.2);
-      written = omega (arith, ap length (none_to_cell j us (no_cells-scan l.seen)));
-      listed = first_here shape j n item l.outcome (cell_items shape j m looks) passes cells;
+      front = us ++ r.front;
+      back = r.back ++ (cs ++ rest);
+      nth = r.nth;
+      is = ap (λ z. us ++ (z ++ (cs ++ rest))) (words ∙ r.is) ∙ ap (λ z. us ++ z) (append_assoc r.front (word ++ r.back) (cs ++ rest)) ∙
+          sym (append_assoc us r.front ((word ++ r.back) ++ (cs ++ rest))) ∙ ap (λ z. (us ++ r.front) ++ z) (append_assoc word r.back (cs ++ rest));
+      place_is = omega (arith, st.0, ap (λ (x : Span). x.scan) st.2, length-append us r.front, r.place_is);
+      written = omega (
+        arith,
+        ap length (to_cell-append j us r.front),
+        length-append (to_cell j us) (to_cell j r.front),
+        ap length (none_to_cell j us (no_cells-scan l.seen)),
+        r.written,
+      );
+      listed = slice_get-before (items_here shape j c.number l.outcome) (cell_items shape j next.number looks) r.nth item
+          (ap (λ z. slice_get z r.nth) here ∙ r.listed);
     }
-word_time shape n (l ∷ looks) behind j start number put item (inr st) e f =
+word_time shape c (l ∷ looks) behind j start number index put item (inr st) e f =
     let us : List Made = scan_phrase (row_read_by P) l.seen in
-    let ws : List Made = word_part P shape n l.outcome in
-    let cs : List Made = count_part P shape n l.outcome in
-    let m : ℕ = after_look n l.outcome in
-    let numbers : m + st.1 ≡ n + number = omega (arith, st.3, after_counts n l.outcome) in
-    let r : WordTime shape looks behind m j item (st.0 + put.scan) =
-    word_time shape m looks behind j st.0 st.1 put item st.4 e (ap (λ k. k % capacity_of shape) numbers ∙ f) in
-    let here : List ℕ = items_here shape j n l.outcome in
+    let ws : List Made = word_part P shape c.number l.outcome in
+    let cs : List Made = count_part P shape c l.outcome in
+    let next : Count = after_look shape c l.outcome in
+    let numbers : next.number + (st.1 + index) ≡ c.number + (number + index) = omega (arith, st.3, after_counts c.number l.outcome) in
+    let r : WordTime shape looks behind next j item (st.0 + put.scan + 2 * (index * width_of shape)) =
+    word_time shape next looks behind j st.0 st.1 index put item st.4 e (ap (λ k. k % capacity_of shape) numbers ∙ f) in
+    let here : List ℕ = items_here shape j c.number l.outcome in
     let word : List Made = word_write (width_of shape) j item in
     record {
       front = us ++ (ws ++ (cs ++ r.front));
@@ -255,13 +398,13 @@ word_time shape n (l ∷ looks) behind j start number put item (inr st) e f =
       place_is = omega (arith, r.place_is, st.2, length-append us (ws ++ (cs ++ r.front)), length-append ws (cs ++ r.front), length-append cs r.front);
       written = omega (
         arith,
-        ap length (look_to_cell shape j n l r.front),
+        ap length (look_to_cell shape j c l r.front),
         length-append (word_writes (width_of shape) here) (to_cell j r.front),
         length-word_writes (width_of shape) here,
         r.written,
         add-mul (length here) r.nth (width_of shape),
       );
-      listed = slice_get-past here (cell_items shape j m looks) r.nth ∙ r.listed;
+      listed = slice_get-past here (cell_items shape j next.number looks) r.nth ∙ r.listed;
     }
 
 -- the write of digit d of the word, behind so many writes to the cell
@@ -312,21 +455,22 @@ digit_time width all front back j item place count d is place_is written l =
 
 -- ---- words of both sides
 
-length-part : (s : Side) (shape : Shape) (n item : ℕ) (o : Outcome) → o ≡ Passes item → length (word_part s shape n o) ≡ width_of shape
-length-part P shape n item (Passes other) e = length-word_write (width_of shape) (n % capacity_of shape) other
-length-part C shape n item (Passes other) e = length-word_read (width_of shape) (n % capacity_of shape) other
-length-part s shape n item Stops e = absurd (cc)
-length-part s shape n item (Asks answer) e = absurd (cc)
+length-part : (s : Side) (shape : Shape) (n : ℕ) (o : Outcome) → 1 ≤ counts o → length (word_part s shape n o) ≡ counts o * width_of shape
+length-part P shape n (Passes items) e = length-words shape n items
+length-part C shape n (Passes items) e = length-words_read shape n items
+length-part s shape n Stops e = absurd (omega (arith, e))
+length-part s shape n (Asks answer) e = absurd (omega (arith, e))
 
--- a span that passes has two events for each digit of its word
+-- a span that counts items has two events for each digit of their words
 pub word_events :
-    (s : Side) (shape : Shape) (n : ℕ) (looks : List Look) (start number : ℕ) (x : Span) (item : ℕ) →
-    Stands (spans s shape n looks) start number x → x.outcome ≡ Passes item → x.word ≡ 2 * width_of shape
-word_events s shape n [] start number x item st e = elim st [ ]
-word_events s shape n (l ∷ looks) start number x item (inl st) e =
-    let passes : l.outcome ≡ Passes item = sym (ap (λ (y : Span). y.outcome) st.2) ∙ e in
-    omega (arith, ap (λ (y : Span). y.word) st.2, length-part s shape n item l.outcome passes)
-word_events s shape n (l ∷ looks) start number x item (inr st) e = word_events s shape (after_look n l.outcome) looks st.0 st.1 x item st.4 e
+    (s : Side) (shape : Shape) (c : Count) (looks : List Look) (start number : ℕ) (x : Span) →
+    Stands (spans s shape c looks) start number x → 1 ≤ counts x.outcome → x.word ≡ 2 * (counts x.outcome * width_of shape)
+word_events s shape c [] start number x st e = elim st [ ]
+word_events s shape c (l ∷ looks) start number x (inl st) e =
+    let some : 1 ≤ counts l.outcome = omega (arith, e, ap (λ (y : Span). counts y.outcome) st.2) in
+    let size : counts x.outcome * width_of shape ≡ counts l.outcome * width_of shape = ap (λ (y : Span). counts y.outcome * width_of shape) st.2 in
+    omega (arith, ap (λ (y : Span). y.word) st.2, length-part s shape c.number l.outcome some, size)
+word_events s shape c (l ∷ looks) start number x (inr st) e = word_events s shape (after_look shape c l.outcome) looks st.0 st.1 x st.4 e
 
 -- the accesses before the word of a take
 pub record ReadTime (shape : Shape) (all : List Made) (j item place : ℕ) : Type 0 where
@@ -337,34 +481,35 @@ pub record ReadTime (shape : Shape) (all : List Made) (j item place : ℕ) : Typ
 
 -- each take that takes an item has its word read there
 pub read_time :
-    (shape : Shape) (n : ℕ) (looks : List Look) (behind : List Made) (start number : ℕ) (x : Span) (item : ℕ) →
-    Stands (spans C shape n looks) start number x → x.outcome ≡ Passes item →
-    ReadTime shape (look_accesses C shape n looks behind) ((n + number) % capacity_of shape) item (start + x.scan)
-read_time shape n [] behind start number x item st e = elim st [ ]
-read_time shape n (l ∷ looks) behind start number x item (inl st) e =
+    (shape : Shape) (c : Count) (looks : List Look) (behind : List Made) (start number : ℕ) (x : Span) (item : ℕ) →
+    Stands (spans C shape c looks) start number x → x.outcome ≡ Passes (item ∷ []) →
+    ReadTime shape (look_accesses C shape c looks behind) ((c.number + number) % capacity_of shape) item (start + x.scan)
+read_time shape c [] behind start number x item st e = elim st [ ]
+read_time shape c (l ∷ looks) behind start number x item (inl st) e =
     let us : List Made = scan_phrase (row_read_by C) l.seen in
-    let cs : List Made = count_part C shape n l.outcome in
-    let rest : List Made = look_accesses C shape (after_look n l.outcome) looks behind in
-    let passes : l.outcome ≡ Passes item = sym (ap (λ (y : Span). y.outcome) st.2) ∙ e in
-    let same : n ≡ n + number = omega (arith, st.1) in
-    let word : word_part C shape n l.outcome ≡ word_read (width_of shape) ((n + number) % capacity_of shape) item =
-    ap (word_part C shape n) passes ∙ ap (λ k. word_read (width_of shape) (k % capacity_of shape) item) same in
+    let cs : List Made = count_part C shape c l.outcome in
+    let rest : List Made = look_accesses C shape (after_look shape c l.outcome) looks behind in
+    let passes : l.outcome ≡ Passes (item ∷ []) = sym (ap (λ (y : Span). y.outcome) st.2) ∙ e in
+    let same : c.number ≡ c.number + number = omega (arith, st.1) in
+    let word : word_part C shape c.number l.outcome ≡ word_read (width_of shape) ((c.number + number) % capacity_of shape) item =
+    ap (word_part C shape c.number) passes ∙ append-nil (word_read (width_of shape) (c.number % capacity_of shape) item) ∙
+    ap (λ k. word_read (width_of shape) (k % capacity_of shape) item) same in
     record {
       front = us;
       back = cs ++ rest;
       is = ap (λ z. us ++ (z ++ (cs ++ rest))) word;
       place_is = omega (arith, st.0, ap (λ (y : Span). y.scan) st.2);
     }
-read_time shape n (l ∷ looks) behind start number x item (inr st) e =
+read_time shape c (l ∷ looks) behind start number x item (inr st) e =
     let us : List Made = scan_phrase (row_read_by C) l.seen in
-    let ws : List Made = word_part C shape n l.outcome in
-    let cs : List Made = count_part C shape n l.outcome in
-    let m : ℕ = after_look n l.outcome in
-    let numbers : m + st.1 ≡ n + number = omega (arith, st.3, after_counts n l.outcome) in
-    let rest : List Made = look_accesses C shape m looks behind in
-    let r : ReadTime shape rest ((n + number) % capacity_of shape) item (st.0 + x.scan) =
-    subst (λ k. ReadTime shape rest (k % capacity_of shape) item (st.0 + x.scan)) numbers (read_time shape m looks behind st.0 st.1 x item st.4 e) in
-    let word : List Made = word_read (width_of shape) ((n + number) % capacity_of shape) item in
+    let ws : List Made = word_part C shape c.number l.outcome in
+    let cs : List Made = count_part C shape c l.outcome in
+    let next : Count = after_look shape c l.outcome in
+    let numbers : next.number + st.1 ≡ c.number + number = omega (arith, st.3, after_counts c.number l.outcome) in
+    let rest : List Made = look_accesses C shape next looks behind in
+    let r : ReadTime shape rest ((c.number + number) % capacity_of shape) item (st.0 + x.scan) =
+    subst (λ k. ReadTime shape rest (k % capacity_of shape) item (st.0 + x.scan)) numbers (read_time shape next looks behind st.0 st.1 x item st.4 e) in
+    let word : List Made = word_read (width_of shape) ((c.number + number) % capacity_of shape) item in
     record {
       front = us ++ (ws ++ (cs ++ r.front));
       back = r.back;

@@ -16,8 +16,10 @@ use Rattle.register_core.specs.Word.{digit_writes, word_write, word_writes}
 use Rattle.register_core.specs.WordLaw.{cell_write}
 use Rattle.register_core.specs.ScanState.{scan_phrase, zero_reads, row_read_by}
 use Rattle.register_core.specs.MadeWrites.{made_writes}
-use Rattle.ring_core.specs.Spans.{Outcome, Passes, Stops, Asks, Span, counts, whole, Stands}
-use Rattle.ring_core.specs.Looks.{Look, word_part, count_part, after_look, look_accesses, span_of, spans}
+use Rattle.ring_core.specs.Counts.{Count}
+use Rattle.ring_core.specs.Puts.{words_phrase, AllFit}
+use Rattle.ring_core.specs.Spans.{Outcome, Passes, Stops, Asks, Span, counts, items_of, whole, Stands}
+use Rattle.ring_core.specs.Looks.{Look, word_part, count_part, look_number, after_look, look_accesses, span_of, spans}
 use Rattle.ring_core.proofs.Phrases.{length-digit_writes}
 
 -- the writes to the digits of a cell among accesses of the producer
@@ -126,16 +128,21 @@ to_cell-there j before (Write b w) after d v f =
 
 -- ---- the items stored to a cell
 
--- the item that is stored to the cell after a scan, behind n counts, if any
+-- those of these items that are stored to the cell, where the first is item number n
+abbrev pub stored_to : Shape → ℕ → ℕ → List ℕ → List ℕ
+stored_to shape j n [] = []
+stored_to shape j n (item ∷ items) = cond (nat_eq j (n % capacity_of shape)) (item ∷ []) [] ++ stored_to shape j (suc n) items
+
+-- those that are stored to the cell after a scan, behind n items
 abbrev pub items_here : Shape → ℕ → ℕ → Outcome → List ℕ
-items_here shape j n (Passes item) = cond (nat_eq j (n % capacity_of shape)) (item ∷ []) []
+items_here shape j n (Passes items) = stored_to shape j n items
 items_here shape j n Stops = []
 items_here shape j n (Asks answer) = []
 
 -- the items of the looks that store to the cell, in order
 abbrev pub cell_items : Shape → ℕ → ℕ → List Look → List ℕ
 cell_items shape j n [] = []
-cell_items shape j n (l ∷ looks) = items_here shape j n l.outcome ++ cell_items shape j (after_look n l.outcome) looks
+cell_items shape j n (l ∷ looks) = items_here shape j n l.outcome ++ cell_items shape j (look_number n l.outcome) looks
 
 same_number : (j c : ℕ) → nat_eq j c ≡ true → j ≡ c
 same_number j c e = grind (arith, nat_tests)
@@ -144,7 +151,7 @@ two_numbers : (j c : ℕ) → nat_eq j c ≡ false → j ≡ c → ⊥
 two_numbers j c e f = grind (arith, nat_tests)
 
 -- the writes of what follows a scan are those of the item that it stores
-word_to_cell :
+pub word_to_cell :
     (shape : Shape) (j n item : ℕ) (b : Bool) → nat_eq j (n % capacity_of shape) ≡ b →
     to_cell j (word_write (width_of shape) (n % capacity_of shape) item) ≡ word_writes (width_of shape) (cond b (item ∷ []) [])
 word_to_cell shape j n item true e =
@@ -153,17 +160,6 @@ word_to_cell shape j n item true e =
     ap (λ c. to_cell j (writes_in (Cell c) ws)) same ∙ own_cell j ws ∙ sym (append-nil ws)
 word_to_cell shape j n item false e =
     other_cell j (n % capacity_of shape) (digit_writes item (width_of shape)) (two_numbers j (n % capacity_of shape) e)
-
-part_to_cell : (shape : Shape) (j n : ℕ) (o : Outcome) → to_cell j (word_part P shape n o) ≡ word_writes (width_of shape) (items_here shape j n o)
-part_to_cell shape j n (Passes item) = word_to_cell shape j n item (nat_eq j (n % capacity_of shape)) refl
-part_to_cell shape j n Stops = refl
-part_to_cell shape j n (Asks answer) = refl
-
--- a count write has no write to a cell
-pub no_cells-count : (shape : Shape) (n : ℕ) (o : Outcome) → NoCells (count_part P shape n o)
-no_cells-count shape n (Passes item) = no_cells-row _
-no_cells-count shape n Stops = tt
-no_cells-count shape n (Asks answer) = tt
 
 word_writes-append : (width : ℕ) (xs ys : List ℕ) → word_writes width (xs ++ ys) ≡ word_writes width xs ++ word_writes width ys
 word_writes-append width [] ys = refl
@@ -183,55 +179,84 @@ length-word_writes width (x ∷ xs) =
       suc-mul (length xs) width,
     )
 
+-- so the writes of words are those of the items that are stored to it
+pub words_to_cell :
+    (shape : Shape) (j n : ℕ) (items : List ℕ) → to_cell j (words_phrase shape n items) ≡ word_writes (width_of shape) (stored_to shape j n items)
+words_to_cell shape j n [] = refl
+words_to_cell shape j n (item ∷ items) =
+    let word : List Made = word_write (width_of shape) (n % capacity_of shape) item in
+    let rest : List Made = words_phrase shape (suc n) items in
+    let here : List ℕ = cond (nat_eq j (n % capacity_of shape)) (item ∷ []) [] in
+    to_cell-append j word rest ∙
+    ap (λ z. z ++ to_cell j rest) (word_to_cell shape j n item (nat_eq j (n % capacity_of shape)) refl) ∙
+    ap (λ z. word_writes (width_of shape) here ++ z) (words_to_cell shape j (suc n) items) ∙
+    sym (word_writes-append (width_of shape) here (stored_to shape j (suc n) items))
+
+part_to_cell : (shape : Shape) (j n : ℕ) (o : Outcome) → to_cell j (word_part P shape n o) ≡ word_writes (width_of shape) (items_here shape j n o)
+part_to_cell shape j n (Passes items) = words_to_cell shape j n items
+part_to_cell shape j n Stops = refl
+part_to_cell shape j n (Asks answer) = refl
+
+-- a count write has no write to a cell
+pub no_cells-count : (shape : Shape) (c : Count) (o : Outcome) → NoCells (count_part P shape c o)
+no_cells-count shape c (Passes items) = no_cells-row _
+no_cells-count shape c Stops = tt
+no_cells-count shape c (Asks answer) = tt
+
 -- the writes of a look and of what follows it
 pub look_to_cell :
-    (shape : Shape) (j n : ℕ) (l : Look) (rest : List Made) →
-    to_cell j (scan_phrase (row_read_by P) l.seen ++ (word_part P shape n l.outcome ++ (count_part P shape n l.outcome ++ rest))) ≡
-    word_writes (width_of shape) (items_here shape j n l.outcome) ++ to_cell j rest
-look_to_cell shape j n l rest =
+    (shape : Shape) (j : ℕ) (c : Count) (l : Look) (rest : List Made) →
+    to_cell j (scan_phrase (row_read_by P) l.seen ++ (word_part P shape c.number l.outcome ++ (count_part P shape c l.outcome ++ rest))) ≡
+    word_writes (width_of shape) (items_here shape j c.number l.outcome) ++ to_cell j rest
+look_to_cell shape j c l rest =
     let a : List Made = scan_phrase (row_read_by P) l.seen in
-    let b : List Made = word_part P shape n l.outcome in
-    let d : List Made = count_part P shape n l.outcome in
+    let b : List Made = word_part P shape c.number l.outcome in
+    let d : List Made = count_part P shape c l.outcome in
     to_cell-append j a (b ++ (d ++ rest)) ∙ ap (λ z. z ++ to_cell j (b ++ (d ++ rest))) (none_to_cell j a (no_cells-scan l.seen)) ∙
-    to_cell-append j b (d ++ rest) ∙ ap (λ z. z ++ to_cell j (d ++ rest)) (part_to_cell shape j n l.outcome) ∙
-    ap (λ z. word_writes (width_of shape) (items_here shape j n l.outcome) ++ z)
-    (to_cell-append j d rest ∙ ap (λ z. z ++ to_cell j rest) (none_to_cell j d (no_cells-count shape n l.outcome)))
+    to_cell-append j b (d ++ rest) ∙ ap (λ z. z ++ to_cell j (d ++ rest)) (part_to_cell shape j c.number l.outcome) ∙
+    ap (λ z. word_writes (width_of shape) (items_here shape j c.number l.outcome) ++ z)
+    (to_cell-append j d rest ∙ ap (λ z. z ++ to_cell j rest) (none_to_cell j d (no_cells-count shape c l.outcome)))
 
 -- the writes of looks are those of their items' words
 pub looks_to_cell :
-    (shape : Shape) (j n : ℕ) (looks : List Look) (behind : List Made) → to_cell j behind ≡ [] →
-    to_cell j (look_accesses P shape n looks behind) ≡ word_writes (width_of shape) (cell_items shape j n looks)
-looks_to_cell shape j n [] behind none = none
-looks_to_cell shape j n (l ∷ looks) behind none =
-    let m : ℕ = after_look n l.outcome in
-    look_to_cell shape j n l (look_accesses P shape m looks behind) ∙
-    ap (λ z. word_writes (width_of shape) (items_here shape j n l.outcome) ++ z) (looks_to_cell shape j m looks behind none) ∙
-    sym (word_writes-append (width_of shape) (items_here shape j n l.outcome) (cell_items shape j m looks))
+    (shape : Shape) (j : ℕ) (c : Count) (looks : List Look) (behind : List Made) → to_cell j behind ≡ [] →
+    to_cell j (look_accesses P shape c looks behind) ≡ word_writes (width_of shape) (cell_items shape j c.number looks)
+looks_to_cell shape j c [] behind none = none
+looks_to_cell shape j c (l ∷ looks) behind none =
+    let next : Count = after_look shape c l.outcome in
+    look_to_cell shape j c l (look_accesses P shape next looks behind) ∙
+    ap (λ z. word_writes (width_of shape) (items_here shape j c.number l.outcome) ++ z) (looks_to_cell shape j next looks behind none) ∙
+    sym (word_writes-append (width_of shape) (items_here shape j c.number l.outcome) (cell_items shape j next.number looks))
 
 -- each item of these spans fits
 abbrev pub ItemsFit : Shape → List Span → Type 0
-ItemsFit shape xs = (start number : ℕ) (x : Span) (item : ℕ) → Stands xs start number x → x.outcome ≡ Passes item → item < 2 ^ width_of shape
+ItemsFit shape xs = (start number : ℕ) (x : Span) → Stands xs start number x → AllFit shape (items_of x.outcome)
 
-here_fits :
-    (shape : Shape) (j n : ℕ) (o : Outcome) → ((item : ℕ) → o ≡ Passes item → item < 2 ^ width_of shape) →
-    All (λ v. v < 2 ^ width_of shape) (items_here shape j n o)
-here_fits shape j n (Passes item) fits = by_cell (nat_eq j (n % capacity_of shape))
+stored_fit : (shape : Shape) (j n : ℕ) (items : List ℕ) → AllFit shape items → All (λ v. v < 2 ^ width_of shape) (stored_to shape j n items)
+stored_fit shape j n [] fit = All-nil _
+stored_fit shape j n (item ∷ items) fit =
+    All-append (λ v. v < 2 ^ width_of shape) (cond (nat_eq j (n % capacity_of shape)) (item ∷ []) []) (stored_to shape j (suc n) items)
+    (by_cell (nat_eq j (n % capacity_of shape))) (stored_fit shape j (suc n) items fit.1)
   where
     by_cell : (b : Bool) → All (λ v. v < 2 ^ width_of shape) (cond b (item ∷ []) [])
-    by_cell true zero d l = fits item refl
+    by_cell true zero d l = fit.0
     by_cell true (suc k) d l = absurd (omega arith)
     by_cell false k d l = absurd (omega arith)
-here_fits shape j n Stops fits = All-nil _
-here_fits shape j n (Asks answer) fits = All-nil _
+
+here_fits : (shape : Shape) (j n : ℕ) (o : Outcome) → AllFit shape (items_of o) → All (λ v. v < 2 ^ width_of shape) (items_here shape j n o)
+here_fits shape j n (Passes items) fit = stored_fit shape j n items fit
+here_fits shape j n Stops fit = All-nil _
+here_fits shape j n (Asks answer) fit = All-nil _
 
 -- so those stored to a cell do
 pub cell_items_fit :
-    (shape : Shape) (j n : ℕ) (looks : List Look) → ItemsFit shape (spans P shape n looks) → All (λ v. v < 2 ^ width_of shape) (cell_items shape j n looks)
-cell_items_fit shape j n [] fits = All-nil _
-cell_items_fit shape j n (l ∷ looks) fits =
-    let m : ℕ = after_look n l.outcome in
-    let first : Span = span_of P shape n l in
-    All-append (λ v. v < 2 ^ width_of shape) (items_here shape j n l.outcome) (cell_items shape j m looks)
-    (here_fits shape j n l.outcome (λ item e. fits 0 0 first item (inl (refl, refl, refl)) e))
-    (cell_items_fit shape j m looks (λ start number x item st e.
-    fits (whole first + start) (counts l.outcome + number) x item (inr (start, number, refl, refl, st)) e))
+    (shape : Shape) (j : ℕ) (c : Count) (looks : List Look) → ItemsFit shape (spans P shape c looks) →
+    All (λ v. v < 2 ^ width_of shape) (cell_items shape j c.number looks)
+cell_items_fit shape j c [] fits = All-nil _
+cell_items_fit shape j c (l ∷ looks) fits =
+    let next : Count = after_look shape c l.outcome in
+    let first : Span = span_of P shape c l in
+    All-append (λ v. v < 2 ^ width_of shape) (items_here shape j c.number l.outcome) (cell_items shape j next.number looks)
+    (here_fits shape j c.number l.outcome (fits 0 0 first (inl (refl, refl, refl))))
+    (cell_items_fit shape j next looks (λ start number x st.
+    fits (whole first + start) (counts l.outcome + number) x (inr (start, number, refl, refl, st))))

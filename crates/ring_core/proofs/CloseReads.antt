@@ -16,8 +16,8 @@ use Rattle.bits_core.specs.Made.{Made, Read, Write, access_of, events_of, own, c
 use Rattle.register_core.specs.Row.{RowWrite, row_bit, writes_in}
 use Rattle.register_core.specs.Word.{word_write, digit_writes}
 use Rattle.register_core.specs.ScanState.{scan_phrase, zero_reads, row_read_by}
-use Rattle.ring_core.specs.Counts.{count_phrase}
-use Rattle.ring_core.specs.Puts.{Put, Stored, Full, stored_after, put_phrase, put_phrases, close_phrase}
+use Rattle.ring_core.specs.Counts.{Count, first_count, batch_phrase}
+use Rattle.ring_core.specs.Puts.{Put, Stored, Full, stored_after, words_phrase, put_phrase, put_phrases, close_phrase}
 use Rattle.ring_core.proofs.Following.{length-events}
 use Rattle.ring_core.proofs.Cuts.{at_most_or_above}
 use Rattle.ring_core.proofs.Gates.{Clock, clock_up, clock_p, clock_c}
@@ -57,18 +57,24 @@ no_close-row : (writes : List RowWrite) → NoClose (writes_in (row_bit P) write
 no_close-row [] = no_close-nil
 no_close-row (w ∷ writes) = no_close-first (Write (S w.bit) w.value) (writes_in (row_bit P) writes) (λ v f. absurd (cc)) (no_close-row writes)
 
-no_close-put : (shape : Shape) (n : ℕ) (x : Put) → NoClose (put_phrase shape n x)
-no_close-put shape n (Stored seen item) =
-    let scan : List Made = scan_phrase (row_read_by P) seen in
-    let word : List Made = word_write (width_of shape) (n % capacity_of shape) item in
-    no_close-append (scan ++ word) (count_phrase shape P n)
-    (no_close-append scan word (no_close-scan P seen) (no_close-cell (n % capacity_of shape) (digit_writes item (width_of shape)))) (no_close-row _)
-no_close-put shape n (Full seen) = no_close-scan P seen
+no_close-words : (shape : Shape) (n : ℕ) (items : List ℕ) → NoClose (words_phrase shape n items)
+no_close-words shape n [] = no_close-nil
+no_close-words shape n (item ∷ items) =
+    no_close-append (word_write (width_of shape) (n % capacity_of shape) item) (words_phrase shape (suc n) items)
+    (no_close-cell (n % capacity_of shape) (digit_writes item (width_of shape))) (no_close-words shape (suc n) items)
 
-no_close-puts : (shape : Shape) (n : ℕ) (puts : List Put) → NoClose (put_phrases shape n puts)
-no_close-puts shape n [] = no_close-nil
-no_close-puts shape n (x ∷ puts) =
-    no_close-append (put_phrase shape n x) (put_phrases shape (stored_after n x) puts) (no_close-put shape n x) (no_close-puts shape (stored_after n x) puts)
+no_close-put : (shape : Shape) (c : Count) (x : Put) → NoClose (put_phrase shape c x)
+no_close-put shape c (Stored seen items) =
+    let scan : List Made = scan_phrase (row_read_by P) seen in
+    let words : List Made = words_phrase shape c.number items in
+    no_close-append (scan ++ words) (batch_phrase shape P c items)
+    (no_close-append scan words (no_close-scan P seen) (no_close-words shape c.number items)) (no_close-row _)
+no_close-put shape c (Full seen) = no_close-scan P seen
+
+no_close-puts : (shape : Shape) (c : Count) (puts : List Put) → NoClose (put_phrases shape c puts)
+no_close-puts shape c [] = no_close-nil
+no_close-puts shape c (x ∷ puts) =
+    no_close-append (put_phrase shape c x) (put_phrases shape (stored_after shape c x) puts) (no_close-put shape c x) (no_close-puts shape (stored_after shape c x) puts)
 
 -- behind a list without one, the only access may be the write
 only_close : (xs : List Made) → NoClose xs → (closes : Bool) (n : ℕ) (x : Made) (v : Bool) → slice_get (xs ++ close_phrase closes) n ≡ Some x → access_of x ≡ begins.Write X v → (n ≡ length xs) × (v ≡ true) × (closes ≡ true)
@@ -95,9 +101,9 @@ pub record OwnFacts : Type 0 where
   pub accesses : AccessIsMade
 
 module _ (facts : OwnFacts) (shape : Shape) (h : List Event) (lawful : IsLawful shape h) (puts : List Put) (closes : Bool)
-    (follows : IsBeginning (own P h) (events_of P (put_phrases shape 0 puts ++ close_phrase closes))) where
+    (follows : IsBeginning (own P h) (events_of P (put_phrases shape first_count puts ++ close_phrase closes))) where
   abbrev front : List Made
-  front = put_phrases shape 0 puts
+  front = put_phrases shape first_count puts
 
   abbrev all : List Made
   all = front ++ close_phrase closes
@@ -112,7 +118,7 @@ module _ (facts : OwnFacts) (shape : Shape) (h : List Event) (lawful : IsLawful 
   close_is : (v : Bool) (start stop : ℕ) → IsWrite h X v start stop → (v ≡ true) × IsPlaceOf P h (2 * length front) start
   close_is v start stop w =
       let (n, x, x_at, x_is, place) = facts.accesses P h all follows (begins.Write X v) start stop w in
-      let (at_end, is_true, closed) = only_close front (no_close-puts shape 0 puts) closes n x v x_at x_is in
+      let (at_end, is_true, closed) = only_close front (no_close-puts shape first_count puts) closes n x v x_at x_is in
       (is_true, subst (λ k. IsPlaceOf P h (2 * k) start) at_end place.start_is)
 
   -- a write that has begun by a place is counted there

@@ -7,6 +7,7 @@ use Rattle.bits_core.specs.declared.events.Side.TheVariants.{P, C}
 use Rattle.bits_core.specs.declared.events.Event.{Event}
 use Rattle.bits_core.specs.Bits.{is_by}
 use Rattle.bits_core.specs.Made.{own, clock, IsBeginning}
+use Rattle.ring_core.specs.Counts.{first_count}
 use Rattle.ring_core.specs.Puts.{FollowsPuts}
 use Rattle.ring_core.specs.Takes.{FollowsTakes}
 use Rattle.ring_core.specs.Items.{items_put, items_taken, items_put_in, IsTold, ItemsAreRead, TakenAreRead}
@@ -38,6 +39,6 @@ closed-stays holds puts_read takes_read shape h h' puts puts' takes takes' run r
     let end = law.closed at (length h') told' longer in
     let end_p : clock P h' (length h') ≡ length (own P h') = ap (λ l. length (own P l)) (take-length h') in
     let end_c : clock C h' (length h') ≡ length (own C h') = ap (λ l. length (own C l)) (take-length h') in (
-      ap (items_put shape 0 puts'.puts) (sym end_p) ∙ end.0 ∙ sym here.0 ∙ ap (items_put shape 0 puts'.puts) (clock_there P h h' begins) ∙ sym put_same,
+      ap (items_put shape first_count puts'.puts) (sym end_p) ∙ end.0 ∙ sym here.0 ∙ ap (items_put shape first_count puts'.puts) (clock_there P h h' begins) ∙ sym put_same,
       ap (items_taken shape 0 takes'.takes) (sym end_c) ∙ end.1 ∙ sym here.1 ∙ ap (items_taken shape 0 takes'.takes) (clock_there C h h' begins) ∙ sym taken_same,
     )

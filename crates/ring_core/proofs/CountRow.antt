@@ -7,11 +7,12 @@ use Rattle.std.proofs.lemmas.Nat.{mod_below}
 use Rattle.std.proofs.Math.Nat.{suc-mod, mod_self, mod-eq_of_lt, zero-mod}
 use Rattle.bits_core.specs.declared.events.Side.{Side}
 use Rattle.bits_core.specs.declared.shapes.Shape.{Shape}
-use Rattle.bits_core.specs.Shape.{modulus_of}
+use Rattle.bits_core.specs.Shape.{batch_of, capacity_of, modulus_of}
 use Rattle.bits_core.specs.Made.{Write}
 use Rattle.register_core.specs.Row.{RowWrite, row_bit, first_bits, bits_with, bits_after}
 use Rattle.register_core.specs.Unary.{clearing, setting, unary_phrase, unary_writes, row_writes, writes_of}
-use Rattle.ring_core.specs.Counts.{bits_held, counted, count_phrase}
+use Rattle.ring_core.specs.Counts.{bits_held, counted, count_phrase, past, Count, first_count, count_bits, batch_phrase, counted_on, IsCount}
+use Rattle.ring_core.proofs.Distances.{apart}
 
 -- ---- a unary write over any bits
 
@@ -144,7 +145,7 @@ length_phrase bits v = length-append (setting bits v) (clearing bits v)
 
 -- a modulus is above 1
 some_modulus : (shape : Shape) → 1 < modulus_of shape
-some_modulus shape = omega (arith, shape.room_to_count)
+some_modulus shape = omega (arith, shape.room_to_count, shape.has_batch)
 
 -- where the number is one more, the one bit that is set is cleared
 next_clears :
@@ -257,3 +258,112 @@ count_short shape s n = omega (arith, length_count shape s n, next_short shape n
 -- a count write has at least one access
 pub count_long : (shape : Shape) (s : Side) (n : ℕ) → 1 ≤ length (count_phrase shape s n)
 count_long shape s n = omega (arith, length_count shape s n, next_long shape n)
+
+-- ---- a count whose writes count several items
+
+-- behind m items more the number is m more
+pub past_is : (n : ℕ) (items : List ℕ) → past n items ≡ n + length items
+past_is n [] = omega arith
+past_is n (item ∷ items) = omega (arith, past_is (suc n) items)
+
+-- a new count is one
+pub first_is_count : (shape : Shape) → IsCount shape first_count
+first_is_count shape = record { set = held_sets shape 0; clear = held_clears shape 0 }
+
+-- and so is one after a write
+pub counted_is_count : (shape : Shape) (c : Count) (items : List ℕ) → IsCount shape (counted_on shape c items)
+counted_is_count shape c items =
+    record { set = phrase_sets c.bits (past c.number items % modulus_of shape); clear = phrase_clears c.bits (past c.number items % modulus_of shape) }
+
+-- where a bit below the place is set, some are cleared
+clearing_some : (bits : ℕ → Bool) (v j : ℕ) → bits v ≡ true → v < j → 1 ≤ length (clearing bits j)
+clearing_some bits v zero set l = absurd (omega (arith, l))
+clearing_some bits v (suc j) set l = elim (at_or_below v j l) [
+  | inl e ↦ (
+      let here : bits j ≡ true = ap bits (sym e) ∙ set in
+      let is : clearing bits (suc j) ≡ set_to_0 j ∷ clearing bits j = ap (λ b. cond b (set_to_0 j ∷ clearing bits j) (clearing bits j)) here in
+      omega (arith, ap length is))
+  | inr below ↦ longer (bits j) (clearing_some bits v j set below)
+]
+  where
+    longer : (b : Bool) → 1 ≤ length (clearing bits j) → 1 ≤ length (cond b (set_to_0 j ∷ clearing bits j) (clearing bits j))
+    longer true h = omega arith
+    longer false h = h
+
+-- a batch is smaller than the modulus
+pub batch_fits : (shape : Shape) → suc (capacity_of shape + batch_of shape) ≤ modulus_of shape
+batch_fits shape = omega (arith, shape.room_to_count)
+
+pub has_batch : (shape : Shape) → 1 ≤ batch_of shape
+has_batch shape = omega (arith, shape.has_batch)
+
+-- a write that counts some items has a bit write
+pub bits_long :
+    (shape : Shape) (c : Count) (items : List ℕ) → IsCount shape c → 1 ≤ length items → length items ≤ batch_of shape → 1 ≤ length (count_bits shape c items)
+bits_long shape c items is some few =
+    let v : ℕ = c.number % modulus_of shape in
+    let v' : ℕ = past c.number items % modulus_of shape in
+    let whole : length (unary_phrase c.bits v') ≡ length (setting c.bits v') + length (clearing c.bits v') = length_phrase c.bits v' in
+    let other : v' ≡ v → ⊥ =
+    apart (modulus_of shape) c.number (past c.number items) (omega (arith, past_is c.number items, some))
+    (omega (arith, past_is c.number items, few, batch_fits shape)) in
+    elim (cases_lt v v') [
+      | inl l ↦ omega (arith, whole, clearing_some c.bits v v' is.set l)
+      | inr l ↦ elim (cases_lt v' v) [
+        | inl m ↦ (
+            let sets : length (setting c.bits v') ≡ 1 = ap (λ b. length (cond b [] (set_to_1 v' ∷ []))) (is.clear v' m) in
+            omega (arith, whole, sets))
+        | inr m ↦ absurd (other (omega (arith, l, m)))
+      ]
+    ]
+
+-- and an access
+pub batch_long :
+    (shape : Shape) (s : Side) (c : Count) (items : List ℕ) → IsCount shape c → 1 ≤ length items → length items ≤ batch_of shape →
+    1 ≤ length (batch_phrase shape s c items)
+batch_long shape s c items is some few =
+    omega (arith, length-map (count_bits shape c items) (λ w. Write (row_bit s w.bit) w.value), bits_long shape c items is some few)
+
+-- a write that counts one item has at most two bit writes
+step_bits_short : (shape : Shape) (c : Count) (item : ℕ) → IsCount shape c → length (count_bits shape c (item ∷ [])) ≤ 2
+step_bits_short shape c item is = short (next_modulo c.number (modulus_of shape) (omega (arith, some_modulus shape)))
+  where
+    short :
+        (suc c.number % modulus_of shape ≡ suc (c.number % modulus_of shape)) ⊎
+        ((suc c.number % modulus_of shape ≡ 0) × (suc (c.number % modulus_of shape) ≡ modulus_of shape)) →
+        length (count_bits shape c (item ∷ [])) ≤ 2
+    short (inl more) =
+        let v : ℕ = suc c.number % modulus_of shape in
+        let zeros : length (clearing c.bits v) ≡ 1 =
+        ap (λ v. length (clearing c.bits v)) more ∙ ap length (clearing_one c.bits (c.number % modulus_of shape) is.set is.clear) in
+        omega (arith, length_phrase c.bits v, setting_short v (c.bits v), zeros)
+    short (inr (last, top)) =
+        let v : ℕ = suc c.number % modulus_of shape in
+        let zeros : length (clearing c.bits v) ≡ 0 = ap (λ v. length (clearing c.bits v)) last in
+        omega (arith, length_phrase c.bits v, setting_short v (c.bits v), zeros)
+
+clearing_short : (bits : ℕ → Bool) (v : ℕ) → length (clearing bits v) ≤ v
+clearing_short bits zero = omega arith
+clearing_short bits (suc v) = go (bits v) (clearing_short bits v)
+  where
+    go : (b : Bool) → length (clearing bits v) ≤ v → length (cond b (set_to_0 v ∷ clearing bits v) (clearing bits v)) ≤ suc v
+    go true l = omega (arith, l)
+    go false l = omega (arith, l)
+
+-- and so many accesses
+pub step_short : (shape : Shape) (s : Side) (c : Count) (item : ℕ) → IsCount shape c → length (batch_phrase shape s c (item ∷ [])) ≤ 2
+step_short shape s c item is =
+    omega (arith, length-map (count_bits shape c (item ∷ [])) (λ w. Write (row_bit s w.bit) w.value), step_bits_short shape c item is)
+
+-- a write that counts several has no more than the modulus
+pub batch_short : (shape : Shape) (s : Side) (c : Count) (items : List ℕ) → length (batch_phrase shape s c items) ≤ modulus_of shape
+batch_short shape s c items =
+    let v : ℕ = past c.number items % modulus_of shape in
+    omega (
+      arith,
+      length-map (count_bits shape c items) (λ w. Write (row_bit s w.bit) w.value),
+      length_phrase c.bits v,
+      setting_short v (c.bits v),
+      clearing_short c.bits v,
+      mod_below (past c.number items) (modulus_of shape) (omega (arith, some_modulus shape)),
+    )

@@ -1,5 +1,5 @@
 -- How many count writes of a side have begun and ended after so many of its events, by its accesses and by its spans.
-use Rattle.std.proofs.Common.{◌≡◌, inl, inr, ℕ, zero, suc, ◌+◌, ◌-◌, ◌*◌, ◌%◌, ◌<◌, ◌≤◌, Bool, true, false, cond, nat_lt, nat_le, if◌then◌else◌, Option, Some, None, List, [], ◌∷◌, ◌++◌, length, take, refl, sym, ap, ap₂, ◌∙◌, arith, append_assoc, append-nil}
+use Rattle.std.proofs.Common.{◌≡◌, inl, inr, ℕ, zero, suc, ◌+◌, ◌-◌, ◌*◌, ◌%◌, ◌<◌, ◌≤◌, Bool, true, false, cond, nat_lt, nat_le, if◌then◌else◌, Option, Some, None, List, [], ◌∷◌, ◌++◌, length, take, refl, sym, ap, ap₂, ◌∙◌, arith}
 use Rattle.std.specs.List.{cons_option}
 use Rattle.std.proofs.lemmas.Bool.Decides.{nat_tests}
 use Rattle.std.proofs.lemmas.List.{length-map}
@@ -12,7 +12,7 @@ use Rattle.bits_core.specs.declared.events.Bit.{Bit}
 use Rattle.bits_core.specs.declared.events.Bit.TheVariants.{X, Cell}
 use Rattle.bits_core.specs.declared.events.Event.{Event}
 use Rattle.bits_core.specs.declared.shapes.Shape.{Shape}
-use Rattle.bits_core.specs.Shape.{capacity_of, modulus_of, width_of}
+use Rattle.bits_core.specs.Shape.{batch_of, capacity_of, modulus_of, width_of}
 use Rattle.bits_core.specs.Made.{Made, Read, Write, begin_event, end_event, events_of}
 use Rattle.register_core.specs.Row.{RowWrite, row_bit, row_write, writes_in}
 use Rattle.register_core.specs.Unary.{unary_phrase, UnaryWrite, unary_writes, row_writes, writes_of, has_write, numbered, numbered_of, numbered_value}
@@ -20,15 +20,15 @@ use Rattle.register_core.specs.Unary as unary
 use Rattle.register_core.specs.UnaryLaw.{number_in_count, count_write, count_begun}
 use Rattle.register_core.specs.Word.{digit, digit_writes, digit_reads}
 use Rattle.register_core.specs.ScanState.{zero_reads, scan_phrase, row_read_by}
-use Rattle.ring_core.specs.Counts.{bits_held, counted, count_phrase}
-use Rattle.ring_core.specs.Puts.{close_phrase}
-use Rattle.ring_core.specs.Spans.{Outcome, Passes, Stops, Asks, Span, counts, begun, ended}
-use Rattle.ring_core.specs.Looks.{Look, word_part, count_part, after_look, look_accesses, spans}
+use Rattle.ring_core.specs.Counts.{past, Count, first_count, count_bits, batch_phrase, IsCount}
+use Rattle.ring_core.specs.Puts.{words_phrase, close_phrase}
+use Rattle.ring_core.specs.Spans.{Outcome, Passes, Stops, Asks, Span, counts, begun, ended, size_of, sizes, tally}
+use Rattle.ring_core.specs.Looks.{Look, words_read, word_part, count_part, look_number, look_bits, after_look, look_accesses, spans}
 use Rattle.ring_core.proofs.Cuts.{at_most_or_above}
-use Rattle.ring_core.proofs.CountRow.{next_long}
+use Rattle.ring_core.proofs.CountRow.{past_is, first_is_count, bits_long}
 use Rattle.ring_core.proofs.Following.{events_of-append, length-events}
 use Rattle.ring_core.proofs.Timeline.{AllProper, ended_zero}
-use Rattle.ring_core.proofs.Looks.{all_proper}
+use Rattle.ring_core.proofs.Looks.{Passing, AllPassing, look_is_count, all_proper}
 
 -- ---- the bit writes of a count among events
 
@@ -114,9 +114,19 @@ quiet_digits s cell item zero = tt
 quiet_digits s cell item (suc n) =
     quiet-append s (digit_reads cell item n) (Read (Cell cell n) (digit n item) ∷ []) (quiet_digits s cell item n) (quiet_read s (Cell cell n) (digit n item))
 
+quiet_words : (shape : Shape) (n : ℕ) (items : List ℕ) → IsQuiet P (words_phrase shape n items)
+quiet_words shape n [] = tt
+quiet_words shape n (item ∷ items) =
+    quiet-append P _ (words_phrase shape (suc n) items) (quiet_cells (n % capacity_of shape) (digit_writes item (width_of shape))) (quiet_words shape (suc n) items)
+
+quiet_words_read : (shape : Shape) (n : ℕ) (items : List ℕ) → IsQuiet C (words_read shape n items)
+quiet_words_read shape n [] = tt
+quiet_words_read shape n (item ∷ items) =
+    quiet-append C _ (words_read shape (suc n) items) (quiet_digits C (n % capacity_of shape) item (width_of shape)) (quiet_words_read shape (suc n) items)
+
 quiet_word : (s : Side) (shape : Shape) (n : ℕ) (o : Outcome) → IsQuiet s (word_part s shape n o)
-quiet_word P shape n (Passes item) = quiet_cells (n % capacity_of shape) (digit_writes item (width_of shape))
-quiet_word C shape n (Passes item) = quiet_digits C (n % capacity_of shape) item (width_of shape)
+quiet_word P shape n (Passes items) = quiet_words shape n items
+quiet_word C shape n (Passes items) = quiet_words_read shape n items
 quiet_word P shape n Stops = tt
 quiet_word C shape n Stops = tt
 quiet_word P shape n (Asks answer) = quiet_read P X answer
@@ -172,27 +182,36 @@ count_some s (w ∷ ws) (suc (suc i)) =
     let r = count_some s ws i in
     rw (row_begun s w, end_none s (Write (row_bit s w.bit) w.value)) (omega (arith, r.0), λ l. ap suc (r.1 (omega (arith, l))))
 
--- ---- the unary writes of a count from one of them on
+-- ---- the unary writes of looks
 
--- the values of the next k unary writes, after n of them
-abbrev counts_from : Shape → ℕ → ℕ → List ℕ
-counts_from shape n zero = []
-counts_from shape n (suc k) = suc n % modulus_of shape ∷ counts_from shape (suc n) k
+-- the value that a look's count write writes, where there is one, behind n items
+abbrev pub value_of : Shape → ℕ → Outcome → List ℕ
+value_of shape n (Passes items) = past n items % modulus_of shape ∷ []
+value_of shape n Stops = []
+value_of shape n (Asks answer) = []
 
-abbrev writes_from : Shape → ℕ → ℕ → List UnaryWrite
-writes_from shape n k = unary_writes (bits_held shape n) (counts_from shape n k)
+abbrev pub values_from : Shape → ℕ → List Look → List ℕ
+values_from shape n [] = []
+values_from shape n (l ∷ looks) = value_of shape n l.outcome ++ values_from shape (look_number n l.outcome) looks
 
--- the values up to one of them, and those from there on
-counted_from : (shape : Shape) (n k m : ℕ) → n + k ≡ m → counted shape n ++ counts_from shape n k ≡ counted shape m
-counted_from shape n zero m e =
-    let same : n ≡ m = omega (arith, e) in
-    append-nil (counted shape n) ∙ ap (counted shape) same
-counted_from shape n (suc k) m e =
-    sym (append_assoc (counted shape n) (suc n % modulus_of shape ∷ []) (counts_from shape (suc n) k)) ∙ counted_from shape (suc n) k m (omega (arith, e))
+-- how many items each of these count writes counts
+abbrev pub sizes_in : List Look → List ℕ
+sizes_in [] = []
+sizes_in (l ∷ looks) = size_of l.outcome ++ sizes_in looks
 
--- all values
-counted_is : (shape : Shape) (k : ℕ) → counted shape k ≡ counts_from shape 0 k
-counted_is shape k = sym (counted_from shape 0 k k (omega arith))
+pub sizes_are : (s : Side) (shape : Shape) (c : Count) (looks : List Look) → sizes (spans s shape c looks) ≡ sizes_in looks
+sizes_are s shape c [] = refl
+sizes_are s shape c (l ∷ looks) = ap (λ ms. size_of l.outcome ++ ms) (sizes_are s shape (after_look shape c l.outcome) looks)
+
+-- more writes count no fewer items
+pub tally_up : (ms : List ℕ) (u v : ℕ) → u ≤ v → tally ms u ≤ tally ms v
+tally_up [] u v l = omega arith
+tally_up (m ∷ ms) zero v l = omega arith
+tally_up (m ∷ ms) (suc u) zero l = absurd (omega (arith, l))
+tally_up (m ∷ ms) (suc u) (suc v) l = omega (arith, tally_up ms u v (omega (arith, l)))
+
+abbrev writes_from : Shape → Count → List Look → List UnaryWrite
+writes_from shape c looks = unary_writes c.bits (values_from shape c.number looks)
 
 -- a unary write with a bit write is numbered
 kept : (u : UnaryWrite) (ws : List RowWrite) (us : List UnaryWrite) → u.writes ≡ ws → 1 ≤ length ws → numbered (u ∷ us) ≡ u ∷ numbered us
@@ -200,62 +219,81 @@ kept u [] us e l = absurd (omega (arith, l))
 kept u (w ∷ ws) us e l = ap (λ v. if has_write v then u ∷ numbered us else numbered us) e
 
 -- so all are
-all_numbered : (shape : Shape) (n k : ℕ) → numbered (writes_from shape n k) ≡ writes_from shape n k
-all_numbered shape n zero = refl
-all_numbered shape n (suc k) =
-    let ws : List RowWrite = unary_phrase (bits_held shape n) (suc n % modulus_of shape) in
-    let u : UnaryWrite = record { value = suc n % modulus_of shape; writes = ws } in
-    kept u ws (writes_from shape (suc n) k) refl (next_long shape n) ∙ ap (λ us. u ∷ us) (all_numbered shape (suc n) k)
+numbered_part :
+    (shape : Shape) (c : Count) (o : Outcome) (vs : List ℕ) → IsCount shape c → Passing (batch_of shape) o →
+    numbered (unary_writes (look_bits shape c o) vs) ≡ unary_writes (look_bits shape c o) vs →
+    numbered (unary_writes c.bits (value_of shape c.number o ++ vs)) ≡ unary_writes c.bits (value_of shape c.number o ++ vs)
+numbered_part shape c (Passes items) vs is (some, few) e =
+    let ws : List RowWrite = count_bits shape c items in
+    let u : UnaryWrite = record { value = past c.number items % modulus_of shape; writes = ws } in
+    let us : List UnaryWrite = unary_writes (look_bits shape c (Passes items)) vs in
+    kept u ws us refl (bits_long shape c items is some few) ∙ ap (λ us. u ∷ us) e
+numbered_part shape c Stops vs is p e = e
+numbered_part shape c (Asks answer) vs is p e = e
 
-numbered_is : (shape : Shape) (k : ℕ) → numbered_of (counted shape k) ≡ writes_from shape 0 k
-numbered_is shape k = ap numbered_of (counted_is shape k) ∙ all_numbered shape 0 k
+all_numbered :
+    (shape : Shape) (c : Count) (looks : List Look) → IsCount shape c → AllPassing (batch_of shape) looks →
+    numbered (writes_from shape c looks) ≡ writes_from shape c looks
+all_numbered shape c [] is p = refl
+all_numbered shape c (l ∷ looks) is p =
+    numbered_part shape c l.outcome (values_from shape (look_number c.number l.outcome) looks) is p.0
+    (all_numbered shape (after_look shape c l.outcome) looks (look_is_count shape c l.outcome is) p.1)
 
-value_from : (shape : Shape) (n k u : ℕ) → u ≤ k → numbered_value (n % modulus_of shape) (writes_from shape n k) u ≡ (n + u) % modulus_of shape
-value_from shape n k zero l = let same : n ≡ n + 0 = omega arith in ap (λ m. m % modulus_of shape) same
-value_from shape n zero (suc u) l = absurd (omega (arith, l))
-value_from shape n (suc k) (suc u) l =
-    let same : suc n + u ≡ n + suc u = omega arith in
-    value_from shape (suc n) k u (omega (arith, l)) ∙ ap (λ m. m % modulus_of shape) same
+-- the values of the unary writes of a program's count
+abbrev pub counted_in : Shape → List Look → List ℕ
+counted_in shape looks = values_from shape 0 looks
 
--- the value of unary write number u is u, modulo the modulus
+numbered_is : (shape : Shape) (looks : List Look) → AllPassing (batch_of shape) looks → numbered_of (counted_in shape looks) ≡ writes_from shape first_count looks
+numbered_is shape looks p = all_numbered shape first_count looks (first_is_count shape) p
+
+-- the value of unary write number u is what the writes up to it count, modulo the modulus
+value_none : (v : ℕ) (u : ℕ) → numbered_value v [] u ≡ v
+value_none v zero = refl
+value_none v (suc u) = refl
+
+value_part :
+    (shape : Shape) (c : Count) (o : Outcome) (ms vs : List ℕ) →
+    ((u : ℕ) → numbered_value (look_number c.number o % modulus_of shape) (unary_writes (look_bits shape c o) vs) u ≡ (look_number c.number o + tally ms u) % modulus_of shape) →
+    (u : ℕ) →
+    numbered_value (c.number % modulus_of shape) (unary_writes c.bits (value_of shape c.number o ++ vs)) u ≡ (c.number + tally (size_of o ++ ms) u) % modulus_of shape
+value_part shape c (Passes items) ms vs rest zero =
+    let same : c.number ≡ c.number + 0 = omega arith in
+    ap (λ k. k % modulus_of shape) same
+value_part shape c (Passes items) ms vs rest (suc u) =
+    let same : past c.number items + tally ms u ≡ c.number + (length items + tally ms u) = omega (arith, past_is c.number items) in
+    rest u ∙ ap (λ k. k % modulus_of shape) same
+value_part shape c Stops ms vs rest u = rest u
+value_part shape c (Asks answer) ms vs rest u = rest u
+
+value_from :
+    (shape : Shape) (c : Count) (looks : List Look) (u : ℕ) →
+    numbered_value (c.number % modulus_of shape) (writes_from shape c looks) u ≡ (c.number + tally (sizes_in looks) u) % modulus_of shape
+value_from shape c [] u =
+    let same : c.number ≡ c.number + 0 = omega arith in
+    value_none (c.number % modulus_of shape) u ∙ ap (λ k. k % modulus_of shape) same
+value_from shape c (l ∷ looks) u =
+    value_part shape c l.outcome (sizes_in looks) (values_from shape (look_number c.number l.outcome) looks)
+    (λ v. value_from shape (after_look shape c l.outcome) looks v) u
+
 pub counted_value :
-    (shape : Shape) (k u : ℕ) → u ≤ k → numbered_value 0 (numbered_of (counted shape k)) u ≡ u % modulus_of shape
-counted_value shape k u l =
-    let same : 0 + u ≡ u = omega arith in
-    ap (λ us. numbered_value 0 us u) (numbered_is shape k) ∙ ap (λ v. numbered_value v (writes_from shape 0 k) u) (sym (zero-mod (modulus_of shape))) ∙
-    value_from shape 0 k u l ∙ ap (λ m. m % modulus_of shape) same
-
-begun_most : (u : UnaryWrite) (us : List UnaryWrite) (t : ℕ) → unary.begun (u ∷ us) t ≤ suc (unary.begun us (t - length u.writes))
-begun_most u us zero = omega arith
-begun_most u us (suc t) = omega arith
-
-begun_from : (shape : Shape) (n k t : ℕ) → unary.begun (writes_from shape n k) t ≤ k
-begun_from shape n zero t = omega arith
-begun_from shape n (suc k) t =
-    let ws : List RowWrite = unary_phrase (bits_held shape n) (suc n % modulus_of shape) in
-    let u : UnaryWrite = record { value = suc n % modulus_of shape; writes = ws } in
-    omega (arith, begun_most u (writes_from shape (suc n) k) t, begun_from shape (suc n) k (t - length ws))
-
--- no more of them begin than there are
-pub counted_begun : (shape : Shape) (k t : ℕ) → unary.begun (numbered_of (counted shape k)) t ≤ k
-counted_begun shape k t = rw (numbered_is shape k) (begun_from shape 0 k t)
+    (shape : Shape) (looks : List Look) (u : ℕ) → AllPassing (batch_of shape) looks →
+    numbered_value 0 (numbered_of (counted_in shape looks)) u ≡ tally (sizes_in looks) u % modulus_of shape
+counted_value shape looks u p =
+    let same : 0 + tally (sizes_in looks) u ≡ tally (sizes_in looks) u = omega arith in
+    ap (λ us. numbered_value 0 us u) (numbered_is shape looks p) ∙ ap (λ v. numbered_value v (writes_from shape first_count looks) u) (sym (zero-mod (modulus_of shape))) ∙
+    value_from shape first_count looks u ∙ ap (λ m. m % modulus_of shape) same
 
 -- ---- the count writes of looks
 
--- how many looks count
-abbrev pub counts_in : List Look → ℕ
-counts_in [] = 0
-counts_in (l ∷ looks) = after_look (counts_in looks) l.outcome
-
 -- the bit writes of a count write and of what follows it
-record CountThen (s : Side) (shape : Shape) (n : ℕ) (after : List Made) (i : ℕ) : Type 0 where
+record CountThen (s : Side) (shape : Shape) (c : Count) (items : List ℕ) (after : List Made) (i : ℕ) : Type 0 where
   tail :
-      bit_writes s (events_of s (count_phrase shape s n ++ after)) i - length (unary_phrase (bits_held shape n) (suc n % modulus_of shape)) ≡
-      bit_writes s (events_of s after) (i - 2 * length (count_phrase shape s n))
+      bit_writes s (events_of s (batch_phrase shape s c items ++ after)) i - length (count_bits shape c items) ≡
+      bit_writes s (events_of s after) (i - 2 * length (batch_phrase shape s c items))
   full :
-      2 * length (count_phrase shape s n) ≤ suc i →
-      length (unary_phrase (bits_held shape n) (suc n % modulus_of shape)) ≤ bit_writes s (events_of s (count_phrase shape s n ++ after)) i
-  size : length (count_phrase shape s n) ≡ length (unary_phrase (bits_held shape n) (suc n % modulus_of shape))
+      2 * length (batch_phrase shape s c items) ≤ suc i →
+      length (count_bits shape c items) ≤ bit_writes s (events_of s (batch_phrase shape s c items ++ after)) i
+  size : length (batch_phrase shape s c items) ≡ length (count_bits shape c items)
 
 -- the rest, once those of the count write are taken off
 tail_is : (t a b n i : ℕ) → t ≡ a + b → a ≤ n → (2 * n ≤ suc i → a ≡ n) → (suc i < 2 * n → b ≡ 0) → t - n ≡ b
@@ -264,10 +302,10 @@ tail_is t a b n i e most all none = elim (at_most_or_above (2 * n) (suc i)) [
   | inr l ↦ omega (arith, e, most, none l)
 ]
 
-count_then : (s : Side) (shape : Shape) (n : ℕ) (after : List Made) (i : ℕ) → CountThen s shape n after i
-count_then s shape n after i =
-    let ws : List RowWrite = unary_phrase (bits_held shape n) (suc n % modulus_of shape) in
-    let d : List Made = count_phrase shape s n in
+count_then : (s : Side) (shape : Shape) (c : Count) (items : List ℕ) (after : List Made) (i : ℕ) → CountThen s shape c items after i
+count_then s shape c items after i =
+    let ws : List RowWrite = count_bits shape c items in
+    let d : List Made = batch_phrase shape s c items in
     let size : length d ≡ length ws = length-map ws (λ w. Write (row_bit s w.bit) w.value) in
     let r = count_some s ws i in
     let parts = made-append s d after i in
@@ -279,14 +317,14 @@ count_then s shape n after i =
       size = size;
     }
 
-lt_one : (a b : ℕ) → a < b → ◌≡◌ {A = ℕ} (if nat_lt a b then 1 else 0) 1
-lt_one a b l = grind (arith, nat_tests)
+lt_so : (a b m : ℕ) → a < b → ◌≡◌ {A = ℕ} (if nat_lt a b then m else 0) m
+lt_so a b m l = grind (arith, nat_tests)
 
-le_one : (a b : ℕ) → a ≤ b → ◌≡◌ {A = ℕ} (if nat_le a b then 1 else 0) 1
-le_one a b l = grind (arith, nat_tests)
+le_so : (a b m : ℕ) → a ≤ b → ◌≡◌ {A = ℕ} (if nat_le a b then m else 0) m
+le_so a b m l = grind (arith, nat_tests)
 
-le_none : (a b : ℕ) → b < a → ◌≡◌ {A = ℕ} (if nat_le a b then 1 else 0) 0
-le_none a b l = grind (arith, nat_tests)
+le_none : (a b m : ℕ) → b < a → ◌≡◌ {A = ℕ} (if nat_le a b then m else 0) 0
+le_none a b m l = grind (arith, nat_tests)
 
 no_one : (t : Bool) → ◌≡◌ {A = ℕ} (if t then 0 else 0) 0
 no_one true = refl
@@ -298,145 +336,159 @@ ended_more u us t l = go (length u.writes) (unary.ended us (t - length u.writes)
     go : (n e : ℕ) → n ≤ t → cond (nat_le n t) (suc e) 0 ≡ suc e
     go n e l = grind (arith, nat_tests)
 
+-- what the first writes count, where the first of all counts m
+tally_begun :
+    (m : ℕ) (ms : List ℕ) (u : UnaryWrite) (us : List UnaryWrite) (t : ℕ) →
+    tally (m ∷ ms) (unary.begun (u ∷ us) t) ≤ m + tally ms (unary.begun us (t - length u.writes))
+tally_begun m ms u us zero = omega arith
+tally_begun m ms u us (suc t) = omega arith
+
 -- one look: its count write and what follows, behind so many events
 begun_step :
-    (s : Side) (shape : Shape) (n : ℕ) (o : Outcome) (k : ℕ) (after : List Made) (xs : List Span) (place : ℕ) →
-    ((i : ℕ) → unary.begun (writes_from shape (after_look n o) k) (bit_writes s (events_of s after) i) ≤ begun xs i) → (i : ℕ) →
-    unary.begun (writes_from shape n (after_look k o)) (bit_writes s (events_of s (count_part s shape n o ++ after)) (i - place)) ≤
-    (if nat_lt place i then counts o else 0) + begun xs (i - (place + 2 * length (count_part s shape n o)))
-begun_step s shape n (Passes item) k after xs place rest i =
-    let ws : List RowWrite = unary_phrase (bits_held shape n) (suc n % modulus_of shape) in
-    let us : List UnaryWrite = writes_from shape (suc n) k in
-    let u : UnaryWrite = record { value = suc n % modulus_of shape; writes = ws } in
-    let d : List Made = count_phrase shape s n in
+    (s : Side) (shape : Shape) (c : Count) (o : Outcome) (ms vs : List ℕ) (after : List Made) (xs : List Span) (place : ℕ) →
+    ((i : ℕ) → tally ms (unary.begun (unary_writes (look_bits shape c o) vs) (bit_writes s (events_of s after) i)) ≤ begun xs i) → (i : ℕ) →
+    tally (size_of o ++ ms)
+    (unary.begun (unary_writes c.bits (value_of shape c.number o ++ vs)) (bit_writes s (events_of s (count_part s shape c o ++ after)) (i - place))) ≤
+    (if nat_lt place i then counts o else 0) + begun xs (i - (place + 2 * length (count_part s shape c o)))
+begun_step s shape c (Passes items) ms vs after xs place rest i =
+    let ws : List RowWrite = count_bits shape c items in
+    let m : ℕ = length items in
+    let us : List UnaryWrite = unary_writes (look_bits shape c (Passes items)) vs in
+    let u : UnaryWrite = record { value = past c.number items % modulus_of shape; writes = ws } in
+    let d : List Made = batch_phrase shape s c items in
     let t : ℕ = bit_writes s (events_of s (d ++ after)) (i - place) in
     elim (at_most_or_above i place) [
       | inl l ↦ (
           let none : i - place ≡ 0 = omega (arith, l) in
           let zero_is : t ≡ 0 = ap (bit_writes s (events_of s (d ++ after))) none in
-          let none_begun : unary.begun (u ∷ us) t ≡ 0 = ap (unary.begun (u ∷ us)) zero_is in
+          let none_begun : tally (m ∷ ms) (unary.begun (u ∷ us) t) ≡ 0 = ap (λ t. tally (m ∷ ms) (unary.begun (u ∷ us) t)) zero_is in
           omega (arith, none_begun))
       | inr l ↦ (
-          let next = count_then s shape n after (i - place) in
+          let next = count_then s shape c items after (i - place) in
           let less : i - place - 2 * length d ≡ i - (place + 2 * length d) = omega arith in
           let tail : t - length ws ≡ bit_writes s (events_of s after) (i - (place + 2 * length d)) = next.tail ∙ ap (bit_writes s (events_of s after)) less in
           let past : ℕ = i - (place + 2 * length d) in
-          let same : unary.begun us (t - length ws) ≡ unary.begun us (bit_writes s (events_of s after) past) = ap (unary.begun us) tail in
-          omega (arith, begun_most u us t, same, rest past, lt_one place i l))
+          let same : tally ms (unary.begun us (t - length ws)) ≡ tally ms (unary.begun us (bit_writes s (events_of s after) past)) =
+          ap (λ t. tally ms (unary.begun us t)) tail in
+          omega (arith, tally_begun m ms u us t, same, rest past, lt_so place i m l))
     ]
-begun_step s shape n Stops k after xs place rest i =
+begun_step s shape c Stops ms vs after xs place rest i =
     let same : i - place ≡ i - (place + 0) = omega arith in
-    let here : unary.begun (writes_from shape n k) (bit_writes s (events_of s after) (i - place)) ≡
-    unary.begun (writes_from shape n k) (bit_writes s (events_of s after) (i - (place + 0))) =
-    ap (λ j. unary.begun (writes_from shape n k) (bit_writes s (events_of s after) j)) same in
+    let here : tally ms (unary.begun (unary_writes c.bits vs) (bit_writes s (events_of s after) (i - place))) ≡
+    tally ms (unary.begun (unary_writes c.bits vs) (bit_writes s (events_of s after) (i - (place + 0)))) =
+    ap (λ j. tally ms (unary.begun (unary_writes c.bits vs) (bit_writes s (events_of s after) j))) same in
     omega (arith, here, rest (i - (place + 0)))
-begun_step s shape n (Asks answer) k after xs place rest i =
+begun_step s shape c (Asks answer) ms vs after xs place rest i =
     let same : i - place ≡ i - (place + 0) = omega arith in
-    let here : unary.begun (writes_from shape n k) (bit_writes s (events_of s after) (i - place)) ≡
-    unary.begun (writes_from shape n k) (bit_writes s (events_of s after) (i - (place + 0))) =
-    ap (λ j. unary.begun (writes_from shape n k) (bit_writes s (events_of s after) j)) same in
+    let here : tally ms (unary.begun (unary_writes c.bits vs) (bit_writes s (events_of s after) (i - place))) ≡
+    tally ms (unary.begun (unary_writes c.bits vs) (bit_writes s (events_of s after) (i - (place + 0)))) =
+    ap (λ j. tally ms (unary.begun (unary_writes c.bits vs) (bit_writes s (events_of s after) j))) same in
     omega (arith, here, rest (i - (place + 0)))
 
 begun_from_look :
-    (s : Side) (shape : Shape) (n : ℕ) (looks : List Look) (behind : List Made) (i : ℕ) →
-    unary.begun (writes_from shape n (counts_in looks)) (bit_writes s (events_of s (look_accesses s shape n looks behind)) i) ≤ begun (spans s shape n looks) i
-begun_from_look s shape n [] behind i = omega arith
-begun_from_look s shape n (l ∷ looks) behind i =
+    (s : Side) (shape : Shape) (c : Count) (looks : List Look) (behind : List Made) (i : ℕ) →
+    tally (sizes_in looks) (unary.begun (writes_from shape c looks) (bit_writes s (events_of s (look_accesses s shape c looks behind)) i)) ≤ begun (spans s shape c looks) i
+begun_from_look s shape c [] behind i = omega arith
+begun_from_look s shape c (l ∷ looks) behind i =
     let a : List Made = scan_phrase (row_read_by s) l.seen in
-    let b : List Made = word_part s shape n l.outcome in
-    let after : List Made = look_accesses s shape (after_look n l.outcome) looks behind in
-    let d : List Made = count_part s shape n l.outcome ++ after in
+    let b : List Made = word_part s shape c.number l.outcome in
+    let next : Count = after_look shape c l.outcome in
+    let after : List Made = look_accesses s shape next looks behind in
+    let d : List Made = count_part s shape c l.outcome ++ after in
     let past : bit_writes s (events_of s (a ++ (b ++ d))) i ≡ bit_writes s (events_of s d) (i - (2 * length a + 2 * length b)) =
-    past_quiet s a b d i (quiet_scan s (row_read_by s) l.seen) (quiet_word s shape n l.outcome) in
-    rw past (begun_step s shape n l.outcome (counts_in looks) after (spans s shape (after_look n l.outcome) looks) (2 * length a + 2 * length b)
-    (begun_from_look s shape (after_look n l.outcome) looks behind) i)
+    past_quiet s a b d i (quiet_scan s (row_read_by s) l.seen) (quiet_word s shape c.number l.outcome) in
+    rw past (begun_step s shape c l.outcome (sizes_in looks) (values_from shape next.number looks) after (spans s shape next looks) (2 * length a + 2 * length b)
+    (λ j. begun_from_look s shape next looks behind j) i)
 
 -- a count write that has ended had all its bit writes begun one event before
 ended_step :
-    (s : Side) (shape : Shape) (n : ℕ) (o : Outcome) (k : ℕ) (after : List Made) (xs : List Span) (place : ℕ) → AllProper xs →
-    ((i : ℕ) → ended xs i ≤ unary.ended (writes_from shape (after_look n o) k) (bit_writes s (events_of s after) (i - 1))) → (i : ℕ) →
-    (if nat_le (place + 2 * length (count_part s shape n o)) i then counts o else 0) + ended xs (i - (place + 2 * length (count_part s shape n o))) ≤
-    unary.ended (writes_from shape n (after_look k o)) (bit_writes s (events_of s (count_part s shape n o ++ after)) (i - 1 - place))
-ended_step s shape n (Passes item) k after xs place proper rest i =
-    let ws : List RowWrite = unary_phrase (bits_held shape n) (suc n % modulus_of shape) in
-    let us : List UnaryWrite = writes_from shape (suc n) k in
-    let u : UnaryWrite = record { value = suc n % modulus_of shape; writes = ws } in
-    let d : List Made = count_phrase shape s n in
+    (most : ℕ) (s : Side) (shape : Shape) (c : Count) (o : Outcome) (ms vs : List ℕ) (after : List Made) (xs : List Span) (place : ℕ) → AllProper most xs →
+    ((i : ℕ) → ended xs i ≤ tally ms (unary.ended (unary_writes (look_bits shape c o) vs) (bit_writes s (events_of s after) (i - 1)))) → (i : ℕ) →
+    (if nat_le (place + 2 * length (count_part s shape c o)) i then counts o else 0) + ended xs (i - (place + 2 * length (count_part s shape c o))) ≤
+    tally (size_of o ++ ms)
+    (unary.ended (unary_writes c.bits (value_of shape c.number o ++ vs)) (bit_writes s (events_of s (count_part s shape c o ++ after)) (i - 1 - place)))
+ended_step most s shape c (Passes items) ms vs after xs place proper rest i =
+    let ws : List RowWrite = count_bits shape c items in
+    let m : ℕ = length items in
+    let us : List UnaryWrite = unary_writes (look_bits shape c (Passes items)) vs in
+    let u : UnaryWrite = record { value = past c.number items % modulus_of shape; writes = ws } in
+    let d : List Made = batch_phrase shape s c items in
     let t : ℕ = bit_writes s (events_of s (d ++ after)) (i - 1 - place) in
     let past : ℕ = i - (place + 2 * length d) in
     elim (at_most_or_above (place + 2 * length d) i) [
       | inl l ↦ (
-          let next = count_then s shape n after (i - 1 - place) in
+          let next = count_then s shape c items after (i - 1 - place) in
           let less : i - 1 - place - 2 * length d ≡ past - 1 = omega arith in
           let tail : t - length ws ≡ bit_writes s (events_of s after) (past - 1) = next.tail ∙ ap (bit_writes s (events_of s after)) less in
-          let same : unary.ended us (t - length ws) ≡ unary.ended us (bit_writes s (events_of s after) (past - 1)) = ap (unary.ended us) tail in
-          let more : unary.ended (u ∷ us) t ≡ suc (unary.ended us (t - length ws)) = ended_more u us t (next.full (omega (arith, l))) in
-          omega (arith, more, same, rest past, le_one (place + 2 * length d) i l))
+          let same : tally ms (unary.ended us (t - length ws)) ≡ tally ms (unary.ended us (bit_writes s (events_of s after) (past - 1))) =
+          ap (λ t. tally ms (unary.ended us t)) tail in
+          let more : tally (m ∷ ms) (unary.ended (u ∷ us) t) ≡ m + tally ms (unary.ended us (t - length ws)) =
+          ap (tally (m ∷ ms)) (ended_more u us t (next.full (omega (arith, l)))) in
+          omega (arith, more, same, rest past, le_so (place + 2 * length d) i m l))
       | inr l ↦ (
           let none : past ≡ 0 = omega (arith, l) in
-          let none_ended : ended xs past ≡ 0 = ap (ended xs) none ∙ ended_zero xs proper in
-          omega (arith, none_ended, le_none (place + 2 * length d) i l))
+          let none_ended : ended xs past ≡ 0 = ap (ended xs) none ∙ ended_zero most xs proper in
+          omega (arith, none_ended, le_none (place + 2 * length d) i m l))
     ]
-ended_step s shape n Stops k after xs place proper rest i =
+ended_step most s shape c Stops ms vs after xs place proper rest i =
     let same : i - (place + 0) - 1 ≡ i - 1 - place = omega arith in
-    let here : unary.ended (writes_from shape n k) (bit_writes s (events_of s after) (i - (place + 0) - 1)) ≡
-    unary.ended (writes_from shape n k) (bit_writes s (events_of s after) (i - 1 - place)) =
-    ap (λ j. unary.ended (writes_from shape n k) (bit_writes s (events_of s after) j)) same in
+    let here : tally ms (unary.ended (unary_writes c.bits vs) (bit_writes s (events_of s after) (i - (place + 0) - 1))) ≡
+    tally ms (unary.ended (unary_writes c.bits vs) (bit_writes s (events_of s after) (i - 1 - place))) =
+    ap (λ j. tally ms (unary.ended (unary_writes c.bits vs) (bit_writes s (events_of s after) j))) same in
     omega (arith, here, rest (i - (place + 0)), no_one (nat_le (place + 0) i))
-ended_step s shape n (Asks answer) k after xs place proper rest i =
+ended_step most s shape c (Asks answer) ms vs after xs place proper rest i =
     let same : i - (place + 0) - 1 ≡ i - 1 - place = omega arith in
-    let here : unary.ended (writes_from shape n k) (bit_writes s (events_of s after) (i - (place + 0) - 1)) ≡
-    unary.ended (writes_from shape n k) (bit_writes s (events_of s after) (i - 1 - place)) =
-    ap (λ j. unary.ended (writes_from shape n k) (bit_writes s (events_of s after) j)) same in
+    let here : tally ms (unary.ended (unary_writes c.bits vs) (bit_writes s (events_of s after) (i - (place + 0) - 1))) ≡
+    tally ms (unary.ended (unary_writes c.bits vs) (bit_writes s (events_of s after) (i - 1 - place))) =
+    ap (λ j. tally ms (unary.ended (unary_writes c.bits vs) (bit_writes s (events_of s after) j))) same in
     omega (arith, here, rest (i - (place + 0)), no_one (nat_le (place + 0) i))
 
 ended_from_look :
-    (s : Side) (shape : Shape) (n : ℕ) (looks : List Look) (behind : List Made) (i : ℕ) →
-    ended (spans s shape n looks) i ≤
-    unary.ended (writes_from shape n (counts_in looks)) (bit_writes s (events_of s (look_accesses s shape n looks behind)) (i - 1))
-ended_from_look s shape n [] behind i = omega arith
-ended_from_look s shape n (l ∷ looks) behind i =
+    (s : Side) (shape : Shape) (c : Count) (looks : List Look) (behind : List Made) → IsCount shape c → AllPassing (batch_of shape) looks → (i : ℕ) →
+    ended (spans s shape c looks) i ≤
+    tally (sizes_in looks) (unary.ended (writes_from shape c looks) (bit_writes s (events_of s (look_accesses s shape c looks behind)) (i - 1)))
+ended_from_look s shape c [] behind is p i = omega arith
+ended_from_look s shape c (l ∷ looks) behind is p i =
     let a : List Made = scan_phrase (row_read_by s) l.seen in
-    let b : List Made = word_part s shape n l.outcome in
-    let after : List Made = look_accesses s shape (after_look n l.outcome) looks behind in
-    let d : List Made = count_part s shape n l.outcome ++ after in
+    let b : List Made = word_part s shape c.number l.outcome in
+    let next : Count = after_look shape c l.outcome in
+    let next_is : IsCount shape next = look_is_count shape c l.outcome is in
+    let after : List Made = look_accesses s shape next looks behind in
+    let d : List Made = count_part s shape c l.outcome ++ after in
     let past : bit_writes s (events_of s (a ++ (b ++ d))) (i - 1) ≡ bit_writes s (events_of s d) (i - 1 - (2 * length a + 2 * length b)) =
-    past_quiet s a b d (i - 1) (quiet_scan s (row_read_by s) l.seen) (quiet_word s shape n l.outcome) in
-    rw past (ended_step s shape n l.outcome (counts_in looks) after (spans s shape (after_look n l.outcome) looks) (2 * length a + 2 * length b)
-    (all_proper s shape (after_look n l.outcome) looks) (ended_from_look s shape (after_look n l.outcome) looks behind) i)
+    past_quiet s a b d (i - 1) (quiet_scan s (row_read_by s) l.seen) (quiet_word s shape c.number l.outcome) in
+    rw past (ended_step (batch_of shape) s shape c l.outcome (sizes_in looks) (values_from shape next.number looks) after (spans s shape next looks)
+    (2 * length a + 2 * length b) (all_proper (batch_of shape) s shape next looks (omega arith) next_is p.1)
+    (λ j. ended_from_look s shape next looks behind next_is p.1 j) i)
 
 -- ---- the count writes of a whole program
 
--- the unary writes of a program's count
-abbrev pub counted_in : Shape → List Look → List ℕ
-counted_in shape looks = counted shape (counts_in looks)
-
 -- of these no more have begun, after so many events of the side, than of the spans' count writes
 pub count_writes_begun :
-    (s : Side) (shape : Shape) (looks : List Look) (behind : List Made) (i : ℕ) →
-    unary.begun (numbered_of (counted_in shape looks)) (bit_writes s (events_of s (look_accesses s shape 0 looks behind)) i) ≤
-    begun (spans s shape 0 looks) i
-count_writes_begun s shape looks behind i = rw (numbered_is shape (counts_in looks)) (begun_from_look s shape 0 looks behind i)
+    (s : Side) (shape : Shape) (looks : List Look) (behind : List Made) → AllPassing (batch_of shape) looks → (i : ℕ) →
+    tally (sizes_in looks) (unary.begun (numbered_of (counted_in shape looks)) (bit_writes s (events_of s (look_accesses s shape first_count looks behind)) i)) ≤
+    begun (spans s shape first_count looks) i
+count_writes_begun s shape looks behind p i = rw (numbered_is shape looks p) (begun_from_look s shape first_count looks behind i)
 
 -- where a count write of the spans has ended, its unary write had begun all its bit writes one event before
 pub count_writes_ended :
-    (s : Side) (shape : Shape) (looks : List Look) (behind : List Made) (i : ℕ) →
-    ended (spans s shape 0 looks) i ≤
-    unary.ended (numbered_of (counted_in shape looks)) (bit_writes s (events_of s (look_accesses s shape 0 looks behind)) (i - 1))
-count_writes_ended s shape looks behind i = rw (numbered_is shape (counts_in looks)) (ended_from_look s shape 0 looks behind i)
+    (s : Side) (shape : Shape) (looks : List Look) (behind : List Made) → AllPassing (batch_of shape) looks → (i : ℕ) →
+    ended (spans s shape first_count looks) i ≤
+    tally (sizes_in looks) (unary.ended (numbered_of (counted_in shape looks)) (bit_writes s (events_of s (look_accesses s shape first_count looks behind)) (i - 1)))
+count_writes_ended s shape looks behind p i = rw (numbered_is shape looks p) (ended_from_look s shape first_count looks behind (first_is_count shape) p i)
 
 -- the bit writes of one look and those that follow
 part_writes :
-    (s : Side) (shape : Shape) (n : ℕ) (o : Outcome) (k : ℕ) (after : List Made) →
-    count_begun s (events_of s after) ≡ row_writes (writes_from shape (after_look n o) k) →
-    count_begun s (events_of s (count_part s shape n o ++ after)) ≡ row_writes (writes_from shape n (after_look k o))
-part_writes s shape n (Passes item) k after e =
-    let ws : List RowWrite = unary_phrase (bits_held shape n) (suc n % modulus_of shape) in
-    let d : List Made = count_phrase shape s n in
+    (s : Side) (shape : Shape) (c : Count) (o : Outcome) (vs : List ℕ) (after : List Made) →
+    count_begun s (events_of s after) ≡ row_writes (unary_writes (look_bits shape c o) vs) →
+    count_begun s (events_of s (count_part s shape c o ++ after)) ≡ row_writes (unary_writes c.bits (value_of shape c.number o ++ vs))
+part_writes s shape c (Passes items) vs after e =
+    let ws : List RowWrite = count_bits shape c items in
+    let d : List Made = batch_phrase shape s c items in
     ap (count_begun s) (events_of-append s d after) ∙ filter_map-append (count_write s) (events_of s d) (events_of s after) ∙
     ap₂ (λ (us vs : List RowWrite). us ++ vs) (count_all s ws) e
-part_writes s shape n Stops k after e = e
-part_writes s shape n (Asks answer) k after e = e
+part_writes s shape c Stops vs after e = e
+part_writes s shape c (Asks answer) vs after e = e
 
 past_part :
     (s : Side) (a after : List Made) → IsQuiet s a → count_begun s (events_of s (a ++ after)) ≡ count_begun s (events_of s after)
@@ -445,20 +497,20 @@ past_part s a after q =
     ap (λ l. l ++ count_begun s (events_of s after)) (quiet_all s a q)
 
 program_writes :
-    (s : Side) (shape : Shape) (n : ℕ) (looks : List Look) (behind : List Made) → IsQuiet s behind →
-    count_begun s (events_of s (look_accesses s shape n looks behind)) ≡ row_writes (writes_from shape n (counts_in looks))
-program_writes s shape n [] behind q = quiet_all s behind q
-program_writes s shape n (l ∷ looks) behind q =
+    (s : Side) (shape : Shape) (c : Count) (looks : List Look) (behind : List Made) → IsQuiet s behind →
+    count_begun s (events_of s (look_accesses s shape c looks behind)) ≡ row_writes (writes_from shape c looks)
+program_writes s shape c [] behind q = quiet_all s behind q
+program_writes s shape c (l ∷ looks) behind q =
     let a : List Made = scan_phrase (row_read_by s) l.seen in
-    let b : List Made = word_part s shape n l.outcome in
-    let after : List Made = look_accesses s shape (after_look n l.outcome) looks behind in
-    let d : List Made = count_part s shape n l.outcome ++ after in
-    past_part s a (b ++ d) (quiet_scan s (row_read_by s) l.seen) ∙ past_part s b d (quiet_word s shape n l.outcome) ∙
-    part_writes s shape n l.outcome (counts_in looks) after (program_writes s shape (after_look n l.outcome) looks behind q)
+    let b : List Made = word_part s shape c.number l.outcome in
+    let next : Count = after_look shape c l.outcome in
+    let after : List Made = look_accesses s shape next looks behind in
+    let d : List Made = count_part s shape c l.outcome ++ after in
+    past_part s a (b ++ d) (quiet_scan s (row_read_by s) l.seen) ∙ past_part s b d (quiet_word s shape c.number l.outcome) ∙
+    part_writes s shape c l.outcome (values_from shape next.number looks) after (program_writes s shape next looks behind q)
 
 -- the bit writes of a program's count are those of its unary writes
 pub count_writes_are :
     (s : Side) (shape : Shape) (looks : List Look) (behind : List Made) → IsQuiet s behind →
-    count_begun s (events_of s (look_accesses s shape 0 looks behind)) ≡ writes_of (counted_in shape looks)
-count_writes_are s shape looks behind q =
-    program_writes s shape 0 looks behind q ∙ ap writes_of (sym (counted_is shape (counts_in looks)))
+    count_begun s (events_of s (look_accesses s shape first_count looks behind)) ≡ writes_of (counted_in shape looks)
+count_writes_are s shape looks behind q = program_writes s shape first_count looks behind q

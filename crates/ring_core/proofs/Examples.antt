@@ -3,6 +3,7 @@ use Rattle.std.proofs.Common.{◌≡◌, true, false, [], ◌∷◌, refl, arith
 use Rattle.bits_core.specs.declared.events.Bit.TheVariants.{S, R, X, Cell}
 use Rattle.bits_core.specs.declared.shapes.Shape.{Shape}
 use Rattle.bits_core.specs.Made.{Read, Write}
+use Rattle.ring_core.specs.Counts.{first_count}
 use Rattle.ring_core.specs.Puts.{Puts, Stored, put_program, ArePuts}
 use Rattle.ring_core.specs.Takes.{Takes, Item, ItemAfterClose, Empty, Open, Closed, take_program, AreTakes}
 use Rattle.ring_core.specs.Items.{items_put, items_taken, IsTold}
@@ -13,18 +14,21 @@ one_cell = record {
   capacity = 1;
   modulus = 3;
   width = 1;
+  batch = 1;
   has_cells = omega arith;
   few_cells = omega arith;
   room_to_count = omega arith;
   small_modulus = omega arith;
   has_digits = omega arith;
   few_digits = omega arith;
+  has_batch = omega arith;
+  small_batch = omega arith;
 }
 
 -- ---- an item goes through: 8 events of the producer and 10 of the consumer
 
 abbrev one_put : Puts
-one_put = record { puts = Stored 0 1 ∷ []; closes = false }
+one_put = record { puts = Stored 0 (1 ∷ []) ∷ []; closes = false }
 
 abbrev one_take : Takes
 one_take = record { takes = Item 1 1 ∷ []; end = Open }
@@ -35,7 +39,7 @@ one_put-is = refl
 
 one_put-are : ArePuts one_cell 0 one_put.puts
 unfolding one_cell
-one_put-are = ((omega arith, omega arith, omega arith), record {})
+one_put-are = ((omega arith, omega arith, record { some = omega arith; few = omega arith; fit = (omega arith, tt) }), record {})
 
 one_take-is : take_program one_cell one_take ≡ Read (S 0) false ∷ Read (S 1) true ∷ Read (Cell 0 0) true ∷ Write (R 1) true ∷ Write (R 0) false ∷ []
 unfolding one_cell
@@ -46,7 +50,7 @@ unfolding one_cell
 one_take-are = (((omega arith, (omega arith, omega arith)), omega arith), record {})
 
 -- the item is put with the begin of its count write, which is event 4 of the producer, and taken with its take's last event
-one_put-item : (items_put one_cell 0 one_put.puts 4 ≡ []) × (items_put one_cell 0 one_put.puts 5 ≡ 1 ∷ []) × (items_taken one_cell 0 one_take.takes 9 ≡ []) × (items_taken one_cell 0 one_take.takes 10 ≡ 1 ∷ [])
+one_put-item : (items_put one_cell first_count one_put.puts 4 ≡ []) × (items_put one_cell first_count one_put.puts 5 ≡ 1 ∷ []) × (items_taken one_cell 0 one_take.takes 9 ≡ []) × (items_taken one_cell 0 one_take.takes 10 ≡ 1 ∷ [])
 unfolding one_cell
 one_put-item = (refl, refl, refl, refl)
 
@@ -69,7 +73,7 @@ seen_old-are = (((omega arith, (omega arith, omega arith)), omega arith), ((omeg
 -- ---- a second scan finds the item, and the next take is told that the ring is closed
 
 abbrev pub put_and_close : Puts
-put_and_close = record { puts = Stored 0 1 ∷ []; closes = true }
+put_and_close = record { puts = Stored 0 (1 ∷ []) ∷ []; closes = true }
 
 abbrev pub second_scan : Takes
 second_scan = record { takes = ItemAfterClose 0 1 1 ∷ []; end = Closed 1 1 }
@@ -101,10 +105,48 @@ pub second_scan-told : (IsTold one_cell second_scan 23 → ⊥) × IsTold one_ce
 unfolding one_cell
 second_scan-told = ((λ (tells, all). omega (arith, all)), (record {}, omega arith))
 
+-- ---- a batch of three items under one count write: three cells, modulus 7
+
+unfoldable pub three_cells : Shape
+three_cells = record {
+  capacity = 3;
+  modulus = 7;
+  width = 1;
+  batch = 3;
+  has_cells = omega arith;
+  few_cells = omega arith;
+  room_to_count = omega arith;
+  small_modulus = omega arith;
+  has_digits = omega arith;
+  few_digits = omega arith;
+  has_batch = omega arith;
+  small_batch = omega arith;
+}
+
+abbrev three_at_once : Puts
+three_at_once = record { puts = Stored 0 (1 ∷ 0 ∷ 1 ∷ []) ∷ []; closes = false }
+
+three_at_once-is :
+    put_program three_cells three_at_once ≡
+    Read (R 0) true ∷ Write (Cell 0 0) true ∷ Write (Cell 1 0) false ∷ Write (Cell 2 0) true ∷ Write (S 3) true ∷ Write (S 0) false ∷ []
+unfolding three_cells
+three_at_once-is = refl
+
+three_at_once-are : ArePuts three_cells 0 three_at_once.puts
+unfolding three_cells
+three_at_once-are =
+    ((omega arith, omega arith, record { some = omega arith; few = omega arith; fit = (omega arith, (omega arith, (omega arith, tt))) }), record {})
+
+-- all three items are put with the begin of the one count write, which is event 8 of the producer
+three_at_once-items :
+    (items_put three_cells first_count three_at_once.puts 8 ≡ []) × (items_put three_cells first_count three_at_once.puts 9 ≡ 1 ∷ 0 ∷ 1 ∷ [])
+unfolding three_cells
+three_at_once-items = (refl, refl)
+
 -- ---- the count wraps under an open write: the third put writes 0, and bit 2 stays set
 
 abbrev wraps : Puts
-wraps = record { puts = Stored 0 1 ∷ Stored 1 0 ∷ Stored 2 1 ∷ []; closes = false }
+wraps = record { puts = Stored 0 (1 ∷ []) ∷ Stored 1 (0 ∷ []) ∷ Stored 2 (1 ∷ []) ∷ []; closes = false }
 
 abbrev wrap_takes : Takes
 wrap_takes = record { takes = Item 1 1 ∷ Item 2 0 ∷ Empty 2 ∷ Item 0 1 ∷ []; end = Open }
@@ -128,9 +170,9 @@ wrap_takes-is = refl
 
 wraps-are : ArePuts one_cell 0 wraps.puts
 unfolding one_cell
-wraps-are = ((omega arith, omega arith, omega arith), ((omega arith, omega arith, omega arith), ((omega arith, omega arith, omega arith), record {})))
+wraps-are = ((omega arith, omega arith, record { some = omega arith; few = omega arith; fit = (omega arith, tt) }), ((omega arith, omega arith, record { some = omega arith; few = omega arith; fit = (omega arith, tt) }), ((omega arith, omega arith, record { some = omega arith; few = omega arith; fit = (omega arith, tt) }), record {})))
 
 -- with the third put's last access open, its item is put
-wraps-items : (items_put one_cell 0 wraps.puts 26 ≡ 1 ∷ 0 ∷ []) × (items_put one_cell 0 wraps.puts 27 ≡ 1 ∷ 0 ∷ 1 ∷ [])
+wraps-items : (items_put one_cell first_count wraps.puts 26 ≡ 1 ∷ 0 ∷ []) × (items_put one_cell first_count wraps.puts 27 ≡ 1 ∷ 0 ∷ 1 ∷ [])
 unfolding one_cell
 wraps-items = (refl, refl)

@@ -1,7 +1,7 @@
 -- The counts of the two sides at each moment: what scans read of them, and the two gates.
 use Rattle.std.proofs.Common.{◌≡◌, ◌⊎◌, inl, inr, ℕ, zero, suc, ◌+◌, ◌-◌, ◌<◌, ◌≤◌, ◌%◌, List, [], ◌∷◌, subst, zero-add, suc-add, add-zero, arith}
 use Rattle.ring_core.specs.Counts.{distance}
-use Rattle.ring_core.specs.Spans.{Span, counts, begun, ended, Stands}
+use Rattle.ring_core.specs.Spans.{Span, counts, begun, ended, Stands, sizes, tally}
 use Rattle.ring_core.specs.Clocks.{Clocks, IsPlace, AreRegular, Ring}
 use Rattle.ring_core.proofs.Cuts.{at_most_or_above}
 use Rattle.ring_core.proofs.Timeline.{Proper, AllProper, before-whole, begun_zero, ended_begun, begun_at, begun_step, begun_up}
@@ -76,14 +76,16 @@ record Read (modulus : ℕ) (own other : ℕ → ℕ) (scans writes : List Span)
   pub not_newer : number ≤ begun writes (other last)
   pub still : begun writes (other last) ≤ begun writes (other t)
   pub value : x.seen ≡ number % modulus
+  pub write : ℕ
+  pub tallies : number ≡ tally (sizes writes) write
 
 -- each scan that has ended is known so
 read_of :
-    (modulus : ℕ) (own other : ℕ → ℕ) → Clock own → Clock other → (scans writes : List Span) → AllProper scans → AllProper writes →
+    (modulus : ℕ) (own other : ℕ → ℕ) → Clock own → Clock other → (most most' : ℕ) (scans writes : List Span) → AllProper most scans → AllProper most' writes →
     AreRegular modulus own other scans writes →
-    (t s n : ℕ) (x : Span) → Proper x → Stands scans s n x → s + x.scan ≤ own t → Read modulus own other scans writes t s n x
-read_of modulus own other ho hw scans writes ps pw regular t s n x px st l =
-    let w = before-whole x px in
+    (t s n : ℕ) (x : Span) → Proper most x → Stands scans s n x → s + x.scan ≤ own t → Read modulus own other scans writes t s n x
+read_of modulus own other ho hw most most' scans writes ps pw regular t s n x px st l =
+    let w = before-whole most x px in
     let e : ℕ = s + (x.scan - 1) in
     let scan = px.scan in
     let f = place_of own ho s t (omega arith) in
@@ -100,22 +102,24 @@ read_of modulus own other ho hw scans writes ps pw regular t s n x px st l =
       by_now = omega (arith, g.before);
       first_is = f.is;
       last_is = g.is;
-      at_first = rw f.is.0 (rw add-zero at (begun_at scans ps s n x st 0 (omega arith)));
-      at_last = rw g.is.0 (begun_at scans ps s n x st (x.scan - 1) (omega (arith, w)));
+      at_first = rw f.is.0 (rw add-zero at (begun_at most scans ps s n x st 0 (omega arith)));
+      at_last = rw g.is.0 (begun_at most scans ps s n x st (x.scan - 1) (omega (arith, w)));
       not_older = law.not_older;
       not_newer = law.not_newer;
-      still = begun_up writes pw _ _ (clock_up other hw g.place t (omega (arith, g.before)));
+      still = begun_up most' writes pw _ _ (clock_up other hw g.place t (omega (arith, g.before)));
       value = law.value;
+      write = law.write;
+      tallies = law.tallies;
     }
 
 -- each span that stands is proper
-pub proper_at : (xs : List Span) → AllProper xs → (s n : ℕ) (x : Span) → Stands xs s n x → Proper x
-proper_at [] h s n x st = elim st [ ]
-proper_at (y ∷ ys) h s n x (inl st) = rw st.2 h.0
-proper_at (y ∷ ys) h s n x (inr st) = proper_at ys h.1 st.0 st.1 x st.4
+pub proper_at : (most : ℕ) (xs : List Span) → AllProper most xs → (s n : ℕ) (x : Span) → Stands xs s n x → Proper most x
+proper_at most [] h s n x st = elim st [ ]
+proper_at most (y ∷ ys) h s n x (inl st) = rw st.2 h.0
+proper_at most (y ∷ ys) h s n x (inr st) = proper_at most ys h.1 st.0 st.1 x st.4
 
-module _ (modulus capacity : ℕ) (p c : ℕ → ℕ) (puts takes : List Span) (ring : Ring modulus capacity p c puts takes)
-    (proper_puts : AllProper puts) (proper_takes : AllProper takes) where
+module _ (modulus capacity batch : ℕ) (p c : ℕ → ℕ) (puts takes : List Span) (ring : Ring modulus capacity batch p c puts takes)
+    (proper_puts : AllProper batch puts) (proper_takes : AllProper 1 takes) where
   hp : Clock p
   hp = clock_p p c ring.clocks
 
@@ -130,19 +134,21 @@ module _ (modulus capacity : ℕ) (p c : ℕ → ℕ) (puts takes : List Span) (
   pub record Shown (t s k : ℕ) (x : Span) : Type 0 where
     pub number : ℕ
     pub value : x.seen ≡ number % modulus
-    pub low : k ≤ number + 1
+    pub low : k ≤ number + batch
     pub high : number ≤ k + capacity
     pub now : number ≤ begun puts (p t)
     pub since : (first : ℕ) → IsPlace c s first → ended puts (p first) ≤ number
     pub until : (last : ℕ) → IsPlace c (s + (x.scan - 1)) last → number ≤ begun puts (p last)
+    pub write : ℕ
+    pub tallies : number ≡ tally (sizes puts) write
 
   -- each scan of the consumer that has ended has read so, where the counts were right up to now
   shown : (t : ℕ) → ((u : ℕ) → u ≤ t → Within u) → (s k : ℕ) (x : Span) → Stands takes s k x → s + x.scan ≤ c t → Shown t s k x
   shown t within s k x st l =
-      let r = read_of modulus c p hc hp takes puts proper_takes proper_puts ring.takes_regular t s k x (proper_at takes proper_takes s k x st) st l in
+      let r = read_of modulus c p hc hp 1 batch takes puts proper_takes proper_puts ring.takes_regular t s k x (proper_at 1 takes proper_takes s k x st) st l in
       let a = within r.first (omega (arith, r.in_order, r.by_now)) in
       let z = within r.last r.by_now in
-      let o = ended_begun puts proper_puts (p r.first) in
+      let o = ended_begun batch puts proper_puts (p r.first) in
       record {
         number = r.number;
         value = r.value;
@@ -151,6 +157,8 @@ module _ (modulus capacity : ℕ) (p c : ℕ → ℕ) (puts takes : List Span) (
         now = omega (arith, r.not_newer, r.still);
         since = λ first is. rw (place_unique c hc s first r.first is r.first_is) r.not_older;
         until = λ last is. rw (place_unique c hc (s + (x.scan - 1)) last r.last is r.last_is) r.not_newer;
+        write = r.write;
+        tallies = r.tallies;
       }
 
   -- what a scan of the producer reads
@@ -162,14 +170,16 @@ module _ (modulus capacity : ℕ) (p c : ℕ → ℕ) (puts takes : List Span) (
     pub now : number ≤ begun takes (c t)
     pub since : (first : ℕ) → IsPlace p s first → ended takes (c first) ≤ number
     pub until : (last : ℕ) → IsPlace p (s + (x.scan - 1)) last → number ≤ begun takes (c last)
+    pub write : ℕ
+    pub tallies : number ≡ tally (sizes takes) write
 
   -- the same of a scan of the producer
   left : (t : ℕ) → ((u : ℕ) → u ≤ t → Within u) → (s n : ℕ) (x : Span) → Stands puts s n x → s + x.scan ≤ p t → Left t s n x
   left t within s n x st l =
-      let r = read_of modulus p c hp hc puts takes proper_puts proper_takes ring.puts_regular t s n x (proper_at puts proper_puts s n x st) st l in
+      let r = read_of modulus p c hp hc batch 1 puts takes proper_puts proper_takes ring.puts_regular t s n x (proper_at batch puts proper_puts s n x st) st l in
       let a = within r.first (omega (arith, r.in_order, r.by_now)) in
       let z = within r.last r.by_now in
-      let o = ended_begun takes proper_takes (c r.first) in
+      let o = ended_begun 1 takes proper_takes (c r.first) in
       record {
         number = r.number;
         value = r.value;
@@ -178,6 +188,8 @@ module _ (modulus capacity : ℕ) (p c : ℕ → ℕ) (puts takes : List Span) (
         now = omega (arith, r.not_newer, r.still);
         since = λ first is. rw (place_unique p hp s first r.first is r.first_is) r.not_older;
         until = λ last is. rw (place_unique p hp (s + (x.scan - 1)) last r.last is r.last_is) r.not_newer;
+        write = r.write;
+        tallies = r.tallies;
       }
 
   -- a take that takes an item has read a count above its number
@@ -202,19 +214,24 @@ module _ (modulus capacity : ℕ) (p c : ℕ → ℕ) (puts takes : List Span) (
         | inr l ↦ absurd (omega (arith, rule, distance_of modulus k r.number (omega arith) (omega (arith, r.high)), r.high))
       ]
 
-  -- a put that stores an item has read a count that leaves room for it
-  leaves_room : (t s n : ℕ) (x : Span) → Stands puts s n x → (r : Left t s n x) → counts x.outcome ≡ 1 → n < r.number + capacity
+  -- a put that stores items has read a count that leaves room for them
+  leaves_room : (t s n : ℕ) (x : Span) → Stands puts s n x → (r : Left t s n x) → 1 ≤ counts x.outcome → n + counts x.outcome ≤ r.number + capacity
   leaves_room t s n x st r o =
       let fits = ring.modulus_fits in
-      let rule : distance modulus (n % modulus) (r.number % modulus) < capacity = rw r.value at ((ring.puts_rule s n x st).room o) in
-      omega (arith, distance_of modulus r.number n r.high (omega (arith, r.low)), r.high)
+      let most = (proper_at batch puts proper_puts s n x st).few in
+      let rule : distance modulus (n % modulus) (r.number % modulus) + counts x.outcome ≤ capacity = rw r.value at ((ring.puts_rule s n x st).room o) in
+      omega (arith, rule, fits, o, most, distance_of modulus r.number n r.high (omega (arith, r.low, far fits o most)), r.high)
+    where
+      far : suc (capacity + batch) ≤ modulus → 1 ≤ counts x.outcome → counts x.outcome ≤ batch → suc (suc capacity) ≤ modulus
+      far fits o most = omega (arith, fits, o, most)
 
   -- a put that stores none has read one that leaves no room
   pub leaves_none : (t s n : ℕ) (x : Span) → Stands puts s n x → (r : Left t s n x) → counts x.outcome ≡ 0 → r.number + capacity ≤ n
   leaves_none t s n x st r o =
       let fits = ring.modulus_fits in
+      let some = ring.has_batch in
       let rule : capacity ≤ distance modulus (n % modulus) (r.number % modulus) = rw r.value at ((ring.puts_rule s n x st).full o) in
-      omega (arith, distance_of modulus r.number n r.high (omega (arith, r.low)), r.high)
+      omega (arith, rule, distance_of modulus r.number n r.high (omega (arith, fits, some, r.low)), r.high)
 
   -- a take that found an item: the count write of put number k has begun
   taken_behind :
@@ -224,31 +241,33 @@ module _ (modulus capacity : ℕ) (p c : ℕ → ℕ) (puts takes : List Span) (
       let r = shown t within s k x st l in
       omega (arith, shows_item t s k x st r o, r.now)
 
-  -- a put that found room: the count write of take number n - capacity has begun
+  -- a put that found room: the takes of all items more than the capacity below its last one have begun their count write
   room_ahead :
       (t : ℕ) → ((u : ℕ) → u ≤ t → Within u) →
-      (s n : ℕ) (x : Span) → Stands puts s n x → counts x.outcome ≡ 1 → s + x.scan ≤ p t → n < begun takes (c t) + capacity
+      (s n : ℕ) (x : Span) → Stands puts s n x → 1 ≤ counts x.outcome → s + x.scan ≤ p t → n + counts x.outcome ≤ begun takes (c t) + capacity
   room_ahead t within s n x st o l =
       let r = left t within s n x st l in
       omega (arith, leaves_room t s n x st r o, r.now)
 
   -- the gates keep the counts right at the next moment
   step_put : (t : ℕ) → ((u : ℕ) → u ≤ t → Within u) → p (suc t) ≡ suc (p t) → c (suc t) ≡ c t → Within (suc t)
-  step_put t within e f = rw (e, f) (elim (begun_step puts proper_puts (p t)) [
+  step_put t within e f = rw (e, f) (elim (begun_step batch puts proper_puts (p t)) [
     | inl same ↦ rw same (within t (omega arith))
     | inr x ↦ (
-        let w = before-whole x.span (proper_at puts proper_puts x.start x.number x.span x.stands) in
+        let w = before-whole batch x.span (proper_at batch puts proper_puts x.start x.number x.span x.stands) in
         let room = room_ahead t within x.start x.number x.span x.stands x.passes (omega (arith, x.place, w)) in
         omega (arith, within t (omega arith), room, x.now, x.next))
   ])
 
   step_take : (t : ℕ) → ((u : ℕ) → u ≤ t → Within u) → p (suc t) ≡ p t → c (suc t) ≡ suc (c t) → Within (suc t)
-  step_take t within e f = rw (e, f) (elim (begun_step takes proper_takes (c t)) [
+  step_take t within e f = rw (e, f) (elim (begun_step 1 takes proper_takes (c t)) [
     | inl same ↦ rw same (within t (omega arith))
     | inr x ↦ (
-        let w = before-whole x.span (proper_at takes proper_takes x.start x.number x.span x.stands) in
-        let behind = taken_behind t within x.start x.number x.span x.stands x.passes (omega (arith, x.place, w)) in
-        omega (arith, within t (omega arith), behind, x.now, x.next))
+        let proper = proper_at 1 takes proper_takes x.start x.number x.span x.stands in
+        let w = before-whole 1 x.span proper in
+        let one : counts x.span.outcome ≡ 1 = omega (arith, x.passes, proper.few) in
+        let behind = taken_behind t within x.start x.number x.span x.stands one (omega (arith, x.place, w)) in
+        omega (arith, within t (omega arith), behind, x.now, x.next, one))
   ])
 
   within_step : (t : ℕ) → ((u : ℕ) → u ≤ t → Within u) → Within (suc t)
@@ -285,6 +304,7 @@ module _ (modulus capacity : ℕ) (p c : ℕ → ℕ) (puts takes : List Span) (
   pub behind : (t s k : ℕ) (x : Span) → Stands takes s k x → counts x.outcome ≡ 1 → s + x.scan ≤ c t → k < begun puts (p t)
   behind t = taken_behind t (λ u _. within u)
 
-  -- and a put that found room is less than the capacity ahead of the takes
-  pub ahead : (t s n : ℕ) (x : Span) → Stands puts s n x → counts x.outcome ≡ 1 → s + x.scan ≤ p t → n < begun takes (c t) + capacity
+  -- and a put that found room is, with its items, at most the capacity ahead of the takes
+  pub ahead :
+      (t s n : ℕ) (x : Span) → Stands puts s n x → 1 ≤ counts x.outcome → s + x.scan ≤ p t → n + counts x.outcome ≤ begun takes (c t) + capacity
   ahead t = room_ahead t (λ u _. within u)

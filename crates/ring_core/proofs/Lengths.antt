@@ -1,6 +1,7 @@
 -- How many accesses the phrases of a call have.
-use Rattle.std.proofs.Common.{◌≡◌, ℕ, zero, suc, ◌+◌, ◌%◌, ◌≤◌, true, false, List, [], ◌∷◌, ◌++◌, length, refl, arith, ◌∙◌, length-append}
+use Rattle.std.proofs.Common.{◌≡◌, ℕ, zero, suc, ◌+◌, ◌*◌, ◌%◌, ◌≤◌, true, false, List, [], ◌∷◌, ◌++◌, length, refl, arith, ◌∙◌, length-append}
 use Rattle.std.proofs.lemmas.List.{length-map}
+use Rattle.std.proofs.Math.Nat.{suc-mul}
 use Rattle.bits_core.specs.declared.events.Side.TheVariants.{P, C}
 use Rattle.bits_core.specs.declared.events.Bit.{Bit}
 use Rattle.bits_core.specs.declared.events.Bit.TheVariants.{X, Cell}
@@ -9,12 +10,12 @@ use Rattle.bits_core.specs.Shape.{capacity_of, width_of}
 use Rattle.bits_core.specs.Made.{Made, Read, Write}
 use Rattle.register_core.specs.Word.{digit_writes, word_write, word_read}
 use Rattle.register_core.specs.ScanState.{zero_reads, scan_phrase, row_read_by}
-use Rattle.ring_core.specs.Counts.{count_phrase}
-use Rattle.ring_core.specs.Puts.{Stored, Full}
+use Rattle.ring_core.specs.Counts.{Count, count_phrase, batch_phrase}
+use Rattle.ring_core.specs.Puts.{words_phrase}
 use Rattle.ring_core.specs.Takes.{Item, ItemAfterClose, Empty, item_phrase}
-use Rattle.ring_core.specs.Lengths.{PutsAreShort, TakesAreShort, EndsAreShort}
+use Rattle.ring_core.specs.Lengths.{ItemPutsAreShort, FullPutsAreShort, PutsAreShort, TakesAreShort, EndsAreShort}
 use Rattle.ring_core.proofs.Phrases.{length-digit_reads, length-digit_writes}
-use Rattle.ring_core.proofs.CountRow.{count_short}
+use Rattle.ring_core.proofs.CountRow.{count_short, step_short, batch_short}
 
 -- ---- phrases
 
@@ -37,21 +38,45 @@ length-word_read width cell item = length-digit_reads cell item width
 
 -- ---- calls
 
--- no put is longer than the bound
-pub puts-are_short : PutsAreShort
-puts-are_short shape n (Stored seen item) (below, room, fits) =
-    let scan : List Made = scan_phrase (row_read_by P) seen in
-    let word : List Made = word_write (width_of shape) (n % capacity_of shape) item in
+-- words have an access for each digit
+pub length-words : (shape : Shape) (n : ℕ) (items : List ℕ) → length (words_phrase shape n items) ≡ length items * width_of shape
+length-words shape n [] = omega arith
+length-words shape n (item ∷ items) =
     omega (
       arith,
-      below,
-      length-append (scan ++ word) (count_phrase shape P n),
-      length-append scan word,
-      length-scan (row_read_by P) seen,
+      length-append (word_write (width_of shape) (n % capacity_of shape) item) (words_phrase shape (suc n) items),
       length-word_write (width_of shape) (n % capacity_of shape) item,
-      count_short shape P n,
+      length-words shape (suc n) items,
+      suc-mul (length items) (width_of shape),
     )
-puts-are_short shape n (Full seen) (below, none) = omega (arith, below, length-scan (row_read_by P) seen)
+
+-- the parts of a put that stores
+length-stored :
+    (shape : Shape) (c : Count) (seen : ℕ) (items : List ℕ) →
+    length (scan_phrase (row_read_by P) seen ++ words_phrase shape c.number items ++ batch_phrase shape P c items) ≡
+    suc seen + length items * width_of shape + length (batch_phrase shape P c items)
+length-stored shape c seen items =
+    let scan : List Made = scan_phrase (row_read_by P) seen in
+    let words : List Made = words_phrase shape c.number items in
+    omega (
+      arith,
+      length-append (scan ++ words) (batch_phrase shape P c items),
+      length-append scan words,
+      length-scan (row_read_by P) seen,
+      length-words shape c.number items,
+    )
+
+-- no put is longer than the bounds
+pub item_puts-are_short : ItemPutsAreShort
+item_puts-are_short shape c seen item is (below, room, batch) =
+    let one : 1 * width_of shape ≡ width_of shape = omega arith in
+    omega (arith, below, length-stored shape c seen (item ∷ []), one, step_short shape P c item is)
+
+pub full_puts-are_short : FullPutsAreShort
+full_puts-are_short shape c seen (below, none) = omega (arith, below, length-scan (row_read_by P) seen)
+
+pub puts-are_short : PutsAreShort
+puts-are_short shape c seen items is (below, room, batch) = omega (arith, below, length-stored shape c seen items, batch_short shape P c items)
 
 -- the accesses that take an item
 length-item : (shape : Shape) (k item : ℕ) → length (item_phrase shape k item) ≤ width_of shape + 2

@@ -11,6 +11,7 @@ pub mod Following
 pub mod MachineParts
 pub mod NextParts
 pub mod PutCalls
+pub mod Batches
 pub mod ProducerInvariant
 pub mod ProducerMoves
 pub mod ProducerNext

@@ -1,5 +1,5 @@
 -- The machines that both sides are made of: what holds of them while they are at work, and once they are done.
-use Rattle.std.proofs.Common.{◌≡◌, inl, inr, ℕ, zero, suc, ◌+◌, ◌%◌, ◌<◌, Bool, true, false, cond, not, is_some, Option, Some, None, List, [], ◌∷◌, ◌++◌, if◌then◌else◌, refl, sym, ap, subst, ◌∙◌, arith, append_assoc}
+use Rattle.std.proofs.Common.{◌≡◌, inl, inr, ℕ, zero, suc, ◌+◌, ◌%◌, ◌<◌, ◌≤◌, Bool, true, false, cond, not, is_some, Option, Some, None, List, [], ◌∷◌, ◌++◌, length, if◌then◌else◌, refl, sym, ap, subst, ◌∙◌, arith, append_assoc}
 use Rattle.std.proofs.Math.Nat.{mod-eq_of_lt}
 use Rattle.std.proofs.lemmas.List.{map-append}
 use Rattle.bits_core.specs.declared.events.Side.{Side}
@@ -7,16 +7,16 @@ use Rattle.bits_core.specs.declared.events.Bit.{Bit}
 use Rattle.bits_core.specs.declared.events.Access.{Access}
 use Rattle.bits_core.specs.declared.events.Access.TheVariants.{Read}
 use Rattle.bits_core.specs.declared.shapes.Shape.{Shape}
-use Rattle.bits_core.specs.Shape.{modulus_of}
+use Rattle.bits_core.specs.Shape.{batch_of, modulus_of}
 use Rattle.bits_core.specs.Made.{Made, Write, answered}
 use Rattle.register_core.specs.Row.{RowWrite, row_bit, writes_in}
 use Rattle.register_core.specs.ScanState.{ScanState, ScanStands, IsScanOf, IsValueRead, scan_read, due_scan, row_read_by}
 use Rattle.register_core.specs.Machine.{IsNext}
 use Rattle.register_core.specs.Unary.{setting, clearing, unary_phrase, count_writes, writes_of}
 use Rattle.register_core.specs.UnaryState.{UnaryState, bit_in, due_writes, due_unary, first_access, UnaryStands}
-use Rattle.ring_core.specs.Calls.{LastBitIsDue, IsScanning, IsCounted, IsBeingCounted}
-use Rattle.ring_core.specs.Counts.{bits_held, counted, count_phrase}
-use Rattle.ring_core.proofs.CountRow.{next_modulo, counted_writes}
+use Rattle.ring_core.specs.Calls.{LastBitIsDue, IsScanning, IsCounted, IsBeingCounted, IsBeingCountedOn}
+use Rattle.ring_core.specs.Counts.{bits_held, counted, count_phrase, past, Count, IsCount}
+use Rattle.ring_core.proofs.CountRow.{next_modulo, counted_writes, past_is, bits_long}
 use Rattle.ring_core.proofs.Phrases.{at_or_below}
 
 -- ---- the scan
@@ -92,8 +92,27 @@ pub counting :
     IsBeingCounted new (modulus_of shape) count
 counting shape row new count (none, value) below e =
     let at_rest : unary_phrase (bit_in row.bits) count ≡ [] = ap (unary_phrase (bit_in row.bits)) (sym value) ∙ no_first (row_bit row.side) (due_writes row) none in
-    let some : unary_phrase (bit_in row.bits) (suc count % modulus_of shape) ≡ [] → ⊥ = next_due (bit_in row.bits) count (modulus_of shape) below (omega (arith, shape.has_cells, shape.room_to_count)) at_rest in
+    let some : unary_phrase (bit_in row.bits) (suc count % modulus_of shape) ≡ [] → ⊥ = next_due (bit_in row.bits) count (modulus_of shape) below (omega (arith, shape.has_cells, shape.room_to_count, shape.has_batch)) at_rest in
     rw e ((λ f. some (no_first (row_bit row.side) (unary_phrase (bit_in row.bits) (suc count % modulus_of shape)) f)), refl)
+
+-- the same of a write that counts some items
+pub counting_on :
+    (shape : Shape) (row new : UnaryState) (count : ℕ) (items : List ℕ) (m : ℕ) → IsCounted row count → count < modulus_of shape → m ≡ length items →
+    1 ≤ length items → length items ≤ batch_of shape → new ≡ record row { value = (count + m) % modulus_of shape } →
+    IsBeingCountedOn new (modulus_of shape) count m
+counting_on shape row new count items m (none, value) below size some few e =
+    let bits : ℕ → Bool = bit_in row.bits in
+    let at_rest : unary_phrase bits count ≡ [] = ap (unary_phrase bits) (sym value) ∙ no_first (row_bit row.side) (due_writes row) none in
+    let small : count % modulus_of shape ≡ count = mod-eq_of_lt below in
+    let c : Count = record { number = count; bits = bits } in
+    let is : IsCount shape c = record {
+      set = ap bits small ∙ set_there bits count (bits count) refl at_rest;
+      clear = λ j l. none_below bits count j (no_parts (setting bits count) (clearing bits count) at_rest).1 (omega (arith, l, small));
+    } in
+    let value_is : past count items % modulus_of shape ≡ (count + m) % modulus_of shape = ap (λ k. k % modulus_of shape) (omega (arith, past_is count items, size)) in
+    let long : 1 ≤ length (unary_phrase bits ((count + m) % modulus_of shape)) =
+    subst (λ v. 1 ≤ length (unary_phrase bits v)) value_is (bits_long shape c items is some few) in
+    rw e ((λ f. absurd (omega (arith, long, ap length (no_first (row_bit row.side) (unary_phrase bits ((count + m) % modulus_of shape)) f)))), refl)
 
 -- ---- what a scan gives
 

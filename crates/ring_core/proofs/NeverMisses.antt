@@ -17,12 +17,13 @@ use Rattle.register_core.specs.Row.{row_bit}
 use Rattle.register_core.specs.ScanState.{zero_reads, row_read_by}
 use Rattle.register_core.specs.UnaryLaw.{ReadsZeros, UnaryHasOne}
 use Rattle.register_core.specs.MadeReads.{begin_place, end_place, ZerosAreMade}
-use Rattle.ring_core.specs.Counts.{counted}
+use Rattle.ring_core.specs.Counts.{past, first_count}
+use Rattle.ring_core.specs.Spans.{Outcome, Passes, Stops, Asks}
 use Rattle.ring_core.specs.Puts.{close_phrase}
-use Rattle.ring_core.specs.Looks.{Look, put_looks, take_looks, look_accesses}
+use Rattle.ring_core.specs.Looks.{Look, put_looks, take_looks, look_number, look_accesses}
 use Rattle.ring_core.specs.RingLaw.{NeverReadsAll, NeverMisses, PutsAreSeen, TakesAreSeen}
 use Rattle.ring_core.proofs.Cuts.{at_most_or_above}
-use Rattle.ring_core.proofs.CountTimes.{IsQuiet, quiet_close, counts_in, counted_in}
+use Rattle.ring_core.proofs.CountTimes.{IsQuiet, quiet_close, values_from, value_of, counted_in}
 use Rattle.ring_core.proofs.Lengths.{length-zero_reads}
 use Rattle.ring_core.proofs.RegularScans.{writes_unary, put_events, take_events}
 
@@ -33,20 +34,27 @@ one_within last v l zero d m = l
 one_within last v l (suc k) d m = absurd (omega (arith, m))
 
 -- none is above the number of the last bit
-counted_within : (shape : Shape) (k last : ℕ) → suc last ≡ modulus_of shape → All (λ v. v ≤ last) (counted shape k)
-counted_within shape zero last e = All-nil _
-counted_within shape (suc k) last e =
-    let v : ℕ = suc k % modulus_of shape in
-    let below : v < modulus_of shape = mod_below (suc k) (modulus_of shape) (omega (arith, e)) in
-    All-append (λ u. u ≤ last) (counted shape k) (v ∷ []) (counted_within shape k last e) (one_within last v (omega (arith, e, below)))
+value_within : (shape : Shape) (n : ℕ) (o : Outcome) (last : ℕ) → suc last ≡ modulus_of shape → All (λ v. v ≤ last) (value_of shape n o)
+value_within shape n (Passes items) last e =
+    let v : ℕ = past n items % modulus_of shape in
+    let below : v < modulus_of shape = mod_below (past n items) (modulus_of shape) (omega (arith, e)) in
+    one_within last v (omega (arith, e, below))
+value_within shape n Stops last e = All-nil _
+value_within shape n (Asks answer) last e = All-nil _
+
+counted_within : (shape : Shape) (n : ℕ) (looks : List Look) (last : ℕ) → suc last ≡ modulus_of shape → All (λ v. v ≤ last) (values_from shape n looks)
+counted_within shape n [] last e = All-nil _
+counted_within shape n (l ∷ looks) last e =
+    All-append (λ u. u ≤ last) (value_of shape n l.outcome) (values_from shape (look_number n l.outcome) looks) (value_within shape n l.outcome last e)
+    (counted_within shape (look_number n l.outcome) looks last e)
 
 -- so the last bit is not read as 0 behind all others
 never_reads :
     UnaryHasOne → (shape : Shape) (h : List Event) → IsLawful shape h → (s : Side) (looks : List Look) (behind : List Made) → IsQuiet s behind →
-    IsBeginning (own s h) (events_of s (look_accesses s shape 0 looks behind)) → NeverReadsAll s shape h
+    IsBeginning (own s h) (events_of s (look_accesses s shape first_count looks behind)) → NeverReadsAll s shape h
 never_reads has_one shape h lawful s looks behind quiet follows last e start stop zeros =
     has_one shape h lawful s (counted_in shape looks) (writes_unary shape h lawful s looks behind follows quiet) last
-    (counted_within shape (counts_in looks) last e) start stop zeros
+    (counted_within shape 0 looks last e) start stop zeros
 
 -- ---- the reads of a list of accesses
 

@@ -1,7 +1,7 @@
 -- The producer's machine, access by access.
-use Rattle.std.proofs.Common.{◌≡◌, inl, ℕ, suc, ◌^◌, ◌%◌, ◌<◌, Bool, true, false, Option, Some, None, List, [], ◌∷◌, ◌++◌, refl, sym, ap, subst, ◌∙◌, append_assoc, append-nil}
+use Rattle.std.proofs.Common.{◌≡◌, ◌⊎◌, inl, ℕ, suc, ◌+◌, ◌%◌, ◌≤◌, Bool, true, false, Option, Some, None, List, [], ◌∷◌, ◌++◌, length, take, refl, sym, ap, subst, ◌∙◌, append_assoc, append-nil}
+use Rattle.std.specs.Prelude.{slice_get}
 use Rattle.std.proofs.lemmas.List.{append_cancel_left}
-use Rattle.std.proofs.Math.Nat.{suc-mod}
 use Rattle.bits_core.specs.declared.events.Side.TheVariants.{P}
 use Rattle.bits_core.specs.declared.events.Bit.TheVariants.{X, Cell}
 use Rattle.bits_core.specs.declared.events.Access.{Access}
@@ -15,24 +15,26 @@ use Rattle.register_core.specs.WordState.{WriterState, WriterStands, due_write}
 use Rattle.register_core.specs.ScanState.{ScanState, ScanStands, scan_phrase, row_read_by, IsScanOf}
 use Rattle.register_core.specs.Unary.{count_writes}
 use Rattle.register_core.specs.UnaryState.{UnaryState, UnaryStands}
-use Rattle.ring_core.specs.declared.producers.PutReply.{PutReply}
+use Rattle.ring_core.specs.declared.producers.BatchReply.{BatchReply}
+use Rattle.ring_core.specs.declared.producers.BatchReply.TheVariants as reply
 use Rattle.ring_core.specs.declared.producers.Stage.{Stage}
 use Rattle.ring_core.specs.declared.producers.Stage.TheVariants.{Idle, Scanning, Storing, Counting, Closing}
-use Rattle.ring_core.specs.Counts.{LeavesRoom, counted, count_phrase}
-use Rattle.ring_core.specs.Puts.{Puts, Stored, Full, stored_in, stored_after, put_phrase, put_phrases, put_program, IsPut, ArePuts}
+use Rattle.ring_core.specs.Counts.{LeavesRoom, LeavesRoomFor, distance, past, Count, first_count, batch_phrase}
+use Rattle.ring_core.specs.Puts.{Puts, Stored, Full, number_after, stored_after, words_phrase, put_phrase, put_phrases, put_program, IsBatch, IsPut, ArePuts}
 use Rattle.ring_core.specs.Puts as puts
 use Rattle.ring_core.specs.ProducerState.{ProducerState, Call, Put, Close, call_of, call_at, due_put, due_at}
-use Rattle.ring_core.specs.ProducerCalls.{ProducerStands, MadeAt, HasMoved, IsPutOf, reply_to, and_put, and_close, HasCallMore, IsOpenFor, closes_with, IsReply, IsAfter}
-use Rattle.ring_core.proofs.MachineParts.{ScanGoesOn, RowGoesOn, longer, count_writes-push}
-use Rattle.ring_core.proofs.PutCalls.{stored-push, are-push, reply-push, program-push}
+use Rattle.ring_core.specs.ProducerCalls.{count_of, values_of, ProducerStands, MadeAt, HasMoved, IsPutOf, reply_to, and_put, and_close, HasCallMore, IsOpenFor, closes_with, IsReply, IsAfter}
+use Rattle.ring_core.proofs.MachineParts.{ScanGoesOn, RowGoesOn, longer}
+use Rattle.ring_core.proofs.Batches.{taken_so, taken_batch, has_seen, words-take, far_from, past_so}
+use Rattle.ring_core.proofs.PutCalls.{stored-push, are-push, reply-push, program-push, values-push, values-full, values_writes-push}
 
 -- ---- what is known at a stage
 
-pub made_at : (st : Stage) (p : ProducerState) (calls : Puts) (made : List Made) → p.stage ≡ st → ProducerStands p calls made → MadeAt st p calls (stored_in 0 calls.puts) made
-made_at st p calls made e stands = subst (λ s. MadeAt s p calls (stored_in 0 calls.puts) made) e stands.made_is
+pub made_at : (st : Stage) (p : ProducerState) (calls : Puts) (made : List Made) → p.stage ≡ st → ProducerStands p calls made → MadeAt st p calls made
+made_at st p calls made e stands = subst (λ s. MadeAt s p calls made) e stands.made_is
 
-pub open_at : (st : Stage) (p : ProducerState) (calls : Puts) (made : List Made) → p.stage ≡ st → ProducerStands p calls made → IsOpenFor (call_at st p.word.item) calls
-open_at st p calls made e stands = subst (λ s. IsOpenFor (call_at s p.word.item) calls) e stands.not_over
+pub open_at : (st : Stage) (p : ProducerState) (calls : Puts) (made : List Made) → p.stage ≡ st → ProducerStands p calls made → IsOpenFor (call_at st p.items) calls
+open_at st p calls made e stands = subst (λ s. IsOpenFor (call_at s p.items) calls) e stands.not_over
 
 pub due_is : (st : Stage) (p : ProducerState) (access : Access) → p.stage ≡ st → due_put p ≡ Some access → due_at st p ≡ Some access
 due_is st p access e due = subst (λ s. due_at s p ≡ Some access) e due
@@ -40,16 +42,16 @@ due_is st p access e due = subst (λ s. due_at s p ≡ Some access) e due
 -- ---- a put goes on
 
 -- the state with the machines of its call, at a stage
-abbrev pub at_stage : ProducerState → Stage → ScanState → WriterState → UnaryState → ProducerState
-at_stage p st scan word row = record p { stage = st; scan = scan; word = word; row = row }
+abbrev pub at_stage : ProducerState → Stage → ScanState → WriterState → UnaryState → ℕ → ℕ → ProducerState
+at_stage p st scan word row most index = record p { stage = st; scan = scan; word = word; row = row; most = most; index = index }
 
-after_on : (shape : Shape) (a b : Option Call) (c : Call) (calls : Puts) (answer : Option PutReply) → a ≡ Some c → b ≡ Some c → IsAfter shape a b calls calls answer
+after_on : (shape : Shape) (a b : Option Call) (c : Call) (calls : Puts) (answer : Option BatchReply) → a ≡ Some c → b ≡ Some c → IsAfter shape a b calls calls answer
 after_on shape None b c calls answer e f = absurd (cc)
 after_on shape (Some a) None c calls answer e f = absurd (cc)
 after_on shape (Some a) (Some b) c calls answer e f = (cc, refl)
 
 after_over :
-    (shape : Shape) (a : Option Call) (c : Call) (calls more : Puts) (answer : Option PutReply) → a ≡ Some c → HasCallMore shape c calls more →
+    (shape : Shape) (a : Option Call) (c : Call) (calls more : Puts) (answer : Option BatchReply) → a ≡ Some c → HasCallMore shape c calls more →
     (c ≡ Close → answer ≡ None) → IsAfter shape a None calls more answer
 after_over shape None c calls more answer e has h = absurd (cc)
 after_over shape (Some a) c calls more answer e has h =
@@ -58,12 +60,12 @@ after_over shape (Some a) c calls more answer e has h =
 
 -- a put under way goes on at a stage
 pub put_goes_on :
-    (p : ProducerState) (st now : Stage) (scan : ScanState) (word : WriterState) (row : UnaryState) (calls : Puts) (made more : List Made) →
-    p.stage ≡ st → call_at st p.word.item ≡ Some (Put p.word.item) → call_at now word.item ≡ Some (Put p.word.item) → ProducerStands p calls made →
-    MadeAt now (at_stage p now scan word row) calls (stored_in 0 calls.puts) more → HasMoved p (at_stage p now scan word row) calls more
-put_goes_on p st now scan word row calls made more e before after stands made_is =
-    let was : call_of p ≡ Some (Put p.word.item) = subst (λ s. call_at s p.word.item ≡ Some (Put p.word.item)) (sym e) before in
-    let same : call_of p ≡ call_of (at_stage p now scan word row) = was ∙ sym after in (
+    (p : ProducerState) (st now : Stage) (scan : ScanState) (word : WriterState) (row : UnaryState) (most index : ℕ) (calls : Puts) (made more : List Made) →
+    p.stage ≡ st → call_at st p.items ≡ Some (Put p.items) → call_at now p.items ≡ Some (Put p.items) → ProducerStands p calls made →
+    MadeAt now (at_stage p now scan word row most index) calls more → HasMoved p (at_stage p now scan word row most index) calls more
+put_goes_on p st now scan word row most index calls made more e before after stands made_is =
+    let was : call_of p ≡ Some (Put p.items) = subst (λ s. call_at s p.items ≡ Some (Put p.items)) (sym e) before in
+    let same : call_of p ≡ call_of (at_stage p now scan word row most index) = was ∙ sym after in (
       calls,
       record {
         are = stands.are;
@@ -74,16 +76,16 @@ put_goes_on p st now scan word row calls made more e before after stands made_is
         reply_is = subst (λ c. IsReply calls c p.reply) same stands.reply_is;
         made_is = made_is;
       },
-      after_on p.shape (call_of p) (call_at now word.item) (Put p.word.item) calls p.reply was after,
+      after_on p.shape (call_of p) (call_at now p.items) (Put p.items) calls p.reply was after,
     )
 
 -- ---- a put is over
 
-put_open : (p : ProducerState) (calls : Puts) (item : ℕ) → IsOpenFor (call_of p) calls → call_of p ≡ Some (Put item) → calls.closes ≡ false
-put_open p calls item o was = subst (λ c. IsOpenFor c calls) was o
+put_open : (p : ProducerState) (calls : Puts) (items : List ℕ) → IsOpenFor (call_of p) calls → call_of p ≡ Some (Put items) → calls.closes ≡ false
+put_open p calls items o was = subst (λ c. IsOpenFor c calls) was o
 
-put_closed : (p : ProducerState) (calls : Puts) (item : ℕ) → p.closed ≡ closes_with calls (call_of p) → call_of p ≡ Some (Put item) → p.closed ≡ false
-put_closed p calls item c was = c ∙ ap (closes_with calls) was
+put_closed : (p : ProducerState) (calls : Puts) (items : List ℕ) → p.closed ≡ closes_with calls (call_of p) → call_of p ≡ Some (Put items) → p.closed ≡ false
+put_closed p calls items c was = c ∙ ap (closes_with calls) was
 
 -- the state of a producer that has ended a put
 abbrev pub ended_put : ProducerState → puts.Put → ℕ → ℕ → ScanState → WriterState → UnaryState → ProducerState
@@ -91,27 +93,29 @@ ended_put p x count cell scan word row = record p { count = count; cell = cell; 
 
 pub put_over :
     (p : ProducerState) (st : Stage) (x : puts.Put) (count cell : ℕ) (scan : ScanState) (word : WriterState) (row : UnaryState) (calls : Puts) (made more : List Made) →
-    p.stage ≡ st → call_at st p.word.item ≡ Some (Put p.word.item) → ProducerStands p calls made → IsPutOf p.word.item x → IsPut p.shape (stored_in 0 calls.puts) x →
-    count ≡ stored_after (stored_in 0 calls.puts) x % modulus_of p.shape → cell ≡ stored_after (stored_in 0 calls.puts) x % capacity_of p.shape →
-    UnaryStands row (counted p.shape (stored_after (stored_in 0 calls.puts) x)) (count_writes P (counted p.shape (stored_after (stored_in 0 calls.puts) x))) →
-    more ≡ put_phrases p.shape 0 calls.puts ++ put_phrase p.shape (stored_in 0 calls.puts) x →
+    p.stage ≡ st → call_at st p.items ≡ Some (Put p.items) → ProducerStands p calls made → IsPutOf p.shape (count_of p.shape calls).number p.items x →
+    IsPut p.shape (count_of p.shape calls).number x →
+    count ≡ number_after (count_of p.shape calls).number x % modulus_of p.shape → cell ≡ number_after (count_of p.shape calls).number x % capacity_of p.shape →
+    UnaryStands row (values_of p.shape (and_put calls x)) (count_writes P (values_of p.shape (and_put calls x))) →
+    more ≡ put_phrases p.shape first_count calls.puts ++ put_phrase p.shape (count_of p.shape calls) x →
     HasMoved p (ended_put p x count cell scan word row) calls more
-put_over p st x count cell scan word row calls made more e before stands of_item is count_is cell_is rests made_is =
-    let was : call_of p ≡ Some (Put p.word.item) = subst (λ s. call_at s p.word.item ≡ Some (Put p.word.item)) (sym e) before in
-    let n : stored_in 0 (calls.puts ++ x ∷ []) ≡ stored_after (stored_in 0 calls.puts) x = stored-push 0 calls.puts x in
-    let are : ArePuts p.shape 0 (calls.puts ++ x ∷ []) = are-push p.shape 0 calls.puts x stands.are is in (
+put_over p st x count cell scan word row calls made more e before stands of_items is count_is cell_is rests made_is =
+    let was : call_of p ≡ Some (Put p.items) = subst (λ s. call_at s p.items ≡ Some (Put p.items)) (sym e) before in
+    let n : (count_of p.shape (and_put calls x)).number ≡ number_after (count_of p.shape calls).number x =
+    ap (λ (c : Count). c.number) (stored-push p.shape first_count calls.puts x) in
+    let are : ArePuts p.shape 0 (calls.puts ++ x ∷ []) = are-push p.shape first_count calls.puts x stands.are is in (
       and_put calls x,
       record {
         are = are;
         count_is = count_is ∙ sym (ap (λ k. k % modulus_of p.shape) n);
         cell_is = cell_is ∙ sym (ap (λ k. k % capacity_of p.shape) n);
-        closed_is = put_closed p calls p.word.item stands.closed_is was;
-        not_over = record {};
+        closed_is = put_closed p calls p.items stands.closed_is was;
+        not_over = tt;
         reply_is = sym (reply-push None calls.puts x);
-        made_is = (subst (λ k. UnaryStands row (counted p.shape k) (count_writes P (counted p.shape k))) (sym n) rests, made_is ∙ sym (program-push p.shape calls x));
+        made_is = (rests, made_is ∙ sym (program-push p.shape calls x));
       },
-      after_over p.shape (call_of p) (Put p.word.item) calls (and_put calls x) (Some (reply_to x)) was
-          (x, of_item, refl, are, put_open p calls p.word.item stands.not_over was) (λ k. absurd (cc)),
+      after_over p.shape (call_of p) (Put p.items) calls (and_put calls x) (Some (reply_to x)) was
+          (x, of_items, refl, are, put_open p calls p.items stands.not_over was) (λ k. absurd (cc)),
     )
 
 -- ---- the scan
@@ -123,35 +127,43 @@ pub scan_on :
 scan_on p s answer e goes calls made access stands due =
     let (rests, reads, scans, made_is) = made_at Scanning p calls made e stands in
     let x : List Made = answered access answer ∷ [] in
-    let front : List Made = put_phrases p.shape 0 calls.puts in
-    let moved : HasMoved p (at_stage p Scanning s p.word p.row) calls (made ++ x) =
-    put_goes_on p Scanning Scanning s p.word p.row calls made (made ++ x) e refl refl stands
+    let front : List Made = put_phrases p.shape first_count calls.puts in
+    let moved : HasMoved p (at_stage p Scanning s p.word p.row p.most p.index) calls (made ++ x) =
+    put_goes_on p Scanning Scanning s p.word p.row p.most p.index calls made (made ++ x) e refl refl stands
     (rests, reads ++ x, goes reads access scans (due_is Scanning p access e due), ap (λ l. l ++ x) made_is ∙ append_assoc front reads x) in
-    subst (λ st. HasMoved p (at_stage p st s p.word p.row) calls (made ++ x)) (sym e) moved
+    subst (λ st. HasMoved p (at_stage p st s p.word p.row p.most p.index) calls (made ++ x)) (sym e) moved
 
 no_writes : (w : WriterState) → w.written ≡ 0 → WriterStands w []
 no_writes w e = sym (ap (λ n. writes_in (Cell w.cell) (digit_writes w.item n)) e)
 
 pub scan_room :
-    (p : ProducerState) (s : ScanState) (answer : Bool) (seen : ℕ) → p.stage ≡ Scanning → ScanGoesOn p.scan s answer → p.word.written ≡ 0 →
-    ((reads : List Made) → ScanStands s reads → IsScanOf (row_read_by P) (modulus_of p.shape) reads seen) → LeavesRoom p.shape p.count seen →
+    (p : ProducerState) (s : ScanState) (answer : Bool) (seen most : ℕ) → p.stage ≡ Scanning → ScanGoesOn p.scan s answer → p.word.written ≡ 0 → p.index ≡ 0 →
+    ((reads : List Made) → ScanStands s reads → IsScanOf (row_read_by P) (modulus_of p.shape) reads seen) → LeavesRoomFor p.shape p.count seen most →
+    (most ≡ length p.items) ⊎ (distance (modulus_of p.shape) p.count seen + most ≡ capacity_of p.shape) →
     (calls : Puts) (made : List Made) (access : Access) → ProducerStands p calls made → due_put p ≡ Some access →
-    HasMoved p (at_stage p Storing s p.word p.row) calls (made ++ answered access answer ∷ [])
-scan_room p s answer seen e goes fresh gives room calls made access stands due =
+    HasMoved p (at_stage p Storing s p.word p.row most p.index) calls (made ++ answered access answer ∷ [])
+scan_room p s answer seen most e goes fresh start gives room all calls made access stands due =
     let (rests, reads, scans, made_is) = made_at Scanning p calls made e stands in
     let x : List Made = answered access answer ∷ [] in
-    let front : List Made = put_phrases p.shape 0 calls.puts in
+    let n : ℕ = (count_of p.shape calls).number in
+    let front : List Made = put_phrases p.shape first_count calls.puts in
     let scan : List Made = scan_phrase (row_read_by P) seen in
     let (below, reads_are) = gives (reads ++ x) (goes reads access scans (due_is Scanning p access e due)) in
-    put_goes_on p Scanning Storing s p.word p.row calls made (made ++ x) e refl refl stands (
+    let none : words_phrase p.shape n (take p.index p.items) ≡ [] = ap (λ i. words_phrase p.shape n (take i p.items)) start ∙ no_words p.items in
+    put_goes_on p Scanning Storing s p.word p.row most p.index calls made (made ++ x) e refl refl stands (
       rests,
       seen,
-      below,
-      subst (λ k. LeavesRoom p.shape k seen) stands.count_is room,
+      has_seen p.shape p.items most n seen below (subst (λ k. LeavesRoomFor p.shape k seen most) stands.count_is room)
+          (subst (λ k. (most ≡ length p.items) ⊎ (distance (modulus_of p.shape) k seen + most ≡ capacity_of p.shape)) stands.count_is all),
       [],
       no_writes p.word fresh,
-      ap (λ l. l ++ x) made_is ∙ append_assoc front reads x ∙ ap (λ l. front ++ l) (reads_are ∙ sym (append-nil scan)),
+      ap (λ l. l ++ x) made_is ∙ append_assoc front reads x ∙
+          ap (λ l. front ++ l) (reads_are ∙ sym (append-nil scan) ∙ sym (append-nil (scan ++ [])) ∙ ap (λ l. (scan ++ l) ++ []) (sym none)),
     )
+  where
+    no_words : (items : List ℕ) → words_phrase p.shape (count_of p.shape calls).number (take 0 items) ≡ []
+    no_words [] = refl
+    no_words (item ∷ items) = refl
 
 pub scan_full :
     (p : ProducerState) (s : ScanState) (answer : Bool) (seen : ℕ) → p.stage ≡ Scanning → ScanGoesOn p.scan s answer →
@@ -161,64 +173,111 @@ pub scan_full :
 scan_full p s answer seen e goes gives none calls made access stands due =
     let (rests, reads, scans, made_is) = made_at Scanning p calls made e stands in
     let x : List Made = answered access answer ∷ [] in
-    let front : List Made = put_phrases p.shape 0 calls.puts in
+    let front : List Made = put_phrases p.shape first_count calls.puts in
     let (below, reads_are) = gives (reads ++ x) (goes reads access scans (due_is Scanning p access e due)) in
-    put_over p Scanning (Full seen) p.count p.cell s p.word p.row calls made (made ++ x) e refl stands (record {})
-    (below, λ room. none (subst (λ k. LeavesRoom p.shape k seen) (sym stands.count_is) room)) stands.count_is stands.cell_is rests
+    put_over p Scanning (Full seen) p.count p.cell s p.word p.row calls made (made ++ x) e refl stands tt
+    (below, λ room. none (subst (λ k. LeavesRoom p.shape k seen) (sym stands.count_is) room)) stands.count_is stands.cell_is
+    (subst (λ l. UnaryStands p.row l (count_writes P l)) (sym (values-full p.shape first_count calls.puts seen)) rests)
     (ap (λ l. l ++ x) made_is ∙ append_assoc front reads x ∙ ap (λ l. front ++ l) reads_are)
 
--- ---- the word
+-- ---- the words
 
 abbrev pub WordGoesOn : WriterState → WriterState → Bool → Type 0
 WordGoesOn old new answer =
     (writes : List Made) (access : Access) → WriterStands old writes → due_write old ≡ Some access → WriterStands new (writes ++ answered access answer ∷ [])
 
 pub word_on :
-    (p : ProducerState) (w : WriterState) (answer : Bool) → p.stage ≡ Storing → WordGoesOn p.word w answer → w.item ≡ p.word.item →
+    (p : ProducerState) (w : WriterState) (answer : Bool) → p.stage ≡ Storing → WordGoesOn p.word w answer →
     (calls : Puts) (made : List Made) (access : Access) → ProducerStands p calls made → due_put p ≡ Some access →
     HasMoved p (record p { word = w }) calls (made ++ answered access answer ∷ [])
-word_on p w answer e goes same calls made access stands due =
-    let (rests, seen, below, room, writes, words, made_is) = made_at Storing p calls made e stands in
+word_on p w answer e goes calls made access stands due =
+    let (rests, seen, has, writes, words, made_is) = made_at Storing p calls made e stands in
     let x : List Made = answered access answer ∷ [] in
-    let moved : HasMoved p (at_stage p Storing p.scan w p.row) calls (made ++ x) =
-    put_goes_on p Storing Storing p.scan w p.row calls made (made ++ x) e refl (ap (λ i. Some (Put i)) same) stands (
+    let scan_words : List Made = scan_phrase (row_read_by P) seen ++ words_phrase p.shape (count_of p.shape calls).number (take p.index p.items) in
+    let moved : HasMoved p (at_stage p Storing p.scan w p.row p.most p.index) calls (made ++ x) =
+    put_goes_on p Storing Storing p.scan w p.row p.most p.index calls made (made ++ x) e refl refl stands (
       rests,
       seen,
-      below,
-      room,
+      has,
       writes ++ x,
       goes writes access words (due_is Storing p access e due),
-      ap (λ l. l ++ x) made_is ∙ longer (put_phrases p.shape 0 calls.puts) (scan_phrase (row_read_by P) seen) writes x,
+      ap (λ l. l ++ x) made_is ∙ longer (put_phrases p.shape first_count calls.puts) scan_words writes x,
     ) in
-    subst (λ st. HasMoved p (at_stage p st p.scan w p.row) calls (made ++ x)) (sym e) moved
+    subst (λ st. HasMoved p (at_stage p st p.scan w p.row p.most p.index) calls (made ++ x)) (sym e) moved
+
+-- the words made, once the one under way is whole
+whole_words :
+    (p : ProducerState) (calls : Puts) (front scan writes x made : List Made) → (p.cell ≡ (count_of p.shape calls).number % capacity_of p.shape) →
+    slice_get p.items p.index ≡ Some p.word.item →
+    made ≡ front ++ (scan ++ words_phrase p.shape (count_of p.shape calls).number (take p.index p.items) ++ writes) →
+    writes ++ x ≡ word_write (width_of p.shape) ((p.cell + p.index) % capacity_of p.shape) p.word.item →
+    made ++ x ≡ front ++ (scan ++ words_phrase p.shape (count_of p.shape calls).number (take (suc p.index) p.items) ++ [])
+whole_words p calls front scan writes x made cell_is item_is made_is all =
+    let n : ℕ = (count_of p.shape calls).number in
+    let words : List Made = words_phrase p.shape n (take p.index p.items) in
+    let word : List Made = word_write (width_of p.shape) ((n + p.index) % capacity_of p.shape) p.word.item in
+    let all_is : writes ++ x ≡ word =
+    all ∙ ap (λ k. word_write (width_of p.shape) k p.word.item) (far_from p.cell n p.index (capacity_of p.shape) cell_is) in
+    ap (λ l. l ++ x) made_is ∙ longer front (scan ++ words) writes x ∙ ap (λ l. front ++ ((scan ++ words) ++ l)) all_is ∙
+    ap (λ l. front ++ l) (append_assoc scan words word ∙ ap (λ l. scan ++ l) (sym (words-take p.shape n p.items p.index p.word.item item_is)) ∙
+    sym (append-nil (scan ++ words_phrase p.shape n (take (suc p.index) p.items))))
+
+pub word_next :
+    (p : ProducerState) (w new : WriterState) (answer : Bool) → p.stage ≡ Storing → WordGoesOn p.word w answer →
+    ((writes : List Made) → WriterStands w writes → writes ≡ word_write (width_of p.shape) ((p.cell + p.index) % capacity_of p.shape) p.word.item) →
+    slice_get p.items p.index ≡ Some p.word.item → WriterStands new [] →
+    (calls : Puts) (made : List Made) (access : Access) → ProducerStands p calls made → due_put p ≡ Some access →
+    HasMoved p (record p { word = new; index = suc p.index }) calls (made ++ answered access answer ∷ [])
+word_next p w new answer e goes whole item_is fresh calls made access stands due =
+    let (rests, seen, has, writes, words, made_is) = made_at Storing p calls made e stands in
+    let x : List Made = answered access answer ∷ [] in
+    let moved : HasMoved p (at_stage p Storing p.scan new p.row p.most (suc p.index)) calls (made ++ x) =
+    put_goes_on p Storing Storing p.scan new p.row p.most (suc p.index) calls made (made ++ x) e refl refl stands (
+      rests,
+      seen,
+      has,
+      [],
+      fresh,
+      whole_words p calls (put_phrases p.shape first_count calls.puts) (scan_phrase (row_read_by P) seen) writes x made stands.cell_is item_is made_is
+          (whole (writes ++ x) (goes writes access words (due_is Storing p access e due))),
+    ) in
+    subst (λ st. HasMoved p (at_stage p st p.scan new p.row p.most (suc p.index)) calls (made ++ x)) (sym e) moved
+
+pub word_so :
+    (p : ProducerState) (w new : WriterState) (answer : Bool) (i : ℕ) → i ≡ suc p.index → p.stage ≡ Storing → WordGoesOn p.word w answer →
+    ((writes : List Made) → WriterStands w writes → writes ≡ word_write (width_of p.shape) ((p.cell + p.index) % capacity_of p.shape) p.word.item) →
+    slice_get p.items p.index ≡ Some p.word.item → WriterStands new [] →
+    (calls : Puts) (made : List Made) (access : Access) → ProducerStands p calls made → due_put p ≡ Some access →
+    HasMoved p (record p { word = new; index = i }) calls (made ++ answered access answer ∷ [])
+word_so p w new answer i so e goes whole item_is fresh calls made access stands due =
+    subst (λ k. HasMoved p (record p { word = new; index = k }) calls (made ++ answered access answer ∷ [])) (sym so)
+    (word_next p w new answer e goes whole item_is fresh calls made access stands due)
 
 pub word_over :
-    (p : ProducerState) (w : WriterState) (row : UnaryState) (answer : Bool) → p.stage ≡ Storing → WordGoesOn p.word w answer → w.item ≡ p.word.item →
-    ((writes : List Made) → WriterStands w writes → writes ≡ word_write (width_of p.shape) p.cell p.word.item) →
-    ((values : List ℕ) (made : List Made) → UnaryStands p.row values made → UnaryStands row (values ++ suc p.count % modulus_of p.shape ∷ []) made) →
+    (p : ProducerState) (w : WriterState) (row : UnaryState) (answer : Bool) → p.stage ≡ Storing → WordGoesOn p.word w answer →
+    ((writes : List Made) → WriterStands w writes → writes ≡ word_write (width_of p.shape) ((p.cell + p.index) % capacity_of p.shape) p.word.item) →
+    slice_get p.items p.index ≡ Some p.word.item → suc p.index ≡ p.most → p.most ≤ length p.items →
+    ((values : List ℕ) (made : List Made) → UnaryStands p.row values made → UnaryStands row (values ++ (p.count + p.most) % modulus_of p.shape ∷ []) made) →
     (calls : Puts) (made : List Made) (access : Access) → ProducerStands p calls made → due_put p ≡ Some access →
-    HasMoved p (at_stage p Counting p.scan w row) calls (made ++ answered access answer ∷ [])
-word_over p w row answer e goes same whole begins calls made access stands due =
-    let (rests, seen, below, room, writes, words, made_is) = made_at Storing p calls made e stands in
+    HasMoved p (at_stage p Counting p.scan w row p.most p.index) calls (made ++ answered access answer ∷ [])
+word_over p w row answer e goes whole item_is last few begins calls made access stands due =
+    let (rests, seen, has, writes, words, made_is) = made_at Storing p calls made e stands in
     let x : List Made = answered access answer ∷ [] in
-    let n : ℕ = stored_in 0 calls.puts in
-    let front : List Made = put_phrases p.shape 0 calls.puts in
+    let n : ℕ = (count_of p.shape calls).number in
+    let front : List Made = put_phrases p.shape first_count calls.puts in
     let scan : List Made = scan_phrase (row_read_by P) seen in
-    let all : writes ++ x ≡ word_write (width_of p.shape) (n % capacity_of p.shape) p.word.item =
-    whole (writes ++ x) (goes writes access words (due_is Storing p access e due)) ∙ ap (λ k. word_write (width_of p.shape) k p.word.item) stands.cell_is in
-    let value : suc p.count % modulus_of p.shape ≡ suc n % modulus_of p.shape =
-    ap (λ k. suc k % modulus_of p.shape) stands.count_is ∙ sym (suc-mod n (modulus_of p.shape)) in
-    let row_begins : UnaryStands row (counted p.shape (suc n)) (count_writes P (counted p.shape n)) =
-    subst (λ v. UnaryStands row (counted p.shape n ++ v ∷ []) (count_writes P (counted p.shape n))) value (begins (counted p.shape n) (count_writes P (counted p.shape n)) rests) in
-    let made' : made ++ x ≡ front ++ (scan ++ word_write (width_of p.shape) (n % capacity_of p.shape) p.word.item) =
-    ap (λ l. l ++ x) made_is ∙ longer front scan writes x ∙ ap (λ l. front ++ (scan ++ l)) all in
-    put_goes_on p Storing Counting p.scan w row calls made (made ++ x) e refl (ap (λ i. Some (Put i)) same) stands (
+    let values : List ℕ = values_of p.shape calls in
+    let value : (p.count + p.most) % modulus_of p.shape ≡ past n (take p.most p.items) % modulus_of p.shape =
+    past_so p.count n (modulus_of p.shape) (take p.most p.items) p.most stands.count_is (taken_so p.items p.most few) in
+    let row_begins : UnaryStands row (values ++ past n (take p.most p.items) % modulus_of p.shape ∷ []) (count_writes P values) =
+    subst (λ v. UnaryStands row (values ++ v ∷ []) (count_writes P values)) value (begins values (count_writes P values) rests) in
+    put_goes_on p Storing Counting p.scan w row p.most p.index calls made (made ++ x) e refl refl stands (
       seen,
-      below,
-      room,
+      has,
       [],
-      subst (λ l. UnaryStands row (counted p.shape (suc n)) l) (sym (append-nil (count_writes P (counted p.shape n)))) row_begins,
-      made' ∙ ap (λ i. front ++ (scan ++ word_write (width_of p.shape) (n % capacity_of p.shape) i)) (sym same) ∙ sym (ap (λ l. front ++ l) (append-nil (scan ++ word_write (width_of p.shape) (n % capacity_of p.shape) w.item))),
+      subst (λ l. UnaryStands row (values ++ past n (take p.most p.items) % modulus_of p.shape ∷ []) l) (sym (append-nil (count_writes P values))) row_begins,
+      whole_words p calls front scan writes x made stands.cell_is item_is made_is (whole (writes ++ x) (goes writes access words (due_is Storing p access e due))) ∙
+          ap (λ k. front ++ ((scan ++ words_phrase p.shape n (take k p.items)) ++ [])) last,
     )
 
 -- ---- the count
@@ -228,47 +287,54 @@ pub count_on :
     (calls : Puts) (made : List Made) (access : Access) → ProducerStands p calls made → due_put p ≡ Some access →
     HasMoved p (record p { row = row }) calls (made ++ answered access answer ∷ [])
 count_on p row answer e goes calls made access stands due =
-    let (seen, below, room, writes, rows, made_is) = made_at Counting p calls made e stands in
+    let (seen, has, writes, rows, made_is) = made_at Counting p calls made e stands in
     let x : List Made = answered access answer ∷ [] in
-    let n : ℕ = stored_in 0 calls.puts in
-    let old : List Made = count_writes P (counted p.shape n) in
-    let rows' : UnaryStands row (counted p.shape (suc n)) (old ++ (writes ++ x)) =
-    subst (λ l. UnaryStands row (counted p.shape (suc n)) l) (append_assoc old writes x) (goes (counted p.shape (suc n)) (old ++ writes) access rows (due_is Counting p access e due)) in
-    let moved : HasMoved p (at_stage p Counting p.scan p.word row) calls (made ++ x) =
-    put_goes_on p Counting Counting p.scan p.word row calls made (made ++ x) e refl refl stands (
+    let n : ℕ = (count_of p.shape calls).number in
+    let values : List ℕ = values_of p.shape calls ++ past n (take p.most p.items) % modulus_of p.shape ∷ [] in
+    let old : List Made = count_writes P (values_of p.shape calls) in
+    let rows' : UnaryStands row values (old ++ (writes ++ x)) =
+    subst (λ l. UnaryStands row values l) (append_assoc old writes x) (goes values (old ++ writes) access rows (due_is Counting p access e due)) in
+    let moved : HasMoved p (at_stage p Counting p.scan p.word row p.most p.index) calls (made ++ x) =
+    put_goes_on p Counting Counting p.scan p.word row p.most p.index calls made (made ++ x) e refl refl stands (
       seen,
-      below,
-      room,
+      has,
       writes ++ x,
       rows',
-      ap (λ l. l ++ x) made_is ∙ longer (put_phrases p.shape 0 calls.puts) (scan_phrase (row_read_by P) seen ++ word_write (width_of p.shape) (n % capacity_of p.shape) p.word.item) writes x,
+      ap (λ l. l ++ x) made_is ∙ longer (put_phrases p.shape first_count calls.puts) (scan_phrase (row_read_by P) seen ++ words_phrase p.shape n (take p.most p.items)) writes x,
     ) in
-    subst (λ st. HasMoved p (at_stage p st p.scan p.word row) calls (made ++ x)) (sym e) moved
+    subst (λ st. HasMoved p (at_stage p st p.scan p.word row p.most p.index) calls (made ++ x)) (sym e) moved
 
 pub count_over :
-    (p : ProducerState) (row : UnaryState) (answer : Bool) (count cell : ℕ) → p.stage ≡ Counting → RowGoesOn p.row row answer → p.word.item < 2 ^ width_of p.shape →
-    count ≡ suc p.count % modulus_of p.shape → cell ≡ suc p.cell % capacity_of p.shape →
+    (p : ProducerState) (row : UnaryState) (answer : Bool) (count cell : ℕ) → p.stage ≡ Counting → RowGoesOn p.row row answer → IsBatch p.shape p.items →
+    1 ≤ p.most → p.most ≤ length p.items →
+    count ≡ (p.count + p.most) % modulus_of p.shape → cell ≡ (p.cell + p.most) % capacity_of p.shape →
     ((values : List ℕ) (made : List Made) → UnaryStands row values made → made ≡ count_writes P values) →
     (calls : Puts) (made : List Made) (access : Access) → ProducerStands p calls made → due_put p ≡ Some access →
-    HasMoved p (ended_put p (Stored 0 0) count cell p.scan p.word row) calls (made ++ answered access answer ∷ [])
-count_over p row answer count cell e goes fits count_is cell_is whole calls made access stands due =
-    let (seen, below, room, writes, rows, made_is) = made_at Counting p calls made e stands in
+    HasMoved p (record p { count = count; cell = cell; stage = Idle; row = row; reply = Some (reply.Stored p.most) }) calls (made ++ answered access answer ∷ [])
+count_over p row answer count cell e goes batch some few count_is cell_is whole calls made access stands due =
+    let (seen, has, writes, rows, made_is) = made_at Counting p calls made e stands in
     let x : List Made = answered access answer ∷ [] in
-    let n : ℕ = stored_in 0 calls.puts in
-    let item : ℕ = p.word.item in
-    let old : List Made = count_writes P (counted p.shape n) in
-    let front : List Made = put_phrases p.shape 0 calls.puts in
-    let scan_word : List Made = scan_phrase (row_read_by P) seen ++ word_write (width_of p.shape) (n % capacity_of p.shape) item in
-    let rows' : UnaryStands row (counted p.shape (suc n)) (old ++ (writes ++ x)) =
-    subst (λ l. UnaryStands row (counted p.shape (suc n)) l) (append_assoc old writes x) (goes (counted p.shape (suc n)) (old ++ writes) access rows (due_is Counting p access e due)) in
-    let all : old ++ (writes ++ x) ≡ count_writes P (counted p.shape (suc n)) = whole (counted p.shape (suc n)) (old ++ (writes ++ x)) rows' in
-    let all_counted : writes ++ x ≡ count_phrase p.shape P n = append_cancel_left old (writes ++ x) (count_phrase p.shape P n) (all ∙ count_writes-push p.shape P n) in
-    put_over p Counting (Stored seen item) count cell p.scan p.word row calls made (made ++ x) e refl stands refl
-    (below, room, fits)
-    (count_is ∙ ap (λ k. suc k % modulus_of p.shape) stands.count_is ∙ sym (suc-mod n (modulus_of p.shape)))
-    (cell_is ∙ ap (λ k. suc k % capacity_of p.shape) stands.cell_is ∙ sym (suc-mod n (capacity_of p.shape)))
-    (subst (λ l. UnaryStands row (counted p.shape (suc n)) l) all rows')
-    (ap (λ l. l ++ x) made_is ∙ longer front scan_word writes x ∙ ap (λ l. front ++ (scan_word ++ l)) all_counted)
+    let c : Count = count_of p.shape calls in
+    let stored : List ℕ = take p.most p.items in
+    let size : length stored ≡ p.most = taken_so p.items p.most few in
+    let values : List ℕ = values_of p.shape calls ++ past c.number stored % modulus_of p.shape ∷ [] in
+    let old : List Made = count_writes P (values_of p.shape calls) in
+    let front : List Made = put_phrases p.shape first_count calls.puts in
+    let scan_words : List Made = scan_phrase (row_read_by P) seen ++ words_phrase p.shape c.number stored in
+    let rows' : UnaryStands row values (old ++ (writes ++ x)) =
+    subst (λ l. UnaryStands row values l) (append_assoc old writes x) (goes values (old ++ writes) access rows (due_is Counting p access e due)) in
+    let all : old ++ (writes ++ x) ≡ count_writes P values = whole values (old ++ (writes ++ x)) rows' in
+    let all_counted : writes ++ x ≡ batch_phrase p.shape P c stored =
+    append_cancel_left old (writes ++ x) (batch_phrase p.shape P c stored) (all ∙ values_writes-push p.shape calls stored P) in
+    let rests : UnaryStands row values (count_writes P values) = subst (λ l. UnaryStands row values l) all rows' in
+    let moved : HasMoved p (ended_put p (Stored seen stored) count cell p.scan p.word row) calls (made ++ x) =
+    put_over p Counting (Stored seen stored) count cell p.scan p.word row calls made (made ++ x) e refl stands has.kept
+    (has.below, subst (λ m. LeavesRoomFor p.shape (c.number % modulus_of p.shape) seen m) (sym size) has.room, taken_batch p.shape p.items p.most some batch)
+    (count_is ∙ past_so p.count c.number (modulus_of p.shape) stored p.most stands.count_is size)
+    (cell_is ∙ past_so p.cell c.number (capacity_of p.shape) stored p.most stands.cell_is size)
+    (subst (λ l. UnaryStands row l (count_writes P l)) (sym (values-push p.shape first_count calls.puts seen stored)) rests)
+    (ap (λ l. l ++ x) made_is ∙ longer front scan_words writes x ∙ ap (λ l. front ++ (scan_words ++ l)) all_counted) in
+    subst (λ m. HasMoved p (record p { count = count; cell = cell; stage = Idle; row = row; reply = Some (reply.Stored m) }) calls (made ++ x)) size moved
 
 -- ---- the close
 
@@ -279,7 +345,7 @@ pub close_over :
 close_over p answer e none calls made access stands due =
     let (rests, made_is) = made_at Closing p calls made e stands in
     let o : calls.closes ≡ false = open_at Closing p calls made e stands in
-    let was : call_of p ≡ Some Close = ap (λ st. call_at st p.word.item) e in
+    let was : call_of p ≡ Some Close = ap (λ st. call_at st p.items) e in
     let access_is : begins.Write X true ≡ access = (let f : Some (begins.Write X true) ≡ Some access = due_is Closing p access e due in cc) in (
       and_close calls,
       record {
@@ -287,9 +353,29 @@ close_over p answer e none calls made access stands due =
         count_is = stands.count_is;
         cell_is = stands.cell_is;
         closed_is = stands.closed_is ∙ ap (closes_with calls) was;
-        not_over = record {};
+        not_over = tt;
         reply_is = inl none;
-        made_is = (rests, ap (λ l. l ++ answered access answer ∷ []) made_is ∙ ap (λ a. put_phrases p.shape 0 calls.puts ++ answered a answer ∷ []) (sym access_is));
+        made_is = (rests, ap (λ l. l ++ answered access answer ∷ []) made_is ∙ ap (λ a. put_phrases p.shape first_count calls.puts ++ answered a answer ∷ []) (sym access_is));
       },
       after_over p.shape (call_of p) Close calls (and_close calls) p.reply was (refl, stands.are, o) (λ f. none),
     )
+
+-- ---- which kind of put the last one was
+
+batched_at : (st : Stage) (p : ProducerState) (b : Bool) (calls : Puts) (made : List Made) → MadeAt st p calls made → MadeAt st (record p { batched = b }) calls made
+batched_at Idle p b calls made is = is
+batched_at Scanning p b calls made is = is
+batched_at Storing p b calls made is = is
+batched_at Counting p b calls made is = is
+batched_at Closing p b calls made is = is
+
+pub batched_stands : (p : ProducerState) (b : Bool) (calls : Puts) (made : List Made) → ProducerStands p calls made → ProducerStands (record p { batched = b }) calls made
+batched_stands p b calls made stands = record {
+  are = stands.are;
+  count_is = stands.count_is;
+  cell_is = stands.cell_is;
+  closed_is = stands.closed_is;
+  not_over = stands.not_over;
+  reply_is = stands.reply_is;
+  made_is = batched_at p.stage p b calls made stands.made_is;
+}

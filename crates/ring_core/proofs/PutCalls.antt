@@ -1,36 +1,96 @@
 -- A program of puts with one put more.
-use Rattle.std.proofs.Common.{◌≡◌, ℕ, false, Option, Some, List, [], ◌∷◌, ◌++◌, refl, sym, ap, ◌∙◌, append_assoc, append-nil}
+use Rattle.std.proofs.Common.{◌≡◌, ℕ, ◌%◌, false, Option, Some, List, [], ◌∷◌, ◌++◌, refl, sym, ap, ◌∙◌, append_assoc, append-nil}
+use Rattle.std.proofs.lemmas.List.{map-append}
+use Rattle.bits_core.specs.declared.events.Side.{Side}
 use Rattle.bits_core.specs.declared.shapes.Shape.{Shape}
-use Rattle.ring_core.specs.declared.producers.PutReply.{PutReply}
-use Rattle.ring_core.specs.Puts.{Put, Puts, stored_after, stored_in, put_phrase, put_phrases, close_phrase, put_program, IsPut, ArePuts}
-use Rattle.ring_core.specs.ProducerCalls.{and_put, reply_to, last_reply}
+use Rattle.bits_core.specs.Shape.{modulus_of}
+use Rattle.bits_core.specs.Made.{Write}
+use Rattle.register_core.specs.Row.{RowWrite, row_bit, bits_after, first_bits, writes_in}
+use Rattle.register_core.specs.Unary.{unary_phrase, unary_writes, row_writes, writes_of, count_writes}
+use Rattle.ring_core.specs.declared.producers.BatchReply.{BatchReply}
+use Rattle.ring_core.specs.Counts.{past, Count, first_count, count_bits, batch_phrase, IsCount}
+use Rattle.ring_core.specs.Puts.{Put, Puts, Stored, Full, stored_after, stored_count, put_values, put_phrase, put_phrases, close_phrase, put_program, IsPut, ArePuts}
+use Rattle.ring_core.specs.ProducerCalls.{count_of, values_of, and_put, reply_to, last_reply}
+use Rattle.ring_core.proofs.CountRow.{bits_after-append, row_writes-push, first_is_count, counted_is_count}
 
-pub phrases-push : (shape : Shape) (n : ℕ) (xs : List Put) (x : Put) → put_phrases shape n (xs ++ x ∷ []) ≡ put_phrases shape n xs ++ put_phrase shape (stored_in n xs) x
-phrases-push shape n [] x = append-nil (put_phrase shape n x)
-phrases-push shape n (y ∷ xs) x =
-    ap (λ l. put_phrase shape n y ++ l) (phrases-push shape (stored_after n y) xs x) ∙
-    sym (append_assoc (put_phrase shape n y) (put_phrases shape (stored_after n y) xs) (put_phrase shape (stored_in (stored_after n y) xs) x))
+pub phrases-push :
+    (shape : Shape) (c : Count) (xs : List Put) (x : Put) →
+    put_phrases shape c (xs ++ x ∷ []) ≡ put_phrases shape c xs ++ put_phrase shape (stored_count shape c xs) x
+phrases-push shape c [] x = append-nil (put_phrase shape c x)
+phrases-push shape c (y ∷ xs) x =
+    let next : Count = stored_after shape c y in
+    ap (λ l. put_phrase shape c y ++ l) (phrases-push shape next xs x) ∙
+    sym (append_assoc (put_phrase shape c y) (put_phrases shape next xs) (put_phrase shape (stored_count shape next xs) x))
 
-pub stored-push : (n : ℕ) (xs : List Put) (x : Put) → stored_in n (xs ++ x ∷ []) ≡ stored_after (stored_in n xs) x
-stored-push n [] x = refl
-stored-push n (y ∷ xs) x = stored-push (stored_after n y) xs x
+pub stored-push : (shape : Shape) (c : Count) (xs : List Put) (x : Put) → stored_count shape c (xs ++ x ∷ []) ≡ stored_after shape (stored_count shape c xs) x
+stored-push shape c [] x = refl
+stored-push shape c (y ∷ xs) x = stored-push shape (stored_after shape c y) xs x
 
-pub are-push : (shape : Shape) (n : ℕ) (xs : List Put) (x : Put) → ArePuts shape n xs → IsPut shape (stored_in n xs) x → ArePuts shape n (xs ++ x ∷ [])
-are-push shape n [] x are is = (is, record {})
-are-push shape n (y ∷ xs) x (here, are) is = (here, are-push shape (stored_after n y) xs x are is)
+pub are-push :
+    (shape : Shape) (c : Count) (xs : List Put) (x : Put) → ArePuts shape c.number xs → IsPut shape (stored_count shape c xs).number x →
+    ArePuts shape c.number (xs ++ x ∷ [])
+are-push shape c [] x are is = (is, tt)
+are-push shape c (y ∷ xs) x (here, are) is = (here, are-push shape (stored_after shape c y) xs x are is)
 
-pub are-last : (shape : Shape) (n : ℕ) (xs : List Put) (x : Put) → ArePuts shape n (xs ++ x ∷ []) → IsPut shape (stored_in n xs) x
-are-last shape n [] x (is, nothing) = is
-are-last shape n (y ∷ xs) x (here, are) = are-last shape (stored_after n y) xs x are
+pub are-last : (shape : Shape) (c : Count) (xs : List Put) (x : Put) → ArePuts shape c.number (xs ++ x ∷ []) → IsPut shape (stored_count shape c xs).number x
+are-last shape c [] x (is, nothing) = is
+are-last shape c (y ∷ xs) x (here, are) = are-last shape (stored_after shape c y) xs x are
 
-pub reply-push : (first : Option PutReply) (xs : List Put) (x : Put) → last_reply first (xs ++ x ∷ []) ≡ Some (reply_to x)
+-- the bits after puts are those of a count
+pub stored_is_count : (shape : Shape) (c : Count) (xs : List Put) → IsCount shape c → IsCount shape (stored_count shape c xs)
+stored_is_count shape c [] is = is
+stored_is_count shape c (Stored seen items ∷ xs) is = stored_is_count shape (stored_after shape c (Stored seen items)) xs (counted_is_count shape c items)
+stored_is_count shape c (Full seen ∷ xs) is = stored_is_count shape c xs is
+
+pub calls_are_count : (shape : Shape) (calls : Puts) → IsCount shape (count_of shape calls)
+calls_are_count shape calls = stored_is_count shape first_count calls.puts (first_is_count shape)
+
+-- and those that the values' writes leave
+values_hold :
+    (shape : Shape) (c : Count) (xs : List Put) →
+    bits_after c.bits (row_writes (unary_writes c.bits (put_values shape c.number xs))) ≡ (stored_count shape c xs).bits
+values_hold shape c [] = refl
+values_hold shape c (Stored seen items ∷ xs) =
+    let next : Count = stored_after shape c (Stored seen items) in
+    bits_after-append (count_bits shape c items) (row_writes (unary_writes next.bits (put_values shape next.number xs))) c.bits ∙ values_hold shape next xs
+values_hold shape c (Full seen ∷ xs) = values_hold shape c xs
+
+-- the writes of one put more
+pub values_writes-push :
+    (shape : Shape) (calls : Puts) (items : List ℕ) (s : Side) →
+    count_writes s (values_of shape calls ++ past (count_of shape calls).number items % modulus_of shape ∷ []) ≡
+    count_writes s (values_of shape calls) ++ batch_phrase shape s (count_of shape calls) items
+values_writes-push shape calls items s =
+    let v : ℕ = past (count_of shape calls).number items % modulus_of shape in
+    let old : List RowWrite = writes_of (values_of shape calls) in
+    ap (writes_in (row_bit s))
+    (row_writes-push (values_of shape calls) v first_bits ∙ ap (λ b. old ++ unary_phrase b v) (values_hold shape first_count calls.puts)) ∙
+    map-append (λ (w : RowWrite). Write (row_bit s w.bit) w.value) old (count_bits shape (count_of shape calls) items)
+
+pub values-push :
+    (shape : Shape) (c : Count) (xs : List Put) (seen : ℕ) (items : List ℕ) →
+    put_values shape c.number (xs ++ Stored seen items ∷ []) ≡ put_values shape c.number xs ++ past (stored_count shape c xs).number items % modulus_of shape ∷ []
+values-push shape c [] seen items = refl
+values-push shape c (Stored u i ∷ xs) seen items =
+    ap (λ l. past c.number i % modulus_of shape ∷ l) (values-push shape (stored_after shape c (Stored u i)) xs seen items)
+values-push shape c (Full u ∷ xs) seen items = values-push shape c xs seen items
+
+pub values-full : (shape : Shape) (c : Count) (xs : List Put) (seen : ℕ) → put_values shape c.number (xs ++ Full seen ∷ []) ≡ put_values shape c.number xs
+values-full shape c [] seen = refl
+values-full shape c (Stored u i ∷ xs) seen =
+    ap (λ l. past c.number i % modulus_of shape ∷ l) (values-full shape (stored_after shape c (Stored u i)) xs seen)
+values-full shape c (Full u ∷ xs) seen = values-full shape c xs seen
+
+pub reply-push : (first : Option BatchReply) (xs : List Put) (x : Put) → last_reply first (xs ++ x ∷ []) ≡ Some (reply_to x)
 reply-push first [] x = refl
 reply-push first (y ∷ xs) x = reply-push (Some (reply_to y)) xs x
 
 -- the accesses of calls without a close
-pub program_open : (shape : Shape) (calls : Puts) → calls.closes ≡ false → put_program shape calls ≡ put_phrases shape 0 calls.puts
-program_open shape calls e = ap (λ c. put_phrases shape 0 calls.puts ++ close_phrase c) e ∙ append-nil (put_phrases shape 0 calls.puts)
+pub program_open : (shape : Shape) (calls : Puts) → calls.closes ≡ false → put_program shape calls ≡ put_phrases shape first_count calls.puts
+program_open shape calls e = ap (λ c. put_phrases shape first_count calls.puts ++ close_phrase c) e ∙ append-nil (put_phrases shape first_count calls.puts)
 
 -- the accesses of the calls and one put more
-pub program-push : (shape : Shape) (calls : Puts) (x : Put) → put_program shape (and_put calls x) ≡ put_phrases shape 0 calls.puts ++ put_phrase shape (stored_in 0 calls.puts) x
-program-push shape calls x = append-nil (put_phrases shape 0 (calls.puts ++ x ∷ [])) ∙ phrases-push shape 0 calls.puts x
+pub program-push :
+    (shape : Shape) (calls : Puts) (x : Put) →
+    put_program shape (and_put calls x) ≡ put_phrases shape first_count calls.puts ++ put_phrase shape (count_of shape calls) x
+program-push shape calls x = append-nil (put_phrases shape first_count (calls.puts ++ x ∷ [])) ∙ phrases-push shape first_count calls.puts x

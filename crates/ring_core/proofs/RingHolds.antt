@@ -3,12 +3,13 @@
 use Rattle.std.proofs.Common.{◌≡◌, ◌⊎◌, inl, inr, ℕ, suc, ◌+◌, ◌-◌, ◌*◌, ◌<◌, ◌≤◌, Bool, true, false, Some, List, [], ◌∷◌, ◌++◌, length, refl, sym, ap, subst, ◌∙◌, arith, append_assoc, append-nil, length-append}
 use Rattle.std.specs.Prelude.{slice_get}
 use Rattle.std.proofs.Math.Seq.{take-length}
+use Rattle.std.proofs.Math.Nat.{suc-mul}
 use Rattle.bits_core.specs.declared.events.Side.{Side}
 use Rattle.bits_core.specs.declared.events.Side.TheVariants.{P, C}
 use Rattle.bits_core.specs.declared.events.Bit.TheVariants.{X}
 use Rattle.bits_core.specs.declared.events.Event.{Event}
 use Rattle.bits_core.specs.declared.shapes.Shape.{Shape}
-use Rattle.bits_core.specs.Shape.{capacity_of, modulus_of}
+use Rattle.bits_core.specs.Shape.{batch_of, capacity_of, modulus_of, width_of}
 use Rattle.bits_core.specs.Intervals as intervals
 use Rattle.bits_core.specs.Made.{Made, Read, events_of, own, clock, place_of, IsPlaceOf, IsBeginning}
 use Rattle.register_core.specs.MadeReads.{ScansAreMade, WordReadsAreMade}
@@ -16,14 +17,15 @@ use Rattle.register_core.specs.MadeWrites.{CellWritesAreMade}
 use Rattle.register_core.specs.ScanState.{scan_phrase, row_read_by}
 use Rattle.register_core.specs.UnaryLaw.{UnaryIsRegular}
 use Rattle.register_core.specs.WordLaw.{WordIsSafe}
-use Rattle.ring_core.specs.Puts.{Put, Puts, Stored, Full, put_phrases, close_phrase}
+use Rattle.ring_core.specs.Counts.{Count, first_count}
+use Rattle.ring_core.specs.Puts.{Put, Puts, Stored, Full, stored_after, put_phrases, close_phrase}
 use Rattle.ring_core.specs.Takes.{Takes, Open, Closed, End, take_program}
 use Rattle.ring_core.specs.Items.{events_in, all_put, Tells}
-use Rattle.ring_core.specs.Spans.{Span, Asks, before_count, all_items, total}
+use Rattle.ring_core.specs.Spans.{Span, Asks, counts, before_count, all_items, total}
 use Rattle.ring_core.specs.Clocks.{IsPlace, AreCloseReads, Ring}
 use Rattle.ring_core.specs.Clocks as clocks
 use Rattle.ring_core.specs.Looks.{put_looks, take_looks, word_part, count_part, look_accesses, spans, put_spans, take_spans}
-use Rattle.ring_core.specs.RingLaw.{IsRun, RingLaw, PutsAreInRange, TakesAreInRange, CellsAreQuiet, TakenArePrefix, TakesMatchPuts, EmptyIsFresh, FullIsFresh, ClosedIsTrue}
+use Rattle.ring_core.specs.RingLaw.{IsRun, RingLaw, PutsAreInRange, TakesAreInRange, CellsAreQuiet, TakenArePrefix, TakesMatchPuts, EmptyIsFresh, FullIsFresh, FillIsFresh, ClosedIsTrue}
 use Rattle.ring_core.proofs.Cuts.{at_most_or_above}
 use Rattle.ring_core.proofs.Gates.{clock_up, clock_p, clock_c}
 use Rattle.ring_core.proofs.SpanLaw.{SpanLaw, span_law, IsToldAt, LastTwo}
@@ -31,7 +33,9 @@ use Rattle.ring_core.proofs.HistoryClocks.{clocks_of}
 use Rattle.ring_core.proofs.OwnEvents.{clock_within, one_place}
 use Rattle.ring_core.proofs.Following.{length-events}
 use Rattle.ring_core.specs.Looks.{LookAt}
-use Rattle.ring_core.proofs.Looks.{puts_as_looks, takes_as_looks, all_proper, total_is, look_from_first, word_some, asks_word, puts_items, takes_items, put_rules, take_rules, put_fits, take_fits, last_two}
+use Rattle.ring_core.proofs.Looks.{puts_as_looks, takes_as_looks, all_proper, puts_pass, takes_pass, total_is, look_from_first, words_are, word_is, word_some, asks_word, puts_items, takes_items, put_rules, take_rules, put_fits, take_fits, last_two}
+use Rattle.ring_core.proofs.CountRow.{first_is_count, batch_fits, has_batch}
+use Rattle.ring_core.proofs.CellPlaces.{multiple_up}
 use Rattle.ring_core.proofs.RegularScans.{put_events, take_events, puts_regular, takes_regular}
 use Rattle.ring_core.proofs.CloseReads.{OwnFacts, read_of_close}
 use Rattle.ring_core.proofs.SafeWords.{close_to_cell, words_are_safe}
@@ -53,7 +57,7 @@ asks_at shape program k start x answer r asks =
     let outcome : r.look.outcome ≡ Asks answer = sym (ap (λ (y : Span). y.outcome) r.is_x) ∙ asks in
     let scan : List Made = scan_phrase (row_read_by C) r.look.seen in
     let word : word_part C shape k r.look.outcome ≡ Read X answer ∷ [] = ap (word_part C shape k) outcome in
-    let rest : List Made = count_part C shape k r.look.outcome ++ r.after in (
+    let rest : List Made = count_part C shape r.count r.look.outcome ++ r.after in (
       r.before ++ scan,
       rest,
       r.program_is ∙ ap (λ l. r.before ++ (scan ++ (l ++ rest))) word ∙ sym (append_assoc r.before scan (Read X answer ∷ rest)),
@@ -65,19 +69,20 @@ own_ends : (s : Side) (h : List Event) (i place : ℕ) → IsPlace (clock s h) i
 own_ends s h i place (here, past) = omega (arith, past, clock_within s h (suc place))
 
 -- how many events the puts of a program have
-pub put_total : (shape : Shape) (calls : Puts) → total (put_spans shape calls) ≡ 2 * length (put_phrases shape 0 calls.puts)
+pub put_total : (shape : Shape) (calls : Puts) → total (put_spans shape calls) ≡ 2 * length (put_phrases shape first_count calls.puts)
 put_total shape calls =
-    total_is P shape 0 (put_looks calls.puts) ∙
-    ap (λ l. 2 * length l) (sym (puts_as_looks shape 0 calls.puts false) ∙ append-nil (put_phrases shape 0 calls.puts))
+    total_is P shape first_count (put_looks calls.puts) ∙
+    ap (λ l. 2 * length l) (sym (puts_as_looks shape first_count calls.puts false) ∙ append-nil (put_phrases shape first_count calls.puts))
 
 take_total : (shape : Shape) (calls : Takes) → total (take_spans shape calls) ≡ 2 * length (take_program shape calls)
-take_total shape calls = total_is C shape 0 (take_looks calls.takes calls.end) ∙ ap (λ l. 2 * length l) (sym (takes_as_looks shape 0 calls.takes calls.end))
+take_total shape calls =
+    total_is C shape first_count (take_looks calls.takes calls.end) ∙ ap (λ l. 2 * length l) (sym (takes_as_looks shape 0 calls.takes calls.end))
 
 -- the items of all puts
-all_is : (shape : Shape) (n : ℕ) (puts : List Put) → all_items (spans P shape n (put_looks puts)) ≡ all_put puts
-all_is shape n [] = refl
-all_is shape n (Stored seen item ∷ puts) = ap (λ l. item ∷ l) (all_is shape (suc n) puts)
-all_is shape n (Full seen ∷ puts) = all_is shape n puts
+all_is : (shape : Shape) (c : Count) (puts : List Put) → all_items (spans P shape c (put_looks puts)) ≡ all_put puts
+all_is shape c [] = refl
+all_is shape c (Stored seen items ∷ puts) = ap (λ l. items ++ l) (all_is shape (stored_after shape c (Stored seen items)) puts)
+all_is shape c (Full seen ∷ puts) = all_is shape c puts
 
 from_none : (n : ℕ) → 0 + n ≡ n
 from_none n = omega arith
@@ -86,7 +91,7 @@ module _ (facts : OwnFacts) (regular : UnaryIsRegular) (scans_made : ScansAreMad
     (shape : Shape) (h : List Event) (puts : Puts) (takes : Takes) (run : IsRun shape h puts takes) where
   close_reads : AreCloseReads (clock P h) (clock C h) (put_spans shape puts) (take_spans shape takes)
   close_reads s k x answer st asks first last e is_first is_last ends =
-      let program : List Made = look_accesses C shape 0 (take_looks takes.takes takes.end) [] in
+      let program : List Made = look_accesses C shape first_count (take_looks takes.takes takes.end) [] in
       let follows : IsBeginning (own C h) (events_of C program) = take_events shape h takes run.takes_follow in
       let (front, back, program_is, start_is) =
       asks_at shape program k s x answer (look_from_first C shape (take_looks takes.takes takes.end) [] s k x st) asks in
@@ -112,27 +117,29 @@ module _ (facts : OwnFacts) (regular : UnaryIsRegular) (scans_made : ScansAreMad
       ((λ f. omega (arith, on_zero f, put_total shape puts)), (λ t. omega (arith, on_one t, put_total shape puts)))
 
   -- the two sides of the history make a ring
-  pub ring : Ring (modulus_of shape) (capacity_of shape) (clock P h) (clock C h) (put_spans shape puts) (take_spans shape takes)
+  pub ring : Ring (modulus_of shape) (capacity_of shape) (batch_of shape) (clock P h) (clock C h) (put_spans shape puts) (take_spans shape takes)
   ring = record {
-    modulus_fits = shape.room_to_count;
+    modulus_fits = batch_fits shape;
+    has_batch = has_batch shape;
     clocks = clocks_of h;
-    puts_rule = λ s n x st. subst (λ i. clocks.IsPut (modulus_of shape) (capacity_of shape) i x) (from_none n) (put_rules shape 0 puts.puts run.puts_follow.are s n x st);
-    takes_rule = λ s k x st. subst (λ i. clocks.IsTake (modulus_of shape) (capacity_of shape) i x) (from_none k) (take_rules shape 0 takes.takes takes.end run.takes_follow.are s k x st);
+    puts_rule = λ s n x st. subst (λ i. clocks.IsPut (modulus_of shape) (capacity_of shape) i x) (from_none n) (put_rules shape first_count puts.puts run.puts_follow.are s n x st);
+    takes_rule = λ s k x st. subst (λ i. clocks.IsTake (modulus_of shape) (capacity_of shape) i x) (from_none k) (take_rules shape first_count takes.takes takes.end run.takes_follow.are s k x st);
     puts_regular = puts_regular regular scans_made facts.has_place shape h run.lawful puts takes run.puts_follow run.takes_follow;
     takes_regular = takes_regular regular scans_made facts.has_place shape h run.lawful puts takes run.puts_follow run.takes_follow;
     words_safe = words_are_safe facts safe cells_made words_made shape h run.lawful (put_looks puts.puts) (take_looks takes.takes takes.end) (close_phrase puts.closes)
         (close_to_cell puts.closes) (put_events shape h puts run.puts_follow) (take_events shape h takes run.takes_follow)
-        (λ s n x item st e. (put_fits shape 0 puts.puts run.puts_follow.are s n x st).item item e)
-        (λ s n x item st e. (take_fits shape 0 takes.takes takes.end run.takes_follow.are s n x st).item item e);
+        (λ s n x st. (put_fits shape first_count puts.puts run.puts_follow.are s n x st).items)
+        (λ s n x st. (take_fits shape first_count takes.takes takes.end run.takes_follow.are s n x st).items);
     close_reads = close_reads;
-    puts_words = word_some P shape (put_looks puts.puts);
     takes_words = word_some C shape (take_looks takes.takes takes.end);
     asks_words = λ s k x answer st e. omega (arith, asks_word C shape (take_looks takes.takes takes.end) s k x answer st e);
   }
 
-  pub law : SpanLaw (modulus_of shape) (capacity_of shape) (clock P h) (clock C h) (put_spans shape puts) (take_spans shape takes)
-  law = span_law (modulus_of shape) (capacity_of shape) (clock P h) (clock C h) (put_spans shape puts) (take_spans shape takes)
-      (all_proper P shape 0 (put_looks puts.puts)) (all_proper C shape 0 (take_looks takes.takes takes.end)) ring
+  pub law : SpanLaw (modulus_of shape) (capacity_of shape) (batch_of shape) (clock P h) (clock C h) (put_spans shape puts) (take_spans shape takes)
+  law = span_law (modulus_of shape) (capacity_of shape) (batch_of shape) (clock P h) (clock C h) (put_spans shape puts) (take_spans shape takes)
+      (all_proper (batch_of shape) P shape first_count (put_looks puts.puts) (omega arith) (first_is_count shape) (puts_pass shape 0 puts.puts run.puts_follow.are))
+      (all_proper 1 C shape first_count (take_looks takes.takes takes.end) (has_batch shape) (first_is_count shape) (takes_pass 1 (omega arith) takes.takes takes.end))
+      ring
 
   -- ---- the law, in the words of calls
 
@@ -151,10 +158,10 @@ module _ (facts : OwnFacts) (regular : UnaryIsRegular) (scans_made : ScansAreMad
   prefix : TakenArePrefix shape h puts takes
   prefix t =
       let (rest, e) = law.prefix t in
-      (rest, ap (λ l. l ++ rest) (takes_items shape 0 takes.takes takes.end (clock C h t)) ∙ e ∙ sym (puts_items shape 0 puts.puts (clock P h t)))
+      (rest, ap (λ l. l ++ rest) (takes_items shape 0 takes.takes takes.end (clock C h t)) ∙ e ∙ sym (puts_items shape first_count puts.puts (clock P h t)))
 
   items : TakesMatchPuts shape h puts takes
-  items t s k x item st o l = ap (λ l. slice_get l k) (puts_items shape 0 puts.puts (clock P h t)) ∙ law.items t s k x item st o l
+  items t s k x item st o l = ap (λ l. slice_get l k) (puts_items shape first_count puts.puts (clock P h t)) ∙ law.items t s k x item st o l
 
   empty : EmptyIsFresh shape h puts takes
   empty s k x st o l first q =
@@ -164,25 +171,28 @@ module _ (facts : OwnFacts) (regular : UnaryIsRegular) (scans_made : ScansAreMad
   full : FullIsFresh shape h puts takes
   full s n x st o l first q = law.full (length h) s n x st o (omega (arith, l, clock_end P)) first (is_place P s first q)
 
+  fill : FillIsFresh shape h puts takes
+  fill s n x st fills l first q = law.fill (length h) s n x st fills (omega (arith, l, clock_end P)) first (is_place P s first q)
+
   closed : ClosedIsTrue shape h puts takes
   closed t u (tells, ended) l =
       let told : IsToldAt (clock C h) (take_spans shape takes) t = record { two = ends_told takes.end tells; ended = omega (arith, ended, take_total shape takes) } in
       let (put, taken, begun) = law.closed t u told l in
-      let behind : events_in (put_phrases shape 0 puts.puts) < clock P h u = omega (arith, begun, put_total shape puts) in (
-        puts_items shape 0 puts.puts (clock P h u) ∙ put ∙ all_is shape 0 puts.puts,
-        takes_items shape 0 takes.takes takes.end (clock C h u) ∙ taken ∙ all_is shape 0 puts.puts,
+      let behind : events_in (put_phrases shape first_count puts.puts) < clock P h u = omega (arith, begun, put_total shape puts) in (
+        puts_items shape first_count puts.puts (clock P h u) ∙ put ∙ all_is shape first_count puts.puts,
+        takes_items shape 0 takes.takes takes.end (clock C h u) ∙ taken ∙ all_is shape first_count puts.puts,
         is_closed puts.closes run.puts_follow.events (omega (arith, behind, clock_within P h u)),
         behind,
       )
     where
-      ends_told : (end : End) → Tells end → LastTwo (spans C shape 0 (take_looks takes.takes end))
+      ends_told : (end : End) → Tells end → LastTwo (spans C shape first_count (take_looks takes.takes end))
       ends_told Open told = absurd told
-      ends_told (Closed seen again) told = last_two shape 0 takes.takes seen again
+      ends_told (Closed seen again) told = last_two shape first_count takes.takes seen again
 
-      is_closed : (b : Bool) → IsBeginning (own P h) (events_of P (put_phrases shape 0 puts.puts ++ close_phrase b)) → 2 * length (put_phrases shape 0 puts.puts) < length (own P h) → b ≡ true
+      is_closed : (b : Bool) → IsBeginning (own P h) (events_of P (put_phrases shape first_count puts.puts ++ close_phrase b)) → 2 * length (put_phrases shape first_count puts.puts) < length (own P h) → b ≡ true
       is_closed true follows more = refl
       is_closed false (rest, e) more =
-          absurd (omega (arith, more, length-append (own P h) rest, ap length e, length-events P (put_phrases shape 0 puts.puts ++ []), length-append (put_phrases shape 0 puts.puts) []))
+          absurd (omega (arith, more, length-append (own P h) rest, ap length e, length-events P (put_phrases shape first_count puts.puts ++ []), length-append (put_phrases shape first_count puts.puts) []))
 
   up : (s : Side) (t u : ℕ) → t ≤ u → clock s h t ≤ clock s h u
   up P = clock_up (clock P h) (clock_p (clock P h) (clock C h) (clocks_of h))
@@ -217,27 +227,34 @@ module _ (facts : OwnFacts) (regular : UnaryIsRegular) (scans_made : ScansAreMad
       absurd (omega (arith, ap (clock P h) same, ap (clock P h) past, clock_end P, q.before, q.past, clock_within P h (suc start)))
 
   quiet : CellsAreQuiet shape h puts takes
-  quiet s n x st stores s' k y st' takes_one cell start stop start' stop' a b (not_after, not_before) =
-      let word : 1 ≤ x.word = word_some P shape (put_looks puts.puts) s n x st stores in
-      let word' : 1 ≤ y.word = word_some C shape (take_looks takes.takes takes.end) s' k y st' takes_one in
+  quiet s n i x st stores s' k y st' takes_one cell start stop start' stop' a b (not_after, not_before) =
+      let w : ℕ = width_of shape in
+      let digits : 0 < w = shape.has_digits in
+      let words : x.word ≡ 2 * (counts x.outcome * w) = words_are P shape (put_looks puts.puts) s n x st (omega (arith, stores)) in
+      let within : suc i * w ≤ counts x.outcome * w = multiple_up (suc i) (counts x.outcome) w stores in
+      let size : suc i * w ≡ i * w + w = suc-mul i w in
+      let word' : y.word ≡ 2 * w = word_is C shape (take_looks takes.takes takes.end) s' k y st' takes_one in
+      let one : 1 * w ≡ w = omega arith in
+      let none_before : 0 * w ≡ 0 = omega arith in
       let ended : (place : ℕ) → place ≤ stop → clock P h place < s + before_count x =
-      (λ place l. omega (arith, up P place stop l, at_end P stop (s + before_count x - 1) a.ends, word)) in
-      let ended' : clock C h stop' ≤ s' + before_count y = omega (arith, at_end C stop' (s' + before_count y - 1) b.ends) in
+      (λ place l. omega (arith, up P place stop l, at_end P stop (s + x.scan + 2 * (suc i * w) - 1) a.ends, words, within, size, digits)) in
+      let ended' : clock C h stop' ≤ s' + before_count y = omega (arith, at_end C stop' (s' + y.scan + 2 * (1 * w) - 1) b.ends, word', one) in
       let order : start' ≤ stop' =
       elim (at_most_or_above start' stop') [
         | inl m ↦ m
-        | inr m ↦ absurd (by_end C start' stop' (s' + y.scan) (s' + before_count y - 1) b.begins b.ends m (omega (arith, word')))
+        | inr m ↦ absurd (by_end C start' stop' (s' + y.scan + 2 * (0 * w)) (s' + y.scan + 2 * (1 * w) - 1) b.begins b.ends m (omega (arith, one, none_before, digits)))
       ] in
       let begun : start < stop' =
       elim (at_most_or_above stop' start) [
         | inr m ↦ m
-        | inl m ↦ absurd (apart start stop' (s + x.scan) (s' + before_count y - 1) a.begins b.ends (same_place start stop' m not_before))
+        | inl m ↦ absurd (apart start stop' (s + x.scan + 2 * (i * w)) (s' + y.scan + 2 * (1 * w) - 1) a.begins b.ends (same_place start stop' m not_before))
       ] in
-      law.quiet s' k y st' takes_one start' stop' order (omega (arith, b.begins.before)) ended'
+      law.quiet s' k y st' takes_one start' stop' order (omega (arith, b.begins.before, none_before)) ended'
       (record {
         start = s;
         number = n;
         put = x;
+        index = i;
         stands = st;
         stored = stores;
         same_cell = cell;
@@ -261,5 +278,6 @@ module _ (facts : OwnFacts) (regular : UnaryIsRegular) (scans_made : ScansAreMad
     items = items;
     empty = empty;
     full = full;
+    fill = fill;
     closed = closed;
   }

@@ -1,5 +1,5 @@
 -- What reads of a cell give: where no put's word write overlaps a take's word read, the item that was written last.
-use Rattle.std.proofs.Common.{◌≡◌, ◌⊎◌, inl, inr, ℕ, zero, suc, ◌+◌, ◌-◌, ◌*◌, ◌/◌, ◌%◌, ◌<◌, ◌≤◌, Bool, true, false, Some, List, [], ◌∷◌, ◌++◌, length, take, refl, sym, ap, subst, ◌∙◌, arith}
+use Rattle.std.proofs.Common.{◌≡◌, ◌⊎◌, inl, inr, ℕ, zero, suc, ◌+◌, ◌-◌, ◌*◌, ◌/◌, ◌%◌, ◌^◌, ◌<◌, ◌≤◌, Bool, true, false, Some, List, [], ◌∷◌, ◌++◌, length, take, refl, sym, ap, subst, ◌∙◌, arith}
 use Rattle.std.specs.Prelude.{slice_get}
 use Rattle.std.proofs.lemmas.Nat.{div-mul-add}
 use Rattle.std.proofs.lemmas.Option.{slice_get_within}
@@ -18,8 +18,9 @@ use Rattle.register_core.specs.Word.{digit}
 use Rattle.register_core.specs.WordLaw.{cell_writes, IsDigitWrite, IsWordWrite, IsWordRead, IsLastWord, NoWordEnded, WordIsSafe, WritesWords}
 use Rattle.register_core.specs.MadeReads.{begin_place, end_place, WordReadsAreMade}
 use Rattle.register_core.specs.MadeWrites.{CellWritesAreMade}
-use Rattle.ring_core.specs.Puts.{close_phrase}
-use Rattle.ring_core.specs.Spans.{Passes, Span, counts, before_count, Stands}
+use Rattle.ring_core.specs.Counts.{first_count}
+use Rattle.ring_core.specs.Puts.{close_phrase, AllFit}
+use Rattle.ring_core.specs.Spans.{Outcome, Passes, Stops, Asks, Span, counts, items_of, before_count, Stands}
 use Rattle.ring_core.specs.Clocks.{IsPlace, Overlap, IsLastWrite, AreSafe}
 use Rattle.ring_core.specs.Looks.{Look, look_accesses, spans}
 use Rattle.ring_core.proofs.Cuts.{at_most_or_above}
@@ -28,7 +29,7 @@ use Rattle.ring_core.proofs.HistoryClocks.{clocks_of}
 use Rattle.ring_core.proofs.OwnEvents.{clock_within, one_place}
 use Rattle.ring_core.proofs.CloseReads.{OwnFacts}
 use Rattle.ring_core.proofs.CellTimes.{to_cell, looks_to_cell, cell_items, ItemsFit, cell_items_fit}
-use Rattle.ring_core.proofs.CellPlaces.{stands_order, stands_same, CellTime, cell_time, WordTime, word_time, DigitTime, digit_time, word_events, ReadTime, read_time}
+use Rattle.ring_core.proofs.CellPlaces.{words_order, multiple_up, CellTime, cell_time, WordTime, word_time, DigitTime, digit_time, word_events, ReadTime, read_time}
 use Rattle.ring_core.proofs.CellWrites.{writes_before, write_is_counted, write_is_counted_at_end}
 
 -- a close writes to no cell
@@ -37,6 +38,17 @@ close_to_cell true j = refl
 close_to_cell false j = refl
 
 -- ---- lists and numbers
+
+-- what stands in the list of an outcome's items is one of them
+stored_within : (xs : List ℕ) (i item : ℕ) → slice_get xs i ≡ Some item → i < length xs
+stored_within [] i item e = absurd (cc)
+stored_within (x ∷ xs) zero item e = omega arith
+stored_within (x ∷ xs) (suc i) item e = omega (arith, stored_within xs i item e)
+
+counted_within : (o : Outcome) (i item : ℕ) → slice_get (items_of o) i ≡ Some item → i < counts o
+counted_within (Passes items) i item e = stored_within items i item e
+counted_within Stops i item e = absurd (cc)
+counted_within (Asks answer) i item e = absurd (cc)
 
 -- what stands in a list, with what is before it and after it
 split_at :
@@ -69,17 +81,17 @@ larger_multiple a b w l =
 module _ (facts : OwnFacts) (word_is_safe : WordIsSafe) (writes_made : CellWritesAreMade) (reads_made : WordReadsAreMade)
     (shape : Shape) (h : List Event) (lawful : IsLawful shape h) (looks looks' : List Look) (behind : List Made)
     (none : (j : ℕ) → to_cell j behind ≡ [])
-    (follows : IsBeginning (own P h) (events_of P (look_accesses P shape 0 looks behind)))
-    (follows' : IsBeginning (own C h) (events_of C (look_accesses C shape 0 looks' [])))
-    (fits : ItemsFit shape (spans P shape 0 looks)) (fits' : ItemsFit shape (spans C shape 0 looks')) where
+    (follows : IsBeginning (own P h) (events_of P (look_accesses P shape first_count looks behind)))
+    (follows' : IsBeginning (own C h) (events_of C (look_accesses C shape first_count looks' [])))
+    (fits : ItemsFit shape (spans P shape first_count looks)) (fits' : ItemsFit shape (spans C shape first_count looks')) where
   abbrev all : List Made
-  all = look_accesses P shape 0 looks behind
+  all = look_accesses P shape first_count looks behind
 
   abbrev puts : List Span
-  puts = spans P shape 0 looks
+  puts = spans P shape first_count looks
 
   abbrev takes : List Span
-  takes = spans C shape 0 looks'
+  takes = spans C shape first_count looks'
 
   abbrev width : ℕ
   width = width_of shape
@@ -109,7 +121,7 @@ module _ (facts : OwnFacts) (word_is_safe : WordIsSafe) (writes_made : CellWrite
 
   -- how many writes to the cell began before a digit of a put's word
   digits_before :
-      (j item place : ℕ) (r : WordTime shape looks behind 0 j item place) (d t : ℕ) → d < width → clock P h t ≡ place + 2 * d →
+      (j item place : ℕ) (r : WordTime shape looks behind first_count j item place) (d t : ℕ) → d < width → clock P h t ≡ place + 2 * d →
       length (cell_writes j (take t h)) ≡ r.nth * width + d
   digits_before j item place r d t l at =
       let g : DigitTime all j d item place (r.nth * width) = digit_time width all r.front r.back j item place (r.nth * width) d r.is r.place_is r.written l in
@@ -126,7 +138,7 @@ module _ (facts : OwnFacts) (word_is_safe : WordIsSafe) (writes_made : CellWrite
     ended : suc (place + 2 * d) < length (own P h) → clock P h stop ≡ suc (place + 2 * d)
 
   digit_begun :
-      (j item place : ℕ) (r : WordTime shape looks behind 0 j item place) (d : ℕ) → d < width → place + 2 * d < length (own P h) → Digit j d place r.nth
+      (j item place : ℕ) (r : WordTime shape looks behind first_count j item place) (d : ℕ) → d < width → place + 2 * d < length (own P h) → Digit j d place r.nth
   digit_begun j item place r d l begun =
       let g : DigitTime all j d item place (r.nth * width) = digit_time width all r.front r.back j item place (r.nth * width) d r.is r.place_is r.written l in
       let x : Made = Write (Cell j d) (digit d item) in
@@ -163,43 +175,59 @@ module _ (facts : OwnFacts) (word_is_safe : WordIsSafe) (writes_made : CellWrite
 
   -- ---- word writes
 
-  -- the put of a word write
+  -- the item of a word write, and its put
   record PutOf (j n start : ℕ) : Type 0 where
     at : ℕ
     number : ℕ
+    index : ℕ
     put : Span
     item : ℕ
     stands : Stands puts at number put
-    stored : put.outcome ≡ Passes item
-    same_cell : number % capacity_of shape ≡ j
-    word : WordTime shape looks behind 0 j item (at + put.scan)
+    stored : slice_get (items_of put.outcome) index ≡ Some item
+    has : index < counts put.outcome
+    same_cell : (number + index) % capacity_of shape ≡ j
+    word : WordTime shape looks behind first_count j item (at + put.scan + 2 * (index * width))
     nth_is : word.nth ≡ n
-    starts : IsPlace (clock P h) (at + put.scan) start
+    starts : IsPlace (clock P h) (at + put.scan + 2 * (index * width)) start
 
   put_of : (j n start stop : ℕ) → IsWordWrite width j h n start stop → PutOf j n start
   put_of j n start stop w =
       let d : ℕ = w.first.number in
       let (m, x, x_at, x_is, place) = facts.accesses P h all follows (begins.Write (Cell j d) w.first.value) start w.first_stop w.first.write in
       let (before, after, is, places) = split_at all m x x_at in
-      let g : CellTime shape looks 0 j d (2 * length before) = cell_time shape 0 looks behind before x after j d w.first.value (none j) is x_is in
-      let zero_more : 0 + g.number ≡ g.number = omega arith in
-      let r : WordTime shape looks behind 0 j g.item (g.start + g.put.scan) =
-      word_time shape 0 looks behind j g.start g.number g.put g.item g.stands g.stored g.same_cell in
-      let at : clock P h start ≡ g.start + g.put.scan + 2 * d = omega (arith, place.start_is.before, places, g.place_is) in
-      let digits : r.nth * width + d ≡ n * width = sym (digits_before j g.item (g.start + g.put.scan) r d start g.within at) ∙ w.first.behind in
+      let g : CellTime shape looks first_count j d (2 * length before) = cell_time shape first_count looks behind before x after j d w.first.value (none j) is x_is in
+      let zero_more : 0 + (g.number + g.index) ≡ g.number + g.index = omega arith in
+      let word_at : ℕ = g.start + g.put.scan + 2 * (g.index * width) in
+      let r : WordTime shape looks behind first_count j g.item word_at =
+      word_time shape first_count looks behind j g.start g.number g.index g.put g.item g.stands g.stored g.same_cell in
+      let at : clock P h start ≡ word_at + 2 * d = omega (arith, place.start_is.before, places, g.place_is) in
+      let digits : r.nth * width + d ≡ n * width = sym (digits_before j g.item word_at r d start g.within at) ∙ w.first.behind in
       let (numbers, first_digit) = same_multiple r.nth n width d g.within digits in
       record {
         at = g.start;
         number = g.number;
+        index = g.index;
         put = g.put;
         item = g.item;
         stands = g.stands;
         stored = g.stored;
+        has = counted_within g.put.outcome g.index g.item g.stored;
         same_cell = ap (λ k. k % capacity_of shape) (sym zero_more) ∙ g.same_cell;
         word = r;
         nth_is = numbers;
         starts = (omega (arith, at, first_digit), omega (arith, place.start_is.past, places, g.place_is, first_digit));
       }
+
+  -- the words of a put are within its word accesses
+  word_within :
+      (at number index : ℕ) (put : Span) → Stands puts at number put → index < counts put.outcome → put.scan + 2 * (index * width) + 2 * width ≤ before_count put
+  word_within at number index put st has =
+      omega (
+        arith,
+        word_events P shape first_count looks at number put st (omega (arith, has)),
+        multiple_up (suc index) (counts put.outcome) width has,
+        suc-mul index width,
+      )
 
   -- the word write of a put, ended before place t
   record EndedWord (j t place nth : ℕ) : Type 0 where
@@ -212,7 +240,7 @@ module _ (facts : OwnFacts) (word_is_safe : WordIsSafe) (writes_made : CellWrite
     starts : IsPlace (clock P h) place start
 
   ended_word :
-      (j t item place : ℕ) (r : WordTime shape looks behind 0 j item place) → place + 2 * width ≤ clock P h t → EndedWord j t place r.nth
+      (j t item place : ℕ) (r : WordTime shape looks behind first_count j item place) → place + 2 * width ≤ clock P h t → EndedWord j t place r.nth
   ended_word j t item place r ended =
       let some : 0 < width = shape.has_digits in
       let all_come : place + 2 * width ≤ length (own P h) = omega (arith, ended, clock_within P h t) in
@@ -254,7 +282,7 @@ module _ (facts : OwnFacts) (word_is_safe : WordIsSafe) (writes_made : CellWrite
 
   -- ---- a take's word read that no put's word write overlaps
 
-  module _ (s k : ℕ) (x : Span) (item : ℕ) (stands : Stands takes s k x) (passes : x.outcome ≡ Passes item)
+  module _ (s k : ℕ) (x : Span) (item : ℕ) (stands : Stands takes s k x) (passes : x.outcome ≡ Passes (item ∷ []))
       (first last e : ℕ) (first_is : IsPlace (clock C h) (s + x.scan) first) (last_is : IsPlace (clock C h) e last) (end_is : suc e ≡ s + before_count x)
       (quiet : Overlap (capacity_of shape) (clock P h) puts (k % capacity_of shape) first last → ⊥)
       (written : ℕ) (known : IsLastWrite (capacity_of shape) (clock P h) puts (k % capacity_of shape) first written) where
@@ -264,19 +292,25 @@ module _ (facts : OwnFacts) (word_is_safe : WordIsSafe) (writes_made : CellWrite
     abbrev items : List ℕ
     items = cell_items shape cell 0 looks
 
-    -- the put whose word write ended last
-    known_word : WordTime shape looks behind 0 cell written (known.start + known.put.scan)
+    known_has : known.index < counts known.put.outcome
+    known_has = counted_within known.put.outcome known.index written known.stored
+
+    abbrev known_at : ℕ
+    known_at = known.start + known.put.scan + 2 * (known.index * width)
+
+    -- the item whose word write ended last
+    known_word : WordTime shape looks behind first_count cell written known_at
     known_word =
-        let zero_more : 0 + known.number ≡ known.number = omega arith in
-        word_time shape 0 looks behind cell known.start known.number known.put written known.stands known.stored
+        let zero_more : 0 + (known.number + known.index) ≡ known.number + known.index = omega arith in
+        word_time shape first_count looks behind cell known.start known.number known.index known.put written known.stands known.stored
         (ap (λ n. n % capacity_of shape) zero_more ∙ known.same_cell)
 
-    known_ended : EndedWord cell first (known.start + known.put.scan) known_word.nth
+    known_ended : EndedWord cell first known_at known_word.nth
     known_ended =
-        let events : known.put.word ≡ 2 * width = word_events P shape 0 looks known.start known.number known.put written known.stands known.stored in
-        ended_word cell first written (known.start + known.put.scan) known_word (omega (arith, known.had_ended, events))
+        ended_word cell first written known_at known_word
+        (omega (arith, known.had_ended, word_within known.start known.number known.index known.put known.stands known_has))
 
-    -- a put of the cell that began its word before the read ended had ended it before the read
+    -- a put that began a word of the cell before the read ended had ended its words before the read
     had_ended : (n start : ℕ) (g : PutOf cell n start) → start < last → g.at + before_count g.put ≤ clock P h first
     had_ended n start g l = elim (at_most_or_above (g.at + before_count g.put) (clock P h first)) [
       | inl m ↦ m
@@ -284,8 +318,9 @@ module _ (facts : OwnFacts) (word_is_safe : WordIsSafe) (writes_made : CellWrite
         start = g.at;
         number = g.number;
         put = g.put;
+        index = g.index;
         stands = g.stands;
-        stored = ap counts g.stored;
+        stored = g.has;
         same_cell = g.same_cell;
         begun_before = omega (arith, g.starts, clock_up (clock P h) producer_clock (suc start) last l);
         not_ended = m;
@@ -296,14 +331,15 @@ module _ (facts : OwnFacts) (word_is_safe : WordIsSafe) (writes_made : CellWrite
     no_overlap : (n start stop : ℕ) → IsWordWrite width cell h n start stop → ¬ intervals.Overlap first last start stop
     no_overlap n start stop w (not_after, not_before) =
         let g : PutOf cell n start = put_of cell n start stop w in
+        let word_at : ℕ = g.at + g.put.scan + 2 * (g.index * width) in
         let begun : start < last =
         elim (at_most_or_above last start) [
           | inr m ↦ m
-          | inl m ↦ absurd (apart last (g.at + g.put.scan) e (subst (λ t. IsPlace (clock P h) (g.at + g.put.scan) t) (same_place m not_after) g.starts) last_is)
+          | inl m ↦ absurd (apart last word_at e (subst (λ t. IsPlace (clock P h) word_at t) (same_place m not_after) g.starts) last_is)
         ] in
         let ended : g.at + before_count g.put ≤ clock P h first = had_ended n start g begun in
-        let events : g.put.word ≡ 2 * width = word_events P shape 0 looks g.at g.number g.put g.item g.stands g.stored in
-        let r : EndedWord cell first (g.at + g.put.scan) g.word.nth = ended_word cell first g.item (g.at + g.put.scan) g.word (omega (arith, ended, events)) in
+        let r : EndedWord cell first word_at g.word.nth =
+        ended_word cell first g.item word_at g.word (omega (arith, ended, word_within g.at g.number g.index g.put g.stands g.has)) in
         let digits : IsDigitWrite cell h (n * width + (width - 1)) r.last_start r.stop =
         subst (λ q. IsDigitWrite cell h (q * width + (width - 1)) r.last_start r.stop) g.nth_is r.last in
         not_before (omega (arith, r.before, ends_there cell n start stop r.last_start r.stop w digits))
@@ -315,14 +351,17 @@ module _ (facts : OwnFacts) (word_is_safe : WordIsSafe) (writes_made : CellWrite
     some_digit = shape.has_digits
 
     -- the accesses of the read
-    read_accesses : ReadTime shape (look_accesses C shape 0 looks' []) cell item (s + x.scan)
+    read_accesses : ReadTime shape (look_accesses C shape first_count looks' []) cell item (s + x.scan)
     read_accesses =
         let zero_more : 0 + k ≡ k = omega arith in
-        subst (λ n. ReadTime shape (look_accesses C shape 0 looks' []) (n % capacity_of shape) item (s + x.scan)) zero_more
-        (read_time shape 0 looks' [] s k x item stands passes)
+        subst (λ n. ReadTime shape (look_accesses C shape first_count looks' []) (n % capacity_of shape) item (s + x.scan)) zero_more
+        (read_time shape first_count looks' [] s k x item stands passes)
 
     read_events : x.word ≡ 2 * width
-    read_events = word_events C shape 0 looks' s k x item stands passes
+    read_events =
+        let one : counts x.outcome ≡ 1 = ap counts passes in
+        let digits : counts x.outcome * width ≡ 1 * width = ap (λ n. n * width) one in
+        omega (arith, word_events C shape first_count looks' s k x stands (omega (arith, one)), digits)
 
     abbrev begins_at : ℕ → ℕ
     begins_at = begin_place C h (length read_accesses.front)
@@ -343,10 +382,13 @@ module _ (facts : OwnFacts) (word_is_safe : WordIsSafe) (writes_made : CellWrite
         ap (place_of C h) (omega (arith, read_accesses.place_is, end_is, read_events, some_digit)) ∙
         sym (one_place facts.has_place C h e last last_is)
 
+    item_fits : item < 2 ^ width
+    item_fits = (subst (λ (o : Outcome). AllFit shape (items_of o)) passes (fits' s k x stands)).0
+
     word_is_read : IsWordRead width cell h begins_at ends_at item
     word_is_read =
-        reads_made h (look_accesses C shape 0 looks' []) follows' read_accesses.front read_accesses.back width cell item
-        (fits' s k x item stands passes) read_accesses.is (omega (arith, all_come, end_is, read_events, read_accesses.place_is))
+        reads_made h (look_accesses C shape first_count looks' []) follows' read_accesses.front read_accesses.back width cell item
+        item_fits read_accesses.is (omega (arith, all_come, end_is, read_events, read_accesses.place_is))
 
     in_order : first < last
     in_order = elim (at_most_or_above last first) [
@@ -358,8 +400,8 @@ module _ (facts : OwnFacts) (word_is_safe : WordIsSafe) (writes_made : CellWrite
     within = let starts = (word_is_read.each 0 some_digit).access in omega (arith, slice_get_within h (begins_at 0) starts.event starts.at_start, first_place)
 
     -- words of the cell are numbered in the order of their puts
-    later_put : (n start stop : ℕ) → IsWordWrite width cell h n start stop → (g : PutOf cell n start) → known_word.nth < n → known.number < g.number
-    later_put n start stop w g l = elim (at_most_or_above g.number known.number) [
+    later_put : (n start stop : ℕ) → IsWordWrite width cell h n start stop → (g : PutOf cell n start) → known_word.nth < n → known.number + known.index < g.number + g.index
+    later_put n start stop w g l = elim (at_most_or_above (g.number + g.index) (known.number + known.index)) [
       | inr m ↦ m
       | inl m ↦ absurd (
           let more : known_word.nth * width + width ≤ n * width = larger_multiple known_word.nth n width l in
@@ -372,21 +414,13 @@ module _ (facts : OwnFacts) (word_is_safe : WordIsSafe) (writes_made : CellWrite
           omega (arith, more, behind_known, not_more, w.first.behind, some_digit))
     ]
       where
-        by_order : g.number ≤ known.number → (known.number ≤ g.number) ⊎ (g.number < known.number) → g.at + g.put.scan ≤ known.start + known.put.scan
-        by_order m (inl o) =
-            let same : known.number ≡ g.number = omega (arith, m, o) in
-            let stands_too : Stands puts known.start g.number known.put = subst (λ i. Stands puts known.start i known.put) same known.stands in
-            let (starts, are) = stands_same puts g.at g.number known.start g.put known.put g.stands (ap counts g.stored) stands_too (ap counts known.stored) in
-            omega (arith, starts, ap (λ (y : Span). y.scan) are)
-        by_order m (inr o) =
-            omega (arith, stands_order puts g.at g.number known.start known.number g.put known.put g.stands (ap counts g.stored) known.stands o)
-
-        not_later : g.number ≤ known.number → start ≤ known_ended.start
+        not_later : g.number + g.index ≤ known.number + known.index → start ≤ known_ended.start
         not_later m = elim (at_most_or_above start known_ended.start) [
           | inl o ↦ o
           | inr o ↦ absurd (omega (
             arith,
-            by_order m (at_most_or_above known.number g.number),
+            words_order width puts g.at g.number g.index known.start known.number known.index g.put known.put g.stands known.stands g.has known_has
+                (word_events P shape first_count looks g.at g.number g.put g.stands (omega (arith, g.has))) m,
             clock_up (clock P h) producer_clock (suc known_ended.start) start o,
             g.starts,
             known_ended.starts,
@@ -408,13 +442,13 @@ module _ (facts : OwnFacts) (word_is_safe : WordIsSafe) (writes_made : CellWrite
               let items_are : Some item ≡ Some written = sym w.writes ∙ ap (slice_get items) same ∙ known_word.listed in
               cc)
           | inr m ↦ absurd (
-              known.no_later g.at g.number g.put g.stands (ap counts g.stored) g.same_cell (later_put w.number w.start w.stop w.write g m)
-              (had_ended w.number w.start g (omega (arith, begun, in_order))))
+              known.no_later g.at g.number g.index g.put g.stands g.has g.same_cell (later_put w.number w.start w.stop w.write g m)
+              (omega (arith, had_ended w.number w.start g (omega (arith, begun, in_order)))))
         ]
 
     cell_is_written : WritesWords width cell h items
     cell_is_written =
-        subst (λ l. IsBeginning (cell_writes cell h) l) (looks_to_cell shape cell 0 looks behind (none cell))
+        subst (λ l. IsBeginning (cell_writes cell h) l) (looks_to_cell shape cell first_count looks behind (none cell))
         (writes_made shape h lawful all follows cell)
 
     -- it gives the item that was written last
@@ -423,7 +457,7 @@ module _ (facts : OwnFacts) (word_is_safe : WordIsSafe) (writes_made : CellWrite
         let apart_from_all : (n start stop : ℕ) → IsWordWrite width cell h n start stop → ¬ intervals.Overlap (begins_at 0) (ends_at (width - 1)) start stop =
         λ n start stop w o. no_overlap n start stop w ((λ l. o.0 (omega (arith, l, last_place))), (λ l. o.1 (omega (arith, l, first_place)))) in
         let either : IsLastWord width cell h items (begins_at 0) item ⊎ (NoWordEnded width cell h (begins_at 0) × (item ≡ 0)) =
-        word_is_safe shape h lawful width cell some_digit items (cell_items_fit shape cell 0 looks fits) cell_is_written
+        word_is_safe shape h lawful width cell some_digit items (cell_items_fit shape cell first_count looks fits) cell_is_written
         begins_at ends_at item word_is_read apart_from_all in
         elim either [
           | inl w ↦ by_last w
@@ -432,6 +466,6 @@ module _ (facts : OwnFacts) (word_is_safe : WordIsSafe) (writes_made : CellWrite
         ]
 
   -- the law of the safe word, for the spans of the two sides
-  pub words_are_safe : AreSafe (capacity_of shape) (clock P h) (clock C h) (spans P shape 0 looks) (spans C shape 0 looks')
+  pub words_are_safe : AreSafe (capacity_of shape) (clock P h) (clock C h) (spans P shape first_count looks) (spans C shape first_count looks')
   words_are_safe s k x item stands passes first last e first_is last_is end_is quiet written known =
       read_gives s k x item stands passes first last e first_is last_is end_is quiet written known

@@ -1,17 +1,32 @@
 -- What follows from the counts: cells at rest, the items in order, what a full and an empty ring tell, and the close.
 use Rattle.std.specs.Prelude.{slice_get, Some}
-use Rattle.std.proofs.lemmas.Option.{slice_get-get_or}
-use Rattle.std.proofs.Common.{◌≡◌, inl, inr, ℕ, suc, ◌+◌, ◌-◌, ◌<◌, ◌≤◌, ◌%◌, true, false, List, [], ◌++◌, length, get_or, drop, append-nil, drop_of_length-le, refl, sym, ap, ◌∙◌, add-zero, arith}
+use Rattle.std.proofs.Common.{◌≡◌, inl, inr, ℕ, zero, suc, ◌+◌, ◌-◌, ◌<◌, ◌≤◌, ◌%◌, true, false, List, [], ◌∷◌, ◌++◌, length, get_or, drop, subst, append-nil, drop_of_length-le, refl, sym, ap, ◌∙◌, add-zero, arith}
 use Rattle.std.proofs.lemmas.List.Prefix.{front_from_reads}
-use Rattle.ring_core.specs.Spans.{Span, Passes, Asks, counts, before_count, whole, begun, ended, begun_items, ended_items, all_items, total, Stands}
+use Rattle.ring_core.specs.Spans.{Span, Outcome, Passes, Stops, Asks, counts, items_of, before_count, whole, begun, ended, begun_items, ended_items, all_items, total, Stands}
 use Rattle.ring_core.specs.Clocks.{IsPlace, Overlap, Ring}
 use Rattle.ring_core.proofs.Cuts.{at_most_or_above}
-use Rattle.ring_core.proofs.Timeline.{AllProper, before-whole, ended_begun, begun_at, ended_at, begun_up, ended_up, begun_all, ended_all, Found, begun_find, ended_find, length-begun_items, length-ended_items, all_begun}
-use Rattle.ring_core.proofs.Distances.{apart}
+use Rattle.ring_core.proofs.Timeline.{AllProper, before-whole, before-count, ended_begun, begun_at, ended_at, begun_up, ended_up, begun_all, ended_all, Found, begun_find, ended_find, length-begun_items, length-ended_items, all_begun}
+use Rattle.ring_core.proofs.Distances.{apart, distance_of}
+use Rattle.ring_core.specs.Counts.{distance}
 use Rattle.ring_core.proofs.Gates.{clock_up, place_of, clock_p, clock_c, proper_at, shows_none, leaves_none, within, shown_at, left_at, behind as has_begun, ahead as has_room}
 
-module _ (modulus capacity : ℕ) (p c : ℕ → ℕ) (puts takes : List Span) (ring : Ring modulus capacity p c puts takes)
-    (proper_puts : AllProper puts) (proper_takes : AllProper takes) where
+-- an item that is the only one
+only_item : (o : Outcome) (i item : ℕ) → counts o ≤ 1 → slice_get (items_of o) i ≡ Some item → (i ≡ 0) × (o ≡ Passes (item ∷ []))
+only_item (Passes []) i item few e = absurd (cc)
+only_item (Passes (x ∷ [])) zero item few e = (refl, (let same : x ≡ item = cc in ap (λ v. Passes (v ∷ [])) same))
+only_item (Passes (x ∷ [])) (suc i) item few e = absurd (cc)
+only_item (Passes (x ∷ y ∷ items)) i item few e = absurd (omega (arith, few))
+only_item Stops i item few e = absurd (cc)
+only_item (Asks answer) i item few e = absurd (cc)
+
+-- what stands in a list is what is got there
+got_there : (xs : List ℕ) (k item : ℕ) → slice_get xs k ≡ Some item → get_or xs k 0 ≡ item
+got_there [] k item e = absurd (cc)
+got_there (x ∷ xs) zero item e = cc
+got_there (x ∷ xs) (suc k) item e = got_there xs k item e
+
+module _ (modulus capacity batch : ℕ) (p c : ℕ → ℕ) (puts takes : List Span) (ring : Ring modulus capacity batch p c puts takes)
+    (proper_puts : AllProper batch puts) (proper_takes : AllProper 1 takes) where
   up_p : (t u : ℕ) → t ≤ u → p t ≤ p u
   up_p = clock_up p (clock_p p c ring.clocks)
 
@@ -20,21 +35,21 @@ module _ (modulus capacity : ℕ) (p c : ℕ → ℕ) (puts takes : List Span) (
 
   -- the gates of a take and of a put, from the end of its scan on
   behind : (t s k : ℕ) (x : Span) → Stands takes s k x → counts x.outcome ≡ 1 → s + x.scan ≤ c t → k < begun puts (p t)
-  behind = has_begun modulus capacity p c puts takes ring proper_puts proper_takes
+  behind = has_begun modulus capacity batch p c puts takes ring proper_puts proper_takes
 
-  ahead : (t s n : ℕ) (x : Span) → Stands puts s n x → counts x.outcome ≡ 1 → s + x.scan ≤ p t → n < begun takes (c t) + capacity
-  ahead = has_room modulus capacity p c puts takes ring proper_puts proper_takes
+  ahead : (t s n : ℕ) (x : Span) → Stands puts s n x → 1 ≤ counts x.outcome → s + x.scan ≤ p t → n + counts x.outcome ≤ begun takes (c t) + capacity
+  ahead = has_room modulus capacity batch p c puts takes ring proper_puts proper_takes
 
   -- the count of a side from the begin of a scan to the begin of the count write
   at_put : (s n j : ℕ) (x : Span) → Stands puts s n x → s ≤ j → j ≤ s + before_count x → begun puts j ≡ n
   at_put s n j x st l m =
       let e : s + (j - s) ≡ j = omega arith in
-      rw e at (begun_at puts proper_puts s n x st (j - s) (omega arith))
+      rw e at (begun_at batch puts proper_puts s n x st (j - s) (omega arith))
 
   at_take : (s k j : ℕ) (x : Span) → Stands takes s k x → s ≤ j → j ≤ s + before_count x → begun takes j ≡ k
   at_take s k j x st l m =
       let e : s + (j - s) ≡ j = omega arith in
-      rw e at (begun_at takes proper_takes s k x st (j - s) (omega arith))
+      rw e at (begun_at 1 takes proper_takes s k x st (j - s) (omega arith))
 
   -- no word write of the cell overlaps the word read, which begins at position first
   pub quiet :
@@ -42,32 +57,33 @@ module _ (modulus capacity : ℕ) (p c : ℕ → ℕ) (puts takes : List Span) (
       s + x.scan ≤ c first → c last ≤ s + before_count x → Overlap capacity p puts (k % capacity) first last → ⊥
   quiet s k x st o first last l from to v = elim (at_most_or_above (p first) (v.start + v.put.scan)) [
     | inr m ↦ (
-        let w = before-whole v.put (proper_at puts proper_puts v.start v.number v.put v.stands) in
+        let w = before-whole batch v.put (proper_at batch puts proper_puts v.start v.number v.put v.stands) in
         let n = at_put v.start v.number (p first) v.put v.stands (omega arith) (omega (arith, v.not_ended)) in
         let kk = at_take s k (c first) x st (omega arith) (omega (arith, up_c first last l)) in
-        apart capacity k v.number (omega (arith, behind first s k x st o from, n))
-        (omega (arith, ahead first v.start v.number v.put v.stands v.stored (omega arith), kk)) v.same_cell)
+        let room = ahead first v.start v.number v.put v.stands (omega (arith, v.stored)) (omega arith) in
+        apart capacity k (v.number + v.index) (omega (arith, behind first s k x st o from, n))
+        (omega (arith, room, kk, v.stored)) v.same_cell)
     | inl m ↦ (
         let r = place_of p (clock_p p c ring.clocks) (v.start + v.put.scan) last v.begun_before in
         let t = r.place in
-        let w = before-whole v.put (proper_at puts proper_puts v.start v.number v.put v.stands) in
+        let w = before-whole batch v.put (proper_at batch puts proper_puts v.start v.number v.put v.stands) in
         let after : first ≤ t = elim (at_most_or_above first t) [ inl g ↦ g | inr g ↦ absurd (omega (arith, up_p (suc t) first g, r.is, m)) ] in
         let n = at_put v.start v.number (p t) v.put v.stands (omega (arith, r.is)) (omega (arith, r.is, w)) in
         let from' : s + x.scan ≤ c t = omega (arith, up_c first t after) in
         let kk = at_take s k (c t) x st (omega arith) (omega (arith, up_c t last (omega (arith, r.before)))) in
-        apart capacity k v.number (omega (arith, behind t s k x st o from', n))
-        (omega (arith, ahead t v.start v.number v.put v.stands v.stored (omega (arith, r.is)), kk)) v.same_cell)
+        let room = ahead t v.start v.number v.put v.stands (omega (arith, v.stored)) (omega (arith, r.is)) in
+        apart capacity k (v.number + v.index) (omega (arith, behind t s k x st o from', n))
+        (omega (arith, room, kk, v.stored)) v.same_cell)
   ]
 
-  -- take number k, whose word read has ended by moment t, has the item of put number k
+  -- take number k, whose word read has ended by moment t, has item number k of those put
   same_item :
-      (t s k : ℕ) (x : Span) (item : ℕ) → Stands takes s k x → x.outcome ≡ Passes item → s + before_count x ≤ c t →
+      (t s k : ℕ) (x : Span) (item : ℕ) → Stands takes s k x → x.outcome ≡ Passes (item ∷ []) → s + before_count x ≤ c t →
       (g : Found puts (begun_items puts (p t)) k) → item ≡ g.item
   same_item t s k x item st o l g =
       let one : counts x.outcome ≡ 1 = ap counts o in
-      let one_g : counts g.span.outcome ≡ 1 = ap counts g.passes in
-      let w = before-whole x (proper_at takes proper_takes s k x st) in
-      let wg = before-whole g.span (proper_at puts proper_puts g.start k g.span g.stands) in
+      let w = before-whole 1 x (proper_at 1 takes proper_takes s k x st) in
+      let wg = before-whole batch g.span (proper_at batch puts proper_puts g.start g.number g.span g.stands) in
       let word : 1 ≤ x.word = ring.takes_words s k x st one in
       let first = place_of c (clock_c p c ring.clocks) (s + x.scan) t (omega (arith, word)) in
       let last = place_of c (clock_c p c ring.clocks) (s + (before_count x - 1)) t (omega (arith, w)) in
@@ -81,53 +97,58 @@ module _ (modulus capacity : ℕ) (p c : ℕ → ℕ) (puts takes : List Span) (
       g.item
       (record {
         start = g.start;
-        number = k;
+        number = g.number;
         put = g.span;
+        index = g.index;
         stands = g.stands;
-        stored = g.passes;
-        same_cell = refl;
+        stored = g.stored;
+        same_cell = ap (λ (n : ℕ). n % capacity) (sym g.is_k);
         had_ended = elim (at_most_or_above (g.start + before_count g.span) (p first.place)) [
           | inl m ↦ m
           | inr m ↦ (
-              let bound = begun_up puts proper_puts (p first.place) (g.start + before_count g.span) (omega arith) in
-              let at_end = begun_at puts proper_puts g.start k g.span g.stands (before_count g.span) (omega arith) in
-              absurd (omega (arith, bound, at_end, behind first.place s k x st one (omega (arith, first.is)))))
+              let bound = begun_up batch puts proper_puts (p first.place) (g.start + before_count g.span) (omega arith) in
+              let at_end = begun_at batch puts proper_puts g.start g.number g.span g.stands (before_count g.span) (omega arith) in
+              absurd (omega (arith, bound, at_end, g.is_k, behind first.place s k x st one (omega (arith, first.is)))))
         ];
-        no_later = λ s' n' y sy oy cell more ended_y.
-            (let wy = before-whole y (proper_at puts proper_puts s' n' y sy) in
-            apart capacity k n' more (omega (arith, here, ahead first.place s' n' y sy oy (omega (arith, wy)))) cell);
+        no_later = λ s' n' i y sy has cell more begun_y.
+            (let room = ahead first.place s' n' y sy (omega (arith, has)) begun_y in
+            apart capacity k (n' + i) (omega (arith, more, g.is_k)) (omega (arith, here, room, has)) cell);
       })
 
   -- so that item is among those put
   pub taken_item :
-      (t s k : ℕ) (x : Span) (item : ℕ) → Stands takes s k x → x.outcome ≡ Passes item → s + before_count x ≤ c t →
+      (t s k : ℕ) (x : Span) (item : ℕ) → Stands takes s k x → x.outcome ≡ Passes (item ∷ []) → s + before_count x ≤ c t →
       slice_get (begun_items puts (p t)) k ≡ Some item
   taken_item t s k x item st o l =
       let one : counts x.outcome ≡ 1 = ap counts o in
       let there : k < begun puts (p t) = behind t s k x st one (omega (arith, l)) in
-      let g = begun_find puts proper_puts (p t) k there in
-      slice_get-get_or (begun_items puts (p t)) k 0 (omega (arith, there, length-begun_items puts (p t))) ∙
-      ap Some (g.listed ∙ sym (same_item t s k x item st o l g))
+      let g = begun_find batch puts proper_puts (p t) k there in
+      g.listed ∙ ap Some (sym (same_item t s k x item st o l g))
 
   -- at most as many items are taken as are put
   fewer : (t : ℕ) → ended takes (c t) ≤ begun puts (p t)
-  fewer t = omega (arith, within modulus capacity p c puts takes ring proper_puts proper_takes t, ended_begun takes proper_takes (c t))
+  fewer t = omega (arith, within modulus capacity batch p c puts takes ring proper_puts proper_takes t, ended_begun 1 takes proper_takes (c t))
 
   -- and each has the item of the same number
   each_item : (t k : ℕ) → k < ended takes (c t) → get_or (begun_items puts (p t)) k 0 ≡ get_or (ended_items takes (c t)) k 0
   each_item t k l =
-      let f = ended_find takes proper_takes (c t) k l in
-      let g = begun_find puts proper_puts (p t) k (omega (arith, fewer t)) in
-      let w = before-whole f.span (proper_at takes proper_takes f.start k f.span f.stands) in
+      let f = ended_find 1 takes proper_takes (c t) k l in
+      let proper = proper_at 1 takes proper_takes f.start f.number f.span f.stands in
+      let w = before-whole 1 f.span proper in
+      let (none, passes) = only_item f.span.outcome f.index f.item proper.few f.stored in
+      let one : counts f.span.outcome ≡ 1 = ap counts passes in
+      let number_is : f.number ≡ k = omega (arith, f.is_k, none) in
+      let stands : Stands takes f.start k f.span = subst (λ (n : ℕ). Stands takes f.start n f.span) number_is f.stands in
       let over : f.start + before_count f.span ≤ c t = elim (at_most_or_above (f.start + before_count f.span) (c t)) [
         | inl m ↦ m
         | inr m ↦ (
-            let bound = ended_up takes proper_takes (c t) (f.start + before_count f.span) (omega arith) in
-            let one : counts f.span.outcome ≡ 1 = ap counts f.passes in
-            let at_end = ended_at takes proper_takes f.start k f.span f.stands (before_count f.span) (omega (arith, w)) in
-            absurd (omega (arith, bound, at_end)))
+            let bound = ended_up 1 takes proper_takes (c t) (f.start + before_count f.span) (omega arith) in
+            let longer = before-count 1 f.span proper (omega (arith, one)) in
+            let at_end = ended_at 1 takes proper_takes f.start k f.span stands (before_count f.span) (omega (arith, longer)) in
+            absurd (omega (arith, l, bound, at_end)))
       ] in
-      g.listed ∙ sym (same_item t f.start k f.span f.item f.stands f.passes over g) ∙ sym f.listed
+      got_there (begun_items puts (p t)) k f.item (taken_item t f.start k f.span f.item stands passes over) ∙
+      sym (got_there (ended_items takes (c t)) k f.item f.listed)
 
   -- the items taken are a beginning of the items put
   pub prefix : (t : ℕ) → begun_items puts (p t) ≡ ended_items takes (c t) ++ drop (length (ended_items takes (c t))) (begun_items puts (p t))
@@ -141,18 +162,18 @@ module _ (modulus capacity : ℕ) (p c : ℕ → ℕ) (puts takes : List Span) (
       (t s k : ℕ) (x : Span) → Stands takes s k x → counts x.outcome ≡ 0 → s + x.scan ≤ c t → (first : ℕ) → IsPlace c s first →
       ended puts (p first) ≤ ended takes (c first)
   empty_fresh t s k x st o l first is =
-      let r = shown_at modulus capacity p c puts takes ring proper_puts proper_takes t s k x st l in
-      let w = before-whole x (proper_at takes proper_takes s k x st) in
-      let e : ended takes (s + 0) ≡ k = ended_at takes proper_takes s k x st 0 (omega (arith, w)) in
+      let r = shown_at modulus capacity batch p c puts takes ring proper_puts proper_takes t s k x st l in
+      let w = before-whole 1 x (proper_at 1 takes proper_takes s k x st) in
+      let e : ended takes (s + 0) ≡ k = ended_at 1 takes proper_takes s k x st 0 (omega (arith, w)) in
       let e' : ended takes (c first) ≡ k = rw is.0 (rw add-zero at e) in
-      omega (arith, r.since first is, shows_none modulus capacity p c puts takes ring proper_puts proper_takes t s k x st r o, e')
+      omega (arith, r.since first is, shows_none modulus capacity batch p c puts takes ring proper_puts proper_takes t s k x st r o, e')
 
   -- and if it read the close bit as 0, no close had ended before it began
   pub empty_open :
       (t s k : ℕ) (x : Span) → Stands takes s k x → x.outcome ≡ Asks false → s + before_count x ≤ c t → (first : ℕ) → IsPlace c s first →
       p first < total puts + 2
   empty_open t s k x st o l first is =
-      let w = before-whole x (proper_at takes proper_takes s k x st) in
+      let w = before-whole 1 x (proper_at 1 takes proper_takes s k x st) in
       let word : 1 ≤ x.word = ring.asks_words s k x false st o in
       let from = place_of c (clock_c p c ring.clocks) (s + x.scan) t (omega (arith, word)) in
       let last = place_of c (clock_c p c ring.clocks) (s + (before_count x - 1)) t (omega (arith, w)) in
@@ -168,8 +189,19 @@ module _ (modulus capacity : ℕ) (p c : ℕ → ℕ) (puts takes : List Span) (
       (t s n : ℕ) (x : Span) → Stands puts s n x → counts x.outcome ≡ 0 → s + x.scan ≤ p t → (first : ℕ) → IsPlace p s first →
       ended takes (c first) + capacity ≤ n
   full_fresh t s n x st o l first is =
-      let r = left_at modulus capacity p c puts takes ring proper_puts proper_takes t s n x st l in
-      omega (arith, r.since first is, leaves_none modulus capacity p c puts takes ring proper_puts proper_takes t s n x st r o)
+      let r = left_at modulus capacity batch p c puts takes ring proper_puts proper_takes t s n x st l in
+      omega (arith, r.since first is, leaves_none modulus capacity batch p c puts takes ring proper_puts proper_takes t s n x st r o)
+
+  -- a put whose items fill all the room that its scan left
+  pub fill_fresh :
+      (t s n : ℕ) (x : Span) → Stands puts s n x → distance modulus (n % modulus) x.seen + counts x.outcome ≡ capacity → s + x.scan ≤ p t →
+      (first : ℕ) → IsPlace p s first → ended takes (c first) + capacity ≤ n + counts x.outcome
+  fill_fresh t s n x st fills l first is =
+      let r = left_at modulus capacity batch p c puts takes ring proper_puts proper_takes t s n x st l in
+      let fits = ring.modulus_fits in
+      let some = ring.has_batch in
+      let fills' : distance modulus (n % modulus) (r.number % modulus) + counts x.outcome ≡ capacity = rw r.value at fills in
+      omega (arith, fills', distance_of modulus r.number n r.high (omega (arith, fits, some, r.low)), r.high, r.since first is)
 
   -- a take that read the close bit as 1, scanned again and saw no item: every item put has been taken, and no more come
   pub closed :
@@ -177,9 +209,9 @@ module _ (modulus capacity : ℕ) (p c : ℕ → ℕ) (puts takes : List Span) (
       s + whole x + z.scan ≤ c t →
       (begun_items puts (p t) ≡ all_items puts) × (ended_items takes (c t) ≡ all_items puts) × (total puts < p t)
   closed t s k x z st o sz oz l =
-      let w = before-whole x (proper_at takes proper_takes s k x st) in
-      let wz = before-whole z (proper_at takes proper_takes (s + whole x) k z sz) in
-      let scan : 1 ≤ z.scan = (proper_at takes proper_takes (s + whole x) k z sz).scan in
+      let w = before-whole 1 x (proper_at 1 takes proper_takes s k x st) in
+      let wz = before-whole 1 z (proper_at 1 takes proper_takes (s + whole x) k z sz) in
+      let scan : 1 ≤ z.scan = (proper_at 1 takes proper_takes (s + whole x) k z sz).scan in
       let word : 1 ≤ x.word = ring.asks_words s k x true st o in
       let from = place_of c (clock_c p c ring.clocks) (s + x.scan) t (omega (arith, word, w)) in
       let last = place_of c (clock_c p c ring.clocks) (s + (before_count x - 1)) t (omega (arith, w)) in
@@ -191,16 +223,16 @@ module _ (modulus capacity : ℕ) (p c : ℕ → ℕ) (puts takes : List Span) (
       ] in
       let over : total puts < p again.place = omega (arith, law, up_p last.place again.place order) in
       let over_now : total puts < p t = omega (arith, over, up_p again.place t (omega (arith, again.before))) in
-      let r = shown_at modulus capacity p c puts takes ring proper_puts proper_takes t (s + whole x) k z sz l in
+      let r = shown_at modulus capacity batch p c puts takes ring proper_puts proper_takes t (s + whole x) k z sz l in
       let low = r.since again.place again.is in
-      let high = shows_none modulus capacity p c puts takes ring proper_puts proper_takes t (s + whole x) k z sz r oz in
+      let high = shows_none modulus capacity batch p c puts takes ring proper_puts proper_takes t (s + whole x) k z sz r oz in
       let all = ended_all puts (p again.place) (omega (arith, over)) in
-      let e : ended takes (s + whole x + 0) ≡ k = ended_at takes proper_takes (s + whole x) k z sz 0 (omega (arith, wz, scan)) in
-      let had = ended_up takes proper_takes (s + whole x + 0) (c t) (omega arith) in
-      let most = begun_all puts proper_puts (p t) in
+      let e : ended takes (s + whole x + 0) ≡ k = ended_at 1 takes proper_takes (s + whole x) k z sz 0 (omega (arith, wz, scan)) in
+      let had = ended_up 1 takes proper_takes (s + whole x + 0) (c t) (omega arith) in
+      let most = begun_all batch puts proper_puts (p t) in
       let same : length (begun_items puts (p t)) ≤ length (ended_items takes (c t)) =
       omega (arith, length-begun_items puts (p t), length-ended_items takes (c t), low, high, all, e, had, most) in
-      let whole_list = all_begun puts proper_puts (p t) (omega (arith, over_now)) in
+      let whole_list = all_begun batch puts proper_puts (p t) (omega (arith, over_now)) in
       let none : drop (length (ended_items takes (c t))) (begun_items puts (p t)) ≡ [] = drop_of_length-le (begun_items puts (p t)) same in
       let equal : begun_items puts (p t) ≡ ended_items takes (c t) =
       prefix t ∙ ap (λ (l : List ℕ). ended_items takes (c t) ++ l) none ∙ append-nil (ended_items takes (c t)) in

@@ -4,10 +4,11 @@ use Rattle.std.proofs.Common.{◌≡◌, inl, inr, ℕ, ◌+◌, ◌-◌, ◌<�
 use Rattle.bits_core.specs.Made.{IsBeginning}
 use Rattle.ring_core.specs.Spans.{Span, Passes, Asks, counts, before_count, whole, begun, ended, begun_items, ended_items, all_items, total, Stands}
 use Rattle.ring_core.specs.RingLaw.{ReadsCount}
+use Rattle.ring_core.specs.Counts.{distance}
 use Rattle.ring_core.specs.Clocks.{IsPlace, Overlap, Ring}
 use Rattle.ring_core.proofs.Timeline.{AllProper, before-whole}
 use Rattle.ring_core.proofs.Gates.{clock_up, clock_c, proper_at, within, shown_at, left_at}
-use Rattle.ring_core.proofs.SpanItems.{quiet, taken_item, prefix, empty_fresh, empty_open, full_fresh, closed}
+use Rattle.ring_core.proofs.SpanItems.{quiet, taken_item, prefix, empty_fresh, empty_open, full_fresh, fill_fresh, closed}
 
 -- The last two spans are a read of the close bit, which is 1, and then a scan after which nothing is taken.
 pub record LastTwo (xs : List Span) : Type 0 where
@@ -55,22 +56,22 @@ pub record IsToldAt (c : ℕ → ℕ) (takes : List Span) (t : ℕ) : Type 0 whe
   pub ended : total takes ≤ c t
 
 -- What holds of a ring at every moment.
-pub record SpanLaw (modulus capacity : ℕ) (p c : ℕ → ℕ) (puts takes : List Span) : Type 0 where
+pub record SpanLaw (modulus capacity batch : ℕ) (p c : ℕ → ℕ) (puts takes : List Span) : Type 0 where
   -- at most as many items are put and not taken as the ring holds
   pub within : (t : ℕ) → (begun takes (c t) ≤ begun puts (p t)) × (begun puts (p t) ≤ begun takes (c t) + capacity)
   -- put number n reads a count from n - capacity - 1 to n
   pub put_range :
       (t s n : ℕ) (x : Span) → Stands puts s n x → s + x.scan ≤ p t → ReadsCount modulus p c takes s x (n - (capacity + 1)) n
-  -- take number k reads a count from k - 1 to k + capacity
+  -- take number k reads a count from k - batch to k + capacity
   pub take_range :
-      (t s k : ℕ) (x : Span) → Stands takes s k x → s + x.scan ≤ c t → ReadsCount modulus c p puts s x (k - 1) (k + capacity)
+      (t s k : ℕ) (x : Span) → Stands takes s k x → s + x.scan ≤ c t → ReadsCount modulus c p puts s x (k - batch) (k + capacity)
   -- no word write of a cell overlaps a word read of it, from its begin at position first to its end, or as long as it is open
   pub quiet :
       (s k : ℕ) (x : Span) → Stands takes s k x → counts x.outcome ≡ 1 → (first last : ℕ) → first ≤ last →
       s + x.scan ≤ c first → c last ≤ s + before_count x → Overlap capacity p puts (k % capacity) first last → ⊥
   -- a take whose word read has ended has the item of the put of its number
   pub items :
-      (t s k : ℕ) (x : Span) (item : ℕ) → Stands takes s k x → x.outcome ≡ Passes item → s + before_count x ≤ c t →
+      (t s k : ℕ) (x : Span) (item : ℕ) → Stands takes s k x → x.outcome ≡ Passes (item ∷ []) → s + before_count x ≤ c t →
       slice_get (begun_items puts (p t)) k ≡ Some item
   -- the items taken are a beginning of the items put
   pub prefix : (t : ℕ) → IsBeginning (ended_items takes (c t)) (begun_items puts (p t))
@@ -83,6 +84,11 @@ pub record SpanLaw (modulus capacity : ℕ) (p c : ℕ → ℕ) (puts takes : Li
   pub full :
       (t s n : ℕ) (x : Span) → Stands puts s n x → counts x.outcome ≡ 0 → s + x.scan ≤ p t →
       (first : ℕ) → IsPlace p s first → ended takes (c first) + capacity ≤ n
+  -- a put whose items fill all the room that its scan left: the items up to and with its own, less the takes that had ended when
+  -- it began, are at least the capacity
+  pub fill :
+      (t s n : ℕ) (x : Span) → Stands puts s n x → distance modulus (n % modulus) x.seen + counts x.outcome ≡ capacity → s + x.scan ≤ p t →
+      (first : ℕ) → IsPlace p s first → ended takes (c first) + capacity ≤ n + counts x.outcome
   -- once a take was told that the ring is closed, at every later moment the close has begun, every item put has been taken,
   -- and no more come
   pub closed :
@@ -91,29 +97,30 @@ pub record SpanLaw (modulus capacity : ℕ) (p c : ℕ → ℕ) (puts takes : Li
 
 -- The law holds wherever two sides keep the rules of puts and takes and the registers keep theirs.
 pub span_law :
-    (modulus capacity : ℕ) (p c : ℕ → ℕ) (puts takes : List Span) → AllProper puts → AllProper takes →
-    Ring modulus capacity p c puts takes → SpanLaw modulus capacity p c puts takes
-span_law modulus capacity p c puts takes proper_puts proper_takes ring =
+    (modulus capacity batch : ℕ) (p c : ℕ → ℕ) (puts takes : List Span) → AllProper batch puts → AllProper 1 takes →
+    Ring modulus capacity batch p c puts takes → SpanLaw modulus capacity batch p c puts takes
+span_law modulus capacity batch p c puts takes proper_puts proper_takes ring =
     record {
-      within = within modulus capacity p c puts takes ring proper_puts proper_takes;
+      within = within modulus capacity batch p c puts takes ring proper_puts proper_takes;
       put_range = λ t s n x st l.
-          (let u = left_at modulus capacity p c puts takes ring proper_puts proper_takes t s n x st l in
-          record { number = u.number; value = u.value; low = omega (arith, u.low); high = u.high; not_older = u.since; not_newer = u.until });
+          (let u = left_at modulus capacity batch p c puts takes ring proper_puts proper_takes t s n x st l in
+          record { number = u.number; write = u.write; tallies = u.tallies; value = u.value; low = omega (arith, u.low); high = u.high; not_older = u.since; not_newer = u.until });
       take_range = λ t s k x st l.
-          (let u = shown_at modulus capacity p c puts takes ring proper_puts proper_takes t s k x st l in
-          record { number = u.number; value = u.value; low = omega (arith, u.low); high = u.high; not_older = u.since; not_newer = u.until });
-      quiet = quiet modulus capacity p c puts takes ring proper_puts proper_takes;
-      items = taken_item modulus capacity p c puts takes ring proper_puts proper_takes;
+          (let u = shown_at modulus capacity batch p c puts takes ring proper_puts proper_takes t s k x st l in
+          record { number = u.number; write = u.write; tallies = u.tallies; value = u.value; low = omega (arith, u.low); high = u.high; not_older = u.since; not_newer = u.until });
+      quiet = quiet modulus capacity batch p c puts takes ring proper_puts proper_takes;
+      items = taken_item modulus capacity batch p c puts takes ring proper_puts proper_takes;
       prefix = λ t.
-          (drop (length (ended_items takes (c t))) (begun_items puts (p t)), sym (prefix modulus capacity p c puts takes ring proper_puts proper_takes t));
+          (drop (length (ended_items takes (c t))) (begun_items puts (p t)), sym (prefix modulus capacity batch p c puts takes ring proper_puts proper_takes t));
       empty = λ t s k x st o l first is.
-          (let w = before-whole x (proper_at takes proper_takes s k x st) in (
-            empty_fresh modulus capacity p c puts takes ring proper_puts proper_takes t s k x st (ap counts o) (omega (arith, w)) first is,
-            empty_open modulus capacity p c puts takes ring proper_puts proper_takes t s k x st o l first is,
+          (let w = before-whole 1 x (proper_at 1 takes proper_takes s k x st) in (
+            empty_fresh modulus capacity batch p c puts takes ring proper_puts proper_takes t s k x st (ap counts o) (omega (arith, w)) first is,
+            empty_open modulus capacity batch p c puts takes ring proper_puts proper_takes t s k x st o l first is,
           ));
-      full = full_fresh modulus capacity p c puts takes ring proper_puts proper_takes;
+      full = full_fresh modulus capacity batch p c puts takes ring proper_puts proper_takes;
+      fill = fill_fresh modulus capacity batch p c puts takes ring proper_puts proper_takes;
       closed = λ t u told l.
           (let z = told.two in
-          closed modulus capacity p c puts takes ring proper_puts proper_takes u z.start z.number z.asked z.stopped z.asked_stands z.asked_is z.stopped_stands
+          closed modulus capacity batch p c puts takes ring proper_puts proper_takes u z.start z.number z.asked z.stopped z.asked_stands z.asked_is z.stopped_stands
           z.stopped_is (omega (arith, z.at_end, told.ended, clock_up c (clock_c p c ring.clocks) t u l)));
     }

@@ -259,7 +259,7 @@ module _ (tell : DigitsTellItems) where
   -- the items taken in a history, and whether it was told, are the same whichever takes its events are read as
   pub taken-are_read : TakenAreRead
   taken-are_read shape h a b p q =
-      let both : BeginBoth (length (own C h)) (take_program shape a) (take_program shape b) =
+      let both : BeginBoth C (length (own C h)) (take_program shape a) (take_program shape b) =
       begin_both C (own C h) (take_program shape a) (take_program shape b) p.events q.events in (
         same_items shape 0 a.takes b.takes a.end b.end both.made (length (own C h)) p.are q.are both.begins_left both.begins_right both.reach,
         λ told. still_told shape a b both.made (length (own C h)) p.are q.are both.begins_left both.begins_right both.reach told,

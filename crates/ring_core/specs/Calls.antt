@@ -1,5 +1,5 @@
 -- What the machines of both sides are asked and fed, and what holds of the machines that they are made of.
-use Rattle.std.specs.Prelude.{◌≡◌, ◌≢◌, ℕ, suc, ◌%◌, ◌<◌, false, Option, Some, None, List, ◌++◌}
+use Rattle.std.specs.Prelude.{◌≡◌, ◌≢◌, ℕ, suc, ◌+◌, ◌%◌, ◌<◌, false, Option, Some, None, List, ◌++◌}
 use Rattle.bits_core.specs.declared.events.Side.{Side}
 use Rattle.bits_core.specs.declared.events.Access.{Access}
 use Rattle.bits_core.specs.declared.events.Access.TheVariants.{Read}
@@ -30,3 +30,7 @@ IsCounted row count = (due_unary row ≡ None) × (row.value ≡ count)
 
 abbrev pub IsBeingCounted : UnaryState → ℕ → ℕ → Type 0
 IsBeingCounted row modulus count = (due_unary row ≢ None) × (row.value ≡ suc count % modulus)
+
+-- the same of a write that counts m items
+abbrev pub IsBeingCountedOn : UnaryState → ℕ → ℕ → ℕ → Type 0
+IsBeingCountedOn row modulus count m = (due_unary row ≢ None) × (row.value ≡ (count + m) % modulus)

@@ -1,7 +1,7 @@
 -- Two sides on one history: clocks that count their events, and what the registers promise of a scan.
-use Rattle.std.specs.Prelude.{◌≡◌, ◌⊎◌, ℕ, suc, ◌+◌, ◌<◌, ◌≤◌, ◌%◌, Bool, true, false, List}
+use Rattle.std.specs.Prelude.{◌≡◌, ◌⊎◌, ℕ, suc, ◌+◌, ◌<◌, ◌≤◌, ◌%◌, Bool, true, false, Some, List, [], ◌∷◌, slice_get}
 use Rattle.ring_core.specs.Counts.{distance}
-use Rattle.ring_core.specs.Spans.{Span, Passes, Asks, counts, before_count, begun, ended, total, Stands}
+use Rattle.ring_core.specs.Spans.{Span, Passes, Asks, counts, items_of, before_count, begun, ended, total, Stands, sizes, tally}
 
 -- The clock of a side says how many of its events stand before a position of the history. Each event is of one side.
 pub record Clocks (p c : ℕ → ℕ) : Type 0 where
@@ -14,10 +14,12 @@ pub record Clocks (p c : ℕ → ℕ) : Type 0 where
 abbrev pub IsPlace : (ℕ → ℕ) → ℕ → ℕ → Type 0
 IsPlace clock i t = (clock t ≡ i) × (clock (suc t) ≡ suc i)
 
--- The value of a scan from position first to position last is that of a count write of the other side
--- that had not been overwritten before the scan began and that began before the scan ended.
+-- The value of a scan from position first to position last is the number of the items counted by the other side's count
+-- writes up to one that had not been overwritten before the scan began and that began before the scan ended.
 pub record Permitted (modulus : ℕ) (other : ℕ → ℕ) (writes : List Span) (first last seen : ℕ) : Type 0 where
   pub number : ℕ
+  pub write : ℕ
+  pub tallies : number ≡ tally (sizes writes) write
   pub not_older : ended writes (other first) ≤ number
   pub not_newer : number ≤ begun writes (other last)
   pub value : seen ≡ number % modulus
@@ -28,9 +30,9 @@ AreRegular modulus own other scans writes =
     (s n : ℕ) (x : Span) → Stands scans s n x → (first last e : ℕ) → IsPlace own s first → IsPlace own e last → suc e ≡ s + x.scan →
     Permitted modulus other writes first last x.seen
 
--- Put number n stores an item exactly where the count that it read leaves room.
+-- A put behind n items stores some where the count that it read leaves room for them, and finds the ring full where it leaves none.
 pub record IsPut (modulus capacity n : ℕ) (x : Span) : Type 0 where
-  pub room : counts x.outcome ≡ 1 → distance modulus (n % modulus) x.seen < capacity
+  pub room : 1 ≤ counts x.outcome → distance modulus (n % modulus) x.seen + counts x.outcome ≤ capacity
   pub full : counts x.outcome ≡ 0 → capacity ≤ distance modulus (n % modulus) x.seen
 
 -- Take number k takes an item exactly where the count that it read shows one.
@@ -38,33 +40,37 @@ pub record IsTake (modulus capacity k : ℕ) (x : Span) : Type 0 where
   pub item : counts x.outcome ≡ 1 → (1 ≤ distance modulus x.seen (k % modulus)) × (distance modulus x.seen (k % modulus) ≤ capacity)
   pub none : counts x.outcome ≡ 0 → (distance modulus x.seen (k % modulus) ≡ 0) ⊎ (capacity < distance modulus x.seen (k % modulus))
 
--- The word write of a put is of the cell, and neither it nor the read of the cell ends before the other begins.
+-- A word write of a put is of the cell, and neither the put's word writes nor the read of the cell end before the other begins.
 -- The read begins at position first, and ends at position last or is open there.
 pub record Overlap (capacity : ℕ) (p : ℕ → ℕ) (puts : List Span) (cell first last : ℕ) : Type 0 where
   pub start : ℕ
   pub number : ℕ
   pub put : Span
+  pub index : ℕ
   pub stands : Stands puts start number put
-  pub stored : counts put.outcome ≡ 1
-  pub same_cell : number % capacity ≡ cell
+  pub stored : index < counts put.outcome
+  pub same_cell : (number + index) % capacity ≡ cell
   pub begun_before : start + put.scan < p last
   pub not_ended : p first < start + before_count put
 
--- The last word write of the cell that had ended before position first, and its item.
+-- The last word write of the cell whose put had ended its word writes before position first, and its item: no put with a later
+-- one had begun them.
 pub record IsLastWrite (capacity : ℕ) (p : ℕ → ℕ) (puts : List Span) (cell first item : ℕ) : Type 0 where
   pub start : ℕ
   pub number : ℕ
   pub put : Span
+  pub index : ℕ
   pub stands : Stands puts start number put
-  pub stored : put.outcome ≡ Passes item
-  pub same_cell : number % capacity ≡ cell
+  pub stored : slice_get (items_of put.outcome) index ≡ Some item
+  pub same_cell : (number + index) % capacity ≡ cell
   pub had_ended : start + before_count put ≤ p first
-  pub no_later : (s n : ℕ) (y : Span) → Stands puts s n y → counts y.outcome ≡ 1 → n % capacity ≡ cell → number < n → s + before_count y ≤ p first → ⊥
+  pub no_later :
+      (s n i : ℕ) (y : Span) → Stands puts s n y → i < counts y.outcome → (n + i) % capacity ≡ cell → number + index < n + i → s + y.scan ≤ p first → ⊥
 
 -- The law of the safe word: a word read that no word write of its cell overlaps gives the item last written.
 abbrev pub AreSafe : ℕ → (p c : ℕ → ℕ) → (puts takes : List Span) → Type 0
 AreSafe capacity p c puts takes =
-    (s k : ℕ) (x : Span) (item : ℕ) → Stands takes s k x → x.outcome ≡ Passes item →
+    (s k : ℕ) (x : Span) (item : ℕ) → Stands takes s k x → x.outcome ≡ Passes (item ∷ []) →
     (first last e : ℕ) → IsPlace c (s + x.scan) first → IsPlace c e last → suc e ≡ s + before_count x →
     (Overlap capacity p puts (k % capacity) first last → ⊥) →
     (written : ℕ) → IsLastWrite capacity p puts (k % capacity) first written → item ≡ written
@@ -78,8 +84,9 @@ AreCloseReads p c puts takes =
 
 -- What the law of the ring rests on: two sides on one history, whose spans follow the rules of puts and takes, and the
 -- laws of the registers between them.
-pub record Ring (modulus capacity : ℕ) (p c : ℕ → ℕ) (puts takes : List Span) : Type 0 where
-  pub modulus_fits : capacity + 2 ≤ modulus
+pub record Ring (modulus capacity batch : ℕ) (p c : ℕ → ℕ) (puts takes : List Span) : Type 0 where
+  pub modulus_fits : suc (capacity + batch) ≤ modulus
+  pub has_batch : 1 ≤ batch
   pub clocks : Clocks p c
   pub puts_rule : (s n : ℕ) (x : Span) → Stands puts s n x → IsPut modulus capacity n x
   pub takes_rule : (s k : ℕ) (x : Span) → Stands takes s k x → IsTake modulus capacity k x
@@ -88,6 +95,5 @@ pub record Ring (modulus capacity : ℕ) (p c : ℕ → ℕ) (puts takes : List 
   pub words_safe : AreSafe capacity p c puts takes
   pub close_reads : AreCloseReads p c puts takes
   -- a word access, and a read of the close bit, has an event
-  pub puts_words : (s n : ℕ) (x : Span) → Stands puts s n x → counts x.outcome ≡ 1 → 1 ≤ x.word
   pub takes_words : (s k : ℕ) (x : Span) → Stands takes s k x → counts x.outcome ≡ 1 → 1 ≤ x.word
   pub asks_words : (s k : ℕ) (x : Span) (answer : Bool) → Stands takes s k x → x.outcome ≡ Asks answer → 1 ≤ x.word

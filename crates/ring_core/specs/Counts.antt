@@ -1,10 +1,10 @@
 -- The two counts of a ring, modulo its modulus.
-use Rattle.std.specs.Prelude.{ℕ, zero, suc, ◌+◌, ◌-◌, ◌%◌, ◌<◌, ◌≤◌, Bool, List, [], ◌∷◌, ◌++◌}
+use Rattle.std.specs.Prelude.{◌≡◌, ℕ, zero, suc, ◌+◌, ◌-◌, ◌%◌, ◌<◌, ◌≤◌, Bool, true, false, List, [], ◌∷◌, ◌++◌}
 use Rattle.bits_core.specs.declared.events.Side.{Side}
 use Rattle.bits_core.specs.declared.shapes.Shape.{Shape}
 use Rattle.bits_core.specs.Shape.{capacity_of, modulus_of}
 use Rattle.bits_core.specs.Made.{Made}
-use Rattle.register_core.specs.Row.{row_bit, first_bits, bits_after, writes_in}
+use Rattle.register_core.specs.Row.{RowWrite, row_bit, first_bits, bits_after, writes_in}
 use Rattle.register_core.specs.Unary.{unary_phrase}
 
 -- a less b, modulo a number above both
@@ -19,6 +19,44 @@ ShowsItem shape c k = (0 < distance (modulus_of shape) c k) × (distance (modulu
 abbrev pub LeavesRoom : Shape → ℕ → ℕ → Type 0
 LeavesRoom shape n d = distance (modulus_of shape) n d < capacity_of shape
 
+-- and room for m more
+abbrev pub LeavesRoomFor : Shape → ℕ → ℕ → ℕ → Type 0
+LeavesRoomFor shape n d m = distance (modulus_of shape) n d + m ≤ capacity_of shape
+
+-- ---- a count whose writes count several items
+
+-- the number of what comes behind these items, the first of which has number n
+abbrev pub past : ℕ → List ℕ → ℕ
+past n [] = n
+past n (item ∷ items) = past (suc n) items
+
+-- a count as its writer knows it: how many items it has counted, and the bits that its writes left
+pub record Count : Type 0 where
+  pub number : ℕ
+  pub bits : ℕ → Bool
+
+abbrev pub first_count : Count
+first_count = record { number = 0; bits = first_bits }
+
+-- the bit writes of the unary write that counts these items too
+abbrev pub count_bits : Shape → Count → List ℕ → List RowWrite
+count_bits shape c items = unary_phrase c.bits (past c.number items % modulus_of shape)
+
+-- its accesses, by a side
+abbrev pub batch_phrase : Shape → Side → Count → List ℕ → List Made
+batch_phrase shape s c items = writes_in (row_bit s) (count_bits shape c items)
+
+-- the count after it
+abbrev pub counted_on : Shape → Count → List ℕ → Count
+counted_on shape c items = record { number = past c.number items; bits = bits_after c.bits (count_bits shape c items) }
+
+-- the number of the lowest bit that is set is that of the items counted, modulo the modulus
+pub record IsCount (shape : Shape) (c : Count) : Type 0 where
+  pub set : c.bits (c.number % modulus_of shape) ≡ true
+  pub clear : (j : ℕ) → j < c.number % modulus_of shape → c.bits j ≡ false
+
+-- ---- a count whose writes count one item each
+
 -- the bits of a count after n unary writes, of 1, 2 and so on, modulo the modulus
 abbrev pub bits_held : Shape → ℕ → ℕ → Bool
 bits_held shape zero = first_bits
@@ -32,3 +70,7 @@ count_phrase shape s n = writes_in (row_bit s) (unary_phrase (bits_held shape n)
 abbrev pub counted : Shape → ℕ → List ℕ
 counted shape zero = []
 counted shape (suc n) = counted shape n ++ suc n % modulus_of shape ∷ []
+
+-- this count, as its writer knows it
+abbrev pub steps : Shape → ℕ → Count
+steps shape n = record { number = n; bits = bits_held shape n }

@@ -1,13 +1,12 @@
 -- What was put, taken and told among the first events of the calls of a side.
-use Rattle.std.specs.Prelude.{◌≡◌, ℕ, suc, ◌-◌, ◌*◌, ◌%◌, ◌≤◌, nat_lt, nat_le, List, [], ◌∷◌, ◌++◌, length, if◌then◌else◌}
+use Rattle.std.specs.Prelude.{◌≡◌, ℕ, suc, ◌-◌, ◌*◌, ◌≤◌, nat_lt, nat_le, List, [], ◌∷◌, ◌++◌, length, if◌then◌else◌}
 use Rattle.bits_core.specs.declared.events.Side.TheVariants.{P, C}
 use Rattle.bits_core.specs.declared.events.Event.{Event}
 use Rattle.bits_core.specs.declared.shapes.Shape.{Shape}
-use Rattle.bits_core.specs.Shape.{capacity_of, width_of}
 use Rattle.bits_core.specs.Made.{Made, own}
-use Rattle.register_core.specs.Word.{word_write}
 use Rattle.register_core.specs.ScanState.{scan_phrase, row_read_by}
-use Rattle.ring_core.specs.Puts.{Put, Stored, Full, put_phrase, Puts, FollowsPuts}
+use Rattle.ring_core.specs.Counts.{Count, first_count}
+use Rattle.ring_core.specs.Puts.{Put, Stored, Full, stored_after, words_phrase, put_phrase, Puts, FollowsPuts}
 use Rattle.ring_core.specs.Takes.{Take, Item, ItemAfterClose, Empty, End, Open, Closed, take_phrase, take_program, Takes, FollowsTakes}
 
 -- how many events these accesses have
@@ -15,21 +14,21 @@ abbrev pub events_in : List Made → ℕ
 events_in made = 2 * length made
 
 -- the accesses of a put that stores, up to its count write
-abbrev pub accesses_before_count : Shape → ℕ → ℕ → ℕ → List Made
-accesses_before_count shape n seen item = scan_phrase (row_read_by P) seen ++ word_write (width_of shape) (n % capacity_of shape) item
+abbrev pub accesses_before_count : Shape → ℕ → ℕ → List ℕ → List Made
+accesses_before_count shape n seen items = scan_phrase (row_read_by P) seen ++ words_phrase shape n items
 
--- the items of the puts whose count write has begun within the first t events, where n items were stored before them
-abbrev pub items_put : Shape → ℕ → List Put → ℕ → List ℕ
-items_put shape n [] t = []
-items_put shape n (Stored seen item ∷ puts) t =
-    (if nat_lt (events_in (accesses_before_count shape n seen item)) t then item ∷ [] else [])
-    ++ items_put shape (suc n) puts (t - events_in (put_phrase shape n (Stored seen item)))
-items_put shape n (Full seen ∷ puts) t = items_put shape n puts (t - events_in (put_phrase shape n (Full seen)))
+-- the items of the puts whose count write has begun within the first t events, behind the producer's count
+abbrev pub items_put : Shape → Count → List Put → ℕ → List ℕ
+items_put shape c [] t = []
+items_put shape c (Stored seen items ∷ puts) t =
+    (if nat_lt (events_in (accesses_before_count shape c.number seen items)) t then items else [])
+    ++ items_put shape (stored_after shape c (Stored seen items)) puts (t - events_in (put_phrase shape c (Stored seen items)))
+items_put shape c (Full seen ∷ puts) t = items_put shape c puts (t - events_in (put_phrase shape c (Full seen)))
 
 -- the items of all these puts
 abbrev pub all_put : List Put → List ℕ
 all_put [] = []
-all_put (Stored seen item ∷ puts) = item ∷ all_put puts
+all_put (Stored seen items ∷ puts) = items ++ all_put puts
 all_put (Full seen ∷ puts) = all_put puts
 
 -- the items of the takes that have ended within the first t events, where k items were taken before them
@@ -55,7 +54,7 @@ IsTold shape calls t = Tells calls.end × (events_in (take_program shape calls) 
 -- the items put in a history, the items taken in it, and whether its consumer was told that the ring is closed, by the
 -- calls that its sides follow
 abbrev pub items_put_in : Shape → List Event → Puts → List ℕ
-items_put_in shape h calls = items_put shape 0 calls.puts (length (own P h))
+items_put_in shape h calls = items_put shape first_count calls.puts (length (own P h))
 
 abbrev pub items_taken_in : Shape → List Event → Takes → List ℕ
 items_taken_in shape h calls = items_taken shape 0 calls.takes (length (own C h))

@@ -1,8 +1,9 @@
 -- How many accesses a call has at most.
-use Rattle.std.specs.Prelude.{ℕ, ◌+◌, ◌*◌, ◌≤◌, length}
+use Rattle.std.specs.Prelude.{ℕ, ◌+◌, ◌*◌, ◌≤◌, List, [], ◌∷◌, length}
 use Rattle.bits_core.specs.declared.shapes.Shape.{Shape}
 use Rattle.bits_core.specs.Shape.{modulus_of, width_of}
-use Rattle.ring_core.specs.Puts.{Put, put_phrase, IsPut}
+use Rattle.ring_core.specs.Counts.{Count, IsCount}
+use Rattle.ring_core.specs.Puts.{Stored, Full, put_phrase, IsPut}
 use Rattle.ring_core.specs.Takes.{Take, Closed, take_phrase, end_phrase, IsTake, SeesNone}
 
 -- the most accesses of a put: a scan, a word write and two writes of the count
@@ -13,8 +14,23 @@ longest_put shape = modulus_of shape + width_of shape + 2
 abbrev pub longest_take : Shape → ℕ
 longest_take shape = 2 * modulus_of shape + width_of shape + 3
 
+-- the most accesses of a put of m items: a scan, m word writes, and a write of the count
+abbrev pub longest_batch : Shape → ℕ → ℕ
+longest_batch shape m = 2 * modulus_of shape + m * width_of shape
+
+-- a put of one item has no more than the former, and any put no more than the latter
+abbrev pub ItemPutsAreShort : Type 0
+ItemPutsAreShort =
+    (shape : Shape) (c : Count) (seen item : ℕ) → IsCount shape c → IsPut shape c.number (Stored seen (item ∷ [])) →
+    length (put_phrase shape c (Stored seen (item ∷ []))) ≤ longest_put shape
+
+abbrev pub FullPutsAreShort : Type 0
+FullPutsAreShort = (shape : Shape) (c : Count) (seen : ℕ) → IsPut shape c.number (Full seen) → length (put_phrase shape c (Full seen)) ≤ longest_put shape
+
 abbrev pub PutsAreShort : Type 0
-PutsAreShort = (shape : Shape) (n : ℕ) (x : Put) → IsPut shape n x → length (put_phrase shape n x) ≤ longest_put shape
+PutsAreShort =
+    (shape : Shape) (c : Count) (seen : ℕ) (items : List ℕ) → IsCount shape c → IsPut shape c.number (Stored seen items) →
+    length (put_phrase shape c (Stored seen items)) ≤ longest_batch shape (length items)
 
 abbrev pub TakesAreShort : Type 0
 TakesAreShort = (shape : Shape) (k : ℕ) (x : Take) → IsTake shape k x → length (take_phrase shape k x) ≤ longest_take shape

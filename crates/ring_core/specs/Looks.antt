@@ -1,15 +1,16 @@
 -- The calls of a side as looks: each scan of the other side's count with what follows it.
-use Rattle.std.specs.Prelude.{◌≡◌, ℕ, suc, ◌*◌, ◌%◌, true, false, List, [], ◌∷◌, ◌++◌, length}
+use Rattle.std.specs.Prelude.{◌≡◌, ℕ, suc, ◌*◌, ◌%◌, Bool, true, false, List, [], ◌∷◌, ◌++◌, length}
 use Rattle.bits_core.specs.declared.events.Side.{Side}
 use Rattle.bits_core.specs.declared.events.Side.TheVariants.{P, C}
 use Rattle.bits_core.specs.declared.events.Bit.TheVariants.{X}
 use Rattle.bits_core.specs.declared.shapes.Shape.{Shape}
 use Rattle.bits_core.specs.Shape.{capacity_of, width_of}
 use Rattle.bits_core.specs.Made.{Made, Read}
-use Rattle.register_core.specs.Word.{word_write, word_read}
+use Rattle.register_core.specs.Row.{bits_after}
+use Rattle.register_core.specs.Word.{word_read}
 use Rattle.register_core.specs.ScanState.{scan_phrase, row_read_by}
-use Rattle.ring_core.specs.Counts.{count_phrase}
-use Rattle.ring_core.specs.Puts.{Put, Stored, Full, Puts, close_phrase, put_program}
+use Rattle.ring_core.specs.Counts.{past, Count, first_count, count_bits, batch_phrase}
+use Rattle.ring_core.specs.Puts.{Put, Stored, Full, Puts, words_phrase, close_phrase, put_program}
 use Rattle.ring_core.specs.Takes.{Take, Item, ItemAfterClose, Empty, End, Open, Closed, Takes, take_program}
 use Rattle.ring_core.specs.Spans.{Outcome, Passes, Stops, Asks, Span, Stands}
 
@@ -24,83 +25,100 @@ look seen outcome = record { seen = seen; outcome = outcome }
 -- a put looks once
 abbrev pub put_looks : List Put → List Look
 put_looks [] = []
-put_looks (Stored seen item ∷ puts) = look seen (Passes item) ∷ put_looks puts
+put_looks (Stored seen items ∷ puts) = look seen (Passes items) ∷ put_looks puts
 put_looks (Full seen ∷ puts) = look seen Stops ∷ put_looks puts
 
 -- a take looks again where the close bit was 1
 abbrev pub take_looks : List Take → End → List Look
 take_looks [] Open = []
 take_looks [] (Closed seen again) = look seen (Asks true) ∷ look again Stops ∷ []
-take_looks (Item seen item ∷ takes) end = look seen (Passes item) ∷ take_looks takes end
-take_looks (ItemAfterClose seen again item ∷ takes) end = look seen (Asks true) ∷ look again (Passes item) ∷ take_looks takes end
+take_looks (Item seen item ∷ takes) end = look seen (Passes (item ∷ [])) ∷ take_looks takes end
+take_looks (ItemAfterClose seen again item ∷ takes) end = look seen (Asks true) ∷ look again (Passes (item ∷ [])) ∷ take_looks takes end
 take_looks (Empty seen ∷ takes) end = look seen (Asks false) ∷ take_looks takes end
 
--- what a side does after a scan, behind n counts: the word access or the read of the close bit, and the count write
+-- the word reads of items, one after the other, of the cells from that of item number n on
+abbrev pub words_read : Shape → ℕ → List ℕ → List Made
+words_read shape n [] = []
+words_read shape n (item ∷ items) = word_read (width_of shape) (n % capacity_of shape) item ++ words_read shape (suc n) items
+
+-- what a side does after a scan, behind n items: the word accesses or the read of the close bit, and the count write
 abbrev pub word_part : Side → Shape → ℕ → Outcome → List Made
-word_part P shape n (Passes item) = word_write (width_of shape) (n % capacity_of shape) item
-word_part C shape n (Passes item) = word_read (width_of shape) (n % capacity_of shape) item
+word_part P shape n (Passes items) = words_phrase shape n items
+word_part C shape n (Passes items) = words_read shape n items
 word_part s shape n Stops = []
 word_part s shape n (Asks answer) = Read X answer ∷ []
 
-abbrev pub count_part : Side → Shape → ℕ → Outcome → List Made
-count_part s shape n (Passes item) = count_phrase shape s n
-count_part s shape n Stops = []
-count_part s shape n (Asks answer) = []
+abbrev pub count_part : Side → Shape → Count → Outcome → List Made
+count_part s shape c (Passes items) = batch_phrase shape s c items
+count_part s shape c Stops = []
+count_part s shape c (Asks answer) = []
 
--- how many counts there are after one
-abbrev pub after_look : ℕ → Outcome → ℕ
-after_look n (Passes item) = suc n
-after_look n Stops = n
-after_look n (Asks answer) = n
+-- the number of items, and the bits of the side's count, after a look
+abbrev pub look_number : ℕ → Outcome → ℕ
+look_number n (Passes items) = past n items
+look_number n Stops = n
+look_number n (Asks answer) = n
 
--- the accesses of looks, behind n counts, and of what comes after them
-abbrev pub look_accesses : Side → Shape → ℕ → List Look → List Made → List Made
-look_accesses s shape n [] behind = behind
-look_accesses s shape n (l ∷ looks) behind =
-    scan_phrase (row_read_by s) l.seen ++ (word_part s shape n l.outcome ++ (count_part s shape n l.outcome ++ look_accesses s shape (after_look n l.outcome) looks behind))
+abbrev pub look_bits : Shape → Count → Outcome → ℕ → Bool
+look_bits shape c (Passes items) = bits_after c.bits (count_bits shape c items)
+look_bits shape c Stops = c.bits
+look_bits shape c (Asks answer) = c.bits
+
+-- the side's count after one
+abbrev pub after_look : Shape → Count → Outcome → Count
+after_look shape c o = record { number = look_number c.number o; bits = look_bits shape c o }
+
+-- the accesses of looks, behind a count, and of what comes after them
+abbrev pub look_accesses : Side → Shape → Count → List Look → List Made → List Made
+look_accesses s shape c [] behind = behind
+look_accesses s shape c (l ∷ looks) behind =
+    scan_phrase (row_read_by s) l.seen ++
+    (word_part s shape c.number l.outcome ++ (count_part s shape c l.outcome ++ look_accesses s shape (after_look shape c l.outcome) looks behind))
 
 -- the span of a look: an access has two events
-abbrev pub span_of : Side → Shape → ℕ → Look → Span
-span_of s shape n l = record {
+abbrev pub span_of : Side → Shape → Count → Look → Span
+span_of s shape c l = record {
   seen = l.seen;
   outcome = l.outcome;
   scan = 2 * length (scan_phrase (row_read_by s) l.seen);
-  word = 2 * length (word_part s shape n l.outcome);
-  count = 2 * length (count_part s shape n l.outcome);
+  word = 2 * length (word_part s shape c.number l.outcome);
+  count = 2 * length (count_part s shape c l.outcome);
 }
 
-abbrev pub spans : Side → Shape → ℕ → List Look → List Span
-spans s shape n [] = []
-spans s shape n (l ∷ looks) = span_of s shape n l ∷ spans s shape (after_look n l.outcome) looks
+abbrev pub spans : Side → Shape → Count → List Look → List Span
+spans s shape c [] = []
+spans s shape c (l ∷ looks) = span_of s shape c l ∷ spans s shape (after_look shape c l.outcome) looks
 
 -- the spans of the calls of each side
 abbrev pub put_spans : Shape → Puts → List Span
-put_spans shape calls = spans P shape 0 (put_looks calls.puts)
+put_spans shape calls = spans P shape first_count (put_looks calls.puts)
 
 abbrev pub take_spans : Shape → Takes → List Span
-take_spans shape calls = spans C shape 0 (take_looks calls.takes calls.end)
+take_spans shape calls = spans C shape first_count (take_looks calls.takes calls.end)
 
 -- ---- looks and the programs
 
 -- the accesses of the calls are those of their looks
 abbrev pub PutsAreLooks : Type 0
-PutsAreLooks = (shape : Shape) (calls : Puts) → put_program shape calls ≡ look_accesses P shape 0 (put_looks calls.puts) (close_phrase calls.closes)
+PutsAreLooks = (shape : Shape) (calls : Puts) → put_program shape calls ≡ look_accesses P shape first_count (put_looks calls.puts) (close_phrase calls.closes)
 
 abbrev pub TakesAreLooks : Type 0
-TakesAreLooks = (shape : Shape) (calls : Takes) → take_program shape calls ≡ look_accesses C shape 0 (take_looks calls.takes calls.end) []
+TakesAreLooks = (shape : Shape) (calls : Takes) → take_program shape calls ≡ look_accesses C shape first_count (take_looks calls.takes calls.end) []
 
--- the span is that of a look of the program, behind n counts, and begins with the look's own event
+-- the span is that of a look of the program, behind n items, and begins with the look's own event
 pub record LookAt (s : Side) (shape : Shape) (program : List Made) (n start : ℕ) (x : Span) : Type 0 where
   pub look : Look
+  pub count : Count
   pub before : List Made
   pub after : List Made
-  pub is_x : x ≡ span_of s shape n look
+  pub number_is : count.number ≡ n
+  pub is_x : x ≡ span_of s shape count look
   pub program_is :
-      program ≡ before ++ (scan_phrase (row_read_by s) look.seen ++ (word_part s shape n look.outcome ++ (count_part s shape n look.outcome ++ after)))
+      program ≡ before ++ (scan_phrase (row_read_by s) look.seen ++ (word_part s shape n look.outcome ++ (count_part s shape count look.outcome ++ after)))
   pub start_is : start ≡ 2 * length before
 
 -- a span that stands at an own event is that of the look there
 abbrev pub LooksStand : Type 0
 LooksStand =
     (s : Side) (shape : Shape) (looks : List Look) (behind : List Made) (start n : ℕ) (x : Span) →
-    Stands (spans s shape 0 looks) start n x → LookAt s shape (look_accesses s shape 0 looks behind) n start x
+    Stands (spans s shape first_count looks) start n x → LookAt s shape (look_accesses s shape first_count looks behind) n start x

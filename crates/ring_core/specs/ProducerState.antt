@@ -1,5 +1,5 @@
 -- What the producer's machine remembers, and the access that is due.
-use Rattle.std.specs.Prelude.{◌≡◌, ℕ, ◌^◌, ◌<◌, Bool, true, false, Option, Some, None}
+use Rattle.std.specs.Prelude.{◌≡◌, ℕ, ◌+◌, ◌%◌, ◌<◌, ◌≤◌, Bool, true, false, cond, Option, Some, None, List, length, slice_get}
 use Rattle.bits_core.specs.declared.events.Side.TheVariants.{P}
 use Rattle.bits_core.specs.declared.events.Bit.TheVariants.{X}
 use Rattle.bits_core.specs.declared.events.Access.{Access}
@@ -9,13 +9,18 @@ use Rattle.bits_core.specs.Shape.{capacity_of, modulus_of, width_of}
 use Rattle.register_core.specs.ScanState.{ScanState, due_scan}
 use Rattle.register_core.specs.WordState.{WriterState, due_write}
 use Rattle.register_core.specs.UnaryState.{UnaryState, due_unary}
-use Rattle.ring_core.specs.Calls.{IsScanning, IsCounted, IsBeingCounted}
+use Rattle.ring_core.specs.Calls.{IsScanning, IsCounted, IsBeingCountedOn}
+use Rattle.ring_core.specs.Puts.{IsBatch}
 use Rattle.ring_core.specs.declared.producers.PutReply.{PutReply}
+use Rattle.ring_core.specs.declared.producers.PutReply.TheVariants as one
+use Rattle.ring_core.specs.declared.producers.BatchReply.{BatchReply}
+use Rattle.ring_core.specs.declared.producers.BatchReply.TheVariants.{Stored, Full, Closed}
 use Rattle.ring_core.specs.declared.producers.Stage.{Stage}
 use Rattle.ring_core.specs.declared.producers.Stage.TheVariants.{Idle, Scanning, Storing, Counting, Closing}
 
 -- the shape, the two counts' remainders by the modulus and by the capacity, the machines of the call under way or of the
--- last one, and what the last put was answered
+-- last one, the items that it was given, how many of them it stores, how many words it has written before the one under way,
+-- whether it was given as a batch, and what it was answered
 pub record ProducerState : Type 0 where
   pub shape : Shape
   pub count : ℕ
@@ -25,7 +30,11 @@ pub record ProducerState : Type 0 where
   pub word : WriterState
   pub row : UnaryState
   pub closed : Bool
-  pub reply : Option PutReply
+  pub items : List ℕ
+  pub most : ℕ
+  pub index : ℕ
+  pub batched : Bool
+  pub reply : Option BatchReply
 
 -- the access that is due, by the stage
 abbrev pub due_at : Stage → ProducerState → Option Access
@@ -38,39 +47,58 @@ due_at Closing p = Some (begins.Write X true)
 abbrev pub due_put : ProducerState → Option Access
 due_put p = due_at p.stage p
 
--- the call under way
+-- the call under way: a put of these items, or the close
 pub data Call : Type 0 where
-  Put : (item : ℕ) → Call
+  Put : (items : List ℕ) → Call
   Close : Call
 
-abbrev pub call_at : Stage → ℕ → Option Call
-call_at Idle item = None
-call_at Scanning item = Some (Put item)
-call_at Storing item = Some (Put item)
-call_at Counting item = Some (Put item)
-call_at Closing item = Some Close
+abbrev pub call_at : Stage → List ℕ → Option Call
+call_at Idle items = None
+call_at Scanning items = Some (Put items)
+call_at Storing items = Some (Put items)
+call_at Counting items = Some (Put items)
+call_at Closing items = Some Close
 
 abbrev pub call_of : ProducerState → Option Call
-call_of p = call_at p.stage p.word.item
+call_of p = call_at p.stage p.items
 
--- the word machine writes an item that fits to the producer's cell, and has written so many digits
+-- the reply to a put of one item
+abbrev pub item_reply : Option BatchReply → Option PutReply
+item_reply None = None
+item_reply (Some (Stored m)) = Some one.Stored
+item_reply (Some Full) = Some one.Full
+item_reply (Some Closed) = Some one.Closed
+
+-- the reply to the last call, where it was such a put, and where it was one of a batch
+abbrev pub put_reply : ProducerState → Option PutReply
+put_reply p = cond p.batched None (item_reply p.reply)
+
+abbrev pub batch_reply : ProducerState → Option BatchReply
+batch_reply p = cond p.batched p.reply None
+
+-- the word machine writes the item at the index to the cell so far from the producer's
 pub record IsWriting (p : ProducerState) : Type 0 where
   pub width_is : p.word.width ≡ width_of p.shape
-  pub cell_is : p.word.cell ≡ p.cell
-  pub fits : p.word.item < 2 ^ width_of p.shape
+  pub cell_is : p.word.cell ≡ (p.cell + p.index) % capacity_of p.shape
+  pub item_is : slice_get p.items p.index ≡ Some p.word.item
 
 -- a put is under way
 pub record IsPutting (p : ProducerState) : Type 0 where
   pub not_closed : p.closed ≡ false
   pub not_answered : p.reply ≡ None
+  pub offers : IsBatch p.shape p.items
   pub writes : IsWriting p
+
+-- it stores some of the items, and writes one of these
+abbrev pub IsKeeping : ProducerState → Type 0
+IsKeeping p = (p.index < p.most) × (p.most ≤ length p.items)
 
 -- what holds at each stage
 abbrev pub IsAt : Stage → ProducerState → Type 0
 IsAt Idle p = IsCounted p.row p.count
-IsAt Scanning p = IsCounted p.row p.count × IsPutting p × (p.word.written ≡ 0) × IsScanning P (modulus_of p.shape) p.scan
-IsAt Storing p = IsCounted p.row p.count × IsPutting p × (p.word.written < p.word.width)
-IsAt Counting p = IsBeingCounted p.row (modulus_of p.shape) p.count × IsPutting p
+IsAt Scanning p = IsCounted p.row p.count × IsPutting p × (p.word.written ≡ 0) × (p.index ≡ 0) × IsScanning P (modulus_of p.shape) p.scan
+IsAt Storing p = IsCounted p.row p.count × IsPutting p × IsKeeping p × (p.word.written < p.word.width)
+IsAt Counting p = IsBeingCountedOn p.row (modulus_of p.shape) p.count p.most × IsPutting p × IsKeeping p
 IsAt Closing p = IsCounted p.row p.count × (p.closed ≡ true) × (p.reply ≡ None)
 
 pub record IsProducer (p : ProducerState) : Type 0 where

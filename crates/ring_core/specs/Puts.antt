@@ -1,18 +1,19 @@
 -- The producer's program: puts one after the other, and perhaps a close.
-use Rattle.std.specs.Prelude.{ℕ, suc, ◌^◌, ◌%◌, ◌<◌, Bool, true, false, List, [], ◌∷◌, ◌++◌}
+use Rattle.std.specs.Prelude.{ℕ, suc, ◌^◌, ◌%◌, ◌<◌, ◌≤◌, Bool, true, false, List, [], ◌∷◌, ◌++◌, length}
 use Rattle.bits_core.specs.declared.events.Side.TheVariants.{P}
 use Rattle.bits_core.specs.declared.events.Bit.TheVariants.{X}
 use Rattle.bits_core.specs.declared.events.Event.{Event}
 use Rattle.bits_core.specs.declared.shapes.Shape.{Shape}
-use Rattle.bits_core.specs.Shape.{capacity_of, modulus_of, width_of}
+use Rattle.bits_core.specs.Shape.{batch_of, capacity_of, modulus_of, width_of}
 use Rattle.bits_core.specs.Made.{Made, Write, events_of, own, IsBeginning}
+use Rattle.register_core.specs.Row.{bits_after}
 use Rattle.register_core.specs.Word.{word_write}
 use Rattle.register_core.specs.ScanState.{scan_phrase, row_read_by}
-use Rattle.ring_core.specs.Counts.{LeavesRoom, count_phrase}
+use Rattle.ring_core.specs.Counts.{LeavesRoom, LeavesRoomFor, past, Count, first_count, count_bits, batch_phrase}
 
--- a put, by the count that it read: it stored an item, or it found the ring full
+-- a put, by the count that it read: it stored some items under one count write, or it found the ring full
 pub data Put : Type 0 where
-  Stored : (seen item : ℕ) → Put
+  Stored : (seen : ℕ) (items : List ℕ) → Put
   Full : (seen : ℕ) → Put
 
 -- puts, and whether a close follows them
@@ -21,24 +22,48 @@ pub record Puts : Type 0 where
   pub closes : Bool
 
 -- how many items are stored, after n of them and this put
-abbrev pub stored_after : ℕ → Put → ℕ
-stored_after n (Stored seen item) = suc n
-stored_after n (Full seen) = n
+abbrev pub number_after : ℕ → Put → ℕ
+number_after n (Stored seen items) = past n items
+number_after n (Full seen) = n
 
 -- how many are, after these puts
 abbrev pub stored_in : ℕ → List Put → ℕ
 stored_in n [] = n
-stored_in n (x ∷ puts) = stored_in (stored_after n x) puts
+stored_in n (x ∷ puts) = stored_in (number_after n x) puts
 
--- the accesses of a put, after n stored items: a scan of the consumer's count; then, where it stores, the item's word and
--- the producer's count
-abbrev pub put_phrase : Shape → ℕ → Put → List Made
-put_phrase shape n (Stored seen item) = scan_phrase (row_read_by P) seen ++ word_write (width_of shape) (n % capacity_of shape) item ++ count_phrase shape P n
-put_phrase shape n (Full seen) = scan_phrase (row_read_by P) seen
+-- the bits of the producer's count after this put
+abbrev pub put_bits : Shape → Count → Put → ℕ → Bool
+put_bits shape c (Stored seen items) = bits_after c.bits (count_bits shape c items)
+put_bits shape c (Full seen) = c.bits
 
-abbrev pub put_phrases : Shape → ℕ → List Put → List Made
-put_phrases shape n [] = []
-put_phrases shape n (x ∷ puts) = put_phrase shape n x ++ put_phrases shape (stored_after n x) puts
+-- the producer's count after this put, and after these
+abbrev pub stored_after : Shape → Count → Put → Count
+stored_after shape c x = record { number = number_after c.number x; bits = put_bits shape c x }
+
+abbrev pub stored_count : Shape → Count → List Put → Count
+stored_count shape c [] = c
+stored_count shape c (x ∷ puts) = stored_count shape (stored_after shape c x) puts
+
+-- the values that these puts write to the producer's count, behind n items
+abbrev pub put_values : Shape → ℕ → List Put → List ℕ
+put_values shape n [] = []
+put_values shape n (Stored seen items ∷ puts) = past n items % modulus_of shape ∷ put_values shape (past n items) puts
+put_values shape n (Full seen ∷ puts) = put_values shape n puts
+
+-- the word writes of items, one after the other, to the cells from that of item number n on
+abbrev pub words_phrase : Shape → ℕ → List ℕ → List Made
+words_phrase shape n [] = []
+words_phrase shape n (item ∷ items) = word_write (width_of shape) (n % capacity_of shape) item ++ words_phrase shape (suc n) items
+
+-- the accesses of a put, behind the count: a scan of the consumer's count; then, where it stores, the items' words and
+-- one write of the producer's count
+abbrev pub put_phrase : Shape → Count → Put → List Made
+put_phrase shape c (Stored seen items) = scan_phrase (row_read_by P) seen ++ words_phrase shape c.number items ++ batch_phrase shape P c items
+put_phrase shape c (Full seen) = scan_phrase (row_read_by P) seen
+
+abbrev pub put_phrases : Shape → Count → List Put → List Made
+put_phrases shape c [] = []
+put_phrases shape c (x ∷ puts) = put_phrase shape c x ++ put_phrases shape (stored_after shape c x) puts
 
 -- the access of a close
 abbrev pub close_phrase : Bool → List Made
@@ -47,16 +72,27 @@ close_phrase true = Write X true ∷ []
 
 -- the accesses of the producer's calls
 abbrev pub put_program : Shape → Puts → List Made
-put_program shape calls = put_phrases shape 0 calls.puts ++ close_phrase calls.closes
+put_program shape calls = put_phrases shape first_count calls.puts ++ close_phrase calls.closes
 
--- a put stores exactly where the count that it read leaves room, and its item fits
+-- each of these items fits
+abbrev pub AllFit : Shape → List ℕ → Type 0
+AllFit shape [] = Unit {0}
+AllFit shape (item ∷ items) = (item < 2 ^ width_of shape) × AllFit shape items
+
+-- what may be stored under one count write: some items that fit, no more than the batch
+pub record IsBatch (shape : Shape) (items : List ℕ) : Type 0 where
+  pub some : 1 ≤ length items
+  pub few : length items ≤ batch_of shape
+  pub fit : AllFit shape items
+
+-- a put stores where the count that it read leaves room for its items, and finds the ring full where that leaves none
 abbrev pub IsPut : Shape → ℕ → Put → Type 0
-IsPut shape n (Stored seen item) = (seen < modulus_of shape) × LeavesRoom shape (n % modulus_of shape) seen × (item < 2 ^ width_of shape)
+IsPut shape n (Stored seen items) = (seen < modulus_of shape) × LeavesRoomFor shape (n % modulus_of shape) seen (length items) × IsBatch shape items
 IsPut shape n (Full seen) = (seen < modulus_of shape) × ¬ LeavesRoom shape (n % modulus_of shape) seen
 
 abbrev pub ArePuts : Shape → ℕ → List Put → Type 0
 ArePuts shape n [] = Unit {0}
-ArePuts shape n (x ∷ puts) = IsPut shape n x × ArePuts shape (stored_after n x) puts
+ArePuts shape n (x ∷ puts) = IsPut shape n x × ArePuts shape (number_after n x) puts
 
 -- the producer of a history makes these calls, the last perhaps cut
 pub record FollowsPuts (shape : Shape) (h : List Event) (calls : Puts) : Type 0 where

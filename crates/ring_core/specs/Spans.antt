@@ -1,10 +1,10 @@
 -- Where the scans of a side, and what follows each, stand among its own events, counted from 0.
-use Rattle.std.specs.Prelude.{◌≡◌, ◌⊎◌, ℕ, ◌+◌, ◌-◌, Bool, List, [], ◌∷◌, ◌++◌, if◌then◌else◌, nat_lt, nat_le}
+use Rattle.std.specs.Prelude.{◌≡◌, ◌⊎◌, ℕ, ◌+◌, ◌-◌, zero, suc, Bool, List, [], ◌∷◌, ◌++◌, length, if◌then◌else◌, nat_lt, nat_le}
 
 -- what follows a scan
 pub data Outcome : Type 0 where
-  -- a word access with this item, and then a count write
-  Passes : ℕ → Outcome
+  -- a word access with each of these items, and then one count write
+  Passes : List ℕ → Outcome
   -- nothing
   Stops : Outcome
   -- a read of the close bit, with its answer
@@ -16,19 +16,19 @@ pub record Span : Type 0 where
   pub seen : ℕ
   pub outcome : Outcome
   pub scan : ℕ
-  -- the word access, or the read of the close bit
+  -- the word accesses, or the read of the close bit
   pub word : ℕ
   pub count : ℕ
 
--- how many count writes it has
+-- how many items its count write counts
 abbrev pub counts : Outcome → ℕ
-counts (Passes item) = 1
+counts (Passes items) = length items
 counts Stops = 0
 counts (Asks answer) = 0
 
--- the item that it puts or takes, if any
+-- the items that it puts or takes
 abbrev pub items_of : Outcome → List ℕ
-items_of (Passes item) = item ∷ []
+items_of (Passes items) = items
 items_of Stops = []
 items_of (Asks answer) = []
 
@@ -40,12 +40,12 @@ before_count x = x.scan + x.word
 abbrev pub whole : Span → ℕ
 whole x = x.scan + x.word + x.count
 
--- how many count writes have begun, after so many events of the side
+-- how many items are counted by the count writes that have begun, after so many events of the side
 abbrev pub begun : List Span → ℕ → ℕ
 begun [] i = 0
 begun (x ∷ xs) i = (if nat_lt (before_count x) i then counts x.outcome else 0) + begun xs (i - whole x)
 
--- how many count writes have ended
+-- and how many by those that have ended
 abbrev pub ended : List Span → ℕ → ℕ
 ended [] i = 0
 ended (x ∷ xs) i = (if nat_le (whole x) i then counts x.outcome else 0) + ended xs (i - whole x)
@@ -70,9 +70,28 @@ abbrev pub total : List Span → ℕ
 total [] = 0
 total (x ∷ xs) = whole x + total xs
 
--- the span stands at the side's own event number s, with n count writes before it
+-- the span stands at the side's own event number s, behind n items
 abbrev pub Stands : List Span → ℕ → ℕ → Span → Type 0
 Stands [] s n x = ⊥
 Stands (y ∷ ys) s n x =
     ((s ≡ 0) × (n ≡ 0) × (x ≡ y)) ⊎
     ((s' : ℕ) × (n' : ℕ) × (s ≡ whole y + s') × (n ≡ counts y.outcome + n') × Stands ys s' n' x)
+
+-- ---- the count writes, one after the other
+
+-- how many items the count write counts, where there is one
+abbrev pub size_of : Outcome → List ℕ
+size_of (Passes items) = length items ∷ []
+size_of Stops = []
+size_of (Asks answer) = []
+
+-- how many each count write of these spans counts
+abbrev pub sizes : List Span → List ℕ
+sizes [] = []
+sizes (x ∷ xs) = size_of x.outcome ++ sizes xs
+
+-- how many the first u count writes count
+abbrev pub tally : List ℕ → ℕ → ℕ
+tally [] u = 0
+tally (m ∷ ms) zero = 0
+tally (m ∷ ms) (suc u) = m + tally ms u

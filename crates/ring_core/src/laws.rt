@@ -1,10 +1,10 @@
 //! The law of the ring, and what the programs of its two sides say of their accesses.
 ghost use Rattle.ring_core.specs.Following.{PutsAreFollowed, TakesAreFollowed};
 ghost use Rattle.ring_core.specs.Items.{ItemsAreRead, TakenAreRead};
-ghost use Rattle.ring_core.specs.Lengths.{PutsAreShort, TakesAreShort, EndsAreShort};
+ghost use Rattle.ring_core.specs.Lengths.{ItemPutsAreShort, FullPutsAreShort, PutsAreShort, TakesAreShort, EndsAreShort};
 ghost use Rattle.ring_core.specs.Looks.{LooksStand, PutsAreLooks, TakesAreLooks};
 ghost use Rattle.ring_core.specs.Readings.{PutsAreRead, TakesAreRead};
-ghost use Rattle.ring_core.specs.RingLaw.{CellsAreQuiet, ClosedIsTrue, ClosedStays, EmptyIsFresh, FullIsFresh, HasARun, InEveryRun, IsWithin, PutsAreInRange, PutsAreSeen, RunsByPut, RunsByTake, TakenArePrefix, TakesAreInRange, TakesAreSeen, TakesMatchPuts};
+ghost use Rattle.ring_core.specs.RingLaw.{CellsAreQuiet, ClosedIsTrue, ClosedStays, EmptyIsFresh, FillIsFresh, FullIsFresh, HasARun, InEveryRun, IsWithin, PutsAreInRange, PutsAreSeen, RunsByPut, RunsByTake, TakenArePrefix, TakesAreInRange, TakesAreSeen, TakesMatchPuts};
 
 use bits_core::laws::{
     access_is_made, clock_counts_places, empty_is_lawful, lawful_by_one_more, made_is_access,
@@ -44,8 +44,11 @@ pub fn items_taken_are_read()
     digits_tell_items();
 }
 
-/// No put has more than modulus + width + 2 accesses, and no take more than 2 modulus + width + 3.
+/// No put of one item has more than modulus + width + 2 accesses, no put of `m` items more than
+/// 2 modulus + m width, and no take more than 2 modulus + width + 3.
 pub fn calls_are_short()
+    ensures item_puts { ItemPutsAreShort }
+    ensures full_puts { FullPutsAreShort }
     ensures puts { PutsAreShort }
     ensures takes { TakesAreShort }
     ensures ends { EndsAreShort }
@@ -90,17 +93,19 @@ pub fn has_a_run()
 }
 
 /// The law of the ring. In every lawful history of safe bits whose two sides follow their programs, with `N`
-/// puts and `K` takes of an item whose count write has begun:
+/// items put and `K` items taken by calls whose count write has begun:
 /// - `within`: `K <= N <= K + capacity`, at every moment;
 /// - `put_range`, `take_range`: each scan gives the number of a count write, modulo the modulus, that lies
-///   within a range which the modulus tells apart;
+///   within a range which the modulus tells apart: the number of the items counted by the count writes up to one;
 /// - `quiet`: no word read of a cell overlaps a word write of it;
 /// - `prefix`: the items taken are a prefix of the items put, at every moment;
-/// - `items`: a take whose word read has ended has the item of the put of its number;
+/// - `items`: a take whose word read has ended has the item put of its number;
 /// - `empty`: a take finds the ring empty only where every item of a put that ended before it began was taken
 ///   by a take that ended before it began, and no close had ended;
 /// - `full`: a put finds the ring full only where the items stored before it, less the takes of an item that
 ///   ended before it began, are at least the capacity;
+/// - `fill`: where a put fills all the room that its scan left, the items stored up to and with it, less the takes
+///   of an item that ended before it began, are at least the capacity;
 /// - `closed`: once the consumer was told that the ring is closed, the close has begun, behind all puts, and
 ///   every item of these puts was put and taken.
 ///
@@ -114,6 +119,7 @@ pub fn ring_law()
     ensures items { InEveryRun TakesMatchPuts }
     ensures empty { InEveryRun EmptyIsFresh }
     ensures full { InEveryRun FullIsFresh }
+    ensures fill { InEveryRun FillIsFresh }
     ensures closed { InEveryRun ClosedIsTrue }
 {
     own_has_place();

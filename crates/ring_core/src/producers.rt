@@ -1,10 +1,11 @@
 //! The producer's machine.
-ghost use Rattle.std.specs.Prelude.{◌≡◌, ◌≢◌, ℕ, ◌^◌, ◌<◌, true, false, Some, None, List, [], ◌∷◌, ◌++◌, ◌↔◌, IsTrue};
+ghost use Rattle.std.specs.Prelude.{◌≡◌, ◌≢◌, ◌⊎◌, ℕ, ◌+◌, ◌^◌, ◌<◌, ◌≤◌, true, false, Option, Some, None, List, [], ◌∷◌, ◌++◌, ◌↔◌, IsTrue, length, take};
 ghost use Rattle.bits_core.specs.declared.events.Side.TheVariants.{P};
 ghost use Rattle.bits_core.specs.Shape.{capacity_of, modulus_of, width_of};
 ghost use Rattle.bits_core.specs.Made.{Made, answered};
+ghost use Rattle.ring_core.specs.Counts as counts;
 
-use crate::counts::has_room;
+use crate::counts::{distance, has_room};
 use bits_core::{Access, Bit, Shape, Side};
 use register_core::{UnaryScan, UnaryWriter, WordWriter};
 use std::marker::Model;
@@ -18,6 +19,46 @@ pub enum PutReply {
     Full,
     /// The producer had closed the ring.
     Closed,
+}
+
+/// What a put of several items was answered.
+#[derive(Clone, Copy, PartialEq, Eq, Debug)]
+pub enum BatchReply {
+    /// So many items were stored, from the first on.
+    Stored(u64),
+    /// The ring was full.
+    Full,
+    /// The producer had closed the ring.
+    Closed,
+}
+
+/// How many of so many items a producer that has put `n` stores, where the consumer's count `d` leaves room.
+fn fitting(shape: &Shape, n: u64, d: u64, offered: usize) -> usize
+    requires n { n < modulus_of shape.now }
+    requires d { d < modulus_of shape.now }
+    requires room { counts.LeavesRoom shape.now n d }
+    requires some { 1 ≤ offered }
+    ensures some { 1 ≤ result }
+    ensures few { result ≤ offered }
+    ensures room { counts.LeavesRoomFor shape.now n d result }
+    ensures all { (result ≡ offered) ⊎ (counts.distance (modulus_of shape.now) n d + result ≡ capacity_of shape.now) }
+{
+    let room = shape.capacity() - distance(n, d, shape.modulus());
+    if room < offered as u64 {
+        room as usize
+    } else {
+        offered
+    }
+}
+
+/// These items, held in place.
+fn held(items: &[u64]) -> [u64; 64]
+    requires few { length items.now ≤ 64 }
+    ensures held { take (length items.now) result ≡ items.now }
+{
+    let mut kept = [0; 64];
+    kept[..items.len()].copy_from_slice(items);
+    kept
 }
 
 /// How far the call under way has come.
@@ -41,26 +82,34 @@ pub struct Producer {
     word: WordWriter,
     row: UnaryWriter,
     closed: bool,
-    reply: Option<PutReply>,
+    items: [u64; 64],
+    offered: usize,
+    most: usize,
+    index: usize,
+    batched: bool,
+    reply: Option<BatchReply>,
 }
 
 impl Model for Producer {
+    ghost use Rattle.std.specs.Prelude.{◌≤◌, take};
     ghost use Rattle.ring_core.specs.ProducerState.{ProducerState, IsProducer};
 
     ghost Value = { ProducerState };
 
-    ghost view = { λ p. record { shape = p.shape; count = p.count; cell = p.cell; stage = p.stage; scan = p.scan; word = p.word; row = p.row; closed = p.closed; reply = p.reply } };
+    ghost view = { λ p. record { shape = p.shape; count = p.count; cell = p.cell; stage = p.stage; scan = p.scan; word = p.word; row = p.row; closed = p.closed; items = take p.offered p.items; most = p.most; index = p.index; batched = p.batched; reply = p.reply } };
 
-    ghost invariant = { λ p. IsProducer (record { shape = p.shape; count = p.count; cell = p.cell; stage = p.stage; scan = p.scan; word = p.word; row = p.row; closed = p.closed; reply = p.reply }) };
+    ghost invariant = { λ p. IsProducer (record { shape = p.shape; count = p.count; cell = p.cell; stage = p.stage; scan = p.scan; word = p.word; row = p.row; closed = p.closed; items = take p.offered p.items; most = p.most; index = p.index; batched = p.batched; reply = p.reply }) × (p.offered ≤ 64) × (p.most ≤ 64) × (p.index ≤ 64) };
 }
 
 impl Producer {
     ghost use Rattle.ring_core.specs.Calls.{LastBitIsDue, EndsInZeros};
     ghost use Rattle.ring_core.specs.declared.producers.Stage.TheVariants.{Scanning, Storing, Counting};
-    ghost use Rattle.ring_core.specs.declared.producers.PutReply.TheVariants.{Closed};
+    ghost use Rattle.ring_core.specs.declared.producers.BatchReply.{BatchReply};
+    ghost use Rattle.ring_core.specs.declared.producers.BatchReply.TheVariants.{Closed};
+    ghost use Rattle.ring_core.specs.Puts.{IsBatch};
     ghost use Rattle.ring_core.specs.Puts.{Puts};
     ghost use Rattle.ring_core.specs.ProducerCalls.{new_producer, no_puts, ProducerStands, IsNextPut, HasMoved, IsReply, closes_with};
-    ghost use Rattle.ring_core.specs.ProducerState.{Call, Put, Close, due_put, call_of};
+    ghost use Rattle.ring_core.specs.ProducerState.{Call, Put, Close, due_put, call_of, item_reply, put_reply, batch_reply};
 
     /// The producer of a ring of this shape that has made no access.
     pub fn new(shape: &Shape) -> Self
@@ -76,6 +125,11 @@ impl Producer {
             word: WordWriter::new(shape, 0, 0),
             row: UnaryWriter::new(shape, Side::P),
             closed: false,
+            items: [0; 64],
+            offered: 0,
+            most: 0,
+            index: 0,
+            batched: false,
             reply: None,
         }
     }
@@ -86,15 +140,49 @@ impl Producer {
         requires idle { due_put self.old ≡ None }
         requires fits { item < 2 ^ width_of self.old.shape }
         ensures shape { self.new.shape ≡ self.old.shape }
-        ensures begun { self.old.closed ≡ false → (call_of self.new ≡ Some (Put item)) × (self.new.closed ≡ false) }
+        ensures begun { self.old.closed ≡ false → (call_of self.new ≡ Some (Put (item ∷ []))) × (self.new.closed ≡ false) }
+        ensures kind { self.new.batched ≡ false }
+        ensures refused { self.old.closed ≡ true → self.new ≡ record self.old { batched = false; reply = Some Closed } }
+        ensures stands { (calls : Puts) (made : List Made) → ProducerStands self.old calls made → ProducerStands self.new calls made }
+    {
+        self.batched = false;
+        self.offer(&[item]);
+    }
+
+    /// Begins a put of items under one count write: some items that fit the shape, at most its batch. It stores
+    /// those for which there is room, from the first on. No access may be due. The accesses made stay as they
+    /// were. After a close it is answered `Closed` at once, with no access, and nothing else changes.
+    pub fn put_all(&mut self, items: &[u64])
+        requires idle { due_put self.old ≡ None }
+        requires batch { IsBatch self.old.shape items.now }
+        ensures shape { self.new.shape ≡ self.old.shape }
+        ensures begun { self.old.closed ≡ false → (call_of self.new ≡ Some (Put items.now)) × (self.new.closed ≡ false) }
+        ensures kind { self.new.batched ≡ true }
+        ensures refused { self.old.closed ≡ true → self.new ≡ record self.old { batched = true; reply = Some Closed } }
+        ensures stands { (calls : Puts) (made : List Made) → ProducerStands self.old calls made → ProducerStands self.new calls made }
+    {
+        self.batched = true;
+        self.offer(items);
+    }
+
+    fn offer(&mut self, items: &[u64])
+        requires idle { due_put self.old ≡ None }
+        requires batch { IsBatch self.old.shape items.now }
+        requires few { length items.now ≤ 64 }
+        ensures shape { self.new.shape ≡ self.old.shape }
+        ensures kind { self.new.batched ≡ self.old.batched }
+        ensures begun { self.old.closed ≡ false → (call_of self.new ≡ Some (Put items.now)) × (self.new.closed ≡ false) }
         ensures refused { self.old.closed ≡ true → self.new ≡ record self.old { reply = Some Closed } }
         ensures stands { (calls : Puts) (made : List Made) → ProducerStands self.old calls made → ProducerStands self.new calls made }
     {
         if self.closed {
-            self.reply = Some(PutReply::Closed);
+            self.reply = Some(BatchReply::Closed);
         } else {
             self.scan = UnaryScan::new(&self.shape, Side::P);
-            self.word = WordWriter::new(&self.shape, self.cell, item);
+            self.word = WordWriter::new(&self.shape, self.cell, items[0]);
+            self.items = held(items);
+            self.offered = items.len();
+            self.index = 0;
             self.reply = None;
             self.stage = Stage::Scanning;
         }
@@ -136,6 +224,7 @@ impl Producer {
         requires due { due_put self.old ≢ None }
         requires one { LastBitIsDue self.old.shape P (due_put self.old) → answer ≡ true }
         ensures shape { self.new.shape ≡ self.old.shape }
+        ensures kind { self.new.batched ≡ self.old.batched }
         ensures stands { (calls : Puts) (made : List Made) (access : Access) → ProducerStands self.old calls made → due_put self.old ≡ Some access → HasMoved self.old self.new calls (made ++ answered access answer ∷ []) }
     {
         match self.stage {
@@ -151,6 +240,7 @@ impl Producer {
         requires stage { self.old.stage ≡ Scanning }
         requires one { LastBitIsDue self.old.shape P (due_put self.old) → answer ≡ true }
         ensures shape { self.new.shape ≡ self.old.shape }
+        ensures kind { self.new.batched ≡ self.old.batched }
         ensures stands { (calls : Puts) (made : List Made) (access : Access) → ProducerStands self.old calls made → due_put self.old ≡ Some access → HasMoved self.old self.new calls (made ++ answered access answer ∷ []) }
     {
         self.scan.feed(answer);
@@ -158,9 +248,10 @@ impl Producer {
             None => {}
             Some(seen) => {
                 if has_room(&self.shape, self.count, seen) {
+                    self.most = fitting(&self.shape, self.count, seen, self.offered);
                     self.stage = Stage::Storing;
                 } else {
-                    self.reply = Some(PutReply::Full);
+                    self.reply = Some(BatchReply::Full);
                     self.stage = Stage::Idle;
                 }
             }
@@ -170,35 +261,62 @@ impl Producer {
     fn feed_word(&mut self, answer: bool)
         requires stage { self.old.stage ≡ Storing }
         ensures shape { self.new.shape ≡ self.old.shape }
+        ensures kind { self.new.batched ≡ self.old.batched }
         ensures stands { (calls : Puts) (made : List Made) (access : Access) → ProducerStands self.old calls made → due_put self.old ≡ Some access → HasMoved self.old self.new calls (made ++ answered access answer ∷ []) }
     {
         self.word.feed(answer);
         if self.word.next().is_none() {
-            self.row.write((self.count + 1) % self.shape.modulus());
-            self.stage = Stage::Counting;
+            if self.index + 1 < self.most {
+                self.index += 1;
+                let cell = (self.cell + self.index as u64) % self.shape.capacity();
+                self.word = WordWriter::new(&self.shape, cell, self.items[self.index]);
+            } else {
+                self.row
+                    .write((self.count + self.most as u64) % self.shape.modulus());
+                self.stage = Stage::Counting;
+            }
         }
     }
 
     fn feed_count(&mut self, answer: bool)
         requires stage { self.old.stage ≡ Counting }
         ensures shape { self.new.shape ≡ self.old.shape }
+        ensures kind { self.new.batched ≡ self.old.batched }
         ensures stands { (calls : Puts) (made : List Made) (access : Access) → ProducerStands self.old calls made → due_put self.old ≡ Some access → HasMoved self.old self.new calls (made ++ answered access answer ∷ []) }
     {
         self.row.feed(answer);
         if self.row.next().is_none() {
-            self.count = (self.count + 1) % self.shape.modulus();
-            self.cell = (self.cell + 1) % self.shape.capacity();
-            self.reply = Some(PutReply::Stored);
+            self.count = (self.count + self.most as u64) % self.shape.modulus();
+            self.cell = (self.cell + self.most as u64) % self.shape.capacity();
+            self.reply = Some(BatchReply::Stored(self.most as u64));
             self.stage = Stage::Idle;
         }
     }
 
-    /// What the last put was answered: none before the first one, during a call, and after a close.
+    /// What the last call was answered, where it was a put: none before the first one, during a call, after a put
+    /// of several items, and after a close.
     pub fn reply(&self) -> Option<PutReply>
-        ensures state { result ≡ self.now.reply }
-        ensures stands { (calls : Puts) (made : List Made) → ProducerStands self.now calls made → IsReply calls (call_of self.now) result }
+        ensures state { result ≡ put_reply self.now }
+        ensures stands { (calls : Puts) (made : List Made) → ProducerStands self.now calls made → self.now.batched ≡ false → (answer : Option BatchReply) × IsReply calls (call_of self.now) answer × (result ≡ item_reply answer) }
     {
-        self.reply
+        if self.batched {
+            return None;
+        }
+        match self.reply {
+            None => None,
+            Some(BatchReply::Stored(_)) => Some(PutReply::Stored),
+            Some(BatchReply::Full) => Some(PutReply::Full),
+            Some(BatchReply::Closed) => Some(PutReply::Closed),
+        }
+    }
+
+    /// What the last call was answered, where it was a put of several items: none before the first one, during a
+    /// call, after a put of one item, and after a close.
+    pub fn batch_reply(&self) -> Option<BatchReply>
+        ensures state { result ≡ batch_reply self.now }
+        ensures stands { (calls : Puts) (made : List Made) → ProducerStands self.now calls made → self.now.batched ≡ true → IsReply calls (call_of self.now) result }
+    {
+        if self.batched { self.reply } else { None }
     }
 
     /// Whether a close was made or is under way.

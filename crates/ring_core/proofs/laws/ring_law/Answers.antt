@@ -41,3 +41,6 @@ returns-clause-closed c shape h puts takes run = (every c shape h puts takes run
 
 pub returns-clause-items : goal.returns-clause-items
 returns-clause-items c shape h puts takes run = (every c shape h puts takes run).items
+
+pub returns-clause-fill : goal.returns-clause-fill
+returns-clause-fill c shape h puts takes run = (every c shape h puts takes run).fill

@@ -1,9 +1,9 @@
+use Rattle.std.proofs.Common.{◌+◌, ◌%◌, ap, arith}
 use Rattle.bits_core.specs.declared.events.Side.TheVariants.{P}
-use Rattle.bits_core.specs.Shape.{capacity_of, modulus_of}
 use Rattle.ring_core.specs.declared.producers.Stage.TheVariants.{Counting}
 use Rattle.ring_core.specs.contracts.producers.Producer.{the_view}
 use Rattle.ring_core.specs.ProducerState.{ProducerState}
-use Rattle.ring_core.proofs.MachineParts.{none_next, next_count, row_whole}
+use Rattle.ring_core.proofs.MachineParts.{none_next, row_whole}
 use Rattle.ring_core.proofs.ProducerInvariant.{at_stage}
 use Rattle.ring_core.proofs.ProducerMoves.{count_on, count_over}
 use Rattle.ring_core.proofs.producers.Producer.feed_count.Goals as goal
@@ -11,11 +11,12 @@ use Rattle.ring_core.proofs.producers.Producer.feed_count.Goals as goal
 pub returns-then-is_none-clause-stands : goal.returns-then-is_none-clause-stands
 returns-then-is_none-clause-stands c =
     let p : ProducerState = the_view c.self.inside in
-    let (being, putting) = at_stage p Counting c.self.invariant (rw (← c.self.view_is) at c.requires.stage) in
+    let (being, putting, keeping) = at_stage p Counting c.self.invariant.0 (rw (← c.self.view_is) at c.requires.stage) in
     rw (← c.self.view_is)
-    (count_over p c.feed.new.self c.args.answer _ _ (rw (← c.self.view_is) at c.requires.stage) c.feed.ensures.stands putting.writes.fits
-    (next_count p.count c.modulus.result (modulus_of p.shape) c.modulus.ensures.value) (next_count p.cell c.capacity.result (capacity_of p.shape) c.capacity.ensures.value)
-    (row_whole P p.row c.feed.new.self c.next.result c.self.invariant.row_side c.feed.ensures.kept.side (none_next c.next.result c.is_none.result c.is_none.ensures c.if-is_none.true) c.next.ensures.stands))
+    (count_over p c.feed.new.self c.args.answer _ _ (rw (← c.self.view_is) at c.requires.stage) c.feed.ensures.stands putting.offers
+    (omega (arith, keeping.0)) keeping.1
+    (ap (λ k. (p.count + p.most) % k) c.modulus.ensures.value) (ap (λ k. (p.cell + p.most) % k) c.capacity.ensures.value)
+    (row_whole P p.row c.feed.new.self c.next.result c.self.invariant.0.row_side c.feed.ensures.kept.side (none_next c.next.result c.is_none.result c.is_none.ensures c.if-is_none.true) c.next.ensures.stands))
 
 pub returns-else-is_none-clause-stands : goal.returns-else-is_none-clause-stands
 returns-else-is_none-clause-stands c =

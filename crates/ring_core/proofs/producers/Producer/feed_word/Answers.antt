@@ -1,37 +1,74 @@
-use Rattle.std.proofs.Common.{◌≡◌, ℕ, suc, ◌+◌, ◌%◌, [], ◌∷◌, ◌++◌, ap, ◌∙◌, subst}
+use Rattle.std.specs.Prelude.{slice_index_or}
+use Rattle.std.proofs.Common.{◌≡◌, ℕ, ◌+◌, ◌%◌, [], ◌∷◌, ◌++◌, ap, ◌∙◌, subst, arith}
 use Rattle.bits_core.specs.Shape.{modulus_of}
-use Rattle.register_core.specs.WordState.{WriterState}
 use Rattle.register_core.specs.UnaryState.{UnaryState, UnaryStands}
 use Rattle.ring_core.specs.declared.producers.Stage.TheVariants.{Storing}
 use Rattle.ring_core.specs.contracts.producers.Producer.{the_view}
 use Rattle.ring_core.specs.ProducerState.{ProducerState}
-use Rattle.ring_core.proofs.MachineParts.{none_next, next_count}
-use Rattle.ring_core.proofs.ProducerInvariant.{at_stage, word_keeps, word_whole}
-use Rattle.ring_core.proofs.ProducerMoves.{word_on, word_over}
+use Rattle.ring_core.proofs.MachineParts.{none_next}
+use Rattle.ring_core.proofs.Batches.{taken_at, fits_at}
+use Rattle.ring_core.proofs.ProducerInvariant.{at_stage, next_so, word_keeps, word_whole}
+use Rattle.ring_core.proofs.ProducerMoves.{word_on, word_so, word_over}
 use Rattle.ring_core.proofs.producers.Producer.feed_word.Goals as goal
 
 abbrev with_value : UnaryState → ℕ → UnaryState
 with_value row v = record row { value = v }
 
+pub new-self-inside-requires-clause-fits : goal.new-self-inside-requires-clause-fits
+new-self-inside-requires-clause-fits c =
+    let p : ProducerState = the_view c.self.inside in
+    let (counted, putting, keeping, more) = at_stage p Storing c.self.invariant.0 (rw (← c.self.view_is) at c.requires.stage) in
+    let next : ℕ = p.index + 1 in
+    (fits_at p.shape p.items next (slice_index_or c.self.inside.items next 0) putting.offers.fit
+    (taken_at c.self.inside.items c.self.inside.offered next (omega (arith, c.if-self.true, keeping.1)))).0
+
 pub invariant_of-self : goal.invariant_of-self
 invariant_of-self c =
     let p : ProducerState = the_view c.self.inside in
-    let value : (p.count + 1) % c.modulus.result ≡ suc p.count % modulus_of p.shape = next_count p.count c.modulus.result (modulus_of p.shape) c.modulus.ensures.value in
-    word_keeps p c.feed.new.self c.write.new.self c.self.invariant (rw (← c.self.view_is) at c.requires.stage) c.feed.ensures.state
-    (c.write.ensures.state ∙ ap (λ v. with_value p.row v) value)
+    let stage : p.stage ≡ Storing = rw (← c.self.view_is) at c.requires.stage in
+    let (counted, putting, keeping, more) = at_stage p Storing c.self.invariant.0 stage in
+    let next : ℕ = p.index + 1 in (
+      next_so p c.new-self-inside.result ((p.cell + next) % c.capacity.result) (slice_index_or c.self.inside.items next 0) next (omega arith) c.self.invariant.0 stage
+          c.if-self.true (ap (λ k. (p.cell + next) % k) c.capacity.ensures.value)
+          (taken_at c.self.inside.items c.self.inside.offered next (omega (arith, c.if-self.true, keeping.1))) c.new-self-inside.ensures.state,
+      c.self.invariant.1,
+      c.self.invariant.2,
+      omega (arith, c.if-self.true, c.self.invariant.2),
+    )
 
-pub returns-then-is_none-clause-stands : goal.returns-then-is_none-clause-stands
-returns-then-is_none-clause-stands c =
+pub invariant_of-self-else-self : goal.invariant_of-self-else-self
+invariant_of-self-else-self c =
+    let p : ProducerState = the_view c.self.inside in (
+      word_keeps p c.feed.new.self c.write.new.self c.self.invariant.0 (rw (← c.self.view_is) at c.requires.stage) c.feed.ensures.state
+          (c.write.ensures.state ∙ ap (λ k. with_value p.row ((p.count + p.most) % k)) c.modulus.ensures.value),
+      c.self.invariant.1,
+      c.self.invariant.2,
+      c.self.invariant.3,
+    )
+
+pub returns-then-self-clause-stands : goal.returns-then-self-clause-stands
+returns-then-self-clause-stands c =
     let p : ProducerState = the_view c.self.inside in
     let stage : p.stage ≡ Storing = rw (← c.self.view_is) at c.requires.stage in
-    let (counted, putting, more) = at_stage p Storing c.self.invariant stage in
-    let value : (p.count + 1) % c.modulus.result ≡ suc p.count % modulus_of p.shape = next_count p.count c.modulus.result (modulus_of p.shape) c.modulus.ensures.value in
+    let (counted, putting, keeping, more) = at_stage p Storing c.self.invariant.0 stage in
     rw (← c.self.view_is)
-    (word_over p c.feed.new.self c.write.new.self c.args.answer stage c.feed.ensures.stands (ap (λ (w : WriterState). w.item) c.feed.ensures.state)
+    (word_so p c.feed.new.self c.new-self-inside.result c.args.answer (p.index + 1) (omega arith) stage c.feed.ensures.stands
     (word_whole p c.feed.new.self c.next.result putting.writes c.feed.ensures.state (none_next c.next.result c.is_none.result c.is_none.ensures c.if-is_none.true) c.next.ensures.stands)
+    putting.writes.item_is c.new-self-inside.ensures.stands)
+
+pub returns-else-self-clause-stands : goal.returns-else-self-clause-stands
+returns-else-self-clause-stands c =
+    let p : ProducerState = the_view c.self.inside in
+    let stage : p.stage ≡ Storing = rw (← c.self.view_is) at c.requires.stage in
+    let (counted, putting, keeping, more) = at_stage p Storing c.self.invariant.0 stage in
+    let value : (p.count + p.most) % c.modulus.result ≡ (p.count + p.most) % modulus_of p.shape = ap (λ k. (p.count + p.most) % k) c.modulus.ensures.value in
+    rw (← c.self.view_is)
+    (word_over p c.feed.new.self c.write.new.self c.args.answer stage c.feed.ensures.stands
+    (word_whole p c.feed.new.self c.next.result putting.writes c.feed.ensures.state (none_next c.next.result c.is_none.result c.is_none.ensures c.if-is_none.true) c.next.ensures.stands)
+    putting.writes.item_is (omega (arith, c.if-self.false, keeping.0)) keeping.1
     (λ values made stands. subst (λ v. UnaryStands c.write.new.self (values ++ v ∷ []) made) value (c.write.ensures.stands values made stands)))
 
 pub returns-else-is_none-clause-stands : goal.returns-else-is_none-clause-stands
 returns-else-is_none-clause-stands c =
     rw (← c.self.view_is)
-    (word_on (the_view c.self.inside) c.feed.new.self c.args.answer (rw (← c.self.view_is) at c.requires.stage) c.feed.ensures.stands (ap (λ (w : WriterState). w.item) c.feed.ensures.state))
+    (word_on (the_view c.self.inside) c.feed.new.self c.args.answer (rw (← c.self.view_is) at c.requires.stage) c.feed.ensures.stands)
