@@ -16,8 +16,8 @@ use Rattle.register_core.specs.Word.{digit, digit_writes, word_write, word_write
 use Rattle.register_core.specs.ScanState.{scan_phrase, row_read_by}
 use Rattle.ring_core.specs.Counts.{Count}
 use Rattle.ring_core.specs.Puts.{words_phrase}
-use Rattle.ring_core.specs.Spans.{Outcome, Passes, Stops, Asks, Span, counts, items_of, whole, Stands}
-use Rattle.ring_core.specs.Looks.{Look, word_part, count_part, after_look, look_accesses, span_of, spans}
+use Rattle.ring_core.proofs.Spans.{Outcome, Passes, Stops, Asks, Span, counts, items_of, whole, Stands}
+use Rattle.ring_core.proofs.LookSpans.{Look, word_part, count_part, after_look, look_accesses, span_of, spans}
 use Rattle.ring_core.proofs.Phrases.{length-digit_writes, at_or_below}
 use Rattle.ring_core.proofs.Lengths.{length-word_write, length-words}
 use Rattle.ring_core.proofs.CellTimes.{to_cell, to_cell-append, to_cell-there, where_in, none_there, none_to_cell, no_cells-scan, no_cells-count, own_cell, look_to_cell, word_to_cell, length-word_writes, stored_to, items_here, cell_items}
@@ -337,7 +337,7 @@ word_part_in shape n (Passes items) j index item e f = (word_in shape n items j 
 word_part_in shape n Stops j index item e f = absurd (cc)
 word_part_in shape n (Asks answer) j index item e f = absurd (cc)
 
-slice_get-before : {A : Type 0} → (xs ys : List A) (i : ℕ) (x : A) → slice_get xs i ≡ Some x → slice_get (xs ++ ys) i ≡ Some x
+pub slice_get-before : {A : Type 0} → (xs ys : List A) (i : ℕ) (x : A) → slice_get xs i ≡ Some x → slice_get (xs ++ ys) i ≡ Some x
 slice_get-before [] ys i x e = absurd (cc)
 slice_get-before (y ∷ xs) ys zero x e = e
 slice_get-before (y ∷ xs) ys (suc i) x e = slice_get-before xs ys i x e

@@ -18,8 +18,8 @@ use Rattle.register_core.specs.ScanState.{scan_phrase, zero_reads, row_read_by}
 use Rattle.register_core.specs.MadeWrites.{made_writes}
 use Rattle.ring_core.specs.Counts.{Count}
 use Rattle.ring_core.specs.Puts.{words_phrase, AllFit}
-use Rattle.ring_core.specs.Spans.{Outcome, Passes, Stops, Asks, Span, counts, items_of, whole, Stands}
-use Rattle.ring_core.specs.Looks.{Look, word_part, count_part, look_number, after_look, look_accesses, span_of, spans}
+use Rattle.ring_core.proofs.Spans.{Outcome, Passes, Stops, Asks, Span, counts, items_of, whole, Stands}
+use Rattle.ring_core.proofs.LookSpans.{Look, word_part, count_part, look_number, after_look, look_accesses, span_of, spans}
 use Rattle.ring_core.proofs.Phrases.{length-digit_writes}
 
 -- the writes to the digits of a cell among accesses of the producer

@@ -71,13 +71,13 @@ no_close-put shape c (Stored seen items) =
     (no_close-append scan words (no_close-scan P seen) (no_close-words shape c.number items)) (no_close-row _)
 no_close-put shape c (Full seen) = no_close-scan P seen
 
-no_close-puts : (shape : Shape) (c : Count) (puts : List Put) → NoClose (put_phrases shape c puts)
+pub no_close-puts : (shape : Shape) (c : Count) (puts : List Put) → NoClose (put_phrases shape c puts)
 no_close-puts shape c [] = no_close-nil
 no_close-puts shape c (x ∷ puts) =
     no_close-append (put_phrase shape c x) (put_phrases shape (stored_after shape c x) puts) (no_close-put shape c x) (no_close-puts shape (stored_after shape c x) puts)
 
 -- behind a list without one, the only access may be the write
-only_close : (xs : List Made) → NoClose xs → (closes : Bool) (n : ℕ) (x : Made) (v : Bool) → slice_get (xs ++ close_phrase closes) n ≡ Some x → access_of x ≡ begins.Write X v → (n ≡ length xs) × (v ≡ true) × (closes ≡ true)
+pub only_close : (xs : List Made) → NoClose xs → (closes : Bool) (n : ℕ) (x : Made) (v : Bool) → slice_get (xs ++ close_phrase closes) n ≡ Some x → access_of x ≡ begins.Write X v → (n ≡ length xs) × (v ≡ true) × (closes ≡ true)
 only_close [] none false n x v e f = absurd (cc)
 only_close [] none true zero x v e f = let same : Write X true ≡ x = cc in (refl, (let g : begins.Write X true ≡ begins.Write X v = ap access_of same ∙ f in cc), refl)
 only_close [] none true (suc n) x v e f = absurd (cc)

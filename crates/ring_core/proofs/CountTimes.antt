@@ -22,8 +22,8 @@ use Rattle.register_core.specs.Word.{digit, digit_writes, digit_reads}
 use Rattle.register_core.specs.ScanState.{zero_reads, scan_phrase, row_read_by}
 use Rattle.ring_core.specs.Counts.{past, Count, first_count, count_bits, batch_phrase, IsCount}
 use Rattle.ring_core.specs.Puts.{words_phrase, close_phrase}
-use Rattle.ring_core.specs.Spans.{Outcome, Passes, Stops, Asks, Span, counts, begun, ended, size_of, sizes, tally}
-use Rattle.ring_core.specs.Looks.{Look, words_read, word_part, count_part, look_number, look_bits, after_look, look_accesses, spans}
+use Rattle.ring_core.proofs.Spans.{Outcome, Passes, Stops, Asks, Span, counts, begun, ended, size_of, sizes, tally}
+use Rattle.ring_core.proofs.LookSpans.{Look, words_read, word_part, count_part, look_number, look_bits, after_look, look_accesses, spans}
 use Rattle.ring_core.proofs.Cuts.{at_most_or_above}
 use Rattle.ring_core.proofs.CountRow.{past_is, first_is_count, bits_long}
 use Rattle.ring_core.proofs.Following.{events_of-append, length-events}

@@ -1,5 +1,5 @@
 -- The programs of small runs, access by access: one cell, modulus 3, items of one digit.
-use Rattle.std.proofs.Common.{◌≡◌, true, false, [], ◌∷◌, refl, arith}
+use Rattle.std.proofs.Common.{◌≡◌, inr, true, false, [], ◌∷◌, refl, arith}
 use Rattle.bits_core.specs.declared.events.Bit.TheVariants.{S, R, X, Cell}
 use Rattle.bits_core.specs.declared.shapes.Shape.{Shape}
 use Rattle.bits_core.specs.Made.{Read, Write}
@@ -7,6 +7,7 @@ use Rattle.ring_core.specs.Counts.{first_count}
 use Rattle.ring_core.specs.Puts.{Puts, Stored, put_program, ArePuts}
 use Rattle.ring_core.specs.Takes.{Takes, Item, ItemAfterClose, Empty, Open, Closed, take_program, AreTakes}
 use Rattle.ring_core.specs.Items.{items_put, items_taken, IsTold}
+use Rattle.ring_core.specs.CallsAt.{IsPutAt, IsTakeAt, IsEndAt, TakeScans, StoresItem, TakesItem, stored_ended, taken_begun}
 
 -- one cell, modulus 3, items of one digit
 unfoldable pub one_cell : Shape
@@ -176,3 +177,63 @@ wraps-are = ((omega arith, omega arith, record { some = omega arith; few = omega
 wraps-items : (items_put one_cell first_count wraps.puts 26 ≡ 1 ∷ 0 ∷ []) × (items_put one_cell first_count wraps.puts 27 ≡ 1 ∷ 0 ∷ 1 ∷ [])
 unfolding one_cell
 wraps-items = (refl, refl)
+
+-- ---- where the calls stand, and what they store and take there
+
+-- the first put has the producer's events 0 to 7, and the second one 8 to 17; that one has ended once 18 are made
+wraps-first : IsPutAt one_cell wraps (Stored 0 (1 ∷ [])) 0 0 8
+unfolding one_cell
+wraps-first = record { before = []; after = Stored 1 (0 ∷ []) ∷ Stored 2 (1 ∷ []) ∷ []; among = refl; number = refl; starts = refl; stops = refl }
+
+wraps-second : IsPutAt one_cell wraps (Stored 1 (0 ∷ [])) 1 8 18
+unfolding one_cell
+wraps-second = record { before = Stored 0 (1 ∷ []) ∷ []; after = Stored 2 (1 ∷ []) ∷ []; among = refl; number = refl; starts = refl; stops = refl }
+
+wraps-ended : (stored_ended one_cell first_count wraps.puts 17 ≡ 1) × (stored_ended one_cell first_count wraps.puts 18 ≡ 2)
+unfolding one_cell
+wraps-ended = (refl, refl)
+
+-- the second take's count write begins with event 18 of the consumer; the third take finds the ring empty with events 22 to 29
+wrap_takes-begun : (taken_begun one_cell 0 wrap_takes.takes 18 ≡ 1) × (taken_begun one_cell 0 wrap_takes.takes 19 ≡ 2)
+unfolding one_cell
+wrap_takes-begun = (refl, refl)
+
+wrap_takes-third : IsTakeAt one_cell wrap_takes (Empty 2) 2 22 30
+unfolding one_cell
+wrap_takes-third =
+    record { before = Item 1 1 ∷ Item 2 0 ∷ []; after = Item 0 1 ∷ []; among = refl; number = refl; starts = refl; stops = refl }
+
+-- item 1 of the batch is written with events 4 and 5, and its put ends with event 11
+three_at_once-second : StoresItem three_cells three_at_once 1 0 4 12
+unfolding three_cells
+three_at_once-second = record {
+  seen = 0;
+  items = 1 ∷ 0 ∷ 1 ∷ [];
+  n = 0;
+  start = 0;
+  index = 1;
+  is_put = record { before = []; after = []; among = refl; number = refl; starts = refl; stops = refl };
+  listed = refl;
+  number = refl;
+  writes = refl;
+}
+
+-- a take that scans twice reads its item's word with event 8; the take that is told so begins with event 14, and its second scan
+-- with event 20
+second_scan-item : TakesItem one_cell second_scan 0 1 8 14
+unfolding one_cell
+second_scan-item = record {
+  take = ItemAfterClose 0 1 1;
+  start = 0;
+  is_take = record { before = []; after = []; among = refl; number = refl; starts = refl; stops = refl };
+  has = refl;
+  reads = refl;
+}
+
+second_scan-end : IsEndAt one_cell second_scan 1 1 1 14
+unfolding one_cell
+second_scan-end = record { is_end = refl; number = refl; starts = refl }
+
+second_scan-last : TakeScans one_cell second_scan 1 20 1
+unfolding one_cell
+second_scan-last = inr (inr (inr (1, 14, second_scan-end, refl)))

@@ -1,8 +1,8 @@
 -- The counts of the two sides at each moment: what scans read of them, and the two gates.
 use Rattle.std.proofs.Common.{◌≡◌, ◌⊎◌, inl, inr, ℕ, zero, suc, ◌+◌, ◌-◌, ◌<◌, ◌≤◌, ◌%◌, List, [], ◌∷◌, subst, zero-add, suc-add, add-zero, arith}
 use Rattle.ring_core.specs.Counts.{distance}
-use Rattle.ring_core.specs.Spans.{Span, counts, begun, ended, Stands, sizes, tally}
-use Rattle.ring_core.specs.Clocks.{Clocks, IsPlace, AreRegular, Ring}
+use Rattle.ring_core.proofs.Spans.{Span, counts, begun, ended, Stands, sizes, tally}
+use Rattle.ring_core.proofs.Clocks.{Clocks, IsPlace, AreRegular, Ring}
 use Rattle.ring_core.proofs.Cuts.{at_most_or_above}
 use Rattle.ring_core.proofs.Timeline.{Proper, AllProper, before-whole, begun_zero, ended_begun, begun_at, begun_step, begun_up}
 use Rattle.ring_core.proofs.Distances.{distance_of, distance_back}

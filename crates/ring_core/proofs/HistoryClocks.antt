@@ -5,20 +5,20 @@ use Rattle.bits_core.specs.declared.events.Side.TheVariants.{P, C}
 use Rattle.bits_core.specs.declared.events.Event.{Event}
 use Rattle.bits_core.specs.Bits.{same_side, is_by}
 use Rattle.bits_core.specs.Made.{own, clock}
-use Rattle.ring_core.specs.Clocks.{Clocks}
+use Rattle.ring_core.proofs.Clocks.{Clocks}
 
 -- a side's own events behind a first event, which is its own or not
 own-first : (s : Side) (e : Event) (h : List Event) (b : Bool) → is_by s e ≡ b → own s (e ∷ h) ≡ (if b then e ∷ own s h else own s h)
 own-first s e h b by = rw by refl
 
-clock-yes : (s : Side) (e : Event) (h : List Event) (place : ℕ) → is_by s e ≡ true → clock s (e ∷ h) (suc place) ≡ suc (clock s h place)
+pub clock-yes : (s : Side) (e : Event) (h : List Event) (place : ℕ) → is_by s e ≡ true → clock s (e ∷ h) (suc place) ≡ suc (clock s h place)
 clock-yes s e h place by = ap length (own-first s e (take place h) true by)
 
-clock-no : (s : Side) (e : Event) (h : List Event) (place : ℕ) → is_by s e ≡ false → clock s (e ∷ h) (suc place) ≡ clock s h place
+pub clock-no : (s : Side) (e : Event) (h : List Event) (place : ℕ) → is_by s e ≡ false → clock s (e ∷ h) (suc place) ≡ clock s h place
 clock-no s e h place by = ap length (own-first s e (take place h) false by)
 
 -- a clock begins at 0
-clock-zero : (s : Side) (h : List Event) → clock s h 0 ≡ 0
+pub clock-zero : (s : Side) (h : List Event) → clock s h 0 ≡ 0
 clock-zero s [] = refl
 clock-zero s (e ∷ h) = refl
 

@@ -1,3 +1,6 @@
+pub mod Spans
+pub mod Clocks
+pub mod LookSpans
 pub mod Examples
 pub mod Phrases
 pub mod CountRow
@@ -23,6 +26,7 @@ pub mod Timeline
 pub mod Distances
 pub mod Gates
 pub mod SpanItems
+pub mod RingOfSpans
 pub mod SpanLaw
 pub mod HistoryClocks
 pub mod Looks
@@ -35,6 +39,11 @@ pub mod CellPlaces
 pub mod CellWrites
 pub mod SafeWords
 pub mod RingHolds
+pub mod CloseEnds
+pub mod CallSpans
+pub mod CallCounts
+pub mod CallsLaw
+pub mod CellAccesses
 pub mod ClosedStays
 pub mod NeverMisses
 pub mod OneMore

@@ -14,9 +14,9 @@ use Rattle.ring_core.specs.Counts.{distance, count_phrase, past, Count, first_co
 use Rattle.ring_core.specs.Puts.{Put, Stored, Full, stored_after, words_phrase, put_phrases, close_phrase, AllFit, ArePuts}
 use Rattle.ring_core.specs.Takes.{Take, Item, ItemAfterClose, Empty, End, Open, Closed, item_phrase, take_phrases, end_phrase, AreTakes}
 use Rattle.ring_core.specs.Items.{items_put, items_taken}
-use Rattle.ring_core.specs.Spans.{Outcome, Passes, Stops, Asks, Span, counts, items_of, whole, total, begun_items, ended_items, Stands}
-use Rattle.ring_core.specs.Clocks as clocks
-use Rattle.ring_core.specs.Looks.{Look, look, put_looks, take_looks, words_read, word_part, count_part, look_number, after_look, look_accesses, span_of, spans, LookAt}
+use Rattle.ring_core.proofs.Spans.{Outcome, Passes, Stops, Asks, Span, counts, items_of, whole, total, begun_items, ended_items, Stands}
+use Rattle.ring_core.proofs.Clocks as clocks
+use Rattle.ring_core.proofs.LookSpans.{Look, look, put_looks, take_looks, words_read, word_part, count_part, look_number, after_look, look_accesses, span_of, spans, LookAt}
 use Rattle.ring_core.proofs.Timeline.{AllProper}
 use Rattle.ring_core.proofs.Cuts.{at_most_or_above}
 use Rattle.ring_core.proofs.SpanLaw.{LastTwo, two_last, two_after}

@@ -17,11 +17,11 @@ use Rattle.register_core.specs.ScanState.{row_read_by}
 use Rattle.ring_core.specs.Counts.{first_count}
 use Rattle.ring_core.specs.Puts.{Puts, close_phrase, FollowsPuts}
 use Rattle.ring_core.specs.Takes.{Takes, FollowsTakes}
-use Rattle.ring_core.specs.Spans.{Span, begun, ended, Stands, tally}
-use Rattle.ring_core.specs.Clocks.{IsPlace, Permitted, AreRegular}
-use Rattle.ring_core.specs.Looks.{Look, put_looks, take_looks, look_accesses, spans, put_spans, take_spans}
+use Rattle.ring_core.proofs.Spans.{Span, begun, ended, Stands, tally}
+use Rattle.ring_core.proofs.Clocks.{IsPlace, Permitted, AreRegular}
+use Rattle.ring_core.proofs.LookSpans.{Look, put_looks, take_looks, look_accesses, spans, put_spans, take_spans}
 use Rattle.ring_core.proofs.Lengths.{length-scan}
-use Rattle.ring_core.specs.Looks.{LookAt}
+use Rattle.ring_core.proofs.LookSpans.{LookAt}
 use Rattle.ring_core.proofs.Looks.{look_from_first, puts_as_looks, takes_as_looks, AllPassing, puts_pass, takes_pass}
 use Rattle.ring_core.proofs.CountRow.{has_batch}
 use Rattle.ring_core.proofs.CountTimes.{bit_writes, IsQuiet, quiet_close, sizes_in, sizes_are, tally_up, counted_in, counted_value, count_writes_begun, count_writes_ended, count_writes_are}

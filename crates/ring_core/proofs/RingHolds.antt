@@ -21,18 +21,19 @@ use Rattle.ring_core.specs.Counts.{Count, first_count}
 use Rattle.ring_core.specs.Puts.{Put, Puts, Stored, Full, stored_after, put_phrases, close_phrase}
 use Rattle.ring_core.specs.Takes.{Takes, Open, Closed, End, take_program}
 use Rattle.ring_core.specs.Items.{events_in, all_put, Tells}
-use Rattle.ring_core.specs.Spans.{Span, Asks, counts, before_count, all_items, total}
-use Rattle.ring_core.specs.Clocks.{IsPlace, AreCloseReads, Ring}
-use Rattle.ring_core.specs.Clocks as clocks
-use Rattle.ring_core.specs.Looks.{put_looks, take_looks, word_part, count_part, look_accesses, spans, put_spans, take_spans}
-use Rattle.ring_core.specs.RingLaw.{IsRun, RingLaw, PutsAreInRange, TakesAreInRange, CellsAreQuiet, TakenArePrefix, TakesMatchPuts, EmptyIsFresh, FullIsFresh, FillIsFresh, ClosedIsTrue}
+use Rattle.ring_core.proofs.Spans.{Span, Asks, counts, before_count, all_items, total}
+use Rattle.ring_core.proofs.Clocks.{IsPlace, AreCloseReads, Ring}
+use Rattle.ring_core.proofs.Clocks as clocks
+use Rattle.ring_core.proofs.LookSpans.{put_looks, take_looks, word_part, count_part, look_accesses, spans, put_spans, take_spans}
+use Rattle.ring_core.specs.RingLaw.{IsRun}
+use Rattle.ring_core.proofs.RingOfSpans.{LawOfSpans, PutsAreInRange, TakesAreInRange, CellsAreQuiet, TakenArePrefix, TakesMatchPuts, EmptyIsFresh, FullIsFresh, FillIsFresh, ClosedIsTrue}
 use Rattle.ring_core.proofs.Cuts.{at_most_or_above}
 use Rattle.ring_core.proofs.Gates.{clock_up, clock_p, clock_c}
 use Rattle.ring_core.proofs.SpanLaw.{SpanLaw, span_law, IsToldAt, LastTwo}
 use Rattle.ring_core.proofs.HistoryClocks.{clocks_of}
 use Rattle.ring_core.proofs.OwnEvents.{clock_within, one_place}
 use Rattle.ring_core.proofs.Following.{length-events}
-use Rattle.ring_core.specs.Looks.{LookAt}
+use Rattle.ring_core.proofs.LookSpans.{LookAt}
 use Rattle.ring_core.proofs.Looks.{puts_as_looks, takes_as_looks, all_proper, puts_pass, takes_pass, total_is, look_from_first, words_are, word_is, word_some, asks_word, puts_items, takes_items, put_rules, take_rules, put_fits, take_fits, last_two}
 use Rattle.ring_core.proofs.CountRow.{first_is_count, batch_fits, has_batch}
 use Rattle.ring_core.proofs.CellPlaces.{multiple_up}
@@ -268,8 +269,8 @@ module _ (facts : OwnFacts) (regular : UnaryIsRegular) (scans_made : ScansAreMad
       same_place : (i j : ℕ) → j ≤ i → (j < i → ⊥) → i ≡ j
       same_place i j m f = grind arith
 
-  pub ring_law : RingLaw shape h puts takes
-  ring_law = record {
+  pub law_of_spans : LawOfSpans shape h puts takes
+  law_of_spans = record {
     within = law.within;
     put_range = put_range;
     take_range = take_range;

@@ -20,9 +20,9 @@ use Rattle.register_core.specs.MadeReads.{begin_place, end_place, WordReadsAreMa
 use Rattle.register_core.specs.MadeWrites.{CellWritesAreMade}
 use Rattle.ring_core.specs.Counts.{first_count}
 use Rattle.ring_core.specs.Puts.{close_phrase, AllFit}
-use Rattle.ring_core.specs.Spans.{Outcome, Passes, Stops, Asks, Span, counts, items_of, before_count, Stands}
-use Rattle.ring_core.specs.Clocks.{IsPlace, Overlap, IsLastWrite, AreSafe}
-use Rattle.ring_core.specs.Looks.{Look, look_accesses, spans}
+use Rattle.ring_core.proofs.Spans.{Outcome, Passes, Stops, Asks, Span, counts, items_of, before_count, Stands}
+use Rattle.ring_core.proofs.Clocks.{IsPlace, Overlap, IsLastWrite, AreSafe}
+use Rattle.ring_core.proofs.LookSpans.{Look, look_accesses, spans}
 use Rattle.ring_core.proofs.Cuts.{at_most_or_above}
 use Rattle.ring_core.proofs.Gates.{Clock, clock_up, clock_p, clock_c}
 use Rattle.ring_core.proofs.HistoryClocks.{clocks_of}

@@ -2,8 +2,8 @@
 use Rattle.std.specs.Prelude.{slice_get, Some}
 use Rattle.std.proofs.Common.{◌≡◌, inl, inr, ℕ, zero, suc, ◌+◌, ◌-◌, ◌<◌, ◌≤◌, ◌%◌, true, false, List, [], ◌∷◌, ◌++◌, length, get_or, drop, subst, append-nil, drop_of_length-le, refl, sym, ap, ◌∙◌, add-zero, arith}
 use Rattle.std.proofs.lemmas.List.Prefix.{front_from_reads}
-use Rattle.ring_core.specs.Spans.{Span, Outcome, Passes, Stops, Asks, counts, items_of, before_count, whole, begun, ended, begun_items, ended_items, all_items, total, Stands}
-use Rattle.ring_core.specs.Clocks.{IsPlace, Overlap, Ring}
+use Rattle.ring_core.proofs.Spans.{Span, Outcome, Passes, Stops, Asks, counts, items_of, before_count, whole, begun, ended, begun_items, ended_items, all_items, total, Stands}
+use Rattle.ring_core.proofs.Clocks.{IsPlace, Overlap, Ring}
 use Rattle.ring_core.proofs.Cuts.{at_most_or_above}
 use Rattle.ring_core.proofs.Timeline.{AllProper, before-whole, before-count, ended_begun, begun_at, ended_at, begun_up, ended_up, begun_all, ended_all, Found, begun_find, ended_find, length-begun_items, length-ended_items, all_begun}
 use Rattle.ring_core.proofs.Distances.{apart, distance_of}

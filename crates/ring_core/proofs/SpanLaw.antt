@@ -2,10 +2,10 @@
 use Rattle.std.specs.Prelude.{slice_get, Some}
 use Rattle.std.proofs.Common.{◌≡◌, inl, inr, ℕ, ◌+◌, ◌-◌, ◌<◌, ◌≤◌, ◌%◌, true, false, List, [], ◌∷◌, length, drop, refl, sym, ap, arith}
 use Rattle.bits_core.specs.Made.{IsBeginning}
-use Rattle.ring_core.specs.Spans.{Span, Passes, Asks, counts, before_count, whole, begun, ended, begun_items, ended_items, all_items, total, Stands}
-use Rattle.ring_core.specs.RingLaw.{ReadsCount}
+use Rattle.ring_core.proofs.Spans.{Span, Passes, Asks, counts, before_count, whole, begun, ended, begun_items, ended_items, all_items, total, Stands}
+use Rattle.ring_core.proofs.RingOfSpans.{ReadsCount}
 use Rattle.ring_core.specs.Counts.{distance}
-use Rattle.ring_core.specs.Clocks.{IsPlace, Overlap, Ring}
+use Rattle.ring_core.proofs.Clocks.{IsPlace, Overlap, Ring}
 use Rattle.ring_core.proofs.Timeline.{AllProper, before-whole}
 use Rattle.ring_core.proofs.Gates.{clock_up, clock_c, proper_at, within, shown_at, left_at}
 use Rattle.ring_core.proofs.SpanItems.{quiet, taken_item, prefix, empty_fresh, empty_open, full_fresh, fill_fresh, closed}

@@ -3,7 +3,7 @@ use Rattle.std.proofs.Common.{◌≡◌, ◌⊎◌, inl, inr, ℕ, zero, suc, �
 use Rattle.std.specs.Prelude.{slice_get}
 use Rattle.std.proofs.lemmas.Option.{slice_get-get_or}
 use Rattle.std.proofs.lemmas.Bool.Decides.{nat_tests}
-use Rattle.ring_core.specs.Spans.{Span, Outcome, Passes, Stops, Asks, counts, items_of, before_count, whole, begun, ended, begun_items, ended_items, all_items, total, Stands}
+use Rattle.ring_core.proofs.Spans.{Span, Outcome, Passes, Stops, Asks, counts, items_of, before_count, whole, begun, ended, begun_items, ended_items, all_items, total, Stands}
 use Rattle.ring_core.proofs.Cuts.{at_most_or_above}
 
 -- a scan has an event, and so has a write that counts an item; and it counts at most so many
@@ -101,7 +101,7 @@ ended_first : (most : ℕ) (y : Span) (ys : List Span) (i : ℕ) → AllProper m
 ended_first most y ys i h l =
     omega (arith, ended_cons y ys i 0 0 (omega arith) (le_false (whole y) i (counts y.outcome) l), ended_zero most ys h)
 
-ended_past : (y : Span) (ys : List Span) (i j : ℕ) → i ≡ whole y + j → ended (y ∷ ys) i ≡ counts y.outcome + ended ys j
+pub ended_past : (y : Span) (ys : List Span) (i j : ℕ) → i ≡ whole y + j → ended (y ∷ ys) i ≡ counts y.outcome + ended ys j
 ended_past y ys i j e = ended_cons y ys i j (counts y.outcome) (omega arith) (le_true (whole y) i (counts y.outcome) (omega arith))
 
 -- at each moment at most the last count write that has begun is open
@@ -261,12 +261,12 @@ pub record Found (xs : List Span) (items : List ℕ) (k : ℕ) : Type 0 where
   pub listed : slice_get items k ≡ Some item
 
 -- what stands in the first of two lists, and behind it
-slice_get-front : (xs ys : List ℕ) (i : ℕ) → i < length xs → slice_get (xs ++ ys) i ≡ slice_get xs i
+pub slice_get-front : (xs ys : List ℕ) (i : ℕ) → i < length xs → slice_get (xs ++ ys) i ≡ slice_get xs i
 slice_get-front [] ys i l = absurd (omega (arith, l))
 slice_get-front (x ∷ xs) ys zero l = refl
 slice_get-front (x ∷ xs) ys (suc i) l = slice_get-front xs ys i (omega (arith, l))
 
-slice_get-behind : (xs ys : List ℕ) (i j : ℕ) → i ≡ length xs + j → slice_get (xs ++ ys) i ≡ slice_get ys j
+pub slice_get-behind : (xs ys : List ℕ) (i j : ℕ) → i ≡ length xs + j → slice_get (xs ++ ys) i ≡ slice_get ys j
 slice_get-behind [] ys i j e = ap (slice_get ys) (omega (arith, e))
 slice_get-behind (x ∷ xs) ys zero j e = absurd (omega (arith, e))
 slice_get-behind (x ∷ xs) ys (suc i) j e = slice_get-behind xs ys i j (omega (arith, e))
@@ -361,7 +361,7 @@ length-ended_items (y ∷ ys) i =
     simp length-append (ap₂ (λ (m n : ℕ). m + n) (length_if (nat_le (whole y) i) y.outcome) (length-ended_items ys (i - whole y)))
 
 -- past the first span its items are among them
-begun_items_past :
+pub begun_items_past :
     (most : ℕ) (y : Span) (ys : List Span) (i : ℕ) → Proper most y → whole y ≤ i → begun_items (y ∷ ys) i ≡ items_of y.outcome ++ begun_items ys (i - whole y)
 begun_items_past most y ys i h l = elim (at_most_or_above i (before_count y)) [
   | inr m ↦ begun_items_cons y ys i m

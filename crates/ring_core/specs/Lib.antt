@@ -1,14 +1,12 @@
 pub mod Counts
-pub mod Spans
-pub mod Clocks
 pub mod Puts
 pub mod Takes
 pub mod Readings
 pub mod Items
 pub mod Lengths
-pub mod Looks
 pub mod Following
 pub mod Calls
+pub mod CallsAt
 pub mod ProducerState
 pub mod ProducerCalls
 pub mod ConsumerState

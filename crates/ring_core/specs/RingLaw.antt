@@ -4,9 +4,12 @@ use Rattle.std.specs.Prelude.{◌≡◌, ◌≢◌, ◌⊎◌, ℕ, suc, ◌+◌
 use Rattle.bits_core.specs.declared.events.Side.{Side}
 use Rattle.bits_core.specs.declared.events.Side.TheVariants.{P, C}
 use Rattle.bits_core.specs.declared.events.Bit.{Bit}
+use Rattle.bits_core.specs.declared.events.Bit.TheVariants.{X, Cell}
+use Rattle.bits_core.specs.declared.events.Access.{Access}
+use Rattle.bits_core.specs.declared.events.Access.TheVariants as access
 use Rattle.bits_core.specs.declared.events.Event.{Event}
 use Rattle.bits_core.specs.declared.shapes.Shape.{Shape}
-use Rattle.bits_core.specs.Shape.{batch_of, capacity_of, modulus_of, width_of}
+use Rattle.bits_core.specs.Shape.{batch_of, capacity_of, modulus_of}
 use Rattle.bits_core.specs.Intervals as intervals
 use Rattle.bits_core.specs.Lawful.{IsLawful}
 use Rattle.bits_core.specs.Made.{Made, events_of, own, clock, IsPlaceOf, IsBeginning}
@@ -16,12 +19,10 @@ use Rattle.register_core.specs.Row.{row_bit}
 use Rattle.register_core.specs.ScanState.{zero_reads}
 use Rattle.register_core.specs.UnaryLaw.{ReadsZeros}
 use Rattle.ring_core.specs.Counts.{distance, first_count}
-use Rattle.ring_core.specs.Puts.{Puts, put_phrases, put_program, ArePuts, FollowsPuts}
-use Rattle.ring_core.specs.Takes.{Takes, take_program, AreTakes, FollowsTakes}
+use Rattle.ring_core.specs.Puts.{Stored, Full, Puts, put_phrases, put_program, ArePuts, FollowsPuts}
+use Rattle.ring_core.specs.Takes.{Empty, Takes, take_program, AreTakes, FollowsTakes}
 use Rattle.ring_core.specs.Items.{events_in, items_put, items_taken, all_put, IsTold, items_put_in, items_taken_in, ToldIn}
-use Rattle.ring_core.specs.Spans.{Span, Passes, Asks, counts, before_count, begun, ended, Stands, sizes, tally}
-use Rattle.ring_core.specs.Clocks.{IsPlace}
-use Rattle.ring_core.specs.Looks.{put_spans, take_spans}
+use Rattle.ring_core.specs.CallsAt.{IsPutAt, IsTakeAt, scan_events, PutScans, TakeScans, word_events, StoresItem, TakesItem, puts_begun, puts_ended, takes_begun, takes_ended, IsPutNumber, IsTakeNumber}
 
 -- a lawful history whose two sides follow these calls
 pub record IsRun (shape : Shape) (h : List Event) (puts : Puts) (takes : Takes) : Type 0 where
@@ -29,66 +30,64 @@ pub record IsRun (shape : Shape) (h : List Event) (puts : Puts) (takes : Takes) 
   pub puts_follow : FollowsPuts shape h puts
   pub takes_follow : FollowsTakes shape h takes
 
--- the items of the puts whose count write has begun before a place, of those that have ended before it, and the same of takes
-abbrev pub puts_begun : Shape → List Event → Puts → ℕ → ℕ
-puts_begun shape h puts t = begun (put_spans shape puts) (clock P h t)
-
-abbrev pub puts_ended : Shape → List Event → Puts → ℕ → ℕ
-puts_ended shape h puts t = ended (put_spans shape puts) (clock P h t)
-
-abbrev pub takes_begun : Shape → List Event → Takes → ℕ → ℕ
-takes_begun shape h takes t = begun (take_spans shape takes) (clock C h t)
-
-abbrev pub takes_ended : Shape → List Event → Takes → ℕ → ℕ
-takes_ended shape h takes t = ended (take_spans shape takes) (clock C h t)
-
--- An ended scan gives, modulo the modulus, the number of the items counted by the other side's count writes up to one: a number
--- from least to most, not less than that of those which had ended where the scan began, nor more than that of those which had
--- begun before it ended.
-pub record ReadsCount (modulus : ℕ) (own other : ℕ → ℕ) (writes : List Span) (s : ℕ) (x : Span) (least most : ℕ) : Type 0 where
+-- A scan that a side made from its own event start on, and that gave seen: it stands, modulo the modulus, for a number of items
+-- that one of the other side's count writes left; not less than those had counted that had ended where the scan began, nor more
+-- than those that had begun where it ended; and a number from least to most.
+pub record ReadsCount
+    (s : Side) (shape : Shape) (h : List Event) (start seen : ℕ) (IsNumber : ℕ → Type 0) (ended begun : ℕ → ℕ) (least most : ℕ) : Type 0 where
+  pub first : ℕ
+  pub last : ℕ
+  pub begins : IsPlaceOf s h start first
+  pub ends : IsPlaceOf s h (start + scan_events s seen - 1) last
   pub number : ℕ
-  pub write : ℕ
-  pub tallies : number ≡ tally (sizes writes) write
-  pub value : x.seen ≡ number % modulus
+  pub is_number : IsNumber number
+  pub value : seen ≡ number % modulus_of shape
+  pub not_older : ended (clock (other s) h first) ≤ number
+  pub not_newer : number ≤ begun (clock (other s) h last)
   pub low : least ≤ number
   pub high : number ≤ most
-  pub not_older : (first : ℕ) → IsPlace own s first → ended writes (other first) ≤ number
-  pub not_newer : (last : ℕ) → IsPlace own (s + (x.scan - 1)) last → number ≤ begun writes (other last)
 
 -- from the place of a side's own event i to that of its own event e, or past the end of the history where that one has not come
 pub record IsInterval (s : Side) (h : List Event) (i e start stop : ℕ) : Type 0 where
   pub begins : IsPlaceOf s h i start
   pub ends : IsPlaceOf s h e stop ⊎ ((length (own s h) ≤ e) × (stop ≡ length h))
 
--- word access number i of a look, from its first begin to its last end, where the look stands at own event s
-abbrev pub IsWordAccess : Side → Shape → List Event → ℕ → Span → ℕ → ℕ → ℕ → Type 0
-IsWordAccess side shape h s x i start stop =
-    IsInterval side h (s + x.scan + 2 * (i * width_of shape)) (s + x.scan + 2 * (suc i * width_of shape) - 1) start stop
-
 -- at every moment no more items are taken than put, and at most as many are put and not taken as the ring has cells
 abbrev pub IsWithin : Shape → List Event → Puts → Takes → Type 0
 IsWithin shape h puts takes =
-    (t : ℕ) → (takes_begun shape h takes t ≤ puts_begun shape h puts t) × (puts_begun shape h puts t ≤ takes_begun shape h takes t + capacity_of shape)
+    (t : ℕ) → (takes_begun shape takes (clock C h t) ≤ puts_begun shape puts (clock P h t)) ×
+    (puts_begun shape puts (clock P h t) ≤ takes_begun shape takes (clock C h t) + capacity_of shape)
 
--- a put behind n items reads a count from n - capacity - 1 to n
+-- an ended scan of a put behind n items reads a count from n - capacity - 1 to n
 abbrev pub PutsAreInRange : Shape → List Event → Puts → Takes → Type 0
 PutsAreInRange shape h puts takes =
-    (s n : ℕ) (x : Span) → Stands (put_spans shape puts) s n x → s + x.scan ≤ length (own P h) →
-    ReadsCount (modulus_of shape) (clock P h) (clock C h) (take_spans shape takes) s x (n - (capacity_of shape + 1)) n
+    (n start seen : ℕ) → PutScans shape puts n start seen → start + scan_events P seen ≤ length (own P h) →
+    ReadsCount P shape h start seen (IsTakeNumber takes) (takes_ended shape takes) (takes_begun shape takes) (n - (capacity_of shape + 1)) n
 
--- take number k reads counts from k - batch to k + capacity
+-- an ended scan of take number k reads a count from k - batch to k + capacity
 abbrev pub TakesAreInRange : Shape → List Event → Puts → Takes → Type 0
 TakesAreInRange shape h puts takes =
-    (s k : ℕ) (x : Span) → Stands (take_spans shape takes) s k x → s + x.scan ≤ length (own C h) →
-    ReadsCount (modulus_of shape) (clock C h) (clock P h) (put_spans shape puts) s x (k - batch_of shape) (k + capacity_of shape)
+    (k start seen : ℕ) → TakeScans shape takes k start seen → start + scan_events C seen ≤ length (own C h) →
+    ReadsCount C shape h start seen (IsPutNumber puts) (puts_ended shape puts) (puts_begun shape puts) (k - batch_of shape) (k + capacity_of shape)
 
--- no word read of a cell overlaps a word write of it
+-- where two items have the same cell, the word write of the one and the word read of the other do not overlap
+abbrev pub WordsAreQuiet : Shape → List Event → Puts → Takes → Type 0
+WordsAreQuiet shape h puts takes =
+    (j item word past : ℕ) → StoresItem shape puts j item word past →
+    (k item' word' past' : ℕ) → TakesItem shape takes k item' word' past' → j % capacity_of shape ≡ k % capacity_of shape →
+    (start stop start' stop' : ℕ) → IsInterval P h word (word + word_events shape - 1) start stop →
+    IsInterval C h word' (word' + word_events shape - 1) start' stop' → ¬ intervals.Overlap start stop start' stop'
+
+-- the bit of an access
+abbrev pub bit_of : Access → Bit
+bit_of (access.Read b) = b
+bit_of (access.Write b v) = b
+
+-- no access of the producer to a digit of a cell overlaps one of the consumer to a digit of it
 abbrev pub CellsAreQuiet : Shape → List Event → Puts → Takes → Type 0
 CellsAreQuiet shape h puts takes =
-    (s n i : ℕ) (x : Span) → Stands (put_spans shape puts) s n x → i < counts x.outcome →
-    (s' k : ℕ) (y : Span) → Stands (take_spans shape takes) s' k y → counts y.outcome ≡ 1 → (n + i) % capacity_of shape ≡ k % capacity_of shape →
-    (start stop start' stop' : ℕ) → IsWordAccess P shape h s x i start stop → IsWordAccess C shape h s' y 0 start' stop' →
-    ¬ intervals.Overlap start stop start' stop'
+    (j d d' : ℕ) (a a' : Access) (start stop start' stop' : ℕ) → intervals.IsAccess h P a start stop → bit_of a ≡ Cell j d →
+    intervals.IsAccess h C a' start' stop' → bit_of a' ≡ Cell j d' → ¬ intervals.Overlap start stop start' stop'
 
 -- at every moment the items taken are a prefix of the items put
 abbrev pub TakenArePrefix : Shape → List Event → Puts → Takes → Type 0
@@ -98,31 +97,36 @@ TakenArePrefix shape h puts takes =
 -- a take whose word read has ended, also where its count write is still to come, has the item put of its number
 abbrev pub TakesMatchPuts : Shape → List Event → Puts → Takes → Type 0
 TakesMatchPuts shape h puts takes =
-    (t s k : ℕ) (x : Span) (item : ℕ) → Stands (take_spans shape takes) s k x → x.outcome ≡ Passes (item ∷ []) → s + before_count x ≤ clock C h t →
+    (t k item word past : ℕ) → TakesItem shape takes k item word past → word + word_events shape ≤ clock C h t →
     slice_get (items_put shape first_count puts.puts (clock P h t)) k ≡ Some item
 
--- a take that finds the ring empty: each put that stored and had ended where it began was taken by a take that had ended then, and no
--- close had ended
+-- At a place the ring is empty and open: each item of a put that had ended was taken by a take that had ended, and no write of
+-- the close bit had.
+pub record IsEmptyAt (shape : Shape) (h : List Event) (puts : Puts) (takes : Takes) (place : ℕ) : Type 0 where
+  pub all_taken :
+      (j item word past : ℕ) → StoresItem shape puts j item word past → past ≤ clock P h place →
+      (word' : ℕ) × (past' : ℕ) × TakesItem shape takes j item word' past' × (past' ≤ clock C h place)
+  pub not_closed : (v : Bool) (start stop : ℕ) → intervals.IsWrite h X v start stop → ¬ (stop < place)
+
+-- where a take that finds the ring empty begins, it is empty
 abbrev pub EmptyIsFresh : Shape → List Event → Puts → Takes → Type 0
 EmptyIsFresh shape h puts takes =
-    (s k : ℕ) (x : Span) → Stands (take_spans shape takes) s k x → x.outcome ≡ Asks false → s + before_count x ≤ length (own C h) →
-    (first : ℕ) → IsPlaceOf C h s first →
-    (puts_ended shape h puts first ≤ takes_ended shape h takes first) × (clock P h first < events_in (put_phrases shape first_count puts.puts) + 2)
+    (seen k start stop : ℕ) → IsTakeAt shape takes (Empty seen) k start stop → stop ≤ length (own C h) →
+    (first : ℕ) × IsPlaceOf C h start first × IsEmptyAt shape h puts takes first
 
--- a put that finds the ring full: the items stored before it, less the takes of an item that had ended where it began, are at
--- least the capacity
+-- where a put that finds the ring full begins, the items stored before it, less those of takes that had ended, are at least
+-- the capacity
 abbrev pub FullIsFresh : Shape → List Event → Puts → Takes → Type 0
 FullIsFresh shape h puts takes =
-    (s n : ℕ) (x : Span) → Stands (put_spans shape puts) s n x → counts x.outcome ≡ 0 → s + x.scan ≤ length (own P h) →
-    (first : ℕ) → IsPlaceOf P h s first → takes_ended shape h takes first + capacity_of shape ≤ n
+    (seen n start stop : ℕ) → IsPutAt shape puts (Full seen) n start stop → stop ≤ length (own P h) →
+    (first : ℕ) × IsPlaceOf P h start first × (takes_ended shape takes (clock C h first) + capacity_of shape ≤ n)
 
--- a put whose items fill all the room that its scan left: the items stored up to and with it, less the takes of an item that had
--- ended where it began, are at least the capacity
+-- and where a put begins whose items fill all the room that its scan left, the items stored up to and with it are
 abbrev pub FillIsFresh : Shape → List Event → Puts → Takes → Type 0
 FillIsFresh shape h puts takes =
-    (s n : ℕ) (x : Span) → Stands (put_spans shape puts) s n x →
-    distance (modulus_of shape) (n % modulus_of shape) x.seen + counts x.outcome ≡ capacity_of shape → s + x.scan ≤ length (own P h) →
-    (first : ℕ) → IsPlaceOf P h s first → takes_ended shape h takes first + capacity_of shape ≤ n + counts x.outcome
+    (seen : ℕ) (items : List ℕ) (n start stop : ℕ) → IsPutAt shape puts (Stored seen items) n start stop → start + scan_events P seen ≤ length (own P h) →
+    distance (modulus_of shape) (n % modulus_of shape) seen + length items ≡ capacity_of shape →
+    (first : ℕ) × IsPlaceOf P h start first × (takes_ended shape takes (clock C h first) + capacity_of shape ≤ n + length items)
 
 -- once the consumer was told that the ring is closed, at every later moment all items of the calls were put and taken, and the
 -- close has begun, behind all puts
@@ -137,7 +141,8 @@ pub record RingLaw (shape : Shape) (h : List Event) (puts : Puts) (takes : Takes
   pub within : IsWithin shape h puts takes
   pub put_range : PutsAreInRange shape h puts takes
   pub take_range : TakesAreInRange shape h puts takes
-  pub quiet : CellsAreQuiet shape h puts takes
+  pub words : WordsAreQuiet shape h puts takes
+  pub cells : CellsAreQuiet shape h puts takes
   pub prefix : TakenArePrefix shape h puts takes
   pub items : TakesMatchPuts shape h puts takes
   pub empty : EmptyIsFresh shape h puts takes

@@ -2,9 +2,8 @@
 ghost use Rattle.ring_core.specs.Following.{PutsAreFollowed, TakesAreFollowed};
 ghost use Rattle.ring_core.specs.Items.{ItemsAreRead, TakenAreRead};
 ghost use Rattle.ring_core.specs.Lengths.{ItemPutsAreShort, FullPutsAreShort, PutsAreShort, TakesAreShort, EndsAreShort};
-ghost use Rattle.ring_core.specs.Looks.{LooksStand, PutsAreLooks, TakesAreLooks};
 ghost use Rattle.ring_core.specs.Readings.{PutsAreRead, TakesAreRead};
-ghost use Rattle.ring_core.specs.RingLaw.{CellsAreQuiet, ClosedIsTrue, ClosedStays, EmptyIsFresh, FillIsFresh, FullIsFresh, HasARun, InEveryRun, IsWithin, PutsAreInRange, PutsAreSeen, RunsByPut, RunsByTake, TakenArePrefix, TakesAreInRange, TakesAreSeen, TakesMatchPuts};
+ghost use Rattle.ring_core.specs.RingLaw.{CellsAreQuiet, ClosedIsTrue, ClosedStays, EmptyIsFresh, FillIsFresh, FullIsFresh, HasARun, InEveryRun, IsWithin, PutsAreInRange, PutsAreSeen, RunsByPut, RunsByTake, TakenArePrefix, TakesAreInRange, TakesAreSeen, TakesMatchPuts, WordsAreQuiet};
 
 use bits_core::laws::{
     access_is_made, clock_counts_places, empty_is_lawful, lawful_by_one_more, made_is_access,
@@ -92,20 +91,22 @@ pub fn has_a_run()
     lawful_by_one_more();
 }
 
-/// The law of the ring. In every lawful history of safe bits whose two sides follow their programs, with `N`
-/// items put and `K` items taken by calls whose count write has begun:
+/// The law of the ring, in the words of the calls. In every lawful history of safe bits whose two sides follow their
+/// programs, with `N` items put and `K` items taken by calls whose count write has begun:
 /// - `within`: `K <= N <= K + capacity`, at every moment;
-/// - `put_range`, `take_range`: each scan gives the number of a count write, modulo the modulus, that lies
-///   within a range which the modulus tells apart: the number of the items counted by the count writes up to one;
-/// - `quiet`: no word read of a cell overlaps a word write of it;
+/// - `put_range`, `take_range`: each ended scan of a call has a place where it began and one where it ended, and gives,
+///   modulo the modulus, a number of items that a count write left, within a range which the modulus tells apart;
+/// - `words`: of two items that have the same cell, the word write of the one and the word read of the other do not
+///   overlap;
+/// - `cells`: no access of the producer to a digit of a cell overlaps one of the consumer to a digit of that cell;
 /// - `prefix`: the items taken are a prefix of the items put, at every moment;
 /// - `items`: a take whose word read has ended has the item put of its number;
-/// - `empty`: a take finds the ring empty only where every item of a put that ended before it began was taken
-///   by a take that ended before it began, and no close had ended;
-/// - `full`: a put finds the ring full only where the items stored before it, less the takes of an item that
-///   ended before it began, are at least the capacity;
-/// - `fill`: where a put fills all the room that its scan left, the items stored up to and with it, less the takes
-///   of an item that ended before it began, are at least the capacity;
+/// - `empty`: where a take began that found the ring empty, every item of a put that had ended was taken by a take
+///   that had ended, and no write of the close bit had ended;
+/// - `full`: where a put began that found the ring full, the items stored before it, less those of takes that had
+///   ended, are at least the capacity;
+/// - `fill`: where a put began that fills all the room its scan left, the items stored up to and with it, less those of
+///   takes that had ended, are at least the capacity;
 /// - `closed`: once the consumer was told that the ring is closed, the close has begun, behind all puts, and
 ///   every item of these puts was put and taken.
 ///
@@ -114,7 +115,8 @@ pub fn ring_law()
     ensures within { InEveryRun IsWithin }
     ensures put_range { InEveryRun PutsAreInRange }
     ensures take_range { InEveryRun TakesAreInRange }
-    ensures quiet { InEveryRun CellsAreQuiet }
+    ensures words { InEveryRun WordsAreQuiet }
+    ensures cells { InEveryRun CellsAreQuiet }
     ensures prefix { InEveryRun TakenArePrefix }
     ensures items { InEveryRun TakesMatchPuts }
     ensures empty { InEveryRun EmptyIsFresh }
@@ -142,11 +144,3 @@ pub fn closed_stays()
     items_put_are_read();
     items_taken_are_read();
 }
-
-/// What the law says of looks, it says of the programs: the accesses of a side's calls are those of its looks,
-/// and a look that stands at own event `s` begins with access `s / 2`, behind so many calls that count.
-pub fn looks_are_made()
-    ensures puts { PutsAreLooks }
-    ensures takes { TakesAreLooks }
-    ensures stand { LooksStand }
-{}

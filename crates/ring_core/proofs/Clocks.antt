@@ -1,7 +1,7 @@
 -- Two sides on one history: clocks that count their events, and what the registers promise of a scan.
 use Rattle.std.specs.Prelude.{◌≡◌, ◌⊎◌, ℕ, suc, ◌+◌, ◌<◌, ◌≤◌, ◌%◌, Bool, true, false, Some, List, [], ◌∷◌, slice_get}
 use Rattle.ring_core.specs.Counts.{distance}
-use Rattle.ring_core.specs.Spans.{Span, Passes, Asks, counts, items_of, before_count, begun, ended, total, Stands, sizes, tally}
+use Rattle.ring_core.proofs.Spans.{Span, Passes, Asks, counts, items_of, before_count, begun, ended, total, Stands, sizes, tally}
 
 -- The clock of a side says how many of its events stand before a position of the history. Each event is of one side.
 pub record Clocks (p c : ℕ → ℕ) : Type 0 where

@@ -10,9 +10,9 @@ use Rattle.register_core.specs.Row.{bits_after}
 use Rattle.register_core.specs.Word.{word_read}
 use Rattle.register_core.specs.ScanState.{scan_phrase, row_read_by}
 use Rattle.ring_core.specs.Counts.{past, Count, first_count, count_bits, batch_phrase}
-use Rattle.ring_core.specs.Puts.{Put, Stored, Full, Puts, words_phrase, close_phrase, put_program}
-use Rattle.ring_core.specs.Takes.{Take, Item, ItemAfterClose, Empty, End, Open, Closed, Takes, take_program}
-use Rattle.ring_core.specs.Spans.{Outcome, Passes, Stops, Asks, Span, Stands}
+use Rattle.ring_core.specs.Puts.{Put, Stored, Full, Puts, words_phrase}
+use Rattle.ring_core.specs.Takes.{Take, Item, ItemAfterClose, Empty, End, Open, Closed, Takes}
+use Rattle.ring_core.proofs.Spans.{Outcome, Passes, Stops, Asks, Span}
 
 -- a scan's value and what follows it
 pub record Look : Type 0 where
@@ -98,13 +98,6 @@ take_spans shape calls = spans C shape first_count (take_looks calls.takes calls
 
 -- ---- looks and the programs
 
--- the accesses of the calls are those of their looks
-abbrev pub PutsAreLooks : Type 0
-PutsAreLooks = (shape : Shape) (calls : Puts) → put_program shape calls ≡ look_accesses P shape first_count (put_looks calls.puts) (close_phrase calls.closes)
-
-abbrev pub TakesAreLooks : Type 0
-TakesAreLooks = (shape : Shape) (calls : Takes) → take_program shape calls ≡ look_accesses C shape first_count (take_looks calls.takes calls.end) []
-
 -- the span is that of a look of the program, behind n items, and begins with the look's own event
 pub record LookAt (s : Side) (shape : Shape) (program : List Made) (n start : ℕ) (x : Span) : Type 0 where
   pub look : Look
@@ -116,9 +109,3 @@ pub record LookAt (s : Side) (shape : Shape) (program : List Made) (n start : �
   pub program_is :
       program ≡ before ++ (scan_phrase (row_read_by s) look.seen ++ (word_part s shape n look.outcome ++ (count_part s shape count look.outcome ++ after)))
   pub start_is : start ≡ 2 * length before
-
--- a span that stands at an own event is that of the look there
-abbrev pub LooksStand : Type 0
-LooksStand =
-    (s : Side) (shape : Shape) (looks : List Look) (behind : List Made) (start n : ℕ) (x : Span) →
-    Stands (spans s shape first_count looks) start n x → LookAt s shape (look_accesses s shape first_count looks behind) n start x

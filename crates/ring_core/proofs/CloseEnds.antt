@@ -1,0 +1,83 @@
+-- Where the close has not ended by the producer's clock, no write of the close bit has ended.
+use Rattle.std.proofs.Common.{◌≡◌, inl, inr, ℕ, zero, suc, ◌+◌, ◌<◌, ◌≤◌, Bool, true, false, if◌then◌else◌, List, [], ◌∷◌, length, take, drop, refl, sym, ap, ◌∙◌, arith}
+use Rattle.bits_core.specs.declared.events.Side.{Side}
+use Rattle.bits_core.specs.declared.events.Side.TheVariants.{P, C}
+use Rattle.bits_core.specs.declared.events.Bit.TheVariants.{X}
+use Rattle.bits_core.specs.declared.events.Access.TheVariants as begins
+use Rattle.bits_core.specs.declared.events.Event.{Event}
+use Rattle.bits_core.specs.declared.shapes.Shape.{Shape}
+use Rattle.bits_core.specs.Bits.{is_by}
+use Rattle.bits_core.specs.Intervals.{IsWrite, first_place}
+use Rattle.bits_core.specs.Made.{own, clock, events_of, IsPlaceOf, IsBeginning}
+use Rattle.ring_core.specs.Counts.{first_count}
+use Rattle.ring_core.specs.Puts.{Puts, put_phrases, put_program}
+use Rattle.ring_core.specs.Items.{events_in}
+use Rattle.ring_core.proofs.Cuts.{at_most_or_above}
+use Rattle.ring_core.proofs.Gates.{clock_up, clock_p}
+use Rattle.ring_core.proofs.HistoryClocks.{clock-yes, clock-no, clock-zero, clocks_of}
+use Rattle.ring_core.proofs.OwnEvents.{by_case}
+use Rattle.ring_core.proofs.CloseReads.{OwnFacts, only_close, no_close-puts}
+
+first-yes : (s : Side) (e : Event) (h : List Event) → is_by s e ≡ true → first_place s (e ∷ h) ≡ 0
+first-yes s e h f = ap (λ (b : Bool). if b then 0 else suc (first_place s h)) f
+
+first-no : (s : Side) (e : Event) (h : List Event) → is_by s e ≡ false → first_place s (e ∷ h) ≡ suc (first_place s h)
+first-no s e h f = ap (λ (b : Bool). if b then 0 else suc (first_place s h)) f
+
+-- the side's clock goes on where its first event stands
+abbrev GoesOn : Side → List Event → ℕ → Type 0
+GoesOn s h place = clock s h (suc place) ≡ suc (clock s h place)
+
+goes_on : (s : Side) (h : List Event) → first_place s h < length h → GoesOn s h (first_place s h)
+goes_on s [] l = absurd (omega (arith, l))
+goes_on s (e ∷ h) l =
+    by_case (is_by s e)
+    (λ f. rw (first-yes s e h f) (clock-yes s e h 0 f ∙ ap suc (clock-zero s h ∙ sym (clock-zero s (e ∷ h)))))
+    (λ f.
+    (let more : first_place s h < length h = omega (arith, l, first-no s e h f) in
+    rw (first-no s e h f) (clock-no s e h (suc (first_place s h)) f ∙ goes_on s h more ∙ ap suc (sym (clock-no s e h (first_place s h) f)))))
+
+-- and where its first one behind a place does
+goes_on_behind : (s : Side) (h : List Event) (i : ℕ) → i + first_place s (drop i h) < length h → GoesOn s h (i + first_place s (drop i h))
+goes_on_behind s h zero l =
+    let none : 0 + first_place s h ≡ first_place s h = omega arith in
+    rw none (goes_on s h (omega (arith, l, none)))
+goes_on_behind s [] (suc i) l = absurd (omega (arith, l))
+goes_on_behind s (e ∷ h) (suc i) l =
+    let q : ℕ = first_place s (drop i h) in
+    let next : suc i + q ≡ suc (i + q) = omega arith in
+    let rest : GoesOn s h (i + q) = goes_on_behind s h i (omega (arith, l)) in
+    rw next
+    (by_case (is_by s e)
+    (λ f. clock-yes s e h (suc (i + q)) f ∙ ap suc (rest ∙ sym (clock-yes s e h (i + q) f)))
+    (λ f. clock-no s e h (suc (i + q)) f ∙ rest ∙ ap suc (sym (clock-no s e h (i + q) f))))
+
+take_all : {A : Type 0} → (xs : List A) (i : ℕ) → length xs ≤ i → take i xs ≡ xs
+take_all [] zero l = refl
+take_all [] (suc i) l = refl
+take_all (x ∷ xs) zero l = absurd (omega (arith, l))
+take_all (x ∷ xs) (suc i) l = ap (λ l. x ∷ l) (take_all xs i (omega (arith, l)))
+
+-- an own event stands in the history
+pub place_within : (s : Side) (h : List Event) (i place : ℕ) → IsPlaceOf s h i place → place < length h
+place_within s h i place q = elim (at_most_or_above (length h) place) [
+  | inr l ↦ l
+  | inl l ↦ absurd (
+      let here : clock s h place ≡ length (own s h) = ap (λ l. length (own s l)) (take_all h place l) in
+      let past : clock s h (suc place) ≡ length (own s h) = ap (λ l. length (own s l)) (take_all h (suc place) (omega (arith, l))) in
+      omega (arith, here, past, q.before, q.past))
+]
+
+pub not_ended :
+    OwnFacts → (shape : Shape) (h : List Event) (puts : Puts) → IsBeginning (own P h) (events_of P (put_program shape puts)) →
+    (place : ℕ) → clock P h place < events_in (put_phrases shape first_count puts.puts) + 2 → place ≤ length h →
+    (v : Bool) (start stop : ℕ) → IsWrite h X v start stop → ¬ (stop < place)
+not_ended facts shape h puts follows place few within v start stop w ended =
+    let front = put_phrases shape first_count puts.puts in
+    let (n, x, x_at, x_is, made) = facts.accesses P h (put_program shape puts) follows (begins.Write X v) start stop w in
+    let (at_end, is_true, closes) = only_close front (no_close-puts shape first_count puts.puts) puts.closes n x v x_at x_is in
+    let i : ℕ = start + 1 in
+    let goes : GoesOn P h (i + first_place P (drop i h)) = goes_on_behind P h i (omega (arith, w.ends, ended, within)) in
+    let up = clock_up (clock P h) (clock_p (clock P h) (clock C h) (clocks_of h)) in
+    let stops : clock P h (suc stop) ≡ suc (clock P h stop) = rw w.ends goes in
+    omega (arith, stops, up (suc start) stop (omega (arith, w.ends)), up (suc stop) place ended, made.start_is.past, at_end, few)
