@@ -1,5 +1,5 @@
 -- What an audit finds.
-use Rattle.std.proofs.Common.{◌≡◌, ℕ, Some, List, ◌<◌, length, take, refl, ap₂, subst, inl, inr, arith, get_or}
+use Rattle.std.proofs.Common.{◌≡◌, ℕ, suc, Some, List, ◌<◌, ◌≤◌, sym, length, take, refl, ap₂, subst, inl, inr, arith, get_or}
 use Rattle.std.proofs.lemmas.Bool.{cases_order}
 use Rattle.std.specs.Prelude.{slice_get}
 use Rattle.std.proofs.lemmas.Option.{slice_get-get_or}
@@ -13,9 +13,10 @@ use Rattle.bits_core.specs.declared.audits.Verdict.TheVariants.{Lawful, Fault}
 use Rattle.bits_core.specs.Audit.{IsFault, IsFirstFault, IsFaultAfter, IsVerdict}
 use Rattle.bits_core.specs.Steps.{MayFollow, EachMayFollow}
 use Rattle.bits_core.specs.Lawful.{TakesTurn, IsLawfulEvent, IsLawful}
-use Rattle.bits_core.proofs.Places.{slice_get-take}
+use Rattle.bits_core.specs.Laws.{FaultBreaks}
+use Rattle.bits_core.proofs.Places.{slice_get-take, slice_get-from_take}
 use Rattle.bits_core.proofs.OverlapLemmas.{IsByDoers, IsByDoers-below}
-use Rattle.bits_core.proofs.LawfulLemmas.{same_event, IsByDoers-steps, IsLawfulEvent-from, TakesTurn-from, TakesTurn-to, AnswersSafely-to}
+use Rattle.bits_core.proofs.LawfulLemmas.{same_event, IsByDoers-steps, IsLawfulEvent-from, IsLawfulEvent-to, IsLawful-from, IsLawful-to, TakesTurn-from, TakesTurn-to, AnswersSafely-to}
 
 -- a fault, in the two forms
 pub IsFault-from : (shape : Shape) (h : List Event) (place : ℕ) (e : Event) (kind : Kind) → IsByDoers h place → slice_get h place ≡ Some e → IsFaultAfter shape (take place h) e kind → IsFault shape h place e kind
@@ -82,3 +83,26 @@ one_verdict shape h (Fault p k) (Fault q l) a b =
     let event : b.event ≡ a.event = same_event h q b.event a.event b.at_place (subst (λ n. slice_get h n ≡ Some a.event) place a.at_place) in
     let moved : IsFault shape h q a.event k = subst (λ n. IsFault shape h n a.event k) place a.fault in
     ap₂ Fault place (one_kind shape h q a.event k l moved (subst (λ e. IsFault shape h q e l) event b.fault))
+
+-- ---- up to a fault, and with it
+
+-- what was taken of what was taken further
+before_it : (h : List Event) (q p : ℕ) → q ≤ p → take q (take p h) ≡ take q h
+before_it h q p l = take-take q p h l
+
+pub fault_breaks : FaultBreaks
+fault_breaks shape h place kind fault =
+    let lawful : IsLawful shape (take place h) = IsLawful-from shape (take place h) (record {
+      each = λ q e at.
+          let here = slice_get-from_take h place q e at in
+          let sides : IsByDoers h q = record { each = λ p f below k. (fault.least p f (omega (arith, below, here.1)) k).right_side.by_doer } in
+          subst (λ t. MayFollow shape t e) (sym (before_it h q place (omega (arith, here.1)))) (IsLawfulEvent-to shape h q e sides here.0 (fault.least q e here.1 here.0));
+    }) in (
+      lawful,
+      λ longer.
+          (let sides : IsByDoers h place = record { each = λ p f below k. (fault.least p f below k).right_side.by_doer } in
+          let at : slice_get (take (suc place) h) place ≡ Some fault.event = slice_get-take h (suc place) place fault.event fault.at_place (omega arith) in
+          let follows : MayFollow shape (take place (take (suc place) h)) fault.event = (IsLawful-to shape (take (suc place) h) longer).each place fault.event at in
+          not_IsLawfulEvent shape h place fault.event kind fault.fault
+          (IsLawfulEvent-from shape h place fault.event sides fault.at_place (subst (λ t. MayFollow shape t fault.event) (before_it h place (suc place) (omega arith)) follows))),
+    )

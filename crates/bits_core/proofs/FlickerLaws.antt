@@ -1,6 +1,6 @@
 -- The reads that count as flickers, by their intervals.
-use Rattle.std.proofs.Common.{◌≡◌, ℕ, true, false, Option, Some, None, ◌≤◌, List, take, refl, ap, subst, ◌∙◌}
-use Rattle.std.specs.Prelude.{slice_get}
+use Rattle.std.proofs.Common.{◌≡◌, ℕ, true, false, Option, Some, None, ◌≤◌, Bool, List, [], ◌∷◌, ◌++◌, length, take, refl, ap, sym, subst, ◌∙◌}
+use Rattle.std.specs.Prelude.{◌↔◌, if◌then◌else◌, slice_get}
 use Rattle.std.specs.Option.{option_map_or}
 use Rattle.std.proofs.lemmas.Bool.{false≢true}
 use Rattle.bits_core.specs.declared.events.Side.{Side}
@@ -10,13 +10,15 @@ use Rattle.bits_core.specs.declared.events.Act.TheVariants.{ReadBegin, ReadEnd, 
 use Rattle.bits_core.specs.declared.events.Access.TheVariants.{Read}
 use Rattle.bits_core.specs.declared.events.Event.{Event}
 use Rattle.bits_core.specs.declared.shapes.Shape.{Shape}
+use Rattle.bits_core.specs.History.{open_access, is_overlapped, held_at_begin}
 use Rattle.bits_core.specs.Intervals.{IsRead, IsOpenAt, end_of}
 use Rattle.bits_core.specs.Lawful.{IsLawful}
 use Rattle.bits_core.specs.Laws.{FlickerIsByInterval}
 use Rattle.bits_core.specs.Memory.{EndsOverlappedRead, is_flicker}
 use Rattle.bits_core.proofs.Changes.{same_side-same}
 use Rattle.bits_core.proofs.LawfulLemmas.{ends_at}
-use Rattle.bits_core.proofs.LawProofs.{overlap_is_by_interval}
+use Rattle.bits_core.proofs.LawProofs.{lawful_by_one_more, overlap_is_by_interval}
+use Rattle.bits_core.proofs.Flickers.{MayFollow-answer, is_flicker_at-last}
 
 -- an event that counts ends a read that a write overlaps
 from_event : (shape : Shape) (h : List Event) (place : ℕ) (s : Side) (b : Bit) (a : Act) → IsLawful shape h → slice_get h place ≡ Some (record { side = s; bit = b; act = a })
@@ -43,3 +45,13 @@ flicker_is_by_interval shape h lawful place = (
       ap (λ (o : Option Event). option_map_or (is_flicker (take place h)) o false) r.read.ends
       ∙ (overlap_is_by_interval shape h lawful r.side r.bit r.start place r.answer r.read).0 r.overlap,
 )
+
+-- the read that ends next is overlapped by its intervals, where it is by the events so far
+pub ends_overlapped : (shape : Shape) (h : List Event) (s : Side) (b : Bit) (asked v : Bool) → IsLawful shape h → open_access s h ≡ Some (Read b)
+    → v ≡ (if is_overlapped s b h then asked else held_at_begin s b h)
+    → (is_overlapped s b h ≡ true) ↔ EndsOverlappedRead (h ++ record { side = s; bit = b; act = ReadEnd v } ∷ []) (length h)
+ends_overlapped shape h s b asked v lawful still answer =
+    let e : Event = record { side = s; bit = b; act = ReadEnd v } in
+    let then_lawful : IsLawful shape (h ++ e ∷ []) = (lawful_by_one_more shape h e).1 (lawful, MayFollow-answer shape h s b asked v lawful still answer) in
+    let law = flicker_is_by_interval shape (h ++ e ∷ []) then_lawful (length h) in
+    (λ o. law.0 (is_flicker_at-last h e ∙ o), λ r. sym (is_flicker_at-last h e) ∙ law.1 r)

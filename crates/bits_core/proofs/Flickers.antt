@@ -41,7 +41,7 @@ is_flicker_at-front h e p below =
     let within : p ≤ length h = omega arith in
     ap₂ (λ (past : List Event) (o : Option Event). option_map_or (is_flicker past) o false) (take-append-le p h (e ∷ []) within) (slice_get-front h e p below)
 
-is_flicker_at-last : (h : List Event) (e : Event) → is_flicker_at (h ++ e ∷ []) (length h) ≡ is_flicker h e
+pub is_flicker_at-last : (h : List Event) (e : Event) → is_flicker_at (h ++ e ∷ []) (length h) ≡ is_flicker h e
 is_flicker_at-last h e =
     ap₂ (λ (past : List Event) (o : Option Event). option_map_or (is_flicker past) o false) (take_at h (e ∷ []) (length h) refl) (slice_get-last h e)
 

@@ -1,3 +1,4 @@
+pub mod Fitting
 pub mod Places
 pub mod Histories
 pub mod StepLemmas
@@ -14,6 +15,7 @@ pub mod TraceLines
 pub mod TraceLemmas
 pub mod DecideLemmas
 pub mod TraceReadings
+pub mod TraceTotal
 pub mod Tapes
 pub mod OpenAccesses
 pub mod Flickers

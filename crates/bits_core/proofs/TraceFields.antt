@@ -24,7 +24,7 @@ pub bind_some : {A B : Type 0} (r : Option A) (f : A → Option B) (y : B) → (
 bind_some (Some x) f y e = (x, refl, e)
 bind_some None f y e = absurd (none-some y e)
 
-or_else_some : {A : Type 0} (r s : Option A) (y : A) → or_else r s ≡ Some y → (r ≡ Some y) ⊎ (s ≡ Some y)
+pub or_else_some : {A : Type 0} (r s : Option A) (y : A) → or_else r s ≡ Some y → (r ≡ Some y) ⊎ (s ≡ Some y)
 or_else_some (Some x) s y e = inl e
 or_else_some None s y e = inr e
 
@@ -46,7 +46,7 @@ after-again text rest =
     let same : bytes_eq (take (length text) (text ++ rest)) text ≡ true = (bytes_eq-Decides (take (length text) (text ++ rest)) text).1 front in
     rw same (ap Some (drop_at text rest (length text) refl))
 
-named-text : {A : Type 0} (v : A) (text bytes : List ℕ) (x : A × List ℕ) → named v text bytes ≡ Some x → (v ≡ x.0) × (bytes ≡ text ++ x.1)
+pub named-text : {A : Type 0} (v : A) (text bytes : List ℕ) (x : A × List ℕ) → named v text bytes ≡ Some x → (v ≡ x.0) × (bytes ≡ text ++ x.1)
 named-text {A} v text bytes x e =
     let b = bind_some (after text bytes) (λ rest. Some (v, rest)) x e in
     let is : (v, b.0) ≡ x = same_Some (v, b.0) x b.2 in

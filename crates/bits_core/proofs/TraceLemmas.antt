@@ -27,16 +27,16 @@ other_event_read shape bytes f after read outside e rest begins =
     let same : (f, after) ≡ (e, rest) = same_Some (f, after) (e, rest) (sym read ∙ event_found shape bytes e rest begins) in
     false≢true (sym outside ∙ ap (λ (x : Event × List ℕ). belongs shape x.0.bit) same ∙ begins.0)
 
--- the line of three numbers that stands at the front is read
-pub no_shape_read : (bytes : List ℕ) → shape_at bytes ≡ None → (capacity modulus width : ℕ) → ¬ HasShapeLine bytes capacity modulus width
-no_shape_read bytes none capacity modulus width line =
-    none-some _ (sym none ∙ ap shape_at line.text ∙ shape_at-again capacity modulus width line.rest line.short_capacity line.short_modulus line.short_width)
+-- the line of numbers that stands at the front is read
+pub no_shape_read : (bytes : List ℕ) → shape_at bytes ≡ None → (capacity modulus width batch : ℕ) → ¬ HasShapeLine bytes capacity modulus width batch
+no_shape_read bytes none capacity modulus width batch line =
+    none-some _ (sym none ∙ ap shape_at line.text ∙ shape_at-again capacity modulus width batch line.rest line.short_capacity line.short_modulus line.short_width line.short_batch)
 
 -- one event more
 pub text_more : (shape : Shape) (events : List Event) (e : Event) (bytes rest others : List ℕ) → bytes ≡ trace_text shape events ++ rest → rest ≡ event_line e ++ others
     → bytes ≡ trace_text shape (events ++ e ∷ []) ++ others
 text_more shape events e bytes rest others text begins =
-    let line : List ℕ = shape_line (capacity_of shape) (modulus_of shape) (width_of shape) in
+    let line : List ℕ = shape_line (capacity_of shape) (modulus_of shape) (width_of shape) (batch_of shape) in
     text ∙ ap (λ (t : List ℕ). trace_text shape events ++ t) begins ∙ sym (append_assoc (trace_text shape events) (event_line e) others)
     ∙ ap (λ (t : List ℕ). t ++ others) (flat_map_more event_line line events e)
 
@@ -55,6 +55,6 @@ line_takes e rest = omega (arith, length-append (event_line e) rest, some_byte e
 
 -- ---- what stops a reading
 
-pub goes_on_at : (bytes : List ℕ) (shape : Shape) (events : List Event) (rest : List ℕ) → bytes ≡ trace_text shape events ++ rest → batch_of shape ≡ 1 → AreOfShape shape events → (length rest == 0) ≡ false → GoesOn bytes shape events rest
-goes_on_at bytes shape events rest text single of_shape more =
-    record { text = text; single = single; of_shape = of_shape; more = λ nothing. false≢true (sym more ∙ ap (λ (t : List ℕ). length t == 0) nothing) }
+pub goes_on_at : (bytes : List ℕ) (shape : Shape) (events : List Event) (rest : List ℕ) → bytes ≡ trace_text shape events ++ rest → AreOfShape shape events → (length rest == 0) ≡ false → GoesOn bytes shape events rest
+goes_on_at bytes shape events rest text of_shape more =
+    record { text = text; of_shape = of_shape; more = λ nothing. false≢true (sym more ∙ ap (λ (t : List ℕ). length t == 0) nothing) }

@@ -1,8 +1,8 @@
 -- The lines of a trace: what is read stands at the front, and what stands there is read again.
-use Rattle.std.proofs.Common.{◌≡◌, ℕ, ◌<◌, true, Some, List, ◌++◌, refl, ap, sym, subst, ◌∙◌, append_assoc, arith}
-use Rattle.std.specs.Prelude.{codes, decimal, nat_lt}
-use Rattle.std.proofs.lemmas.Bool.{and_parts, ltb-true}
-use Rattle.std.proofs.lemmas.Option.{same_Some}
+use Rattle.std.proofs.Common.{◌≡◌, ℕ, ◌<◌, true, false, cond, Some, None, List, [], ◌++◌, refl, ap, sym, subst, ◌∙◌, append_assoc, inl, inr, arith}
+use Rattle.std.specs.Prelude.{◌==◌, codes, decimal, nat_lt}
+use Rattle.std.proofs.lemmas.Bool.{and_parts, eqb-true, ltb-true}
+use Rattle.std.proofs.lemmas.Option.{none-some, same_Some}
 use Rattle.bits_core.specs.declared.events.Side.{Side}
 use Rattle.bits_core.specs.declared.events.Bit.{Bit}
 use Rattle.bits_core.specs.declared.events.Bit.TheVariants.{S, R, X, Cell}
@@ -12,12 +12,12 @@ use Rattle.bits_core.specs.declared.reading.Numbers.{Numbers}
 use Rattle.bits_core.specs.declared.reading.Word.{Word}
 use Rattle.bits_core.specs.declared.shapes.Shape.{Shape}
 use Rattle.bits_core.specs.declared.shapes.ShapeFault.{ShapeFault}
-use Rattle.bits_core.specs.Shape.{HasNumbers, IsRefused, belongs, capacity_of, modulus_of, width_of}
+use Rattle.bits_core.specs.Shape.{HasBatch, IsRefusedBatch, belongs, capacity_of, modulus_of, width_of}
 use Rattle.bits_core.specs.Trace.{BeginsWithShape, HasBadShape}
-use Rattle.bits_core.specs.TraceText.{side_text, act_text, bit_text, value_text, event_line, shape_line}
-use Rattle.bits_core.specs.TraceReading.{after, side_at, word_at, bit_at, act_at, number_at, event_at, shape_at}
-use Rattle.bits_core.proofs.Digits.{number_at-text, number_at-decimal}
-use Rattle.bits_core.proofs.TraceFields.{Begins, HasIndices, bind_some, after-text, side_at-text, side_at-again, word_text, word_of, act_word, word_at-text, word_at-again, bit_at-text, bit_at-again, act_at-text, act_at-again, value_ends}
+use Rattle.bits_core.specs.TraceText.{side_text, act_text, bit_text, value_text, batch_text, event_line, shape_line}
+use Rattle.bits_core.specs.TraceReading.{after, named, side_at, word_at, bit_at, act_at, number_at, batch_at, event_at, shape_at}
+use Rattle.bits_core.proofs.Digits.{EndsDigits, number_at-text, number_at-decimal}
+use Rattle.bits_core.proofs.TraceFields.{Begins, HasIndices, bind_some, or_else_some, after-text, named-text, side_at-text, side_at-again, word_text, word_of, act_word, word_at-text, word_at-again, bit_at-text, bit_at-again, act_at-text, act_at-again, value_ends}
 
 -- ---- the line of an event
 
@@ -68,24 +68,78 @@ small_indices shape (Cell j i) e =
 
 -- ---- the line of a shape
 
-parts_of_shape : (capacity modulus width : ℕ) (rest : List ℕ)
-    → shape_line capacity modulus width ++ rest ≡ codes "shape " ++ (decimal capacity ++ (codes " " ++ (decimal modulus ++ (codes " " ++ (decimal width ++ (codes "\n" ++ rest))))))
-parts_of_shape capacity modulus width rest = simp append_assoc
+-- the batch, and the end of the line
+abbrev batch_end : ℕ → List ℕ → List ℕ
+batch_end batch rest = batch_text batch ++ (codes "\n" ++ rest)
 
-shape_joined : (bytes r1 r2 r3 r4 r5 r6 rest : List ℕ) (capacity modulus width : ℕ)
-    → bytes ≡ codes "shape " ++ r1 → r1 ≡ decimal capacity ++ r2 → r2 ≡ codes " " ++ r3 → r3 ≡ decimal modulus ++ r4 → r4 ≡ codes " " ++ r5 → r5 ≡ decimal width ++ r6 → r6 ≡ codes "\n" ++ rest
-    → bytes ≡ shape_line capacity modulus width ++ rest
-shape_joined bytes r1 r2 r3 r4 r5 r6 rest capacity modulus width e1 e2 e3 e4 e5 e6 e7 =
+record BeginsBatch (bytes : List ℕ) (x : ℕ × List ℕ) : Type 0 where
+  pub text : bytes ≡ batch_end x.0 x.1
+  pub short : x.0 < 10000
+
+-- a batch other than 1 is written
+batch_text-other : (batch : ℕ) → (batch == 1) ≡ false → batch_text batch ≡ codes " " ++ decimal batch
+unfolding batch_text
+batch_text-other batch other = rw other refl
+
+batch_at-text : (bytes : List ℕ) (x : ℕ × List ℕ) → batch_at bytes ≡ Some x → BeginsBatch bytes x
+unfolding batch_at batch_text
+batch_at-text bytes x e =
+    elim (or_else_some (named 1 (codes "\n") bytes) _ x e) [
+      | inl k ↦
+          let n = named-text 1 (codes "\n") bytes x k in
+          record { text = n.1 ∙ ap (λ (g : ℕ). batch_end g x.1) n.0; short = subst (λ (g : ℕ). g < 10000) n.0 (omega arith) }
+      | inr k ↦
+          let p = bind_some (after (codes " ") bytes) _ x k in
+          let g = bind_some (number_at p.0) _ x p.2 in
+          let l = bind_some (after (codes "\n") g.0.1) _ x g.2 in
+          other_than_1 p.0 g.0.0 g.0.1 l.0 (after-text (codes " ") bytes p.0 p.1) (number_at-text p.0 g.0 g.1) (after-text (codes "\n") g.0.1 l.0 l.1) l.2
+    ]
+  where
+    other_than_1 : (r1 : List ℕ) (g : ℕ) (r2 rest : List ℕ) → bytes ≡ codes " " ++ r1 → (r1 ≡ decimal g ++ r2) × (g < 10000) → r2 ≡ codes "\n" ++ rest
+        → cond (g == 1) None (Some (g, rest)) ≡ Some x → BeginsBatch bytes x
+    other_than_1 r1 g r2 rest e1 e2 e3 e4 = elim (g == 1) as (λ t. (g == 1) ≡ t → cond t None (Some (g, rest)) ≡ Some x → BeginsBatch bytes x) [
+      | true ↦ λ _ k. absurd (none-some x k)
+      | false ↦ λ t k. subst (λ (y : ℕ × List ℕ). BeginsBatch bytes y) (same_Some (g, rest) x k) (record {
+        text = e1 ∙ ap (λ (r : List ℕ). codes " " ++ r) (e2.0 ∙ ap (λ (r : List ℕ). decimal g ++ r) e3) ∙ sym (append_assoc (codes " ") (decimal g) (codes "\n" ++ rest))
+            ∙ ap (λ (r : List ℕ). r ++ (codes "\n" ++ rest)) (sym (batch_text-other g t));
+        short = e2.1;
+      })
+    ] refl e4
+
+batch_at-again : (batch : ℕ) (rest : List ℕ) → batch < 10000 → batch_at (batch_end batch rest) ≡ Some (batch, rest)
+unfolding batch_at batch_text
+batch_at-again batch rest short = elim (batch == 1) as (λ t. (batch == 1) ≡ t → batch_at (batch_end batch rest) ≡ Some (batch, rest)) [
+  | true ↦ λ t. subst (λ (g : ℕ). batch_at (batch_end g rest) ≡ Some (g, rest)) (sym (eqb-true batch 1 t)) refl
+  | false ↦ λ t. ap batch_at (ap (λ (r : List ℕ). r ++ (codes "\n" ++ rest)) (batch_text-other batch t)) ∙ rw (number_at-decimal batch (codes "\n" ++ rest) short refl, t) refl
+] refl
+
+-- no digit stands where the width ends
+width_ends : (batch : ℕ) (rest : List ℕ) → EndsDigits (batch_end batch rest)
+unfolding batch_text
+width_ends batch rest = elim (batch == 1) as (λ t. EndsDigits (cond t [] (codes " " ++ decimal batch) ++ (codes "\n" ++ rest))) [
+  | true ↦ refl
+  | false ↦ refl
+]
+
+parts_of_shape : (capacity modulus width batch : ℕ) (rest : List ℕ)
+    → shape_line capacity modulus width batch ++ rest ≡ codes "shape " ++ (decimal capacity ++ (codes " " ++ (decimal modulus ++ (codes " " ++ (decimal width ++ batch_end batch rest)))))
+parts_of_shape capacity modulus width batch rest = simp append_assoc
+
+shape_joined : (bytes r1 r2 r3 r4 r5 r6 rest : List ℕ) (capacity modulus width batch : ℕ)
+    → bytes ≡ codes "shape " ++ r1 → r1 ≡ decimal capacity ++ r2 → r2 ≡ codes " " ++ r3 → r3 ≡ decimal modulus ++ r4 → r4 ≡ codes " " ++ r5 → r5 ≡ decimal width ++ r6 → r6 ≡ batch_end batch rest
+    → bytes ≡ shape_line capacity modulus width batch ++ rest
+shape_joined bytes r1 r2 r3 r4 r5 r6 rest capacity modulus width batch e1 e2 e3 e4 e5 e6 e7 =
     e1 ∙ ap (λ (t : List ℕ). codes "shape " ++ t) (e2 ∙ ap (λ (t : List ℕ). decimal capacity ++ t) (e3 ∙ ap (λ (t : List ℕ). codes " " ++ t)
     (e4 ∙ ap (λ (t : List ℕ). decimal modulus ++ t) (e5 ∙ ap (λ (t : List ℕ). codes " " ++ t) (e6 ∙ ap (λ (t : List ℕ). decimal width ++ t) e7)))))
-    ∙ sym (parts_of_shape capacity modulus width rest)
+    ∙ sym (parts_of_shape capacity modulus width batch rest)
 
--- the line of three numbers of at most four digits
+-- the line of numbers of at most four digits
 pub record BeginsShape (bytes : List ℕ) (x : Numbers × List ℕ) : Type 0 where
-  pub text : bytes ≡ shape_line x.0.capacity x.0.modulus x.0.width ++ x.1
+  pub text : bytes ≡ shape_line x.0.capacity x.0.modulus x.0.width x.0.batch ++ x.1
   pub short_capacity : x.0.capacity < 10000
   pub short_modulus : x.0.modulus < 10000
   pub short_width : x.0.width < 10000
+  pub short_batch : x.0.batch < 10000
 
 pub shape_at-text : (bytes : List ℕ) (x : Numbers × List ℕ) → shape_at bytes ≡ Some x → BeginsShape bytes x
 unfolding shape_at
@@ -96,42 +150,54 @@ shape_at-text bytes x e =
     let m = bind_some (number_at q.0) _ x q.2 in
     let r = bind_some (after (codes " ") m.0.1) _ x m.2 in
     let w = bind_some (number_at r.0) _ x r.2 in
-    let l = bind_some (after (codes "\n") w.0.1) _ x w.2 in
+    let g = bind_some (batch_at w.0.1) _ x w.2 in
     let capacity = number_at-text p.0 c.0 c.1 in
     let modulus = number_at-text q.0 m.0 m.1 in
     let width = number_at-text r.0 w.0 w.1 in
-    let made : Numbers = record { capacity = c.0.0; modulus = m.0.0; width = w.0.0 } in
-    subst (λ (y : Numbers × List ℕ). BeginsShape bytes y) (same_Some (made, l.0) x l.2) (record {
-      text = shape_joined bytes p.0 c.0.1 q.0 m.0.1 r.0 w.0.1 l.0 c.0.0 m.0.0 w.0.0 (after-text (codes "shape ") bytes p.0 p.1) capacity.0
-          (after-text (codes " ") c.0.1 q.0 q.1) modulus.0 (after-text (codes " ") m.0.1 r.0 r.1) width.0 (after-text (codes "\n") w.0.1 l.0 l.1);
+    let batch = batch_at-text w.0.1 g.0 g.1 in
+    let made : Numbers = record { capacity = c.0.0; modulus = m.0.0; width = w.0.0; batch = g.0.0 } in
+    subst (λ (y : Numbers × List ℕ). BeginsShape bytes y) (same_Some (made, g.0.1) x g.2) (record {
+      text = shape_joined bytes p.0 c.0.1 q.0 m.0.1 r.0 w.0.1 g.0.1 c.0.0 m.0.0 w.0.0 g.0.0 (after-text (codes "shape ") bytes p.0 p.1) capacity.0
+          (after-text (codes " ") c.0.1 q.0 q.1) modulus.0 (after-text (codes " ") m.0.1 r.0 r.1) width.0 batch.text;
       short_capacity = capacity.1;
       short_modulus = modulus.1;
       short_width = width.1;
+      short_batch = batch.short;
     })
 
-pub shape_at-again : (capacity modulus width : ℕ) (rest : List ℕ) → capacity < 10000 → modulus < 10000 → width < 10000
-    → shape_at (shape_line capacity modulus width ++ rest) ≡ Some (record { capacity = capacity; modulus = modulus; width = width }, rest)
+pub shape_at-again : (capacity modulus width batch : ℕ) (rest : List ℕ) → capacity < 10000 → modulus < 10000 → width < 10000 → batch < 10000
+    → shape_at (shape_line capacity modulus width batch ++ rest) ≡ Some (record { capacity = capacity; modulus = modulus; width = width; batch = batch }, rest)
 unfolding shape_at
-shape_at-again capacity modulus width rest short_capacity short_modulus short_width =
-    ap shape_at (parts_of_shape capacity modulus width rest)
+shape_at-again capacity modulus width batch rest short_capacity short_modulus short_width short_batch =
+    ap shape_at (parts_of_shape capacity modulus width batch rest)
     ∙ rw (
-      number_at-decimal capacity (codes " " ++ (decimal modulus ++ (codes " " ++ (decimal width ++ (codes "\n" ++ rest))))) short_capacity refl,
-      number_at-decimal modulus (codes " " ++ (decimal width ++ (codes "\n" ++ rest))) short_modulus refl,
-      number_at-decimal width (codes "\n" ++ rest) short_width refl,
+      number_at-decimal capacity (codes " " ++ (decimal modulus ++ (codes " " ++ (decimal width ++ batch_end batch rest)))) short_capacity refl,
+      number_at-decimal modulus (codes " " ++ (decimal width ++ batch_end batch rest)) short_modulus refl,
+      number_at-decimal width (batch_end batch rest) short_width (width_ends batch rest),
+      batch_at-again batch rest short_batch,
     ) refl
 
 -- the numbers of a line stand for those of a shape
-pub begins_numbers : (bytes rest : List ℕ) (n : Numbers) (shape : Shape) → BeginsShape bytes (n, rest) → HasNumbers n.capacity n.modulus n.width shape → BeginsWithShape bytes shape rest
+pub begins_numbers : (bytes rest : List ℕ) (n : Numbers) (shape : Shape) → BeginsShape bytes (n, rest) → HasBatch n.capacity n.modulus n.width n.batch shape → BeginsWithShape bytes shape rest
 begins_numbers bytes rest n shape begins is =
-    begins.text ∙ ap (λ (k : ℕ). shape_line k n.modulus n.width ++ rest) (sym is.capacity_is)
-    ∙ ap (λ (k : ℕ). shape_line (capacity_of shape) k n.width ++ rest) (sym is.modulus_is)
-    ∙ ap (λ (k : ℕ). shape_line (capacity_of shape) (modulus_of shape) k ++ rest) (sym is.width_is)
+    begins.text ∙ ap (λ (k : ℕ). shape_line k n.modulus n.width n.batch ++ rest) (sym is.capacity_is)
+    ∙ ap (λ (k : ℕ). shape_line (capacity_of shape) k n.width n.batch ++ rest) (sym is.modulus_is)
+    ∙ ap (λ (k : ℕ). shape_line (capacity_of shape) (modulus_of shape) k n.batch ++ rest) (sym is.width_is)
+    ∙ ap (λ (k : ℕ). shape_line (capacity_of shape) (modulus_of shape) (width_of shape) k ++ rest) (sym is.batch_is)
 
-pub bad_numbers : (bytes rest : List ℕ) (n : Numbers) (fault : ShapeFault) → BeginsShape bytes (n, rest) → IsRefused n.capacity n.modulus n.width fault → HasBadShape bytes fault
+pub bad_numbers : (bytes rest : List ℕ) (n : Numbers) (fault : ShapeFault) → BeginsShape bytes (n, rest) → IsRefusedBatch n.capacity n.modulus n.width n.batch fault → HasBadShape bytes fault
 bad_numbers bytes rest n fault begins refused = record {
   capacity = n.capacity;
   modulus = n.modulus;
   width = n.width;
-  line = record { rest = rest; text = begins.text; short_capacity = begins.short_capacity; short_modulus = begins.short_modulus; short_width = begins.short_width };
+  batch = n.batch;
+  line = record {
+    rest = rest;
+    text = begins.text;
+    short_capacity = begins.short_capacity;
+    short_modulus = begins.short_modulus;
+    short_width = begins.short_width;
+    short_batch = begins.short_batch;
+  };
   refused = refused;
 }

@@ -1,5 +1,5 @@
 -- A text has one reading, and bytes have one fault or are a trace.
-use Rattle.std.proofs.Common.{◌≡◌, ◌⊎◌, ◌≢◌, ℕ, suc, ◌+◌, ◌<◌, ◌≤◌, true, Result, Ok, Err, List, [], ◌∷◌, ◌++◌, length, inl, inr, refl, ap, sym, subst, ◌∙◌, append_assoc, arith}
+use Rattle.std.proofs.Common.{◌≡◌, ◌⊎◌, ◌≢◌, ℕ, suc, ◌+◌, ◌<◌, ◌≤◌, true, Result, Ok, Err, Some, List, [], ◌∷◌, ◌++◌, length, inl, inr, refl, ap, sym, subst, ◌∙◌, append_assoc, arith}
 use Rattle.std.specs.Prelude.{IfOk, IfErr, MatchResult}
 use Rattle.std.specs.Coded.{le_prop}
 use Rattle.std.specs.List.{flat_map}
@@ -13,7 +13,7 @@ use Rattle.bits_core.specs.declared.shapes.ShapeFault.{ShapeFault}
 use Rattle.bits_core.specs.declared.shapes.ShapeFault.TheVariants.{Capacity, Modulus, Width, Batch}
 use Rattle.bits_core.specs.declared.traces.TraceFault.{TraceFault}
 use Rattle.bits_core.specs.declared.traces.TraceFault.TheVariants.{BadShape, BadLine, TooLong, OutOfMemory}
-use Rattle.bits_core.specs.Shape.{IsRefused, batch_of, belongs, capacity_of, modulus_of, width_of}
+use Rattle.bits_core.specs.Shape.{IsRefusedBatch, batch_of, belongs, capacity_of, modulus_of, width_of}
 use Rattle.bits_core.specs.TraceText.{event_line, shape_line, trace_text}
 use Rattle.bits_core.specs.TraceReading.{event_at, shape_at}
 use Rattle.bits_core.specs.Trace.{AreOfShape, BeginsWithShape, GoesOn, HasNoEvent, HasBadLine, HasBadShape, HasShapeLine, IsTooLong, IsTrace, IsTraceFault}
@@ -40,73 +40,74 @@ same_shape s t c m w b = λ i. record {
 }
 
 -- the numbers of a shape are not refused, and others for one cause
-not_refused : (s : Shape) (fault : ShapeFault) → ¬ IsRefused (capacity_of s) (modulus_of s) (width_of s) fault
+not_refused : (s : Shape) (fault : ShapeFault) → ¬ IsRefusedBatch (capacity_of s) (modulus_of s) (width_of s) (batch_of s) fault
 not_refused s Capacity refused = refused (s.has_cells, s.few_cells)
-not_refused s Modulus refused = refused.1 (omega (arith, s.room_to_count, s.has_batch), s.small_modulus)
-not_refused s Width refused = refused.2 (s.has_digits, s.few_digits)
-not_refused s Batch refused = refused
+not_refused s Batch refused = refused.1 (s.has_batch, s.small_batch)
+not_refused s Modulus refused = refused.2 (s.room_to_count, s.small_modulus)
+not_refused s Width refused = refused.3 (s.has_digits, s.few_digits)
 
-one_refusal : (c m w : ℕ) (f g : ShapeFault) → IsRefused c m w f → IsRefused c m w g → f ≡ g
-one_refusal c m w Capacity Capacity a b = refl
-one_refusal c m w Capacity Modulus a b = absurd (a b.0)
-one_refusal c m w Capacity Width a b = absurd (a b.0)
-one_refusal c m w Modulus Capacity a b = absurd (b a.0)
-one_refusal c m w Modulus Modulus a b = refl
-one_refusal c m w Modulus Width a b = absurd (a.1 b.1)
-one_refusal c m w Width Capacity a b = absurd (b a.0)
-one_refusal c m w Width Modulus a b = absurd (b.1 a.1)
-one_refusal c m w Width Width a b = refl
-one_refusal c m w Capacity Batch a b = absurd b
-one_refusal c m w Modulus Batch a b = absurd b
-one_refusal c m w Width Batch a b = absurd b
-one_refusal c m w Batch g a b = absurd a
+one_refusal : (c m w g : ℕ) (e f : ShapeFault) → IsRefusedBatch c m w g e → IsRefusedBatch c m w g f → e ≡ f
+one_refusal c m w g Capacity Capacity a b = refl
+one_refusal c m w g Capacity Batch a b = absurd (a b.0)
+one_refusal c m w g Capacity Modulus a b = absurd (a b.0)
+one_refusal c m w g Capacity Width a b = absurd (a b.0)
+one_refusal c m w g Batch Capacity a b = absurd (b a.0)
+one_refusal c m w g Batch Batch a b = refl
+one_refusal c m w g Batch Modulus a b = absurd (a.1 b.1)
+one_refusal c m w g Batch Width a b = absurd (a.1 b.1)
+one_refusal c m w g Modulus Capacity a b = absurd (b a.0)
+one_refusal c m w g Modulus Batch a b = absurd (b.1 a.1)
+one_refusal c m w g Modulus Modulus a b = refl
+one_refusal c m w g Modulus Width a b = absurd (a.2 b.2)
+one_refusal c m w g Width Capacity a b = absurd (b a.0)
+one_refusal c m w g Width Batch a b = absurd (b.1 a.1)
+one_refusal c m w g Width Modulus a b = absurd (b.2 a.2)
+one_refusal c m w g Width Width a b = refl
 
 -- ---- the first line
 
-numbers_of : ℕ → ℕ → ℕ → Numbers
-numbers_of c m w = record { capacity = c; modulus = m; width = w }
-
 -- two lines of numbers at the front of the same bytes
-pub record SameLine (c m w c' m' w' : ℕ) (rest rest' : List ℕ) : Type 0 where
+pub record SameLine (c m w g c' m' w' g' : ℕ) (rest rest' : List ℕ) : Type 0 where
   pub capacity : c ≡ c'
   pub modulus : m ≡ m'
   pub width : w ≡ w'
+  pub batch : g ≡ g'
   pub others : rest ≡ rest'
 
-same_line : (c m w c' m' w' : ℕ) (rest rest' bytes : List ℕ) → c < 10000 → m < 10000 → w < 10000 → c' < 10000 → m' < 10000 → w' < 10000
-    → bytes ≡ shape_line c m w ++ rest → bytes ≡ shape_line c' m' w' ++ rest' → SameLine c m w c' m' w' rest rest'
-same_line c m w c' m' w' rest rest' bytes l1 l2 l3 k1 k2 k3 e e' =
-    let p : Numbers × List ℕ = (record { capacity = c; modulus = m; width = w }, rest) in
-    let q : Numbers × List ℕ = (record { capacity = c'; modulus = m'; width = w' }, rest') in
-    let same : p ≡ q = same_Some p q (sym (shape_at-again c m w rest l1 l2 l3) ∙ ap shape_at (sym e ∙ e') ∙ shape_at-again c' m' w' rest' k1 k2 k3) in
+lines_agree : (bytes : List ℕ) (c m w g c' m' w' g' : ℕ) (a : HasShapeLine bytes c m w g) (b : HasShapeLine bytes c' m' w' g') → SameLine c m w g c' m' w' g' a.rest b.rest
+lines_agree bytes c m w g c' m' w' g' a b =
+    let p : Numbers × List ℕ = (record { capacity = c; modulus = m; width = w; batch = g }, a.rest) in
+    let q : Numbers × List ℕ = (record { capacity = c'; modulus = m'; width = w'; batch = g' }, b.rest) in
+    let read_a : shape_at bytes ≡ Some p = ap shape_at a.text ∙ shape_at-again c m w g a.rest a.short_capacity a.short_modulus a.short_width a.short_batch in
+    let read_b : shape_at bytes ≡ Some q = ap shape_at b.text ∙ shape_at-again c' m' w' g' b.rest b.short_capacity b.short_modulus b.short_width b.short_batch in
+    let same : p ≡ q = same_Some p q (sym read_a ∙ read_b) in
     record {
       capacity = ap (λ (x : Numbers × List ℕ). x.0.capacity) same;
       modulus = ap (λ (x : Numbers × List ℕ). x.0.modulus) same;
       width = ap (λ (x : Numbers × List ℕ). x.0.width) same;
+      batch = ap (λ (x : Numbers × List ℕ). x.0.batch) same;
       others = ap (λ (x : Numbers × List ℕ). x.1) same;
     }
 
--- the line of a shape is one of three short numbers
-shape_has_line : (bytes : List ℕ) (s : Shape) (rest : List ℕ) → BeginsWithShape bytes s rest → HasShapeLine bytes (capacity_of s) (modulus_of s) (width_of s)
+-- the line of a shape is one of short numbers
+shape_has_line : (bytes : List ℕ) (s : Shape) (rest : List ℕ) → BeginsWithShape bytes s rest → HasShapeLine bytes (capacity_of s) (modulus_of s) (width_of s) (batch_of s)
 shape_has_line bytes s rest begins = record {
   rest = rest;
   text = begins;
   short_capacity = omega (arith, s.few_cells);
   short_modulus = omega (arith, s.small_modulus);
   short_width = omega (arith, s.few_digits);
+  short_batch = omega (arith, s.few_cells, s.small_batch);
 }
-
-lines_agree : (bytes : List ℕ) (c m w c' m' w' : ℕ) (a : HasShapeLine bytes c m w) (b : HasShapeLine bytes c' m' w') → SameLine c m w c' m' w' a.rest b.rest
-lines_agree bytes c m w c' m' w' a b =
-    same_line c m w c' m' w' a.rest b.rest bytes a.short_capacity a.short_modulus a.short_width b.short_capacity b.short_modulus b.short_width a.text b.text
 
 shape_not_bad : (bytes : List ℕ) (s : Shape) (rest : List ℕ) (fault : ShapeFault) → BeginsWithShape bytes s rest → ¬ HasBadShape bytes fault
 unfolding shape_has_line
 shape_not_bad bytes s rest fault begins bad =
-    let same = lines_agree bytes bad.capacity bad.modulus bad.width (capacity_of s) (modulus_of s) (width_of s) bad.line (shape_has_line bytes s rest begins) in
-    let r1 = subst (λ (n : ℕ). IsRefused n bad.modulus bad.width fault) same.capacity bad.refused in
-    let r2 = subst (λ (n : ℕ). IsRefused (capacity_of s) n bad.width fault) same.modulus r1 in
-    not_refused s fault (subst (λ (n : ℕ). IsRefused (capacity_of s) (modulus_of s) n fault) same.width r2)
+    let same = lines_agree bytes bad.capacity bad.modulus bad.width bad.batch (capacity_of s) (modulus_of s) (width_of s) (batch_of s) bad.line (shape_has_line bytes s rest begins) in
+    let r1 = subst (λ (n : ℕ). IsRefusedBatch n bad.modulus bad.width bad.batch fault) same.capacity bad.refused in
+    let r2 = subst (λ (n : ℕ). IsRefusedBatch (capacity_of s) n bad.width bad.batch fault) same.modulus r1 in
+    let r3 = subst (λ (n : ℕ). IsRefusedBatch (capacity_of s) (modulus_of s) n bad.batch fault) same.width r2 in
+    not_refused s fault (subst (λ (n : ℕ). IsRefusedBatch (capacity_of s) (modulus_of s) (width_of s) n fault) same.batch r3)
 
 -- ---- the lines of events
 
@@ -143,22 +144,21 @@ compared s t (x ∷ es) (y ∷ fs) rest rest' of_s of_t e =
     ]
 
 -- the whole texts
-text_parts : (s : Shape) (es : List Event) (rest : List ℕ) → trace_text s es ++ rest ≡ shape_line (capacity_of s) (modulus_of s) (width_of s) ++ (lines es ++ rest)
-text_parts s es rest = append_assoc (shape_line (capacity_of s) (modulus_of s) (width_of s)) (lines es) rest
+text_parts : (s : Shape) (es : List Event) (rest : List ℕ) → trace_text s es ++ rest ≡ shape_line (capacity_of s) (modulus_of s) (width_of s) (batch_of s) ++ (lines es ++ rest)
+text_parts s es rest = append_assoc (shape_line (capacity_of s) (modulus_of s) (width_of s) (batch_of s)) (lines es) rest
 
 text_begins : (bytes : List ℕ) (s : Shape) (es : List Event) (rest : List ℕ) → bytes ≡ trace_text s es ++ rest → BeginsWithShape bytes s (lines es ++ rest)
 text_begins bytes s es rest e = e ∙ text_parts s es rest
 
 record Read (bytes : List ℕ) (s : Shape) (es : List Event) (rest : List ℕ) : Type 0 where
   pub text : bytes ≡ trace_text s es ++ rest
-  pub single : batch_of s ≡ 1
   pub each : EachOf s es
 
 Read-from : (bytes : List ℕ) (s : Shape) (es : List Event) (rest : List ℕ) → GoesOn bytes s es rest → Read bytes s es rest
-Read-from bytes s es rest g = record { text = g.text; single = g.single; each = EachOf-from s es g.of_shape }
+Read-from bytes s es rest g = record { text = g.text; each = EachOf-from s es g.of_shape }
 
 Read-whole : (bytes : List ℕ) (s : Shape) (es : List Event) → IsTrace bytes s es → Read bytes s es []
-Read-whole bytes s es trace = record { text = trace.text ∙ sym (append-nil (trace_text s es)); single = trace.single; each = EachOf-from s es trace.of_shape }
+Read-whole bytes s es trace = record { text = trace.text ∙ sym (append-nil (trace_text s es)); each = EachOf-from s es trace.of_shape }
 
 -- two readings of a front of the same bytes
 record Agree (s t : Shape) (es fs : List Event) (rest rest' : List ℕ) : Type 0 where
@@ -170,9 +170,9 @@ unfolding shape_has_line
 agree bytes s t es fs rest rest' a b =
     let begins_a = text_begins bytes s es rest a.text in
     let begins_b = text_begins bytes t fs rest' b.text in
-    let same = lines_agree bytes (capacity_of s) (modulus_of s) (width_of s) (capacity_of t) (modulus_of t) (width_of t)
+    let same = lines_agree bytes (capacity_of s) (modulus_of s) (width_of s) (batch_of s) (capacity_of t) (modulus_of t) (width_of t) (batch_of t)
     (shape_has_line bytes s (lines es ++ rest) begins_a) (shape_has_line bytes t (lines fs ++ rest') begins_b) in
-    record { shape = same_shape s t same.capacity same.modulus same.width (a.single ∙ sym b.single); events = compared s t es fs rest rest' a.each b.each same.others }
+    record { shape = same_shape s t same.capacity same.modulus same.width same.batch; events = compared s t es fs rest rest' a.each b.each same.others }
 
 some_line : (e : Event) (rest : List ℕ) → event_line e ++ rest ≢ []
 some_line e rest is = omega (arith, line_takes e rest, ap length is)
@@ -255,15 +255,16 @@ too_long_no_trace bytes t fs a b =
     more_is_left (x ∷ more) e none = omega arith
 
 -- the line of the shape that a fault further on comes after
-line_before : (bytes : List ℕ) (s : Shape) (es : List Event) (rest : List ℕ) → GoesOn bytes s es rest → HasShapeLine bytes (capacity_of s) (modulus_of s) (width_of s)
+line_before : (bytes : List ℕ) (s : Shape) (es : List Event) (rest : List ℕ) → GoesOn bytes s es rest → HasShapeLine bytes (capacity_of s) (modulus_of s) (width_of s) (batch_of s)
 line_before bytes s es rest g = shape_has_line bytes s (lines es ++ rest) (text_begins bytes s es rest g.text)
 
 bad_shape_once : (bytes : List ℕ) (f g : ShapeFault) → HasBadShape bytes f → HasBadShape bytes g → f ≡ g
 bad_shape_once bytes f g a b =
-    let same = lines_agree bytes a.capacity a.modulus a.width b.capacity b.modulus b.width a.line b.line in
-    let r1 = subst (λ (n : ℕ). IsRefused n a.modulus a.width f) same.capacity a.refused in
-    let r2 = subst (λ (n : ℕ). IsRefused b.capacity n a.width f) same.modulus r1 in
-    one_refusal b.capacity b.modulus b.width f g (subst (λ (n : ℕ). IsRefused b.capacity b.modulus n f) same.width r2) b.refused
+    let same = lines_agree bytes a.capacity a.modulus a.width a.batch b.capacity b.modulus b.width b.batch a.line b.line in
+    let r1 = subst (λ (n : ℕ). IsRefusedBatch n a.modulus a.width a.batch f) same.capacity a.refused in
+    let r2 = subst (λ (n : ℕ). IsRefusedBatch b.capacity n a.width a.batch f) same.modulus r1 in
+    let r3 = subst (λ (n : ℕ). IsRefusedBatch b.capacity b.modulus n a.batch f) same.width r2 in
+    one_refusal b.capacity b.modulus b.width b.batch f g (subst (λ (n : ℕ). IsRefusedBatch b.capacity b.modulus b.width n f) same.batch r3) b.refused
 
 bad_shape_stops : (bytes : List ℕ) (f : ShapeFault) (s : Shape) (es : List Event) (rest : List ℕ) → HasBadShape bytes f → ¬ GoesOn bytes s es rest
 bad_shape_stops bytes f s es rest a g = shape_not_bad bytes s (lines es ++ rest) f (text_begins bytes s es rest g.text) a
@@ -271,7 +272,7 @@ bad_shape_stops bytes f s es rest a g = shape_not_bad bytes s (lines es ++ rest)
 -- bytes with a fault are no trace
 pub faulty_is_no_trace : (bytes : List ℕ) (fault : TraceFault) (s : Shape) (es : List Event) → IsTraceFault bytes fault → ¬ IsTrace bytes s es
 faulty_is_no_trace bytes (BadShape f) s es fault trace = shape_not_bad bytes s (lines es) f trace.text fault
-faulty_is_no_trace bytes (BadLine n) s es (inl none) trace = none.1 (capacity_of s) (modulus_of s) (width_of s) (shape_has_line bytes s (lines es) trace.text)
+faulty_is_no_trace bytes (BadLine n) s es (inl none) trace = none.1 (capacity_of s) (modulus_of s) (width_of s) (batch_of s) (shape_has_line bytes s (lines es) trace.text)
 faulty_is_no_trace bytes (BadLine n) s es (inr bad) trace = bad_line_no_trace bytes n s es bad trace
 faulty_is_no_trace bytes TooLong s es fault trace = too_long_no_trace bytes s es fault trace
 faulty_is_no_trace bytes OutOfMemory s es fault trace = fault
@@ -279,21 +280,21 @@ faulty_is_no_trace bytes OutOfMemory s es fault trace = fault
 -- bytes have one fault
 pub one_fault : (bytes : List ℕ) (f g : TraceFault) → IsTraceFault bytes f → IsTraceFault bytes g → f ≡ g
 one_fault bytes (BadShape f) (BadShape g) a b = ap BadShape (bad_shape_once bytes f g a b)
-one_fault bytes (BadShape f) (BadLine n) a (inl none) = absurd (none.1 a.capacity a.modulus a.width a.line)
+one_fault bytes (BadShape f) (BadLine n) a (inl none) = absurd (none.1 a.capacity a.modulus a.width a.batch a.line)
 one_fault bytes (BadShape f) (BadLine n) a (inr bad) = absurd (bad_shape_stops bytes f bad.shape bad.events bad.rest a bad.goes_on)
 one_fault bytes (BadShape f) TooLong a b = absurd (bad_shape_stops bytes f b.shape b.events b.rest a b.goes_on)
 one_fault bytes (BadShape f) OutOfMemory a b = absurd b
-one_fault bytes (BadLine n) (BadShape g) (inl none) b = absurd (none.1 b.capacity b.modulus b.width b.line)
+one_fault bytes (BadLine n) (BadShape g) (inl none) b = absurd (none.1 b.capacity b.modulus b.width b.batch b.line)
 one_fault bytes (BadLine n) (BadShape g) (inr bad) b = absurd (bad_shape_stops bytes g bad.shape bad.events bad.rest b bad.goes_on)
 one_fault bytes (BadLine n) (BadLine m) (inl none) (inl other) = ap BadLine (none.0 ∙ sym other.0)
-one_fault bytes (BadLine n) (BadLine m) (inl none) (inr bad) = absurd (none.1 _ _ _ (line_before bytes bad.shape bad.events bad.rest bad.goes_on))
-one_fault bytes (BadLine n) (BadLine m) (inr bad) (inl none) = absurd (none.1 _ _ _ (line_before bytes bad.shape bad.events bad.rest bad.goes_on))
+one_fault bytes (BadLine n) (BadLine m) (inl none) (inr bad) = absurd (none.1 _ _ _ _ (line_before bytes bad.shape bad.events bad.rest bad.goes_on))
+one_fault bytes (BadLine n) (BadLine m) (inr bad) (inl none) = absurd (none.1 _ _ _ _ (line_before bytes bad.shape bad.events bad.rest bad.goes_on))
 one_fault bytes (BadLine n) (BadLine m) (inr bad) (inr other) = ap BadLine (bad_line_once bytes n m bad other)
-one_fault bytes (BadLine n) TooLong (inl none) b = absurd (none.1 _ _ _ (line_before bytes b.shape b.events b.rest b.goes_on))
+one_fault bytes (BadLine n) TooLong (inl none) b = absurd (none.1 _ _ _ _ (line_before bytes b.shape b.events b.rest b.goes_on))
 one_fault bytes (BadLine n) TooLong (inr bad) b = absurd (bad_line_not_long bytes n bad b)
 one_fault bytes (BadLine n) OutOfMemory a b = absurd b
 one_fault bytes TooLong (BadShape g) a b = absurd (bad_shape_stops bytes g a.shape a.events a.rest b a.goes_on)
-one_fault bytes TooLong (BadLine m) a (inl none) = absurd (none.1 _ _ _ (line_before bytes a.shape a.events a.rest a.goes_on))
+one_fault bytes TooLong (BadLine m) a (inl none) = absurd (none.1 _ _ _ _ (line_before bytes a.shape a.events a.rest a.goes_on))
 one_fault bytes TooLong (BadLine m) a (inr bad) = absurd (bad_line_not_long bytes m bad a)
 one_fault bytes TooLong TooLong a b = refl
 one_fault bytes TooLong OutOfMemory a b = absurd b

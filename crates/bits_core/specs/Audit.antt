@@ -1,5 +1,5 @@
 -- What an audit of the bits says.
-use Rattle.std.specs.Prelude.{◌≡◌, ℕ, ◌<◌, Some, List, slice_get}
+use Rattle.std.specs.Prelude.{◌≡◌, ℕ, ◌<◌, Some, List, codes, slice_get}
 use Rattle.bits_core.specs.declared.events.Event.{Event}
 use Rattle.bits_core.specs.declared.audits.Kind.{Kind}
 use Rattle.bits_core.specs.declared.audits.Kind.TheVariants.{WrongSide, OutOfTurn, NotPermitted, NotProgram}
@@ -9,6 +9,13 @@ use Rattle.bits_core.specs.declared.shapes.Shape.{Shape}
 use Rattle.bits_core.specs.Shape.{IsByRightSide}
 use Rattle.bits_core.specs.Steps.{IsInTurn, IsPermitted}
 use Rattle.bits_core.specs.Lawful.{TakesTurn, AnswersSafely, IsLawfulEvent, IsLawful}
+
+-- the words of each kind
+abbrev pub kind_words : Kind → List ℕ
+kind_words WrongSide = codes "wrong side"
+kind_words OutOfTurn = codes "out of turn"
+kind_words NotPermitted = codes "not permitted"
+kind_words NotProgram = codes "not of the program"
 
 -- the number of each kind
 abbrev pub kind_number : Kind → ℕ

@@ -1,13 +1,14 @@
 -- The laws that the layers above stand on.
-use Rattle.std.specs.Prelude.{◌≡◌, ℕ, ◌*◌, ◌<◌, ◌≤◌, ◌⊎◌, ◌↔◌, ◌||◌, Bool, true, Some, List, [], ◌∷◌, ◌++◌, length, take, slice_get, if◌then◌else◌, is_some, unwrap_or}
+use Rattle.std.specs.Prelude.{◌≡◌, ℕ, suc, ◌*◌, ◌<◌, ◌≤◌, ◌⊎◌, ◌↔◌, ◌||◌, Bool, true, Some, List, [], ◌∷◌, ◌++◌, length, take, slice_get, if◌then◌else◌, is_some, unwrap_or}
 use Rattle.bits_core.specs.declared.events.Side.{Side}
 use Rattle.bits_core.specs.declared.events.Bit.{Bit}
 use Rattle.bits_core.specs.declared.events.Access.{Access}
 use Rattle.bits_core.specs.declared.events.Event.{Event}
+use Rattle.bits_core.specs.declared.audits.Kind.{Kind}
 use Rattle.bits_core.specs.declared.audits.Verdict.{Verdict}
 use Rattle.bits_core.specs.declared.shapes.Shape.{Shape}
 use Rattle.bits_core.specs.declared.traces.TraceFault.{TraceFault}
-use Rattle.bits_core.specs.Audit.{IsVerdict}
+use Rattle.bits_core.specs.Audit.{IsFirstFault, IsVerdict}
 use Rattle.bits_core.specs.Trace.{IsTrace, IsTraceFault}
 use Rattle.bits_core.specs.Bits.{writer, is_by, begun_by, write_of}
 use Rattle.bits_core.specs.History.{open_access, open_write, held, held_at_begin, is_overlapped}
@@ -59,6 +60,10 @@ OverlapChanges = (s : Side) (b : Bit) (h : List Event) (e : Event) → is_overla
 abbrev pub OneVerdict : Type 0
 OneVerdict = (shape : Shape) (h : List Event) (v w : Verdict) → IsVerdict shape h v → IsVerdict shape h w → v ≡ w
 
+-- the events before the first fault are lawful, and with it they are not
+abbrev pub FaultBreaks : Type 0
+FaultBreaks = (shape : Shape) (h : List Event) (place : ℕ) (kind : Kind) → IsFirstFault shape h place kind → IsLawful shape (take place h) × (IsLawful shape (take (suc place) h) → ⊥)
+
 -- whether a write of a bit overlaps an access is decidable
 abbrev pub OverlapIsDecidable : Type 0
 OverlapIsDecidable = (h : List Event) (b : Bit) (start stop : ℕ) → HasOverlap h b start stop ⊎ ¬ HasOverlap h b start stop
@@ -70,6 +75,10 @@ OneReading = (bytes : List ℕ) (s t : Shape) (es fs : List Event) → IsTrace b
 -- bytes with a fault are no trace
 abbrev pub FaultyIsNoTrace : Type 0
 FaultyIsNoTrace = (bytes : List ℕ) (fault : TraceFault) (shape : Shape) (events : List Event) → IsTraceFault bytes fault → ¬ IsTrace bytes shape events
+
+-- bytes are a trace or have a fault
+abbrev pub TraceOrFault : Type 0
+TraceOrFault = (bytes : List ℕ) → ((shape : Shape) × (events : List Event) × IsTrace bytes shape events) ⊎ ((fault : TraceFault) × IsTraceFault bytes fault)
 
 -- and they have one fault
 abbrev pub OneFault : Type 0

@@ -1,5 +1,5 @@
 -- Which numbers make a shape, and which bits a shape has.
-use Rattle.std.specs.Prelude.{◌≡◌, ℕ, ◌+◌, ◌<◌, ◌≤◌, Bool, true, ◌&&◌, nat_lt}
+use Rattle.std.specs.Prelude.{◌≡◌, ℕ, ◌+◌, ◌^◌, ◌<◌, ◌≤◌, Bool, true, ◌&&◌, nat_lt, List, [], ◌∷◌}
 use Rattle.bits_core.specs.declared.shapes.Shape.{Shape}
 use Rattle.bits_core.specs.declared.shapes.ShapeFault.{ShapeFault}
 use Rattle.bits_core.specs.declared.shapes.ShapeFault.TheVariants.{Capacity, Modulus, Width, Batch}
@@ -79,6 +79,11 @@ belongs shape (S i) = nat_lt i (modulus_of shape)
 belongs shape (R i) = nat_lt i (modulus_of shape)
 belongs shape X = true
 belongs shape (Cell j i) = nat_lt j (capacity_of shape) && nat_lt i (width_of shape)
+
+-- a cell can hold each of these items
+abbrev pub AllFit : Shape → List ℕ → Type 0
+AllFit shape [] = Unit {0}
+AllFit shape (item ∷ items) = (item < 2 ^ width_of shape) × AllFit shape items
 
 -- the bit is in the shape, and the event's side may do this to it
 pub record IsByRightSide (shape : Shape) (e : Event) : Type 0 where

@@ -6,7 +6,7 @@ use Rattle.bits_core.specs.declared.shapes.Shape.{Shape}
 use Rattle.bits_core.specs.declared.shapes.ShapeFault.{ShapeFault}
 use Rattle.bits_core.specs.declared.traces.TraceFault.{TraceFault}
 use Rattle.bits_core.specs.declared.traces.TraceFault.TheVariants.{BadShape, BadLine, TooLong, OutOfMemory}
-use Rattle.bits_core.specs.Shape.{IsRefused, batch_of, belongs, capacity_of, modulus_of, width_of}
+use Rattle.bits_core.specs.Shape.{IsRefusedBatch, batch_of, belongs, capacity_of, modulus_of, width_of}
 use Rattle.bits_core.specs.TraceText.{event_line, shape_line, trace_text}
 
 -- the number of each fault
@@ -20,33 +20,33 @@ trace_fault_number OutOfMemory = 4
 abbrev pub AreOfShape : Shape → List Event → Type 0
 AreOfShape shape events = All (λ e. belongs shape e.bit ≡ true) events
 
--- the bytes are the text of the shape, whose count writes count one item each, and of the events, which are of the shape and no
--- more than a trace may have
+-- the bytes are the text of the shape and of the events, which are of the shape and no more than a trace may have
 pub record IsTrace (bytes : List ℕ) (shape : Shape) (events : List Event) : Type 0 where
   pub text : bytes ≡ trace_text shape events
-  pub single : batch_of shape ≡ 1
   pub of_shape : AreOfShape shape events
   pub within : length events ≤ EVENT_LIMIT
 
--- the bytes begin with a line of three numbers of at most four digits
-pub record HasShapeLine (bytes : List ℕ) (capacity modulus width : ℕ) : Type 0 where
+-- the bytes begin with a line of three numbers, or of four where the last is not 1, of at most four digits each
+pub record HasShapeLine (bytes : List ℕ) (capacity modulus width batch : ℕ) : Type 0 where
   pub rest : List ℕ
-  pub text : bytes ≡ shape_line capacity modulus width ++ rest
+  pub text : bytes ≡ shape_line capacity modulus width batch ++ rest
   pub short_capacity : capacity < 10000
   pub short_modulus : modulus < 10000
   pub short_width : width < 10000
+  pub short_batch : batch < 10000
 
--- line 1 has three numbers that are refused as a shape
+-- line 1 has numbers that are refused as a shape
 pub record HasBadShape (bytes : List ℕ) (fault : ShapeFault) : Type 0 where
   pub capacity : ℕ
   pub modulus : ℕ
   pub width : ℕ
-  pub line : HasShapeLine bytes capacity modulus width
-  pub refused : IsRefused capacity modulus width fault
+  pub batch : ℕ
+  pub line : HasShapeLine bytes capacity modulus width batch
+  pub refused : IsRefusedBatch capacity modulus width batch fault
 
 -- the bytes begin with the line of the shape
 abbrev pub BeginsWithShape : List ℕ → Shape → List ℕ → Type 0
-BeginsWithShape bytes shape rest = bytes ≡ shape_line (capacity_of shape) (modulus_of shape) (width_of shape) ++ rest
+BeginsWithShape bytes shape rest = bytes ≡ shape_line (capacity_of shape) (modulus_of shape) (width_of shape) (batch_of shape) ++ rest
 
 -- the bytes begin with the line of an event of the shape
 abbrev pub BeginsWithEvent : Shape → List ℕ → Event → List ℕ → Type 0
@@ -59,7 +59,6 @@ HasNoEvent shape bytes = (e : Event) (rest : List ℕ) → ¬ BeginsWithEvent sh
 -- the bytes are the text of a shape and of events of it, and then something more
 pub record GoesOn (bytes : List ℕ) (shape : Shape) (events : List Event) (rest : List ℕ) : Type 0 where
   pub text : bytes ≡ trace_text shape events ++ rest
-  pub single : batch_of shape ≡ 1
   pub of_shape : AreOfShape shape events
   pub more : rest ≢ []
 
@@ -84,6 +83,6 @@ pub record HasBadLine (bytes : List ℕ) (line : ℕ) : Type 0 where
 -- the first fault of the bytes, line by line; there is none for want of memory
 abbrev pub IsTraceFault : List ℕ → TraceFault → Type 0
 IsTraceFault bytes (BadShape fault) = HasBadShape bytes fault
-IsTraceFault bytes (BadLine line) = ((line ≡ 1) × ((capacity modulus width : ℕ) → ¬ HasShapeLine bytes capacity modulus width)) ⊎ HasBadLine bytes line
+IsTraceFault bytes (BadLine line) = ((line ≡ 1) × ((capacity modulus width batch : ℕ) → ¬ HasShapeLine bytes capacity modulus width batch)) ⊎ HasBadLine bytes line
 IsTraceFault bytes TooLong = IsTooLong bytes
 IsTraceFault bytes OutOfMemory = ⊥

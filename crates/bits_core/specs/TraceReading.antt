@@ -87,7 +87,15 @@ event_at bytes = do
   rest ← after (codes "\n") act.1
   Some (record { side = side.0; bit = bit.0; act = act.0 }, rest)
 
--- the three numbers of line 1
+-- the batch of line 1 and its end: 1 where the line ends, else a number other than 1 after a space
+unfoldable pub batch_at : List ℕ → Option (ℕ × List ℕ)
+batch_at bytes = or_else (named 1 (codes "\n") bytes) (do
+  number ← after (codes " ") bytes
+  batch ← number_at number
+  rest ← after (codes "\n") batch.1
+  if batch.0 == 1 then None else Some (batch.0, rest))
+
+-- the numbers of line 1
 unfoldable pub shape_at : List ℕ → Option (Numbers × List ℕ)
 shape_at bytes = do
   first ← after (codes "shape ") bytes
@@ -96,5 +104,5 @@ shape_at bytes = do
   modulus ← number_at second
   third ← after (codes " ") modulus.1
   width ← number_at third
-  rest ← after (codes "\n") width.1
-  Some (record { capacity = capacity.0; modulus = modulus.0; width = width.0 }, rest)
+  batch ← batch_at width.1
+  Some (record { capacity = capacity.0; modulus = modulus.0; width = width.0; batch = batch.0 }, batch.1)

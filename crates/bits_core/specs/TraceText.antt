@@ -1,5 +1,5 @@
 -- The text of a trace: a line of the shape, and a line for each event.
-use Rattle.std.specs.Prelude.{ℕ, Bool, true, false, List, [], ◌++◌, codes, decimal}
+use Rattle.std.specs.Prelude.{ℕ, ◌==◌, if◌then◌else◌, Bool, true, false, List, [], ◌++◌, codes, decimal}
 use Rattle.std.specs.List.{flat_map}
 use Rattle.bits_core.specs.declared.events.Side.{Side}
 use Rattle.bits_core.specs.declared.events.Side.TheVariants.{P, C}
@@ -9,7 +9,7 @@ use Rattle.bits_core.specs.declared.events.Act.{Act}
 use Rattle.bits_core.specs.declared.events.Act.TheVariants.{ReadBegin, ReadEnd, WriteBegin, WriteEnd}
 use Rattle.bits_core.specs.declared.events.Event.{Event}
 use Rattle.bits_core.specs.declared.shapes.Shape.{Shape}
-use Rattle.bits_core.specs.Shape.{capacity_of, modulus_of, width_of}
+use Rattle.bits_core.specs.Shape.{batch_of, capacity_of, modulus_of, width_of}
 
 -- the side, as a line begins with it
 abbrev pub side_text : Side → List ℕ
@@ -45,10 +45,15 @@ value_text WriteEnd = []
 abbrev pub event_line : Event → List ℕ
 event_line e = side_text e.side ++ (act_text e.act ++ (bit_text e.bit ++ (value_text e.act ++ codes "\n")))
 
--- the line of a shape, as `shape 1 3 1` and a line feed
-abbrev pub shape_line : ℕ → ℕ → ℕ → List ℕ
-shape_line capacity modulus width = codes "shape " ++ (decimal capacity ++ (codes " " ++ (decimal modulus ++ (codes " " ++ (decimal width ++ codes "\n")))))
+-- a batch after a space, where it is not 1
+unfoldable pub batch_text : ℕ → List ℕ
+batch_text batch = if batch == 1 then [] else (codes " " ++ decimal batch)
+
+-- the line of a shape, as `shape 1 3 1` with a batch of 1 or `shape 3 7 1 3` with a batch of 3, and a line feed
+abbrev pub shape_line : ℕ → ℕ → ℕ → ℕ → List ℕ
+shape_line capacity modulus width batch =
+    codes "shape " ++ (decimal capacity ++ (codes " " ++ (decimal modulus ++ (codes " " ++ (decimal width ++ (batch_text batch ++ codes "\n"))))))
 
 -- the whole text
 abbrev pub trace_text : Shape → List Event → List ℕ
-trace_text shape events = shape_line (capacity_of shape) (modulus_of shape) (width_of shape) ++ flat_map event_line events
+trace_text shape events = shape_line (capacity_of shape) (modulus_of shape) (width_of shape) (batch_of shape) ++ flat_map event_line events

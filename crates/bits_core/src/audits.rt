@@ -12,6 +12,7 @@ ghost use Rattle.bits_core.specs.Marks.{AreMarks, IsInTable};
 use crate::events::{Access, Act, Bit, Event, Side};
 use crate::marks::Marks;
 use crate::shapes::Shape;
+use std::fmt;
 
 /// What is wrong with an event. Where more than one kind applies, the first is told.
 #[derive(Clone, Copy, PartialEq, Eq, Debug)]
@@ -40,6 +41,23 @@ impl Kind {
             Kind::NotPermitted => 3,
             Kind::NotProgram => 4,
         }
+    }
+}
+
+impl fmt::Display for Kind {
+    ghost use Rattle.std.specs.Prelude.{Some};
+    ghost use Rattle.bits_core.specs.Audit.{kind_words};
+
+    ghost output = { λ k. Some (kind_words k) };
+
+    /// The words of the kind.
+    fn fmt<W: fmt::Write>(&self, f: &mut fmt::Formatter<W>) -> fmt::Result {
+        f.write_str(match self {
+            Kind::WrongSide => "wrong side",
+            Kind::OutOfTurn => "out of turn",
+            Kind::NotPermitted => "not permitted",
+            Kind::NotProgram => "not of the program",
+        })
     }
 }
 

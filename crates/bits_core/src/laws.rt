@@ -1,6 +1,6 @@
 //! The laws of histories and of trace text that the layers above stand on, each the contract of a
 //! function that does nothing.
-ghost use Rattle.bits_core.specs.Laws.{AccessIsMade, BeginningIsLawful, ClockCountsPlaces, EmptyIsLawful, FaultyIsNoTrace, FlickerIsByInterval, HeldAtBeginChanges, HeldChanges, HeldIsByInterval, LawfulByOneMore, MadeIsAccess, OneFault, OneReading, OneVerdict, OpenChanges, OpenIsByInterval, OpenWriteChanges, OverlapChanges, OverlapIsByInterval, OverlapIsDecidable, OwnChanges, OwnHasOnePlace, OwnHasPlace};
+ghost use Rattle.bits_core.specs.Laws.{AccessIsMade, BeginningIsLawful, ClockCountsPlaces, EmptyIsLawful, FaultBreaks, FaultyIsNoTrace, FlickerIsByInterval, HeldAtBeginChanges, HeldChanges, HeldIsByInterval, LawfulByOneMore, MadeIsAccess, OneFault, OneReading, OneVerdict, OpenChanges, OpenIsByInterval, OpenWriteChanges, OverlapChanges, OverlapIsByInterval, OverlapIsDecidable, OwnChanges, OwnHasOnePlace, OwnHasPlace, TraceOrFault};
 
 /// The history with no event is lawful.
 pub fn empty_is_lawful()
@@ -67,9 +67,19 @@ pub fn one_verdict()
     ensures { OneVerdict }
 {}
 
+/// The events before the first fault of a history are lawful, and with it they are not.
+pub fn fault_breaks()
+    ensures { FaultBreaks }
+{}
+
 /// A text is that of one shape and one list of events.
 pub fn one_reading()
     ensures { OneReading }
+{}
+
+/// Bytes are a trace or have a fault.
+pub fn trace_or_fault()
+    ensures { TraceOrFault }
 {}
 
 /// Bytes with a fault are no trace.

@@ -19,6 +19,3 @@ pub use oracles::{Always, Flip, Oracle, Tape};
 pub use shapes::{Shape, ShapeFault};
 pub use traces::{EVENT_LIMIT, TraceFault, read_trace};
 pub use writing::write_trace;
-
-#[cfg(test)]
-mod tests;

@@ -1,10 +1,10 @@
 //! A memory of safe bits.
-ghost use Rattle.std.specs.Prelude.{◌≡◌, ℕ, ◌+◌, Bool, true, false, if◌then◌else◌, OnOk, OnErr, IfOk, IfSome, IsSome, None, unwrap_or};
+ghost use Rattle.std.specs.Prelude.{◌≡◌, ◌↔◌, ℕ, ◌+◌, Bool, true, false, if◌then◌else◌, OnOk, OnErr, IfOk, IfSome, IsSome, None, length, unwrap_or};
 ghost use Rattle.bits_core.specs.Bits.{reader, writer};
 ghost use Rattle.bits_core.specs.Shape.{belongs};
 ghost use Rattle.bits_core.specs.History.{open_access, is_overlapped, held_at_begin};
 ghost use Rattle.bits_core.specs.Lawful.{IsLawful};
-ghost use Rattle.bits_core.specs.Memory.{ends_read, flicker_count, held_for_read, is_read_overlapped, open_bit, unused, with_answer, with_event};
+ghost use Rattle.bits_core.specs.Memory.{EndsOverlappedRead, ends_read, flicker_count, held_for_read, is_read_overlapped, open_bit, unused, with_answer, with_event};
 ghost use Rattle.bits_core.specs.Open.{IsOpenRight, IsReading, IsWriting};
 ghost use Rattle.bits_core.specs.Steps.{MayFollow};
 ghost use Rattle.bits_core.specs.Trace.{AreOfShape};
@@ -14,6 +14,7 @@ use crate::marks::Marks;
 use crate::oracles::Oracle;
 use crate::shapes::Shape;
 use std::alloc::{AllocError, AllocFailed, Allocator};
+use std::fmt;
 use std::marker::Model;
 use thiserror::Error;
 
@@ -63,15 +64,27 @@ pub struct Memory<A: Allocator> {
 }
 
 impl<A: Allocator> Model for Memory<A> {
+    ghost use Rattle.bits_core.specs.Marks.{AreMarks};
     ghost use Rattle.bits_core.specs.Memory.{Recorded, IsRecord};
 
     ghost Value = { Recorded };
 
     ghost view = { λ m. record { shape = m.shape; events = m.events.items; flickers = m.flickers } };
 
-    ghost use Rattle.bits_core.specs.Marks.{AreMarks};
-
     ghost invariant = { λ m. IsRecord m.shape m.events.items m.flickers × AreMarks m.shape m.events.items m.marks };
+}
+
+impl<A: Allocator> fmt::Debug for Memory<A> {
+    /// The shape, the history and the number of flickers.
+    fn fmt<W: fmt::Write>(&self, f: &mut fmt::Formatter<W>) -> fmt::Result {
+        let shape = self.shape;
+        let events = self.events.as_slice();
+        let flickers = self.flickers;
+        write!(
+            f,
+            "Memory {{ shape: {shape:?}, events: {events:?}, flickers: {flickers} }}"
+        )
+    }
 }
 
 impl<A: Allocator> Memory<A> {
@@ -199,6 +212,8 @@ impl<A: Allocator> Memory<A> {
         ensures answer { IfOk result (λ v. v ≡ (if is_read_overlapped side self.old.events then O.answers oracle.old 0 else held_for_read side self.old.events)) }
         ensures asked { OnOk result (is_read_overlapped side self.old.events ≡ true → (i : ℕ) → O.answers oracle.new i ≡ O.answers oracle.old (i + 1)) }
         ensures not_asked { is_read_overlapped side self.old.events ≡ false → oracle.new ≡ oracle.old }
+        // It was overlapped where the read that ends here is, by the intervals of the history.
+        ensures overlap { OnOk result ((is_read_overlapped side self.old.events ≡ true) ↔ EndsOverlappedRead self.new.events (length self.old.events)) }
         ensures err { OnErr result ((self.new ≡ self.old) × (oracle.new ≡ oracle.old)) }
     {
         match self.pending(side) {

@@ -43,6 +43,13 @@ impl Flip {
     }
 }
 
+impl Default for Flip {
+    /// Gives 0 first, as [`Flip::new`].
+    fn default() -> Flip {
+        Flip::new()
+    }
+}
+
 impl Oracle for Flip {
     ghost use Rattle.bits_core.specs.Oracle.{flip_answer};
 

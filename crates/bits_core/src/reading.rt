@@ -1,6 +1,6 @@
 //! The parts of a trace's lines, each read from the front of the bytes.
 ghost use Rattle.std.specs.Prelude.{◌≡◌, ℕ, ◌<◌, List, Some, None, Option, option_map};
-ghost use Rattle.bits_core.specs.TraceReading.{act_at, after, bit_at, cell_at, digit_at, digits_after, event_at, index_at, number_at, shape_at, side_at, word_at};
+ghost use Rattle.bits_core.specs.TraceReading.{act_at, after, batch_at, bit_at, cell_at, digit_at, digits_after, event_at, index_at, number_at, shape_at, side_at, word_at};
 
 use crate::events::{Act, Bit, Event, Side};
 
@@ -13,12 +13,13 @@ pub enum Word {
     Wrote,
 }
 
-/// The three numbers of a trace's first line.
+/// The numbers of a trace's first line; the batch is 1 where it names none.
 #[derive(Clone, Copy)]
 pub struct Numbers {
     pub capacity: u64,
     pub modulus: u64,
     pub width: u64,
+    pub batch: u64,
 }
 
 // The bytes after a text that stands at the front.
@@ -170,6 +171,24 @@ pub fn event_at(bytes: &[u8]) -> Option<(Event, &[u8])>
     Some((Event { side, bit, act }, rest))
 }
 
+// The batch and the end of the first line: 1 where the line ends, else a number other than 1.
+#[tactic(auto, unfolding(crate::specs::TraceReading::batch_at))]
+fn batch_at(bytes: &[u8]) -> Option<(u64, &[u8])>
+    ensures { option_map (λ x. (x.0, x.1.now)) result ≡ batch_at bytes.now }
+{
+    if let Some(rest) = after(bytes, "\n") {
+        return Some((1, rest));
+    }
+    let rest = after(bytes, " ")?;
+    let (batch, rest) = number_at(rest)?;
+    let rest = after(rest, "\n")?;
+    if batch == 1 {
+        None
+    } else {
+        Some((batch, rest))
+    }
+}
+
 /// The numbers of the first line, and the bytes after it.
 #[tactic(auto, unfolding(crate::specs::TraceReading::shape_at))]
 pub fn shape_at(bytes: &[u8]) -> Option<(Numbers, &[u8])>
@@ -181,11 +200,12 @@ pub fn shape_at(bytes: &[u8]) -> Option<(Numbers, &[u8])>
     let (modulus, rest) = number_at(rest)?;
     let rest = after(rest, " ")?;
     let (width, rest) = number_at(rest)?;
-    let rest = after(rest, "\n")?;
+    let (batch, rest) = batch_at(rest)?;
     let numbers = Numbers {
         capacity,
         modulus,
         width,
+        batch,
     };
     Some((numbers, rest))
 }

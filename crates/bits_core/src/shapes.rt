@@ -1,5 +1,5 @@
 //! The shape of a ring: how many cells, the modulus of its counts, and the width of an item.
-ghost use Rattle.std.specs.Prelude.{◌≡◌, ℕ, ◌+◌, ◌^◌, ◌<◌, ◌≤◌, ◌↔◌, IsTrue, MatchResult};
+ghost use Rattle.std.specs.Prelude.{◌≡◌, ℕ, ◌+◌, ◌^◌, ◌<◌, ◌≤◌, ◌↔◌, All, IsTrue, MatchResult};
 
 use crate::events::Bit;
 use thiserror::Error;
@@ -55,7 +55,7 @@ pub struct Shape {
 }
 
 impl Shape {
-    ghost use Rattle.bits_core.specs.Shape.{HasNumbers, HasBatch, IsRefused, IsRefusedBatch, batch_of, belongs, capacity_of, modulus_of, width_of};
+    ghost use Rattle.bits_core.specs.Shape.{AllFit, HasNumbers, HasBatch, IsRefused, IsRefusedBatch, batch_of, belongs, capacity_of, modulus_of, width_of};
 
     /// The shape of these numbers, whose count writes count one item each: a capacity from 1 to 64, a modulus from
     /// the capacity + 2 to 256, and a width from 1 to 64. Else the first of the three that is out of its range, in
@@ -138,6 +138,19 @@ impl Shape {
         ensures { IsTrue result ↔ (item < 2 ^ width_of self.now) }
     {
         self.width == 64 || item >> self.width == 0
+    }
+
+    /// Whether a cell can hold each of the items. There may be none.
+    pub fn fits_all(&self, items: &[u64]) -> bool
+        ensures { IsTrue result ↔ AllFit self.now items.now }
+    {
+        self.each_fits(items)
+    }
+
+    fn each_fits(&self, items: &[u64]) -> bool
+        ensures { IsTrue result ↔ All (λ item. item < 2 ^ width_of self.now) items.now }
+    {
+        items.iter().all(|&item| self.fits(item))
     }
 
     /// Whether the bit is one of the shape's: `S(i)` and `R(i)` for `i` below the modulus, `X`, and

@@ -2,7 +2,6 @@
 ghost use Rattle.std.specs.Prelude.{◌≡◌, ◌⊎◌, List, IfOk, IfErr, MatchOption, MatchResult};
 ghost use Rattle.bits_core.specs.declared.events.Event.{Event};
 ghost use Rattle.bits_core.specs.declared.shapes.Shape.{Shape};
-ghost use Rattle.bits_core.specs.Shape.{batch_of};
 ghost use Rattle.bits_core.specs.Trace.{BeginsWithEvent, BeginsWithShape, HasNoEvent, IsTrace, IsTraceFault};
 
 use crate::events::Event;
@@ -71,13 +70,17 @@ impl<T: Drop> From<AllocFailed<T>> for TraceFault {
 // The shape of the first line, and the bytes after the line.
 fn read_shape(bytes: &[u8]) -> Result<(Shape, &[u8]), TraceFault>
     ensures read { IfOk result (λ x. BeginsWithShape bytes.now x.0 x.1.now) }
-    ensures single { IfOk result (λ x. batch_of x.0 ≡ 1) }
     ensures refused { IfErr result (IsTraceFault bytes.now) }
 {
     let Some((numbers, rest)) = shape_at(bytes) else {
         return Err(TraceFault::BadLine(1));
     };
-    match Shape::new(numbers.capacity, numbers.modulus, numbers.width) {
+    match Shape::with_batch(
+        numbers.capacity,
+        numbers.modulus,
+        numbers.width,
+        numbers.batch,
+    ) {
         Ok(shape) => Ok((shape, rest)),
         Err(fault) => Err(TraceFault::BadShape(fault)),
     }

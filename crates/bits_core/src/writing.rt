@@ -1,9 +1,9 @@
 //! Writing the text of a trace.
-ghost use Rattle.std.specs.Prelude.{◌≡◌, ◌≤◌, ◌++◌, OnOk, IfOk, IfErr, decimal, length, string_bytes};
+ghost use Rattle.std.specs.Prelude.{◌≡◌, ◌≤◌, ◌++◌, OnOk, IfOk, IfErr, codes, decimal, length, string_bytes};
 ghost use Rattle.std.specs.List.{flat_map};
 ghost use Rattle.bits_core.specs.Shape.{batch_of, capacity_of, modulus_of, width_of};
 ghost use Rattle.bits_core.specs.Trace.{AreOfShape, IsTrace};
-ghost use Rattle.bits_core.specs.TraceText.{act_text, bit_text, event_line, shape_line, side_text, trace_text, value_text};
+ghost use Rattle.bits_core.specs.TraceText.{act_text, batch_text, bit_text, event_line, shape_line, side_text, trace_text, value_text};
 
 use crate::events::{Act, Bit, Event, Side};
 use crate::shapes::Shape;
@@ -89,8 +89,30 @@ fn push_event<A: Allocator>(text: &mut String<A>, event: Event) -> Result<(), Tr
     Ok(text.push_str("\n")?)
 }
 
+// A batch after a space, where it is not 1.
+#[tactic(auto, unfolding(crate::specs::TraceText::batch_text))]
+fn push_batch<A: Allocator>(text: &mut String<A>, batch: u64) -> Result<(), TraceFault>
+    ensures ok { OnOk result (string_bytes text.new ≡ string_bytes text.old ++ batch_text batch) }
+    ensures err { IfErr result (λ e. e ≡ TraceFault.OutOfMemory) }
+{
+    if batch == 1 {
+        return Ok(());
+    }
+    text.push_str(" ")?;
+    push_number(text, batch)
+}
+
+// A batch, and the end of the line.
+fn push_last<A: Allocator>(text: &mut String<A>, batch: u64) -> Result<(), TraceFault>
+    ensures ok { OnOk result (string_bytes text.new ≡ string_bytes text.old ++ (batch_text batch ++ codes "\n")) }
+    ensures err { IfErr result (λ e. e ≡ TraceFault.OutOfMemory) }
+{
+    push_batch(text, batch)?;
+    Ok(text.push_str("\n")?)
+}
+
 fn push_shape<A: Allocator>(text: &mut String<A>, shape: &Shape) -> Result<(), TraceFault>
-    ensures ok { OnOk result (string_bytes text.new ≡ string_bytes text.old ++ shape_line (capacity_of shape.now) (modulus_of shape.now) (width_of shape.now)) }
+    ensures ok { OnOk result (string_bytes text.new ≡ string_bytes text.old ++ shape_line (capacity_of shape.now) (modulus_of shape.now) (width_of shape.now) (batch_of shape.now)) }
     ensures err { IfErr result (λ e. e ≡ TraceFault.OutOfMemory) }
 {
     text.push_str("shape ")?;
@@ -99,11 +121,11 @@ fn push_shape<A: Allocator>(text: &mut String<A>, shape: &Shape) -> Result<(), T
     push_number(text, shape.modulus())?;
     text.push_str(" ")?;
     push_number(text, shape.width())?;
-    Ok(text.push_str("\n")?)
+    push_last(text, shape.batch())
 }
 
 /// The text of a trace: the line of the shape, and the line of each event, whose bits are all of
-/// the shape (`Shape::has`), which has batch 1.
+/// the shape (`Shape::has`).
 ///
 /// The only fault is `OutOfMemory`. A text of at most `EVENT_LIMIT` events is read again as this
 /// shape and these events, and the text that is written for what was read is the text that was read.
@@ -113,7 +135,6 @@ pub fn write_trace<A: Allocator>(
     events: &[Event],
 ) -> Result<String<A>, TraceFault>
     requires of_shape { AreOfShape shape.now events.now }
-    requires single { batch_of shape.now ≡ 1 }
     ensures text { IfOk result (λ text. string_bytes text ≡ trace_text shape.now events.now) }
     ensures again { IfOk result (λ text. length events.now ≤ EVENT_LIMIT → IsTrace (string_bytes text) shape.now events.now) }
     ensures memory { IfErr result (λ e. e ≡ TraceFault.OutOfMemory) }

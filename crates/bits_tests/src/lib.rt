@@ -1,5 +1,7 @@
-//! Tests of `bits_core` with an allocator that refuses.
+//! Tests of `bits_core`: shapes, faults, oracles, and the memory with an allocator that refuses.
 #![tactic(auto)]
 
 #[cfg(test)]
-mod tests;
+mod memories;
+#[cfg(test)]
+mod shapes;

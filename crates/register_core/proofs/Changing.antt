@@ -2,7 +2,7 @@
 use Rattle.std.proofs.Common.{◌≡◌, ℕ, zero, suc, ◌≤◌, Bool, not, List, [], ◌∷◌, ◌++◌, take, slice_get, Some, refl, sym, ap, arith, ◌∙◌, ◌⊎◌, inl, inr}
 use Rattle.register_core.specs.Row.{RowWrite, first_bits, bits_with, bits_after}
 use Rattle.register_core.specs.Unary.{unary_phrase, unary_writes, row_writes}
-use Rattle.register_core.specs.UnaryMoments.{bits_at, Answered, SafelyAnswered}
+use Rattle.register_core.proofs.WriterMoments.{bits_at, Answered, SafelyAnswered}
 use Rattle.register_core.proofs.Rows.{same_bit}
 use Rattle.register_core.proofs.Phrase.{Run, phrase-run}
 use Rattle.register_core.proofs.Moments.{is_or_not}

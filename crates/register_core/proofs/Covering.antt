@@ -1,7 +1,7 @@
 -- A scan, read by read: what each answer says of the unary writes.
 use Rattle.std.proofs.Common.{◌≡◌, ℕ, zero, suc, ◌+◌, ◌-◌, ◌<◌, ◌≤◌, Bool, true, false, not, List, sym, ap, subst, arith, zero-le, le_trans, ◌∙◌, ◌⊎◌, inl, inr}
 use Rattle.std.proofs.lemmas.Bool.{cases_lt}
-use Rattle.register_core.specs.UnaryMoments.{Windows}
+use Rattle.register_core.proofs.WriterMoments.{Windows}
 use Rattle.register_core.specs.Unary.{UnaryWrite, numbered_value, ended, begun}
 use Rattle.register_core.proofs.Moments.{differs, is_or_not, Chain, bits_of, Chain-changes, Chain-rest, begun-mono, ended-begun}
 
@@ -172,9 +172,9 @@ module _ (us : List UnaryWrite) (bits : ℕ → Bool) (v : ℕ) (chain : Chain v
 
   pub above_scan :
       (from till : ℕ → ℕ) (c : ℕ) → Windows c from till → ((i : ℕ) → i < c → Reads from till i false) →
-      Reads from till c false → (n : ℕ) × (c < numbered_value v us n)
+      Reads from till c false → (n : ℕ) × (n ≤ begun us (till c)) × (c < numbered_value v us n)
   above_scan from till c windows below r =
       let last = covers_next (ended us (from 0)) c (from c) (till c) (till c) (till c)
       (covers_to from till c windows below c (omega arith))
       (windows.in_order c (omega arith)) (omega arith) (omega arith) r.0 r.1 r.2 r.3 in
-      (last.number, last.reaches)
+      (last.number, last.has_begun, last.reaches)

@@ -18,6 +18,7 @@ pub mod Moments
 pub mod Changing
 pub mod Covering
 pub mod UnaryMoments
+pub mod WriterMoments
 pub mod Counts
 pub mod UnaryLaw
 pub mod MadeWrites

@@ -1,8 +1,8 @@
 -- A word read that no word write of its cell overlaps gives the item last written.
-use Rattle.std.proofs.Common.{◌≡◌, ℕ, zero, suc, ◌+◌, ◌-◌, ◌*◌, ◌/◌, ◌^◌, ◌<◌, ◌≤◌, All, List, length, take, Some, slice_get, slice_index_or, refl, sym, ap, arith, ◌∙◌, ◌⊎◌, inl, inr, length-append, take_all, suc-mul, mul-le-mul_right, le_of_mul-le-mul_right, div-mul-le_self, mod-lt, div-add-mod'}
+use Rattle.std.proofs.Common.{◌≡◌, ℕ, zero, suc, ◌+◌, ◌-◌, ◌*◌, ◌/◌, ◌^◌, ◌<◌, ◌≤◌, All, Bool, false, List, length, take, Some, slice_get, slice_index_or, refl, sym, ap, subst, arith, ◌∙◌, ◌⊎◌, inl, inr, length-append, take_all, suc-mul, mul-le-mul_right, le_of_mul-le-mul_right, div-mul-le_self, mod-lt, div-add-mod'}
 use Rattle.std.proofs.lemmas.Bool.{cases_lt}
 use Rattle.std.proofs.lemmas.List.{take-append-le}
-use Rattle.std.proofs.lemmas.Option.{slice_get_within, slice_get-get_or}
+use Rattle.std.proofs.lemmas.Option.{same_Some, slice_get_within, slice_get-get_or}
 use Rattle.bits_core.specs.declared.events.Side.TheVariants.{P, C}
 use Rattle.bits_core.specs.declared.events.Bit.TheVariants.{Cell}
 use Rattle.bits_core.specs.declared.events.Act.TheVariants.{ReadEnd}
@@ -16,7 +16,7 @@ use Rattle.bits_core.specs.Lawful.{IsLawful}
 use Rattle.bits_core.specs.Laws.{HeldIsByInterval}
 use Rattle.register_core.specs.Row.{bits_after}
 use Rattle.register_core.specs.Word.{digit, word_writes}
-use Rattle.register_core.specs.WordLaw.{cell_write, cell_writes, WritesWords, IsDigitWrite, IsWordWrite, IsWordRead, IsLastWord, NoWordEnded, WordIsSafe}
+use Rattle.register_core.specs.WordLaw.{cell_write, cell_writes, WritesWords, IsDigitWrite, IsWordWrite, DigitsAreSafe, IsLastWord, IsReadEnd, NoWordEnded, ReadsDigits, WordIsSafe}
 use Rattle.register_core.proofs.Numbers.{IsNumbered, begun, ended, begun_at, begun_rises, begun_least, numbered, ended_le, ended_more, ended_le_begun, take-ended, has_ended, ended_rises}
 use Rattle.register_core.proofs.Writes.{by_writer, begins_before}
 use Rattle.register_core.proofs.Items.{digit_of_zero, same_item, length-word_writes, take-word_writes, words_left}
@@ -75,54 +75,60 @@ module _ (shape : Shape) (h : List Event) (lawful : IsLawful shape h) (width j :
         }
       ]
 
-module _ (law : HeldIsByInterval) (shape : Shape) (h : List Event) (lawful : IsLawful shape h) (width j : ℕ) (wide : 0 < width) (items : List ℕ) (fit : All (λ v. v < 2 ^ width) items) (writes : WritesWords width j h items) (start stop : ℕ → ℕ) (item : ℕ) (read : IsWordRead width j h start stop item) (quiet : (n start' stop' : ℕ) → IsWordWrite width j h n start' stop' → ¬ Overlap (start 0) (stop (width - 1)) start' stop') where
+module _ (law : HeldIsByInterval) (shape : Shape) (h : List Event) (lawful : IsLawful shape h) (width j : ℕ) (wide : 0 < width) (items : List ℕ) (fit : All (λ v. v < 2 ^ width) items) (writes : WritesWords width j h items) (count : ℕ) (some_read : 0 < count) (few_read : count ≤ width) (start stop : ℕ → ℕ) (answer : ℕ → Bool) (read : ReadsDigits j h count start stop answer) (place : ℕ) (read_end : IsReadEnd width h count stop place) (quiet : (n start' stop' : ℕ) → IsWordWrite width j h n start' stop' → ¬ Overlap (start 0) place start' stop') where
   -- how many digit writes had ended where the word read began, and how many had begun where it ended
   abbrev had_ended : ℕ
   had_ended = ended (cell_write j) P h (start 0)
 
   abbrev had_begun : ℕ
-  had_begun = begun (cell_write j) h (stop (width - 1))
+  had_begun = begun (cell_write j) h place
 
   -- each read begins before it ends, within the history
-  within : (i : ℕ) → i < width → (start i < stop i) × (start i < length h) × (stop i < length h)
+  within : (i : ℕ) → i < count → (start i < stop i) × (start i < length h) × (stop i < length h)
   within i l =
       let r = read.each i l in (
         omega (arith, r.access.ends),
         slice_get_within h (start i) r.access.event r.access.at_start,
-        slice_get_within h (stop i) (record { side = C; bit = Cell j i; act = ReadEnd (digit i item) }) r.ends,
+        slice_get_within h (stop i) (record { side = C; bit = Cell j i; act = ReadEnd (answer i) }) r.ends,
       )
 
   -- places go up from the first read to the last
-  start_rises : (i : ℕ) → i < width → start 0 ≤ start i
+  start_rises : (i : ℕ) → i < count → start 0 ≤ start i
   start_rises zero l = omega arith
   start_rises (suc i) l = let r = within i (omega arith) in omega (arith, start_rises i (omega arith), read.in_turn i l, r.0)
 
-  stop_rises : (i d : ℕ) → i + d < width → stop i ≤ stop (i + d)
+  stop_rises : (i d : ℕ) → i + d < count → stop i ≤ stop (i + d)
   stop_rises i zero l = let z : i + 0 ≡ i = omega arith in rw z (omega arith)
   stop_rises i (suc d) l =
       let z : i + suc d ≡ suc (i + d) = omega arith in
       let r = within (suc (i + d)) (omega arith) in
       rw z (omega (arith, stop_rises i d (omega arith), read.in_turn (i + d) (omega arith), r.0))
 
-  stop_below : (i : ℕ) → i < width → stop i ≤ stop (width - 1)
+  stop_below : (i : ℕ) → i < count → stop i ≤ place
   stop_below i l =
-      let z : i + (width - 1 - i) ≡ width - 1 = omega arith in
-      rw z at (stop_rises i (width - 1 - i) (omega arith))
+      let z : i + (count - 1 - i) ≡ count - 1 = omega arith in
+      let to_last : stop i ≤ stop (count - 1) = rw z at (stop_rises i (count - 1 - i) (omega arith)) in
+      elim read_end [
+        | inl whole ↦
+            let last : count - 1 ≡ width - 1 = omega (arith, whole.0) in
+            omega (arith, to_last, ap stop last, whole.1)
+        | inr cut ↦ let r = within i l in omega (arith, r.2, cut.1)
+      ]
 
   ended_le_had_begun : had_ended ≤ had_begun
   ended_le_had_begun =
-      let r = within 0 wide in
-      omega (arith, ended_le_begun (cell_write j) P h (start 0), begun_rises (cell_write j) h (start 0) (stop (width - 1)) (omega (arith, r.0, stop_below 0 wide)))
+      let r = within 0 some_read in
+      omega (arith, ended_le_begun (cell_write j) P h (start 0), begun_rises (cell_write j) h (start 0) place (omega (arith, r.0, stop_below 0 some_read)))
 
   start_within : start 0 ≤ length h
-  start_within = let r = within 0 wide in omega (arith, r.1)
+  start_within = let r = within 0 some_read in omega (arith, r.1)
 
   -- no digit write had begun beyond the words that had ended
   begun_le : (n : ℕ) → had_ended < n * width + width → had_begun ≤ n * width
   begun_le n few = elim (cases_lt (n * width) had_begun) [
     | inr l ↦ l
     | inl l ↦
-        let w = word_write_begun shape h lawful width j (stop (width - 1)) n l in
+        let w = word_write_begun shape h lawful width j place n l in
         absurd (quiet n w.start w.stop w.word (
           λ m. absurd (omega (arith, w.before)),
           λ m. absurd (omega (arith, word_write_ended shape h lawful width j n w.start w.stop (start 0) w.word m start_within)),
@@ -137,45 +143,45 @@ module _ (law : HeldIsByInterval) (shape : Shape) (h : List Event) (lawful : IsL
   module _ (n : ℕ) (all_ended : had_ended ≡ n * width) (all_begun : had_begun ≡ n * width) where
     -- so many items were written
     fits : n ≤ length items
-    fits = le_of_mul-le-mul_right (omega (arith, writes_le, begun_least (cell_write j) h (stop (width - 1)))) wide
+    fits = le_of_mul-le-mul_right (omega (arith, writes_le, begun_least (cell_write j) h place)) wide
 
     -- the same holds at each digit read
-    ended_there : (i : ℕ) → i < width → (ended (cell_write j) P h (start i) ≡ n * width) × (begun (cell_write j) h (stop i) ≤ n * width)
+    ended_there : (i : ℕ) → i < count → (ended (cell_write j) P h (start i) ≡ n * width) × (begun (cell_write j) h (stop i) ≤ n * width)
     ended_there i l =
         let r = within i l in
         let a = ended_rises (cell_write j) P h (start 0) (start i) (start_rises i l) (omega (arith, r.1)) in
         let b = ended_le_begun (cell_write j) P h (start i) in
         let c = begun_rises (cell_write j) h (start i) (stop i) (omega (arith, r.0)) in
-        let d = begun_rises (cell_write j) h (stop i) (stop (width - 1)) (stop_below i l) in
+        let d = begun_rises (cell_write j) h (stop i) place (stop_below i l) in
         (omega arith, omega arith)
 
-    none_overlaps : (i : ℕ) → i < width → ¬ HasOverlap h (Cell j i) (start i) (stop i)
+    none_overlaps : (i : ℕ) → i < count → ¬ HasOverlap h (Cell j i) (start i) (stop i)
     none_overlaps i l o =
         let r = ended_there i l in
-        let before : o.start' < stop i = begins_before h C (Cell j i) (start i) (stop i) (digit i item) (read.each i l) P (Write (Cell j i) o.value) o.start' o.stop' o.write o.overlap.0 in
+        let before : o.start' < stop i = begins_before h C (Cell j i) (start i) (stop i) (answer i) (read.each i l) P (Write (Cell j i) o.value) o.start' o.stop' o.write o.overlap.0 in
         let old = ended_le (cell_write j) P h o.start' (start i) (elim (cases_lt o.stop' (start i)) [ inl m ↦ absurd (o.overlap.1 m) | inr m ↦ omega (arith, o.write.ends) ]) in
         let at = begun_at (cell_write j) h o.start' o.write.event (record { bit = i; value = o.value }) o.write.at_start (cell_write-to j i o.value o.write.event o.write.begins) in
         omega (arith, r.0, r.1, old, at.1, begun_rises (cell_write j) h (suc o.start') (stop i) (omega arith))
 
     -- what had ended where a digit read began is the first n words
-    first_words : (i : ℕ) → i < width → cell_writes j (before_last P (take (start i) h)) ≡ word_writes width (take n items)
+    first_words : (i : ℕ) → i < count → cell_writes j (before_last P (take (start i) h)) ≡ word_writes width (take n items)
     first_words i l =
         let r = ended_there i l in
         sym (take-ended (cell_write j) P h (start i))
         ∙ ap (λ k. take k (cell_writes j h)) r.0
-        ∙ sym (take-append-le (n * width) (cell_writes j h) writes.0 (omega (arith, begun_least (cell_write j) h (stop (width - 1)))))
+        ∙ sym (take-append-le (n * width) (cell_writes j h) writes.0 (omega (arith, begun_least (cell_write j) h place)))
         ∙ ap (take (n * width)) writes.1
         ∙ take-word_writes width items n fits
 
     -- so each answer is what they leave in the digit
-    digit_is : (i : ℕ) → i < width → digit i item ≡ bits_after clear_bits (word_writes width (take n items)) i
+    digit_is : (i : ℕ) → i < count → answer i ≡ bits_after clear_bits (word_writes width (take n items)) i
     digit_is i l =
         let r = read.each i l in
         let here = within i l in
-        elim ((lawful.each (stop i) (record { side = C; bit = Cell j i; act = ReadEnd (digit i item) }) r.ends).permitted (start i) r.access) [
+        elim ((lawful.each (stop i) (record { side = C; bit = Cell j i; act = ReadEnd (answer i) }) r.ends).permitted (start i) r.access) [
           | inl o ↦ absurd (none_overlaps i l o)
           | inr held ↦
-              (law shape h lawful (Cell j i) (start i) (omega (arith, here.1)) (digit i item)).0 held
+              (law shape h lawful (Cell j i) (start i) (omega (arith, here.1)) (answer i)).0 held
               ∙ held_digit j i (take (start i) h)
               ∙ ap (λ ws. bits_after clear_bits ws i) (first_words i l)
         ]
@@ -187,41 +193,66 @@ module _ (law : HeldIsByInterval) (shape : Shape) (h : List Event) (lawful : IsL
       | inr k ↦ absurd (omega (arith, word_write_ended shape h lawful width j m s t (start 0) w l start_within, mul-le-mul_right width k))
     ]
 
+  -- the digits are those of the item that was written last, or there is none
+  abbrev Told : Type 0
+  Told =
+      ((item : ℕ) × IsLastWord width j h items (start 0) item × ((i : ℕ) → i < count → answer i ≡ digit i item))
+      ⊎ (NoWordEnded width j h (start 0) × ((i : ℕ) → i < count → answer i ≡ false))
+
   -- the law, by how many words had ended
-  safe_by_words : (n : ℕ) → had_ended ≡ n * width → had_begun ≡ n * width → IsLastWord width j h items (start 0) item ⊎ (NoWordEnded width j h (start 0) × (item ≡ 0))
+  safe_by_words : (n : ℕ) → had_ended ≡ n * width → had_begun ≡ n * width → Told
   safe_by_words zero all_ended all_begun = inr (
     λ m s t w l. absurd (omega (arith, word_below zero all_ended all_begun m s t w l)),
-    same_item width item 0 read.fits (omega (arith, read.fits)) (λ i l. digit_is zero all_ended all_begun i l ∙ sym (digit_of_zero i)),
+    λ i l. digit_is zero all_ended all_begun i l,
   )
   safe_by_words (suc n) all_ended all_begun =
       let some : n < length items = omega (arith, fits (suc n) all_ended all_begun) in
-      let last : slice_get items n ≡ Some (slice_index_or items n 0) = slice_get-get_or items n 0 some in
-      let is : item ≡ slice_index_or items n 0 =
-      same_item width item (slice_index_or items n 0) read.fits (fit n 0 some)
-      (λ i l. digit_is (suc n) all_ended all_begun i l ∙ words_left width items n (slice_index_or items n 0) i clear_bits l last) in
+      let item : ℕ = slice_index_or items n 0 in
+      let last : slice_get items n ≡ Some item = slice_get-get_or items n 0 some in
       let first = has_ended (cell_write j) P h (start 0) (n * width) (omega (arith, suc-mul n width)) in
       let final = has_ended (cell_write j) P h (start 0) (n * width + (width - 1)) (omega (arith, suc-mul n width)) in
-      inl (record {
-        number = n;
-        start = first.numbered.place;
-        stop = end_of P h final.numbered.place;
-        write = record {
-          first_stop = end_of P h first.numbered.place;
-          first = digit_write shape h lawful width j (start 0) (n * width) first.numbered;
-          last = inl (final.numbered.place, digit_write shape h lawful width j (start 0) (n * width + (width - 1)) final.numbered);
-        };
-        ended = final.ended;
-        last = λ m s t w l. omega (arith, word_below (suc n) all_ended all_begun m s t w l);
-        writes = last ∙ ap (λ v. Some v) (sym is);
-      })
+      inl (
+        item,
+        record {
+          number = n;
+          start = first.numbered.place;
+          stop = end_of P h final.numbered.place;
+          write = record {
+            first_stop = end_of P h first.numbered.place;
+            first = digit_write shape h lawful width j (start 0) (n * width) first.numbered;
+            last = inl (final.numbered.place, digit_write shape h lawful width j (start 0) (n * width + (width - 1)) final.numbered);
+          };
+          ended = final.ended;
+          last = λ m s t w l. omega (arith, word_below (suc n) all_ended all_begun m s t w l);
+          writes = last;
+        },
+        λ i l. digit_is (suc n) all_ended all_begun i l ∙ words_left width items n item i clear_bits (omega (arith, l)) last,
+      )
 
-  pub safe_word : IsLastWord width j h items (start 0) item ⊎ (NoWordEnded width j h (start 0) × (item ≡ 0))
-  safe_word =
+  pub safe_digits : Told
+  safe_digits =
       let n : ℕ = had_ended / width in
       let low : n * width ≤ had_ended = div-mul-le_self had_ended width in
       let high : had_ended < n * width + width = omega (arith, mod-lt had_ended wide, div-add-mod' had_ended width) in
       let few : had_begun ≤ n * width = begun_le n high in
       safe_by_words n (omega (arith, ended_le_had_begun)) (omega (arith, ended_le_had_begun))
 
+pub digits-are_safe : HeldIsByInterval → DigitsAreSafe
+digits-are_safe law shape h lawful width j wide items fit writes count some_read few_read start stop answer read place read_end quiet =
+    safe_digits law shape h lawful width j wide items fit writes count some_read few_read start stop answer read place read_end quiet
+
+-- a word read that has ended is one of all digits, and its item is told by them
 pub word-is_safe : HeldIsByInterval → WordIsSafe
-word-is_safe law shape h lawful width j wide items fit writes start stop item read quiet = safe_word law shape h lawful width j wide items fit writes start stop item read quiet
+word-is_safe law shape h lawful width j wide items fit writes start stop item read quiet =
+    elim (digits-are_safe law shape h lawful width j wide items fit writes width wide (omega arith) start stop (λ i. digit i item)
+    (record { in_turn = read.in_turn; each = read.each }) (stop (width - 1)) (inl (refl, refl)) quiet) [
+      | inl r ↦
+          let is : item ≡ r.0 = same_item width item r.0 read.fits (last_fits items fit r.1.number r.0 r.1.writes) r.2 in
+          inl (subst (λ v. IsLastWord width j h items (start 0) v) (sym is) r.1)
+      | inr r ↦ inr (r.0, same_item width item 0 read.fits (omega (arith, read.fits)) (λ i l. r.1 i l ∙ sym (digit_of_zero i)))
+    ]
+  where
+    last_fits : (items : List ℕ) → All (λ v. v < 2 ^ width) items → (n v : ℕ) → slice_get items n ≡ Some v → v < 2 ^ width
+    last_fits items fit n v at =
+        let below : n < length items = slice_get_within items n v at in
+        subst (λ w. w < 2 ^ width) (same_Some (slice_index_or items n 0) v (sym (slice_get-get_or items n 0 below) ∙ at)) (fit n 0 below)

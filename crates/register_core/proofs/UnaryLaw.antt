@@ -14,7 +14,7 @@ use Rattle.bits_core.specs.Lawful.{IsLawful}
 use Rattle.bits_core.specs.Laws.{HeldIsByInterval}
 use Rattle.register_core.specs.Row.{RowWrite, row_bit, first_bits, bits_after}
 use Rattle.register_core.specs.Unary.{writes_of}
-use Rattle.register_core.specs.UnaryMoments.{Windows, Answered, SafelyAnswered, ScannedTo}
+use Rattle.register_core.proofs.WriterMoments.{Windows, Answered, SafelyAnswered, ScannedTo}
 use Rattle.register_core.specs.UnaryLaw.{count_write, count_begun, count_ended, WritesUnary, ReadsZeros, UnaryIsRegular, UnaryHasOne}
 use Rattle.register_core.proofs.Numbers.{begun, ended, begun_at, begun_rises, begun_least, ended_le, ended_le_begun, ended_rises, take-ended, slice_get-begin}
 use Rattle.register_core.proofs.Writes.{begins_before}
@@ -108,5 +108,5 @@ unary-is_regular law shape h lawful s values writes c start stop scan =
     record { number = r.number; not_overwritten = r.not_overwritten; has_begun = r.has_begun; has_value = r.has_value }
 
 pub unary-has_one : HeldIsByInterval → UnaryHasOne
-unary-has_one law shape h lawful s values writes last all start stop zeros final =
-    moments-have_one values last _ _ all (scanned law shape h lawful s values writes last start stop zeros false final) (last_answered law shape h lawful s values writes last start stop zeros false final)
+unary-has_one law shape h lawful s values writes last start stop within zeros final =
+    moments-have_one values last _ _ within (scanned law shape h lawful s values writes last start stop zeros false final) (last_answered law shape h lawful s values writes last start stop zeros false final)

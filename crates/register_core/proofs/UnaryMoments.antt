@@ -2,7 +2,8 @@
 use Rattle.std.proofs.Common.{ℕ, zero, suc, ◌≤◌, Bool, true, false, List, [], ◌∷◌, All, refl, ap, arith, suc-le-suc, ◌∙◌, take}
 use Rattle.register_core.specs.Row.{RowWrite, first_bits, bits_after}
 use Rattle.register_core.specs.Unary.{UnaryWrite, unary_phrase, unary_writes, writes_of, numbered, numbered_of, numbered_value}
-use Rattle.register_core.specs.UnaryMoments.{Answered, MomentsAreRegular, MomentsHaveOne, BitsAreRegular}
+use Rattle.register_core.specs.UnaryLaw.{NumberedStayWithin}
+use Rattle.register_core.proofs.WriterMoments.{Answered, MomentsAreRegular, MomentsHaveOne, BitsAreRegular}
 use Rattle.register_core.proofs.Phrase.{Shows}
 use Rattle.register_core.proofs.Moments.{Chain, numbered-chain, row_writes-numbered}
 use Rattle.register_core.proofs.Covering.{Reads, found_scan, above_scan}
@@ -53,11 +54,14 @@ value_le (w ∷ values) last bits all v fits n =
     (value_le values last (bits_after bits (unary_phrase bits w)) (λ k d h. all (suc k) d (suc-le-suc h))) n
 
 pub moments-have_one : MomentsHaveOne
-moments-have_one values last from till all scan answer =
-    let n = above_scan (numbered_of values) first_bits 0 (chain_of values) from till last scan.windows
+moments-have_one values last from till within scan answer =
+    let (n, has_begun, above) = above_scan (numbered_of values) first_bits 0 (chain_of values) from till last scan.windows
     (λ i h. read_of values from till i false (scan.below i h)) (read_of values from till last false answer) in
-    let h = value_le values last first_bits all 0 (omega arith) n.0 in
-    omega (arith, n.1, h)
+    omega (arith, above, within n has_begun)
+
+-- the numbered writes have values of the list
+pub numbered-stay_within : NumberedStayWithin
+numbered-stay_within values bound all n = value_le values bound first_bits all 0 (omega arith) n
 
 pub bits-are_regular : BitsAreRegular
 bits-are_regular values from till i answer fits safe =

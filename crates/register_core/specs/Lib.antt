@@ -8,7 +8,6 @@ pub mod BitState
 pub mod ScanState
 pub mod Unary
 pub mod UnaryState
-pub mod UnaryMoments
 pub mod UnaryLaw
 pub mod MadeWrites
 pub mod MadeReads

@@ -75,11 +75,20 @@ UnaryIsRegular =
     (c : ℕ) (start stop : ℕ → ℕ) → IsScan s h c start stop →
     IsRegularValue s h values (start 0) (stop c) c
 
--- Where no value is above the last bit's number, a scan that read 0 in all bits below the last does not read 0 in it.
+-- no value of a numbered write that had begun before a place is above the bound
+abbrev pub BegunStayWithin : Side → List Event → List ℕ → ℕ → ℕ → Type 0
+BegunStayWithin s h values place bound = (n : ℕ) → n ≤ begun_before s h values place → numbered_value 0 (numbered_of values) n ≤ bound
+
+-- Where no value whose write has begun is above the last bit's number, a scan that read 0 in all bits below the last does not
+-- read 0 in it.
 abbrev pub UnaryHasOne : Type 0
 UnaryHasOne =
     (shape : Shape) (h : List Event) → IsLawful shape h →
     (s : Side) (values : List ℕ) → WritesUnary s h values →
-    (last : ℕ) → All (λ v. v ≤ last) values →
-    (start stop : ℕ → ℕ) → ReadsZeros s h last start stop →
+    (last : ℕ) (start stop : ℕ → ℕ) → BegunStayWithin s h values (stop last) last →
+    ReadsZeros s h last start stop →
     ¬ IsRead h (other s) (row_bit s last) (start last) (stop last) false
+
+-- where no value of the list is above a bound, no value of a numbered write is
+abbrev pub NumberedStayWithin : Type 0
+NumberedStayWithin = (values : List ℕ) (bound : ℕ) → All (λ v. v ≤ bound) values → (n : ℕ) → numbered_value 0 (numbered_of values) n ≤ bound

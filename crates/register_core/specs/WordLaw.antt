@@ -1,5 +1,5 @@
 -- The law of the safe word.
-use Rattle.std.specs.Prelude.{◌≡◌, ℕ, suc, ◌+◌, ◌-◌, ◌*◌, ◌^◌, ◌<◌, ◌≤◌, ◌⊎◌, Bool, cond, nat_eq, Option, Some, None, All, List, length, take, slice_get, filter_map}
+use Rattle.std.specs.Prelude.{◌≡◌, ℕ, suc, ◌+◌, ◌-◌, ◌*◌, ◌^◌, ◌<◌, ◌≤◌, ◌⊎◌, Bool, false, cond, nat_eq, Option, Some, None, All, List, length, take, slice_get, filter_map}
 use Rattle.bits_core.specs.declared.events.Side.TheVariants.{C}
 use Rattle.bits_core.specs.declared.events.Bit.{Bit}
 use Rattle.bits_core.specs.declared.events.Bit.TheVariants.{S, R, X, Cell}
@@ -53,6 +53,16 @@ pub record IsWordRead (width j : ℕ) (h : List Event) (start stop : ℕ → ℕ
   pub each : (i : ℕ) → i < width → IsRead h C (Cell j i) (start i) (stop i) (digit i item)
   pub fits : item < 2 ^ width
 
+-- reads of the first so many digits of the cell, one after the other, with their answers: a word read, or one that has not ended
+pub record ReadsDigits (j : ℕ) (h : List Event) (count : ℕ) (start stop : ℕ → ℕ) (answer : ℕ → Bool) : Type 0 where
+  pub in_turn : (i : ℕ) → suc i < count → stop i < start (suc i)
+  pub each : (i : ℕ) → i < count → IsRead h C (Cell j i) (start i) (stop i) (answer i)
+
+-- where a word read of which so many digits were read ends: where its last digit's read ends, or past the end of the history
+-- where that has not ended
+abbrev pub IsReadEnd : ℕ → List Event → ℕ → (ℕ → ℕ) → ℕ → Type 0
+IsReadEnd width h count stop place = ((count ≡ width) × (place ≡ stop (width - 1))) ⊎ ((count < width) × (place ≡ length h))
+
 -- the last word write of the cell that ended before a place writes the item
 pub record IsLastWord (width j : ℕ) (h : List Event) (items : List ℕ) (place item : ℕ) : Type 0 where
   pub number : ℕ
@@ -76,3 +86,15 @@ WordIsSafe =
     (start stop : ℕ → ℕ) (item : ℕ) → IsWordRead width j h start stop item →
     ((n start' stop' : ℕ) → IsWordWrite width j h n start' stop' → ¬ Overlap (start 0) (stop (width - 1)) start' stop') →
     IsLastWord width j h items (start 0) item ⊎ (NoWordEnded width j h (start 0) × (item ≡ 0))
+
+-- So do the digits that a word read has read so far, where it has not ended: no word write overlaps its interval, which runs
+-- past the end of the history.
+abbrev pub DigitsAreSafe : Type 0
+DigitsAreSafe =
+    (shape : Shape) (h : List Event) → IsLawful shape h →
+    (width j : ℕ) → 0 < width → (items : List ℕ) → All (λ v. v < 2 ^ width) items → WritesWords width j h items →
+    (count : ℕ) → 0 < count → count ≤ width → (start stop : ℕ → ℕ) (answer : ℕ → Bool) → ReadsDigits j h count start stop answer →
+    (place : ℕ) → IsReadEnd width h count stop place →
+    ((n start' stop' : ℕ) → IsWordWrite width j h n start' stop' → ¬ Overlap (start 0) place start' stop') →
+    ((item : ℕ) × IsLastWord width j h items (start 0) item × ((i : ℕ) → i < count → answer i ≡ digit i item))
+    ⊎ (NoWordEnded width j h (start 0) × ((i : ℕ) → i < count → answer i ≡ false))

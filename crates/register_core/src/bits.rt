@@ -7,7 +7,7 @@ use bits_core::{Access, Bit};
 use std::marker::Model;
 
 /// Writes values to a bit: one write where the value changes, and none where it does not. It remembers the bit.
-#[derive(Drop)]
+#[derive(Clone, Debug, Drop)]
 pub struct BitWriter {
     bit: Bit,
     held: bool,

@@ -2,9 +2,9 @@
 ghost use Rattle.register_core.specs.BitLaw.{BitIsRegular};
 ghost use Rattle.register_core.specs.MadeWrites.{CellWritesAreMade, CountWritesAreMade, BitWritesAreMade, WordsWrite, CountsWrite, PartsWrite, BitsWrite};
 ghost use Rattle.register_core.specs.MadeReads.{ScansAreMade, ZerosAreMade, WordReadsAreMade};
-ghost use Rattle.register_core.specs.UnaryLaw.{UnaryIsRegular, UnaryHasOne};
+ghost use Rattle.register_core.specs.UnaryLaw.{NumberedStayWithin, UnaryIsRegular, UnaryHasOne};
 ghost use Rattle.register_core.specs.Word.{DigitsTellItems};
-ghost use Rattle.register_core.specs.WordLaw.{WordIsSafe};
+ghost use Rattle.register_core.specs.WordLaw.{DigitsAreSafe, WordIsSafe};
 
 use bits_core::laws::{
     clock_counts_places, held_is_by_interval, made_is_access, own_has_one_place, own_has_place,
@@ -25,6 +25,14 @@ pub fn word_is_safe()
     held_is_by_interval();
 }
 
+/// The same of the digits that a word read has read so far, where no word write overlaps its interval, which runs past
+/// the end of the history while it has not ended.
+pub fn digits_are_safe()
+    ensures { DigitsAreSafe }
+{
+    held_is_by_interval();
+}
+
 /// Where the writes to a count are unary writes of any values one after the other, a scan of it gives the
 /// value of a write whose number lies from those that had ended where it began to those that had begun
 /// where it ended.
@@ -34,13 +42,18 @@ pub fn unary_is_regular()
     held_is_by_interval();
 }
 
-/// Where, moreover, no value is above the last bit's number, a scan that read 0 in all bits below the last
-/// does not read 0 in it.
+/// Where, moreover, no value whose write had begun where the scan ended is above the last bit's number, a scan
+/// that read 0 in all bits below the last does not read 0 in it.
 pub fn unary_has_one()
     ensures { UnaryHasOne }
 {
     held_is_by_interval();
 }
+
+/// Where no value of a list is above a bound, no value of a numbered write of the list is.
+pub fn numbered_stay_within()
+    ensures { NumberedStayWithin }
+{}
 
 /// Where a side's own events are a beginning of the events of accesses, its writes to the digits of a
 /// cell, to its count and to a bit are a beginning of those among the accesses.

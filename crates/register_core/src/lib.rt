@@ -13,6 +13,3 @@ pub use bits::BitWriter;
 pub use scans::UnaryScan;
 pub use unary::UnaryWriter;
 pub use words::{WordReader, WordWriter};
-
-#[cfg(test)]
-mod tests;

@@ -7,7 +7,7 @@ use bits_core::{Access, Bit, Shape, Side};
 use std::marker::Model;
 
 /// Reads the bits of the other side's count from number 0 upwards, until one answers 1.
-#[derive(Drop)]
+#[derive(Clone, Debug, Drop)]
 pub struct UnaryScan {
     side: Side,
     modulus: u64,

@@ -11,7 +11,7 @@ use std::marker::Model;
 
 /// Writes values to a side's own count: it sets the value's bit where that is clear, and then clears
 /// the set bits below it, from the highest down. It remembers the bits.
-#[derive(Drop)]
+#[derive(Clone, Debug, Drop)]
 pub struct UnaryWriter {
     side: Side,
     modulus: u64,

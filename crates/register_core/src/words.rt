@@ -9,7 +9,7 @@ use bits_core::{Access, Bit, Shape};
 use std::marker::Model;
 
 /// Writes an item to a cell, every digit from number 0 upwards, whether it changes or not.
-#[derive(Drop)]
+#[derive(Clone, Debug, Drop)]
 pub struct WordWriter {
     width: u64,
     cell: u64,
@@ -71,7 +71,7 @@ impl WordWriter {
 }
 
 /// Reads an item from a cell, every digit from number 0 upwards.
-#[derive(Drop)]
+#[derive(Clone, Debug, Drop)]
 pub struct WordReader {
     width: u64,
     cell: u64,

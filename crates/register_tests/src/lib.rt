@@ -1,5 +1,7 @@
-//! Tests of the register machines over a memory of safe bits.
+//! Tests of the machines of registers over one memory: what they read while others write.
 #![tactic(auto)]
 
 #[cfg(test)]
-mod tests;
+mod driving;
+#[cfg(test)]
+mod memories;

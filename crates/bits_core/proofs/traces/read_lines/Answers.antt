@@ -9,7 +9,7 @@ returns-then-len-eq-EVENT_LIMIT-clause-refused g c =
       shape = c.in_ok-shape.shape;
       events = c.loop-rest.events.items;
       rest = c.loop-rest.rest.now;
-      goes_on = goes_on_at c.args.bytes.now c.in_ok-shape.shape c.loop-rest.events.items c.loop-rest.rest.now l.text c.in_ok-shape.ensures.single l.of_shape (sym c.loop-rest-test.ensures);
+      goes_on = goes_on_at c.args.bytes.now c.in_ok-shape.shape c.loop-rest.events.items c.loop-rest.rest.now l.text l.of_shape (sym c.loop-rest-test.ensures);
       full = l.len ∙ sym c.len.ensures ∙ c.if-len-eq-EVENT_LIMIT.true;
     })
 
@@ -20,7 +20,7 @@ returns-in_default-clause-refused g c =
       shape = c.in_ok-shape.shape;
       events = c.loop-rest.events.items;
       rest = c.loop-rest.rest.now;
-      goes_on = goes_on_at c.args.bytes.now c.in_ok-shape.shape c.loop-rest.events.items c.loop-rest.rest.now l.text c.in_ok-shape.ensures.single l.of_shape (sym c.loop-rest-test.ensures);
+      goes_on = goes_on_at c.args.bytes.now c.in_ok-shape.shape c.loop-rest.events.items c.loop-rest.rest.now l.text l.of_shape (sym c.loop-rest-test.ensures);
       room = omega (arith, c.if-len-eq-EVENT_LIMIT.false);
       no_event = c.in_default.ensures;
       number = ap (λ (n : ℕ). n + 2) (c.len-in_default.ensures ∙ sym l.len);

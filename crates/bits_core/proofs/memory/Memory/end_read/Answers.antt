@@ -1,12 +1,14 @@
 use Rattle.std.proofs.Common.{◌≡◌, ◌≤◌, ℕ, ◌+◌, ◌++◌, ◌∷◌, [], Bool, true, false, Some, List, length, refl, ap, sym, subst, ◌∙◌, arith}
-use Rattle.std.specs.Prelude.{if◌then◌else◌}
+use Rattle.std.specs.Prelude.{◌↔◌, if◌then◌else◌}
 use mir.Val.{bool_byte}
 use Rattle.bits_core.specs.declared.events.Event.{Event}
 use Rattle.bits_core.specs.declared.events.Act.TheVariants.{ReadEnd}
 use Rattle.bits_core.specs.History.{is_overlapped, open_access}
 use Rattle.bits_core.specs.Marks.{AreMarks}
-use Rattle.bits_core.specs.Memory.{IsRecord}
+use Rattle.bits_core.specs.Memory.{EndsOverlappedRead, IsRecord, is_read_overlapped, open_bit}
+use Rattle.bits_core.specs.Open.{bit_of}
 use Rattle.bits_core.proofs.Flickers.{IsRecord-push, MayFollow-answer, flickers-le}
+use Rattle.bits_core.proofs.FlickerLaws.{ends_overlapped}
 use Rattle.bits_core.proofs.MarkLemmas.{answer-is, overlapped-is}
 use Rattle.bits_core.proofs.memory.Memory.end_read.Goals as goal
 
@@ -42,3 +44,22 @@ invariant_of-self-in-Ok g c =
       subst (λ (k : ℕ). IsRecord shape c.push.new.self.items k) counted (subst (λ (t : List Event). IsRecord shape t (n + (if is_overlapped s b h then 1 else 0))) items (IsRecord-push shape h n e c.self.invariant.0 follows)),
       subst (λ (t : List Event). AreMarks shape t c.record.new.self) items (c.record.ensures shape h c.self.invariant.1 follows),
     )
+
+pub returns-clause-overlap : goal.returns-clause-overlap
+returns-clause-overlap g c =
+    let s = c.args.side in
+    let b = c.in-Some-Read.bit in
+    let v = c.read_answer-answer.result in
+    let shape = c.self.inside.shape in
+    let h : List Event = c.self.inside.events.items in
+    let after : List Event = c.push.new.self.items in
+    let asked = g.O.Oracle.answers c.args.oracle.now 0 in
+    let e : Event = record { side = s; bit = b; act = ReadEnd v } in
+    let still = ap (λ r. open_access s r.events) c.self.view_is ∙ sym c.in-Some-Read.ensures.access ∙ ap Some c.in-Some-Read.field-0-is in
+    let due = c.settled-settled.ensures shape h c.self.invariant.1 still in
+    let items : h ++ e ∷ [] ≡ after = sym (c.in-Ok.ensures.items ∙ ap (λ (t : List Event). t ++ e ∷ []) c.in_ok-reserve-in-Some-Read.ensures.items) in
+    let told = ends_overlapped shape h s b asked v c.self.invariant.0.lawful still (c.read_answer-answer.ensures.value ∙ answer-is s b h c.settled-settled.result asked due) in
+    let told_after = subst (λ (t : List Event). (is_overlapped s b h ≡ true) ↔ EndsOverlappedRead t (length h)) items told in
+    let its_bit : open_bit s h ≡ b = ap bit_of still in
+    let told_of_bit = subst (λ x. (is_overlapped s x h ≡ true) ↔ EndsOverlappedRead after (length h)) (sym its_bit) told_after in
+    subst (λ r. (is_read_overlapped s r.events ≡ true) ↔ EndsOverlappedRead after (length r.events)) c.self.view_is told_of_bit

@@ -1,0 +1,6 @@
+-- Found by search without these lines too; with them a wrong body is refused at once.
+use Rattle.std.proofs.Common.{rules}
+use Rattle.bits_core.proofs.events.Bit.first_value.Goals as goal
+
+pub returns-in-S : goal.returns-in-S
+returns-in-S c = search rules

@@ -1,0 +1,332 @@
+use bits_core::{
+    Access, Always, Bit, Flip, Memory, MemoryFault, Oracle, Shape, Side, Tape, TraceFault, Verdict,
+    audit_bits, read_trace, write_trace,
+};
+use refusing::Refusing;
+use std::alloc::{AllocGlobal, Allocator};
+use std::process::Abort;
+use std::test::Fail;
+
+// What a side is to do: to end the access that it has open, or else to begin one of the bit, which
+// writes the value where the side is the bit's writer.
+type Choice = (Side, Bit, bool);
+
+// What a side is to do, the answer where that ends a read, and the access that it has open then.
+type Step = (Side, bool, Option<bool>, Option<Access>);
+
+const S0: Bit = Bit::S(0);
+
+// The choice, and the answer where it ends a read.
+fn make<A: Allocator, O: Oracle>(
+    memory: &mut Memory<A>,
+    oracle: &mut O,
+    choice: Choice,
+) -> Result<Option<bool>, MemoryFault> {
+    let (side, bit, value) = choice;
+    match memory.pending(side) {
+        Some(Access::Read(_)) => return Ok(Some(memory.end_read(side, oracle)?)),
+        Some(Access::Write(_, _)) => memory.end_write(side)?,
+        None if !memory.shape().has(bit) => {}
+        None if side == bit.reader() => memory.begin_read(side, bit)?,
+        None if side == bit.writer() => memory.begin_write(side, bit, value)?,
+        None => {}
+    }
+    Ok(None)
+}
+
+// So many events and flickers; the history is lawful, and the same once it was written and read again.
+fn expect_history<A: Allocator>(
+    rt: &(impl Abort + AllocGlobal),
+    memory: &Memory<A>,
+    counts: (usize, u64),
+) -> Result<(), Fail> {
+    let shape = memory.shape();
+    let events = memory.events();
+    assert_eq!(rt; (events.len(), memory.flickers()), counts);
+    assert_eq!(rt; audit_bits(&shape, events), Verdict::Lawful);
+    let text = write_trace(rt.alloc(), &shape, events)?;
+    let (shape_again, events_again) = read_trace(rt.alloc(), text.as_bytes())?;
+    assert!(rt; shape_again == shape);
+    assert!(rt; events_again.as_slice() == events);
+    Ok(())
+}
+
+// The text of the history that a memory hands out.
+fn expect_text<A: Allocator>(
+    rt: &(impl Abort + AllocGlobal),
+    memory: Memory<A>,
+    wanted: &str,
+) -> Result<(), Fail> {
+    let shape = memory.shape();
+    let events = memory.into_events();
+    let text = write_trace(rt.alloc(), &shape, events.as_slice())?;
+    assert_eq!(rt; text.as_str(), wanted);
+    Ok(())
+}
+
+fn expect_answers<O: Oracle>(rt: &impl Abort, oracle: &mut O, answers: &[bool]) {
+    for answer in answers {
+        assert_eq!(rt; oracle.answer(), *answer);
+    }
+}
+
+#[test]
+fn oracles_answer_in_turn(rt: HostRuntime) {
+    expect_answers(&rt, &mut Always(true), &[true, true, true]);
+    expect_answers(&rt, &mut Always(false), &[false, false, false]);
+    expect_answers(&rt, &mut Flip::new(), &[false, true, false, true]);
+    expect_answers(&rt, &mut Flip::default(), &[false, true, false, true]);
+    let taped = [true, true, false, true, true, false, true];
+    expect_answers(&rt, &mut Tape::new(&[true, true, false]), &taped);
+    expect_answers(&rt, &mut Tape::new(&[]), &[false, false, false]);
+}
+
+// The steps on s0 over a new memory of the smallest shape, where the tape answers what a write overlaps:
+// how many of the steps ask it, and the text that they leave.
+fn expect_steps(
+    rt: &(impl Abort + AllocGlobal),
+    tape: &[bool],
+    steps: &[Step],
+    flickers: u64,
+    text: &str,
+) -> Result<(), Fail> {
+    let mut memory = Memory::new(rt.alloc(), Shape::new(1, 3, 1)?);
+    let mut oracle = Tape::new(tape);
+    for (side, value, answer, open) in steps {
+        assert_eq!(rt;
+            make(&mut memory, &mut oracle, (*side, S0, *value))?,
+            *answer
+        );
+        assert_eq!(rt; memory.pending(*side), *open);
+    }
+    expect_history(rt, &memory, (steps.len(), flickers))?;
+    expect_text(rt, memory, text)
+}
+
+const READ_S0: Option<Access> = Some(Access::Read(S0));
+
+const WRITE_S0: Option<Access> = Some(Access::Write(S0, false));
+
+// Two reads within a write, and one after it, which does not ask the tape.
+const READS_IN_A_WRITE: [Step; 8] = [
+    (Side::P, false, None, WRITE_S0),
+    (Side::C, false, None, READ_S0),
+    (Side::C, false, Some(true), None),
+    (Side::C, false, None, READ_S0),
+    (Side::C, false, Some(false), None),
+    (Side::P, false, None, None),
+    (Side::C, false, None, READ_S0),
+    (Side::C, false, Some(false), None),
+];
+
+#[test]
+fn overlapped_reads_of_one_bit_ask_the_oracle(rt: HostRuntime) -> Result<(), Fail> {
+    expect_steps(
+        &rt,
+        &[true, false, true],
+        &READS_IN_A_WRITE,
+        2,
+        "shape 1 3 1\nP write s0 0\nC read s0\nC got s0 1\nC read s0\nC got s0 0\nP wrote s0\nC read s0\nC got s0 0\n",
+    )
+}
+
+// A read, a whole write within it, and a read after both.
+const WRITE_IN_A_READ: [Step; 6] = [
+    (Side::C, false, None, READ_S0),
+    (Side::P, false, None, WRITE_S0),
+    (Side::P, false, None, None),
+    (Side::C, false, Some(true), None),
+    (Side::C, false, None, READ_S0),
+    (Side::C, false, Some(false), None),
+];
+
+#[test]
+fn a_read_spanned_by_a_write_flickers(rt: HostRuntime) -> Result<(), Fail> {
+    expect_steps(
+        &rt,
+        &[true],
+        &WRITE_IN_A_READ,
+        1,
+        "shape 1 3 1\nC read s0\nP write s0 0\nP wrote s0\nC got s0 1\nC read s0\nC got s0 0\n",
+    )
+}
+
+// A write that begins during a read of the bit marks that read alone: not the next one after the write.
+const MARK_IS_CLEARED: [Step; 6] = [
+    (Side::C, false, None, READ_S0),
+    (Side::P, false, None, WRITE_S0),
+    (Side::C, false, Some(false), None),
+    (Side::P, false, None, None),
+    (Side::C, false, None, READ_S0),
+    (Side::C, false, Some(false), None),
+];
+
+#[test]
+fn a_read_after_an_overlapped_one_does_not_ask(rt: HostRuntime) -> Result<(), Fail> {
+    expect_steps(
+        &rt,
+        &[false, true],
+        &MARK_IS_CLEARED,
+        1,
+        "shape 1 3 1\nC read s0\nP write s0 0\nC got s0 0\nP wrote s0\nC read s0\nC got s0 0\n",
+    )
+}
+
+// One event after the other. The events of a history grow at some of them.
+const CHOICES: [Choice; 18] = [
+    (Side::P, S0, false),
+    (Side::C, S0, false),
+    (Side::C, S0, false),
+    (Side::C, S0, false),
+    (Side::C, S0, false),
+    (Side::P, S0, false),
+    (Side::C, S0, false),
+    (Side::C, S0, false),
+    (Side::C, S0, false),
+    (Side::C, S0, false),
+    (Side::P, Bit::X, true),
+    (Side::P, Bit::X, true),
+    (Side::P, Bit::S(1), true),
+    (Side::P, Bit::S(1), true),
+    (Side::C, Bit::R(1), true),
+    (Side::P, Bit::Cell(0, 0), true),
+    (Side::P, Bit::Cell(0, 0), true),
+    (Side::C, Bit::R(1), true),
+];
+
+fn expect_true(rt: &impl Abort, holds: bool) {
+    assert!(rt; holds);
+}
+
+// The memory and its oracle are as the others.
+fn expect_same<A: Allocator, B: Allocator>(
+    rt: &impl Abort,
+    memory: &Memory<A>,
+    other: &Memory<B>,
+    oracles: (Flip, Flip),
+) {
+    assert!(rt; memory.events() == other.events());
+    assert_eq!(rt; memory.flickers(), other.flickers());
+    assert_eq!(rt; memory.pending(Side::P), other.pending(Side::P));
+    assert_eq!(rt; memory.pending(Side::C), other.pending(Side::C));
+    assert!(rt; oracles.0 == oracles.1);
+}
+
+// Which of the four calls the choice makes.
+fn call_of<A: Allocator>(memory: &Memory<A>, choice: Choice) -> usize {
+    match memory.pending(choice.0) {
+        Some(Access::Read(_)) => 0,
+        Some(Access::Write(_, _)) => 1,
+        None if choice.0 == choice.1.reader() => 2,
+        None => 3,
+    }
+}
+
+// The choices over a memory whose allocator refuses one growth, beside one that is never refused. Which of the
+// four calls was refused, if one was: it changed nothing, and is made once more.
+fn refused_call(rt: &(impl Abort + AllocGlobal), allocations: u64) -> Result<Option<usize>, Fail> {
+    let shape = Shape::new(1, 3, 1)?;
+    let alloc = Refusing::after(rt.alloc(), allocations);
+    let mut memory = Memory::new(&alloc, shape);
+    let mut oracle = Flip::new();
+    let mut other = Memory::new(rt.alloc(), shape);
+    let mut other_oracle = Flip::new();
+    let mut refused = None;
+    for choice in CHOICES.iter() {
+        if make(&mut memory, &mut oracle, *choice).is_err() {
+            expect_true(rt, alloc.has_refused());
+            expect_same(rt, &memory, &other, (oracle, other_oracle));
+            refused = Some(call_of(&memory, *choice));
+            make(&mut memory, &mut oracle, *choice)?;
+        }
+        make(&mut other, &mut other_oracle, *choice)?;
+        expect_same(rt, &memory, &other, (oracle, other_oracle));
+    }
+    expect_true(rt, memory.events().len() == CHOICES.len());
+    expect_true(rt, alloc.has_refused() == refused.is_some());
+    Ok(refused)
+}
+
+#[test]
+fn each_refused_growth_changes_nothing(rt: HostRuntime) -> Result<(), Fail> {
+    let mut seen = [false; 4];
+    for allocations in 0..20 {
+        match refused_call(&rt, allocations)? {
+            Some(call) if call < 4 => seen[call] = true,
+            _ => break,
+        }
+    }
+    // Each of the two begins and the two ends was refused once.
+    expect_true(&rt, seen == [true; 4]);
+    Ok(())
+}
+
+// So many choices, each event's number from the one before, over all kinds of bits and both sides.
+fn make_many<A: Allocator>(memory: &mut Memory<A>, events: u64) -> Result<(), MemoryFault> {
+    let mut oracle = Flip::new();
+    let bits = [
+        Bit::S(0),
+        Bit::S(3),
+        Bit::R(0),
+        Bit::R(2),
+        Bit::X,
+        Bit::Cell(1, 1),
+        Bit::Cell(0, 1),
+    ];
+    let mut number: u64 = 1;
+    for _ in 0..events {
+        number = number.wrapping_mul(75) % 65_537;
+        let side = if number % 2 == 0 { Side::P } else { Side::C };
+        let bit = bits[(number / 2 % 7) as usize];
+        make(memory, &mut oracle, (side, bit, number % 3 == 0))?;
+    }
+    Ok(())
+}
+
+// A body that gives up past 1,000 or past 10,000 events would meet its contract.
+#[test]
+fn twenty_thousand_events_are_made_written_and_read_again(rt: HostRuntime) -> Result<(), Fail> {
+    let mut memory = Memory::new(rt.alloc(), Shape::with_batch(2, 5, 2, 2)?);
+    make_many(&mut memory, 20_000)?;
+    let flickers = memory.flickers();
+    expect_true(&rt, 100 < flickers);
+    expect_history(&rt, &memory, (20_000, flickers))
+}
+
+// Whether a growth was refused while the choices' history was written and read again, and then the fault.
+fn expect_round_trip_refused(
+    rt: &(impl Abort + AllocGlobal),
+    allocations: u64,
+) -> Result<bool, Fail> {
+    let mut memory = Memory::new(rt.alloc(), Shape::new(1, 3, 1)?);
+    let mut oracle = Flip::new();
+    for choice in CHOICES.iter() {
+        make(&mut memory, &mut oracle, *choice)?;
+    }
+    let alloc = Refusing::after(rt.alloc(), allocations);
+    let shape = memory.shape();
+    let fault = match write_trace(&alloc, &shape, memory.events()) {
+        Ok(text) => read_trace(&alloc, text.as_bytes()).err(),
+        Err(fault) => Some(fault),
+    };
+    let wanted = if alloc.has_refused() {
+        Some(TraceFault::OutOfMemory)
+    } else {
+        None
+    };
+    assert_eq!(rt; fault, wanted);
+    Ok(alloc.has_refused())
+}
+
+#[test]
+fn writing_and_reading_refuse_at_each_growth(rt: HostRuntime) -> Result<(), Fail> {
+    let mut refusals: u64 = 0;
+    for allocations in 0..60 {
+        if !expect_round_trip_refused(&rt, allocations)? {
+            break;
+        }
+        refusals = allocations;
+    }
+    expect_true(&rt, 3 < refusals && refusals < 50);
+    Ok(())
+}

@@ -1,0 +1,226 @@
+use bits_core::{Bit, Kind, Memory, MemoryFault, Shape, ShapeFault, TraceFault};
+use std::alloc::AllocGlobal;
+use std::fmt::Display;
+use std::process::Abort;
+use std::test::Fail;
+
+// Capacity, modulus, width and batch, and why they are no shape.
+type Numbers = (u64, u64, u64, u64, Option<ShapeFault>);
+
+fn expect_numbers(rt: &impl Abort, numbers: &Numbers) {
+    let (capacity, modulus, width, batch, refused) = *numbers;
+    let shape = Shape::with_batch(capacity, modulus, width, batch);
+    assert_eq!(rt;
+        shape.err(),
+        refused,
+        "{capacity} {modulus} {width} {batch}"
+    );
+    if batch == 1 {
+        let single = Shape::new(capacity, modulus, width);
+        assert_eq!(rt; single.err(), refused, "{capacity} {modulus} {width}");
+    }
+}
+
+// Each row, and where it is a shape of batch 1, `Shape::new` too.
+fn expect_shapes(rt: &impl Abort, rows: &[Numbers]) {
+    for numbers in rows {
+        expect_numbers(rt, numbers);
+    }
+}
+
+const SINGLE: [Numbers; 10] = [
+    (1, 3, 1, 1, None),
+    (64, 66, 64, 1, None),
+    (64, 256, 1, 1, None),
+    (1, 2, 1, 1, Some(ShapeFault::Modulus)),
+    (1, 257, 1, 1, Some(ShapeFault::Modulus)),
+    (64, 65, 1, 1, Some(ShapeFault::Modulus)),
+    (65, 67, 64, 1, Some(ShapeFault::Capacity)),
+    (0, 0, 0, 1, Some(ShapeFault::Capacity)),
+    (1, 3, 0, 1, Some(ShapeFault::Width)),
+    (1, 3, 65, 1, Some(ShapeFault::Width)),
+];
+
+#[test]
+fn shapes_accepted_and_refused(rt: HostRuntime) {
+    expect_shapes(&rt, &SINGLE);
+}
+
+const BATCHES: [Numbers; 11] = [
+    (3, 7, 1, 3, None),
+    (3, 6, 1, 2, None),
+    (64, 129, 64, 64, None),
+    // one less than capacity + batch + 1
+    (3, 6, 1, 3, Some(ShapeFault::Modulus)),
+    (64, 128, 64, 64, Some(ShapeFault::Modulus)),
+    (3, 7, 1, 4, Some(ShapeFault::Batch)),
+    (3, 7, 1, 0, Some(ShapeFault::Batch)),
+    // the capacity is told before the batch, the batch before the modulus, the modulus before the width
+    (65, 0, 0, 0, Some(ShapeFault::Capacity)),
+    (3, 3, 0, 4, Some(ShapeFault::Batch)),
+    (3, 6, 0, 3, Some(ShapeFault::Modulus)),
+    (3, 7, 65, 3, Some(ShapeFault::Width)),
+];
+
+#[test]
+fn batches_accepted_and_refused(rt: HostRuntime) {
+    expect_shapes(&rt, &BATCHES);
+}
+
+fn expect_getters(rt: &impl Abort, numbers: (u64, u64, u64, u64)) -> Result<(), Fail> {
+    let (capacity, modulus, width, batch) = numbers;
+    let shape = Shape::with_batch(capacity, modulus, width, batch)?;
+    let found = (
+        shape.capacity(),
+        shape.modulus(),
+        shape.width(),
+        shape.batch(),
+    );
+    assert_eq!(rt; found, numbers);
+    assert!(rt; shape == Shape::with_batch(capacity, modulus, width, batch)?);
+    Ok(())
+}
+
+#[test]
+fn a_shape_tells_its_numbers(rt: HostRuntime) -> Result<(), Fail> {
+    expect_getters(&rt, (2, 5, 3, 2))?;
+    expect_getters(&rt, (64, 256, 64, 1))?;
+    expect_getters(&rt, (3, 9, 64, 3))
+}
+
+// Width, item, and whether it fits.
+const ITEMS: [(u64, u64, bool); 6] = [
+    (3, 7, true),
+    (3, 8, false),
+    (1, 1, true),
+    (1, 2, false),
+    (63, u64::MAX, false),
+    (64, u64::MAX, true),
+];
+
+#[test]
+fn an_item_fits_below_the_power_of_the_width(rt: HostRuntime) -> Result<(), Fail> {
+    for (width, item, fits) in ITEMS.iter() {
+        expect_flag(&rt, Shape::new(2, 5, *width)?.fits(*item), *fits);
+    }
+    Ok(())
+}
+
+fn expect_flag(rt: &impl Abort, found: bool, wanted: bool) {
+    assert_eq!(rt; found, wanted);
+}
+
+// Whether the bit is one of the shape 2 5 3.
+const BITS: [(Bit, bool); 10] = [
+    (Bit::S(0), true),
+    (Bit::S(4), true),
+    (Bit::S(5), false),
+    (Bit::R(4), true),
+    (Bit::R(5), false),
+    (Bit::X, true),
+    (Bit::Cell(1, 2), true),
+    (Bit::Cell(2, 2), false),
+    (Bit::Cell(1, 3), false),
+    (Bit::Cell(255, 255), false),
+];
+
+#[test]
+fn a_shape_has_its_bits(rt: HostRuntime) -> Result<(), Fail> {
+    let shape = Shape::new(2, 5, 3)?;
+    for (bit, belongs) in BITS.iter() {
+        expect_flag(&rt, shape.has(*bit), *belongs);
+    }
+    Ok(())
+}
+
+// The words that a value is written as.
+fn expect_words(
+    rt: &(impl Abort + AllocGlobal),
+    value: &impl Display,
+    words: &str,
+) -> Result<(), Fail> {
+    assert_eq!(rt; value.to_string(rt.alloc())?.as_str(), words);
+    Ok(())
+}
+
+fn expect_number(rt: &impl Abort, found: u8, wanted: u8) {
+    assert_eq!(rt; found, wanted);
+}
+
+const SHAPE_FAULTS: [(ShapeFault, u8, &str); 4] = [
+    (ShapeFault::Capacity, 1, "capacity must be from 1 to 64"),
+    (
+        ShapeFault::Modulus,
+        2,
+        "modulus must be from capacity + batch + 1 to 256",
+    ),
+    (ShapeFault::Width, 3, "width must be from 1 to 64"),
+    (ShapeFault::Batch, 4, "batch must be from 1 to capacity"),
+];
+
+#[test]
+fn shape_faults_have_their_numbers_and_words(rt: HostRuntime) -> Result<(), Fail> {
+    for (fault, number, words) in SHAPE_FAULTS.iter() {
+        expect_number(&rt, fault.number(), *number);
+        expect_words(&rt, fault, words)?;
+        // a bad shape has the words of its fault
+        expect_words(&rt, &TraceFault::BadShape(*fault), words)?;
+    }
+    Ok(())
+}
+
+const TRACE_FAULTS: [(TraceFault, u8, &str); 4] = [
+    (
+        TraceFault::BadShape(ShapeFault::Width),
+        1,
+        "width must be from 1 to 64",
+    ),
+    (
+        TraceFault::BadLine(7),
+        2,
+        "trace line 7 is not a line of the format",
+    ),
+    (TraceFault::TooLong, 3, "trace has too many events"),
+    (TraceFault::OutOfMemory, 4, "out of memory"),
+];
+
+#[test]
+fn trace_faults_have_their_numbers_and_words(rt: HostRuntime) -> Result<(), Fail> {
+    for (fault, number, words) in TRACE_FAULTS.iter() {
+        expect_number(&rt, fault.number(), *number);
+        expect_words(&rt, fault, words)?;
+    }
+    Ok(())
+}
+
+const KINDS: [(Kind, u8, &str); 4] = [
+    (Kind::WrongSide, 1, "wrong side"),
+    (Kind::OutOfTurn, 2, "out of turn"),
+    (Kind::NotPermitted, 3, "not permitted"),
+    (Kind::NotProgram, 4, "not of the program"),
+];
+
+#[test]
+fn kinds_have_their_numbers_and_words(rt: HostRuntime) -> Result<(), Fail> {
+    for (kind, number, words) in KINDS.iter() {
+        expect_number(&rt, kind.number(), *number);
+        expect_words(&rt, kind, words)?;
+    }
+    Ok(())
+}
+
+#[test]
+fn a_memory_shows_its_history(rt: HostRuntime) -> Result<(), Fail> {
+    let memory = Memory::new(rt.alloc(), Shape::new(1, 3, 1)?);
+    expect_words(
+        &rt,
+        &format!(in rt.alloc(); "{memory:?}")?,
+        "Memory { shape: Shape { capacity: 1, modulus: 3, width: 1, batch: 1 }, events: [], flickers: 0 }",
+    )
+}
+
+#[test]
+fn the_fault_of_a_memory(rt: HostRuntime) -> Result<(), Fail> {
+    expect_number(&rt, MemoryFault::OutOfMemory.number(), 1);
+    expect_words(&rt, &MemoryFault::OutOfMemory, "out of memory")
+}

@@ -1,0 +1,179 @@
+//! One form for all machines, and what tests expect of them.
+ghost use Rattle.std.specs.Prelude.{◌≡◌};
+
+use bits_core::{Access, Memory, MemoryFault, Oracle, Shape, Side, Verdict, audit_bits};
+use register_core::{BitWriter, UnaryScan, UnaryWriter, WordReader, WordWriter};
+use std::alloc::Allocator;
+use std::process::Abort;
+
+/// A machine of one side: the access that is due, and its answer.
+pub trait Machine {
+    fn due(&self) -> Option<Access>;
+
+    fn answered(&mut self, answer: bool);
+}
+
+impl Machine for WordWriter {
+    fn due(&self) -> Option<Access> {
+        self.next()
+    }
+
+    fn answered(&mut self, answer: bool) {
+        if self.next().is_some() {
+            self.feed(answer);
+        }
+    }
+}
+
+impl Machine for WordReader {
+    fn due(&self) -> Option<Access> {
+        self.next()
+    }
+
+    fn answered(&mut self, answer: bool) {
+        if self.next().is_some() {
+            self.feed(answer);
+        }
+    }
+}
+
+impl Machine for BitWriter {
+    fn due(&self) -> Option<Access> {
+        self.next()
+    }
+
+    fn answered(&mut self, answer: bool) {
+        if self.next().is_some() {
+            self.feed(answer);
+        }
+    }
+}
+
+impl Machine for UnaryScan {
+    fn due(&self) -> Option<Access> {
+        self.next()
+    }
+
+    // A 0 where a 1 is expected is not fed, so the scan would never end.
+    fn answered(&mut self, answer: bool) {
+        if self.next().is_some() && (answer || !self.expects_one()) {
+            self.feed(answer);
+        }
+    }
+}
+
+/// A writer of a side's count, with the modulus that its values stay below.
+#[derive(Drop)]
+pub struct Count {
+    writer: UnaryWriter,
+    modulus: u64,
+    ghost of_modulus: { writer.modulus ≡ modulus },
+}
+
+impl Count {
+    pub fn new(shape: &Shape, side: Side) -> Count {
+        Count {
+            writer: UnaryWriter::new(shape, side),
+            modulus: shape.modulus(),
+        }
+    }
+
+    /// Begins a write of the value, unless one is under way.
+    pub fn write(&mut self, value: u64) {
+        if self.writer.next().is_none() && value < self.modulus {
+            self.writer.write(value);
+        }
+    }
+}
+
+impl Machine for Count {
+    fn due(&self) -> Option<Access> {
+        self.writer.next()
+    }
+
+    fn answered(&mut self, answer: bool) {
+        if self.writer.next().is_some() {
+            self.writer.feed(answer);
+        }
+    }
+}
+
+/// The side's next event: the end of the access that it has open, or the begin of the one that is due.
+/// True where there was one.
+pub fn step<A: Allocator, M: Machine, O: Oracle>(
+    memory: &mut Memory<A>,
+    side: Side,
+    machine: &mut M,
+    oracle: &mut O,
+) -> Result<bool, MemoryFault> {
+    match memory.pending(side) {
+        Some(Access::Read(_)) => {
+            let answer = memory.end_read(side, oracle)?;
+            machine.answered(answer);
+            return Ok(true);
+        }
+        Some(Access::Write(_, _)) => {
+            memory.end_write(side)?;
+            machine.answered(false);
+            return Ok(true);
+        }
+        None => {}
+    }
+    match machine.due() {
+        Some(Access::Read(bit)) if memory.shape().has(bit) && side == bit.reader() => {
+            memory.begin_read(side, bit)?;
+            Ok(true)
+        }
+        Some(Access::Write(bit, value)) if memory.shape().has(bit) && side == bit.writer() => {
+            memory.begin_write(side, bit, value)?;
+            Ok(true)
+        }
+        _ => Ok(false),
+    }
+}
+
+/// So many of these steps, or until there is none.
+pub fn steps<A: Allocator, M: Machine, O: Oracle>(
+    memory: &mut Memory<A>,
+    side: Side,
+    machine: &mut M,
+    oracle: &mut O,
+    most: u64,
+) -> Result<(), MemoryFault> {
+    for _ in 0..most {
+        if !step(memory, side, machine, oracle)? {
+            break;
+        }
+    }
+    Ok(())
+}
+
+pub fn expect_lawful<A: Allocator>(
+    rt: &impl Abort,
+    memory: &Memory<A>,
+    events: usize,
+    flickers: u64,
+) {
+    assert_eq!(rt;
+        (memory.events().len(), memory.flickers()),
+        (events, flickers)
+    );
+    assert_eq!(rt;
+        audit_bits(&memory.shape(), memory.events()),
+        Verdict::Lawful
+    );
+}
+
+/// The access that is due.
+pub fn expect_due(rt: &impl Abort, machine: &impl Machine, access: Option<Access>) {
+    assert_eq!(rt; machine.due(), access);
+}
+
+/// The value that was read.
+pub fn expect_value(rt: &impl Abort, found: Option<u64>, wanted: Option<u64>) {
+    assert_eq!(rt; found, wanted);
+}
+
+pub fn expect_true(rt: &impl Abort, holds: bool) {
+    assert!(rt; holds);
+}

@@ -1,0 +1,200 @@
+use bits_core::{
+    Act, Bit, EVENT_LIMIT, Shape, ShapeFault, Side, TraceFault, Verdict, audit_bits, read_trace,
+    write_trace,
+};
+use std::alloc::AllocGlobal;
+use std::process::Abort;
+use std::test::Fail;
+
+// An event: who, which bit, and what.
+type Row = (Side, Bit, Act);
+
+// The text is a trace of this shape and these events, and it is what is written for them.
+fn expect_trace(
+    rt: &(impl Abort + AllocGlobal),
+    text: &str,
+    shape: &Shape,
+    rows: &[Row],
+) -> Result<(), Fail> {
+    let (shape_read, events) = read_trace(rt.alloc(), text.as_bytes())?;
+    assert_eq!(rt; shape_read, *shape);
+    assert_eq!(rt; events.len(), rows.len());
+    for (event, (side, bit, act)) in events.iter().zip(rows.iter()) {
+        assert_eq!(rt; (event.side, event.bit, event.act), (*side, *bit, *act));
+    }
+    let again = write_trace(rt.alloc(), &shape_read, events.as_slice())?;
+    assert_eq!(rt; again.as_str(), text);
+    Ok(())
+}
+
+const ROWS: [Row; 8] = [
+    (Side::P, Bit::S(255), Act::WriteBegin(true)),
+    (Side::P, Bit::S(255), Act::WriteEnd),
+    (Side::C, Bit::S(0), Act::ReadBegin),
+    (Side::C, Bit::S(0), Act::ReadEnd(false)),
+    (Side::C, Bit::R(17), Act::WriteBegin(false)),
+    (Side::P, Bit::X, Act::ReadBegin),
+    (Side::C, Bit::X, Act::WriteEnd),
+    (Side::P, Bit::Cell(63, 9), Act::WriteBegin(false)),
+];
+
+#[test]
+fn each_line_is_one_event(rt: HostRuntime) -> Result<(), Fail> {
+    expect_trace(
+        &rt,
+        "shape 64 256 64\nP write s255 1\nP wrote s255\nC read s0\nC got s0 0\nC write r17 0\nP read x\nC wrote x\nP write c63.9 0\n",
+        &Shape::new(64, 256, 64)?,
+        &ROWS,
+    )
+}
+
+#[test]
+fn line_one_names_a_batch_over_1(rt: HostRuntime) -> Result<(), Fail> {
+    expect_trace(&rt, "shape 3 7 1 3\n", &Shape::with_batch(3, 7, 1, 3)?, &[])?;
+    expect_trace(&rt, "shape 3 7 1\n", &Shape::with_batch(3, 7, 1, 1)?, &[])?;
+    expect_trace(
+        &rt,
+        "shape 64 129 64 64\nP read r128\n",
+        &Shape::with_batch(64, 129, 64, 64)?,
+        &[(Side::P, Bit::R(128), Act::ReadBegin)],
+    )
+}
+
+fn expect_fault(rt: &(impl Abort + AllocGlobal), text: &[u8], fault: TraceFault) {
+    assert_eq!(rt; read_trace(rt.alloc(), text).err(), Some(fault));
+}
+
+// Each text has this fault.
+fn expect_faults(rt: &(impl Abort + AllocGlobal), texts: &[&str], fault: TraceFault) {
+    for text in texts {
+        expect_fault(rt, text.as_bytes(), fault);
+    }
+}
+
+const NO_LINE_ONE: [&str; 22] = [
+    "",
+    "shape 1 3 1",
+    "shape 1 3\n",
+    "shape 1 3 \n",
+    "shape 1 3 1 \n",
+    "shape 1  3 1\n",
+    "shape 1 3 1\r\n",
+    "shape 01 3 1\n",
+    "shape 1 99999 1\n",
+    "shape 1 3 +1\n",
+    "Shape 1 3 1\n",
+    " shape 1 3 1\n",
+    "P read r0\n",
+    // a batch of 1 is not written, whatever the other numbers are
+    "shape 3 7 1 1\n",
+    "shape 1 3 1 1\n",
+    "shape 0 0 0 1\n",
+    // nor is a batch in another form
+    "shape 3 7 1 3",
+    "shape 3 7 1  3\n",
+    "shape 3 7 1 03\n",
+    "shape 3 7 1 3 \n",
+    "shape 3 7 1 3 3\n",
+    "shape 3 7 1 10000\n",
+];
+
+#[test]
+fn a_first_line_of_no_form_is_bad(rt: HostRuntime) {
+    expect_faults(&rt, &NO_LINE_ONE, TraceFault::BadLine(1));
+}
+
+const BAD_SHAPES: [(&str, ShapeFault); 12] = [
+    ("shape 1 9999 1\n", ShapeFault::Modulus),
+    ("shape 1 2 1\n", ShapeFault::Modulus),
+    ("shape 0 3 1\n", ShapeFault::Capacity),
+    ("shape 1 3 65\nnonsense", ShapeFault::Width),
+    ("shape 3 7 1 0\n", ShapeFault::Batch),
+    ("shape 3 7 1 4\n", ShapeFault::Batch),
+    ("shape 3 7 1 9999\n", ShapeFault::Batch),
+    ("shape 3 6 1 3\n", ShapeFault::Modulus),
+    ("shape 3 6 0 3\n", ShapeFault::Modulus),
+    ("shape 3 6 0 4\n", ShapeFault::Batch),
+    ("shape 65 0 0 0\n", ShapeFault::Capacity),
+    ("shape 3 7 0 3\nP", ShapeFault::Width),
+];
+
+#[test]
+fn numbers_that_are_no_shape_are_told(rt: HostRuntime) {
+    for (text, fault) in BAD_SHAPES.iter() {
+        expect_fault(&rt, text.as_bytes(), TraceFault::BadShape(*fault));
+    }
+}
+
+// Each stands behind a line of the shape 1 3 1.
+const NO_LINE_TWO: [&str; 24] = [
+    "shape 1 3 1\nP read r",
+    "shape 1 3 1\nP read r0",
+    "shape 1 3 1\nP read r3\n",
+    "shape 1 3 1\nP read r00\n",
+    "shape 1 3 1\nP read s00\n",
+    "shape 1 3 1\nP  read r0\n",
+    "shape 1 3 1\nP read r0 \n",
+    "shape 1 3 1\nP got r0 2\n",
+    "shape 1 3 1\nP got r0\n",
+    "shape 1 3 1\nP read r0 1\n",
+    "shape 1 3 1\nP read c1.0\n",
+    "shape 1 3 1\nP read c0.1\n",
+    "shape 1 3 1\nP read c0\n",
+    "shape 1 3 1\nP read r256\n",
+    "shape 1 3 1\nP read x0\n",
+    "shape 1 3 1\nP wrote s0 1\n",
+    "shape 1 3 1\nP write s0 01\n",
+    "shape 1 3 1\np read r0\n",
+    "shape 1 3 1\nP Read r0\n",
+    "shape 1 3 1\nshape 1 3 1\n",
+    "shape 1 3 1\n\n",
+    "shape 1 3 1\n P read r0\n",
+    "shape 1 3 1\nP read r0\r\n",
+    "shape 1 3 1\nP\tread r0\n",
+];
+
+#[test]
+fn lines_of_no_form_are_refused(rt: HostRuntime) {
+    expect_faults(&rt, &NO_LINE_TWO, TraceFault::BadLine(2));
+    expect_fault(&rt, b"shape 1 3 1\n\xff", TraceFault::BadLine(2));
+}
+
+#[test]
+fn the_faulty_line_is_named(rt: HostRuntime) {
+    expect_fault(
+        &rt,
+        b"shape 1 3 1\nP read r0\nP got r0 1\nP wrote\n",
+        TraceFault::BadLine(4),
+    );
+}
+
+// A trace of a million events: it is read, lawful, and written as it was.
+fn expect_longest(rt: &(impl Abort + AllocGlobal), text: &[u8]) -> Result<(), Fail> {
+    let (shape, events) = read_trace(rt.alloc(), text)?;
+    assert_eq!(rt; (events.len(), EVENT_LIMIT), (1_000_000, 1_000_000));
+    assert_eq!(rt; audit_bits(&shape, events.as_slice()), Verdict::Lawful);
+    let again = write_trace(rt.alloc(), &shape, events.as_slice())?;
+    assert!(rt; again.as_bytes() == text);
+    Ok(())
+}
+
+// The same trace with something behind it.
+fn expect_too_long(rt: &(impl Abort + AllocGlobal), text: &[u8], line: &[u8]) -> Result<(), Fail> {
+    let mut longer = text.to_vec(rt.alloc())?;
+    longer.extend_from_slice(line)?;
+    expect_fault(rt, longer.as_slice(), TraceFault::TooLong);
+    Ok(())
+}
+
+#[test]
+fn a_trace_has_at_most_a_million_events(rt: HostRuntime) -> Result<(), Fail> {
+    let mut text = b"shape 1 3 1\n".to_vec(rt.alloc())?;
+    for _ in 0..500_000 {
+        text.extend_from_slice(b"C read s0\nC got s0 1\n")?;
+    }
+    expect_longest(&rt, text.as_slice())?;
+    // The limit is looked at before the line.
+    expect_too_long(&rt, text.as_slice(), b"C read s0\n")?;
+    expect_too_long(&rt, text.as_slice(), b"nonsense\n")?;
+    expect_too_long(&rt, text.as_slice(), b"C")
+}
