@@ -3,11 +3,11 @@ use Rattle.std.proofs.Common.{◌≡◌, ◌⊎◌, inl, inr, ℕ, zero, suc, �
 use Rattle.std.specs.Prelude.{slice_get, slice_index_or}
 use Rattle.std.proofs.Math.Nat.{mod-add-mod}
 use Rattle.bits_core.specs.declared.shapes.Shape.{Shape}
-use Rattle.bits_core.specs.Shape.{capacity_of, modulus_of, width_of}
+use Rattle.bits_core.specs.Shape.{AllFit, capacity_of, modulus_of, width_of}
 use Rattle.bits_core.specs.Made.{Made}
 use Rattle.register_core.specs.Word.{word_write}
 use Rattle.ring_core.specs.Counts.{LeavesRoomFor, distance, past}
-use Rattle.ring_core.specs.Puts.{words_phrase, AllFit, IsBatch}
+use Rattle.ring_core.specs.Puts.{words_phrase, IsBatch}
 use Rattle.ring_core.specs.ProducerCalls.{room_in, HasSeen}
 use Rattle.ring_core.proofs.CountRow.{past_is}
 

@@ -9,12 +9,12 @@ use Rattle.bits_core.specs.Shape.{capacity_of, width_of}
 use Rattle.bits_core.specs.Made.{Made, Read}
 use Rattle.register_core.specs.Word.{word_read}
 use Rattle.register_core.specs.ScanState.{scan_phrase, row_read_by}
-use Rattle.ring_core.specs.Counts.{Count, steps, batch_phrase}
+use Rattle.ring_core.specs.Counts.{Count, batch_phrase}
 use Rattle.ring_core.specs.Puts.{Put, Stored, Full, stored_in, stored_after, words_phrase, put_phrase}
 use Rattle.ring_core.specs.Takes.{Take, Item, ItemAfterClose, Empty, End, Open, Closed, taken_after, taken_in, take_phrase, take_phrases}
 use Rattle.ring_core.specs.Items.{events_in, items_taken}
-use Rattle.ring_core.proofs.Spans.{Span, Passes, Stops, Asks, counts, items_of, whole, before_count, Stands, begun, ended, begun_items, sizes, tally}
-use Rattle.ring_core.proofs.LookSpans.{look, put_looks, take_looks, span_of, spans}
+use Rattle.ring_core.proofs.Spans.{Span, Passes, Stops, Asks, counts, items_of, whole, before_count, IsSpanAt, counts_begun, counts_ended, begun_items, sizes, tally}
+use Rattle.ring_core.proofs.LookSpans.{steps, look, put_looks, take_looks, span_of, spans}
 use Rattle.ring_core.specs.CallsAt.{item_of, stored_ended, taken_begun, take_before_count}
 use Rattle.ring_core.proofs.CountRow.{past_is}
 use Rattle.ring_core.proofs.Cuts.{at_most_or_above}
@@ -33,7 +33,7 @@ no_count true n = omega arith
 no_count false n = omega arith
 
 -- the puts that have ended
-pub stored_ended_is : (shape : Shape) (c : Count) (puts : List Put) (t : ℕ) → stored_ended shape c puts t ≡ ended (spans P shape c (put_looks puts)) t
+pub stored_ended_is : (shape : Shape) (c : Count) (puts : List Put) (t : ℕ) → stored_ended shape c puts t ≡ counts_ended (spans P shape c (put_looks puts)) t
 stored_ended_is shape c [] t = refl
 stored_ended_is shape c (Stored seen items ∷ puts) t =
     let a : List Made = scan_phrase (row_read_by P) seen in
@@ -55,7 +55,7 @@ two_begun a b t = grind (arith, nat_tests)
 
 -- the takes whose count write has begun
 pub taken_begun_is :
-    (shape : Shape) (k : ℕ) (takes : List Take) (end : End) (t : ℕ) → taken_begun shape k takes t ≡ begun (spans C shape (steps shape k) (take_looks takes end)) t
+    (shape : Shape) (k : ℕ) (takes : List Take) (end : End) (t : ℕ) → taken_begun shape k takes t ≡ counts_begun (spans C shape (steps shape k) (take_looks takes end)) t
 taken_begun_is shape k [] Open t = refl
 taken_begun_is shape k [] (Closed seen again) t =
     let y : Span = span_of C shape (steps shape k) (look seen (Asks true)) in
@@ -83,7 +83,7 @@ taken_begun_is shape k (ItemAfterClose seen again item ∷ takes) end t =
     same_count (nat_lt (events_in (take_before_count shape k (ItemAfterClose seen again item))) t) (nat_lt (before_count z) (t - whole y)) 1 _ _
     (ap (λ j. nat_lt j t) front ∙ two_begun (whole y) (before_count z) t)
     (ap (λ j. taken_begun shape (suc k) takes j) later ∙ taken_begun_is shape (suc k) takes end (t - whole y - whole z)) ∙
-    no_count (nat_lt (before_count y) t) ((if nat_lt (before_count z) (t - whole y) then 1 else 0) + begun zs (t - whole y - whole z))
+    no_count (nat_lt (before_count y) t) ((if nat_lt (before_count z) (t - whole y) then 1 else 0) + counts_begun zs (t - whole y - whole z))
 taken_begun_is shape k (Empty seen ∷ takes) end t =
     let y : Span = span_of C shape (steps shape k) (look seen (Asks false)) in
     let long : events_in (take_phrase shape k (Empty seen)) ≡ whole y = take_phrase-empty shape k seen in
@@ -126,7 +126,7 @@ take_tally shape k (Empty seen ∷ takes) end w =
 -- ---- spans that have ended
 
 -- what has ended is counted
-pub ended_counts : (xs : List Span) (s n : ℕ) (x : Span) (i : ℕ) → Stands xs s n x → s + whole x ≤ i → n + counts x.outcome ≤ ended xs i
+pub ended_counts : (xs : List Span) (s n : ℕ) (x : Span) (i : ℕ) → IsSpanAt xs s n x → s + whole x ≤ i → n + counts x.outcome ≤ counts_ended xs i
 ended_counts [] s n x i st l = elim st [ ]
 ended_counts (y ∷ ys) s n x i (inl st) l =
     omega (arith, ap (λ (z : Span). whole z) st.2, ap (λ (z : Span). counts z.outcome) st.2, st.0, st.1, l, ended_past y ys i (i - whole y) (omega (arith, l, st.0, ap (λ (z : Span). whole z) st.2)))
@@ -135,7 +135,7 @@ ended_counts (y ∷ ys) s n x i (inr st) l =
 
 -- and its items are among those whose count write has begun
 pub ended_listed :
-    (most : ℕ) (xs : List Span) → AllProper most xs → (s n : ℕ) (x : Span) (i index item : ℕ) → Stands xs s n x → s + whole x ≤ i →
+    (most : ℕ) (xs : List Span) → AllProper most xs → (s n : ℕ) (x : Span) (i index item : ℕ) → IsSpanAt xs s n x → s + whole x ≤ i →
     slice_get (items_of x.outcome) index ≡ Some item → slice_get (begun_items xs i) (n + index) ≡ Some item
 ended_listed most [] h s n x i index item st l e = elim st [ ]
 ended_listed most (y ∷ ys) h s n x i index item (inl st) l e =

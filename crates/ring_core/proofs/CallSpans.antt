@@ -8,21 +8,21 @@ use Rattle.bits_core.specs.Shape.{capacity_of, width_of}
 use Rattle.bits_core.specs.Made.{Made, Read}
 use Rattle.register_core.specs.Word.{word_read}
 use Rattle.register_core.specs.ScanState.{scan_phrase, row_read_by}
-use Rattle.ring_core.specs.Counts.{past, Count, first_count, steps, count_phrase, batch_phrase}
+use Rattle.ring_core.specs.Counts.{past, Count, first_count, count_phrase, batch_phrase}
 use Rattle.ring_core.specs.Puts.{Put, Stored, Full, Puts, stored_in, stored_after, stored_count, words_phrase, put_phrase, put_phrases}
 use Rattle.ring_core.specs.Takes.{Take, Item, ItemAfterClose, Empty, End, Closed, Takes, taken_after, taken_in, take_phrase, take_phrases}
 use Rattle.ring_core.specs.Items.{events_in}
-use Rattle.ring_core.proofs.Spans.{Span, Outcome, Passes, Stops, Asks, counts, whole, Stands}
-use Rattle.ring_core.proofs.LookSpans.{look, put_looks, take_looks, span_of, spans, put_spans, take_spans}
+use Rattle.ring_core.proofs.Spans.{Span, Outcome, Passes, Stops, Asks, counts, whole, IsSpanAt}
+use Rattle.ring_core.proofs.LookSpans.{steps, look, put_looks, take_looks, span_of, spans, put_spans, take_spans}
 use Rattle.ring_core.specs.CallsAt.{IsPutAt, IsTakeAt, IsEndAt, scan_events, put_seen, second_scan}
 use Rattle.ring_core.proofs.CountRow.{past_is}
 
 -- the same, by equal numbers
-pub stands_at : (xs : List Span) (s s' n n' : ℕ) (x : Span) → s ≡ s' → n ≡ n' → Stands xs s n x → Stands xs s' n' x
-stands_at xs s s' n n' x e f st = subst (λ i. Stands xs i n' x) e (subst (λ j. Stands xs s j x) f st)
+pub stands_at : (xs : List Span) (s s' n n' : ℕ) (x : Span) → s ≡ s' → n ≡ n' → IsSpanAt xs s n x → IsSpanAt xs s' n' x
+stands_at xs s s' n n' x e f st = subst (λ i. IsSpanAt xs i n' x) e (subst (λ j. IsSpanAt xs s j x) f st)
 
 -- behind a first span
-stands_behind : (y : Span) (ys : List Span) (s n s' n' : ℕ) (x : Span) → s' ≡ whole y + s → n' ≡ counts y.outcome + n → Stands ys s n x → Stands (y ∷ ys) s' n' x
+stands_behind : (y : Span) (ys : List Span) (s n s' n' : ℕ) (x : Span) → s' ≡ whole y + s → n' ≡ counts y.outcome + n → IsSpanAt ys s n x → IsSpanAt (y ∷ ys) s' n' x
 stands_behind y ys s n s' n' x e f st = inr (s, n, e, f, st)
 
 pub three : (a b d : List Made) → length ((a ++ b) ++ d) ≡ length a + length b + length d
@@ -44,8 +44,8 @@ stored_is n (Full seen ∷ puts) = stored_is n puts
 -- what stands in the spans of puts stands in those of more puts, behind the events and the items of the ones before
 pub behind_puts :
     (shape : Shape) (c : Count) (before rest : List Put) (s n : ℕ) (x : Span) →
-    Stands (spans P shape (stored_count shape c before) (put_looks rest)) s n x →
-    Stands (spans P shape c (put_looks (before ++ rest))) (events_in (put_phrases shape c before) + s) (put_counts before + n) x
+    IsSpanAt (spans P shape (stored_count shape c before) (put_looks rest)) s n x →
+    IsSpanAt (spans P shape c (put_looks (before ++ rest))) (events_in (put_phrases shape c before) + s) (put_counts before + n) x
 behind_puts shape c [] rest s n x st = stands_at (spans P shape c (put_looks rest)) s (0 + s) n (0 + n) x (omega arith) (omega arith) st
 behind_puts shape c (Stored seen items ∷ before) rest s n x st =
     let next : Count = stored_after shape c (Stored seen items) in
@@ -66,7 +66,7 @@ behind_puts shape c (Full seen ∷ before) rest s n x st =
 -- the span of a look that stands there
 pub record HasSpan (s : Side) (xs : List Span) (n start stop seen : ℕ) (outcome : Outcome) : Type 0 where
   pub span : Span
-  pub stands : Stands xs start n span
+  pub stands : IsSpanAt xs start n span
   pub seen_is : span.seen ≡ seen
   pub outcome_is : span.outcome ≡ outcome
   pub scan_is : span.scan ≡ scan_events s seen
@@ -90,7 +90,7 @@ abbrev pub put_outcome : Put → Outcome
 put_outcome (Stored seen items) = Passes items
 put_outcome (Full seen) = Stops
 
-first_stands : (y : Span) (ys : List Span) → Stands (y ∷ ys) 0 0 y
+first_stands : (y : Span) (ys : List Span) → IsSpanAt (y ∷ ys) 0 0 y
 first_stands y ys = inl (refl, refl, refl)
 
 -- each put has its span, which stands at its own events
@@ -170,8 +170,8 @@ take_phrase-empty shape k seen = omega (arith, length-append (scan_phrase (row_r
 
 pub behind_takes :
     (shape : Shape) (k : ℕ) (before rest : List Take) (end : End) (s n : ℕ) (x : Span) →
-    Stands (spans C shape (steps shape (taken_in k before)) (take_looks rest end)) s n x →
-    Stands (spans C shape (steps shape k) (take_looks (before ++ rest) end)) (events_in (take_phrases shape k before) + s) (take_counts before + n) x
+    IsSpanAt (spans C shape (steps shape (taken_in k before)) (take_looks rest end)) s n x →
+    IsSpanAt (spans C shape (steps shape k) (take_looks (before ++ rest) end)) (events_in (take_phrases shape k before) + s) (take_counts before + n) x
 behind_takes shape k [] rest end s n x st = stands_at (spans C shape (steps shape k) (take_looks rest end)) s (0 + s) n (0 + n) x (omega arith) (omega arith) st
 behind_takes shape k (Item seen item ∷ before) rest end s n x st =
     stands_behind (span_of C shape (steps shape k) (look seen (Passes (item ∷ [])))) (spans C shape (steps shape (suc k)) (take_looks (before ++ rest) end))

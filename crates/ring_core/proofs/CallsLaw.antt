@@ -14,13 +14,13 @@ use Rattle.bits_core.specs.Made.{Made, Read, own, clock, place_of, IsPlaceOf}
 use Rattle.register_core.specs.ScanState.{scan_phrase, row_read_by}
 use Rattle.ring_core.specs.Counts.{distance, first_count}
 use Rattle.ring_core.specs.Puts.{Puts, Stored, Full}
-use Rattle.ring_core.specs.Takes.{Take, Item, ItemAfterClose, Empty, Takes}
+use Rattle.ring_core.specs.Takes.{accesses_before_word, Take, Item, ItemAfterClose, Empty, Takes}
 use Rattle.ring_core.specs.Items.{events_in, items_put, items_taken}
-use Rattle.ring_core.proofs.Spans.{Span, Outcome, Passes, Stops, Asks, counts, before_count, whole, begun, ended, Stands, sizes, tally}
+use Rattle.ring_core.proofs.Spans.{Span, Outcome, Passes, Stops, Asks, counts, before_count, whole, counts_begun, counts_ended, IsSpanAt, sizes, tally}
 use Rattle.ring_core.proofs.Spans as spans
 use Rattle.ring_core.specs.CallsAt as taken
 use Rattle.ring_core.proofs.LookSpans.{put_looks, take_looks, put_spans, take_spans}
-use Rattle.ring_core.specs.CallsAt.{IsPutAt, IsTakeAt, IsEndAt, scan_events, put_seen, take_seen, PutScans, second_scan, TakeScans, word_events, StoresItem, accesses_before_word, TakesItem, puts_begun, puts_ended, takes_begun, takes_ended, IsPutNumber, IsTakeNumber}
+use Rattle.ring_core.specs.CallsAt.{IsPutAt, IsTakeAt, IsEndAt, scan_events, put_seen, take_seen, PutScans, second_scan, TakeScans, word_events, StoresItem, TakesItem, puts_begun, puts_ended, takes_begun, takes_ended, IsPutNumber, IsTakeNumber}
 use Rattle.ring_core.specs.RingLaw.{IsRun, ReadsCount, IsInterval, IsWithin, PutsAreInRange, TakesAreInRange, WordsAreQuiet, TakenArePrefix, TakesMatchPuts, EmptyIsFresh, FullIsFresh, FillIsFresh, ClosedIsTrue}
 use Rattle.ring_core.proofs.RingOfSpans as by_span
 use Rattle.ring_core.proofs.Timeline.{AllProper, length-begun_items, length-ended_items}
@@ -44,7 +44,7 @@ scan_some s seen = omega (arith, length-scan (row_read_by s) seen)
 pub record HasWord (shape : Shape) (calls : Takes) (k item word stop : ℕ) : Type 0 where
   pub start : ℕ
   pub span : Span
-  pub stands : Stands (take_spans shape calls) start k span
+  pub stands : IsSpanAt (take_spans shape calls) start k span
   pub outcome_is : span.outcome ≡ Passes (item ∷ [])
   pub word_is : start + span.scan ≡ word
   pub stop_is : stop ≡ start + whole span
@@ -92,16 +92,16 @@ module _ (facts : OwnFacts) (shape : Shape) (h : List Event) (puts : Puts) (take
 
   -- ---- the counts
 
-  puts_begun_are : (t : ℕ) → begun (put_spans shape puts) t ≡ puts_begun shape puts t
+  puts_begun_are : (t : ℕ) → counts_begun (put_spans shape puts) t ≡ puts_begun shape puts t
   puts_begun_are t = sym (ap length (puts_items shape first_count puts.puts t) ∙ length-begun_items (put_spans shape puts) t)
 
-  puts_ended_are : (t : ℕ) → ended (put_spans shape puts) t ≡ puts_ended shape puts t
+  puts_ended_are : (t : ℕ) → counts_ended (put_spans shape puts) t ≡ puts_ended shape puts t
   puts_ended_are t = sym (stored_ended_is shape first_count puts.puts t)
 
-  takes_begun_are : (t : ℕ) → begun (take_spans shape takes) t ≡ takes_begun shape takes t
+  takes_begun_are : (t : ℕ) → counts_begun (take_spans shape takes) t ≡ takes_begun shape takes t
   takes_begun_are t = sym (taken_begun_is shape 0 takes.takes takes.end t)
 
-  takes_ended_are : (t : ℕ) → ended (take_spans shape takes) t ≡ takes_ended shape takes t
+  takes_ended_are : (t : ℕ) → counts_ended (take_spans shape takes) t ≡ takes_ended shape takes t
   takes_ended_are t = sym (ap length (takes_items shape 0 takes.takes takes.end t) ∙ length-ended_items (take_spans shape takes) t)
 
   put_number : (w : ℕ) → IsPutNumber puts (tally (sizes (put_spans shape puts)) w)
@@ -125,7 +125,7 @@ module _ (facts : OwnFacts) (shape : Shape) (h : List Event) (puts : Puts) (take
 
   reads_count :
       (s : Side) (start seen : ℕ) (x : Span) (IsNumber : ℕ → Type 0) (ended_are begun_are : ℕ → ℕ) (writes : List Span) (least most : ℕ) →
-      ((t : ℕ) → ended writes t ≡ ended_are t) → ((t : ℕ) → begun writes t ≡ begun_are t) → ((w : ℕ) → IsNumber (tally (sizes writes) w)) →
+      ((t : ℕ) → counts_ended writes t ≡ ended_are t) → ((t : ℕ) → counts_begun writes t ≡ begun_are t) → ((w : ℕ) → IsNumber (tally (sizes writes) w)) →
       x.seen ≡ seen → x.scan ≡ scan_events s seen → start + scan_events s seen ≤ length (own s h) →
       by_span.ReadsCount (modulus_of shape) (clock s h) (clock (other s) h) writes start x least most →
       ReadsCount s shape h start seen IsNumber ended_are begun_are least most

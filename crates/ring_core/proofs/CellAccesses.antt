@@ -20,9 +20,9 @@ use Rattle.register_core.specs.Word.{digit, digit_reads, digit_writes, word_read
 use Rattle.register_core.specs.ScanState.{zero_reads, scan_phrase, row_read_by}
 use Rattle.ring_core.specs.Counts.{Count, first_count, count_bits, count_phrase, batch_phrase}
 use Rattle.ring_core.specs.Puts.{Put, Puts, Stored, Full, stored_in, stored_after, words_phrase, put_phrase, put_phrases, close_phrase, put_program}
-use Rattle.ring_core.specs.Takes.{Take, Takes, Item, ItemAfterClose, Empty, End, Open, Closed, taken_after, taken_in, item_phrase, take_phrase, take_phrases, end_phrase, take_program}
+use Rattle.ring_core.specs.Takes.{accesses_before_word, Take, Takes, Item, ItemAfterClose, Empty, End, Open, Closed, taken_after, taken_in, item_phrase, take_phrase, take_phrases, end_phrase, take_program}
 use Rattle.ring_core.specs.Items.{events_in}
-use Rattle.ring_core.specs.CallsAt.{scan_events, word_events, StoresItem, item_of, accesses_before_word, TakesItem}
+use Rattle.ring_core.specs.CallsAt.{scan_events, word_events, StoresItem, item_of, TakesItem}
 use Rattle.ring_core.specs.RingLaw.{IsRun, IsInterval, bit_of, WordsAreQuiet, CellsAreQuiet}
 use Rattle.ring_core.proofs.Cuts.{at_most_or_above}
 use Rattle.ring_core.proofs.Gates.{clock_up, clock_p, clock_c}

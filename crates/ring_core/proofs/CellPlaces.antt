@@ -16,7 +16,7 @@ use Rattle.register_core.specs.Word.{digit, digit_writes, word_write, word_write
 use Rattle.register_core.specs.ScanState.{scan_phrase, row_read_by}
 use Rattle.ring_core.specs.Counts.{Count}
 use Rattle.ring_core.specs.Puts.{words_phrase}
-use Rattle.ring_core.proofs.Spans.{Outcome, Passes, Stops, Asks, Span, counts, items_of, whole, Stands}
+use Rattle.ring_core.proofs.Spans.{Outcome, Passes, Stops, Asks, Span, counts, items_of, whole, IsSpanAt}
 use Rattle.ring_core.proofs.LookSpans.{Look, word_part, count_part, after_look, look_accesses, span_of, spans}
 use Rattle.ring_core.proofs.Phrases.{length-digit_writes, at_or_below}
 use Rattle.ring_core.proofs.Lengths.{length-word_write, length-words}
@@ -27,7 +27,7 @@ use Rattle.ring_core.proofs.Cuts.{at_most_or_above}
 -- ---- the order of spans
 
 -- a span ends before each span with a larger number begins
-pub stands_order : (xs : List Span) (s n s' n' : ℕ) (x x' : Span) → Stands xs s n x → Stands xs s' n' x' → n < n' → s + whole x ≤ s'
+pub stands_order : (xs : List Span) (s n s' n' : ℕ) (x x' : Span) → IsSpanAt xs s n x → IsSpanAt xs s' n' x' → n < n' → s + whole x ≤ s'
 stands_order [] s n s' n' x x' st st' l = elim st [ ]
 stands_order (y ∷ ys) s n s' n' x x' (inl a) (inl b) l = absurd (omega (arith, a.1, b.1, l))
 stands_order (y ∷ ys) s n s' n' x x' (inl a) (inr b) l = omega (arith, a.0, b.2, ap whole a.2)
@@ -37,7 +37,7 @@ stands_order (y ∷ ys) s n s' n' x x' (inr a) (inr b) l =
     omega (arith, r, a.2, b.2)
 
 -- behind a span there are its items too
-pub stands_numbers : (xs : List Span) (s n s' n' : ℕ) (x x' : Span) → Stands xs s n x → Stands xs s' n' x' → n < n' → n + counts x.outcome ≤ n'
+pub stands_numbers : (xs : List Span) (s n s' n' : ℕ) (x x' : Span) → IsSpanAt xs s n x → IsSpanAt xs s' n' x' → n < n' → n + counts x.outcome ≤ n'
 stands_numbers [] s n s' n' x x' st st' l = elim st [ ]
 stands_numbers (y ∷ ys) s n s' n' x x' (inl a) (inl b) l = absurd (omega (arith, a.1, b.1, l))
 stands_numbers (y ∷ ys) s n s' n' x x' (inl a) (inr b) l = omega (arith, a.1, b.3, ap (λ (z : Span). counts z.outcome) a.2)
@@ -48,14 +48,14 @@ stands_numbers (y ∷ ys) s n s' n' x x' (inr a) (inr b) l =
 
 -- two spans that count items behind the same number begin at one place
 pub stands_same :
-    (xs : List Span) (s n s' : ℕ) (x x' : Span) → Stands xs s n x → 1 ≤ counts x.outcome → Stands xs s' n x' → 1 ≤ counts x'.outcome → (s ≡ s') × (x ≡ x')
+    (xs : List Span) (s n s' : ℕ) (x x' : Span) → IsSpanAt xs s n x → 1 ≤ counts x.outcome → IsSpanAt xs s' n x' → 1 ≤ counts x'.outcome → (s ≡ s') × (x ≡ x')
 stands_same [] s n s' x x' st o st' o' = elim st [ ]
 stands_same (y ∷ ys) s n s' x x' (inl a) o (inl b) o' = (omega (arith, a.0, b.0), a.2 ∙ sym b.2)
 stands_same (y ∷ ys) s n s' x x' (inl a) o (inr b) o' = absurd (omega (arith, o, a.1, b.3, ap (λ (z : Span). counts z.outcome) a.2))
 stands_same (y ∷ ys) s n s' x x' (inr a) o (inl b) o' = absurd (omega (arith, o', b.1, a.3, ap (λ (z : Span). counts z.outcome) b.2))
 stands_same (y ∷ ys) s n s' x x' (inr a) o (inr b) o' =
     let z : b.1 ≡ a.1 = omega (arith, a.3, b.3) in
-    let st' : Stands ys b.0 a.1 x' = subst (λ (k : ℕ). Stands ys b.0 k x') z b.4 in
+    let st' : IsSpanAt ys b.0 a.1 x' = subst (λ (k : ℕ). IsSpanAt ys b.0 k x') z b.4 in
     let (starts, spans') = stands_same ys a.0 a.1 b.0 x x' a.4 o st' o' in
     (omega (arith, a.2, b.2, starts), spans')
 
@@ -68,7 +68,7 @@ multiple_up a b w l =
 
 -- words stand in the order of their items
 pub words_order :
-    (w : ℕ) (xs : List Span) (s n i s' n' i' : ℕ) (x x' : Span) → Stands xs s n x → Stands xs s' n' x' → i < counts x.outcome → i' < counts x'.outcome →
+    (w : ℕ) (xs : List Span) (s n i s' n' i' : ℕ) (x x' : Span) → IsSpanAt xs s n x → IsSpanAt xs s' n' x' → i < counts x.outcome → i' < counts x'.outcome →
     x.word ≡ 2 * (counts x.outcome * w) → n + i ≤ n' + i' → s + x.scan + 2 * (i * w) ≤ s' + x'.scan + 2 * (i' * w)
 words_order w xs s n i s' n' i' x x' st st' l l' word o = elim (at_most_or_above n n') [
   | inr m ↦ absurd (omega (arith, stands_numbers xs s' n' s n x' x st' st m, l', o))
@@ -76,7 +76,7 @@ words_order w xs s n i s' n' i' x x' st st' l l' word o = elim (at_most_or_above
     | inr m' ↦ omega (arith, stands_order xs s n s' n' x x' st st' m', word, multiple_up i (counts x.outcome) w (omega (arith, l)))
     | inl m' ↦ (
         let same : n' ≡ n = omega (arith, m, m') in
-        let st'' : Stands xs s' n x' = subst (λ (k : ℕ). Stands xs s' k x') same st' in
+        let st'' : IsSpanAt xs s' n x' = subst (λ (k : ℕ). IsSpanAt xs s' k x') same st' in
         let (starts, are) = stands_same xs s n s' x x' st (omega (arith, l)) st'' (omega (arith, l')) in
         omega (arith, starts, ap (λ (y : Span). y.scan) are, multiple_up i i' w (omega (arith, o, same))))
   ]
@@ -91,7 +91,7 @@ pub record CellTime (shape : Shape) (looks : List Look) (c : Count) (j d place :
   pub index : ℕ
   pub put : Span
   pub item : ℕ
-  pub stands : Stands (spans P shape c looks) start number put
+  pub stands : IsSpanAt (spans P shape c looks) start number put
   pub stored : slice_get (items_of put.outcome) index ≡ Some item
   pub same_cell : (c.number + (number + index)) % capacity_of shape ≡ j
   pub place_is : place ≡ start + put.scan + 2 * (index * width_of shape) + 2 * d
@@ -349,7 +349,7 @@ past_three a b c r t = sym (append_assoc a (b ++ (c ++ r)) t ∙ ap (λ l. a ++ 
 -- each item that a put stores to the cell has its word there
 pub word_time :
     (shape : Shape) (c : Count) (looks : List Look) (behind : List Made) (j start number index : ℕ) (put : Span) (item : ℕ) →
-    Stands (spans P shape c looks) start number put → slice_get (items_of put.outcome) index ≡ Some item → (c.number + (number + index)) % capacity_of shape ≡ j →
+    IsSpanAt (spans P shape c looks) start number put → slice_get (items_of put.outcome) index ≡ Some item → (c.number + (number + index)) % capacity_of shape ≡ j →
     WordTime shape looks behind c j item (start + put.scan + 2 * (index * width_of shape))
 word_time shape c [] behind j start number index put item st e f = elim st [ ]
 word_time shape c (l ∷ looks) behind j start number index put item (inl st) e f =
@@ -464,7 +464,7 @@ length-part s shape n (Asks answer) e = absurd (omega (arith, e))
 -- a span that counts items has two events for each digit of their words
 pub word_events :
     (s : Side) (shape : Shape) (c : Count) (looks : List Look) (start number : ℕ) (x : Span) →
-    Stands (spans s shape c looks) start number x → 1 ≤ counts x.outcome → x.word ≡ 2 * (counts x.outcome * width_of shape)
+    IsSpanAt (spans s shape c looks) start number x → 1 ≤ counts x.outcome → x.word ≡ 2 * (counts x.outcome * width_of shape)
 word_events s shape c [] start number x st e = elim st [ ]
 word_events s shape c (l ∷ looks) start number x (inl st) e =
     let some : 1 ≤ counts l.outcome = omega (arith, e, ap (λ (y : Span). counts y.outcome) st.2) in
@@ -482,7 +482,7 @@ pub record ReadTime (shape : Shape) (all : List Made) (j item place : ℕ) : Typ
 -- each take that takes an item has its word read there
 pub read_time :
     (shape : Shape) (c : Count) (looks : List Look) (behind : List Made) (start number : ℕ) (x : Span) (item : ℕ) →
-    Stands (spans C shape c looks) start number x → x.outcome ≡ Passes (item ∷ []) →
+    IsSpanAt (spans C shape c looks) start number x → x.outcome ≡ Passes (item ∷ []) →
     ReadTime shape (look_accesses C shape c looks behind) ((c.number + number) % capacity_of shape) item (start + x.scan)
 read_time shape c [] behind start number x item st e = elim st [ ]
 read_time shape c (l ∷ looks) behind start number x item (inl st) e =

@@ -9,7 +9,7 @@ use Rattle.bits_core.specs.declared.events.Bit.TheVariants.{S, R, X, Cell}
 use Rattle.bits_core.specs.declared.events.Act.TheVariants.{ReadBegin}
 use Rattle.bits_core.specs.declared.events.Access.TheVariants as begins
 use Rattle.bits_core.specs.declared.shapes.Shape.{Shape}
-use Rattle.bits_core.specs.Shape.{capacity_of, width_of}
+use Rattle.bits_core.specs.Shape.{AllFit, capacity_of, width_of}
 use Rattle.bits_core.specs.Made.{Made, Read, Write, access_of, begin_event}
 use Rattle.register_core.specs.Row.{RowWrite, row_bit, row_write, writes_in}
 use Rattle.register_core.specs.Word.{digit_writes, word_write, word_writes}
@@ -17,8 +17,8 @@ use Rattle.register_core.specs.WordLaw.{cell_write}
 use Rattle.register_core.specs.ScanState.{scan_phrase, zero_reads, row_read_by}
 use Rattle.register_core.specs.MadeWrites.{made_writes}
 use Rattle.ring_core.specs.Counts.{Count}
-use Rattle.ring_core.specs.Puts.{words_phrase, AllFit}
-use Rattle.ring_core.proofs.Spans.{Outcome, Passes, Stops, Asks, Span, counts, items_of, whole, Stands}
+use Rattle.ring_core.specs.Puts.{words_phrase}
+use Rattle.ring_core.proofs.Spans.{Outcome, Passes, Stops, Asks, Span, counts, items_of, whole, IsSpanAt}
 use Rattle.ring_core.proofs.LookSpans.{Look, word_part, count_part, look_number, after_look, look_accesses, span_of, spans}
 use Rattle.ring_core.proofs.Phrases.{length-digit_writes}
 
@@ -230,7 +230,7 @@ looks_to_cell shape j c (l ∷ looks) behind none =
 
 -- each item of these spans fits
 abbrev pub ItemsFit : Shape → List Span → Type 0
-ItemsFit shape xs = (start number : ℕ) (x : Span) → Stands xs start number x → AllFit shape (items_of x.outcome)
+ItemsFit shape xs = (start number : ℕ) (x : Span) → IsSpanAt xs start number x → AllFit shape (items_of x.outcome)
 
 stored_fit : (shape : Shape) (j n : ℕ) (items : List ℕ) → AllFit shape items → All (λ v. v < 2 ^ width_of shape) (stored_to shape j n items)
 stored_fit shape j n [] fit = All-nil _

@@ -1,5 +1,5 @@
 -- The access that the consumer's machine has due is the next one of its take.
-use Rattle.std.proofs.Common.{◌≡◌, ◌⊎◌, inl, inr, ℕ, suc, ◌+◌, ◌^◌, ◌%◌, ◌<◌, ◌≤◌, Bool, true, false, Option, Some, None, List, [], ◌∷◌, ◌++◌, length, refl, sym, ap, subst, ◌∙◌, arith, append_assoc, append-nil, length-append}
+use Rattle.std.proofs.Common.{◌≡◌, ◌⊎◌, inl, inr, ℕ, suc, ◌+◌, ◌^◌, ◌%◌, ◌<◌, ◌≤◌, Bool, true, false, IfSome, Option, Some, None, List, [], ◌∷◌, ◌++◌, length, refl, sym, ap, subst, ◌∙◌, arith, append_assoc, append-nil, length-append}
 use Rattle.std.proofs.lemmas.Bool.Decides.{nat_tests}
 use Rattle.std.proofs.lemmas.List.{append_cancel_left}
 use Rattle.std.proofs.lemmas.Nat.{pow_pos}
@@ -8,7 +8,8 @@ use Rattle.bits_core.specs.declared.events.Bit.TheVariants.{X, Cell}
 use Rattle.bits_core.specs.declared.events.Access.{Access}
 use Rattle.bits_core.specs.declared.events.Access.TheVariants as begins
 use Rattle.bits_core.specs.declared.shapes.Shape.{Shape}
-use Rattle.bits_core.specs.Shape.{capacity_of, modulus_of, width_of}
+use Rattle.bits_core.specs.Shape.{belongs, capacity_of, modulus_of, width_of}
+use Rattle.bits_core.specs.Open.{IsOpenRight}
 use Rattle.bits_core.specs.Made.{Made, Read, answered, IsBeginning}
 use Rattle.register_core.specs.Machine.{IsNext}
 use Rattle.register_core.specs.Row.{row_bit}
@@ -19,11 +20,11 @@ use Rattle.register_core.specs.Unary.{count_writes}
 use Rattle.register_core.specs.UnaryState.{UnaryStands, due_unary, due_writes}
 use Rattle.ring_core.specs.declared.consumers.Stage.TheVariants.{Scanning, Checking, Rescanning, Loading, Counting}
 use Rattle.ring_core.specs.Counts.{ShowsItem, distance, counted, count_phrase}
-use Rattle.ring_core.specs.Calls.{LastBitIsDue, IsScanning, EndsInZeros}
+use Rattle.ring_core.specs.Calls.{IsScanning, EndsInZeros}
 use Rattle.ring_core.specs.Lengths.{longest_take}
 use Rattle.ring_core.specs.Takes.{Take, Takes, Item, ItemAfterClose, Empty, Open, Closed, taken_in, item_phrase, take_phrase, take_phrases, end_phrase, take_program, IsTake, SeesNone, AreTakes}
 use Rattle.ring_core.specs.ConsumerState.{ConsumerState, IsLoading, takes_at, is_taking}
-use Rattle.ring_core.specs.ConsumerCalls.{ConsumerStands, Finding, Twice, finding_phrase, Finds, and_take, and_end, Begins, IsNextTake}
+use Rattle.ring_core.specs.ConsumerCalls.{ConsumerStands, Finding, Twice, finding_phrase, Finds, and_take, and_end, Begins, TakeGoesOn}
 use Rattle.ring_core.proofs.Lengths.{takes-are_short, ends-are_short}
 use Rattle.ring_core.proofs.MachineParts.{count_writes-push, longer}
 use Rattle.ring_core.proofs.NextParts.{begins_more, begins_behind, length-part, scan_due, scan_reads, scan_goes_on, answered_write, first_writes}
@@ -132,20 +133,39 @@ begins_short shape calls made y (more, has, (rest, e)) =
 
 -- ---- the stages
 
--- the access that is due, and the take that it begins
-abbrev NextOf : Shape → Takes → List Made → Access → Type 0
-NextOf shape calls made access =
-    (answer : Bool) → (LastBitIsDue shape C (Some access) → answer ≡ true) → Begins shape calls (made ++ answered access answer ∷ [])
+-- a take is under way, and goes on with the access that is due
+pub record Going (shape : Shape) (taking : Bool) (calls : Takes) (made : List Made) (due : Option Access) : Type 0 where
+  pub access : Access
+  pub taking_is : taking ≡ true
+  pub due_is : due ≡ Some access
+  pub goes_on : TakeGoesOn shape calls made access
+
+pub going_rests :
+    (shape : Shape) (taking : Bool) (calls : Takes) (made : List Made) (due : Option Access) → Going shape taking calls made due → due ≡ None →
+    (taking ≡ false) × (made ≡ take_program shape calls)
+going_rests shape taking calls made due g none = absurd (let clash : Some g.access ≡ None = sym g.due_is ∙ none in cc)
+
+pub going_on :
+    (shape : Shape) (taking : Bool) (calls : Takes) (made : List Made) (due : Option Access) → Going shape taking calls made due → (access : Access) →
+    due ≡ Some access → (taking ≡ true) × TakeGoesOn shape calls made access
+going_on shape taking calls made due g access e = (g.taking_is, subst (λ a. TakeGoesOn shape calls made a) (some_same g.access access (sym g.due_is ∙ e)) g.goes_on)
+  where
+    some_same : (a b : Access) → Some a ≡ Some b → a ≡ b
+    some_same a b e = cc
+
+pub going_bounded :
+    (shape : Shape) (taking : Bool) (calls : Takes) (made : List Made) (due : Option Access) → Going shape taking calls made due →
+    length made < length (take_program shape calls) + longest_take shape
+going_bounded shape taking calls made due g = begins_short shape calls made (answered g.access true) (g.goes_on true (λ l. refl))
 
 is_next : (shape : Shape) (taking : Bool) (calls : Takes) (made : List Made) (due : Option Access) (access : Access) → taking ≡ true → due ≡ Some access →
-    NextOf shape calls made access → IsNextTake shape calls taking made due
-is_next shape taking calls made due access taking_is due_is next =
-    rw taking_is (rw due_is (next, begins_short shape calls made (answered access true) (next true (λ l. refl))))
+    TakeGoesOn shape calls made access → Going shape taking calls made due
+is_next shape taking calls made due access taking_is due_is next = record { access = access; taking_is = taking_is; due_is = due_is; goes_on = next }
 
 -- the first scan
 pub next_scan :
     (p : ConsumerState) (calls : Takes) (made : List Made) (due : Option Access) → p.stage ≡ Scanning → ConsumerStands p calls made →
-    IsScanning C (modulus_of p.shape) p.scan → due ≡ due_scan p.scan → IsNextTake p.shape calls (is_taking p) made due
+    IsScanning C (modulus_of p.shape) p.scan → due ≡ due_scan p.scan → Going p.shape (is_taking p) calls made due
 next_scan p calls made due e stands scans due_is =
     let (rests, reads, scan_stands, made_is) = made_at Scanning p calls made e stands in
     let o : calls.end ≡ Open = open_at Scanning p calls made e stands in
@@ -176,7 +196,7 @@ begins_check shape calls made seen false are o sees made_is =
 -- the read of the close bit
 pub next_check :
     (p : ConsumerState) (calls : Takes) (made : List Made) → p.stage ≡ Checking → ConsumerStands p calls made →
-    IsNextTake p.shape calls (is_taking p) made (Some (begins.Read X))
+    Going p.shape (is_taking p) calls made (Some (begins.Read X))
 next_check p calls made e stands =
     let (rests, seen, sees, made_is) = made_at Checking p calls made e stands in
     let o : calls.end ≡ Open = open_at Checking p calls made e stands in
@@ -186,7 +206,7 @@ next_check p calls made e stands =
 -- the second scan
 pub next_rescan :
     (p : ConsumerState) (calls : Takes) (made : List Made) (due : Option Access) → p.stage ≡ Rescanning → ConsumerStands p calls made →
-    IsScanning C (modulus_of p.shape) p.scan → due ≡ due_scan p.scan → IsNextTake p.shape calls (is_taking p) made due
+    IsScanning C (modulus_of p.shape) p.scan → due ≡ due_scan p.scan → Going p.shape (is_taking p) calls made due
 next_rescan p calls made due e stands scans due_is =
     let (rests, seen, sees, reads, scan_stands, made_is) = made_at Rescanning p calls made e stands in
     let o : calls.end ≡ Open = open_at Rescanning p calls made e stands in
@@ -205,11 +225,26 @@ next_rescan p calls made due e stands scans due_is =
 read_due : (r : ReaderState) → r.read < r.width → due_read r ≡ Some (begins.Read (Cell r.cell r.read))
 read_due r l = grind (arith, nat_tests)
 
+pub word_right :
+    (p : ConsumerState) (due : Option Access) → IsLoading p → p.cell < capacity_of p.shape → p.word.read < p.word.width → due ≡ due_read p.word →
+    IfSome due (IsOpenRight p.shape C)
+word_right p due loads below more due_is =
+    subst (λ d. IfSome d (IsOpenRight p.shape C)) (sym (due_is ∙ read_due p.word more)) (in_shape cell_below digit_below, refl)
+  where
+    cell_below : p.word.cell < capacity_of p.shape
+    cell_below = subst (λ j. j < capacity_of p.shape) (sym loads.cell_is) below
+
+    digit_below : p.word.read < width_of p.shape
+    digit_below = subst (λ n. p.word.read < n) loads.width_is more
+
+    in_shape : p.word.cell < capacity_of p.shape → p.word.read < width_of p.shape → belongs p.shape (Cell p.word.cell p.word.read) ≡ true
+    in_shape a b = grind (arith, nat_tests)
+
 -- the word
 pub next_word :
     (p : ConsumerState) (calls : Takes) (made : List Made) (due : Option Access) → p.stage ≡ Loading → ConsumerStands p calls made → IsLoading p →
     p.word.read < p.word.width → due ≡ due_read p.word → ((reads : List Made) → ReaderStands p.word reads → IsNextRead p.word.width p.word.cell reads due) →
-    IsNextTake p.shape calls (is_taking p) made due
+    Going p.shape (is_taking p) calls made due
 next_word p calls made due e stands loads unread due_is next =
     let (rests, look, finds, reads, words, made_is) = made_at Loading p calls made e stands in
     let o : calls.end ≡ Open = open_at Loading p calls made e stands in
@@ -236,7 +271,7 @@ pub next_count_write :
     (p : ConsumerState) (calls : Takes) (made : List Made) (due : Option Access) → p.stage ≡ Counting → ConsumerStands p calls made → p.row.side ≡ C →
     (due_unary p.row ≡ None → ⊥) → due ≡ due_unary p.row →
     ((values : List ℕ) (made : List Made) → UnaryStands p.row values made → IsNext (count_writes p.row.side values) made due) →
-    IsNextTake p.shape calls (is_taking p) made due
+    Going p.shape (is_taking p) calls made due
 next_count_write p calls made due e stands side some due_is next =
     let (look, finds, fits, writes, rows, made_is) = made_at Counting p calls made e stands in
     let o : calls.end ≡ Open = open_at Counting p calls made e stands in

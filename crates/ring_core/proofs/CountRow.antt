@@ -11,7 +11,7 @@ use Rattle.bits_core.specs.Shape.{batch_of, capacity_of, modulus_of}
 use Rattle.bits_core.specs.Made.{Write}
 use Rattle.register_core.specs.Row.{RowWrite, row_bit, first_bits, bits_with, bits_after}
 use Rattle.register_core.specs.Unary.{clearing, setting, unary_phrase, unary_writes, row_writes, writes_of}
-use Rattle.ring_core.specs.Counts.{bits_held, counted, count_phrase, past, Count, first_count, count_bits, batch_phrase, counted_on, IsCount}
+use Rattle.ring_core.specs.Counts.{bits_held, counted, count_phrase, past, Count, first_count, count_bits, batch_phrase, IsCount}
 use Rattle.ring_core.proofs.Distances.{apart}
 
 -- ---- a unary write over any bits
@@ -269,6 +269,10 @@ past_is n (item ∷ items) = omega (arith, past_is (suc n) items)
 -- a new count is one
 pub first_is_count : (shape : Shape) → IsCount shape first_count
 first_is_count shape = record { set = held_sets shape 0; clear = held_clears shape 0 }
+
+-- a count after the write that counts these items too
+abbrev pub counted_on : Shape → Count → List ℕ → Count
+counted_on shape c items = record { number = past c.number items; bits = bits_after c.bits (count_bits shape c items) }
 
 -- and so is one after a write
 pub counted_is_count : (shape : Shape) (c : Count) (items : List ℕ) → IsCount shape (counted_on shape c items)

@@ -22,7 +22,7 @@ use Rattle.register_core.specs.Word.{digit, digit_writes, digit_reads}
 use Rattle.register_core.specs.ScanState.{zero_reads, scan_phrase, row_read_by}
 use Rattle.ring_core.specs.Counts.{past, Count, first_count, count_bits, batch_phrase, IsCount}
 use Rattle.ring_core.specs.Puts.{words_phrase, close_phrase}
-use Rattle.ring_core.proofs.Spans.{Outcome, Passes, Stops, Asks, Span, counts, begun, ended, size_of, sizes, tally}
+use Rattle.ring_core.proofs.Spans.{Outcome, Passes, Stops, Asks, Span, counts, counts_begun, counts_ended, size_of, sizes, tally}
 use Rattle.ring_core.proofs.LookSpans.{Look, words_read, word_part, count_part, look_number, look_bits, after_look, look_accesses, spans}
 use Rattle.ring_core.proofs.Cuts.{at_most_or_above}
 use Rattle.ring_core.proofs.CountRow.{past_is, first_is_count, bits_long}
@@ -346,10 +346,10 @@ tally_begun m ms u us (suc t) = omega arith
 -- one look: its count write and what follows, behind so many events
 begun_step :
     (s : Side) (shape : Shape) (c : Count) (o : Outcome) (ms vs : List ℕ) (after : List Made) (xs : List Span) (place : ℕ) →
-    ((i : ℕ) → tally ms (unary.begun (unary_writes (look_bits shape c o) vs) (bit_writes s (events_of s after) i)) ≤ begun xs i) → (i : ℕ) →
+    ((i : ℕ) → tally ms (unary.begun (unary_writes (look_bits shape c o) vs) (bit_writes s (events_of s after) i)) ≤ counts_begun xs i) → (i : ℕ) →
     tally (size_of o ++ ms)
     (unary.begun (unary_writes c.bits (value_of shape c.number o ++ vs)) (bit_writes s (events_of s (count_part s shape c o ++ after)) (i - place))) ≤
-    (if nat_lt place i then counts o else 0) + begun xs (i - (place + 2 * length (count_part s shape c o)))
+    (if nat_lt place i then counts o else 0) + counts_begun xs (i - (place + 2 * length (count_part s shape c o)))
 begun_step s shape c (Passes items) ms vs after xs place rest i =
     let ws : List RowWrite = count_bits shape c items in
     let m : ℕ = length items in
@@ -387,7 +387,7 @@ begun_step s shape c (Asks answer) ms vs after xs place rest i =
 
 begun_from_look :
     (s : Side) (shape : Shape) (c : Count) (looks : List Look) (behind : List Made) (i : ℕ) →
-    tally (sizes_in looks) (unary.begun (writes_from shape c looks) (bit_writes s (events_of s (look_accesses s shape c looks behind)) i)) ≤ begun (spans s shape c looks) i
+    tally (sizes_in looks) (unary.begun (writes_from shape c looks) (bit_writes s (events_of s (look_accesses s shape c looks behind)) i)) ≤ counts_begun (spans s shape c looks) i
 begun_from_look s shape c [] behind i = omega arith
 begun_from_look s shape c (l ∷ looks) behind i =
     let a : List Made = scan_phrase (row_read_by s) l.seen in
@@ -403,8 +403,8 @@ begun_from_look s shape c (l ∷ looks) behind i =
 -- a count write that has ended had all its bit writes begun one event before
 ended_step :
     (most : ℕ) (s : Side) (shape : Shape) (c : Count) (o : Outcome) (ms vs : List ℕ) (after : List Made) (xs : List Span) (place : ℕ) → AllProper most xs →
-    ((i : ℕ) → ended xs i ≤ tally ms (unary.ended (unary_writes (look_bits shape c o) vs) (bit_writes s (events_of s after) (i - 1)))) → (i : ℕ) →
-    (if nat_le (place + 2 * length (count_part s shape c o)) i then counts o else 0) + ended xs (i - (place + 2 * length (count_part s shape c o))) ≤
+    ((i : ℕ) → counts_ended xs i ≤ tally ms (unary.ended (unary_writes (look_bits shape c o) vs) (bit_writes s (events_of s after) (i - 1)))) → (i : ℕ) →
+    (if nat_le (place + 2 * length (count_part s shape c o)) i then counts o else 0) + counts_ended xs (i - (place + 2 * length (count_part s shape c o))) ≤
     tally (size_of o ++ ms)
     (unary.ended (unary_writes c.bits (value_of shape c.number o ++ vs)) (bit_writes s (events_of s (count_part s shape c o ++ after)) (i - 1 - place)))
 ended_step most s shape c (Passes items) ms vs after xs place proper rest i =
@@ -427,7 +427,7 @@ ended_step most s shape c (Passes items) ms vs after xs place proper rest i =
           omega (arith, more, same, rest past, le_so (place + 2 * length d) i m l))
       | inr l ↦ (
           let none : past ≡ 0 = omega (arith, l) in
-          let none_ended : ended xs past ≡ 0 = ap (ended xs) none ∙ ended_zero most xs proper in
+          let none_ended : counts_ended xs past ≡ 0 = ap (counts_ended xs) none ∙ ended_zero most xs proper in
           omega (arith, none_ended, le_none (place + 2 * length d) i m l))
     ]
 ended_step most s shape c Stops ms vs after xs place proper rest i =
@@ -445,7 +445,7 @@ ended_step most s shape c (Asks answer) ms vs after xs place proper rest i =
 
 ended_from_look :
     (s : Side) (shape : Shape) (c : Count) (looks : List Look) (behind : List Made) → IsCount shape c → AllPassing (batch_of shape) looks → (i : ℕ) →
-    ended (spans s shape c looks) i ≤
+    counts_ended (spans s shape c looks) i ≤
     tally (sizes_in looks) (unary.ended (writes_from shape c looks) (bit_writes s (events_of s (look_accesses s shape c looks behind)) (i - 1)))
 ended_from_look s shape c [] behind is p i = omega arith
 ended_from_look s shape c (l ∷ looks) behind is p i =
@@ -467,13 +467,13 @@ ended_from_look s shape c (l ∷ looks) behind is p i =
 pub count_writes_begun :
     (s : Side) (shape : Shape) (looks : List Look) (behind : List Made) → AllPassing (batch_of shape) looks → (i : ℕ) →
     tally (sizes_in looks) (unary.begun (numbered_of (counted_in shape looks)) (bit_writes s (events_of s (look_accesses s shape first_count looks behind)) i)) ≤
-    begun (spans s shape first_count looks) i
+    counts_begun (spans s shape first_count looks) i
 count_writes_begun s shape looks behind p i = rw (numbered_is shape looks p) (begun_from_look s shape first_count looks behind i)
 
 -- where a count write of the spans has ended, its unary write had begun all its bit writes one event before
 pub count_writes_ended :
     (s : Side) (shape : Shape) (looks : List Look) (behind : List Made) → AllPassing (batch_of shape) looks → (i : ℕ) →
-    ended (spans s shape first_count looks) i ≤
+    counts_ended (spans s shape first_count looks) i ≤
     tally (sizes_in looks) (unary.ended (numbered_of (counted_in shape looks)) (bit_writes s (events_of s (look_accesses s shape first_count looks behind)) (i - 1)))
 count_writes_ended s shape looks behind p i = rw (numbered_is shape looks p) (ended_from_look s shape first_count looks behind (first_is_count shape) p i)
 

@@ -90,3 +90,13 @@ cut (u ∷ us) vs (m ∷ made) more l e =
 pub also_begins :
     (us rest made left : List Made) → made ≡ us ++ rest → IsBeginning made left → (more : List Made) × (us ++ (rest ++ more) ≡ left)
 also_begins us rest made left e (more, f) = (more, sym (append_assoc us rest more) ∙ ap (λ l. l ++ more) (sym e) ∙ f)
+
+-- accesses whose events begin those of others begin these
+pub made_first : (s : Side) (left right : List Made) → IsBeginning (events_of s left) (events_of s right) → IsBeginning left right
+made_first s [] right begins = (right, refl)
+made_first s (x ∷ left) [] (r, e) = absurd (cc)
+made_first s (x ∷ left) (y ∷ right) (r, e) =
+    let same : x ≡ y = same_made s x y (cc) (cc) in
+    let tails : events_of s left ++ r ≡ events_of s right = cc in
+    let (rest, f) = made_first s left right (r, tails) in
+    (rest, ap (λ l. x ∷ l) f ∙ ap (λ z. z ∷ right) same)

@@ -1,7 +1,7 @@
 -- The counts of the two sides at each moment: what scans read of them, and the two gates.
 use Rattle.std.proofs.Common.{◌≡◌, ◌⊎◌, inl, inr, ℕ, zero, suc, ◌+◌, ◌-◌, ◌<◌, ◌≤◌, ◌%◌, List, [], ◌∷◌, subst, zero-add, suc-add, add-zero, arith}
 use Rattle.ring_core.specs.Counts.{distance}
-use Rattle.ring_core.proofs.Spans.{Span, counts, begun, ended, Stands, sizes, tally}
+use Rattle.ring_core.proofs.Spans.{Span, counts, counts_begun, counts_ended, IsSpanAt, sizes, tally}
 use Rattle.ring_core.proofs.Clocks.{Clocks, IsPlace, AreRegular, Ring}
 use Rattle.ring_core.proofs.Cuts.{at_most_or_above}
 use Rattle.ring_core.proofs.Timeline.{Proper, AllProper, before-whole, begun_zero, ended_begun, begun_at, begun_step, begun_up}
@@ -70,11 +70,11 @@ record Read (modulus : ℕ) (own other : ℕ → ℕ) (scans writes : List Span)
   pub by_now : last ≤ t
   pub first_is : IsPlace own s first
   pub last_is : IsPlace own (s + (x.scan - 1)) last
-  pub at_first : begun scans (own first) ≡ n
-  pub at_last : begun scans (own last) ≡ n
-  pub not_older : ended writes (other first) ≤ number
-  pub not_newer : number ≤ begun writes (other last)
-  pub still : begun writes (other last) ≤ begun writes (other t)
+  pub at_first : counts_begun scans (own first) ≡ n
+  pub at_last : counts_begun scans (own last) ≡ n
+  pub not_older : counts_ended writes (other first) ≤ number
+  pub not_newer : number ≤ counts_begun writes (other last)
+  pub still : counts_begun writes (other last) ≤ counts_begun writes (other t)
   pub value : x.seen ≡ number % modulus
   pub write : ℕ
   pub tallies : number ≡ tally (sizes writes) write
@@ -83,7 +83,7 @@ record Read (modulus : ℕ) (own other : ℕ → ℕ) (scans writes : List Span)
 read_of :
     (modulus : ℕ) (own other : ℕ → ℕ) → Clock own → Clock other → (most most' : ℕ) (scans writes : List Span) → AllProper most scans → AllProper most' writes →
     AreRegular modulus own other scans writes →
-    (t s n : ℕ) (x : Span) → Proper most x → Stands scans s n x → s + x.scan ≤ own t → Read modulus own other scans writes t s n x
+    (t s n : ℕ) (x : Span) → Proper most x → IsSpanAt scans s n x → s + x.scan ≤ own t → Read modulus own other scans writes t s n x
 read_of modulus own other ho hw most most' scans writes ps pw regular t s n x px st l =
     let w = before-whole most x px in
     let e : ℕ = s + (x.scan - 1) in
@@ -113,7 +113,7 @@ read_of modulus own other ho hw most most' scans writes ps pw regular t s n x px
     }
 
 -- each span that stands is proper
-pub proper_at : (most : ℕ) (xs : List Span) → AllProper most xs → (s n : ℕ) (x : Span) → Stands xs s n x → Proper most x
+pub proper_at : (most : ℕ) (xs : List Span) → AllProper most xs → (s n : ℕ) (x : Span) → IsSpanAt xs s n x → Proper most x
 proper_at most [] h s n x st = elim st [ ]
 proper_at most (y ∷ ys) h s n x (inl st) = rw st.2 h.0
 proper_at most (y ∷ ys) h s n x (inr st) = proper_at most ys h.1 st.0 st.1 x st.4
@@ -128,7 +128,7 @@ module _ (modulus capacity batch : ℕ) (p c : ℕ → ℕ) (puts takes : List S
 
   -- the counts of the two sides
   abbrev pub Within : ℕ → Type 0
-  Within t = (begun takes (c t) ≤ begun puts (p t)) × (begun puts (p t) ≤ begun takes (c t) + capacity)
+  Within t = (counts_begun takes (c t) ≤ counts_begun puts (p t)) × (counts_begun puts (p t) ≤ counts_begun takes (c t) + capacity)
 
   -- what a scan of the consumer reads
   pub record Shown (t s k : ℕ) (x : Span) : Type 0 where
@@ -136,14 +136,14 @@ module _ (modulus capacity batch : ℕ) (p c : ℕ → ℕ) (puts takes : List S
     pub value : x.seen ≡ number % modulus
     pub low : k ≤ number + batch
     pub high : number ≤ k + capacity
-    pub now : number ≤ begun puts (p t)
-    pub since : (first : ℕ) → IsPlace c s first → ended puts (p first) ≤ number
-    pub until : (last : ℕ) → IsPlace c (s + (x.scan - 1)) last → number ≤ begun puts (p last)
+    pub now : number ≤ counts_begun puts (p t)
+    pub since : (first : ℕ) → IsPlace c s first → counts_ended puts (p first) ≤ number
+    pub until : (last : ℕ) → IsPlace c (s + (x.scan - 1)) last → number ≤ counts_begun puts (p last)
     pub write : ℕ
     pub tallies : number ≡ tally (sizes puts) write
 
   -- each scan of the consumer that has ended has read so, where the counts were right up to now
-  shown : (t : ℕ) → ((u : ℕ) → u ≤ t → Within u) → (s k : ℕ) (x : Span) → Stands takes s k x → s + x.scan ≤ c t → Shown t s k x
+  shown : (t : ℕ) → ((u : ℕ) → u ≤ t → Within u) → (s k : ℕ) (x : Span) → IsSpanAt takes s k x → s + x.scan ≤ c t → Shown t s k x
   shown t within s k x st l =
       let r = read_of modulus c p hc hp 1 batch takes puts proper_takes proper_puts ring.takes_regular t s k x (proper_at 1 takes proper_takes s k x st) st l in
       let a = within r.first (omega (arith, r.in_order, r.by_now)) in
@@ -167,14 +167,14 @@ module _ (modulus capacity batch : ℕ) (p c : ℕ → ℕ) (puts takes : List S
     pub value : x.seen ≡ number % modulus
     pub low : n ≤ number + capacity + 1
     pub high : number ≤ n
-    pub now : number ≤ begun takes (c t)
-    pub since : (first : ℕ) → IsPlace p s first → ended takes (c first) ≤ number
-    pub until : (last : ℕ) → IsPlace p (s + (x.scan - 1)) last → number ≤ begun takes (c last)
+    pub now : number ≤ counts_begun takes (c t)
+    pub since : (first : ℕ) → IsPlace p s first → counts_ended takes (c first) ≤ number
+    pub until : (last : ℕ) → IsPlace p (s + (x.scan - 1)) last → number ≤ counts_begun takes (c last)
     pub write : ℕ
     pub tallies : number ≡ tally (sizes takes) write
 
   -- the same of a scan of the producer
-  left : (t : ℕ) → ((u : ℕ) → u ≤ t → Within u) → (s n : ℕ) (x : Span) → Stands puts s n x → s + x.scan ≤ p t → Left t s n x
+  left : (t : ℕ) → ((u : ℕ) → u ≤ t → Within u) → (s n : ℕ) (x : Span) → IsSpanAt puts s n x → s + x.scan ≤ p t → Left t s n x
   left t within s n x st l =
       let r = read_of modulus p c hp hc batch 1 puts takes proper_puts proper_takes ring.puts_regular t s n x (proper_at batch puts proper_puts s n x st) st l in
       let a = within r.first (omega (arith, r.in_order, r.by_now)) in
@@ -193,7 +193,7 @@ module _ (modulus capacity batch : ℕ) (p c : ℕ → ℕ) (puts takes : List S
       }
 
   -- a take that takes an item has read a count above its number
-  shows_item : (t s k : ℕ) (x : Span) → Stands takes s k x → (r : Shown t s k x) → counts x.outcome ≡ 1 → k < r.number
+  shows_item : (t s k : ℕ) (x : Span) → IsSpanAt takes s k x → (r : Shown t s k x) → counts x.outcome ≡ 1 → k < r.number
   shows_item t s k x st r o =
       let rule : (1 ≤ distance modulus (r.number % modulus) (k % modulus)) × (distance modulus (r.number % modulus) (k % modulus) ≤ capacity) =
       rw r.value at ((ring.takes_rule s k x st).item o) in
@@ -204,7 +204,7 @@ module _ (modulus capacity batch : ℕ) (p c : ℕ → ℕ) (puts takes : List S
       ]
 
   -- a take that takes none has not
-  pub shows_none : (t s k : ℕ) (x : Span) → Stands takes s k x → (r : Shown t s k x) → counts x.outcome ≡ 0 → r.number ≤ k
+  pub shows_none : (t s k : ℕ) (x : Span) → IsSpanAt takes s k x → (r : Shown t s k x) → counts x.outcome ≡ 0 → r.number ≤ k
   shows_none t s k x st r o =
       let fits = ring.modulus_fits in
       let rule : (distance modulus (r.number % modulus) (k % modulus) ≡ 0) ⊎ (capacity < distance modulus (r.number % modulus) (k % modulus)) =
@@ -215,7 +215,7 @@ module _ (modulus capacity batch : ℕ) (p c : ℕ → ℕ) (puts takes : List S
       ]
 
   -- a put that stores items has read a count that leaves room for them
-  leaves_room : (t s n : ℕ) (x : Span) → Stands puts s n x → (r : Left t s n x) → 1 ≤ counts x.outcome → n + counts x.outcome ≤ r.number + capacity
+  leaves_room : (t s n : ℕ) (x : Span) → IsSpanAt puts s n x → (r : Left t s n x) → 1 ≤ counts x.outcome → n + counts x.outcome ≤ r.number + capacity
   leaves_room t s n x st r o =
       let fits = ring.modulus_fits in
       let most = (proper_at batch puts proper_puts s n x st).few in
@@ -226,7 +226,7 @@ module _ (modulus capacity batch : ℕ) (p c : ℕ → ℕ) (puts takes : List S
       far fits o most = omega (arith, fits, o, most)
 
   -- a put that stores none has read one that leaves no room
-  pub leaves_none : (t s n : ℕ) (x : Span) → Stands puts s n x → (r : Left t s n x) → counts x.outcome ≡ 0 → r.number + capacity ≤ n
+  pub leaves_none : (t s n : ℕ) (x : Span) → IsSpanAt puts s n x → (r : Left t s n x) → counts x.outcome ≡ 0 → r.number + capacity ≤ n
   leaves_none t s n x st r o =
       let fits = ring.modulus_fits in
       let some = ring.has_batch in
@@ -236,7 +236,7 @@ module _ (modulus capacity batch : ℕ) (p c : ℕ → ℕ) (puts takes : List S
   -- a take that found an item: the count write of put number k has begun
   taken_behind :
       (t : ℕ) → ((u : ℕ) → u ≤ t → Within u) →
-      (s k : ℕ) (x : Span) → Stands takes s k x → counts x.outcome ≡ 1 → s + x.scan ≤ c t → k < begun puts (p t)
+      (s k : ℕ) (x : Span) → IsSpanAt takes s k x → counts x.outcome ≡ 1 → s + x.scan ≤ c t → k < counts_begun puts (p t)
   taken_behind t within s k x st o l =
       let r = shown t within s k x st l in
       omega (arith, shows_item t s k x st r o, r.now)
@@ -244,7 +244,7 @@ module _ (modulus capacity batch : ℕ) (p c : ℕ → ℕ) (puts takes : List S
   -- a put that found room: the takes of all items more than the capacity below its last one have begun their count write
   room_ahead :
       (t : ℕ) → ((u : ℕ) → u ≤ t → Within u) →
-      (s n : ℕ) (x : Span) → Stands puts s n x → 1 ≤ counts x.outcome → s + x.scan ≤ p t → n + counts x.outcome ≤ begun takes (c t) + capacity
+      (s n : ℕ) (x : Span) → IsSpanAt puts s n x → 1 ≤ counts x.outcome → s + x.scan ≤ p t → n + counts x.outcome ≤ counts_begun takes (c t) + capacity
   room_ahead t within s n x st o l =
       let r = left t within s n x st l in
       omega (arith, leaves_room t s n x st r o, r.now)
@@ -293,18 +293,18 @@ module _ (modulus capacity batch : ℕ) (p c : ℕ → ℕ) (puts takes : List S
   within t = within_below t t (omega arith)
 
   -- so at every moment each scan of the consumer that has ended has read so
-  pub shown_at : (t s k : ℕ) (x : Span) → Stands takes s k x → s + x.scan ≤ c t → Shown t s k x
+  pub shown_at : (t s k : ℕ) (x : Span) → IsSpanAt takes s k x → s + x.scan ≤ c t → Shown t s k x
   shown_at t = shown t (λ u _. within u)
 
   -- and so each scan of the producer
-  pub left_at : (t s n : ℕ) (x : Span) → Stands puts s n x → s + x.scan ≤ p t → Left t s n x
+  pub left_at : (t s n : ℕ) (x : Span) → IsSpanAt puts s n x → s + x.scan ≤ p t → Left t s n x
   left_at t = left t (λ u _. within u)
 
   -- from the end of its scan on, a take that found an item is behind the puts
-  pub behind : (t s k : ℕ) (x : Span) → Stands takes s k x → counts x.outcome ≡ 1 → s + x.scan ≤ c t → k < begun puts (p t)
+  pub behind : (t s k : ℕ) (x : Span) → IsSpanAt takes s k x → counts x.outcome ≡ 1 → s + x.scan ≤ c t → k < counts_begun puts (p t)
   behind t = taken_behind t (λ u _. within u)
 
   -- and a put that found room is, with its items, at most the capacity ahead of the takes
   pub ahead :
-      (t s n : ℕ) (x : Span) → Stands puts s n x → 1 ≤ counts x.outcome → s + x.scan ≤ p t → n + counts x.outcome ≤ begun takes (c t) + capacity
+      (t s n : ℕ) (x : Span) → IsSpanAt puts s n x → 1 ≤ counts x.outcome → s + x.scan ≤ p t → n + counts x.outcome ≤ counts_begun takes (c t) + capacity
   ahead t = room_ahead t (λ u _. within u)

@@ -1,10 +1,11 @@
 -- The items put in a history are those of each reading of its events.
-use Rattle.std.proofs.Common.{◌≡◌, ℕ, suc, ◌-◌, ◌*◌, ◌%◌, ◌<◌, ◌≤◌, Bool, List, [], ◌∷◌, ◌++◌, length, refl, sym, ap, subst, ◌∙◌, arith, inl, inr, nat_lt, if◌then◌else◌, append_assoc, append-nil, length-append}
+use Rattle.std.proofs.Common.{◌≡◌, ℕ, suc, true, false, ap₂, ◌-◌, ◌*◌, ◌%◌, ◌<◌, ◌≤◌, Bool, List, [], ◌∷◌, ◌++◌, length, refl, sym, ap, subst, ◌∙◌, arith, inl, inr, nat_lt, if◌then◌else◌, append_assoc, append-nil, length-append}
 use Rattle.std.proofs.lemmas.Bool.{le-ltb}
 use Rattle.std.proofs.lemmas.List.{append_cancel_left}
 use Rattle.bits_core.specs.declared.events.Side.TheVariants.{P}
 use Rattle.bits_core.specs.declared.events.Act.TheVariants.{ReadBegin, WriteBegin}
-use Rattle.bits_core.specs.declared.events.Bit.TheVariants.{Cell}
+use Rattle.bits_core.specs.declared.events.Bit.{Bit}
+use Rattle.bits_core.specs.declared.events.Bit.TheVariants.{X, Cell}
 use Rattle.bits_core.specs.declared.events.Event.{Event}
 use Rattle.bits_core.specs.declared.shapes.Shape.{Shape}
 use Rattle.bits_core.specs.Shape.{modulus_of}
@@ -12,12 +13,13 @@ use Rattle.bits_core.specs.Made.{Made, Read, Write, begin_event, own, IsBeginnin
 use Rattle.register_core.specs.Word.{DigitsTellItems}
 use Rattle.register_core.specs.ScanState.{scan_phrase, row_read_by}
 use Rattle.ring_core.specs.Counts.{Count, first_count, batch_phrase, IsCount}
-use Rattle.ring_core.specs.Puts.{Put, Stored, Full, stored_after, words_phrase, put_phrase, put_phrases, close_phrase, put_program, IsPut, ArePuts}
-use Rattle.ring_core.specs.Items.{events_in, accesses_before_count, items_put, ItemsAreRead}
-use Rattle.ring_core.proofs.Phrases.{same_scan}
+use Rattle.ring_core.specs.Readings.{PutsAreFirst}
+use Rattle.ring_core.specs.Puts.{accesses_before_count, Put, Puts, Stored, Full, stored_after, stored_count, words_phrase, put_phrase, put_phrases, close_phrase, put_program, IsPut, ArePuts}
+use Rattle.ring_core.specs.Items.{events_in, items_put, ItemsAreRead}
+use Rattle.ring_core.proofs.Phrases.{same_scan, scan_begins}
 use Rattle.ring_core.proofs.PutsRead.{no_close, puts_stored, puts_full, no_room, some_room, NoCellFirst, count_first, same_words}
 use Rattle.ring_core.proofs.CountRow.{first_is_count, counted_is_count}
-use Rattle.ring_core.proofs.Cuts.{at_most_or_above, OpenBoth, BeginBoth, begin_both, cut, also_begins}
+use Rattle.ring_core.proofs.Cuts.{at_most_or_above, OpenBoth, BeginBoth, begin_both, cut, also_begins, made_first}
 
 -- the producer's calls from a count on
 abbrev puts_from : Shape → Count → List Put → Bool → List Made
@@ -145,9 +147,19 @@ goes_on head after made left right t left_is none (more, e) begins both early re
               none j d v (rest ++ more) (sym ends ∙ ap (λ x. x ∷ (rest ++ more)) first)),
         )
 
+-- a close is no scan
+no_scan_first : (bit_of : ℕ → Bit) (c : ℕ) (xs zs : List Made) → Write X true ∷ zs ≡ scan_phrase bit_of c ++ xs → ⊥
+no_scan_first bit_of c xs zs e =
+    let begins : (v : Bool) × (rest : List Made) × (scan_phrase bit_of c ++ xs ≡ Read (bit_of 0) v ∷ rest) = scan_begins bit_of c xs in
+    let clash : Write X true ∷ zs ≡ Read (bit_of 0) begins.0 ∷ begins.1 = e ∙ begins.2 in
+    absurd (cc)
+
+same_calls : (a b : Puts) → a.puts ≡ b.puts → a.closes ≡ b.closes → a ≡ b
+same_calls a b p q = ap₂ (λ (x : List Put) (y : Bool). record { puts = x; closes = y }) p q
+
 module _ (tell : DigitsTellItems) where
   -- puts whose accesses begin with the head of a put that stores, and with no word more, begin with that put
-  same_stored :
+  pub same_stored :
       (shape : Shape) (c : Count) (u : ℕ) (i : List ℕ) (ys : List Put) (b : Bool) (zs : List Made) → IsCount shape c → IsPut shape c.number (Stored u i) →
       ArePuts shape c.number ys → NoCellFirst zs → head_of shape c (Stored u i) ++ zs ≡ puts_from shape c ys b → (more : List Put) × (ys ≡ Stored u i ∷ more)
   same_stored shape c u i [] b zs is p q none e =
@@ -165,7 +177,7 @@ module _ (tell : DigitsTellItems) where
       let items : i ≡ j = (same_words tell shape c.number i j zs right batch.fit batch'.fit none (count_first shape c j _ is batch') scans.1).0 in
       (ys, cc)
 
-  same_full :
+  pub same_full :
       (shape : Shape) (c : Count) (u : ℕ) (ys : List Put) (b : Bool) (zs : List Made) → IsPut shape c.number (Full u) → ArePuts shape c.number ys →
       scan_phrase (row_read_by P) u ++ zs ≡ puts_from shape c ys b → (more : List Put) × (ys ≡ Full u ∷ more)
   same_full shape c u [] b zs p q e = absurd (no_close b (row_read_by P) u _ (sym e))
@@ -279,3 +291,61 @@ module _ (tell : DigitsTellItems) where
       begin_both P (own P h) (put_program shape a) (put_program shape b) p.events q.events in
       same_items shape first_count a.puts b.puts a.closes b.closes both.made (length (own P h)) (first_is_count shape) p.are q.are both.begins_left both.begins_right
       both.next both.reach
+
+  -- ---- whole calls that begin others
+
+  first_put :
+      (shape : Shape) (c : Count) (x : Put) (ys : List Put) (b : Bool) (tail : List Made) → IsCount shape c → IsPut shape c.number x →
+      ArePuts shape c.number ys → put_phrase shape c x ++ tail ≡ puts_from shape c ys b → (more : List Put) × (ys ≡ x ∷ more)
+  first_put shape c (Stored u i) ys b tail is p q e =
+      same_stored shape c u i ys b (batch_phrase shape P c i ++ tail) is p q (count_first shape c i tail is p.2)
+      (sym (append_assoc (head_of shape c (Stored u i)) (batch_phrase shape P c i) tail) ∙ e)
+  first_put shape c (Full u) ys b tail is p q e = same_full shape c u ys b tail p q e
+
+  -- puts whose accesses begin with those of whole puts begin with these
+  first_puts :
+      (shape : Shape) (c : Count) (xs ys : List Put) (b : Bool) (zs : List Made) → IsCount shape c → ArePuts shape c.number xs →
+      ArePuts shape c.number ys → put_phrases shape c xs ++ zs ≡ puts_from shape c ys b →
+      (more : List Put) × (ys ≡ xs ++ more) × (zs ≡ puts_from shape (stored_count shape c xs) more b)
+  first_puts shape c [] ys b zs is p q e = (ys, refl, e)
+  first_puts shape c (x ∷ xs) ys b zs is p q e =
+      let next : Count = stored_after shape c x in
+      let phrase : List Made = put_phrase shape c x in
+      let tail : List Made = put_phrases shape next xs ++ zs in
+      let parts : phrase ++ tail ≡ puts_from shape c ys b = sym (append_assoc phrase (put_phrases shape next xs) zs) ∙ e in
+      let (rest, same) = first_put shape c x ys b tail is p.0 q parts in
+      let are : ArePuts shape next.number rest = (subst (λ l. ArePuts shape c.number l) same q).1 in
+      let whole : phrase ++ tail ≡ phrase ++ puts_from shape next rest b =
+      parts ∙ ap (λ l. puts_from shape c l b) same ∙ append_assoc phrase (put_phrases shape next rest) (close_phrase b) in
+      let (more, f, g) = first_puts shape next xs rest b zs (stored_is_count shape c x is) p.1 are (append_cancel_left phrase tail (puts_from shape next rest b) whole) in
+      (more, same ∙ ap (λ l. x ∷ l) f, g)
+
+  -- where a close comes next, no put does
+  only_close : (shape : Shape) (c : Count) (more : List Put) (b : Bool) (zs : List Made) → Write X true ∷ zs ≡ puts_from shape c more b → (more ≡ []) × (b ≡ true)
+  only_close shape c [] b zs e = (refl, closing b e)
+    where
+      closing : (b : Bool) → Write X true ∷ zs ≡ close_phrase b → b ≡ true
+      closing true e = refl
+      closing false e = absurd (cc)
+  only_close shape c (Stored u i ∷ more) b zs e = absurd (no_scan_first (row_read_by P) u _ zs (e ∙ puts_stored shape c u i more b))
+  only_close shape c (Full u ∷ more) b zs e = absurd (no_scan_first (row_read_by P) u _ zs (e ∙ puts_full shape c u more b))
+
+  first_calls :
+      (shape : Shape) (a b : Puts) (zs : List Made) → ArePuts shape 0 a.puts → ArePuts shape 0 b.puts → put_program shape a ++ zs ≡ put_program shape b →
+      ((more : List Put) × (b.puts ≡ a.puts ++ more)) × (a.closes ≡ true → a ≡ b)
+  first_calls shape a b zs p q e =
+      let front : List Made = put_phrases shape first_count a.puts in
+      let (more, f, g) =
+      first_puts shape first_count a.puts b.puts b.closes (close_phrase a.closes ++ zs) (first_is_count shape) p q
+      (sym (append_assoc front (close_phrase a.closes) zs) ∙ e) in (
+        (more, f),
+        λ closes.
+            (let (none, both) = only_close shape (stored_count shape first_count a.puts) more b.closes zs (ap (λ t. close_phrase t ++ zs) (sym closes) ∙ g) in
+            let puts : b.puts ≡ a.puts = f ∙ ap (λ l. a.puts ++ l) none ∙ append-nil a.puts in
+            let same : a.closes ≡ b.closes = closes ∙ sym both in
+            same_calls a b (sym puts) same),
+      )
+
+  pub puts-are_first : PutsAreFirst
+  puts-are_first shape a b p q begins =
+      let (rest, e) = made_first P (put_program shape a) (put_program shape b) begins in first_calls shape a b rest p q e

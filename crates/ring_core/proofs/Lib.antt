@@ -10,9 +10,11 @@ pub mod TakesRead
 pub mod Cuts
 pub mod ItemsRead
 pub mod TakenRead
+mod Over
 pub mod Following
 pub mod MachineParts
 pub mod NextParts
+pub mod GoingOn
 pub mod PutCalls
 pub mod Batches
 pub mod ProducerInvariant
@@ -48,3 +50,6 @@ pub mod ClosedStays
 pub mod NeverMisses
 pub mod OneMore
 pub mod Witness
+pub mod Alike
+pub mod LastBits
+pub mod PutParts

@@ -9,10 +9,14 @@ use Rattle.bits_core.specs.Made.{Made, Read}
 use Rattle.register_core.specs.Row.{bits_after}
 use Rattle.register_core.specs.Word.{word_read}
 use Rattle.register_core.specs.ScanState.{scan_phrase, row_read_by}
-use Rattle.ring_core.specs.Counts.{past, Count, first_count, count_bits, batch_phrase}
+use Rattle.ring_core.specs.Counts.{bits_held, past, Count, first_count, count_bits, batch_phrase}
 use Rattle.ring_core.specs.Puts.{Put, Stored, Full, Puts, words_phrase}
 use Rattle.ring_core.specs.Takes.{Take, Item, ItemAfterClose, Empty, End, Open, Closed, Takes}
 use Rattle.ring_core.proofs.Spans.{Outcome, Passes, Stops, Asks, Span}
+
+-- a count whose writes count one item each, as its writer knows it
+abbrev pub steps : Shape → ℕ → Count
+steps shape n = record { number = n; bits = bits_held shape n }
 
 -- a scan's value and what follows it
 pub record Look : Type 0 where

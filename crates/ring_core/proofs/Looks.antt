@@ -6,17 +6,17 @@ use Rattle.bits_core.specs.declared.events.Side.{Side}
 use Rattle.bits_core.specs.declared.events.Side.TheVariants.{P, C}
 use Rattle.bits_core.specs.declared.events.Bit.TheVariants.{X}
 use Rattle.bits_core.specs.declared.shapes.Shape.{Shape}
-use Rattle.bits_core.specs.Shape.{batch_of, capacity_of, modulus_of, width_of}
+use Rattle.bits_core.specs.Shape.{AllFit, batch_of, capacity_of, modulus_of, width_of}
 use Rattle.bits_core.specs.Made.{Made, Read}
 use Rattle.register_core.specs.Word.{word_read}
 use Rattle.register_core.specs.ScanState.{scan_phrase, row_read_by}
-use Rattle.ring_core.specs.Counts.{distance, count_phrase, past, Count, first_count, steps, batch_phrase, IsCount}
-use Rattle.ring_core.specs.Puts.{Put, Stored, Full, stored_after, words_phrase, put_phrases, close_phrase, AllFit, ArePuts}
+use Rattle.ring_core.specs.Counts.{distance, count_phrase, past, Count, first_count, batch_phrase, IsCount}
+use Rattle.ring_core.specs.Puts.{Put, Stored, Full, stored_after, words_phrase, put_phrases, close_phrase, ArePuts}
 use Rattle.ring_core.specs.Takes.{Take, Item, ItemAfterClose, Empty, End, Open, Closed, item_phrase, take_phrases, end_phrase, AreTakes}
 use Rattle.ring_core.specs.Items.{items_put, items_taken}
-use Rattle.ring_core.proofs.Spans.{Outcome, Passes, Stops, Asks, Span, counts, items_of, whole, total, begun_items, ended_items, Stands}
+use Rattle.ring_core.proofs.Spans.{Outcome, Passes, Stops, Asks, Span, counts, items_of, whole, total, begun_items, ended_items, IsSpanAt}
 use Rattle.ring_core.proofs.Clocks as clocks
-use Rattle.ring_core.proofs.LookSpans.{Look, look, put_looks, take_looks, words_read, word_part, count_part, look_number, after_look, look_accesses, span_of, spans, LookAt}
+use Rattle.ring_core.proofs.LookSpans.{steps, Look, look, put_looks, take_looks, words_read, word_part, count_part, look_number, after_look, look_accesses, span_of, spans, LookAt}
 use Rattle.ring_core.proofs.Timeline.{AllProper}
 use Rattle.ring_core.proofs.Cuts.{at_most_or_above}
 use Rattle.ring_core.proofs.SpanLaw.{LastTwo, two_last, two_after}
@@ -162,7 +162,7 @@ later_look s shape a b d program k start rest x e r = record {
 -- where a span stands there is its look
 pub look_at :
     (s : Side) (shape : Shape) (c : Count) (looks : List Look) (behind : List Made) (start m : ℕ) (x : Span) →
-    Stands (spans s shape c looks) start m x → LookAt s shape (look_accesses s shape c looks behind) (c.number + m) start x
+    IsSpanAt (spans s shape c looks) start m x → LookAt s shape (look_accesses s shape c looks behind) (c.number + m) start x
 look_at s shape c [] behind start m x st = elim st [ ]
 look_at s shape c (l ∷ looks) behind start m x (inl st) =
     let same : c.number ≡ c.number + m = omega (arith, st.1) in
@@ -179,7 +179,7 @@ look_at s shape c (l ∷ looks) behind start m x (inr st) =
 -- also by its number alone, in a whole program
 pub look_from_first :
     (s : Side) (shape : Shape) (looks : List Look) (behind : List Made) (start m : ℕ) (x : Span) →
-    Stands (spans s shape first_count looks) start m x → LookAt s shape (look_accesses s shape first_count looks behind) m start x
+    IsSpanAt (spans s shape first_count looks) start m x → LookAt s shape (look_accesses s shape first_count looks behind) m start x
 look_from_first s shape looks behind start m x st =
     let same : 0 + m ≡ m = omega arith in
     subst (λ k. LookAt s shape (look_accesses s shape first_count looks behind) k start x) same (look_at s shape first_count looks behind start m x st)
@@ -188,7 +188,7 @@ look_from_first s shape looks behind start m x st =
 
 -- a scan that gives c has c + 1 reads
 pub scan_is :
-    (s : Side) (shape : Shape) (looks : List Look) (start m : ℕ) (x : Span) → Stands (spans s shape first_count looks) start m x → x.scan ≡ 2 * suc x.seen
+    (s : Side) (shape : Shape) (looks : List Look) (start m : ℕ) (x : Span) → IsSpanAt (spans s shape first_count looks) start m x → x.scan ≡ 2 * suc x.seen
 scan_is s shape looks start m x st =
     let r : LookAt s shape (look_accesses s shape first_count looks []) m start x = look_from_first s shape looks [] start m x st in
     rw r.is_x (omega (arith, length-scan (row_read_by s) r.look.seen))
@@ -214,7 +214,7 @@ word_length s shape n (Asks answer) e = absurd (omega (arith, e))
 -- so has a span that counts some items
 pub words_are :
     (s : Side) (shape : Shape) (looks : List Look) (start m : ℕ) (x : Span) →
-    Stands (spans s shape first_count looks) start m x → 1 ≤ counts x.outcome → x.word ≡ 2 * (counts x.outcome * width_of shape)
+    IsSpanAt (spans s shape first_count looks) start m x → 1 ≤ counts x.outcome → x.word ≡ 2 * (counts x.outcome * width_of shape)
 words_are s shape looks start m x st e =
     let r : LookAt s shape (look_accesses s shape first_count looks []) m start x = look_from_first s shape looks [] start m x st in
     let f : 1 ≤ counts r.look.outcome = rw r.is_x at e in
@@ -223,7 +223,7 @@ words_are s shape looks start m x st e =
 -- one word has an access for each digit
 pub word_is :
     (s : Side) (shape : Shape) (looks : List Look) (start m : ℕ) (x : Span) →
-    Stands (spans s shape first_count looks) start m x → counts x.outcome ≡ 1 → x.word ≡ 2 * width_of shape
+    IsSpanAt (spans s shape first_count looks) start m x → counts x.outcome ≡ 1 → x.word ≡ 2 * width_of shape
 word_is s shape looks start m x st e =
     let one : counts x.outcome * width_of shape ≡ 1 * width_of shape = ap (λ k. k * width_of shape) e in
     omega (arith, words_are s shape looks start m x st (omega (arith, e)), one)
@@ -231,7 +231,7 @@ word_is s shape looks start m x st e =
 -- so it has an event
 pub word_some :
     (s : Side) (shape : Shape) (looks : List Look) (start m : ℕ) (x : Span) →
-    Stands (spans s shape first_count looks) start m x → counts x.outcome ≡ 1 → 1 ≤ x.word
+    IsSpanAt (spans s shape first_count looks) start m x → counts x.outcome ≡ 1 → 1 ≤ x.word
 word_some s shape looks start m x st e = omega (arith, word_is s shape looks start m x st e, shape.has_digits)
 
 asks_length : (s : Side) (shape : Shape) (n : ℕ) (o : Outcome) (answer : Bool) → o ≡ Asks answer → length (word_part s shape n o) ≡ 1
@@ -243,7 +243,7 @@ asks_length C shape n (Asks other) answer e = refl
 -- a read of the close bit has two events
 pub asks_word :
     (s : Side) (shape : Shape) (looks : List Look) (start m : ℕ) (x : Span) (answer : Bool) →
-    Stands (spans s shape first_count looks) start m x → x.outcome ≡ Asks answer → x.word ≡ 2
+    IsSpanAt (spans s shape first_count looks) start m x → x.outcome ≡ Asks answer → x.word ≡ 2
 asks_word s shape looks start m x answer st e =
     let r : LookAt s shape (look_accesses s shape first_count looks []) m start x = look_from_first s shape looks [] start m x st in
     let f : r.look.outcome ≡ Asks answer = rw r.is_x at e in
@@ -334,7 +334,7 @@ EachLook rule n (l ∷ looks) = rule n l.seen l.outcome × EachLook rule (look_n
 -- it holds of the look that stands there
 each_at :
     (rule : ℕ → ℕ → Outcome → Type 0) (s : Side) (shape : Shape) (c : Count) (looks : List Look) → EachLook rule c.number looks →
-    (start m : ℕ) (x : Span) → Stands (spans s shape c looks) start m x → rule (c.number + m) x.seen x.outcome
+    (start m : ℕ) (x : Span) → IsSpanAt (spans s shape c looks) start m x → rule (c.number + m) x.seen x.outcome
 each_at rule s shape c [] h start m x st = elim st [ ]
 each_at rule s shape c (l ∷ looks) h start m x (inl st) =
     let same : c.number ≡ c.number + m = omega (arith, st.1) in
@@ -407,18 +407,18 @@ takes_keep shape k (Empty seen ∷ takes) end ((below, none), h) =
 
 put_rule :
     (shape : Shape) (c : Count) (puts : List Put) → ArePuts shape c.number puts →
-    (start m : ℕ) (x : Span) → Stands (spans P shape c (put_looks puts)) start m x → PutRule shape (c.number + m) x.seen x.outcome
+    (start m : ℕ) (x : Span) → IsSpanAt (spans P shape c (put_looks puts)) start m x → PutRule shape (c.number + m) x.seen x.outcome
 put_rule shape c puts h = each_at (PutRule shape) P shape c (put_looks puts) (puts_keep shape c.number puts h)
 
 take_rule :
     (shape : Shape) (c : Count) (takes : List Take) (end : End) → AreTakes shape c.number takes end →
-    (start m : ℕ) (x : Span) → Stands (spans C shape c (take_looks takes end)) start m x → TakeRule shape (c.number + m) x.seen x.outcome
+    (start m : ℕ) (x : Span) → IsSpanAt (spans C shape c (take_looks takes end)) start m x → TakeRule shape (c.number + m) x.seen x.outcome
 take_rule shape c takes end h = each_at (TakeRule shape) C shape c (take_looks takes end) (takes_keep shape c.number takes end h)
 
 -- each put keeps the rule of puts
 pub put_rules :
     (shape : Shape) (c : Count) (puts : List Put) → ArePuts shape c.number puts →
-    (start m : ℕ) (x : Span) → Stands (spans P shape c (put_looks puts)) start m x → clocks.IsPut (modulus_of shape) (capacity_of shape) (c.number + m) x
+    (start m : ℕ) (x : Span) → IsSpanAt (spans P shape c (put_looks puts)) start m x → clocks.IsPutSpan (modulus_of shape) (capacity_of shape) (c.number + m) x
 put_rules shape c puts h start m x st =
     let r : PutRule shape (c.number + m) x.seen x.outcome = put_rule shape c puts h start m x st in
     record { room = r.1; full = r.2 }
@@ -426,7 +426,7 @@ put_rules shape c puts h start m x st =
 -- each take keeps the rule of takes
 pub take_rules :
     (shape : Shape) (c : Count) (takes : List Take) (end : End) → AreTakes shape c.number takes end →
-    (start m : ℕ) (x : Span) → Stands (spans C shape c (take_looks takes end)) start m x → clocks.IsTake (modulus_of shape) (capacity_of shape) (c.number + m) x
+    (start m : ℕ) (x : Span) → IsSpanAt (spans C shape c (take_looks takes end)) start m x → clocks.IsTakeSpan (modulus_of shape) (capacity_of shape) (c.number + m) x
 take_rules shape c takes end h start m x st =
     let r : TakeRule shape (c.number + m) x.seen x.outcome = take_rule shape c takes end h start m x st in
     record { item = r.1; none = r.2 }
@@ -434,13 +434,13 @@ take_rules shape c takes end h start m x st =
 -- the count that a put reads is below the modulus, and its items fit
 pub put_fits :
     (shape : Shape) (c : Count) (puts : List Put) → ArePuts shape c.number puts →
-    (start m : ℕ) (x : Span) → Stands (spans P shape c (put_looks puts)) start m x → FitsShape shape x.seen x.outcome
+    (start m : ℕ) (x : Span) → IsSpanAt (spans P shape c (put_looks puts)) start m x → FitsShape shape x.seen x.outcome
 put_fits shape c puts h start m x st = (put_rule shape c puts h start m x st).0
 
 -- the count that a take reads is below the modulus, and its item fits
 pub take_fits :
     (shape : Shape) (c : Count) (takes : List Take) (end : End) → AreTakes shape c.number takes end →
-    (start m : ℕ) (x : Span) → Stands (spans C shape c (take_looks takes end)) start m x → FitsShape shape x.seen x.outcome
+    (start m : ℕ) (x : Span) → IsSpanAt (spans C shape c (take_looks takes end)) start m x → FitsShape shape x.seen x.outcome
 take_fits shape c takes end h start m x st = (take_rule shape c takes end h start m x st).0
 
 -- ---- the last two looks of a consumer that is told the ring is closed

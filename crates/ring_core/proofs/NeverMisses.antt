@@ -15,7 +15,7 @@ use Rattle.bits_core.specs.Laws.{OwnHasOnePlace, MadeIsAccess}
 use Rattle.bits_core.specs.Made.{Made, Read, events_of, own, IsBeginning}
 use Rattle.register_core.specs.Row.{row_bit}
 use Rattle.register_core.specs.ScanState.{zero_reads, row_read_by}
-use Rattle.register_core.specs.UnaryLaw.{ReadsZeros, UnaryHasOne}
+use Rattle.register_core.specs.UnaryLaw.{NumberedStayWithin, ReadsZeros, UnaryHasOne}
 use Rattle.register_core.specs.MadeReads.{begin_place, end_place, ZerosAreMade}
 use Rattle.ring_core.specs.Counts.{past, first_count}
 use Rattle.ring_core.proofs.Spans.{Outcome, Passes, Stops, Asks}
@@ -50,11 +50,11 @@ counted_within shape n (l ∷ looks) last e =
 
 -- so the last bit is not read as 0 behind all others
 never_reads :
-    UnaryHasOne → (shape : Shape) (h : List Event) → IsLawful shape h → (s : Side) (looks : List Look) (behind : List Made) → IsQuiet s behind →
+    UnaryHasOne → NumberedStayWithin → (shape : Shape) (h : List Event) → IsLawful shape h → (s : Side) (looks : List Look) (behind : List Made) → IsQuiet s behind →
     IsBeginning (own s h) (events_of s (look_accesses s shape first_count looks behind)) → NeverReadsAll s shape h
-never_reads has_one shape h lawful s looks behind quiet follows last e start stop zeros =
-    has_one shape h lawful s (counted_in shape looks) (writes_unary shape h lawful s looks behind follows quiet) last
-    (counted_within shape 0 looks last e) start stop zeros
+never_reads has_one stay_within shape h lawful s looks behind quiet follows last e start stop zeros =
+    has_one shape h lawful s (counted_in shape looks) (writes_unary shape h lawful s looks behind follows quiet) last start stop
+    (λ n _. stay_within (counted_in shape looks) last (counted_within shape 0 looks last e) n) zeros
 
 -- ---- the reads of a list of accesses
 
@@ -68,7 +68,7 @@ behind_list [] ys i n x e at = let same : n ≡ i = omega (arith, e) in ap (slic
 behind_list (y ∷ xs) ys i zero x e at = absurd (omega (arith, e))
 behind_list (y ∷ xs) ys i (suc n) x e at = behind_list xs ys i n x (omega (arith, e)) at
 
-module _ (has_one : UnaryHasOne) (zeros_made : ZerosAreMade) (made_is : MadeIsAccess) (one_place : OwnHasOnePlace) where
+module _ (has_one : UnaryHasOne) (stay_within : NumberedStayWithin) (zeros_made : ZerosAreMade) (made_is : MadeIsAccess) (one_place : OwnHasOnePlace) where
   module _ (s : Side) (h : List Event) (made : List Made) (follows : IsBeginning (own (other s) h) (events_of (other s) made))
       (before after : List Made) (last : ℕ) (parts : made ≡ before ++ (zero_reads (row_bit s) last ++ Read (row_bit s last) false ∷ after))
       (ended : 2 * (length before + suc last) ≤ length (own (other s) h)) where
@@ -118,12 +118,12 @@ module _ (has_one : UnaryHasOne) (zeros_made : ZerosAreMade) (made_is : MadeIsAc
   pub puts-are_seen : PutsAreSeen
   puts-are_seen shape h puts lawful follows =
       let never : NeverReadsAll P shape h =
-      never_reads has_one shape h lawful P (put_looks puts.puts) (close_phrase puts.closes) (quiet_close puts.closes) (put_events shape h puts follows) in
+      never_reads has_one stay_within shape h lawful P (put_looks puts.puts) (close_phrase puts.closes) (quiet_close puts.closes) (put_events shape h puts follows) in
       (never, never_misses P shape h never)
 
   -- a producer does not read the consumer's count as 0 in all bits
   pub takes-are_seen : TakesAreSeen
   takes-are_seen shape h takes lawful follows =
       let never : NeverReadsAll C shape h =
-      never_reads has_one shape h lawful C (take_looks takes.takes takes.end) [] tt (take_events shape h takes follows) in
+      never_reads has_one stay_within shape h lawful C (take_looks takes.takes takes.end) [] tt (take_events shape h takes follows) in
       (never, never_misses C shape h never)

@@ -1,15 +1,20 @@
 -- What the machines that both sides are made of have due next.
-use Rattle.std.proofs.Common.{◌≡◌, ℕ, suc, ◌<◌, Bool, true, false, Option, Some, None, List, [], ◌∷◌, ◌++◌, length, if◌then◌else◌, refl, sym, ap, ◌∙◌, arith, append_assoc, append-nil, length-append}
+use Rattle.std.proofs.Common.{◌≡◌, ℕ, zero, suc, ◌%◌, ◌<◌, ◌≤◌, Bool, true, false, cond, IfSome, Option, Some, None, List, [], ◌∷◌, ◌++◌, length, if◌then◌else◌, refl, sym, ap, subst, ◌∙◌, arith, append_assoc, append-nil, length-append}
+use Rattle.std.proofs.Math.Nat.{mod-lt}
+use Rattle.std.proofs.lemmas.Bool.Decides.{nat_tests}
 use Rattle.bits_core.specs.declared.events.Side.{Side}
+use Rattle.bits_core.specs.declared.events.Side.TheVariants.{P, C}
 use Rattle.bits_core.specs.declared.events.Bit.{Bit}
 use Rattle.bits_core.specs.declared.events.Access.{Access}
 use Rattle.bits_core.specs.declared.events.Access.TheVariants as begins
 use Rattle.bits_core.specs.declared.shapes.Shape.{Shape}
 use Rattle.bits_core.specs.Shape.{modulus_of}
+use Rattle.bits_core.specs.Open.{IsOpenRight}
 use Rattle.bits_core.specs.Made.{Made, Read, Write, access_of, answered, IsBeginning}
-use Rattle.register_core.specs.Row.{RowWrite}
+use Rattle.register_core.specs.Row.{RowWrite, row_bit}
 use Rattle.register_core.specs.ScanState.{ScanState, ScanStands, BeginsScan, zero_reads, scan_phrase, row_read_by, due_scan}
-use Rattle.register_core.specs.UnaryState.{first_access}
+use Rattle.register_core.specs.Unary.{clearing, unary_phrase}
+use Rattle.register_core.specs.UnaryState.{UnaryState, bit_in, due_writes, due_unary, first_access}
 use Rattle.ring_core.specs.Calls.{LastBitIsDue, IsScanning}
 
 -- ---- beginnings
@@ -67,3 +72,51 @@ pub first_writes :
     (b : Bit) × (v : Bool) × (due ≡ Some (begins.Write b v))
 first_writes bit_of [] due e some = absurd (some e)
 first_writes bit_of (w ∷ writes) due e some = (bit_of w.bit, w.value, e)
+
+-- ---- whose access is due
+
+-- a side's own accesses to bits of the shape
+scan_bit_right : (shape : Shape) (side : Side) (i : ℕ) → i < modulus_of shape → IsOpenRight shape side (begins.Read (row_read_by side i))
+scan_bit_right shape P i l = (grind (arith, nat_tests), refl)
+scan_bit_right shape C i l = (grind (arith, nat_tests), refl)
+
+row_bit_right : (shape : Shape) (side : Side) (i : ℕ) (v : Bool) → i < modulus_of shape → IsOpenRight shape side (begins.Write (row_bit side i) v)
+row_bit_right shape P i v l = (grind (arith, nat_tests), refl)
+row_bit_right shape C i v l = (grind (arith, nat_tests), refl)
+
+-- the read that a scan under way has due is one
+pub scan_right :
+    (shape : Shape) (side : Side) (s : ScanState) (due : Option Access) → IsScanning side (modulus_of shape) s → due ≡ due_scan s → IfSome due (IsOpenRight shape side)
+scan_right shape side s due is due_is =
+    subst (λ d. IfSome d (IsOpenRight shape side)) (sym (due_is ∙ scan_due side (modulus_of shape) s is)) (scan_bit_right shape side s.zeros is.below)
+
+-- the writes of a unary write are to bits up to its value
+clearing_right :
+    (shape : Shape) (side : Side) (bits : ℕ → Bool) (v : ℕ) → v ≤ modulus_of shape →
+    IfSome (first_access (row_bit side) (clearing bits v)) (IsOpenRight shape side)
+clearing_right shape side bits zero l = tt
+clearing_right shape side bits (suc j) l = by_bit (clearing_right shape side bits j (omega (arith, l))) (bits j)
+  where
+    by_bit : IfSome (first_access (row_bit side) (clearing bits j)) (IsOpenRight shape side) → (b : Bool) → IfSome (first_access (row_bit side) (cond b (record { bit = j; value = false } ∷ clearing bits j) (clearing bits j))) (IsOpenRight shape side)
+    by_bit below true = row_bit_right shape side j false (omega (arith, l))
+    by_bit below false = below
+
+phrase_right :
+    (shape : Shape) (side : Side) (bits : ℕ → Bool) (v : ℕ) → v < modulus_of shape →
+    IfSome (first_access (row_bit side) (unary_phrase bits v)) (IsOpenRight shape side)
+phrase_right shape side bits v l = by_bit (bits v)
+  where
+    by_bit : (b : Bool) → IfSome (first_access (row_bit side) (cond b [] (record { bit = v; value = true } ∷ []) ++ clearing bits v)) (IsOpenRight shape side)
+    by_bit true = clearing_right shape side bits v (omega (arith, l))
+    by_bit false = row_bit_right shape side v true l
+
+pub row_right :
+    (shape : Shape) (side : Side) (row : UnaryState) (due : Option Access) → row.side ≡ side → row.value < modulus_of shape → due ≡ due_unary row →
+    IfSome due (IsOpenRight shape side)
+row_right shape side row due side_is below due_is =
+    subst (λ d. IfSome d (IsOpenRight shape side)) (sym due_is)
+    (subst (λ s. IfSome (first_access (row_bit s) (due_writes row)) (IsOpenRight shape side)) (sym side_is) (phrase_right shape side (bit_in row.bits) row.value below))
+
+-- a value modulo the modulus
+pub row_below : (shape : Shape) (row : UnaryState) (n : ℕ) → row.value ≡ n % modulus_of shape → row.value < modulus_of shape
+row_below shape row n e = subst (λ v. v < modulus_of shape) (sym e) (mod-lt n (omega (arith, shape.room_to_count)))

@@ -50,7 +50,7 @@ zero_reads-front : (bit_of : ℕ → Bit) (n : ℕ) → zero_reads bit_of (suc n
 zero_reads-front bit_of zero = refl
 zero_reads-front bit_of (suc n) = ap (λ l. l ++ Read (bit_of (suc n)) false ∷ []) (zero_reads-front bit_of n)
 
-scan-front : (bit_of : ℕ → Bit) (c : ℕ) → scan_phrase bit_of (suc c) ≡ Read (bit_of 0) false ∷ scan_phrase (λ i. bit_of (suc i)) c
+pub scan-front : (bit_of : ℕ → Bit) (c : ℕ) → scan_phrase bit_of (suc c) ≡ Read (bit_of 0) false ∷ scan_phrase (λ i. bit_of (suc i)) c
 scan-front bit_of c = ap (λ l. l ++ Read (bit_of (suc c)) true ∷ []) (zero_reads-front bit_of c)
 
 -- a scan begins with a read of bit 0
@@ -131,7 +131,7 @@ same_row : (u v : RowWrite) → u.bit ≡ v.bit → u.value ≡ v.value → u �
 same_row u v e f = ap (λ b. with_parts b u.value) e ∙ ap (with_parts v.bit) f
 
 -- the writes of a row are read off their accesses
-same_writes :
+pub same_writes :
     (cell : ℕ) (us vs : List RowWrite) (xs ys : List Made) → length us ≡ length vs →
     writes_in (Cell cell) us ++ xs ≡ writes_in (Cell cell) vs ++ ys → (us ≡ vs) × (xs ≡ ys)
 same_writes cell [] [] xs ys n e = (refl, e)

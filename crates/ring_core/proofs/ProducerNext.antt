@@ -1,5 +1,6 @@
 -- The access that the producer's machine has due is the next one of its call.
-use Rattle.std.proofs.Common.{◌≡◌, ◌⊎◌, inl, inr, ℕ, zero, suc, ◌+◌, ◌*◌, ◌%◌, ◌<◌, ◌≤◌, Bool, true, false, Option, Some, None, List, [], ◌∷◌, ◌++◌, length, take, refl, sym, ap, subst, ◌∙◌, arith, append_assoc, length-append}
+use Rattle.std.proofs.Common.{◌≡◌, ◌⊎◌, inl, inr, ℕ, zero, suc, ◌+◌, ◌*◌, ◌%◌, ◌<◌, ◌≤◌, true, false, IfSome, Option, Some, None, List, [], ◌∷◌, ◌++◌, length, take, refl, sym, ap, subst, ◌∙◌, arith, append_assoc, length-append}
+use Rattle.std.proofs.Math.Nat.{mod-lt}
 use Rattle.std.proofs.lemmas.Bool.Decides.{nat_tests}
 use Rattle.std.proofs.lemmas.List.{append_cancel_left}
 use Rattle.bits_core.specs.declared.events.Side.TheVariants.{P}
@@ -7,7 +8,8 @@ use Rattle.bits_core.specs.declared.events.Bit.TheVariants.{X, Cell}
 use Rattle.bits_core.specs.declared.events.Access.{Access}
 use Rattle.bits_core.specs.declared.events.Access.TheVariants as begins
 use Rattle.bits_core.specs.declared.shapes.Shape.{Shape}
-use Rattle.bits_core.specs.Shape.{capacity_of, modulus_of, width_of}
+use Rattle.bits_core.specs.Shape.{belongs, capacity_of, modulus_of, width_of}
+use Rattle.bits_core.specs.Open.{IsOpenRight}
 use Rattle.bits_core.specs.Made.{Made, Write, answered, IsBeginning}
 use Rattle.register_core.specs.Machine.{IsNext}
 use Rattle.register_core.specs.Row.{row_bit}
@@ -18,11 +20,11 @@ use Rattle.register_core.specs.Unary.{count_writes}
 use Rattle.register_core.specs.UnaryState.{UnaryStands, due_unary, due_writes}
 use Rattle.ring_core.specs.declared.producers.Stage.TheVariants.{Scanning, Storing, Counting}
 use Rattle.ring_core.specs.Counts.{LeavesRoom, LeavesRoomFor, distance, past, Count, first_count, batch_phrase, IsCount}
-use Rattle.ring_core.specs.Calls.{LastBitIsDue, IsScanning}
+use Rattle.ring_core.specs.Calls.{IsScanning}
 use Rattle.ring_core.specs.Puts.{Puts, Stored, Full, words_phrase, put_phrase, put_phrases, close_phrase, put_program, IsBatch, IsPut, ArePuts}
 use Rattle.ring_core.specs.Puts as puts
 use Rattle.ring_core.specs.ProducerState.{ProducerState, Call, Put, Close, call_at, call_of, IsWriting, IsKeeping}
-use Rattle.ring_core.specs.ProducerCalls.{count_of, values_of, room_in, ProducerStands, IsPutOf, and_put, Begins, IsNextPut, longest_of, longest}
+use Rattle.ring_core.specs.ProducerCalls.{count_of, values_of, room_in, ProducerStands, IsPutOf, and_put, Begins, PutGoesOn, longest_of, longest}
 use Rattle.ring_core.proofs.Lengths.{item_puts-are_short, full_puts-are_short, puts-are_short}
 use Rattle.ring_core.proofs.Batches.{taken_few, taken_so, taken_batch, words-split, far_from}
 use Rattle.ring_core.proofs.CellPlaces.{multiple_up}
@@ -130,18 +132,44 @@ begins_short shape Close calls made y (more, (more_is, are, o), (rest, e)) =
 
 -- ---- the stages
 
--- the access that is due, and the calls that it begins
-abbrev NextOf : Shape → Call → Puts → List Made → Access → Type 0
-NextOf shape c calls made access = (answer : Bool) → (LastBitIsDue shape P (Some access) → answer ≡ true) → Begins shape c calls (made ++ answered access answer ∷ [])
+-- the call under way, and the access that is due, with which it goes on
+pub record Going (shape : Shape) (call : Option Call) (calls : Puts) (made : List Made) (due : Option Access) : Type 0 where
+  pub under_way : Call
+  pub access : Access
+  pub call_is : call ≡ Some under_way
+  pub due_is : due ≡ Some access
+  pub goes_on : PutGoesOn shape calls under_way made access
+
+pub going_rests :
+    (shape : Shape) (call : Option Call) (calls : Puts) (made : List Made) (due : Option Access) → Going shape call calls made due → due ≡ None →
+    (call ≡ None) × (made ≡ put_program shape calls)
+going_rests shape call calls made due g none = absurd (let clash : Some g.access ≡ None = sym g.due_is ∙ none in cc)
+
+pub going_on :
+    (shape : Shape) (call : Option Call) (calls : Puts) (made : List Made) (due : Option Access) → Going shape call calls made due → (access : Access) →
+    due ≡ Some access → (c : Call) × (call ≡ Some c) × PutGoesOn shape calls c made access
+going_on shape call calls made due g access e = (g.under_way, g.call_is, subst (λ a. PutGoesOn shape calls g.under_way made a) (some_same g.access access (sym g.due_is ∙ e)) g.goes_on)
+  where
+    some_same : (a b : Access) → Some a ≡ Some b → a ≡ b
+    some_same a b e = cc
+
+pub going_bounded :
+    (shape : Shape) (call : Option Call) (calls : Puts) (made : List Made) (due : Option Access) → Going shape call calls made due → (c : Call) →
+    call ≡ Some c → length made < length (put_program shape calls) + longest shape c
+going_bounded shape call calls made due g c e =
+    begins_short shape c calls made (answered g.access true)
+    (subst (λ d. Begins shape d calls (made ++ answered g.access true ∷ [])) (some_same g.under_way c (sym g.call_is ∙ e)) (g.goes_on true (λ l. refl)))
+  where
+    some_same : (a b : Call) → Some a ≡ Some b → a ≡ b
+    some_same a b e = cc
 
 is_next : (shape : Shape) (call : Option Call) (c : Call) (calls : Puts) (made : List Made) (due : Option Access) (access : Access) → call ≡ Some c → due ≡ Some access →
-    NextOf shape c calls made access → IsNextPut shape calls call made due
-is_next shape call c calls made due access call_is due_is next =
-    rw call_is (rw due_is (next, begins_short shape c calls made (answered access true) (next true (λ l. refl))))
+    PutGoesOn shape calls c made access → Going shape call calls made due
+is_next shape call c calls made due access call_is due_is next = record { under_way = c; access = access; call_is = call_is; due_is = due_is; goes_on = next }
 
 pub next_scan :
     (p : ProducerState) (calls : Puts) (made : List Made) (due : Option Access) → p.stage ≡ Scanning → ProducerStands p calls made → IsBatch p.shape p.items →
-    IsScanning P (modulus_of p.shape) p.scan → due ≡ due_scan p.scan → IsNextPut p.shape calls (call_of p) made due
+    IsScanning P (modulus_of p.shape) p.scan → due ≡ due_scan p.scan → Going p.shape (call_of p) calls made due
 next_scan p calls made due e stands batch scans due_is =
     let (rests, reads, scan_stands, made_is) = made_at Scanning p calls made e stands in
     let o : calls.closes ≡ false = open_at Scanning p calls made e stands in
@@ -157,11 +185,25 @@ next_scan p calls made due e stands batch scans due_is =
 write_due : (w : WriterState) → w.written < w.width → due_write w ≡ Some (begins.Write (Cell w.cell w.written) (digit w.written w.item))
 write_due w l = grind (arith, nat_tests)
 
+pub word_right :
+    (p : ProducerState) (due : Option Access) → IsWriting p → p.word.written < p.word.width → due ≡ due_write p.word → IfSome due (IsOpenRight p.shape P)
+word_right p due writing more due_is =
+    subst (λ d. IfSome d (IsOpenRight p.shape P)) (sym (due_is ∙ write_due p.word more)) (in_shape cell_below digit_below, refl)
+  where
+    cell_below : p.word.cell < capacity_of p.shape
+    cell_below = subst (λ j. j < capacity_of p.shape) (sym writing.cell_is) (mod-lt (p.cell + p.index) p.shape.has_cells)
+
+    digit_below : p.word.written < width_of p.shape
+    digit_below = subst (λ n. p.word.written < n) writing.width_is more
+
+    in_shape : p.word.cell < capacity_of p.shape → p.word.written < width_of p.shape → belongs p.shape (Cell p.word.cell p.word.written) ≡ true
+    in_shape a b = grind (arith, nat_tests)
+
 pub next_word :
     (p : ProducerState) (calls : Puts) (made : List Made) (due : Option Access) → p.stage ≡ Storing → ProducerStands p calls made → IsBatch p.shape p.items → IsWriting p →
     IsKeeping p → p.word.written < p.word.width → due ≡ due_write p.word →
     ((writes : List Made) → WriterStands p.word writes → IsNext (word_write p.word.width p.word.cell p.word.item) writes due) →
-    IsNextPut p.shape calls (call_of p) made due
+    Going p.shape (call_of p) calls made due
 next_word p calls made due e stands batch writing keeping more due_is next =
     let (rests, seen, has, writes, words, made_is) = made_at Storing p calls made e stands in
     let o : calls.closes ≡ false = open_at Storing p calls made e stands in
@@ -201,7 +243,7 @@ pub next_count_write :
     (p : ProducerState) (calls : Puts) (made : List Made) (due : Option Access) → p.stage ≡ Counting → ProducerStands p calls made → IsBatch p.shape p.items →
     IsKeeping p → p.row.side ≡ P → (due_unary p.row ≡ None → ⊥) → due ≡ due_unary p.row →
     ((values : List ℕ) (made : List Made) → UnaryStands p.row values made → IsNext (count_writes p.row.side values) made due) →
-    IsNextPut p.shape calls (call_of p) made due
+    Going p.shape (call_of p) calls made due
 next_count_write p calls made due e stands batch keeping side some due_is next =
     let (seen, has, writes, rows, made_is) = made_at Counting p calls made e stands in
     let o : calls.closes ≡ false = open_at Counting p calls made e stands in

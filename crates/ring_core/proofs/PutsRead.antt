@@ -5,13 +5,13 @@ use Rattle.bits_core.specs.declared.events.Side.TheVariants.{P}
 use Rattle.bits_core.specs.declared.events.Bit.{Bit}
 use Rattle.bits_core.specs.declared.events.Bit.TheVariants.{X, Cell}
 use Rattle.bits_core.specs.declared.shapes.Shape.{Shape}
-use Rattle.bits_core.specs.Shape.{capacity_of, modulus_of, width_of}
+use Rattle.bits_core.specs.Shape.{AllFit, capacity_of, modulus_of, width_of}
 use Rattle.bits_core.specs.Made.{Made, Read, Write}
 use Rattle.register_core.specs.Row.{RowWrite, row_bit, writes_in}
 use Rattle.register_core.specs.Word.{digit, digit_writes, word_write, DigitsTellItems}
 use Rattle.register_core.specs.ScanState.{scan_phrase, row_read_by}
 use Rattle.ring_core.specs.Counts.{LeavesRoom, LeavesRoomFor, past, Count, first_count, count_bits, batch_phrase, IsCount}
-use Rattle.ring_core.specs.Puts.{Put, Puts, Stored, Full, stored_after, words_phrase, put_phrases, close_phrase, put_program, AllFit, IsBatch, ArePuts}
+use Rattle.ring_core.specs.Puts.{Put, Puts, Stored, Full, stored_after, words_phrase, put_phrases, close_phrase, put_program, IsBatch, ArePuts}
 use Rattle.ring_core.specs.Readings.{PutsAreRead}
 use Rattle.ring_core.proofs.Phrases.{same_accesses, scan_begins, same_scan, same_word_write, joined_two, no_scan}
 use Rattle.ring_core.proofs.CountRow.{first_is_count, counted_is_count, bits_long}
@@ -72,7 +72,7 @@ pub count_first :
 count_first shape c items behind is batch = row_first (count_bits shape c items) behind (bits_long shape c items is batch.some batch.few)
 
 -- a word does
-digits_first : (item w : ℕ) → 0 < w → (rest : List RowWrite) × (digit_writes item w ≡ record { bit = 0; value = digit 0 item } ∷ rest)
+pub digits_first : (item w : ℕ) → 0 < w → (rest : List RowWrite) × (digit_writes item w ≡ record { bit = 0; value = digit 0 item } ∷ rest)
 digits_first item zero l = absurd (omega (arith, l))
 digits_first item (suc zero) l = ([], refl)
 digits_first item (suc (suc w)) l =
@@ -80,7 +80,7 @@ digits_first item (suc (suc w)) l =
     let last : List RowWrite = record { bit = suc w; value = digit (suc w) item } ∷ [] in
     (rest ++ last, ap (λ ws. ws ++ last) e)
 
-word_first :
+pub word_first :
     (w cell item : ℕ) (behind : List Made) → 0 < w → (rest : List Made) × (word_write w cell item ++ behind ≡ Write (Cell cell 0) (digit 0 item) ∷ rest)
 word_first w cell item behind l =
     let (rest, e) = digits_first item w l in

@@ -17,7 +17,7 @@ use Rattle.register_core.specs.ScanState.{row_read_by}
 use Rattle.ring_core.specs.Counts.{first_count}
 use Rattle.ring_core.specs.Puts.{Puts, close_phrase, FollowsPuts}
 use Rattle.ring_core.specs.Takes.{Takes, FollowsTakes}
-use Rattle.ring_core.proofs.Spans.{Span, begun, ended, Stands, tally}
+use Rattle.ring_core.proofs.Spans.{Span, counts_begun, counts_ended, IsSpanAt, tally}
 use Rattle.ring_core.proofs.Clocks.{IsPlace, Permitted, AreRegular}
 use Rattle.ring_core.proofs.LookSpans.{Look, put_looks, take_looks, look_accesses, spans, put_spans, take_spans}
 use Rattle.ring_core.proofs.Lengths.{length-scan}
@@ -50,7 +50,7 @@ module _
 
   module _ (passing : AllPassing (batch_of shape) looks) where
     -- what the count writes of its spans that had ended before a place count, the unary writes that had do
-    ended_there : (place : ℕ) → ended (spans w shape first_count looks) (clock w h place) ≤ tally (sizes_in looks) (ended_before w h (counted_in shape looks) place)
+    ended_there : (place : ℕ) → counts_ended (spans w shape first_count looks) (clock w h place) ≤ tally (sizes_in looks) (ended_before w h (counted_in shape looks) place)
     ended_there place =
         let same : length (count_ended w (take place h)) ≡ bit_writes w events (clock w h place - 1) =
         ap length (count_ended_before shape w h lawful place) ∙
@@ -58,7 +58,7 @@ module _
         rw same (count_writes_ended w shape looks behind passing (clock w h place))
 
     -- what the unary writes that had begun before a place count, the count writes of its spans that had do
-    begun_there : (place : ℕ) → tally (sizes_in looks) (begun_before w h (counted_in shape looks) place) ≤ begun (spans w shape first_count looks) (clock w h place)
+    begun_there : (place : ℕ) → tally (sizes_in looks) (begun_before w h (counted_in shape looks) place) ≤ counts_begun (spans w shape first_count looks) (clock w h place)
     begun_there place =
         let same : length (count_begun w (take place h)) ≡ bit_writes w events (clock w h place) =
         ap length (count_begun_before shape w h lawful place) ∙
@@ -84,7 +84,7 @@ module _
 scan_there :
     OwnHasPlace → ScansAreMade → (shape : Shape) (h : List Event) (s : Side) (looks : List Look) (behind : List Made) →
     IsBeginning (own s h) (events_of s (look_accesses s shape first_count looks behind)) →
-    (start n : ℕ) (x : Span) → Stands (spans s shape first_count looks) start n x →
+    (start n : ℕ) (x : Span) → IsSpanAt (spans s shape first_count looks) start n x →
     (first last e : ℕ) → IsPlace (clock s h) start first → IsPlace (clock s h) e last → suc e ≡ start + x.scan →
     (from_place : ℕ → ℕ) × (to_place : ℕ → ℕ) × IsScan (other s) h x.seen from_place to_place × (first ≡ from_place 0) × (last ≡ to_place x.seen)
 scan_there has_place scans_made shape h s looks behind follows start n x st first last e is_first is_last ends =

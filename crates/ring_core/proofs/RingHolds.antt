@@ -123,8 +123,8 @@ module _ (facts : OwnFacts) (regular : UnaryIsRegular) (scans_made : ScansAreMad
     modulus_fits = batch_fits shape;
     has_batch = has_batch shape;
     clocks = clocks_of h;
-    puts_rule = λ s n x st. subst (λ i. clocks.IsPut (modulus_of shape) (capacity_of shape) i x) (from_none n) (put_rules shape first_count puts.puts run.puts_follow.are s n x st);
-    takes_rule = λ s k x st. subst (λ i. clocks.IsTake (modulus_of shape) (capacity_of shape) i x) (from_none k) (take_rules shape first_count takes.takes takes.end run.takes_follow.are s k x st);
+    puts_rule = λ s n x st. subst (λ i. clocks.IsPutSpan (modulus_of shape) (capacity_of shape) i x) (from_none n) (put_rules shape first_count puts.puts run.puts_follow.are s n x st);
+    takes_rule = λ s k x st. subst (λ i. clocks.IsTakeSpan (modulus_of shape) (capacity_of shape) i x) (from_none k) (take_rules shape first_count takes.takes takes.end run.takes_follow.are s k x st);
     puts_regular = puts_regular regular scans_made facts.has_place shape h run.lawful puts takes run.puts_follow run.takes_follow;
     takes_regular = takes_regular regular scans_made facts.has_place shape h run.lawful puts takes run.puts_follow run.takes_follow;
     words_safe = words_are_safe facts safe cells_made words_made shape h run.lawful (put_looks puts.puts) (take_looks takes.takes takes.end) (close_phrase puts.closes)

@@ -11,23 +11,23 @@ use Rattle.ring_core.specs.Counts.{distance, first_count}
 use Rattle.ring_core.specs.Puts.{Puts, put_phrases}
 use Rattle.ring_core.specs.Takes.{Takes}
 use Rattle.ring_core.specs.Items.{events_in, items_put, items_taken, all_put, IsTold}
-use Rattle.ring_core.proofs.Spans.{Span, Passes, Asks, counts, before_count, begun, ended, Stands, sizes, tally}
+use Rattle.ring_core.proofs.Spans.{Span, Passes, Asks, counts, before_count, counts_begun, counts_ended, IsSpanAt, sizes, tally}
 use Rattle.ring_core.proofs.Clocks.{IsPlace}
 use Rattle.ring_core.proofs.LookSpans.{put_spans, take_spans}
 use Rattle.ring_core.specs.RingLaw.{IsInterval}
 
 -- the items of the puts whose count write has begun before a place, of those that have ended before it, and the same of takes
 abbrev pub puts_begun : Shape → List Event → Puts → ℕ → ℕ
-puts_begun shape h puts t = begun (put_spans shape puts) (clock P h t)
+puts_begun shape h puts t = counts_begun (put_spans shape puts) (clock P h t)
 
 abbrev pub puts_ended : Shape → List Event → Puts → ℕ → ℕ
-puts_ended shape h puts t = ended (put_spans shape puts) (clock P h t)
+puts_ended shape h puts t = counts_ended (put_spans shape puts) (clock P h t)
 
 abbrev pub takes_begun : Shape → List Event → Takes → ℕ → ℕ
-takes_begun shape h takes t = begun (take_spans shape takes) (clock C h t)
+takes_begun shape h takes t = counts_begun (take_spans shape takes) (clock C h t)
 
 abbrev pub takes_ended : Shape → List Event → Takes → ℕ → ℕ
-takes_ended shape h takes t = ended (take_spans shape takes) (clock C h t)
+takes_ended shape h takes t = counts_ended (take_spans shape takes) (clock C h t)
 
 -- An ended scan gives, modulo the modulus, the number of the items counted by the other side's count writes up to one: a number
 -- from least to most, not less than that of those which had ended where the scan began, nor more than that of those which had
@@ -39,8 +39,8 @@ pub record ReadsCount (modulus : ℕ) (own other : ℕ → ℕ) (writes : List S
   pub value : x.seen ≡ number % modulus
   pub low : least ≤ number
   pub high : number ≤ most
-  pub not_older : (first : ℕ) → IsPlace own s first → ended writes (other first) ≤ number
-  pub not_newer : (last : ℕ) → IsPlace own (s + (x.scan - 1)) last → number ≤ begun writes (other last)
+  pub not_older : (first : ℕ) → IsPlace own s first → counts_ended writes (other first) ≤ number
+  pub not_newer : (last : ℕ) → IsPlace own (s + (x.scan - 1)) last → number ≤ counts_begun writes (other last)
 
 -- word access number i of a look, from its first begin to its last end, where the look stands at own event s
 abbrev pub IsWordAccess : Side → Shape → List Event → ℕ → Span → ℕ → ℕ → ℕ → Type 0
@@ -55,20 +55,20 @@ IsWithin shape h puts takes =
 -- a put behind n items reads a count from n - capacity - 1 to n
 abbrev pub PutsAreInRange : Shape → List Event → Puts → Takes → Type 0
 PutsAreInRange shape h puts takes =
-    (s n : ℕ) (x : Span) → Stands (put_spans shape puts) s n x → s + x.scan ≤ length (own P h) →
+    (s n : ℕ) (x : Span) → IsSpanAt (put_spans shape puts) s n x → s + x.scan ≤ length (own P h) →
     ReadsCount (modulus_of shape) (clock P h) (clock C h) (take_spans shape takes) s x (n - (capacity_of shape + 1)) n
 
 -- take number k reads counts from k - batch to k + capacity
 abbrev pub TakesAreInRange : Shape → List Event → Puts → Takes → Type 0
 TakesAreInRange shape h puts takes =
-    (s k : ℕ) (x : Span) → Stands (take_spans shape takes) s k x → s + x.scan ≤ length (own C h) →
+    (s k : ℕ) (x : Span) → IsSpanAt (take_spans shape takes) s k x → s + x.scan ≤ length (own C h) →
     ReadsCount (modulus_of shape) (clock C h) (clock P h) (put_spans shape puts) s x (k - batch_of shape) (k + capacity_of shape)
 
 -- no word read of a cell overlaps a word write of it
 abbrev pub CellsAreQuiet : Shape → List Event → Puts → Takes → Type 0
 CellsAreQuiet shape h puts takes =
-    (s n i : ℕ) (x : Span) → Stands (put_spans shape puts) s n x → i < counts x.outcome →
-    (s' k : ℕ) (y : Span) → Stands (take_spans shape takes) s' k y → counts y.outcome ≡ 1 → (n + i) % capacity_of shape ≡ k % capacity_of shape →
+    (s n i : ℕ) (x : Span) → IsSpanAt (put_spans shape puts) s n x → i < counts x.outcome →
+    (s' k : ℕ) (y : Span) → IsSpanAt (take_spans shape takes) s' k y → counts y.outcome ≡ 1 → (n + i) % capacity_of shape ≡ k % capacity_of shape →
     (start stop start' stop' : ℕ) → IsWordAccess P shape h s x i start stop → IsWordAccess C shape h s' y 0 start' stop' →
     ¬ intervals.Overlap start stop start' stop'
 
@@ -80,14 +80,14 @@ TakenArePrefix shape h puts takes =
 -- a take whose word read has ended, also where its count write is still to come, has the item put of its number
 abbrev pub TakesMatchPuts : Shape → List Event → Puts → Takes → Type 0
 TakesMatchPuts shape h puts takes =
-    (t s k : ℕ) (x : Span) (item : ℕ) → Stands (take_spans shape takes) s k x → x.outcome ≡ Passes (item ∷ []) → s + before_count x ≤ clock C h t →
+    (t s k : ℕ) (x : Span) (item : ℕ) → IsSpanAt (take_spans shape takes) s k x → x.outcome ≡ Passes (item ∷ []) → s + before_count x ≤ clock C h t →
     slice_get (items_put shape first_count puts.puts (clock P h t)) k ≡ Some item
 
 -- a take that finds the ring empty: each put that stored and had ended where it began was taken by a take that had ended then, and no
 -- close had ended
 abbrev pub EmptyIsFresh : Shape → List Event → Puts → Takes → Type 0
 EmptyIsFresh shape h puts takes =
-    (s k : ℕ) (x : Span) → Stands (take_spans shape takes) s k x → x.outcome ≡ Asks false → s + before_count x ≤ length (own C h) →
+    (s k : ℕ) (x : Span) → IsSpanAt (take_spans shape takes) s k x → x.outcome ≡ Asks false → s + before_count x ≤ length (own C h) →
     (first : ℕ) → IsPlaceOf C h s first →
     (puts_ended shape h puts first ≤ takes_ended shape h takes first) × (clock P h first < events_in (put_phrases shape first_count puts.puts) + 2)
 
@@ -95,14 +95,14 @@ EmptyIsFresh shape h puts takes =
 -- least the capacity
 abbrev pub FullIsFresh : Shape → List Event → Puts → Takes → Type 0
 FullIsFresh shape h puts takes =
-    (s n : ℕ) (x : Span) → Stands (put_spans shape puts) s n x → counts x.outcome ≡ 0 → s + x.scan ≤ length (own P h) →
+    (s n : ℕ) (x : Span) → IsSpanAt (put_spans shape puts) s n x → counts x.outcome ≡ 0 → s + x.scan ≤ length (own P h) →
     (first : ℕ) → IsPlaceOf P h s first → takes_ended shape h takes first + capacity_of shape ≤ n
 
 -- a put whose items fill all the room that its scan left: the items stored up to and with it, less the takes of an item that had
 -- ended where it began, are at least the capacity
 abbrev pub FillIsFresh : Shape → List Event → Puts → Takes → Type 0
 FillIsFresh shape h puts takes =
-    (s n : ℕ) (x : Span) → Stands (put_spans shape puts) s n x →
+    (s n : ℕ) (x : Span) → IsSpanAt (put_spans shape puts) s n x →
     distance (modulus_of shape) (n % modulus_of shape) x.seen + counts x.outcome ≡ capacity_of shape → s + x.scan ≤ length (own P h) →
     (first : ℕ) → IsPlaceOf P h s first → takes_ended shape h takes first + capacity_of shape ≤ n + counts x.outcome
 

@@ -9,7 +9,7 @@ use Rattle.bits_core.specs.declared.events.Bit.TheVariants.{Cell}
 use Rattle.bits_core.specs.declared.events.Access.TheVariants as begins
 use Rattle.bits_core.specs.declared.events.Event.{Event}
 use Rattle.bits_core.specs.declared.shapes.Shape.{Shape}
-use Rattle.bits_core.specs.Shape.{capacity_of, width_of}
+use Rattle.bits_core.specs.Shape.{AllFit, capacity_of, width_of}
 use Rattle.bits_core.specs.Intervals as intervals
 use Rattle.bits_core.specs.Intervals.{IsWrite, end_of}
 use Rattle.bits_core.specs.Lawful.{IsLawful}
@@ -19,9 +19,9 @@ use Rattle.register_core.specs.WordLaw.{cell_writes, IsDigitWrite, IsWordWrite, 
 use Rattle.register_core.specs.MadeReads.{begin_place, end_place, WordReadsAreMade}
 use Rattle.register_core.specs.MadeWrites.{CellWritesAreMade}
 use Rattle.ring_core.specs.Counts.{first_count}
-use Rattle.ring_core.specs.Puts.{close_phrase, AllFit}
-use Rattle.ring_core.proofs.Spans.{Outcome, Passes, Stops, Asks, Span, counts, items_of, before_count, Stands}
-use Rattle.ring_core.proofs.Clocks.{IsPlace, Overlap, IsLastWrite, AreSafe}
+use Rattle.ring_core.specs.Puts.{close_phrase}
+use Rattle.ring_core.proofs.Spans.{Outcome, Passes, Stops, Asks, Span, counts, items_of, before_count, IsSpanAt}
+use Rattle.ring_core.proofs.Clocks.{IsPlace, CellOverlap, IsLastWrite, AreSafe}
 use Rattle.ring_core.proofs.LookSpans.{Look, look_accesses, spans}
 use Rattle.ring_core.proofs.Cuts.{at_most_or_above}
 use Rattle.ring_core.proofs.Gates.{Clock, clock_up, clock_p, clock_c}
@@ -182,7 +182,7 @@ module _ (facts : OwnFacts) (word_is_safe : WordIsSafe) (writes_made : CellWrite
     index : ℕ
     put : Span
     item : ℕ
-    stands : Stands puts at number put
+    stands : IsSpanAt puts at number put
     stored : slice_get (items_of put.outcome) index ≡ Some item
     has : index < counts put.outcome
     same_cell : (number + index) % capacity_of shape ≡ j
@@ -220,7 +220,7 @@ module _ (facts : OwnFacts) (word_is_safe : WordIsSafe) (writes_made : CellWrite
 
   -- the words of a put are within its word accesses
   word_within :
-      (at number index : ℕ) (put : Span) → Stands puts at number put → index < counts put.outcome → put.scan + 2 * (index * width) + 2 * width ≤ before_count put
+      (at number index : ℕ) (put : Span) → IsSpanAt puts at number put → index < counts put.outcome → put.scan + 2 * (index * width) + 2 * width ≤ before_count put
   word_within at number index put st has =
       omega (
         arith,
@@ -282,9 +282,9 @@ module _ (facts : OwnFacts) (word_is_safe : WordIsSafe) (writes_made : CellWrite
 
   -- ---- a take's word read that no put's word write overlaps
 
-  module _ (s k : ℕ) (x : Span) (item : ℕ) (stands : Stands takes s k x) (passes : x.outcome ≡ Passes (item ∷ []))
+  module _ (s k : ℕ) (x : Span) (item : ℕ) (stands : IsSpanAt takes s k x) (passes : x.outcome ≡ Passes (item ∷ []))
       (first last e : ℕ) (first_is : IsPlace (clock C h) (s + x.scan) first) (last_is : IsPlace (clock C h) e last) (end_is : suc e ≡ s + before_count x)
-      (quiet : Overlap (capacity_of shape) (clock P h) puts (k % capacity_of shape) first last → ⊥)
+      (quiet : CellOverlap (capacity_of shape) (clock P h) puts (k % capacity_of shape) first last → ⊥)
       (written : ℕ) (known : IsLastWrite (capacity_of shape) (clock P h) puts (k % capacity_of shape) first written) where
     abbrev cell : ℕ
     cell = k % capacity_of shape

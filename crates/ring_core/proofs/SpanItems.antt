@@ -2,8 +2,8 @@
 use Rattle.std.specs.Prelude.{slice_get, Some}
 use Rattle.std.proofs.Common.{◌≡◌, inl, inr, ℕ, zero, suc, ◌+◌, ◌-◌, ◌<◌, ◌≤◌, ◌%◌, true, false, List, [], ◌∷◌, ◌++◌, length, get_or, drop, subst, append-nil, drop_of_length-le, refl, sym, ap, ◌∙◌, add-zero, arith}
 use Rattle.std.proofs.lemmas.List.Prefix.{front_from_reads}
-use Rattle.ring_core.proofs.Spans.{Span, Outcome, Passes, Stops, Asks, counts, items_of, before_count, whole, begun, ended, begun_items, ended_items, all_items, total, Stands}
-use Rattle.ring_core.proofs.Clocks.{IsPlace, Overlap, Ring}
+use Rattle.ring_core.proofs.Spans.{Span, Outcome, Passes, Stops, Asks, counts, items_of, before_count, whole, counts_begun, counts_ended, begun_items, ended_items, all_items, total, IsSpanAt}
+use Rattle.ring_core.proofs.Clocks.{IsPlace, CellOverlap, Ring}
 use Rattle.ring_core.proofs.Cuts.{at_most_or_above}
 use Rattle.ring_core.proofs.Timeline.{AllProper, before-whole, before-count, ended_begun, begun_at, ended_at, begun_up, ended_up, begun_all, ended_all, Found, begun_find, ended_find, length-begun_items, length-ended_items, all_begun}
 use Rattle.ring_core.proofs.Distances.{apart, distance_of}
@@ -34,27 +34,27 @@ module _ (modulus capacity batch : ℕ) (p c : ℕ → ℕ) (puts takes : List S
   up_c = clock_up c (clock_c p c ring.clocks)
 
   -- the gates of a take and of a put, from the end of its scan on
-  behind : (t s k : ℕ) (x : Span) → Stands takes s k x → counts x.outcome ≡ 1 → s + x.scan ≤ c t → k < begun puts (p t)
+  behind : (t s k : ℕ) (x : Span) → IsSpanAt takes s k x → counts x.outcome ≡ 1 → s + x.scan ≤ c t → k < counts_begun puts (p t)
   behind = has_begun modulus capacity batch p c puts takes ring proper_puts proper_takes
 
-  ahead : (t s n : ℕ) (x : Span) → Stands puts s n x → 1 ≤ counts x.outcome → s + x.scan ≤ p t → n + counts x.outcome ≤ begun takes (c t) + capacity
+  ahead : (t s n : ℕ) (x : Span) → IsSpanAt puts s n x → 1 ≤ counts x.outcome → s + x.scan ≤ p t → n + counts x.outcome ≤ counts_begun takes (c t) + capacity
   ahead = has_room modulus capacity batch p c puts takes ring proper_puts proper_takes
 
   -- the count of a side from the begin of a scan to the begin of the count write
-  at_put : (s n j : ℕ) (x : Span) → Stands puts s n x → s ≤ j → j ≤ s + before_count x → begun puts j ≡ n
+  at_put : (s n j : ℕ) (x : Span) → IsSpanAt puts s n x → s ≤ j → j ≤ s + before_count x → counts_begun puts j ≡ n
   at_put s n j x st l m =
       let e : s + (j - s) ≡ j = omega arith in
       rw e at (begun_at batch puts proper_puts s n x st (j - s) (omega arith))
 
-  at_take : (s k j : ℕ) (x : Span) → Stands takes s k x → s ≤ j → j ≤ s + before_count x → begun takes j ≡ k
+  at_take : (s k j : ℕ) (x : Span) → IsSpanAt takes s k x → s ≤ j → j ≤ s + before_count x → counts_begun takes j ≡ k
   at_take s k j x st l m =
       let e : s + (j - s) ≡ j = omega arith in
       rw e at (begun_at 1 takes proper_takes s k x st (j - s) (omega arith))
 
   -- no word write of the cell overlaps the word read, which begins at position first
   pub quiet :
-      (s k : ℕ) (x : Span) → Stands takes s k x → counts x.outcome ≡ 1 → (first last : ℕ) → first ≤ last →
-      s + x.scan ≤ c first → c last ≤ s + before_count x → Overlap capacity p puts (k % capacity) first last → ⊥
+      (s k : ℕ) (x : Span) → IsSpanAt takes s k x → counts x.outcome ≡ 1 → (first last : ℕ) → first ≤ last →
+      s + x.scan ≤ c first → c last ≤ s + before_count x → CellOverlap capacity p puts (k % capacity) first last → ⊥
   quiet s k x st o first last l from to v = elim (at_most_or_above (p first) (v.start + v.put.scan)) [
     | inr m ↦ (
         let w = before-whole batch v.put (proper_at batch puts proper_puts v.start v.number v.put v.stands) in
@@ -78,7 +78,7 @@ module _ (modulus capacity batch : ℕ) (p c : ℕ → ℕ) (puts takes : List S
 
   -- take number k, whose word read has ended by moment t, has item number k of those put
   same_item :
-      (t s k : ℕ) (x : Span) (item : ℕ) → Stands takes s k x → x.outcome ≡ Passes (item ∷ []) → s + before_count x ≤ c t →
+      (t s k : ℕ) (x : Span) (item : ℕ) → IsSpanAt takes s k x → x.outcome ≡ Passes (item ∷ []) → s + before_count x ≤ c t →
       (g : Found puts (begun_items puts (p t)) k) → item ≡ g.item
   same_item t s k x item st o l g =
       let one : counts x.outcome ≡ 1 = ap counts o in
@@ -91,7 +91,7 @@ module _ (modulus capacity batch : ℕ) (p c : ℕ → ℕ) (puts takes : List S
         | inl m ↦ m
         | inr m ↦ absurd (omega (arith, up_c (suc last.place) first.place m, first.is, last.is, word))
       ] in
-      let here : begun takes (c first.place) ≡ k = at_take s k (c first.place) x st (omega (arith, first.is)) (omega (arith, first.is, w)) in
+      let here : counts_begun takes (c first.place) ≡ k = at_take s k (c first.place) x st (omega (arith, first.is)) (omega (arith, first.is, w)) in
       ring.words_safe s k x item st o first.place last.place (s + (before_count x - 1)) first.is last.is (omega (arith, w))
       (λ v. quiet s k x st one first.place last.place order (omega (arith, first.is)) (omega (arith, last.is, w)) v)
       g.item
@@ -117,20 +117,20 @@ module _ (modulus capacity batch : ℕ) (p c : ℕ → ℕ) (puts takes : List S
 
   -- so that item is among those put
   pub taken_item :
-      (t s k : ℕ) (x : Span) (item : ℕ) → Stands takes s k x → x.outcome ≡ Passes (item ∷ []) → s + before_count x ≤ c t →
+      (t s k : ℕ) (x : Span) (item : ℕ) → IsSpanAt takes s k x → x.outcome ≡ Passes (item ∷ []) → s + before_count x ≤ c t →
       slice_get (begun_items puts (p t)) k ≡ Some item
   taken_item t s k x item st o l =
       let one : counts x.outcome ≡ 1 = ap counts o in
-      let there : k < begun puts (p t) = behind t s k x st one (omega (arith, l)) in
+      let there : k < counts_begun puts (p t) = behind t s k x st one (omega (arith, l)) in
       let g = begun_find batch puts proper_puts (p t) k there in
       g.listed ∙ ap Some (sym (same_item t s k x item st o l g))
 
   -- at most as many items are taken as are put
-  fewer : (t : ℕ) → ended takes (c t) ≤ begun puts (p t)
+  fewer : (t : ℕ) → counts_ended takes (c t) ≤ counts_begun puts (p t)
   fewer t = omega (arith, within modulus capacity batch p c puts takes ring proper_puts proper_takes t, ended_begun 1 takes proper_takes (c t))
 
   -- and each has the item of the same number
-  each_item : (t k : ℕ) → k < ended takes (c t) → get_or (begun_items puts (p t)) k 0 ≡ get_or (ended_items takes (c t)) k 0
+  each_item : (t k : ℕ) → k < counts_ended takes (c t) → get_or (begun_items puts (p t)) k 0 ≡ get_or (ended_items takes (c t)) k 0
   each_item t k l =
       let f = ended_find 1 takes proper_takes (c t) k l in
       let proper = proper_at 1 takes proper_takes f.start f.number f.span f.stands in
@@ -138,7 +138,7 @@ module _ (modulus capacity batch : ℕ) (p c : ℕ → ℕ) (puts takes : List S
       let (none, passes) = only_item f.span.outcome f.index f.item proper.few f.stored in
       let one : counts f.span.outcome ≡ 1 = ap counts passes in
       let number_is : f.number ≡ k = omega (arith, f.is_k, none) in
-      let stands : Stands takes f.start k f.span = subst (λ (n : ℕ). Stands takes f.start n f.span) number_is f.stands in
+      let stands : IsSpanAt takes f.start k f.span = subst (λ (n : ℕ). IsSpanAt takes f.start n f.span) number_is f.stands in
       let over : f.start + before_count f.span ≤ c t = elim (at_most_or_above (f.start + before_count f.span) (c t)) [
         | inl m ↦ m
         | inr m ↦ (
@@ -159,18 +159,18 @@ module _ (modulus capacity batch : ℕ) (p c : ℕ → ℕ) (puts takes : List S
 
   -- a take that takes nothing: each put that had ended before it began was taken by a take that had ended before it began
   pub empty_fresh :
-      (t s k : ℕ) (x : Span) → Stands takes s k x → counts x.outcome ≡ 0 → s + x.scan ≤ c t → (first : ℕ) → IsPlace c s first →
-      ended puts (p first) ≤ ended takes (c first)
+      (t s k : ℕ) (x : Span) → IsSpanAt takes s k x → counts x.outcome ≡ 0 → s + x.scan ≤ c t → (first : ℕ) → IsPlace c s first →
+      counts_ended puts (p first) ≤ counts_ended takes (c first)
   empty_fresh t s k x st o l first is =
       let r = shown_at modulus capacity batch p c puts takes ring proper_puts proper_takes t s k x st l in
       let w = before-whole 1 x (proper_at 1 takes proper_takes s k x st) in
-      let e : ended takes (s + 0) ≡ k = ended_at 1 takes proper_takes s k x st 0 (omega (arith, w)) in
-      let e' : ended takes (c first) ≡ k = rw is.0 (rw add-zero at e) in
+      let e : counts_ended takes (s + 0) ≡ k = ended_at 1 takes proper_takes s k x st 0 (omega (arith, w)) in
+      let e' : counts_ended takes (c first) ≡ k = rw is.0 (rw add-zero at e) in
       omega (arith, r.since first is, shows_none modulus capacity batch p c puts takes ring proper_puts proper_takes t s k x st r o, e')
 
   -- and if it read the close bit as 0, no close had ended before it began
   pub empty_open :
-      (t s k : ℕ) (x : Span) → Stands takes s k x → x.outcome ≡ Asks false → s + before_count x ≤ c t → (first : ℕ) → IsPlace c s first →
+      (t s k : ℕ) (x : Span) → IsSpanAt takes s k x → x.outcome ≡ Asks false → s + before_count x ≤ c t → (first : ℕ) → IsPlace c s first →
       p first < total puts + 2
   empty_open t s k x st o l first is =
       let w = before-whole 1 x (proper_at 1 takes proper_takes s k x st) in
@@ -186,16 +186,16 @@ module _ (modulus capacity batch : ℕ) (p c : ℕ → ℕ) (puts takes : List S
 
   -- a put that stores nothing: the puts before it, less the takes that had ended before it began, are at least the capacity
   pub full_fresh :
-      (t s n : ℕ) (x : Span) → Stands puts s n x → counts x.outcome ≡ 0 → s + x.scan ≤ p t → (first : ℕ) → IsPlace p s first →
-      ended takes (c first) + capacity ≤ n
+      (t s n : ℕ) (x : Span) → IsSpanAt puts s n x → counts x.outcome ≡ 0 → s + x.scan ≤ p t → (first : ℕ) → IsPlace p s first →
+      counts_ended takes (c first) + capacity ≤ n
   full_fresh t s n x st o l first is =
       let r = left_at modulus capacity batch p c puts takes ring proper_puts proper_takes t s n x st l in
       omega (arith, r.since first is, leaves_none modulus capacity batch p c puts takes ring proper_puts proper_takes t s n x st r o)
 
   -- a put whose items fill all the room that its scan left
   pub fill_fresh :
-      (t s n : ℕ) (x : Span) → Stands puts s n x → distance modulus (n % modulus) x.seen + counts x.outcome ≡ capacity → s + x.scan ≤ p t →
-      (first : ℕ) → IsPlace p s first → ended takes (c first) + capacity ≤ n + counts x.outcome
+      (t s n : ℕ) (x : Span) → IsSpanAt puts s n x → distance modulus (n % modulus) x.seen + counts x.outcome ≡ capacity → s + x.scan ≤ p t →
+      (first : ℕ) → IsPlace p s first → counts_ended takes (c first) + capacity ≤ n + counts x.outcome
   fill_fresh t s n x st fills l first is =
       let r = left_at modulus capacity batch p c puts takes ring proper_puts proper_takes t s n x st l in
       let fits = ring.modulus_fits in
@@ -205,7 +205,7 @@ module _ (modulus capacity batch : ℕ) (p c : ℕ → ℕ) (puts takes : List S
 
   -- a take that read the close bit as 1, scanned again and saw no item: every item put has been taken, and no more come
   pub closed :
-      (t s k : ℕ) (x z : Span) → Stands takes s k x → x.outcome ≡ Asks true → Stands takes (s + whole x) k z → counts z.outcome ≡ 0 →
+      (t s k : ℕ) (x z : Span) → IsSpanAt takes s k x → x.outcome ≡ Asks true → IsSpanAt takes (s + whole x) k z → counts z.outcome ≡ 0 →
       s + whole x + z.scan ≤ c t →
       (begun_items puts (p t) ≡ all_items puts) × (ended_items takes (c t) ≡ all_items puts) × (total puts < p t)
   closed t s k x z st o sz oz l =
@@ -227,7 +227,7 @@ module _ (modulus capacity batch : ℕ) (p c : ℕ → ℕ) (puts takes : List S
       let low = r.since again.place again.is in
       let high = shows_none modulus capacity batch p c puts takes ring proper_puts proper_takes t (s + whole x) k z sz r oz in
       let all = ended_all puts (p again.place) (omega (arith, over)) in
-      let e : ended takes (s + whole x + 0) ≡ k = ended_at 1 takes proper_takes (s + whole x) k z sz 0 (omega (arith, wz, scan)) in
+      let e : counts_ended takes (s + whole x + 0) ≡ k = ended_at 1 takes proper_takes (s + whole x) k z sz 0 (omega (arith, wz, scan)) in
       let had = ended_up 1 takes proper_takes (s + whole x + 0) (c t) (omega arith) in
       let most = begun_all batch puts proper_puts (p t) in
       let same : length (begun_items puts (p t)) ≤ length (ended_items takes (c t)) =

@@ -2,10 +2,10 @@
 use Rattle.std.specs.Prelude.{slice_get, Some}
 use Rattle.std.proofs.Common.{◌≡◌, inl, inr, ℕ, ◌+◌, ◌-◌, ◌<◌, ◌≤◌, ◌%◌, true, false, List, [], ◌∷◌, length, drop, refl, sym, ap, arith}
 use Rattle.bits_core.specs.Made.{IsBeginning}
-use Rattle.ring_core.proofs.Spans.{Span, Passes, Asks, counts, before_count, whole, begun, ended, begun_items, ended_items, all_items, total, Stands}
+use Rattle.ring_core.proofs.Spans.{Span, Passes, Asks, counts, before_count, whole, counts_begun, counts_ended, begun_items, ended_items, all_items, total, IsSpanAt}
 use Rattle.ring_core.proofs.RingOfSpans.{ReadsCount}
 use Rattle.ring_core.specs.Counts.{distance}
-use Rattle.ring_core.proofs.Clocks.{IsPlace, Overlap, Ring}
+use Rattle.ring_core.proofs.Clocks.{IsPlace, CellOverlap, Ring}
 use Rattle.ring_core.proofs.Timeline.{AllProper, before-whole}
 use Rattle.ring_core.proofs.Gates.{clock_up, clock_c, proper_at, within, shown_at, left_at}
 use Rattle.ring_core.proofs.SpanItems.{quiet, taken_item, prefix, empty_fresh, empty_open, full_fresh, fill_fresh, closed}
@@ -16,9 +16,9 @@ pub record LastTwo (xs : List Span) : Type 0 where
   pub number : ℕ
   pub asked : Span
   pub stopped : Span
-  pub asked_stands : Stands xs start number asked
+  pub asked_stands : IsSpanAt xs start number asked
   pub asked_is : asked.outcome ≡ Asks true
-  pub stopped_stands : Stands xs (start + whole asked) number stopped
+  pub stopped_stands : IsSpanAt xs (start + whole asked) number stopped
   pub stopped_is : counts stopped.outcome ≡ 0
   pub at_end : start + whole asked + stopped.scan ≤ total xs
 
@@ -58,37 +58,37 @@ pub record IsToldAt (c : ℕ → ℕ) (takes : List Span) (t : ℕ) : Type 0 whe
 -- What holds of a ring at every moment.
 pub record SpanLaw (modulus capacity batch : ℕ) (p c : ℕ → ℕ) (puts takes : List Span) : Type 0 where
   -- at most as many items are put and not taken as the ring holds
-  pub within : (t : ℕ) → (begun takes (c t) ≤ begun puts (p t)) × (begun puts (p t) ≤ begun takes (c t) + capacity)
+  pub within : (t : ℕ) → (counts_begun takes (c t) ≤ counts_begun puts (p t)) × (counts_begun puts (p t) ≤ counts_begun takes (c t) + capacity)
   -- put number n reads a count from n - capacity - 1 to n
   pub put_range :
-      (t s n : ℕ) (x : Span) → Stands puts s n x → s + x.scan ≤ p t → ReadsCount modulus p c takes s x (n - (capacity + 1)) n
+      (t s n : ℕ) (x : Span) → IsSpanAt puts s n x → s + x.scan ≤ p t → ReadsCount modulus p c takes s x (n - (capacity + 1)) n
   -- take number k reads a count from k - batch to k + capacity
   pub take_range :
-      (t s k : ℕ) (x : Span) → Stands takes s k x → s + x.scan ≤ c t → ReadsCount modulus c p puts s x (k - batch) (k + capacity)
+      (t s k : ℕ) (x : Span) → IsSpanAt takes s k x → s + x.scan ≤ c t → ReadsCount modulus c p puts s x (k - batch) (k + capacity)
   -- no word write of a cell overlaps a word read of it, from its begin at position first to its end, or as long as it is open
   pub quiet :
-      (s k : ℕ) (x : Span) → Stands takes s k x → counts x.outcome ≡ 1 → (first last : ℕ) → first ≤ last →
-      s + x.scan ≤ c first → c last ≤ s + before_count x → Overlap capacity p puts (k % capacity) first last → ⊥
+      (s k : ℕ) (x : Span) → IsSpanAt takes s k x → counts x.outcome ≡ 1 → (first last : ℕ) → first ≤ last →
+      s + x.scan ≤ c first → c last ≤ s + before_count x → CellOverlap capacity p puts (k % capacity) first last → ⊥
   -- a take whose word read has ended has the item of the put of its number
   pub items :
-      (t s k : ℕ) (x : Span) (item : ℕ) → Stands takes s k x → x.outcome ≡ Passes (item ∷ []) → s + before_count x ≤ c t →
+      (t s k : ℕ) (x : Span) (item : ℕ) → IsSpanAt takes s k x → x.outcome ≡ Passes (item ∷ []) → s + before_count x ≤ c t →
       slice_get (begun_items puts (p t)) k ≡ Some item
   -- the items taken are a beginning of the items put
   pub prefix : (t : ℕ) → IsBeginning (ended_items takes (c t)) (begun_items puts (p t))
   -- a take that finds the ring empty: all puts that had ended before it began were taken by takes that had ended then, and
   -- no close had ended
   pub empty :
-      (t s k : ℕ) (x : Span) → Stands takes s k x → x.outcome ≡ Asks false → s + before_count x ≤ c t →
-      (first : ℕ) → IsPlace c s first → (ended puts (p first) ≤ ended takes (c first)) × (p first < total puts + 2)
+      (t s k : ℕ) (x : Span) → IsSpanAt takes s k x → x.outcome ≡ Asks false → s + before_count x ≤ c t →
+      (first : ℕ) → IsPlace c s first → (counts_ended puts (p first) ≤ counts_ended takes (c first)) × (p first < total puts + 2)
   -- a put that finds the ring full: the puts before it, less the takes that had ended when it began, are at least the capacity
   pub full :
-      (t s n : ℕ) (x : Span) → Stands puts s n x → counts x.outcome ≡ 0 → s + x.scan ≤ p t →
-      (first : ℕ) → IsPlace p s first → ended takes (c first) + capacity ≤ n
+      (t s n : ℕ) (x : Span) → IsSpanAt puts s n x → counts x.outcome ≡ 0 → s + x.scan ≤ p t →
+      (first : ℕ) → IsPlace p s first → counts_ended takes (c first) + capacity ≤ n
   -- a put whose items fill all the room that its scan left: the items up to and with its own, less the takes that had ended when
   -- it began, are at least the capacity
   pub fill :
-      (t s n : ℕ) (x : Span) → Stands puts s n x → distance modulus (n % modulus) x.seen + counts x.outcome ≡ capacity → s + x.scan ≤ p t →
-      (first : ℕ) → IsPlace p s first → ended takes (c first) + capacity ≤ n + counts x.outcome
+      (t s n : ℕ) (x : Span) → IsSpanAt puts s n x → distance modulus (n % modulus) x.seen + counts x.outcome ≡ capacity → s + x.scan ≤ p t →
+      (first : ℕ) → IsPlace p s first → counts_ended takes (c first) + capacity ≤ n + counts x.outcome
   -- once a take was told that the ring is closed, at every later moment the close has begun, every item put has been taken,
   -- and no more come
   pub closed :

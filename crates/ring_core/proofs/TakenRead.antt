@@ -1,5 +1,5 @@
 -- The items taken in a history are those of each reading of its events.
-use Rattle.std.proofs.Common.{◌≡◌, ℕ, suc, ◌-◌, ◌*◌, ◌+◌, ◌<◌, ◌≤◌, true, false, List, [], ◌∷◌, ◌++◌, length, refl, sym, ap, subst, ◌∙◌, arith, inl, inr, nat_le, if◌then◌else◌, append_assoc, append-nil, length-append}
+use Rattle.std.proofs.Common.{◌≡◌, ap₂, ℕ, suc, ◌-◌, ◌*◌, ◌+◌, ◌<◌, ◌≤◌, true, false, List, [], ◌∷◌, ◌++◌, length, refl, sym, ap, subst, ◌∙◌, arith, inl, inr, nat_le, if◌then◌else◌, append_assoc, append-nil, length-append}
 use Rattle.std.proofs.lemmas.Bool.{lt-leb}
 use Rattle.std.proofs.lemmas.List.{append_cancel_left}
 use Rattle.bits_core.specs.declared.events.Side.TheVariants.{C}
@@ -9,10 +9,11 @@ use Rattle.bits_core.specs.Made.{Made, Read, own, IsBeginning}
 use Rattle.register_core.specs.Word.{DigitsTellItems}
 use Rattle.register_core.specs.ScanState.{row_read_by, zero_reads}
 use Rattle.ring_core.specs.Takes.{Take, Takes, End, Item, ItemAfterClose, Empty, Open, Closed, taken_after, item_phrase, take_phrase, take_phrases, end_phrase, take_program, IsTake, AreTakes}
+use Rattle.ring_core.specs.Readings.{TakesAreFirst}
 use Rattle.ring_core.specs.Items.{events_in, items_taken, Tells, IsTold, TakenAreRead}
 use Rattle.ring_core.proofs.Phrases.{no_scan, same_scan, joined}
 use Rattle.ring_core.proofs.TakesRead.{scan, calls_from, item_first, after_first, empty_first, closed_first, item_or_none, open_or_closed, same_twice, after_or_closed, same_item_phrase}
-use Rattle.ring_core.proofs.Cuts.{at_most_or_above, BeginBoth, begin_both, cut, also_begins}
+use Rattle.ring_core.proofs.Cuts.{at_most_or_above, BeginBoth, begin_both, cut, also_begins, made_first}
 
 -- the item of a take that has ended within t events of it
 abbrev item_ended : Shape → ℕ → Take → ℕ → List ℕ
@@ -94,6 +95,9 @@ closed_on :
     (shape : Shape) (k seen again : ℕ) (zs : List Made) →
     calls_from shape k [] (Closed seen again) ++ zs ≡ scan seen ++ (Read X true ∷ (scan again ++ zs))
 closed_on shape k seen again zs = append_assoc (scan seen) (Read X true ∷ scan again) zs
+
+same_calls : (a b : Takes) → a.takes ≡ b.takes → a.end ≡ b.end → a ≡ b
+same_calls a b p q = ap₂ (λ (x : List Take) (y : End). record { takes = x; end = y }) p q
 
 module _ (tell : DigitsTellItems) where
   -- takes whose accesses begin with those of a take begin with that take
@@ -263,4 +267,30 @@ module _ (tell : DigitsTellItems) where
       begin_both C (own C h) (take_program shape a) (take_program shape b) p.events q.events in (
         same_items shape 0 a.takes b.takes a.end b.end both.made (length (own C h)) p.are q.are both.begins_left both.begins_right both.reach,
         λ told. still_told shape a b both.made (length (own C h)) p.are q.are both.begins_left both.begins_right both.reach told,
+      )
+
+  -- ---- whole calls that begin others
+
+  first_takes :
+      (shape : Shape) (k : ℕ) (xs ys : List Take) (a b : End) (zs : List Made) → AreTakes shape k xs a → AreTakes shape k ys b →
+      take_phrases shape k xs ++ zs ≡ calls_from shape k ys b → (more : List Take) × (ys ≡ xs ++ more)
+  first_takes shape k [] ys a b zs p q e = (ys, refl)
+  first_takes shape k (x ∷ xs) ys a b zs p q e =
+      let m : ℕ = taken_after k x in
+      let phrase : List Made = take_phrase shape k x in
+      let tail : List Made = take_phrases shape m xs ++ zs in
+      let parts : phrase ++ tail ≡ calls_from shape k ys b = sym (append_assoc phrase (take_phrases shape m xs) zs) ∙ e in
+      let (rest, same) = same_first shape k x ys b tail p.0 q parts in
+      let are : AreTakes shape m rest b = (subst (λ l. AreTakes shape k l b) same q).1 in
+      let whole : phrase ++ tail ≡ phrase ++ calls_from shape m rest b = parts ∙ ap (λ l. calls_from shape k l b) same ∙ from_take shape k x rest b in
+      let (more, f) = first_takes shape m xs rest a b zs p.1 are (append_cancel_left phrase tail (calls_from shape m rest b) whole) in
+      (more, same ∙ ap (λ l. x ∷ l) f)
+
+  pub takes-are_first : TakesAreFirst
+  takes-are_first shape a b p q begins =
+      let (rest, e) = made_first C (take_program shape a) (take_program shape b) begins in (
+        first_takes shape 0 a.takes b.takes a.end b.end (end_phrase a.end ++ rest) p q (sym (append_assoc (take_phrases shape 0 a.takes) (end_phrase a.end) rest) ∙ e),
+        λ tells.
+            (let (takes, ends) = same_closed shape 0 a.takes b.takes a.end b.end rest p q tells e in
+            same_calls a b takes ends),
       )

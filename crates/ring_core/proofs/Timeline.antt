@@ -3,7 +3,7 @@ use Rattle.std.proofs.Common.{◌≡◌, ◌⊎◌, inl, inr, ℕ, zero, suc, �
 use Rattle.std.specs.Prelude.{slice_get}
 use Rattle.std.proofs.lemmas.Option.{slice_get-get_or}
 use Rattle.std.proofs.lemmas.Bool.Decides.{nat_tests}
-use Rattle.ring_core.proofs.Spans.{Span, Outcome, Passes, Stops, Asks, counts, items_of, before_count, whole, begun, ended, begun_items, ended_items, all_items, total, Stands}
+use Rattle.ring_core.proofs.Spans.{Span, Outcome, Passes, Stops, Asks, counts, items_of, before_count, whole, counts_begun, counts_ended, begun_items, ended_items, all_items, total, IsSpanAt}
 use Rattle.ring_core.proofs.Cuts.{at_most_or_above}
 
 -- a scan has an event, and so has a write that counts an item; and it counts at most so many
@@ -58,37 +58,37 @@ le_false a b c h = grind (arith, nat_tests)
 -- the count writes of the first span, and those past it
 begun_cons :
     (y : Span) (ys : List Span) (i j t : ℕ) → i - whole y ≡ j → (if nat_lt (before_count y) i then counts y.outcome else 0) ≡ t →
-    begun (y ∷ ys) i ≡ t + begun ys j
+    counts_begun (y ∷ ys) i ≡ t + counts_begun ys j
 begun_cons y ys i j t e f = cc
 
 ended_cons :
     (y : Span) (ys : List Span) (i j t : ℕ) → i - whole y ≡ j → (if nat_le (whole y) i then counts y.outcome else 0) ≡ t →
-    ended (y ∷ ys) i ≡ t + ended ys j
+    counts_ended (y ∷ ys) i ≡ t + counts_ended ys j
 ended_cons y ys i j t e f = cc
 
 -- at first no count write has begun
-pub begun_zero : (xs : List Span) → begun xs 0 ≡ 0
+pub begun_zero : (xs : List Span) → counts_begun xs 0 ≡ 0
 begun_zero [] = refl
 begun_zero (y ∷ ys) = omega (arith, begun_cons y ys 0 0 0 (omega arith) (lt_false (before_count y) 0 (counts y.outcome) (omega arith)), begun_zero ys)
 
 -- and none has ended
-pub ended_zero : (most : ℕ) (xs : List Span) → AllProper most xs → ended xs 0 ≡ 0
+pub ended_zero : (most : ℕ) (xs : List Span) → AllProper most xs → counts_ended xs 0 ≡ 0
 ended_zero most [] h = refl
 ended_zero most (y ∷ ys) h =
     let w = before-whole most y h.0 in
     omega (arith, ended_cons y ys 0 0 0 (omega arith) (le_false (whole y) 0 (counts y.outcome) (omega (arith, w))), ended_zero most ys h.1)
 
 -- before the count write of the first span, during it, and past the span
-begun_first : (most : ℕ) (y : Span) (ys : List Span) (i : ℕ) → Proper most y → i ≤ before_count y → begun (y ∷ ys) i ≡ 0
+begun_first : (most : ℕ) (y : Span) (ys : List Span) (i : ℕ) → Proper most y → i ≤ before_count y → counts_begun (y ∷ ys) i ≡ 0
 begun_first most y ys i h l =
     let w = before-whole most y h in
     omega (arith, begun_cons y ys i 0 0 (omega (arith, w)) (lt_false (before_count y) i (counts y.outcome) l), begun_zero ys)
 
-begun_middle : (y : Span) (ys : List Span) (i : ℕ) → before_count y < i → i ≤ whole y → begun (y ∷ ys) i ≡ counts y.outcome
+begun_middle : (y : Span) (ys : List Span) (i : ℕ) → before_count y < i → i ≤ whole y → counts_begun (y ∷ ys) i ≡ counts y.outcome
 begun_middle y ys i l m =
     omega (arith, begun_cons y ys i 0 (counts y.outcome) (omega arith) (lt_true (before_count y) i (counts y.outcome) l), begun_zero ys)
 
-begun_past : (most : ℕ) (y : Span) (ys : List Span) (i j : ℕ) → Proper most y → i ≡ whole y + j → begun (y ∷ ys) i ≡ counts y.outcome + begun ys j
+begun_past : (most : ℕ) (y : Span) (ys : List Span) (i j : ℕ) → Proper most y → i ≡ whole y + j → counts_begun (y ∷ ys) i ≡ counts y.outcome + counts_begun ys j
 begun_past most y ys i j h e = elim (at_most_or_above i (before_count y)) [
   | inl l ↦ (
       let w = before-whole most y h in
@@ -97,15 +97,15 @@ begun_past most y ys i j h e = elim (at_most_or_above i (before_count y)) [
 ]
 
 -- before the end of the first span, and past it
-ended_first : (most : ℕ) (y : Span) (ys : List Span) (i : ℕ) → AllProper most ys → i < whole y → ended (y ∷ ys) i ≡ 0
+ended_first : (most : ℕ) (y : Span) (ys : List Span) (i : ℕ) → AllProper most ys → i < whole y → counts_ended (y ∷ ys) i ≡ 0
 ended_first most y ys i h l =
     omega (arith, ended_cons y ys i 0 0 (omega arith) (le_false (whole y) i (counts y.outcome) l), ended_zero most ys h)
 
-pub ended_past : (y : Span) (ys : List Span) (i j : ℕ) → i ≡ whole y + j → ended (y ∷ ys) i ≡ counts y.outcome + ended ys j
+pub ended_past : (y : Span) (ys : List Span) (i j : ℕ) → i ≡ whole y + j → counts_ended (y ∷ ys) i ≡ counts y.outcome + counts_ended ys j
 ended_past y ys i j e = ended_cons y ys i j (counts y.outcome) (omega arith) (le_true (whole y) i (counts y.outcome) (omega arith))
 
 -- at each moment at most the last count write that has begun is open
-pub ended_begun : (most : ℕ) (xs : List Span) → AllProper most xs → (i : ℕ) → (ended xs i ≤ begun xs i) × (begun xs i ≤ ended xs i + most)
+pub ended_begun : (most : ℕ) (xs : List Span) → AllProper most xs → (i : ℕ) → (counts_ended xs i ≤ counts_begun xs i) × (counts_begun xs i ≤ counts_ended xs i + most)
 ended_begun most [] h i = omega arith
 ended_begun most (y ∷ ys) h i = elim (at_most_or_above (whole y) i) [
   | inl l ↦ (
@@ -120,7 +120,7 @@ ended_begun most (y ∷ ys) h i = elim (at_most_or_above (whole y) i) [
 
 -- a span stands with its number, up to the begin of its count write
 pub begun_at :
-    (most : ℕ) (xs : List Span) → AllProper most xs → (s n : ℕ) (x : Span) → Stands xs s n x → (j : ℕ) → j ≤ before_count x → begun xs (s + j) ≡ n
+    (most : ℕ) (xs : List Span) → AllProper most xs → (s n : ℕ) (x : Span) → IsSpanAt xs s n x → (j : ℕ) → j ≤ before_count x → counts_begun xs (s + j) ≡ n
 begun_at most [] h s n x st j l = elim st [ ]
 begun_at most (y ∷ ys) h s n x (inl st) j l =
     let l' : j ≤ before_count y = rw st.2 at l in
@@ -130,7 +130,7 @@ begun_at most (y ∷ ys) h s n x (inr st) j l =
 
 -- up to its end as many items have been counted by ended writes as its number says
 pub ended_at :
-    (most : ℕ) (xs : List Span) → AllProper most xs → (s n : ℕ) (x : Span) → Stands xs s n x → (j : ℕ) → j < whole x → ended xs (s + j) ≡ n
+    (most : ℕ) (xs : List Span) → AllProper most xs → (s n : ℕ) (x : Span) → IsSpanAt xs s n x → (j : ℕ) → j < whole x → counts_ended xs (s + j) ≡ n
 ended_at most [] h s n x st j l = elim st [ ]
 ended_at most (y ∷ ys) h s n x (inl st) j l =
     let l' : j < whole y = rw st.2 at l in
@@ -143,11 +143,11 @@ pub record Begins (xs : List Span) (i : ℕ) : Type 0 where
   pub start : ℕ
   pub number : ℕ
   pub span : Span
-  pub stands : Stands xs start number span
+  pub stands : IsSpanAt xs start number span
   pub passes : 1 ≤ counts span.outcome
   pub place : i ≡ start + before_count span
-  pub now : begun xs i ≡ number
-  pub next : begun xs (suc i) ≡ number + counts span.outcome
+  pub now : counts_begun xs i ≡ number
+  pub next : counts_begun xs (suc i) ≡ number + counts span.outcome
 
 -- it stands behind a first span, or is the first
 later : (most : ℕ) (y : Span) (ys : List Span) (i j : ℕ) → Proper most y → i ≡ whole y + j → Begins ys j → Begins (y ∷ ys) i
@@ -175,7 +175,7 @@ first most y ys i h e o = record {
 }
 
 -- an event begins no count write, or one
-pub begun_step : (most : ℕ) (xs : List Span) → AllProper most xs → (i : ℕ) → (begun xs (suc i) ≡ begun xs i) ⊎ Begins xs i
+pub begun_step : (most : ℕ) (xs : List Span) → AllProper most xs → (i : ℕ) → (counts_begun xs (suc i) ≡ counts_begun xs i) ⊎ Begins xs i
 begun_step most [] h i = inl refl
 begun_step most (y ∷ ys) h i = elim (at_most_or_above (whole y) i) [
   | inl l ↦ elim (begun_step most ys h.1 (i - whole y)) [
@@ -195,10 +195,10 @@ begun_step most (y ∷ ys) h i = elim (at_most_or_above (whole y) i) [
 ]
 
 -- what count writes that have begun count is counted later too
-pub begun_up : (most : ℕ) (xs : List Span) → AllProper most xs → (i j : ℕ) → i ≤ j → begun xs i ≤ begun xs j
-begun_up most xs h i j l = subst (λ m. begun xs i ≤ begun xs m) (omega arith) (go (j - i))
+pub begun_up : (most : ℕ) (xs : List Span) → AllProper most xs → (i j : ℕ) → i ≤ j → counts_begun xs i ≤ counts_begun xs j
+begun_up most xs h i j l = subst (λ m. counts_begun xs i ≤ counts_begun xs m) (omega arith) (go (j - i))
   where
-    go : (k : ℕ) → begun xs i ≤ begun xs (k + i)
+    go : (k : ℕ) → counts_begun xs i ≤ counts_begun xs (k + i)
     go zero = rw zero-add (omega arith)
     go (suc k) = elim (begun_step most xs h (k + i)) [
       | inl e ↦ rw suc-add (omega (arith, e, go k))
@@ -206,7 +206,7 @@ begun_up most xs h i j l = subst (λ m. begun xs i ≤ begun xs m) (omega arith)
     ]
 
 -- and what ended ones count, an event later
-ended_up_one : (most : ℕ) (xs : List Span) → AllProper most xs → (i : ℕ) → ended xs i ≤ ended xs (suc i)
+ended_up_one : (most : ℕ) (xs : List Span) → AllProper most xs → (i : ℕ) → counts_ended xs i ≤ counts_ended xs (suc i)
 ended_up_one most [] h i = omega arith
 ended_up_one most (y ∷ ys) h i = elim (at_most_or_above (whole y) i) [
   | inl l ↦ omega (
@@ -219,10 +219,10 @@ ended_up_one most (y ∷ ys) h i = elim (at_most_or_above (whole y) i) [
 ]
 
 -- and ever after
-pub ended_up : (most : ℕ) (xs : List Span) → AllProper most xs → (i j : ℕ) → i ≤ j → ended xs i ≤ ended xs j
-ended_up most xs h i j l = subst (λ m. ended xs i ≤ ended xs m) (omega arith) (go (j - i))
+pub ended_up : (most : ℕ) (xs : List Span) → AllProper most xs → (i j : ℕ) → i ≤ j → counts_ended xs i ≤ counts_ended xs j
+ended_up most xs h i j l = subst (λ m. counts_ended xs i ≤ counts_ended xs m) (omega arith) (go (j - i))
   where
-    go : (k : ℕ) → ended xs i ≤ ended xs (k + i)
+    go : (k : ℕ) → counts_ended xs i ≤ counts_ended xs (k + i)
     go zero = rw zero-add (omega arith)
     go (suc k) = rw suc-add (omega (arith, ended_up_one most xs h (k + i), go k))
 
@@ -232,7 +232,7 @@ in_all [] = 0
 in_all (x ∷ xs) = counts x.outcome + in_all xs
 
 -- no more ever begin
-pub begun_all : (most : ℕ) (xs : List Span) → AllProper most xs → (i : ℕ) → begun xs i ≤ in_all xs
+pub begun_all : (most : ℕ) (xs : List Span) → AllProper most xs → (i : ℕ) → counts_begun xs i ≤ in_all xs
 begun_all most [] h i = omega arith
 begun_all most (y ∷ ys) h i = elim (at_most_or_above (whole y) i) [
   | inl l ↦ omega (arith, begun_past most y ys i (i - whole y) h.0 (omega arith), begun_all most ys h.1 (i - whole y))
@@ -243,7 +243,7 @@ begun_all most (y ∷ ys) h i = elim (at_most_or_above (whole y) i) [
 ]
 
 -- past the last span all have ended
-pub ended_all : (xs : List Span) → (i : ℕ) → total xs ≤ i → ended xs i ≡ in_all xs
+pub ended_all : (xs : List Span) → (i : ℕ) → total xs ≤ i → counts_ended xs i ≡ in_all xs
 ended_all [] i l = refl
 ended_all (y ∷ ys) i l = omega (arith, ended_past y ys i (i - whole y) (omega arith), ended_all ys (i - whole y) (omega arith))
 
@@ -254,7 +254,7 @@ pub record Found (xs : List Span) (items : List ℕ) (k : ℕ) : Type 0 where
   pub index : ℕ
   pub span : Span
   pub item : ℕ
-  pub stands : Stands xs start number span
+  pub stands : IsSpanAt xs start number span
   pub is_k : k ≡ number + index
   pub within : index < counts span.outcome
   pub stored : slice_get (items_of span.outcome) index ≡ Some item
@@ -323,23 +323,23 @@ ended_items_cons : (y : Span) (ys : List Span) (i : ℕ) → whole y ≤ i → e
 ended_items_cons y ys i l = ap (λ (l : List ℕ). l ++ ended_items ys (i - whole y)) (if_true _ (items_of y.outcome) (grind (arith, nat_tests)))
 
 -- each count write that has begun is found with its item
-pub begun_find : (most : ℕ) (xs : List Span) → AllProper most xs → (i k : ℕ) → k < begun xs i → Found xs (begun_items xs i) k
+pub begun_find : (most : ℕ) (xs : List Span) → AllProper most xs → (i k : ℕ) → k < counts_begun xs i → Found xs (begun_items xs i) k
 begun_find most [] h i k l = absurd (omega arith)
 begun_find most (y ∷ ys) h i k l = elim (at_most_or_above i (before_count y)) [
   | inl m ↦ absurd (omega (arith, l, begun_first most y ys i h.0 m))
   | inr m ↦ find_cons y ys (begun_items (y ∷ ys) i) (begun_items ys (i - whole y))
-      (begun_items_cons y ys i m) (begun ys (i - whole y)) k
+      (begun_items_cons y ys i m) (counts_begun ys (i - whole y)) k
       (omega (arith, begun_cons y ys i (i - whole y) (counts y.outcome) refl (lt_true (before_count y) i (counts y.outcome) m)))
       (λ j g. begun_find most ys h.1 (i - whole y) j g)
 ]
 
 -- and so is each that has ended
-pub ended_find : (most : ℕ) (xs : List Span) → AllProper most xs → (i k : ℕ) → k < ended xs i → Found xs (ended_items xs i) k
+pub ended_find : (most : ℕ) (xs : List Span) → AllProper most xs → (i k : ℕ) → k < counts_ended xs i → Found xs (ended_items xs i) k
 ended_find most [] h i k l = absurd (omega arith)
 ended_find most (y ∷ ys) h i k l = elim (at_most_or_above (whole y) i) [
   | inr m ↦ absurd (omega (arith, l, ended_first most y ys i h.1 m))
   | inl m ↦ find_cons y ys (ended_items (y ∷ ys) i) (ended_items ys (i - whole y))
-      (ended_items_cons y ys i m) (ended ys (i - whole y)) k
+      (ended_items_cons y ys i m) (counts_ended ys (i - whole y)) k
       (omega (arith, ended_cons y ys i (i - whole y) (counts y.outcome) refl (le_true (whole y) i (counts y.outcome) m)))
       (λ j g. ended_find most ys h.1 (i - whole y) j g)
 ]
@@ -349,13 +349,13 @@ length_if true o = sym (counts-items o)
 length_if false o = refl
 
 -- there is an item for each count write that has begun
-pub length-begun_items : (xs : List Span) (i : ℕ) → length (begun_items xs i) ≡ begun xs i
+pub length-begun_items : (xs : List Span) (i : ℕ) → length (begun_items xs i) ≡ counts_begun xs i
 length-begun_items [] i = refl
 length-begun_items (y ∷ ys) i =
     simp length-append (ap₂ (λ (m n : ℕ). m + n) (length_if (nat_lt (before_count y) i) y.outcome) (length-begun_items ys (i - whole y)))
 
 -- and for each that has ended
-pub length-ended_items : (xs : List Span) (i : ℕ) → length (ended_items xs i) ≡ ended xs i
+pub length-ended_items : (xs : List Span) (i : ℕ) → length (ended_items xs i) ≡ counts_ended xs i
 length-ended_items [] i = refl
 length-ended_items (y ∷ ys) i =
     simp length-append (ap₂ (λ (m n : ℕ). m + n) (length_if (nat_le (whole y) i) y.outcome) (length-ended_items ys (i - whole y)))

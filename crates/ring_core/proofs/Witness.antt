@@ -1,6 +1,7 @@
--- A lawful history whose two sides follow their programs: an item is put, the ring is closed, the item is taken, and the
--- consumer is told. A write overlaps the consumer's first read. One cell, modulus 3, items of one digit.
-use Rattle.std.proofs.Common.{◌≡◌, ◌≢◌, Bool, true, false, Some, None, List, [], ◌∷◌, ◌++◌, length, ap, inl, inr, refl, sym, subst, append_assoc, append-nil, arith}
+-- A lawful history whose two sides follow their programs: a take finds the ring empty, an item is put, a put finds the ring
+-- full, the ring is closed, the item is taken, and the consumer is told. A write overlaps the first read of the second take.
+-- One cell, modulus 3, items of one digit.
+use Rattle.std.proofs.Common.{◌≡◌, ◌≢◌, Bool, true, false, Some, None, ◌≤◌, List, [], ◌∷◌, ◌++◌, length, ap, inl, inr, refl, sym, subst, append_assoc, append-nil, arith}
 use Rattle.bits_core.specs.declared.events.Side.{Side}
 use Rattle.bits_core.specs.declared.events.Side.TheVariants.{P, C}
 use Rattle.bits_core.specs.declared.events.Bit.{Bit}
@@ -17,10 +18,10 @@ use Rattle.bits_core.specs.Laws.{EmptyIsLawful, LawfulByOneMore}
 use Rattle.bits_core.specs.Shape.{belongs}
 use Rattle.bits_core.specs.Steps.{IsAnswer, MayFollow}
 use Rattle.ring_core.specs.Items.{items_put_in, items_taken_in, ToldIn}
-use Rattle.ring_core.specs.Puts.{FollowsPuts}
-use Rattle.ring_core.specs.Takes.{FollowsTakes}
-use Rattle.ring_core.specs.RingLaw.{HasARun}
-use Rattle.ring_core.proofs.Examples.{one_cell, put_and_close, put_and_close-are, second_scan, second_scan-are, second_scan-told}
+use Rattle.ring_core.specs.Puts.{Puts, Stored, Full, ArePuts, FollowsPuts}
+use Rattle.ring_core.specs.Takes.{Takes, Empty, ItemAfterClose, Closed, AreTakes, FollowsTakes}
+use Rattle.ring_core.specs.RingLaw.{FindsEmpty, FindsFull, HasARun}
+use Rattle.ring_core.proofs.Examples.{one_cell}
 
 infixr 10 ◌>>◌
 -- each of these events may follow those before it
@@ -82,12 +83,20 @@ written :
 written side bit value in_shape by_writer writes =
     record { right_side = record { in_shape = in_shape; by_doer = by_writer }; in_turn = (value, writes); permitted = tt }
 
--- the consumer's first read has begun when the producer puts and closes; then the consumer takes the item, and is told
+-- the calls of the two sides
+abbrev puts : Puts
+puts = record { puts = Stored 0 (1 ∷ []) ∷ Full 0 ∷ []; closes = true }
+
+abbrev takes : Takes
+takes = record { takes = Empty 0 ∷ ItemAfterClose 0 1 1 ∷ []; end = Closed 1 1 }
+
+-- The consumer finds the ring empty. The first read of its next take has begun when the producer puts, finds the ring full
+-- and closes; then the consumer takes the item, and is told.
 abbrev events : List Event
 events =
-    read C (S 0) ∷
+    read C (S 0) ∷ got C (S 0) true ∷ read C X ∷ got C X false ∷ read C (S 0) ∷
     read P (R 0) ∷ got P (R 0) true ∷ write P (Cell 0 0) true ∷ wrote P (Cell 0 0) ∷
-    write P (S 1) true ∷ wrote P (S 1) ∷ write P (S 0) false ∷ wrote P (S 0) ∷ write P X true ∷ wrote P X ∷
+    write P (S 1) true ∷ wrote P (S 1) ∷ write P (S 0) false ∷ wrote P (S 0) ∷ read P (R 0) ∷ got P (R 0) true ∷ write P X true ∷ wrote P X ∷
     got C (S 0) true ∷ read C X ∷ got C X true ∷ read C (S 0) ∷ got C (S 0) false ∷ read C (S 1) ∷ got C (S 1) true ∷
     read C (Cell 0 0) ∷ got C (Cell 0 0) true ∷ write C (R 1) true ∷ wrote C (R 1) ∷ write C (R 0) false ∷ wrote C (R 0) ∷
     read C (S 0) ∷ got C (S 0) false ∷ read C (S 1) ∷ got C (S 1) true ∷ read C X ∷ got C X true ∷
@@ -98,6 +107,10 @@ each_follows : EachFollows one_cell [] events
 unfolding one_cell
 each_follows =
     reading C (S 0) refl refl refl >>
+    answered C (S 0) true refl refl refl (inr refl) >>
+    reading C X refl refl refl >>
+    answered C X false refl refl refl (inr refl) >>
+    reading C (S 0) refl refl refl >>
     reading P (R 0) refl refl refl >>
     answered P (R 0) true refl refl refl (inr refl) >>
     writing P (Cell 0 0) true refl refl refl >>
@@ -106,6 +119,8 @@ each_follows =
     written P (S 1) true refl refl refl >>
     writing P (S 0) false refl refl refl >>
     written P (S 0) false refl refl refl >>
+    reading P (R 0) refl refl refl >>
+    answered P (R 0) true refl refl refl (inr refl) >>
     writing P X true refl refl refl >>
     written P X true refl refl refl >>
     answered C (S 0) true refl refl refl (inl refl) >>
@@ -134,52 +149,89 @@ each_follows =
     no_more
 
 -- the producer makes all of its calls, and so does the consumer
-puts_follow : FollowsPuts one_cell events put_and_close
+puts_are : ArePuts one_cell 0 puts.puts
 unfolding one_cell
-puts_follow = record { are = put_and_close-are; events = ([], refl) }
+puts_are = (
+  (omega arith, omega arith, record { some = omega arith; few = omega arith; fit = (omega arith, tt) }),
+  ((omega arith, λ room. omega (arith, room)), record {}),
+)
 
-takes_follow : FollowsTakes one_cell events second_scan
+puts_follow : FollowsPuts one_cell events puts
 unfolding one_cell
-takes_follow = record { are = second_scan-are; events = ([], refl) }
+puts_follow = record { are = puts_are; events = ([], refl) }
 
--- the consumer's first read, at places 0 and 11
-read_ended : IsRead events C (S 0) 0 11 true
+takes_are : AreTakes one_cell 0 takes.takes takes.end
+unfolding one_cell
+takes_are = (
+  (omega arith, λ (low, high). omega (arith, low)),
+  (
+    ((omega arith, λ (low, high). omega (arith, low)), (omega arith, (omega arith, omega arith)), omega arith),
+    ((omega arith, λ (low, high). omega (arith, low)), (omega arith, λ (low, high). omega (arith, low))),
+  ),
+)
+
+takes_follow : FollowsTakes one_cell events takes
+unfolding one_cell
+takes_follow = record { are = takes_are; events = ([], refl) }
+
+-- the first read of the consumer's second take, at places 4 and 17
+read_ended : IsRead events C (S 0) 4 17 true
 read_ended = record { access = record { event = read C (S 0); at_start = refl; by_side = refl; begins = refl; ends = refl }; ends = refl }
 
--- a write of its bit begins at place 7 and ends at place 8
-overlapped : HasOverlap events (S 0) 0 11
+-- a write of its bit begins at place 11 and ends at place 12
+overlapped : HasOverlap events (S 0) 4 17
 overlapped = record {
   value = false;
-  start' = 7;
-  stop' = 8;
+  start' = 11;
+  stop' = 12;
   write = record { event = write P (S 0) false; at_start = refl; by_side = refl; begins = refl; ends = refl };
   overlap = (λ l. omega (arith, l), λ l. omega (arith, l));
 }
 
+-- the first take has the consumer's events 0 to 3, and the second put the producer's events 8 and 9, behind one item
+finds_empty : FindsEmpty one_cell events takes
+unfolding one_cell
+finds_empty = (0, 0, 0, 4, record { before = []; after = ItemAfterClose 0 1 1 ∷ []; among = refl; number = refl; starts = refl; stops = refl }, four)
+  where
+    four : 4 ≤ 28
+    four = omega arith
+
+finds_full : FindsFull one_cell events puts
+unfolding one_cell
+finds_full = (0, 1, 8, 10, record { before = Stored 0 (1 ∷ []) ∷ []; after = []; among = refl; number = refl; starts = refl; stops = refl }, ten)
+  where
+    ten : 10 ≤ 12
+    ten = omega arith
+
 -- the item is put and taken
-same_items : items_taken_in one_cell events second_scan ≡ items_put_in one_cell events put_and_close
+same_items : items_taken_in one_cell events takes ≡ items_put_in one_cell events puts
 unfolding one_cell
 same_items = refl
 
 -- and so some item is
-some_item : items_put_in one_cell events put_and_close ≢ []
+some_item : items_put_in one_cell events puts ≢ []
 unfolding one_cell
 some_item none = omega (arith, ap length none)
 
 -- the consumer's last take was told that the ring is closed
-told : ToldIn one_cell events second_scan
+told : ToldIn one_cell events takes
 unfolding one_cell
-told = second_scan-told.1
+told = (record {}, all)
+  where
+    all : 28 ≤ 28
+    all = omega arith
 
--- there is a lawful history whose two sides follow their programs, with an overlapped read, an item taken, and the consumer told
+-- there is a lawful history whose two sides follow their programs, in which all of this came about
 pub has-a_run : EmptyIsLawful → LawfulByOneMore → HasARun
 has-a_run empty law = (
   one_cell,
   events,
-  put_and_close,
-  second_scan,
+  puts,
+  takes,
   record { lawful = lawful_by_steps law one_cell [] events (empty one_cell) each_follows; puts_follow = puts_follow; takes_follow = takes_follow },
-  (C, S 0, 0, 11, true, read_ended, overlapped),
+  (C, S 0, 4, 17, true, read_ended, overlapped),
+  finds_empty,
+  finds_full,
   same_items,
   some_item,
   told,

@@ -1,5 +1,5 @@
 -- Where the calls of each side stand among its own events, counted from 0, and what they store and take there.
-use Rattle.std.specs.Prelude.{◌≡◌, ◌⊎◌, ℕ, ◌+◌, ◌-◌, ◌*◌, ◌%◌, nat_lt, nat_le, true, false, Option, Some, None, List, [], ◌∷◌, ◌++◌, length, slice_get, if◌then◌else◌}
+use Rattle.std.specs.Prelude.{◌≡◌, ◌⊎◌, ℕ, ◌+◌, ◌-◌, ◌*◌, ◌%◌, nat_lt, nat_le, true, Option, Some, None, List, [], ◌∷◌, ◌++◌, length, slice_get, if◌then◌else◌}
 use Rattle.bits_core.specs.declared.events.Side.{Side}
 use Rattle.bits_core.specs.declared.events.Side.TheVariants.{P, C}
 use Rattle.bits_core.specs.declared.events.Bit.TheVariants.{X}
@@ -10,7 +10,7 @@ use Rattle.register_core.specs.Word.{word_read}
 use Rattle.register_core.specs.ScanState.{scan_phrase, row_read_by}
 use Rattle.ring_core.specs.Counts.{Count, first_count}
 use Rattle.ring_core.specs.Puts.{Put, Stored, Full, Puts, stored_in, stored_after, put_phrase, put_phrases}
-use Rattle.ring_core.specs.Takes.{Take, Item, ItemAfterClose, Empty, Closed, Takes, taken_after, taken_in, take_phrase, take_phrases}
+use Rattle.ring_core.specs.Takes.{Take, Item, ItemAfterClose, Empty, Closed, Takes, taken_after, taken_in, accesses_before_word, take_phrase, take_phrases}
 use Rattle.ring_core.specs.Items.{events_in, items_put, items_taken}
 
 -- put x, behind n stored items, has the producer's own events from start up to stop
@@ -89,16 +89,11 @@ pub record StoresItem (shape : Shape) (calls : Puts) (j item word stop : ℕ) : 
   pub number : j ≡ n + index
   pub writes : word ≡ start + scan_events P seen + 2 * (index * width_of shape)
 
--- the item that a take takes, and its accesses before the item's word
+-- the item that a take takes
 abbrev pub item_of : Take → Option ℕ
 item_of (Item seen item) = Some item
 item_of (ItemAfterClose seen again item) = Some item
 item_of (Empty seen) = None
-
-abbrev pub accesses_before_word : Take → List Made
-accesses_before_word (Item seen item) = scan_phrase (row_read_by C) seen
-accesses_before_word (ItemAfterClose seen again item) = scan_phrase (row_read_by C) seen ++ Read X true ∷ scan_phrase (row_read_by C) again
-accesses_before_word (Empty seen) = scan_phrase (row_read_by C) seen ++ Read X false ∷ []
 
 -- Item number k is taken by a take whose own events end before stop: the digits of the item's word are read from the
 -- consumer's own event word on.
@@ -123,10 +118,10 @@ taken_by (Empty seen) = 0
 
 -- the accesses of a take of an item, behind k items, up to its count write
 abbrev pub take_before_count : Shape → ℕ → Take → List Made
-take_before_count shape k (Item seen item) = scan_phrase (row_read_by C) seen ++ word_read (width_of shape) (k % capacity_of shape) item
+take_before_count shape k (Item seen item) = accesses_before_word (Item seen item) ++ word_read (width_of shape) (k % capacity_of shape) item
 take_before_count shape k (ItemAfterClose seen again item) =
-    scan_phrase (row_read_by C) seen ++ Read X true ∷ scan_phrase (row_read_by C) again ++ word_read (width_of shape) (k % capacity_of shape) item
-take_before_count shape k (Empty seen) = take_phrase shape k (Empty seen)
+    accesses_before_word (ItemAfterClose seen again item) ++ word_read (width_of shape) (k % capacity_of shape) item
+take_before_count shape k (Empty seen) = accesses_before_word (Empty seen)
 
 -- how many items the puts store that have ended within the first t events, and how many the takes take whose count write has begun
 abbrev pub stored_ended : Shape → Count → List Put → ℕ → ℕ

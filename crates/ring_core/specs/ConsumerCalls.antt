@@ -1,5 +1,5 @@
 -- The consumer's machine beside the accesses that it has made and the calls that these are.
-use Rattle.std.specs.Prelude.{◌≡◌, ◌⊎◌, ℕ, suc, ◌+◌, ◌^◌, ◌<◌, ◌%◌, Bool, true, false, Option, Some, None, List, [], ◌∷◌, ◌++◌, length}
+use Rattle.std.specs.Prelude.{◌≡◌, ◌⊎◌, ℕ, suc, ◌^◌, ◌<◌, ◌%◌, Bool, true, false, Option, Some, None, List, [], ◌∷◌, ◌++◌}
 use Rattle.bits_core.specs.declared.events.Side.TheVariants.{C}
 use Rattle.bits_core.specs.declared.events.Bit.TheVariants.{X}
 use Rattle.bits_core.specs.declared.events.Access.{Access}
@@ -18,7 +18,6 @@ use Rattle.ring_core.specs.declared.consumers.Stage.TheVariants.{Idle, Scanning,
 use Rattle.ring_core.specs.Counts.{counted}
 use Rattle.ring_core.specs.Takes.{Take, Item, ItemAfterClose, Empty, End, Open, Closed, Takes, taken_in, take_phrases, take_program, SeesItem, SeesNone, AreTakes}
 use Rattle.ring_core.specs.Calls.{LastBitIsDue}
-use Rattle.ring_core.specs.Lengths.{longest_take}
 use Rattle.ring_core.specs.ConsumerState.{ConsumerState, is_taking}
 
 -- no calls
@@ -58,16 +57,10 @@ pub record HasTakeMore (shape : Shape) (calls more : Takes) : Type 0 where
 abbrev pub Begins : Shape → Takes → List Made → Type 0
 Begins shape calls made = (more : Takes) × HasTakeMore shape calls more × IsBeginning made (take_program shape more)
 
--- Behind these calls, and with these accesses made: no access is due exactly where no take is under way, and then the
--- accesses are those of the calls; whatever the due access is answered, but for a 0 of the last bit of the count, the
--- accesses go on to those of the calls and the take under way, which has not had its most.
-abbrev pub IsNextTake : Shape → Takes → Bool → List Made → Option Access → Type 0
-IsNextTake shape calls false made None = made ≡ take_program shape calls
-IsNextTake shape calls true made None = ⊥
-IsNextTake shape calls false made (Some access) = ⊥
-IsNextTake shape calls true made (Some access) =
-    ((answer : Bool) → (LastBitIsDue shape C (Some access) → answer ≡ true) → Begins shape calls (made ++ answered access answer ∷ [])) ×
-    (length made < length (take_program shape calls) + longest_take shape)
+-- Behind these calls, with these accesses made, a take goes on with the access: whatever it is answered, but for a 0 of the
+-- last bit of the count, the accesses made and it begin those of the calls and of one take more.
+abbrev pub TakeGoesOn : Shape → Takes → List Made → Access → Type 0
+TakeGoesOn shape calls made access = (answer : Bool) → (LastBitIsDue shape C (Some access) → answer ≡ true) → Begins shape calls (made ++ answered access answer ∷ [])
 
 -- ---- replies
 

@@ -46,10 +46,6 @@ count_bits shape c items = unary_phrase c.bits (past c.number items % modulus_of
 abbrev pub batch_phrase : Shape → Side → Count → List ℕ → List Made
 batch_phrase shape s c items = writes_in (row_bit s) (count_bits shape c items)
 
--- the count after it
-abbrev pub counted_on : Shape → Count → List ℕ → Count
-counted_on shape c items = record { number = past c.number items; bits = bits_after c.bits (count_bits shape c items) }
-
 -- the number of the lowest bit that is set is that of the items counted, modulo the modulus
 pub record IsCount (shape : Shape) (c : Count) : Type 0 where
   pub set : c.bits (c.number % modulus_of shape) ≡ true
@@ -70,7 +66,3 @@ count_phrase shape s n = writes_in (row_bit s) (unary_phrase (bits_held shape n)
 abbrev pub counted : Shape → ℕ → List ℕ
 counted shape zero = []
 counted shape (suc n) = counted shape n ++ suc n % modulus_of shape ∷ []
-
--- this count, as its writer knows it
-abbrev pub steps : Shape → ℕ → Count
-steps shape n = record { number = n; bits = bits_held shape n }

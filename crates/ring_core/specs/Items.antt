@@ -4,18 +4,13 @@ use Rattle.bits_core.specs.declared.events.Side.TheVariants.{P, C}
 use Rattle.bits_core.specs.declared.events.Event.{Event}
 use Rattle.bits_core.specs.declared.shapes.Shape.{Shape}
 use Rattle.bits_core.specs.Made.{Made, own}
-use Rattle.register_core.specs.ScanState.{scan_phrase, row_read_by}
 use Rattle.ring_core.specs.Counts.{Count, first_count}
-use Rattle.ring_core.specs.Puts.{Put, Stored, Full, stored_after, words_phrase, put_phrase, Puts, FollowsPuts}
+use Rattle.ring_core.specs.Puts.{Put, Stored, Full, stored_after, accesses_before_count, put_phrase, Puts, FollowsPuts}
 use Rattle.ring_core.specs.Takes.{Take, Item, ItemAfterClose, Empty, End, Open, Closed, take_phrase, take_program, Takes, FollowsTakes}
 
 -- how many events these accesses have
 abbrev pub events_in : List Made → ℕ
 events_in made = 2 * length made
-
--- the accesses of a put that stores, up to its count write
-abbrev pub accesses_before_count : Shape → ℕ → ℕ → List ℕ → List Made
-accesses_before_count shape n seen items = scan_phrase (row_read_by P) seen ++ words_phrase shape n items
 
 -- the items of the puts whose count write has begun within the first t events, behind the producer's count
 abbrev pub items_put : Shape → Count → List Put → ℕ → List ℕ

@@ -2,13 +2,17 @@ pub mod Counts
 pub mod Puts
 pub mod Takes
 pub mod Readings
+pub mod Over
+pub mod CountWrites
 pub mod Items
 pub mod Lengths
 pub mod Following
+pub mod PutParts
 pub mod Calls
 pub mod CallsAt
 pub mod ProducerState
 pub mod ProducerCalls
 pub mod ConsumerState
 pub mod ConsumerCalls
+pub mod GoingOn
 pub mod RingLaw

@@ -1,5 +1,5 @@
 -- The producer's machine beside the accesses that it has made and the calls that these are.
-use Rattle.std.specs.Prelude.{◌≡◌, ◌⊎◌, ℕ, ◌+◌, ◌-◌, ◌<◌, ◌%◌, Bool, true, false, Option, Some, None, List, [], ◌∷◌, ◌++◌, length, take}
+use Rattle.std.specs.Prelude.{◌≡◌, ◌⊎◌, ℕ, ◌-◌, ◌<◌, ◌%◌, Bool, true, false, Option, Some, None, List, [], ◌∷◌, ◌++◌, length, take}
 use Rattle.bits_core.specs.declared.events.Side.TheVariants.{P}
 use Rattle.bits_core.specs.declared.events.Access.{Access}
 use Rattle.bits_core.specs.declared.shapes.Shape.{Shape}
@@ -88,16 +88,10 @@ longest shape Close = 1
 abbrev pub Begins : Shape → Call → Puts → List Made → Type 0
 Begins shape c calls made = (more : Puts) × HasCallMore shape c calls more × IsBeginning made (put_program shape more)
 
--- Behind these calls, and with these accesses made: no access is due exactly where no call is under way, and then the
--- accesses are those of the calls; whatever the due access is answered, but for a 0 of the last bit of the count, the
--- accesses go on to those of the calls and the one under way, which has not had its most.
-abbrev pub IsNextPut : Shape → Puts → Option Call → List Made → Option Access → Type 0
-IsNextPut shape calls None made None = made ≡ put_program shape calls
-IsNextPut shape calls (Some c) made None = ⊥
-IsNextPut shape calls None made (Some access) = ⊥
-IsNextPut shape calls (Some c) made (Some access) =
-    ((answer : Bool) → (LastBitIsDue shape P (Some access) → answer ≡ true) → Begins shape c calls (made ++ answered access answer ∷ [])) ×
-    (length made < length (put_program shape calls) + longest shape c)
+-- Behind these calls, with these accesses made, the call under way goes on with the access: whatever it is answered, but
+-- for a 0 of the last bit of the count, the accesses made and it begin those of the calls and of the one under way.
+abbrev pub PutGoesOn : Shape → Puts → Call → List Made → Access → Type 0
+PutGoesOn shape calls c made access = (answer : Bool) → (LastBitIsDue shape P (Some access) → answer ≡ true) → Begins shape c calls (made ++ answered access answer ∷ [])
 
 -- ---- replies
 

@@ -1,10 +1,10 @@
 -- The producer's program: puts one after the other, and perhaps a close.
-use Rattle.std.specs.Prelude.{ℕ, suc, ◌^◌, ◌%◌, ◌<◌, ◌≤◌, Bool, true, false, List, [], ◌∷◌, ◌++◌, length}
+use Rattle.std.specs.Prelude.{ℕ, suc, ◌%◌, ◌<◌, ◌≤◌, Bool, true, false, List, [], ◌∷◌, ◌++◌, length}
 use Rattle.bits_core.specs.declared.events.Side.TheVariants.{P}
 use Rattle.bits_core.specs.declared.events.Bit.TheVariants.{X}
 use Rattle.bits_core.specs.declared.events.Event.{Event}
 use Rattle.bits_core.specs.declared.shapes.Shape.{Shape}
-use Rattle.bits_core.specs.Shape.{batch_of, capacity_of, modulus_of, width_of}
+use Rattle.bits_core.specs.Shape.{AllFit, batch_of, capacity_of, modulus_of, width_of}
 use Rattle.bits_core.specs.Made.{Made, Write, events_of, own, IsBeginning}
 use Rattle.register_core.specs.Row.{bits_after}
 use Rattle.register_core.specs.Word.{word_write}
@@ -55,10 +55,13 @@ abbrev pub words_phrase : Shape → ℕ → List ℕ → List Made
 words_phrase shape n [] = []
 words_phrase shape n (item ∷ items) = word_write (width_of shape) (n % capacity_of shape) item ++ words_phrase shape (suc n) items
 
--- the accesses of a put, behind the count: a scan of the consumer's count; then, where it stores, the items' words and
--- one write of the producer's count
+-- the accesses of a put that stores, up to its count write: a scan of the consumer's count, and the items' words
+abbrev pub accesses_before_count : Shape → ℕ → ℕ → List ℕ → List Made
+accesses_before_count shape n seen items = scan_phrase (row_read_by P) seen ++ words_phrase shape n items
+
+-- the accesses of a put, behind the count: where it stores, one write of the producer's count follows
 abbrev pub put_phrase : Shape → Count → Put → List Made
-put_phrase shape c (Stored seen items) = scan_phrase (row_read_by P) seen ++ words_phrase shape c.number items ++ batch_phrase shape P c items
+put_phrase shape c (Stored seen items) = accesses_before_count shape c.number seen items ++ batch_phrase shape P c items
 put_phrase shape c (Full seen) = scan_phrase (row_read_by P) seen
 
 abbrev pub put_phrases : Shape → Count → List Put → List Made
@@ -73,11 +76,6 @@ close_phrase true = Write X true ∷ []
 -- the accesses of the producer's calls
 abbrev pub put_program : Shape → Puts → List Made
 put_program shape calls = put_phrases shape first_count calls.puts ++ close_phrase calls.closes
-
--- each of these items fits
-abbrev pub AllFit : Shape → List ℕ → Type 0
-AllFit shape [] = Unit {0}
-AllFit shape (item ∷ items) = (item < 2 ^ width_of shape) × AllFit shape items
 
 -- what may be stored under one count write: some items that fit, no more than the batch
 pub record IsBatch (shape : Shape) (items : List ℕ) : Type 0 where

@@ -1,10 +1,11 @@
 -- The events of whole calls are the events of no other calls.
-use Rattle.std.specs.Prelude.{◌≡◌}
+use Rattle.std.specs.Prelude.{◌≡◌, true, List, ◌++◌}
 use Rattle.bits_core.specs.declared.events.Side.TheVariants.{P, C}
 use Rattle.bits_core.specs.declared.shapes.Shape.{Shape}
-use Rattle.bits_core.specs.Made.{events_of}
-use Rattle.ring_core.specs.Puts.{Puts, put_program, ArePuts}
-use Rattle.ring_core.specs.Takes.{Takes, take_program, AreTakes}
+use Rattle.bits_core.specs.Made.{events_of, IsBeginning}
+use Rattle.ring_core.specs.Puts.{Put, Puts, put_program, ArePuts}
+use Rattle.ring_core.specs.Items.{Tells}
+use Rattle.ring_core.specs.Takes.{Take, Takes, take_program, AreTakes}
 
 abbrev pub PutsAreRead : Type 0
 PutsAreRead =
@@ -15,3 +16,16 @@ abbrev pub TakesAreRead : Type 0
 TakesAreRead =
     (shape : Shape) (a b : Takes) → AreTakes shape 0 a.takes a.end → AreTakes shape 0 b.takes b.end →
     events_of C (take_program shape a) ≡ events_of C (take_program shape b) → a ≡ b
+
+-- Whole calls whose events begin those of other calls are the first of these; with a close they are all of them.
+abbrev pub PutsAreFirst : Type 0
+PutsAreFirst =
+    (shape : Shape) (a b : Puts) → ArePuts shape 0 a.puts → ArePuts shape 0 b.puts →
+    IsBeginning (events_of P (put_program shape a)) (events_of P (put_program shape b)) →
+    ((more : List Put) × (b.puts ≡ a.puts ++ more)) × (a.closes ≡ true → a ≡ b)
+
+abbrev pub TakesAreFirst : Type 0
+TakesAreFirst =
+    (shape : Shape) (a b : Takes) → AreTakes shape 0 a.takes a.end → AreTakes shape 0 b.takes b.end →
+    IsBeginning (events_of C (take_program shape a)) (events_of C (take_program shape b)) →
+    ((more : List Take) × (b.takes ≡ a.takes ++ more)) × (Tells a.end → a ≡ b)

@@ -191,10 +191,18 @@ RunsByTake =
     (shape : Shape) (h : List Event) (e : Event) (puts : Puts) (takes more : Takes) → IsRun shape h puts takes → e.side ≡ C → MayFollow shape h e →
     AreTakes shape 0 more.takes more.end → IsBeginning (own C h ++ e ∷ []) (events_of C (take_program shape more)) → IsRun shape (h ++ e ∷ []) puts more
 
--- The premises can be met, also where a write overlaps a read that has ended, an item is taken, and the consumer is told that
--- the ring is closed.
+-- a take that has ended found the ring empty, and a put the ring full
+abbrev pub FindsEmpty : Shape → List Event → Takes → Type 0
+FindsEmpty shape h takes = (seen : ℕ) × (k : ℕ) × (start : ℕ) × (stop : ℕ) × IsTakeAt shape takes (Empty seen) k start stop × (stop ≤ length (own C h))
+
+abbrev pub FindsFull : Shape → List Event → Puts → Type 0
+FindsFull shape h puts = (seen : ℕ) × (n : ℕ) × (start : ℕ) × (stop : ℕ) × IsPutAt shape puts (Full seen) n start stop × (stop ≤ length (own P h))
+
+-- The premises can be met, also where a write overlaps a read that has ended, a take found the ring empty, a put found it full,
+-- an item is put and taken, and the consumer is told that the ring is closed.
 abbrev pub HasARun : Type 0
 HasARun =
     (shape : Shape) × (h : List Event) × (puts : Puts) × (takes : Takes) × IsRun shape h puts takes ×
     ((s : Side) × (b : Bit) × (start : ℕ) × (stop : ℕ) × (v : Bool) × intervals.IsRead h s b start stop v × intervals.HasOverlap h b start stop) ×
+    FindsEmpty shape h takes × FindsFull shape h puts ×
     (items_taken_in shape h takes ≡ items_put_in shape h puts) × (items_put_in shape h puts ≢ []) × ToldIn shape h takes

@@ -42,12 +42,18 @@ taken_in k (x ∷ takes) = taken_in (taken_after k x) takes
 abbrev pub item_phrase : Shape → ℕ → ℕ → List Made
 item_phrase shape k item = word_read (width_of shape) (k % capacity_of shape) item ++ count_phrase shape C k
 
--- the accesses of a take, after k taken items: a scan of the producer's count; where that shows no item, a read of the
+-- the accesses by which a take looks for an item: a scan of the producer's count; where that shows no item, a read of the
 -- close bit; where that is 1, a second scan
+abbrev pub accesses_before_word : Take → List Made
+accesses_before_word (Item seen item) = scan_phrase (row_read_by C) seen
+accesses_before_word (ItemAfterClose seen again item) = scan_phrase (row_read_by C) seen ++ Read X true ∷ scan_phrase (row_read_by C) again
+accesses_before_word (Empty seen) = scan_phrase (row_read_by C) seen ++ Read X false ∷ []
+
+-- the accesses of a take, after k taken items
 abbrev pub take_phrase : Shape → ℕ → Take → List Made
-take_phrase shape k (Item seen item) = scan_phrase (row_read_by C) seen ++ item_phrase shape k item
-take_phrase shape k (ItemAfterClose seen again item) = scan_phrase (row_read_by C) seen ++ Read X true ∷ scan_phrase (row_read_by C) again ++ item_phrase shape k item
-take_phrase shape k (Empty seen) = scan_phrase (row_read_by C) seen ++ Read X false ∷ []
+take_phrase shape k (Item seen item) = accesses_before_word (Item seen item) ++ item_phrase shape k item
+take_phrase shape k (ItemAfterClose seen again item) = accesses_before_word (ItemAfterClose seen again item) ++ item_phrase shape k item
+take_phrase shape k (Empty seen) = accesses_before_word (Empty seen)
 
 abbrev pub take_phrases : Shape → ℕ → List Take → List Made
 take_phrases shape k [] = []

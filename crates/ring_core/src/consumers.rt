@@ -1,7 +1,8 @@
 //! The consumer's machine.
-ghost use Rattle.std.specs.Prelude.{◌≡◌, ◌≢◌, ℕ, true, false, Some, None, List, [], ◌∷◌, ◌++◌, ◌↔◌, IsTrue};
+ghost use Rattle.std.specs.Prelude.{◌≡◌, ◌≢◌, ℕ, ◌+◌, ◌<◌, true, false, Some, None, List, [], ◌∷◌, ◌++◌, ◌↔◌, IsTrue, IfSome, length};
 ghost use Rattle.bits_core.specs.declared.events.Side.TheVariants.{C};
 ghost use Rattle.bits_core.specs.Made.{Made, answered};
+ghost use Rattle.bits_core.specs.Open.{IsOpenRight};
 
 use crate::counts::has_item;
 use bits_core::{Access, Bit, Shape, Side};
@@ -31,7 +32,7 @@ enum Stage {
 }
 
 /// The side that takes items (Lamport 1977): it tells the accesses of its takes one by one. It takes no memory.
-#[derive(Drop)]
+#[derive(Clone, Debug, Drop)]
 pub struct Consumer {
     shape: Shape,
     count: u64,
@@ -58,23 +59,24 @@ impl Consumer {
     ghost use Rattle.ring_core.specs.declared.consumers.Stage.TheVariants.{Scanning, Checking, Rescanning, Loading, Counting};
     ghost use Rattle.ring_core.specs.declared.consumers.TakeReply.TheVariants.{Closed};
     ghost use Rattle.ring_core.specs.Calls.{LastBitIsDue, EndsInZeros};
-    ghost use Rattle.ring_core.specs.Takes.{Takes};
+    ghost use Rattle.ring_core.specs.Takes.{Takes, take_program};
+    ghost use Rattle.ring_core.specs.Lengths.{longest_take};
     ghost use Rattle.ring_core.specs.ConsumerState.{due_take, is_taking};
-    ghost use Rattle.ring_core.specs.ConsumerCalls.{new_consumer, no_takes, ConsumerStands, IsNextTake, HasMoved, IsReply};
+    ghost use Rattle.ring_core.specs.ConsumerCalls.{new_consumer, no_takes, ConsumerStands, TakeGoesOn, HasMoved, IsReply};
 
     /// The consumer of a ring of this shape that has made no access.
-    pub fn new(shape: &Shape) -> Self
-        ensures state { result ≡ new_consumer shape.now }
+    pub fn new(shape: Shape) -> Self
+        ensures state { result ≡ new_consumer shape }
         ensures stands { ConsumerStands result no_takes [] }
     {
         Consumer {
-            shape: *shape,
+            shape,
             count: 0,
             cell: 0,
             stage: Stage::Idle,
-            scan: UnaryScan::new(shape, Side::C),
-            word: WordReader::new(shape, 0),
-            row: UnaryWriter::new(shape, Side::C),
+            scan: UnaryScan::new(&shape, Side::C),
+            word: WordReader::new(&shape, 0),
+            row: UnaryWriter::new(&shape, Side::C),
             told: false,
             reply: None,
         }
@@ -98,10 +100,16 @@ impl Consumer {
         }
     }
 
-    /// The access that is due, and none where no take is under way.
+    /// The access that is due, and none where no take is under way. It is of a bit of the shape, by the side that may,
+    /// so a memory of that shape takes it. Whatever it is answered, but for a 0 where
+    /// [`expects_one`](Self::expects_one), the take goes on with it; a take has at most so many accesses as
+    /// [`calls_are_short`](crate::laws::calls_are_short) says.
     pub fn next(&self) -> Option<Access>
         ensures due { result ≡ due_take self.now }
-        ensures stands { (calls : Takes) (made : List Made) → ConsumerStands self.now calls made → IsNextTake self.now.shape calls (is_taking self.now) made result }
+        ensures right { IfSome result (IsOpenRight self.now.shape C) }
+        ensures rest { (calls : Takes) (made : List Made) → ConsumerStands self.now calls made → result ≡ None → (is_taking self.now ≡ false) × (made ≡ take_program self.now.shape calls) }
+        ensures goes_on { (calls : Takes) (made : List Made) (access : Access) → ConsumerStands self.now calls made → result ≡ Some access → (is_taking self.now ≡ true) × TakeGoesOn self.now.shape calls made access }
+        ensures bounded { (calls : Takes) (made : List Made) → ConsumerStands self.now calls made → is_taking self.now ≡ true → length made < length (take_program self.now.shape calls) + longest_take self.now.shape }
     {
         match self.stage {
             Stage::Idle => None,

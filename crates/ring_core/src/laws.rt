@@ -1,8 +1,12 @@
 //! The law of the ring, and what the programs of its two sides say of their accesses.
+ghost use Rattle.ring_core.specs.CountWrites.{CountsAreWritten, CountsShowNumbers};
 ghost use Rattle.ring_core.specs.Following.{PutsAreFollowed, TakesAreFollowed};
+ghost use Rattle.ring_core.specs.GoingOn.{LastPutsReadOne, LastTakesReadOne, PutsGoOnByOne, TakesGoOnAlike, TakesGoOnByOne};
 ghost use Rattle.ring_core.specs.Items.{ItemsAreRead, TakenAreRead};
 ghost use Rattle.ring_core.specs.Lengths.{ItemPutsAreShort, FullPutsAreShort, PutsAreShort, TakesAreShort, EndsAreShort};
-ghost use Rattle.ring_core.specs.Readings.{PutsAreRead, TakesAreRead};
+ghost use Rattle.ring_core.specs.Over.{PutsOverAreRead, TakesOverAreRead};
+ghost use Rattle.ring_core.specs.PutParts.{CountsOn, ScansOn, ScansOrCloses, StoresOn, StoresOrCounts};
+ghost use Rattle.ring_core.specs.Readings.{PutsAreFirst, PutsAreRead, TakesAreFirst, TakesAreRead};
 ghost use Rattle.ring_core.specs.RingLaw.{CellsAreQuiet, ClosedIsTrue, ClosedStays, EmptyIsFresh, FillIsFresh, FullIsFresh, HasARun, InEveryRun, IsWithin, PutsAreInRange, PutsAreSeen, RunsByPut, RunsByTake, TakenArePrefix, TakesAreInRange, TakesAreSeen, TakesMatchPuts, WordsAreQuiet};
 
 use bits_core::laws::{
@@ -10,8 +14,8 @@ use bits_core::laws::{
     own_changes, own_has_one_place, own_has_place,
 };
 use register_core::laws::{
-    digits_tell_items, reads_are_made, unary_has_one, unary_is_regular, word_is_safe,
-    writes_are_made,
+    digits_tell_items, numbered_stay_within, reads_are_made, unary_has_one, unary_is_regular,
+    word_is_safe, writes_are_made,
 };
 
 /// The events of whole calls of the producer are the events of no other calls.
@@ -24,6 +28,15 @@ pub fn puts_are_read()
 /// The events of whole calls of the consumer are the events of no other calls.
 pub fn takes_are_read()
     ensures { TakesAreRead }
+{
+    digits_tell_items();
+}
+
+/// Whole calls whose events begin those of other calls are the first of these; with a close, or where the last
+/// take is told that the ring is closed, they are all of them.
+pub fn calls_are_first()
+    ensures puts { PutsAreFirst }
+    ensures takes { TakesAreFirst }
 {
     digits_tell_items();
 }
@@ -43,6 +56,21 @@ pub fn items_taken_are_read()
     digits_tell_items();
 }
 
+/// The puts and the takes that are over in a history are the same whichever calls its events are read as.
+pub fn calls_over_are_read()
+    ensures puts { PutsOverAreRead }
+    ensures takes { TakesOverAreRead }
+{
+    calls_are_first();
+}
+
+/// The bits of a count show how many items it has counted, modulo the modulus; and each count write of a call has an
+/// access.
+pub fn counts_are_written()
+    ensures numbers { CountsShowNumbers }
+    ensures written { CountsAreWritten }
+{}
+
 /// No put of one item has more than modulus + width + 2 accesses, no put of `m` items more than
 /// 2 modulus + m width, and no take more than 2 modulus + width + 3.
 pub fn calls_are_short()
@@ -51,6 +79,37 @@ pub fn calls_are_short()
     ensures puts { PutsAreShort }
     ensures takes { TakesAreShort }
     ensures ends { EndsAreShort }
+{}
+
+/// The access that a call under way goes on with, whatever it is answered, is the only one: behind the same calls and
+/// accesses there is no other. So what a machine's `next` says is all that its program lets it say.
+pub fn calls_go_on_by_one()
+    ensures puts { PutsGoOnByOne }
+    ensures takes { TakesGoOnByOne }
+{}
+
+/// What a consumer does next follows from the accesses that it has made and their answers: programs that begin with
+/// these go on with the same access.
+pub fn takes_go_on_alike()
+    ensures { TakesGoOnAlike }
+{}
+
+/// What a producer may do next, by how far its put under way has come: it scans or closes; it scans on; it writes a
+/// word, where there is room for one more, or the count; it writes the next digit; it writes the next bit of the count.
+pub fn puts_go_on()
+    ensures between { ScansOrCloses }
+    ensures scans { ScansOn }
+    ensures words { StoresOrCounts }
+    ensures digits { StoresOn }
+    ensures counts { CountsOn }
+{
+    digits_tell_items();
+}
+
+/// In a program the last bit of the other side's count is read as 1.
+pub fn last_reads_are_one()
+    ensures puts { LastPutsReadOne }
+    ensures takes { LastTakesReadOne }
 {}
 
 /// A side whose own events are a beginning of the events of accesses, which are a beginning of those of
@@ -67,6 +126,7 @@ pub fn last_bit_is_one()
     ensures takes { TakesAreSeen }
 {
     unary_has_one();
+    numbered_stay_within();
     reads_are_made();
     made_is_access();
     own_has_one_place();
@@ -82,8 +142,8 @@ pub fn runs_by_one_more()
     own_changes();
 }
 
-/// There is a lawful history whose two sides follow their programs, in which a write overlaps a read, an item
-/// is put and taken, and the consumer is told that the ring is closed.
+/// There is a lawful history whose two sides follow their programs, in which a write overlaps a read, a take finds
+/// the ring empty, a put finds it full, an item is put and taken, and the consumer is told that the ring is closed.
 pub fn has_a_run()
     ensures { HasARun }
 {

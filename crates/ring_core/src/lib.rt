@@ -10,6 +10,3 @@ mod producers;
 pub use consumers::{Consumer, TakeReply};
 pub use counts::{distance, has_item, has_room};
 pub use producers::{BatchReply, Producer, PutReply};
-
-#[cfg(test)]
-mod tests;

@@ -1,8 +1,9 @@
 //! The producer's machine.
-ghost use Rattle.std.specs.Prelude.{◌≡◌, ◌≢◌, ◌⊎◌, ℕ, ◌+◌, ◌^◌, ◌<◌, ◌≤◌, true, false, Option, Some, None, List, [], ◌∷◌, ◌++◌, ◌↔◌, IsTrue, length, take};
+ghost use Rattle.std.specs.Prelude.{◌≡◌, ◌≢◌, ◌⊎◌, ℕ, ◌+◌, ◌^◌, ◌<◌, ◌≤◌, true, false, Option, Some, None, List, [], ◌∷◌, ◌++◌, ◌↔◌, IsTrue, IfSome, length, take};
 ghost use Rattle.bits_core.specs.declared.events.Side.TheVariants.{P};
 ghost use Rattle.bits_core.specs.Shape.{capacity_of, modulus_of, width_of};
 ghost use Rattle.bits_core.specs.Made.{Made, answered};
+ghost use Rattle.bits_core.specs.Open.{IsOpenRight};
 ghost use Rattle.ring_core.specs.Counts as counts;
 
 use crate::counts::{distance, has_room};
@@ -72,7 +73,7 @@ enum Stage {
 }
 
 /// The side that puts items (Lamport 1977): it tells the accesses of its calls one by one. It takes no memory.
-#[derive(Drop)]
+#[derive(Clone, Debug, Drop)]
 pub struct Producer {
     shape: Shape,
     count: u64,
@@ -106,24 +107,23 @@ impl Producer {
     ghost use Rattle.ring_core.specs.declared.producers.Stage.TheVariants.{Scanning, Storing, Counting};
     ghost use Rattle.ring_core.specs.declared.producers.BatchReply.{BatchReply};
     ghost use Rattle.ring_core.specs.declared.producers.BatchReply.TheVariants.{Closed};
-    ghost use Rattle.ring_core.specs.Puts.{IsBatch};
-    ghost use Rattle.ring_core.specs.Puts.{Puts};
-    ghost use Rattle.ring_core.specs.ProducerCalls.{new_producer, no_puts, ProducerStands, IsNextPut, HasMoved, IsReply, closes_with};
+    ghost use Rattle.ring_core.specs.Puts.{IsBatch, Puts, put_program};
+    ghost use Rattle.ring_core.specs.ProducerCalls.{new_producer, no_puts, ProducerStands, PutGoesOn, HasMoved, IsReply, longest, closes_with};
     ghost use Rattle.ring_core.specs.ProducerState.{Call, Put, Close, due_put, call_of, item_reply, put_reply, batch_reply};
 
     /// The producer of a ring of this shape that has made no access.
-    pub fn new(shape: &Shape) -> Self
-        ensures state { result ≡ new_producer shape.now }
+    pub fn new(shape: Shape) -> Self
+        ensures state { result ≡ new_producer shape }
         ensures stands { ProducerStands result no_puts [] }
     {
         Producer {
-            shape: *shape,
+            shape,
             count: 0,
             cell: 0,
             stage: Stage::Idle,
-            scan: UnaryScan::new(shape, Side::P),
-            word: WordWriter::new(shape, 0, 0),
-            row: UnaryWriter::new(shape, Side::P),
+            scan: UnaryScan::new(&shape, Side::P),
+            word: WordWriter::new(&shape, 0, 0),
+            row: UnaryWriter::new(&shape, Side::P),
             closed: false,
             items: [0; 64],
             offered: 0,
@@ -204,10 +204,16 @@ impl Producer {
         }
     }
 
-    /// The access that is due, and none where no call is under way.
+    /// The access that is due, and none where no call is under way. It is of a bit of the shape, by the side that may,
+    /// so a memory of that shape takes it. Whatever it is answered, but for a 0 where
+    /// [`expects_one`](Self::expects_one), the call under way goes on with it; a call has at most so many accesses as
+    /// [`calls_are_short`](crate::laws::calls_are_short) says.
     pub fn next(&self) -> Option<Access>
         ensures due { result ≡ due_put self.now }
-        ensures stands { (calls : Puts) (made : List Made) → ProducerStands self.now calls made → IsNextPut self.now.shape calls (call_of self.now) made result }
+        ensures right { IfSome result (IsOpenRight self.now.shape P) }
+        ensures rest { (calls : Puts) (made : List Made) → ProducerStands self.now calls made → result ≡ None → (call_of self.now ≡ None) × (made ≡ put_program self.now.shape calls) }
+        ensures goes_on { (calls : Puts) (made : List Made) (access : Access) → ProducerStands self.now calls made → result ≡ Some access → (c : Call) × (call_of self.now ≡ Some c) × PutGoesOn self.now.shape calls c made access }
+        ensures bounded { (calls : Puts) (made : List Made) (c : Call) → ProducerStands self.now calls made → call_of self.now ≡ Some c → length made < length (put_program self.now.shape calls) + longest self.now.shape c }
     {
         match self.stage {
             Stage::Idle => None,

@@ -5,6 +5,7 @@ use bits_core::{
     audit_bits,
 };
 use ring_core::{Consumer, Producer, PutReply, TakeReply};
+use ring_steps::{Step, next_event};
 use std::alloc::Allocator;
 use std::process::Abort;
 use std::test::Fail;
@@ -30,48 +31,12 @@ struct Ring<'a> {
     ghost of_consumer: { consumer.shape ≡ shape },
 }
 
-// What a step of a side was.
-#[derive(Drop)]
-pub enum Step {
-    Nothing,
-    Begin,
-    End(bool),
-}
-
-// The side's next event: the end of the access that it has open, or the begin of the one that is due.
-pub fn next_event<A: Allocator, O: Oracle>(
-    memory: &mut Memory<A>,
-    side: Side,
-    due: Option<Access>,
-    oracle: &mut O,
-) -> Result<Step, MemoryFault> {
-    match memory.pending(side) {
-        Some(Access::Read(_)) => return Ok(Step::End(memory.end_read(side, oracle)?)),
-        Some(Access::Write(_, _)) => {
-            memory.end_write(side)?;
-            return Ok(Step::End(false));
-        }
-        None => {}
-    }
-    match due {
-        Some(Access::Read(bit)) if memory.shape().has(bit) && side == bit.reader() => {
-            memory.begin_read(side, bit)?;
-            Ok(Step::Begin)
-        }
-        Some(Access::Write(bit, value)) if memory.shape().has(bit) && side == bit.writer() => {
-            memory.begin_write(side, bit, value)?;
-            Ok(Step::Begin)
-        }
-        _ => Ok(Step::Nothing),
-    }
-}
-
 impl<'a> Ring<'a> {
     fn new(shape: &Shape, items: &'a [u64], takes: usize, closes: bool) -> Ring<'a> {
         Ring {
             shape: *shape,
-            producer: Producer::new(shape),
-            consumer: Consumer::new(shape),
+            producer: Producer::new(*shape),
+            consumer: Consumer::new(*shape),
             items,
             takes,
             closes,
@@ -170,6 +135,25 @@ struct Report {
     flickers: u64,
 }
 
+impl Report {
+    // The same, with so many calls answered full or empty, the consumer told, and so many reads overlapped.
+    fn full(self, full: u64) -> Report {
+        Report { full, ..self }
+    }
+
+    fn empty(self, empty: u64) -> Report {
+        Report { empty, ..self }
+    }
+
+    fn told(self) -> Report {
+        Report { told: true, ..self }
+    }
+
+    fn flickers(self, flickers: u64) -> Report {
+        Report { flickers, ..self }
+    }
+}
+
 fn expect_report<A: Allocator>(rt: &impl Abort, ring: &Ring, memory: &Memory<A>, report: Report) {
     let made = Report {
         events: memory.events().len(),
@@ -186,6 +170,24 @@ fn expect_report<A: Allocator>(rt: &impl Abort, ring: &Ring, memory: &Memory<A>,
         audit_bits(&memory.shape(), memory.events()),
         Verdict::Lawful
     );
+}
+
+fn expect_put(rt: &impl Abort, ring: &Ring, reply: Option<PutReply>) {
+    assert_eq!(rt; ring.producer.reply(), reply);
+}
+
+fn expect_take(rt: &impl Abort, ring: &Ring, reply: Option<TakeReply>) {
+    assert_eq!(rt; ring.consumer.reply(), reply);
+}
+
+fn expect_due(rt: &impl Abort, due: Option<Access>, wanted: Option<Access>) {
+    assert_eq!(rt; due, wanted);
+}
+
+// Neither side has an access to make.
+fn expect_idle(rt: &impl Abort, ring: &Ring) {
+    expect_due(rt, ring.producer.next(), None);
+    expect_due(rt, ring.consumer.next(), None);
 }
 
 // The report of a run in which nothing was refused and no read was overlapped.
@@ -221,16 +223,8 @@ fn a_second_put_finds_one_cell_full(rt: HostRuntime) -> Result<(), Fail> {
     let mut memory = Memory::new(rt.alloc(), shape);
     let mut ring = Ring::new(&shape, &[1, 1], 0, false);
     ring.run(&mut memory, &mut Always(false), &[(Side::P, 10)])?;
-    expect_report(
-        &rt,
-        &ring,
-        &memory,
-        Report {
-            full: 1,
-            ..plain(10, 1, 0)
-        },
-    );
-    assert_eq!(rt; ring.producer.reply(), Some(PutReply::Full));
+    expect_report(&rt, &ring, &memory, plain(10, 1, 0).full(1));
+    expect_put(&rt, &ring, Some(PutReply::Full));
     Ok(())
 }
 
@@ -246,28 +240,12 @@ fn a_second_scan_finds_the_item(rt: HostRuntime) -> Result<(), Fail> {
     assert!(rt; ring.producer.is_closed());
     ring.run(&mut memory, &mut zeros, &[(Side::C, 12)])?;
     expect_report(&rt, &ring, &memory, plain(24, 1, 1));
-    assert_eq!(rt; ring.consumer.reply(), Some(TakeReply::Item(1)));
+    expect_take(&rt, &ring, Some(TakeReply::Item(1)));
     ring.run(&mut memory, &mut zeros, &[(Side::C, 10)])?;
-    expect_report(
-        &rt,
-        &ring,
-        &memory,
-        Report {
-            told: true,
-            ..plain(34, 1, 1)
-        },
-    );
+    expect_report(&rt, &ring, &memory, plain(34, 1, 1).told());
     // both sides are done
     ring.run(&mut memory, &mut zeros, &[(Side::P, 3), (Side::C, 5)])?;
-    expect_report(
-        &rt,
-        &ring,
-        &memory,
-        Report {
-            told: true,
-            ..plain(34, 1, 1)
-        },
-    );
+    expect_report(&rt, &ring, &memory, plain(34, 1, 1).told());
     Ok(())
 }
 
@@ -278,25 +256,9 @@ fn two_cells_hold_two_items(rt: HostRuntime) -> Result<(), Fail> {
     let mut ring = Ring::new(&shape, &[2, 1, 3], 1, false);
     let mut zeros = Always(false);
     ring.run(&mut memory, &mut zeros, &[(Side::P, 22)])?;
-    expect_report(
-        &rt,
-        &ring,
-        &memory,
-        Report {
-            full: 1,
-            ..plain(22, 2, 0)
-        },
-    );
+    expect_report(&rt, &ring, &memory, plain(22, 2, 0).full(1));
     ring.run(&mut memory, &mut zeros, &[(Side::C, 14), (Side::P, 12)])?;
-    expect_report(
-        &rt,
-        &ring,
-        &memory,
-        Report {
-            full: 1,
-            ..plain(48, 3, 1)
-        },
-    );
+    expect_report(&rt, &ring, &memory, plain(48, 3, 1).full(1));
     Ok(())
 }
 
@@ -311,7 +273,7 @@ fn the_largest_shape_works(rt: HostRuntime) -> Result<(), Fail> {
         &[(Side::P, 134), (Side::C, 136)],
     )?;
     expect_report(&rt, &ring, &memory, plain(270, 1, 1));
-    assert_eq!(rt; ring.consumer.reply(), Some(TakeReply::Item(u64::MAX)));
+    expect_take(&rt, &ring, Some(TakeReply::Item(u64::MAX)));
     Ok(())
 }
 
@@ -322,6 +284,23 @@ fn count_write(event: &Event) -> Option<(u8, bool)> {
         (Bit::R(number), Act::WriteBegin(value)) => Some((number, value)),
         _ => None,
     }
+}
+
+// The events from a place on write these bits of a count.
+fn expect_count_writes<A: Allocator>(
+    rt: &impl Abort,
+    memory: &Memory<A>,
+    before: usize,
+    writes: &[(u8, bool)],
+) {
+    let mut place = 0;
+    for event in memory.events().iter().skip(before) {
+        if let Some(write) = count_write(event) {
+            assert_eq!(rt; writes.get(place).copied(), Some(write));
+            place = place.saturating_add(1);
+        }
+    }
+    assert!(rt; place == writes.len());
 }
 
 // One whole call of the side: so many events, and these writes to its count.
@@ -340,17 +319,9 @@ fn expect_call<A: Allocator>(
             Side::C => ring.step_consumer(memory, &mut Always(false))?,
         }
     }
-    assert_eq!(rt; ring.producer.next(), None);
-    assert_eq!(rt; ring.consumer.next(), None);
-    assert_eq!(rt; memory.events().len().checked_sub(before), Some(events));
-    let mut place = 0;
-    for event in memory.events().iter().skip(before) {
-        if let Some(write) = count_write(event) {
-            assert_eq!(rt; writes.get(place).copied(), Some(write));
-            place = place.saturating_add(1);
-        }
-    }
-    assert_eq!(rt; place, writes.len());
+    expect_idle(rt, ring);
+    assert!(rt; memory.events().len().checked_sub(before) == Some(events));
+    expect_count_writes(rt, memory, before, writes);
     Ok(())
 }
 
@@ -389,16 +360,7 @@ fn an_open_count_write_is_seen_and_then_not(rt: HostRuntime) -> Result<(), Fail>
         &mut Tape::new(&[false, true]),
         &[(Side::P, 7), (Side::C, 14)],
     )?;
-    expect_report(
-        &rt,
-        &ring,
-        &memory,
-        Report {
-            empty: 1,
-            flickers: 2,
-            ..plain(21, 0, 1)
-        },
-    );
+    expect_report(&rt, &ring, &memory, plain(21, 0, 1).empty(1).flickers(2));
     Ok(())
 }
 
@@ -417,16 +379,7 @@ fn a_count_wraps_while_its_write_is_open(rt: HostRuntime) -> Result<(), Fail> {
     ];
     // the count goes from 2 to 0: the scans give 2 and then 0
     ring.run(&mut memory, &mut Tape::new(&[false, true]), &schedule)?;
-    expect_report(
-        &rt,
-        &ring,
-        &memory,
-        Report {
-            empty: 1,
-            flickers: 2,
-            ..plain(63, 2, 3)
-        },
-    );
+    expect_report(&rt, &ring, &memory, plain(63, 2, 3).empty(1).flickers(2));
     Ok(())
 }
 
@@ -436,73 +389,88 @@ fn calls_after_the_close_are_answered_at_once(rt: HostRuntime) -> Result<(), Fai
     let mut memory = Memory::new(rt.alloc(), shape);
     let mut zeros = Always(false);
     let mut ring = Ring::new(&shape, &[], 1, true);
-    assert_eq!(rt; ring.producer.reply(), None);
-    assert_eq!(rt; ring.consumer.reply(), None);
+    expect_put(&rt, &ring, None);
+    expect_take(&rt, &ring, None);
     assert!(rt; !ring.producer.is_closed());
     ring.run(&mut memory, &mut zeros, &[(Side::P, 1)])?;
     assert!(rt; ring.producer.is_closed());
     ring.run(&mut memory, &mut zeros, &[(Side::P, 1), (Side::C, 6)])?;
-    expect_report(
-        &rt,
-        &ring,
-        &memory,
-        Report {
-            told: true,
-            ..plain(8, 0, 0)
-        },
-    );
-    assert_eq!(rt; ring.producer.reply(), None);
+    expect_report(&rt, &ring, &memory, plain(8, 0, 0).told());
+    expect_put(&rt, &ring, None);
     if ring.producer.next().is_none() && ring.shape.fits(1) {
         ring.producer.put(1);
     }
-    assert_eq!(rt; ring.producer.next(), None);
-    assert_eq!(rt; ring.producer.reply(), Some(PutReply::Closed));
+    expect_due(&rt, ring.producer.next(), None);
+    expect_put(&rt, &ring, Some(PutReply::Closed));
     if ring.producer.next().is_none() {
         ring.producer.close();
     }
-    assert_eq!(rt; ring.producer.next(), None);
-    assert_eq!(rt; ring.producer.reply(), None);
+    expect_due(&rt, ring.producer.next(), None);
+    expect_put(&rt, &ring, None);
     assert!(rt; ring.producer.is_closed());
-    assert_eq!(rt; ring.consumer.reply(), Some(TakeReply::Closed));
+    expect_take(&rt, &ring, Some(TakeReply::Closed));
     if ring.consumer.next().is_none() {
         ring.consumer.take();
     }
-    assert_eq!(rt; ring.consumer.next(), None);
-    assert_eq!(rt; ring.consumer.reply(), Some(TakeReply::Closed));
-    expect_report(
-        &rt,
-        &ring,
-        &memory,
-        Report {
-            told: true,
-            ..plain(8, 0, 0)
-        },
-    );
+    expect_due(&rt, ring.consumer.next(), None);
+    expect_take(&rt, &ring, Some(TakeReply::Closed));
+    expect_report(&rt, &ring, &memory, plain(8, 0, 0).told());
     Ok(())
 }
 
 #[test]
 fn the_last_bit_of_a_count_expects_one(rt: HostRuntime) -> Result<(), Fail> {
     let shape = Shape::new(1, 3, 1)?;
-    let mut producer = Producer::new(&shape);
+    let mut producer = Producer::new(shape);
     assert!(rt; !producer.expects_one());
     producer.put(1);
     for bit in 0..3 {
-        assert_eq!(rt; producer.next(), Some(Access::Read(Bit::R(bit))));
-        assert_eq!(rt; producer.expects_one(), bit == 2);
+        expect_due(&rt, producer.next(), Some(Access::Read(Bit::R(bit))));
+        assert!(rt; producer.expects_one() == (bit == 2));
         if producer.next().is_some() && !producer.expects_one() {
             producer.feed(false);
         }
     }
-    let mut consumer = Consumer::new(&shape);
+    let mut consumer = Consumer::new(shape);
     assert!(rt; !consumer.expects_one());
     consumer.take();
     for bit in 0..3 {
-        assert_eq!(rt; consumer.next(), Some(Access::Read(Bit::S(bit))));
-        assert_eq!(rt; consumer.expects_one(), bit == 2);
+        expect_due(&rt, consumer.next(), Some(Access::Read(Bit::S(bit))));
+        assert!(rt; consumer.expects_one() == (bit == 2));
         if consumer.next().is_some() && !consumer.expects_one() {
             consumer.feed(false);
         }
     }
+    Ok(())
+}
+
+// A clone goes on by itself, and the two machines are shown as Rust shows a struct.
+#[test]
+fn machines_are_cloned_and_shown(rt: HostRuntime) -> Result<(), Fail> {
+    let shape = Shape::new(1, 3, 1)?;
+    let mut producer = Producer::new(shape);
+    producer.put(1);
+    let clone = producer.clone()?;
+    if producer.next().is_some() && !producer.expects_one() {
+        producer.feed(false);
+    }
+    expect_due(&rt, producer.next(), Some(Access::Read(Bit::R(1))));
+    expect_due(&rt, clone.next(), Some(Access::Read(Bit::R(0))));
+    let mut consumer = Consumer::new(shape);
+    let rested = consumer.clone()?;
+    consumer.take();
+    expect_due(&rt, consumer.next(), Some(Access::Read(Bit::S(0))));
+    expect_due(&rt, rested.next(), None);
+    let shown = format!(in rt.alloc(); "{producer:?} {consumer:?}")?;
+    assert!(rt;
+        shown
+            .as_str()
+            .starts_with("Producer { shape: Shape { capacity: 1,")
+    );
+    assert!(rt;
+        shown
+            .as_str()
+            .contains(" Consumer { shape: Shape { capacity: 1,")
+    );
     Ok(())
 }

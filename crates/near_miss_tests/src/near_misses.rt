@@ -1,0 +1,317 @@
+// Three rings that are nearly right. Each makes a lawful history of bits, so safe bits are not to blame.
+use bits_core::{
+    Access, Always, Bit, Memory, MemoryFault, Oracle, Shape, Side, Tape, Verdict, audit_bits,
+    write_trace,
+};
+use register_core::{UnaryScan, UnaryWriter, WordWriter};
+use ring_core::{Consumer, Producer, PutReply, TakeReply};
+use ring_steps::{Step, next_event};
+use std::alloc::Allocator;
+use std::process::Abort;
+use std::test::Fail;
+
+// The whole of the access that is due, if there is one: its answer.
+fn whole_access<A: Allocator, O: Oracle>(
+    memory: &mut Memory<A>,
+    side: Side,
+    due: Option<Access>,
+    oracle: &mut O,
+) -> Result<Option<bool>, MemoryFault> {
+    next_event(memory, side, due, oracle)?;
+    match next_event(memory, side, due, oracle)? {
+        Step::End(answer) => Ok(Some(answer)),
+        _ => Ok(None),
+    }
+}
+
+// A scan by a side, and its value.
+fn scan<A: Allocator>(
+    memory: &mut Memory<A>,
+    shape: &Shape,
+    side: Side,
+) -> Result<Option<u64>, MemoryFault> {
+    let mut scan = UnaryScan::new(shape, side);
+    for _ in 0..3 {
+        if scan.next().is_some()
+            && let Some(answer) = whole_access(memory, side, scan.next(), &mut Always(false))?
+            && (answer || !scan.expects_one())
+        {
+            scan.feed(answer);
+        }
+    }
+    Ok(scan.value())
+}
+
+// So many bit writes of the producer's count.
+fn write_bits<A: Allocator>(
+    memory: &mut Memory<A>,
+    count: &mut UnaryWriter,
+    writes: u64,
+) -> Result<(), MemoryFault> {
+    for _ in 0..writes {
+        if whole_access(memory, Side::P, count.next(), &mut Always(false))?.is_some()
+            && count.next().is_some()
+        {
+            count.feed(false);
+        }
+    }
+    Ok(())
+}
+
+// The word write of an item of one digit.
+fn write_digit<A: Allocator>(
+    rt: &impl Abort,
+    memory: &mut Memory<A>,
+    shape: &Shape,
+    cell: u64,
+    item: bool,
+) -> Result<(), MemoryFault> {
+    assert!(rt; cell < shape.capacity());
+    if cell < shape.capacity() && shape.fits(u64::from(item)) {
+        let mut word = WordWriter::new(shape, cell, u64::from(item));
+        if whole_access(memory, Side::P, word.next(), &mut Always(false))?.is_some()
+            && word.next().is_some()
+        {
+            word.feed(false);
+        }
+        expect_due(rt, word.next(), None);
+    }
+    Ok(())
+}
+
+// A whole take, of at most 20 accesses.
+fn take<A: Allocator, O: Oracle>(
+    memory: &mut Memory<A>,
+    consumer: &mut Consumer,
+    oracle: &mut O,
+) -> Result<Option<TakeReply>, MemoryFault> {
+    if consumer.next().is_none() {
+        consumer.take();
+    }
+    for _ in 0..20 {
+        if consumer.next().is_some()
+            && let Some(answer) = whole_access(memory, Side::C, consumer.next(), oracle)?
+            && (answer || !consumer.expects_one())
+        {
+            consumer.feed(answer);
+        }
+    }
+    Ok(consumer.reply())
+}
+
+fn expect_due(rt: &impl Abort, due: Option<Access>, wanted: Option<Access>) {
+    assert_eq!(rt; due, wanted);
+}
+
+// A scan by a side gives this value.
+fn expect_scan<A: Allocator>(
+    rt: &impl Abort,
+    memory: &mut Memory<A>,
+    shape: &Shape,
+    side: Side,
+    value: u64,
+) -> Result<(), MemoryFault> {
+    let scanned = scan(memory, shape, side)?;
+    assert_eq!(rt; scanned, Some(value));
+    Ok(())
+}
+
+fn expect_lawful_trace<A: Allocator>(
+    rt: &(impl Abort + AllocGlobal),
+    memory: &Memory<A>,
+    trace: &str,
+) -> Result<(), Fail> {
+    assert_eq!(rt;
+        audit_bits(&memory.shape(), memory.events()),
+        Verdict::Lawful
+    );
+    let shape = memory.shape();
+    assert!(rt; shape.batch() == 1);
+    if shape.batch() == 1 {
+        let text = write_trace(rt.alloc(), &shape, memory.events())?;
+        assert!(rt; text.as_str() == trace, "{text}");
+    }
+    Ok(())
+}
+
+// The trace of examples/stale_item.trace.
+const STALE_ITEM: &str = "shape 1 3 1\n\
+P read r0\n\
+P got r0 1\n\
+P write s1 1\n\
+P wrote s1\n\
+P write s0 0\n\
+P wrote s0\n\
+C read s0\n\
+C got s0 0\n\
+C read s1\n\
+C got s1 1\n\
+C read c0.0\n\
+C got c0.0 0\n\
+C write r1 1\n\
+C wrote r1\n\
+C write r0 0\n\
+C wrote r0\n\
+P write c0.0 1\n\
+P wrote c0.0\n";
+
+// The trace of examples/batch_count_comes_back.trace.
+const BATCH_COUNT_COMES_BACK: &str = "shape 2 4 1\n\
+P read r0\n\
+P got r0 1\n\
+P write c0.0 1\n\
+P wrote c0.0\n\
+P write c1.0 0\n\
+P wrote c1.0\n\
+P write s2 1\n\
+P wrote s2\n\
+P write s0 0\n\
+C read s0\n\
+C got s0 0\n\
+C read s1\n\
+C got s1 0\n\
+C read s2\n\
+C got s2 1\n\
+C read c0.0\n\
+C got c0.0 1\n\
+C write r1 1\n\
+C wrote r1\n\
+C write r0 0\n\
+C wrote r0\n\
+C read s0\n\
+C got s0 0\n\
+C read s1\n\
+C got s1 0\n\
+C read s2\n\
+C got s2 1\n\
+C read c1.0\n\
+C got c1.0 0\n\
+C write r2 1\n\
+C wrote r2\n\
+C write r1 0\n\
+C wrote r1\n\
+C read s0\n\
+C got s0 1\n\
+C read c0.0\n\
+C got c0.0 1\n\
+C write r3 1\n\
+C wrote r3\n\
+C write r2 0\n\
+C wrote r2\n";
+
+// The trace of examples/closed_loses_an_item.trace.
+const CLOSED_LOSES_AN_ITEM: &str = "shape 1 3 1\n\
+C read s0\n\
+C got s0 1\n\
+P read r0\n\
+P got r0 1\n\
+P write c0.0 1\n\
+P wrote c0.0\n\
+P write s1 1\n\
+P wrote s1\n\
+P write s0 0\n\
+P wrote s0\n\
+P write x 1\n\
+P wrote x\n\
+C read x\n\
+C got x 1\n";
+
+#[test]
+fn a_count_before_its_cell_takes_a_stale_item(rt: HostRuntime) -> Result<(), Fail> {
+    let shape = Shape::new(1, 3, 1)?;
+    let mut memory = Memory::new(rt.alloc(), shape);
+    // a put of 1: the scan, then the count, and the cell last
+    expect_scan(&rt, &mut memory, &shape, Side::P, 0)?;
+    let mut count = UnaryWriter::new(&shape, Side::P);
+    count.write(1);
+    write_bits(&mut memory, &mut count, 2)?;
+    expect_due(&rt, count.next(), None);
+    let mut consumer = Consumer::new(shape);
+    let taken = take(&mut memory, &mut consumer, &mut Always(false))?;
+    write_digit(&rt, &mut memory, &shape, 0, true)?;
+    // what was put, and what was taken
+    let put: [u64; 1] = [1];
+    assert!(rt; taken == Some(TakeReply::Item(0)));
+    assert!(rt; taken != Some(TakeReply::Item(put[0])));
+    expect_lawful_trace(&rt, &memory, STALE_ITEM)
+}
+
+#[test]
+fn closed_without_a_second_scan_loses_an_item(rt: HostRuntime) -> Result<(), Fail> {
+    let shape = Shape::new(1, 3, 1)?;
+    let mut memory = Memory::new(rt.alloc(), shape);
+    // a take that scans, finds nothing, and asks for the close bit once an item was put and the ring closed
+    expect_scan(&rt, &mut memory, &shape, Side::C, 0)?;
+    let mut producer = Producer::new(shape);
+    producer.put(1);
+    for _ in 0..8 {
+        if producer.next().is_some()
+            && let Some(answer) = whole_access(
+                &mut memory,
+                Side::P,
+                producer.next(),
+                &mut Always(false),
+            )?
+            && (answer || !producer.expects_one())
+        {
+            producer.feed(answer);
+        }
+    }
+    assert!(rt; producer.reply() == Some(PutReply::Stored));
+    if producer.next().is_none() {
+        producer.close();
+    }
+    if whole_access(&mut memory, Side::P, producer.next(), &mut Always(false))?.is_some()
+        && producer.next().is_some()
+    {
+        producer.feed(true);
+    }
+    assert!(rt; producer.is_closed());
+    // a consumer that takes the close bit for the end is told that the ring is closed, and has taken nothing
+    let told = whole_access(
+        &mut memory,
+        Side::C,
+        Some(Access::Read(Bit::X)),
+        &mut Always(false),
+    )? == Some(true);
+    let taken: [u64; 0] = [];
+    let put: [u64; 1] = [1];
+    assert!(rt; told);
+    assert!(rt; taken.len() < put.len());
+    expect_lawful_trace(&rt, &memory, CLOSED_LOSES_AN_ITEM)?;
+    // the second scan finds it
+    expect_scan(&rt, &mut memory, &shape, Side::C, 1)?;
+    Ok(())
+}
+
+fn expect_taken(rt: &impl Abort, taken: Option<TakeReply>, wanted: Option<TakeReply>) {
+    assert_eq!(rt; taken, wanted);
+}
+
+// A batch of two over counts modulo capacity + batch, which is one too few: the count that the open write replaces is
+// taken for two items more.
+#[test]
+fn a_batch_needs_a_larger_modulus(rt: HostRuntime) -> Result<(), Fail> {
+    let shape = Shape::new(2, 4, 1)?;
+    let mut memory = Memory::new(rt.alloc(), shape);
+    // a put of 1 and 0: the scan, both words, and the count, whose last write stays open
+    expect_scan(&rt, &mut memory, &shape, Side::P, 0)?;
+    write_digit(&rt, &mut memory, &shape, 0, true)?;
+    write_digit(&rt, &mut memory, &shape, 1, false)?;
+    let mut count = UnaryWriter::new(&shape, Side::P);
+    count.write(2);
+    write_bits(&mut memory, &mut count, 1)?;
+    next_event(&mut memory, Side::P, count.next(), &mut Always(false))?;
+    // two scans read 0 in s0, and the third one 1
+    let bits = [false, false, true];
+    let mut oracle = Tape::new(&bits);
+    let mut consumer = Consumer::new(shape);
+    for item in [1, 0] {
+        let taken = take(&mut memory, &mut consumer, &mut oracle)?;
+        expect_taken(&rt, taken, Some(TakeReply::Item(item)));
+    }
+    // no third item was put
+    let stale = take(&mut memory, &mut consumer, &mut oracle)?;
+    expect_taken(&rt, stale, Some(TakeReply::Item(1)));
+    expect_lawful_trace(&rt, &memory, BATCH_COUNT_COMES_BACK)
+}

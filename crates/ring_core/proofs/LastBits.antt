@@ -1,0 +1,101 @@
+-- A program's reads of the last bit of the other side's count answer 1.
+use Rattle.std.proofs.Common.{◌≡◌, ℕ, zero, suc, ◌%◌, ◌<◌, Bool, true, false, List, [], ◌∷◌, ◌++◌, refl, sym, subst, arith, append_assoc}
+use Rattle.bits_core.specs.declared.events.Side.{Side}
+use Rattle.bits_core.specs.declared.events.Side.TheVariants.{P, C}
+use Rattle.bits_core.specs.declared.events.Bit.{Bit}
+use Rattle.bits_core.specs.declared.events.Bit.TheVariants.{S, X, Cell}
+use Rattle.bits_core.specs.declared.shapes.Shape.{Shape}
+use Rattle.bits_core.specs.Shape.{capacity_of, modulus_of, width_of}
+use Rattle.bits_core.specs.Made.{Made, Read}
+use Rattle.register_core.specs.Row.{RowWrite, row_bit, writes_in}
+use Rattle.register_core.specs.Word.{digit, digit_reads, word_read}
+use Rattle.register_core.specs.ScanState.{zero_reads, scan_phrase, row_read_by}
+use Rattle.ring_core.specs.Takes.{Take, End, Item, ItemAfterClose, Empty, Open, Closed, taken_after, item_phrase, take_phrase, take_phrases, end_phrase, IsTake, AreTakes}
+use Rattle.ring_core.specs.Counts.{count_phrase, bits_held}
+use Rattle.register_core.specs.Unary.{unary_phrase}
+use Rattle.ring_core.specs.GoingOn.{LastTakesReadOne}
+
+-- where the access reads the last bit of a row, it answers 1
+abbrev pub OneAtLast : (ℕ → Bit) → ℕ → Made → Type 0
+OneAtLast row modulus x = (i : ℕ) (v : Bool) → x ≡ Read (row i) v → suc i ≡ modulus → v ≡ true
+
+-- each of the accesses does so
+abbrev pub AllOne : (ℕ → Bit) → ℕ → List Made → Type 0
+AllOne row modulus [] = Unit {0}
+AllOne row modulus (x ∷ xs) = OneAtLast row modulus x × AllOne row modulus xs
+
+pub one-append : (row : ℕ → Bit) (modulus : ℕ) (xs ys : List Made) → AllOne row modulus xs → AllOne row modulus ys → AllOne row modulus (xs ++ ys)
+one-append row modulus [] ys p q = q
+one-append row modulus (x ∷ xs) ys (one, p) q = (one, one-append row modulus xs ys p q)
+
+pub one_at : (row : ℕ → Bit) (modulus : ℕ) (made : List Made) (x : Made) (rest : List Made) → AllOne row modulus (made ++ x ∷ rest) → OneAtLast row modulus x
+one_at row modulus [] x rest (one, p) = one
+one_at row modulus (y ∷ made) x rest (one, p) = one_at row modulus made x rest p
+
+-- bits of a row are told apart by their numbers
+pub same_number : (s : Side) (i j : ℕ) → row_read_by s i ≡ row_read_by s j → i ≡ j
+same_number P i j e = cc
+same_number C i j e = cc
+
+one-zeros : (s : Side) (modulus c : ℕ) → c < modulus → AllOne (row_read_by s) modulus (zero_reads (row_read_by s) c)
+one-zeros s modulus zero l = record {}
+one-zeros s modulus (suc c) l =
+    one-append (row_read_by s) modulus (zero_reads (row_read_by s) c) (Read (row_read_by s c) false ∷ []) (one-zeros s modulus c (omega (arith, l))) (
+      (λ i v e last.
+          (let bits : row_read_by s c ≡ row_read_by s i = cc in
+          let same : c ≡ i = same_number s c i bits in
+          absurd (omega (arith, l, same, last)))),
+      record {},
+    )
+
+pub one-scan : (s : Side) (modulus c : ℕ) → c < modulus → AllOne (row_read_by s) modulus (scan_phrase (row_read_by s) c)
+one-scan s modulus c l =
+    one-append (row_read_by s) modulus (zero_reads (row_read_by s) c) (Read (row_read_by s c) true ∷ []) (one-zeros s modulus c l)
+    ((λ i v e last. let answers : true ≡ v = cc in sym answers), record {})
+
+pub one-writes : (s : Side) (row : ℕ → Bit) (modulus : ℕ) (writes : List RowWrite) → AllOne (row_read_by s) modulus (writes_in row writes)
+one-writes s row modulus [] = record {}
+one-writes s row modulus (w ∷ writes) = ((λ i v e last. absurd (cc)), one-writes s row modulus writes)
+
+one-reads : (modulus cell item n : ℕ) → AllOne (row_read_by C) modulus (digit_reads cell item n)
+one-reads modulus cell item zero = record {}
+one-reads modulus cell item (suc n) =
+    one-append (row_read_by C) modulus (digit_reads cell item n) (Read (Cell cell n) (digit n item) ∷ []) (one-reads modulus cell item n)
+    ((λ i v e last. let bits : Cell cell n ≡ S i = cc in absurd (cc)), record {})
+
+one-item : (shape : Shape) (k item : ℕ) → AllOne (row_read_by C) (modulus_of shape) (item_phrase shape k item)
+one-item shape k item =
+    one-append (row_read_by C) (modulus_of shape) (word_read (width_of shape) (k % capacity_of shape) item) (count_phrase shape C k)
+    (one-reads (modulus_of shape) (k % capacity_of shape) item (width_of shape))
+    (one-writes C (row_bit C) (modulus_of shape) (unary_phrase (bits_held shape k) (suc k % modulus_of shape)))
+
+one-close : (modulus : ℕ) (v : Bool) (rest : List Made) → AllOne (row_read_by C) modulus rest → AllOne (row_read_by C) modulus (Read X v ∷ rest)
+one-close modulus v rest p = ((λ i w e last. let bits : X ≡ S i = cc in absurd (cc)), p)
+
+one-take : (shape : Shape) (k : ℕ) (x : Take) → IsTake shape k x → AllOne (row_read_by C) (modulus_of shape) (take_phrase shape k x)
+one-take shape k (Item c i) (sees, fits) =
+    one-append (row_read_by C) (modulus_of shape) (scan_phrase (row_read_by C) c) (item_phrase shape k i) (one-scan C (modulus_of shape) c sees.0) (one-item shape k i)
+one-take shape k (ItemAfterClose c d i) (none, sees, fits) =
+    one-append (row_read_by C) (modulus_of shape) (scan_phrase (row_read_by C) c ++ Read X true ∷ scan_phrase (row_read_by C) d) (item_phrase shape k i)
+    (one-append (row_read_by C) (modulus_of shape) (scan_phrase (row_read_by C) c) (Read X true ∷ scan_phrase (row_read_by C) d) (one-scan C (modulus_of shape) c none.0)
+    (one-close (modulus_of shape) true (scan_phrase (row_read_by C) d) (one-scan C (modulus_of shape) d sees.0)))
+    (one-item shape k i)
+one-take shape k (Empty c) none =
+    one-append (row_read_by C) (modulus_of shape) (scan_phrase (row_read_by C) c) (Read X false ∷ []) (one-scan C (modulus_of shape) c none.0)
+    (one-close (modulus_of shape) false [] (record {}))
+
+one-calls :
+    (shape : Shape) (k : ℕ) (takes : List Take) (end : End) → AreTakes shape k takes end → AllOne (row_read_by C) (modulus_of shape) (take_phrases shape k takes ++ end_phrase end)
+one-calls shape k [] Open p = record {}
+one-calls shape k [] (Closed c d) (none, none') =
+    one-append (row_read_by C) (modulus_of shape) (scan_phrase (row_read_by C) c) (Read X true ∷ scan_phrase (row_read_by C) d) (one-scan C (modulus_of shape) c none.0)
+    (one-close (modulus_of shape) true (scan_phrase (row_read_by C) d) (one-scan C (modulus_of shape) d none'.0))
+one-calls shape k (x ∷ takes) end (is, p) =
+    subst (AllOne (row_read_by C) (modulus_of shape)) (sym (append_assoc (take_phrase shape k x) (take_phrases shape (taken_after k x) takes) (end_phrase end)))
+    (one-append (row_read_by C) (modulus_of shape) (take_phrase shape k x) (take_phrases shape (taken_after k x) takes ++ end_phrase end) (one-take shape k x is)
+    (one-calls shape (taken_after k x) takes end p))
+
+pub last-takes_read_one : LastTakesReadOne
+last-takes_read_one shape calls p made i v rest e last =
+    one_at (row_read_by C) (modulus_of shape) made (Read (row_read_by C i) v) rest
+    (subst (AllOne (row_read_by C) (modulus_of shape)) e (one-calls shape 0 calls.takes calls.end p)) i v refl last
