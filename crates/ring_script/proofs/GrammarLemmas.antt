@@ -1,0 +1,280 @@
+-- The reading of a schedule's text byte by byte meets its grammar.
+use Rattle.std.proofs.Common.{◌≡◌, ◌∙◌, ◌≤◌, ◌<◌, ◌+◌, ◌-◌, ◌*◌, ℕ, zero, suc, max, Bool, true, false, List, [], ◌∷◌, ◌++◌, length, replicate, take, Some, None, refl, sym, ap, ap₂, subst, arith, true≢false}
+use Rattle.std.specs.Prelude.{if◌then◌else◌, decimal}
+use Rattle.std.proofs.Common.{◌^◌, get_or}
+use Rattle.std.proofs.lemmas.Fmt.{decimal_is_IsNumeral, first_decimal}
+use Rattle.std.specs.List.{flat_map}
+use Rattle.std.specs.Char.{digit_value}
+use Rattle.std.specs.Str.Parse.{AllDigits, digits_value, digits_value_after}
+use Rattle.std.proofs.lemmas.Str.{digit_value_digit}
+use Rattle.std.proofs.lemmas.Str.Parse.{digit_from_value}
+use Rattle.std.proofs.lemmas.List.{append-nil}
+use Rattle.bits_core.specs.declared.events.Side.{Side}
+use Rattle.bits_core.specs.declared.events.Side.TheVariants.{P, C}
+use Rattle.ring_script.specs.Faults.{IsFirstStray}
+use Rattle.ring_script.specs.Schedule.{IsCount, IsSchedule, IsScheduleText, Part, count_of, letter_of, part_letters, part_text}
+use Rattle.ring_script.specs.ScheduleReading.{is_digit, is_letter, letters_after, letters_of, may_stand, side_of, stray_from, stray_in, times}
+
+-- ---- bytes that may stand
+
+-- each byte may stand after the one before it
+abbrev pub Stands : ℕ → List ℕ → Type 0
+Stands before [] = Unit {0}
+Stands before (b ∷ rest) = (may_stand before b ≡ true) × Stands b rest
+
+stands_at : (t : Bool) (place b : ℕ) (rest : List ℕ) → (if t then stray_from (suc place) b rest else Some place) ≡ None
+    → (stray_from (suc place) b rest ≡ None → Stands b rest) → (t ≡ true) × Stands b rest
+stands_at true place b rest e later = (refl, later e)
+stands_at false place b rest e later = cc
+
+stands_from : (place before : ℕ) (text : List ℕ) → stray_from place before text ≡ None → Stands before text
+unfolding stray_from
+stands_from place before [] e = tt
+stands_from place before (b ∷ rest) e = stands_at (may_stand before b) place b rest e (stands_from (suc place) b rest)
+
+stands_to : (place before : ℕ) (text : List ℕ) → Stands before text → stray_from place before text ≡ None
+unfolding stray_from
+stands_to place before [] s = refl
+stands_to place before (b ∷ rest) s = rw s.0 (stands_to (suc place) b rest s.1)
+
+-- so many bytes may stand, and one more may not
+record Stops (before : ℕ) (text : List ℕ) (k : ℕ) : Type 0 where
+  within : k < length text
+  good : Stands before (take k text)
+  bad : ¬ Stands before (take (suc k) text)
+
+stop_at : (t : Bool) (place before b p : ℕ) (rest : List ℕ) → may_stand before b ≡ t → (if t then stray_from (suc place) b rest else Some place) ≡ Some p
+    → (stray_from (suc place) b rest ≡ Some p → (k : ℕ) × (p ≡ suc place + k) × Stops b rest k)
+    → (k : ℕ) × (p ≡ place + k) × Stops before (b ∷ rest) k
+stop_at true place before b p rest is e later =
+    let found = later e in (
+      suc found.0,
+      omega (arith, found.1),
+      record {
+        within = omega (arith, found.2.within);
+        good = (is, found.2.good);
+        bad = λ s. found.2.bad s.1;
+      },
+    )
+stop_at false place before b p rest is e later =
+    (0, same_place place p e, record { within = omega arith; good = tt; bad = λ s. true≢false (sym s.0 ∙ is) })
+  where
+    same_place : (i j : ℕ) → Some i ≡ Some j → j ≡ i + 0
+    same_place i j e = let same : i ≡ j = cc in omega (arith, same)
+
+stop_from : (place before p : ℕ) (text : List ℕ) → stray_from place before text ≡ Some p → (k : ℕ) × (p ≡ place + k) × Stops before text k
+unfolding stray_from
+stop_from place before p [] e = cc
+stop_from place before p (b ∷ rest) e = stop_at (may_stand before b) place before b p rest refl e (stop_from (suc place) b p rest)
+
+first_stops : (t : Bool) (place before b : ℕ) (rest : List ℕ) → may_stand before b ≡ t → ¬ Stands before (b ∷ []) → (if t then stray_from (suc place) b rest else Some place) ≡ Some (place + 0)
+first_stops true place before b rest is bad = absurd (bad (is, tt))
+first_stops false place before b rest is bad = ap Some (omega arith)
+
+stop_to : (place before k : ℕ) (text : List ℕ) → Stands before (take k text) → ¬ Stands before (take (suc k) text) → stray_from place before text ≡ Some (place + k)
+unfolding stray_from
+stop_to place before zero [] good bad = absurd (bad tt)
+stop_to place before (suc k) [] good bad = absurd (bad tt)
+stop_to place before zero (b ∷ rest) good bad = first_stops (may_stand before b) place before b rest refl bad
+stop_to place before (suc k) (b ∷ rest) good bad =
+    rw good.0 (stop_to (suc place) b k rest good.1 (λ s. bad (good.0, s)) ∙ ap Some (omega arith))
+
+-- ---- digits and letters
+
+digit_is : (c : ℕ) → 48 ≤ c → c ≤ 57 → is_digit c ≡ true
+digit_is c low high = grind arith
+
+no_digit : (c : ℕ) → is_digit c ≡ false → is_letter c ≡ false → (before : ℕ) → may_stand before c ≡ false
+no_digit c d l before = rw (l, d) refl
+
+digit_range : (c : ℕ) → is_digit c ≡ true → (48 ≤ c) × (c ≤ 57)
+digit_range c e = (grind arith, grind arith)
+
+digit_below : (c : ℕ) → 48 ≤ c → c ≤ 57 → digit_value c < 10
+digit_below c low high = omega (arith, digit_value_digit c (low, high))
+
+letter_stands : (before : ℕ) (s : Side) → may_stand before (letter_of s) ≡ true
+letter_stands before P = refl
+letter_stands before C = refl
+
+letter_is : (s : Side) → is_letter (letter_of s) ≡ true
+letter_is P = refl
+letter_is C = refl
+
+letter_no_digit : (s : Side) → is_digit (letter_of s) ≡ false
+letter_no_digit P = refl
+letter_no_digit C = refl
+
+side_letter : (s : Side) → side_of (letter_of s) ≡ s
+side_letter P = refl
+side_letter C = refl
+
+or_true : (a : Bool) → (if a then true else true) ≡ true
+or_true true = refl
+or_true false = refl
+
+digit_after_digit : (before c : ℕ) → is_digit before ≡ true → is_digit c ≡ true → may_stand before c ≡ true
+digit_after_digit before c b d = grind arith
+
+digit_after_letter : (s : Side) (c : ℕ) → 48 < c → c ≤ 57 → may_stand (letter_of s) c ≡ true
+digit_after_letter P c low high = grind arith
+digit_after_letter C c low high = grind arith
+
+first_of_count : (b c : ℕ) → is_letter b ≡ true → may_stand b c ≡ true → 48 ≤ c → c ≤ 57 → 48 < c
+first_of_count b c l e low high = grind arith
+
+never_first : (c : ℕ) → may_stand 0 c ≡ true → 48 ≤ c → c ≤ 57 → ⊥
+never_first c e low high = grind arith
+
+letter_back : (b : ℕ) → is_letter b ≡ true → b ≡ letter_of (side_of b)
+letter_back b l = grind arith
+
+-- ---- parts are read
+
+digits_stand : (ds : List ℕ) → AllDigits 10 ds → (before : ℕ) → is_digit before ≡ true → (rest : List ℕ) → ((b : ℕ) → Stands b rest) → Stands before (ds ++ rest)
+digits_stand [] d before e rest h = h before
+digits_stand (c ∷ cs) d before e rest h =
+    let range = digit_from_value c d.0 in
+    let digit : is_digit c ≡ true = digit_is c range.0 range.1 in
+    (digit_after_digit before c e digit, digits_stand cs d.1 c digit rest h)
+
+count_stands : (s : Side) (ds : List ℕ) → IsCount ds → (rest : List ℕ) → ((b : ℕ) → Stands b rest) → Stands (letter_of s) (ds ++ rest)
+count_stands s [] c rest h = h (letter_of s)
+count_stands s (b ∷ more) c rest h = (digit_after_letter s b c.0 c.1, digits_stand more c.2 b (digit_is b (omega (arith, c.0)) c.1) rest h)
+
+parts_stand : (ps : List Part) (before : ℕ) → Stands before (flat_map part_text ps)
+parts_stand [] before = tt
+parts_stand (p ∷ ps) before = (letter_stands before p.side, count_stands p.side p.count p.proper (flat_map part_text ps) (parts_stand ps))
+
+digits_letters : (s : Side) (n : ℕ) (ds : List ℕ) → AllDigits 10 ds → (rest : List ℕ) → letters_after s n (ds ++ rest) ≡ letters_after s (digits_value_after 10 n ds) rest
+unfolding letters_after
+digits_letters s n [] d rest = refl
+digits_letters s n (c ∷ cs) d rest =
+    let range = digit_from_value c d.0 in
+    let value : 10 * n + (c - 48) ≡ n * 10 + digit_value c = omega (arith, digit_value_digit c range, range.0) in
+    rw (digit_is c range.0 range.1, value) (digits_letters s (n * 10 + digit_value c) cs d.1 rest)
+
+value_grows : (n : ℕ) (ds : List ℕ) → n ≤ digits_value_after 10 n ds
+value_grows n [] = omega arith
+value_grows n (c ∷ cs) = omega (arith, value_grows (n * 10 + digit_value c) cs)
+
+count_is : (ds : List ℕ) → IsCount ds → max 1 (digits_value_after 10 0 ds) ≡ count_of ds
+count_is [] c = refl
+count_is (b ∷ more) c =
+    omega (arith, value_grows (0 * 10 + digit_value b) more, digit_value_digit b (omega (arith, c.0), c.1), c.0)
+
+count_digits : (ds : List ℕ) → IsCount ds → AllDigits 10 ds
+count_digits [] c = tt
+count_digits (b ∷ more) c = (digit_below b (omega (arith, c.0)) c.1, c.2)
+
+parts_letters : (s : Side) (n : ℕ) (ps : List Part) → letters_after s n (flat_map part_text ps) ≡ times n s ++ flat_map part_letters ps
+unfolding letters_after
+parts_letters s n [] = sym (append-nil (times n s))
+parts_letters s n (p ∷ ps) =
+    rw (letter_no_digit p.side, side_letter p.side)
+    (ap (λ (l : List Side). times n s ++ l) (digits_letters p.side 0 p.count (count_digits p.count p.proper) (flat_map part_text ps)
+    ∙ parts_letters p.side (digits_value_after 10 0 p.count) ps
+    ∙ ap (λ (m : ℕ). replicate m p.side ++ flat_map part_letters ps) (count_is p.count p.proper)))
+
+parts_spell : (ps : List Part) → letters_of (flat_map part_text ps) ≡ flat_map part_letters ps
+unfolding letters_of
+parts_spell [] = refl
+parts_spell (p ∷ ps) =
+    rw (side_letter p.side)
+    (digits_letters p.side 0 p.count (count_digits p.count p.proper) (flat_map part_text ps)
+    ∙ parts_letters p.side (digits_value_after 10 0 p.count) ps
+    ∙ ap (λ (m : ℕ). replicate m p.side ++ flat_map part_letters ps) (count_is p.count p.proper))
+
+-- ---- what is read is parts
+
+abbrev Opens : ℕ → List ℕ → Type 0
+Opens before [] = Unit {0}
+Opens before (b ∷ more) = may_stand before b ≡ true
+
+record Front (before : ℕ) (text : List ℕ) : Type 0 where
+  digits : List ℕ
+  parts : List Part
+  written : text ≡ digits ++ flat_map part_text parts
+  all_digits : AllDigits 10 digits
+  opens : Opens before digits
+
+proper_from : (b : ℕ) → is_letter b ≡ true → (ds : List ℕ) → Opens b ds → AllDigits 10 ds → IsCount ds
+proper_from b l [] o d = tt
+proper_from b l (c ∷ cs) o d =
+    let range = digit_from_value c d.0 in
+    (first_of_count b c l o range.0 range.1, range.1, d.1)
+
+front_at : (letter digit : Bool) (before b : ℕ) (rest : List ℕ) → is_letter b ≡ letter → is_digit b ≡ digit → may_stand before b ≡ true → Front b rest → Front before (b ∷ rest)
+front_at true digit before b rest l d stands later = record {
+  digits = [];
+  parts = record { side = side_of b; count = later.digits; proper = proper_from b l later.digits later.opens later.all_digits } ∷ later.parts;
+  written = ap₂ (λ (c : ℕ) (t : List ℕ). c ∷ t) (letter_back b l) later.written;
+  all_digits = tt;
+  opens = tt;
+}
+front_at false true before b rest l d stands later =
+    let range = digit_range b d in
+    record {
+      digits = b ∷ later.digits;
+      parts = later.parts;
+      written = ap (λ (t : List ℕ). b ∷ t) later.written;
+      all_digits = (digit_below b range.0 range.1, later.all_digits);
+      opens = stands;
+    }
+front_at false false before b rest l d stands later = absurd (true≢false (sym stands ∙ no_digit b d l before))
+
+front_from : (before : ℕ) (text : List ℕ) → Stands before text → Front before text
+front_from before [] s = record { digits = []; parts = []; written = refl; all_digits = tt; opens = tt }
+front_from before (b ∷ rest) s = front_at (is_letter b) (is_digit b) before b rest refl refl s.0 (front_from b rest s.1)
+
+parts_at : (text ds : List ℕ) (ps : List Part) → text ≡ ds ++ flat_map part_text ps → AllDigits 10 ds → Opens 0 ds → text ≡ flat_map part_text ps
+parts_at text [] ps e d o = e
+parts_at text (c ∷ cs) ps e d o = let range = digit_from_value c d.0 in absurd (never_first c o range.0 range.1)
+
+schedule_stands : (text : List ℕ) (letters : List Side) → IsSchedule text letters → Stands 0 text
+schedule_stands text letters s = subst (λ (t : List ℕ). Stands 0 t) (sym s.written) (parts_stand s.parts 0)
+
+stands_schedule : (text : List ℕ) → Stands 0 text → IsSchedule text (letters_of text)
+stands_schedule text s =
+    let f = front_from 0 text s in
+    let written = parts_at text f.digits f.parts f.written f.all_digits f.opens in
+    record { parts = f.parts; written = written; spelled = ap letters_of written ∙ parts_spell f.parts }
+
+-- ---- the grammar
+
+-- a schedule has no stray byte, and spells the letters that are read
+pub schedule_clean : (text : List ℕ) (letters : List Side) → IsSchedule text letters → stray_in text ≡ None
+schedule_clean text letters s = stands_to 0 0 text (schedule_stands text letters s)
+
+pub schedule_spells : (text : List ℕ) (letters : List Side) → IsSchedule text letters → letters ≡ letters_of text
+schedule_spells text letters s = s.spelled ∙ sym (ap letters_of s.written ∙ parts_spell s.parts)
+
+pub clean_schedule : (text : List ℕ) → stray_in text ≡ None → IsSchedule text (letters_of text)
+clean_schedule text e = stands_schedule text (stands_from 0 0 text e)
+
+-- the first stray byte is the one at which the grammar ends
+pub stray_is : (text : List ℕ) (place : ℕ) → stray_in text ≡ Some place → IsFirstStray IsScheduleText text place
+stray_is text place e =
+    let found = stop_from 0 0 place text e in
+    let same : found.0 ≡ place = omega (arith, found.1) in
+    let stops = subst (λ (k : ℕ). Stops 0 text k) same found.2 in
+    record {
+      within = stops.within;
+      before = (letters_of (take place text), stands_schedule (take place text) stops.good);
+      no_more = λ s. stops.bad (schedule_stands (take (suc place) text) s.0 s.1);
+    }
+
+pub stray_found : (text : List ℕ) (place : ℕ) → IsFirstStray IsScheduleText text place → stray_in text ≡ Some place
+stray_found text place s =
+    stop_to 0 0 place text (schedule_stands (take place text) s.before.0 s.before.1) (λ stands. s.no_more (letters_of (take (suc place) text), stands_schedule (take (suc place) text) stands))
+    ∙ ap Some (omega arith)
+
+-- what is written of a number from 1 is a count
+count_at : (ds : List ℕ) (n : ℕ) → 0 < length ds → AllDigits 10 ds → 48 < get_or ds 0 0 → digits_value 10 ds ≡ n → IsCount ds × (count_of ds ≡ n)
+count_at [] n some all first e = absurd (omega (arith, some))
+count_at (b ∷ more) n some all first e = ((first, (digit_from_value b all.0).1, all.1), e)
+
+pub decimal_is_count : (n : ℕ) → 0 < n → n < 2 ^ 64 → IsCount (decimal n) × (count_of (decimal n) ≡ n)
+decimal_is_count n some small =
+    let k = decimal_is_IsNumeral n small in
+    count_at (decimal n) n k.0.0 k.0.1 (first_decimal n some small) k.1

@@ -1,0 +1,10 @@
+mod ScheduleLemmas
+mod GrammarLemmas
+mod ItemLemmas
+mod JsonLemmas
+mod NameLemmas
+mod ShapeLemmas
+mod FirstLemmas
+mod FieldLemmas
+mod KindLemmas
+mod ScriptLemmas

@@ -1,0 +1,558 @@
+-- What is read of bytes is the script that they are, or their fault.
+use Rattle.std.proofs.Common.{◌≡◌, ◌≢◌, ◌⊎◌, ◌∙◌, ◌≤◌, ◌<◌, ℕ, Bool, true, false, List, map, length, Option, Some, None, Result, Ok, Err, refl, sym, ap, subst, arith, true≢false, inl, inr}
+use Rattle.std.specs.Prelude.{IfOk, IfErr, MatchResult, position, nat_lt, if◌then◌else◌, ⊤}
+use Rattle.std.specs.Str.{is_utf8}
+use Rattle.std.proofs.lemmas.Str.{IsUtf8-from_is_utf8}
+use Rattle.serde_json.specs.Data.{Data, unsigned, null, boolean, number, string, array, object, Members}
+use Rattle.serde_json.specs.Read.{read}
+use Rattle.serde_json.specs.Find.{as_object}
+use Rattle.bits_core.specs.Shape.{width_of}
+use Rattle.bits_core.specs.declared.events.Side.{Side}
+use Rattle.bits_core.specs.declared.shapes.Shape.{Shape}
+use Rattle.ring_script.proofs.JsonLemmas.{json_read, json_refused}
+use Rattle.ring_script.proofs.ShapeLemmas.{same_shape, shape_accepted, shape_made, shape_refused, shape_why}
+use Rattle.ring_script.proofs.GrammarLemmas.{clean_schedule, schedule_clean, schedule_spells, stray_found, stray_is}
+use Rattle.ring_script.proofs.FirstLemmas.{answers_from, first_position, fit_tested, none_position, oracle_answers, oracle_clean, oracle_tested, position_first, position_none}
+use Rattle.ring_script.proofs.FieldLemmas.{HasValues, all_there, and_then_at, and_then_err, and_then_fails, and_then_ok, known_from, known_to, missing_told, ok_is, ok_not_err, values_from, values_missing, values_there, values_to}
+use Rattle.ring_script.proofs.KindLemmas.{HasKinds, kinds_from, kinds_to, kinds_wrong, wrong_told}
+use Rattle.ring_script.specs.Results.{result_and_then}
+use Rattle.ring_script.specs.Schedule.{IsSchedule, IsScheduleText}
+use Rattle.ring_script.specs.ScheduleReading.{letters_of, stray_in}
+use Rattle.ring_script.specs.FieldReading.{FieldValues, has_known_names, names_in, typed_of, values_of}
+use Rattle.ring_script.specs.Script.{Held, Content, Fit, Holds, HoldsItems, HoldsLetters, HoldsShape, IsOracle, IsOracleText, IsScript, answer_byte}
+use Rattle.ring_script.specs.ScriptReading.{Given, given_by, given_in, given_of, if_answers, if_fits, if_read, if_stands, is_no_answer, is_too_wide, items_in, json_of, oracle_of, schedule_of, script_of, shape_in}
+use Rattle.ring_script.specs.Fields.{HasKnownNames, IsJson, IsObject, held_as, wholes}
+use Rattle.ring_script.specs.Faults.{IsScriptFault, IsFirstStray}
+use Rattle.ring_script.specs.Views.{IsKept}
+use Rattle.ring_script.specs.declared.faults.Field.TheVariants as field
+use Rattle.ring_script.specs.declared.faults.ScriptFault.{ScriptFault}
+use Rattle.ring_script.specs.declared.faults.ScriptFault.TheVariants as fault
+use Rattle.ring_script.specs.declared.schedules.TheConstants.{LETTER_LIMIT}
+use Rattle.ring_script.specs.declared.scripts.TheConstants.{ITEM_LIMIT}
+
+not_over : (m n : ℕ) → nat_lt m n ≡ false → n ≤ m
+not_over m n e = grind arith
+
+under : (m n : ℕ) → n ≤ m → nat_lt m n ≡ false
+under m n h = grind arith
+
+over : (m n : ℕ) → m < n → nat_lt m n ≡ true
+over m n h = grind arith
+
+is_over : (m n : ℕ) → nat_lt m n ≡ true → m < n
+is_over m n e = grind arith
+
+same_err : {A : Type 0} (x y : ScriptFault) → (let r : Result A ScriptFault = Err x in r ≡ Err y) → x ≡ y
+same_err x y e = cc
+
+-- ---- the JSON value
+
+read_is : (o : Option Data) (d : Data) → if_read o ≡ Ok d → o ≡ Some d
+read_is (Some v) d e = cc
+read_is None d e = cc
+
+json_at : (bytes : List ℕ) (t : Bool) (d : Data) → is_utf8 bytes ≡ t → (if t then if_read (read bytes) else Err fault.NotJson) ≡ Ok d → IsJson bytes d
+json_at bytes true d is e = record { text = IsUtf8-from_is_utf8 bytes is; reads = read_is (read bytes) d e }
+json_at bytes false d is e = cc
+
+json_from : (bytes : List ℕ) (d : Data) → json_of bytes ≡ Ok d → IsJson bytes d
+unfolding json_of
+json_from bytes d e = json_at bytes (is_utf8 bytes) d refl e
+
+json_to : (bytes : List ℕ) (d : Data) → IsJson bytes d → json_of bytes ≡ Ok d
+json_to bytes d j = json_read bytes d j.text j.reads
+
+not_read : (bytes : List ℕ) (o : Option Data) (x : ScriptFault) → if_read o ≡ Err x → x ≡ fault.NotJson
+not_read bytes (Some v) x e = cc
+not_read bytes None x e = sym (same_err _ x e)
+
+json_why_at : (bytes : List ℕ) (t : Bool) (x : ScriptFault) → (if t then if_read (read bytes) else Err fault.NotJson) ≡ Err x → x ≡ fault.NotJson
+json_why_at bytes true x e = not_read bytes (read bytes) x e
+json_why_at bytes false x e = sym (same_err _ x e)
+
+json_why : (bytes : List ℕ) (x : ScriptFault) → json_of bytes ≡ Err x → x ≡ fault.NotJson
+unfolding json_of
+json_why bytes x e = json_why_at bytes (is_utf8 bytes) x e
+
+no_json : (bytes : List ℕ) (x : ScriptFault) → json_of bytes ≡ Err x → (d : Data) → ¬ IsJson bytes d
+no_json bytes x e d j = ok_not_err d x (sym (json_to bytes d j) ∙ e)
+
+none_read : (o : Option Data) → ((d : Data) → ¬ (o ≡ Some d)) → o ≡ None
+none_read (Some v) never = absurd (never v refl)
+none_read None never = refl
+
+json_told : (bytes : List ℕ) → ((d : Data) → ¬ IsJson bytes d) → json_of bytes ≡ Err fault.NotJson
+json_told bytes never = json_refused bytes (λ u. none_read (read bytes) (λ d e. never d (record { text = u; reads = e })))
+
+-- ---- the names
+
+names_test : (t : Bool) → (let passed : Result ⊤ ScriptFault = Ok tt in (if t then passed else Err fault.UnknownField) ≡ passed) → t ≡ true
+names_test true e = refl
+names_test false e = cc
+
+names_from : (d : Data) → names_in (as_object d) ≡ Ok tt → (ms : Members) × (d ≡ object ms) × HasKnownNames ms
+names_from null e = cc
+names_from (boolean b) e = cc
+names_from (number m) e = cc
+names_from (string s) e = cc
+names_from (array ds) e = cc
+names_from (object ms) e = (ms, refl, known_from ms (names_test (has_known_names ms) e))
+
+names_to : (ms : Members) → HasKnownNames ms → names_in (Some ms) ≡ Ok tt
+names_to ms h = rw (known_to ms h)
+
+-- the two faults of a value that is no object of known names
+abbrev NamesFault : Data → ScriptFault → Type 0
+NamesFault d x = ((x ≡ fault.NotObject) × ((ms : Members) → d ≢ object ms)) ⊎ ((ms : Members) × (x ≡ fault.UnknownField) × (d ≡ object ms) × ¬ HasKnownNames ms)
+
+unknown_at : (ms : Members) (t : Bool) (x : ScriptFault) → has_known_names ms ≡ t → (let passed : Result ⊤ ScriptFault = Ok tt in (if t then passed else Err fault.UnknownField) ≡ Err x) → NamesFault (object ms) x
+unknown_at ms true x is e = cc
+unknown_at ms false x is e = inr (ms, sym (same_err _ x e), refl, λ h. true≢false (sym (known_to ms h) ∙ is))
+
+names_why : (d : Data) (x : ScriptFault) → names_in (as_object d) ≡ Err x → NamesFault d x
+names_why null x e = inl (sym (same_err _ x e), λ ms k. cc)
+names_why (boolean b) x e = inl (sym (same_err _ x e), λ ms k. cc)
+names_why (number m) x e = inl (sym (same_err _ x e), λ ms k. cc)
+names_why (string s) x e = inl (sym (same_err _ x e), λ ms k. cc)
+names_why (array ds) x e = inl (sym (same_err _ x e), λ ms k. cc)
+names_why (object ms) x e = unknown_at ms (has_known_names ms) x refl e
+
+no_object : (d : Data) → ((ms : Members) → d ≢ object ms) → names_in (as_object d) ≡ Err fault.NotObject
+no_object null never = refl
+no_object (boolean b) never = refl
+no_object (number m) never = refl
+no_object (string s) never = refl
+no_object (array ds) never = refl
+no_object (object ms) never = absurd (never ms refl)
+
+unknown_told_at : (ms : Members) (t : Bool) → has_known_names ms ≡ t → ¬ HasKnownNames ms → (let passed : Result ⊤ ScriptFault = Ok tt in (if t then passed else Err fault.UnknownField) ≡ Err fault.UnknownField)
+unknown_told_at ms true is never = absurd (never (known_from ms is))
+unknown_told_at ms false is never = refl
+
+unknown_told : (ms : Members) → ¬ HasKnownNames ms → names_in (Some ms) ≡ Err fault.UnknownField
+unknown_told ms never = unknown_told_at ms (has_known_names ms) refl never
+
+-- ---- the items
+
+abbrev ItemsFault : ℕ → List ℕ → ScriptFault → Type 0
+ItemsFault w items x = ((x ≡ fault.TooManyItems) × (ITEM_LIMIT < length items)) ⊎ ((p : ℕ) × (x ≡ fault.ItemTooWide p) × (length items ≤ ITEM_LIMIT) × IsFirstStray (Fit w) items p)
+
+fits_at : (most : ℕ) (w : ℕ) (items : List ℕ) (o : Option ℕ) → position (is_too_wide w) items ≡ o → if_fits o ≡ Ok tt → Fit w items
+fits_at most w items None is e = (fit_tested w).from items (position_none (is_too_wide w) items is)
+fits_at most w items (Some p) is e = cc
+
+few_at : (most w : ℕ) (t : Bool) (items : List ℕ) → nat_lt most (length items) ≡ t → (if t then Err fault.TooManyItems else if_fits (position (is_too_wide w) items)) ≡ Ok tt → (length items ≤ most) × Fit w items
+few_at most w true items is e = cc
+few_at most w false items is e = (not_over _ _ is, fits_at most w items _ refl e)
+
+items_from : (w : ℕ) (items : List ℕ) → items_in w items ≡ Ok tt → (length items ≤ ITEM_LIMIT) × Fit w items
+unfolding items_in
+items_from w items e = few_at ITEM_LIMIT w (nat_lt ITEM_LIMIT (length items)) items refl e
+
+items_to : (w : ℕ) (items : List ℕ) → length items ≤ ITEM_LIMIT → Fit w items → items_in w items ≡ Ok tt
+unfolding items_in
+items_to w items few fit = rw (under ITEM_LIMIT (length items) few) (ap if_fits (none_position (is_too_wide w) items ((fit_tested w).to items fit)))
+
+wide_at : (w : ℕ) (items : List ℕ) (o : Option ℕ) (x : ScriptFault) → position (is_too_wide w) items ≡ o → if_fits o ≡ Err x → (p : ℕ) × (x ≡ fault.ItemTooWide p) × IsFirstStray (Fit w) items p
+wide_at w items None x is e = cc
+wide_at w items (Some p) x is e = (p, sym (same_err _ x e), position_first (Fit w) (is_too_wide w) (fit_tested w) items p is)
+
+many_at : (w : ℕ) (t : Bool) (items : List ℕ) (x : ScriptFault) → nat_lt ITEM_LIMIT (length items) ≡ t → (if t then Err fault.TooManyItems else if_fits (position (is_too_wide w) items)) ≡ Err x → ItemsFault w items x
+many_at w true items x is e = inl (sym (same_err _ x e), is_over _ _ is)
+many_at w false items x is e = let f = wide_at w items _ x refl e in inr (f.0, f.1, not_over _ _ is, f.2)
+
+items_why : (w : ℕ) (items : List ℕ) (x : ScriptFault) → items_in w items ≡ Err x → ItemsFault w items x
+unfolding items_in
+items_why w items x e = many_at w (nat_lt ITEM_LIMIT (length items)) items x refl e
+
+many_told : (w : ℕ) (items : List ℕ) → ITEM_LIMIT < length items → items_in w items ≡ Err fault.TooManyItems
+unfolding items_in
+many_told w items h = rw (over ITEM_LIMIT (length items) h)
+
+wide_told : (w : ℕ) (items : List ℕ) (p : ℕ) → length items ≤ ITEM_LIMIT → IsFirstStray (Fit w) items p → items_in w items ≡ Err (fault.ItemTooWide p)
+unfolding items_in
+wide_told w items p few first = rw (under ITEM_LIMIT (length items) few) (ap if_fits (first_position (Fit w) (is_too_wide w) (fit_tested w) items p first))
+
+-- ---- the schedule
+
+stands_is : (o : Option ℕ) (all letters : List Side) → if_stands o all ≡ Ok letters → (o ≡ None) × (if_stands None all ≡ Ok letters)
+stands_is (Some i) all letters e = cc
+stands_is None all letters e = (refl, e)
+
+short_at : (most : ℕ) (t : Bool) (all letters : List Side) (x : ScriptFault) → nat_lt most (length all) ≡ t → (if t then Err x else Ok all) ≡ Ok letters → (letters ≡ all) × (length all ≤ most)
+short_at most true all letters x is e = cc
+short_at most false all letters x is e = (sym (ok_is _ _ e), not_over _ _ is)
+
+short_moved : (most : ℕ) (a b : List Side) → a ≡ b → length b ≤ most → length a ≤ most
+short_moved most a b e h = omega (arith, ap length e)
+
+schedule_from : (text : List ℕ) (letters : List Side) → schedule_of text ≡ Ok letters → IsSchedule text letters × (length letters ≤ LETTER_LIMIT)
+unfolding schedule_of
+schedule_from text letters e =
+    let stood = stands_is (stray_in text) (letters_of text) _ e in
+    let spelt = short_at LETTER_LIMIT (nat_lt LETTER_LIMIT (length (letters_of text))) (letters_of text) _ _ refl stood.1 in
+    (subst (IsSchedule text) (sym spelt.0) (clean_schedule text stood.0), short_moved _ _ _ spelt.0 spelt.1)
+
+schedule_to : (text : List ℕ) (letters : List Side) → IsSchedule text letters → length letters ≤ LETTER_LIMIT → schedule_of text ≡ Ok letters
+unfolding schedule_of
+schedule_to text letters s short =
+    let spells = schedule_spells text letters s in
+    rw (schedule_clean text letters s) (rw (under LETTER_LIMIT (length (letters_of text)) (short_moved _ _ _ (sym spells) short)) (ap Ok (sym spells)))
+
+abbrev ScheduleFault : List ℕ → ScriptFault → Type 0
+ScheduleFault text x =
+    ((p : ℕ) × (x ≡ fault.BadSchedule p) × IsFirstStray IsScheduleText text p)
+    ⊎ ((letters : List Side) × (x ≡ fault.ScheduleTooLong) × IsSchedule text letters × (LETTER_LIMIT < length letters))
+
+long_at : (text : List ℕ) (t : Bool) (x : ScriptFault) → stray_in text ≡ None → nat_lt LETTER_LIMIT (length (letters_of text)) ≡ t
+    → (if t then Err fault.ScheduleTooLong else Ok (letters_of text)) ≡ Err x → ScheduleFault text x
+long_at text true x clean is e = inr (letters_of text, sym (same_err _ x e), clean_schedule text clean, is_over _ _ is)
+long_at text false x clean is e = cc
+
+bad_at : (text : List ℕ) (o : Option ℕ) (x : ScriptFault) → stray_in text ≡ o → if_stands o (letters_of text) ≡ Err x → ScheduleFault text x
+bad_at text (Some p) x is e = inl (p, sym (same_err _ x e), stray_is text p is)
+bad_at text None x is e = long_at text (nat_lt LETTER_LIMIT (length (letters_of text))) x is refl e
+
+schedule_why : (text : List ℕ) (x : ScriptFault) → schedule_of text ≡ Err x → ScheduleFault text x
+unfolding schedule_of
+schedule_why text x e = bad_at text (stray_in text) x refl e
+
+bad_told : (text : List ℕ) (p : ℕ) → IsFirstStray IsScheduleText text p → schedule_of text ≡ Err (fault.BadSchedule p)
+unfolding schedule_of
+bad_told text p first = ap (λ o. if_stands o (letters_of text)) (stray_found text p first)
+
+long_told : (text : List ℕ) (letters : List Side) → IsSchedule text letters → LETTER_LIMIT < length letters → schedule_of text ≡ Err fault.ScheduleTooLong
+unfolding schedule_of
+long_told text letters s long =
+    let spells = schedule_spells text letters s in
+    rw (schedule_clean text letters s) (rw (over LETTER_LIMIT (length (letters_of text)) (omega (arith, long, ap length spells))))
+
+-- ---- the oracle
+
+answers_at : (text : List ℕ) (o : Option ℕ) (bits : List Bool) → position is_no_answer text ≡ o → if_answers o text ≡ Ok bits → IsOracle text bits
+answers_at text (Some p) bits is e = cc
+answers_at text None bits is e = answers_from text (position_none is_no_answer text is) ∙ ap (map _) (ok_is _ _ e)
+
+oracle_from : (text : List ℕ) (bits : List Bool) → oracle_of text ≡ Ok bits → IsOracle text bits
+unfolding oracle_of
+oracle_from text bits e = answers_at text (position is_no_answer text) bits refl e
+
+oracle_to : (text : List ℕ) (bits : List Bool) → IsOracle text bits → oracle_of text ≡ Ok bits
+unfolding oracle_of
+oracle_to text bits o =
+    ap (λ p. if_answers p text) (none_position is_no_answer text (oracle_clean text bits o)) ∙ ap Ok (sym (oracle_answers text bits o))
+
+abbrev OracleFault : List ℕ → ScriptFault → Type 0
+OracleFault text x = (p : ℕ) × (x ≡ fault.BadOracle p) × IsFirstStray IsOracleText text p
+
+wrong_at : (text : List ℕ) (o : Option ℕ) (x : ScriptFault) → position is_no_answer text ≡ o → if_answers o text ≡ Err x → OracleFault text x
+wrong_at text (Some p) x is e = (p, sym (same_err _ x e), position_first IsOracleText is_no_answer oracle_tested text p is)
+wrong_at text None x is e = cc
+
+oracle_why : (text : List ℕ) (x : ScriptFault) → oracle_of text ≡ Err x → OracleFault text x
+unfolding oracle_of
+oracle_why text x e = wrong_at text (position is_no_answer text) x refl e
+
+oracle_told : (text : List ℕ) (p : ℕ) → IsFirstStray IsOracleText text p → oracle_of text ≡ Err (fault.BadOracle p)
+unfolding oracle_of
+oracle_told text p first = ap (λ o. if_answers o text) (first_position IsOracleText is_no_answer oracle_tested text p first)
+
+-- ---- what the fields hold
+
+-- what is read where nothing is wrong
+record IsGiven (bytes : List ℕ) (ts : Held) (g : Given) : Type 0 where
+  pub letters : List Side
+  pub oracle : List Bool
+  pub lettered : HoldsLetters bytes ts letters
+  pub answers : IsOracle ts.oracle oracle
+  pub is : g ≡ record { capacity = ts.capacity; modulus = ts.modulus; width = ts.width; batch = ts.batch; items = ts.items; takes = ts.takes; closes = ts.close; letters = letters; oracle = oracle }
+
+given_from : (bytes : List ℕ) (ts : Held) (g : Given) → Holds bytes ts → given_of ts ≡ Ok g → IsGiven bytes ts g
+unfolding given_of
+given_from bytes ts g h e =
+    let p1 = and_then_ok (shape_in ts.capacity ts.modulus ts.width ts.batch) _ g e in
+    let p2 = and_then_ok (items_in ts.width ts.items) _ g p1.2 in
+    let p3 = and_then_ok (schedule_of ts.schedule) _ g p2.2 in
+    let p4 = and_then_ok (oracle_of ts.oracle) _ g p3.2 in
+    let made = shape_made ts.capacity ts.modulus ts.width ts.batch p1.1 in
+    let fits = items_from ts.width ts.items p2.1 in
+    let spelt = schedule_from ts.schedule p3.0 p3.1 in
+    record {
+      letters = p3.0;
+      oracle = p4.0;
+      lettered = record {
+        stored = record { shaped = record { fields = h; shape = made.0; numbers = made.1 }; few = fits.0; fit = fits.1 };
+        schedule = spelt.0;
+        short = spelt.1;
+      };
+      answers = oracle_from ts.oracle p4.0 p4.1;
+      is = sym (ok_is _ g p4.2);
+    }
+
+shaped_to : (bytes : List ℕ) (ts : Held) → HoldsShape bytes ts → shape_in ts.capacity ts.modulus ts.width ts.batch ≡ Ok tt
+shaped_to bytes ts h = shape_accepted ts.capacity ts.modulus ts.width ts.batch h.shape h.numbers
+
+given_why : (bytes : List ℕ) (ts : Held) (x : ScriptFault) → Holds bytes ts → given_of ts ≡ Err x → IsScriptFault bytes x
+unfolding given_of
+given_why bytes ts x h e =
+    elim (and_then_err (shape_in ts.capacity ts.modulus ts.width ts.batch) _ x e) [
+      | inl n ↦
+          let w = shape_why ts.capacity ts.modulus ts.width ts.batch x n in subst (IsScriptFault bytes) (sym w.1) (ts, h, w.2)
+      | inr r1 ↦
+          let made = shape_made ts.capacity ts.modulus ts.width ts.batch r1.1 in
+          let shaped : HoldsShape bytes ts = record { fields = h; shape = made.0; numbers = made.1 } in
+          elim (and_then_err (items_in ts.width ts.items) _ x r1.2) [
+            | inl n ↦
+                elim (items_why ts.width ts.items x n) [
+                  | inl many ↦ subst (IsScriptFault bytes) (sym many.0) (ts, shaped, many.1)
+                  | inr wide ↦ subst (IsScriptFault bytes) (sym wide.1) (ts, shaped, wide.2, wide.3)
+                ]
+            | inr r2 ↦
+                let fits = items_from ts.width ts.items r2.1 in
+                let stored : HoldsItems bytes ts = record { shaped = shaped; few = fits.0; fit = fits.1 } in
+                elim (and_then_err (schedule_of ts.schedule) _ x r2.2) [
+                  | inl n ↦
+                      elim (schedule_why ts.schedule x n) [
+                        | inl bad ↦ subst (IsScriptFault bytes) (sym bad.1) (ts, stored, bad.2)
+                        | inr long ↦ subst (IsScriptFault bytes) (sym long.1) (ts, long.0, stored, long.2, long.3)
+                      ]
+                  | inr r3 ↦
+                      let spelt = schedule_from ts.schedule r3.0 r3.1 in
+                      let lettered : HoldsLetters bytes ts r3.0 = record { stored = stored; schedule = spelt.0; short = spelt.1 } in
+                      elim (and_then_err (oracle_of ts.oracle) _ x r3.2) [
+                        | inl n ↦
+                            let w = oracle_why ts.oracle x n in subst (IsScriptFault bytes) (sym w.1) (ts, r3.0, lettered, w.2)
+                        | inr r4 ↦ absurd (ok_not_err _ x r4.2)
+                      ]
+                ]
+          ]
+    ]
+
+-- ---- the object
+
+kinds_of : (bytes : List ℕ) (ts : Held) (h : Holds bytes ts) → HasKinds h.members ts
+kinds_of bytes ts h = record { capacity = h.capacity; modulus = h.modulus; width = h.width; items = h.items; takes = h.takes; close = h.close; schedule = h.schedule; oracle = h.oracle; batch = h.batch }
+
+holds_from : (bytes : List ℕ) (ms : Members) (ts : Held) → IsObject bytes ms → HasKinds ms ts → Holds bytes ts
+holds_from bytes ms ts o k = record { members = ms; is_object = o; capacity = k.capacity; modulus = k.modulus; width = k.width; items = k.items; takes = k.takes; close = k.close; schedule = k.schedule; oracle = k.oracle; batch = k.batch }
+
+-- bytes that are an object of known names are read so far
+object_to : (bytes : List ℕ) (ms : Members) (r : Result Given ScriptFault) → IsObject bytes ms
+    → result_and_then (values_of (object ms)) (λ values. result_and_then (typed_of values) given_of) ≡ r → script_of bytes ≡ r
+unfolding script_of given_in
+object_to bytes ms r o e =
+    and_then_at (json_of bytes) (object ms) _ r (json_to bytes (object ms) o.json)
+    (and_then_at _ tt _ r (names_to ms o.known) e)
+
+-- and where its fields hold this, what they hold decides
+holds_to : (bytes : List ℕ) (ts : Held) (r : Result Given ScriptFault) → Holds bytes ts → given_of ts ≡ r → script_of bytes ≡ r
+holds_to bytes ts r h e =
+    let k = kinds_of bytes ts h in
+    let vs : FieldValues = record {
+      capacity = number (unsigned ts.capacity);
+      modulus = number (unsigned ts.modulus);
+      width = number (unsigned ts.width);
+      items = array (wholes ts.items);
+      takes = number (unsigned ts.takes);
+      close = boolean ts.close;
+      schedule = string ts.schedule;
+      oracle = string ts.oracle;
+      batch = held_as field.Batch h.members;
+    } in
+    let has : HasValues h.members vs = record { capacity = h.capacity; modulus = h.modulus; width = h.width; items = h.items; takes = h.takes; close = h.close; schedule = h.schedule; oracle = h.oracle; batch = refl } in
+    object_to bytes h.members r h.is_object
+    (and_then_at (values_of (object h.members)) vs _ r (values_to h.members vs has)
+    (and_then_at (typed_of vs) ts _ r (kinds_to h.members vs ts has k) e))
+
+-- what bytes that are read so far hold
+object_why : (bytes : List ℕ) (ms : Members) (x : ScriptFault) → IsObject bytes ms
+    → result_and_then (values_of (object ms)) (λ values. result_and_then (typed_of values) given_of) ≡ Err x → IsScriptFault bytes x
+object_why bytes ms x o e =
+    elim (and_then_err (values_of (object ms)) _ x e) [
+      | inl n ↦
+          let w = values_missing ms x n in subst (IsScriptFault bytes) (sym w.1) (ms, o, w.2)
+      | inr r1 ↦
+          let has = values_from ms r1.0 r1.1 in
+          elim (and_then_err (typed_of r1.0) _ x r1.2) [
+            | inl n ↦
+                let w = kinds_wrong ms r1.0 x has n in subst (IsScriptFault bytes) (sym w.1) (ms, o, all_there ms r1.0 has, w.2)
+            | inr r2 ↦ given_why bytes r2.0 x (holds_from bytes ms r2.0 o (kinds_from ms r1.0 r2.0 has r2.1)) r2.2
+          ]
+    ]
+
+object_from : (bytes : List ℕ) (ms : Members) (g : Given) → IsObject bytes ms
+    → result_and_then (values_of (object ms)) (λ values. result_and_then (typed_of values) given_of) ≡ Ok g → (ts : Held) × IsGiven bytes ts g
+object_from bytes ms g o e =
+    let p1 = and_then_ok (values_of (object ms)) _ g e in
+    let p2 = and_then_ok (typed_of p1.0) _ g p1.2 in
+    let has = values_from ms p1.0 p1.1 in
+    (p2.0, given_from bytes p2.0 g (holds_from bytes ms p2.0 o (kinds_from ms p1.0 p2.0 has p2.1)) p2.2)
+
+object_is : (bytes : List ℕ) (d : Data) (ms : Members) → json_of bytes ≡ Ok d → d ≡ object ms → HasKnownNames ms → IsObject bytes ms
+object_is bytes d ms e is known = record { json = subst (IsJson bytes) is (json_from bytes d e); known = known }
+
+-- ---- the whole
+
+-- bytes that are not read have this fault
+pub fault_from : (bytes : List ℕ) (x : ScriptFault) → script_of bytes ≡ Err x → IsScriptFault bytes x
+unfolding script_of given_in
+fault_from bytes x e =
+    elim (and_then_err (json_of bytes) _ x e) [
+      | inl n ↦ subst (IsScriptFault bytes) (sym (json_why bytes x n)) (no_json bytes x n)
+      | inr r1 ↦
+          elim (and_then_err (names_in (as_object r1.0)) _ x r1.2) [
+            | inl n ↦
+                elim (names_why r1.0 x n) [
+                  | inl other ↦ subst (IsScriptFault bytes) (sym other.0) (r1.0, json_from bytes r1.0 r1.1, other.1)
+                  | inr unknown ↦ subst (IsScriptFault bytes) (sym unknown.1) (unknown.0, subst (IsJson bytes) unknown.2 (json_from bytes r1.0 r1.1), unknown.3)
+                ]
+            | inr r2 ↦
+                let ns = names_from r1.0 r2.1 in
+                object_why bytes ns.0 x (object_is bytes r1.0 ns.0 r1.1 ns.1 ns.2)
+                (subst (λ (d : Data). result_and_then (values_of d) (λ values. result_and_then (typed_of values) given_of) ≡ Err x) ns.1 r2.2)
+          ]
+    ]
+
+given_at : (bytes : List ℕ) (g : Given) → script_of bytes ≡ Ok g → (ts : Held) × IsGiven bytes ts g
+unfolding script_of given_in
+given_at bytes g e =
+    let p1 = and_then_ok (json_of bytes) _ g e in
+    let p2 = and_then_ok (names_in (as_object p1.0)) _ g p1.2 in
+    let ns = names_from p1.0 p2.1 in
+    object_from bytes ns.0 g (object_is bytes p1.0 ns.0 p1.1 ns.1 ns.2)
+    (subst (λ (d : Data). result_and_then (values_of d) (λ values. result_and_then (typed_of values) given_of) ≡ Ok g) ns.1 p2.2)
+
+-- bytes that are read are a script
+script_at : (bytes : List ℕ) (ts : Held) (c : Content) → IsGiven bytes ts (given_by c) → IsScript bytes c
+script_at bytes ts c g = record {
+  held = ts;
+  lettered = subst (HoldsLetters bytes ts) (sym (ap (λ (r : Given). r.letters) g.is)) g.lettered;
+  shape = record {
+    capacity_is = ap (λ (r : Given). r.capacity) g.is;
+    modulus_is = ap (λ (r : Given). r.modulus) g.is;
+    width_is = ap (λ (r : Given). r.width) g.is;
+    batch_is = ap (λ (r : Given). r.batch) g.is;
+  };
+  items = ap (λ (r : Given). r.items) g.is;
+  takes = ap (λ (r : Given). r.takes) g.is;
+  closes = ap (λ (r : Given). r.closes) g.is;
+  oracle = g.answers ∙ ap (map answer_byte) (sym (ap (λ (r : Given). r.oracle) g.is));
+}
+
+pub script_from : (bytes : List ℕ) (c : Content) → script_of bytes ≡ Ok (given_by c) → IsScript bytes c
+script_from bytes c e = let g = given_at bytes (given_by c) e in script_at bytes g.0 c g.1
+
+pub script_to : (bytes : List ℕ) (c : Content) → IsScript bytes c → script_of bytes ≡ Ok (given_by c)
+unfolding given_of
+script_to bytes c s =
+    let ts = s.held in
+    let l = s.lettered in
+    holds_to bytes ts (Ok (given_by c)) l.stored.shaped.fields
+    (and_then_at _ tt _ _ (shaped_to bytes ts l.stored.shaped)
+    (and_then_at _ tt _ _ (items_to ts.width ts.items l.stored.few l.stored.fit)
+    (and_then_at _ c.letters _ _ (schedule_to ts.schedule c.letters l.schedule l.short)
+    (and_then_at _ c.oracle _ _ (oracle_to ts.oracle c.oracle s.oracle)
+    (ap Ok (same_given _ _ (sym s.shape.capacity_is) (sym s.shape.modulus_is) (sym s.shape.width_is) (sym s.shape.batch_is) (sym s.items) (sym s.takes) (sym s.closes) refl refl))))))
+  where
+    same_given : (a b : Given) → a.capacity ≡ b.capacity → a.modulus ≡ b.modulus → a.width ≡ b.width → a.batch ≡ b.batch → a.items ≡ b.items → a.takes ≡ b.takes
+        → a.closes ≡ b.closes → a.letters ≡ b.letters → a.oracle ≡ b.oracle → a ≡ b
+    same_given a b c m w g is ts cl ls os = λ i. record { capacity = c i; modulus = m i; width = w i; batch = g i; items = is i; takes = ts i; closes = cl i; letters = ls i; oracle = os i }
+
+-- a fault is told
+pub fault_told : (bytes : List ℕ) (x : ScriptFault) → IsScriptFault bytes x → script_of bytes ≡ Err x
+unfolding script_of given_in given_of
+fault_told bytes fault.NotJson f = and_then_fails (json_of bytes) _ _ (json_told bytes f)
+fault_told bytes fault.NotObject f = and_then_at (json_of bytes) f.0 _ _ (json_to bytes f.0 f.1) (and_then_fails _ _ _ (no_object f.0 f.2))
+fault_told bytes fault.UnknownField f = and_then_at (json_of bytes) (object f.0) _ _ (json_to bytes (object f.0) f.1) (and_then_fails _ _ _ (unknown_told f.0 f.2))
+fault_told bytes (fault.MissingField g) f = object_to bytes f.0 _ f.1 (and_then_fails _ _ _ (missing_told f.0 g f.2))
+fault_told bytes (fault.WrongKind g) f =
+    let vs = values_there f.0 f.2 in
+    object_to bytes f.0 _ f.1 (and_then_at _ vs.0 _ _ (values_to f.0 vs.0 vs.1) (and_then_fails _ _ _ (wrong_told f.0 vs.0 g vs.1 f.3)))
+fault_told bytes (fault.Shape r) f =
+    let ts : Held = f.0 in
+    holds_to bytes ts _ f.1 (and_then_fails _ _ _ (shape_refused ts.capacity ts.modulus ts.width ts.batch r f.2))
+fault_told bytes fault.TooManyItems f =
+    let ts : Held = f.0 in
+    holds_to bytes ts _ f.1.fields (and_then_at _ tt _ _ (shaped_to bytes ts f.1) (and_then_fails _ _ _ (many_told ts.width ts.items f.2)))
+fault_told bytes (fault.ItemTooWide p) f =
+    let ts : Held = f.0 in
+    holds_to bytes ts _ f.1.fields (and_then_at _ tt _ _ (shaped_to bytes ts f.1) (and_then_fails _ _ _ (wide_told ts.width ts.items p f.2 f.3)))
+fault_told bytes (fault.BadSchedule p) f =
+    let ts : Held = f.0 in
+    holds_to bytes ts _ f.1.shaped.fields (and_then_at _ tt _ _ (shaped_to bytes ts f.1.shaped)
+    (and_then_at _ tt _ _ (items_to ts.width ts.items f.1.few f.1.fit) (and_then_fails _ _ _ (bad_told ts.schedule p f.2))))
+fault_told bytes fault.ScheduleTooLong f =
+    let ts : Held = f.0 in
+    holds_to bytes ts _ f.2.shaped.fields (and_then_at _ tt _ _ (shaped_to bytes ts f.2.shaped)
+    (and_then_at _ tt _ _ (items_to ts.width ts.items f.2.few f.2.fit) (and_then_fails _ _ _ (long_told ts.schedule f.1 f.3 f.4))))
+fault_told bytes (fault.BadOracle p) f =
+    let ts : Held = f.0 in
+    let l : HoldsLetters bytes ts f.1 = f.2 in
+    holds_to bytes ts _ l.stored.shaped.fields (and_then_at _ tt _ _ (shaped_to bytes ts l.stored.shaped)
+    (and_then_at _ tt _ _ (items_to ts.width ts.items l.stored.few l.stored.fit)
+    (and_then_at _ f.1 _ _ (schedule_to ts.schedule f.1 l.schedule l.short) (and_then_fails _ _ _ (oracle_told ts.oracle p f.3)))))
+fault_told bytes fault.OutOfMemory f = absurd f
+
+-- ---- the laws
+
+-- bytes are a script or have a fault
+abbrev pub Either : List ℕ → Type 0
+Either bytes = ((c : Content) × IsScript bytes c) ⊎ ((x : ScriptFault) × IsScriptFault bytes x)
+
+content_of : (bytes : List ℕ) (ts : Held) (g : Given) → IsGiven bytes ts g → (c : Content) × IsScript bytes c
+content_of bytes ts g h = (
+  record { shape = h.lettered.stored.shaped.shape; items = ts.items; takes = ts.takes; closes = ts.close; letters = h.letters; oracle = h.oracle },
+  record { held = ts; lettered = h.lettered; shape = h.lettered.stored.shaped.numbers; items = refl; takes = refl; closes = refl; oracle = h.answers },
+)
+
+either_at : (bytes : List ℕ) (r : Result Given ScriptFault) → script_of bytes ≡ r → Either bytes
+either_at bytes (Ok g) e = let h = given_at bytes g e in inl (content_of bytes h.0 g h.1)
+either_at bytes (Err x) e = inr (x, fault_from bytes x e)
+
+pub script_or_fault : (bytes : List ℕ) → ((c : Content) × IsScript bytes c) ⊎ ((x : ScriptFault) × IsScriptFault bytes x)
+script_or_fault bytes = either_at bytes (script_of bytes) refl
+
+pub faulty_is_no_script : (bytes : List ℕ) (x : ScriptFault) (c : Content) → IsScriptFault bytes x → ¬ IsScript bytes c
+faulty_is_no_script bytes x c f s = ok_not_err (given_by c) x (sym (script_to bytes c s) ∙ fault_told bytes x f)
+
+pub one_fault : (bytes : List ℕ) (x y : ScriptFault) → IsScriptFault bytes x → IsScriptFault bytes y → x ≡ y
+one_fault bytes x y f g = same_err x y (sym (fault_told bytes x f) ∙ fault_told bytes y g)
+
+same_content : (a b : Content) → given_by a ≡ given_by b → a ≡ b
+same_content a b e =
+    let shapes : a.shape ≡ b.shape = same_shape a.shape b.shape (ap (λ (r : Given). r.capacity) e) (ap (λ (r : Given). r.modulus) e) (ap (λ (r : Given). r.width) e) (ap (λ (r : Given). r.batch) e) in
+    λ i. record { shape = shapes i; items = (e i).items; takes = (e i).takes; closes = (e i).closes; letters = (e i).letters; oracle = (e i).oracle }
+
+pub one_reading : (bytes : List ℕ) (a b : Content) → IsScript bytes a → IsScript bytes b → a ≡ b
+one_reading bytes a b s t = same_content a b (ok_is (given_by a) (given_by b) (sym (script_to bytes a s) ∙ script_to bytes b t))
+
+pub one_spelling : (text : List ℕ) (a b : List Side) → IsSchedule text a → IsSchedule text b → a ≡ b
+one_spelling text a b s t = schedule_spells text a s ∙ sym (schedule_spells text b t)
+
+-- ---- a call that tells them
+
+pub read_is_script : {A : Type 0} (bytes : List ℕ) (content : A → Content) (r : Result A ScriptFault)
+    → IfOk r (λ s. script_of bytes ≡ Ok (given_by (content s))) → IfOk r (λ s. IsScript bytes (content s))
+read_is_script bytes content (Ok s) e = script_from bytes (content s) e
+read_is_script bytes content (Err x) e = tt
+
+pub refused_is_fault : {A : Type 0} (bytes : List ℕ) (r : Result A ScriptFault)
+    → IfErr r (λ x. (x ≡ fault.OutOfMemory) ⊎ (script_of bytes ≡ Err x)) → IfErr r (λ x. (x ≡ fault.OutOfMemory) ⊎ IsScriptFault bytes x)
+refused_is_fault bytes (Ok s) e = tt
+refused_is_fault bytes (Err x) (inl short) = inl short
+refused_is_fault bytes (Err x) (inr told) = inr (fault_from bytes x told)
+
+pub reads_each_script : {A : Type 0} (bytes : List ℕ) (content : A → Content) (r : Result A ScriptFault)
+    → IfOk r (λ s. script_of bytes ≡ Ok (given_by (content s))) → IfErr r (λ x. (x ≡ fault.OutOfMemory) ⊎ (script_of bytes ≡ Err x))
+    → (c : Content) → IsScript bytes c → MatchResult r (λ s. content s ≡ c) (λ x. x ≡ fault.OutOfMemory)
+reads_each_script bytes content (Ok s) read refused c is = same_content (content s) c (ok_is _ _ (sym read ∙ script_to bytes c is))
+reads_each_script bytes content (Err x) read (inl short) c is = short
+reads_each_script bytes content (Err x) read (inr told) c is = absurd (ok_not_err (given_by c) x (sym (script_to bytes c is) ∙ told))
+
+-- ---- the bounds of a script
+
+pub is_kept : (shape : Shape) (items : List ℕ) (count : ℕ) (letters : List Side) → items_in (width_of shape) items ≡ Ok tt → count ≡ length letters → length letters ≤ LETTER_LIMIT
+    → IsKept shape items count letters
+is_kept shape items count letters e counted short =
+    let kept = items_from (width_of shape) items e in
+    record { counted = counted; short = omega (arith, counted, short); few = kept.0; fit = kept.1 }

@@ -1,0 +1,13 @@
+use Rattle.std.proofs.Common.{◌≡◌, ◌≤◌, ◌+◌, ◌++◌, drop, length}
+use Rattle.ring_script.specs.ScheduleReading.{letters_after, letters_of}
+use Rattle.ring_script.specs.Schedule.{spelled}
+use Rattle.ring_script.specs.declared.schedules.TheConstants.{LETTER_LIMIT}
+use Rattle.ring_script.proofs.schedules.runs.Given as goal
+
+-- the runs so far and what is left make the letters
+abbrev pub invariant-loop-b : goal.invariant-loop-b
+invariant-loop-b g l = record {
+  letters : spelled l.runs.items ++ letters_after l.last l.count (drop l.b-index l.rest) ≡ letters_of l.text;
+  total : l.total ≡ length (spelled l.runs.items);
+  within : l.total + l.count ≤ LETTER_LIMIT;
+}

@@ -1,0 +1,95 @@
+-- Why bytes are no script: each fault by what it means of the bytes, in the order in which they are told.
+use Rattle.std.specs.Prelude.{◌≡◌, ◌≢◌, ◌≤◌, ◌<◌, ℕ, suc, Bool, true, false, List, length, take, Some, None}
+use Rattle.serde_json.specs.Data.{Data, Members, object}
+use Rattle.bits_core.specs.Shape.{IsRefusedBatch}
+use Rattle.bits_core.specs.declared.events.Side.{Side}
+use Rattle.ring_script.specs.Schedule.{IsSchedule, IsScheduleText}
+use Rattle.ring_script.specs.Fields.{HasKnownNames, IsJson, IsObject, IsOfKind, held_as}
+use Rattle.ring_script.specs.Script.{Fit, Held, Holds, HoldsItems, HoldsLetters, HoldsShape, IsOracleText}
+use Rattle.ring_script.specs.declared.faults.Field.{Field}
+use Rattle.ring_script.specs.declared.faults.Field.TheVariants.{Capacity, Modulus, Width, Items, Takes, Close, Schedule, Oracle, Batch}
+use Rattle.ring_script.specs.declared.faults.ScriptFault.{ScriptFault}
+use Rattle.ring_script.specs.declared.faults.ScriptFault.TheVariants as fault
+use Rattle.ring_script.specs.declared.schedules.TheConstants.{LETTER_LIMIT}
+use Rattle.ring_script.specs.declared.scripts.TheConstants.{ITEM_LIMIT}
+
+-- ---- which fault comes first
+
+-- the place of each field in their order
+abbrev pub field_place : Field → ℕ
+field_place Capacity = 0
+field_place Modulus = 1
+field_place Width = 2
+field_place Items = 3
+field_place Takes = 4
+field_place Close = 5
+field_place Schedule = 6
+field_place Oracle = 7
+field_place Batch = 8
+
+-- whether the field has to stand
+abbrev pub is_needed : Field → Bool
+is_needed Capacity = true
+is_needed Modulus = true
+is_needed Width = true
+is_needed Items = true
+is_needed Takes = true
+is_needed Close = true
+is_needed Schedule = true
+is_needed Oracle = true
+is_needed Batch = false
+
+-- the field has to stand, and the members lack it
+abbrev pub IsMissing : Members → Field → Type 0
+IsMissing members field = (is_needed field ≡ true) × (held_as field members ≡ None)
+
+-- the members have the field with a value of another kind
+abbrev pub IsOfWrongKind : Members → Field → Type 0
+IsOfWrongKind members field = (value : Data) × (held_as field members ≡ Some value) × ¬ IsOfKind field value
+
+-- the first field that is so
+pub record IsFirst (IsSo : Field → Type 0) (field : Field) : Type 0 where
+  pub so : IsSo field
+  pub least : (other : Field) → field_place other < field_place field → ¬ IsSo other
+
+-- the byte at the place is the first that cannot stand where it does: before it the text is of the form, and with it no longer
+pub record IsFirstStray (IsOfForm : List ℕ → Type 0) (text : List ℕ) (place : ℕ) : Type 0 where
+  pub within : place < length text
+  pub before : IsOfForm (take place text)
+  pub no_more : ¬ IsOfForm (take (suc place) text)
+
+-- ---- faults
+
+-- the first fault of the bytes; there is none for want of memory
+abbrev pub IsScriptFault : List ℕ → ScriptFault → Type 0
+IsScriptFault bytes fault.NotJson = (value : Data) → ¬ IsJson bytes value
+IsScriptFault bytes fault.NotObject = (value : Data) × IsJson bytes value × ((members : Members) → value ≢ object members)
+IsScriptFault bytes fault.UnknownField = (members : Members) × IsJson bytes (object members) × ¬ HasKnownNames members
+IsScriptFault bytes (fault.MissingField field) = (members : Members) × IsObject bytes members × IsFirst (IsMissing members) field
+IsScriptFault bytes (fault.WrongKind field) =
+    (members : Members) × IsObject bytes members × ((other : Field) → ¬ IsMissing members other) × IsFirst (IsOfWrongKind members) field
+IsScriptFault bytes (fault.Shape refusal) = (held : Held) × Holds bytes held × IsRefusedBatch held.capacity held.modulus held.width held.batch refusal
+IsScriptFault bytes fault.TooManyItems = (held : Held) × HoldsShape bytes held × (ITEM_LIMIT < length held.items)
+IsScriptFault bytes (fault.ItemTooWide place) =
+    (held : Held) × HoldsShape bytes held × (length held.items ≤ ITEM_LIMIT) × IsFirstStray (Fit held.width) held.items place
+IsScriptFault bytes (fault.BadSchedule place) = (held : Held) × HoldsItems bytes held × IsFirstStray IsScheduleText held.schedule place
+IsScriptFault bytes fault.ScheduleTooLong =
+    (held : Held) × (letters : List Side) × HoldsItems bytes held × IsSchedule held.schedule letters × (LETTER_LIMIT < length letters)
+IsScriptFault bytes (fault.BadOracle place) =
+    (held : Held) × (letters : List Side) × HoldsLetters bytes held letters × IsFirstStray IsOracleText held.oracle place
+IsScriptFault bytes fault.OutOfMemory = ⊥
+
+-- the number of each fault
+abbrev pub script_fault_number : ScriptFault → ℕ
+script_fault_number fault.NotJson = 1
+script_fault_number fault.NotObject = 2
+script_fault_number fault.UnknownField = 3
+script_fault_number (fault.MissingField field) = 4
+script_fault_number (fault.WrongKind field) = 5
+script_fault_number (fault.Shape refusal) = 6
+script_fault_number fault.TooManyItems = 7
+script_fault_number (fault.ItemTooWide place) = 8
+script_fault_number (fault.BadSchedule place) = 9
+script_fault_number fault.ScheduleTooLong = 10
+script_fault_number (fault.BadOracle place) = 11
+script_fault_number fault.OutOfMemory = 12

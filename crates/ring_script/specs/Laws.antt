@@ -1,0 +1,31 @@
+-- The public laws of scripts.
+use Rattle.std.specs.Prelude.{◌≡◌, ◌⊎◌, ◌<◌, ◌^◌, ℕ, List, decimal}
+use Rattle.bits_core.specs.declared.events.Side.{Side}
+use Rattle.ring_script.specs.Schedule.{IsCount, IsSchedule, count_of}
+use Rattle.ring_script.specs.Script.{Content, IsScript}
+use Rattle.ring_script.specs.Faults.{IsScriptFault}
+use Rattle.ring_script.specs.declared.faults.ScriptFault.{ScriptFault}
+
+-- bytes are a script, or have a fault
+abbrev pub ScriptOrFault : Type 0
+ScriptOrFault = (bytes : List ℕ) → ((content : Content) × IsScript bytes content) ⊎ ((fault : ScriptFault) × IsScriptFault bytes fault)
+
+-- and not both
+abbrev pub FaultyIsNoScript : Type 0
+FaultyIsNoScript = (bytes : List ℕ) (fault : ScriptFault) (content : Content) → IsScriptFault bytes fault → ¬ IsScript bytes content
+
+-- bytes have one fault
+abbrev pub OneFault : Type 0
+OneFault = (bytes : List ℕ) (f g : ScriptFault) → IsScriptFault bytes f → IsScriptFault bytes g → f ≡ g
+
+-- bytes hold one content
+abbrev pub OneReading : Type 0
+OneReading = (bytes : List ℕ) (a b : Content) → IsScript bytes a → IsScript bytes b → a ≡ b
+
+-- a schedule's text stands for one list of letters
+abbrev pub OneSpelling : Type 0
+OneSpelling = (text : List ℕ) (a b : List Side) → IsSchedule text a → IsSchedule text b → a ≡ b
+
+-- what `{}` writes of a number from 1 is a count of so many letters
+abbrev pub DecimalIsCount : Type 0
+DecimalIsCount = (n : ℕ) → 0 < n → n < 2 ^ 64 → IsCount (decimal n) × (count_of (decimal n) ≡ n)

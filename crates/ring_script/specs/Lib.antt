@@ -1,0 +1,10 @@
+pub mod Schedule
+pub mod Fields
+pub mod Script
+pub mod Faults
+pub mod Laws
+pub mod Results
+pub mod FieldReading
+pub mod ScheduleReading
+pub mod ScriptReading
+pub mod Views

@@ -1,0 +1,51 @@
+-- The text of a schedule: a row of parts, each a letter with a count or without.
+use Rattle.std.specs.Prelude.{◌≡◌, ℕ, ◌<◌, ◌≤◌, List, [], ◌∷◌, ◌++◌, replicate, ⊤}
+use Rattle.std.specs.List.{flat_map}
+use Rattle.std.specs.Str.Parse.{AllDigits, digits_value}
+use Rattle.bits_core.specs.declared.events.Side.{Side}
+use Rattle.bits_core.specs.declared.events.Side.TheVariants.{P, C}
+use Rattle.ring_script.specs.declared.schedules.Run.{Run}
+
+-- the letter of each side: P and C
+abbrev pub letter_of : Side → ℕ
+letter_of P = 80
+letter_of C = 67
+
+-- no count, or one: a digit 1 to 9 and any further digits
+abbrev pub IsCount : List ℕ → Type 0
+IsCount [] = ⊤
+IsCount (first ∷ more) = (48 < first) × (first ≤ 57) × AllDigits 10 more
+
+-- how many letters a count stands for; none stands for one
+abbrev pub count_of : List ℕ → ℕ
+count_of [] = 1
+count_of (first ∷ more) = digits_value 10 (first ∷ more)
+
+-- a letter, with a count behind it or with none
+pub record Part : Type 0 where
+  pub side : Side
+  pub count : List ℕ
+  pub proper : IsCount count
+
+-- how a part is written
+abbrev pub part_text : Part → List ℕ
+part_text part = letter_of part.side ∷ part.count
+
+-- the letters that a part stands for
+abbrev pub part_letters : Part → List Side
+part_letters part = replicate (count_of part.count) part.side
+
+-- the text is that of parts, which stand for these letters
+pub record IsSchedule (text : List ℕ) (letters : List Side) : Type 0 where
+  pub parts : List Part
+  pub written : text ≡ flat_map part_text parts
+  pub spelled : letters ≡ flat_map part_letters parts
+
+-- the text is that of a schedule
+abbrev pub IsScheduleText : List ℕ → Type 0
+IsScheduleText text = (letters : List Side) × IsSchedule text letters
+
+-- the letters that runs stand for
+unfoldable pub spelled : List Run → List Side
+spelled [] = []
+spelled (run ∷ runs) = replicate run.count run.side ++ spelled runs

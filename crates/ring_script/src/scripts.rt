@@ -1,0 +1,290 @@
+//! Scripts, and how they are read.
+ghost use Rattle.std.specs.Prelude.{◌≡◌, ◌⊎◌, ◌≤◌, ◌==◌, Ok, Err, IfOk, IfErr, MatchResult, length, map, position, slice_get};
+ghost use Rattle.serde_json.specs.View.{view};
+ghost use Rattle.bits_core.specs.Shape.{HasBatch, width_of};
+ghost use Rattle.ring_script.specs.Schedule.{spelled};
+ghost use Rattle.ring_script.specs.Script.{Content, Fit, IsScript};
+ghost use Rattle.ring_script.specs.ScriptReading.{given_by, given_in, given_of, is_no_answer, is_too_wide, items_in, json_of, oracle_of, schedule_of, script_of, shape_in};
+ghost use Rattle.ring_script.specs.Faults.{IsScriptFault};
+ghost use Rattle.ring_script.specs.Views.{IsKept, typed_view};
+
+use crate::faults::ScriptFault;
+use crate::fields::{Typed, check_kinds, check_names, find_values};
+use crate::schedules::{LETTER_LIMIT, Run, first_stray, letter_at, letter_count, runs};
+use bits_core::{Shape, Side};
+use serde_json::Value;
+use std::alloc::{Allocator, Global};
+use std::marker::Model;
+
+/// The most items that a script may have.
+pub const ITEM_LIMIT: usize = 1_000;
+
+/// An interleaving of the two sides of a ring, to be played.
+#[derive(Drop)]
+pub struct Script<A: Allocator> {
+    shape: Shape,
+    items: Vec<u64, A>,
+    takes: u64,
+    closes: bool,
+    runs: Vec<Run, A>,
+    letters: u64,
+    oracle: Vec<bool, A>,
+}
+
+impl<A: Allocator> Model for Script<A> {
+    ghost Value = { Content };
+
+    ghost view = { λ s. record { shape = s.shape; items = s.items.items; takes = s.takes; closes = s.closes; letters = spelled s.runs.items; oracle = s.oracle.items } };
+
+    ghost invariant = { λ s. IsKept s.shape s.items.items s.letters (spelled s.runs.items) };
+}
+
+impl<A: Allocator> Script<A> {
+    /// The shape of the ring.
+    pub fn shape(&self) -> Shape
+        ensures { result ≡ self.now.shape }
+    {
+        self.shape
+    }
+
+    /// The items to put, in order: at most `ITEM_LIMIT`, and each fits the shape.
+    pub fn items(&self) -> &[u64]
+        ensures value { result.now ≡ self.now.items }
+        ensures few { length result.now ≤ ITEM_LIMIT }
+        ensures fit { Fit (width_of self.now.shape) result.now }
+    {
+        &self.items
+    }
+
+    /// How many items the consumer wants. It may be any number.
+    pub fn takes(&self) -> u64
+        ensures { result ≡ self.now.takes }
+    {
+        self.takes
+    }
+
+    /// Whether the producer closes after the last item.
+    pub fn closes(&self) -> bool
+        ensures { result ≡ self.now.closes }
+    {
+        self.closes
+    }
+
+    /// How many letters the schedule stands for, at most `LETTER_LIMIT`. It may be 0.
+    pub fn len(&self) -> u64
+        ensures value { result ≡ length self.now.letters }
+        ensures short { result ≤ LETTER_LIMIT }
+    {
+        self.letters
+    }
+
+    /// The side that the schedule's letter at a place, counted from 0, names; `None` past the last
+    /// letter.
+    pub fn letter(&self, place: u64) -> Option<Side>
+        ensures { result ≡ slice_get self.now.letters place }
+    {
+        letter_at(&self.runs, place)
+    }
+
+    /// The schedule as runs of one letter each, in order: the letters that [`letter`](Self::letter) gives one by one.
+    pub fn runs(&self) -> &[Run]
+        ensures { spelled result.now ≡ self.now.letters }
+    {
+        &self.runs
+    }
+
+    /// The answers of overlapped reads, in order, true for `1`. There may be none.
+    pub fn oracle(&self) -> &[bool]
+        ensures { result.now ≡ self.now.oracle }
+    {
+        &self.oracle
+    }
+
+    /// Reads a script: one JSON object with the fields of `Field` and no other, in any order; `batch`
+    /// may be left out, and is then 1. Where a name stands twice, the last value counts.
+    ///
+    /// `capacity`, `modulus`, `width`, `takes` and `batch` are whole numbers below 2 to the power of 64, and
+    /// `items` is an array of such. `close` is true or false. `schedule` is a text of letters `P`
+    /// and `C`, each with a count or without; a count is a digit 1 to 9 and any further digits, and
+    /// a letter without a count stands for one. `oracle` is a text of `0` and `1`.
+    ///
+    /// The first fault is told in this order: the bytes are no JSON; they are no object; a field is
+    /// unknown; a field is missing, then of the wrong kind, each the first in the order of `Field`;
+    /// the four numbers are no shape; there are too many items; an item is too wide, the first; a
+    /// byte of the schedule is wrong, the first; the schedule is too long; a byte of the oracle is
+    /// wrong, the first. Want of memory is told where a growth was refused. What the script keeps is
+    /// from `alloc`; the JSON value, which is made of all the bytes and let go again, is from `json`.
+    pub fn read_in(alloc: A, json: Global, bytes: &[u8]) -> Result<Script<A>, ScriptFault>
+    where
+        A: Copy,
+        // What is read is the script that the bytes are.
+        ensures read { IfOk result (λ script. IsScript bytes.now script) }
+        // Each script is read, and as this content alone, unless memory ran out.
+        ensures only { (content : Content) → IsScript bytes.now content
+            → MatchResult result (λ script. script ≡ content) (λ e. e ≡ ScriptFault.OutOfMemory) }
+        // What is refused has the fault that is told, unless memory ran out.
+        ensures refused { IfErr result (λ e. (e ≡ ScriptFault.OutOfMemory) ⊎ IsScriptFault bytes.now e) }
+    {
+        read_bytes(alloc, json, bytes)
+    }
+}
+
+impl Script<Global> {
+    /// Reads a script, with one allocator for all: [`read_in`](Script::read_in) says what a script is
+    /// and which fault is told.
+    pub fn read(alloc: Global, bytes: &[u8]) -> Result<Script<Global>, ScriptFault>
+        ensures read { IfOk result (λ script. IsScript bytes.now script) }
+        ensures only { (content : Content) → IsScript bytes.now content
+            → MatchResult result (λ script. script ≡ content) (λ e. e ≡ ScriptFault.OutOfMemory) }
+        ensures refused { IfErr result (λ e. (e ≡ ScriptFault.OutOfMemory) ⊎ IsScriptFault bytes.now e) }
+    {
+        Script::read_in(alloc, alloc, bytes)
+    }
+}
+
+// The script that the bytes are, part by part.
+#[tactic(auto, unfolding(crate::specs::ScriptReading::script_of))]
+fn read_bytes<A: Allocator + Copy>(
+    alloc: A,
+    json: Global,
+    bytes: &[u8],
+) -> Result<Script<A>, ScriptFault>
+    ensures read { IfOk result (λ script. script_of bytes.now ≡ Ok (given_by script)) }
+    ensures refused { IfErr result (λ e. (e ≡ ScriptFault.OutOfMemory) ⊎ (script_of bytes.now ≡ Err e)) }
+{
+    let value = parse(json, bytes)?;
+    read_value(alloc, &value)
+}
+
+// The JSON value of the bytes.
+#[tactic(auto, unfolding(crate::specs::ScriptReading::json_of))]
+fn parse(alloc: Global, bytes: &[u8]) -> Result<Value, ScriptFault>
+    ensures read { IfOk result (λ value. json_of bytes.now ≡ Ok (view value)) }
+    ensures refused { IfErr result (λ e. (e ≡ ScriptFault.OutOfMemory) ⊎ (json_of bytes.now ≡ Err e)) }
+{
+    match Value::from_slice(alloc, bytes) {
+        Ok(value) => Ok(value),
+        Err(error) => {
+            if error.is_memory() {
+                Err(ScriptFault::OutOfMemory)
+            } else {
+                Err(ScriptFault::NotJson)
+            }
+        }
+    }
+}
+
+// The script that a JSON value is.
+#[tactic(auto, unfolding(crate::specs::ScriptReading::given_in))]
+fn read_value<A: Allocator + Copy>(alloc: A, value: &Value) -> Result<Script<A>, ScriptFault>
+    ensures read { IfOk result (λ script. given_in (view value.now) ≡ Ok (given_by script)) }
+    ensures refused { IfErr result (λ e. (e ≡ ScriptFault.OutOfMemory) ⊎ (given_in (view value.now) ≡ Err e)) }
+{
+    check_names(value)?;
+    let values = find_values(value)?;
+    let typed = check_kinds(alloc, &values)?;
+    read_typed(alloc, typed)
+}
+
+// The script whose fields hold this.
+#[tactic(auto, unfolding(crate::specs::ScriptReading::given_of))]
+fn read_typed<A: Allocator + Copy>(alloc: A, typed: Typed<'_, A>) -> Result<Script<A>, ScriptFault>
+    ensures read { IfOk result (λ script. given_of (typed_view typed.entry) ≡ Ok (given_by script)) }
+    ensures refused { IfErr result (λ e. (e ≡ ScriptFault.OutOfMemory) ⊎ (given_of (typed_view typed.entry) ≡ Err e)) }
+{
+    let shape = read_shape(typed.capacity, typed.modulus, typed.width, typed.batch)?;
+    check_items(&shape, &typed.items)?;
+    let runs = read_schedule(alloc, typed.schedule.as_bytes())?;
+    let oracle = read_oracle(alloc, typed.oracle.as_bytes())?;
+    let letters = letter_count(&runs);
+    Ok(Script {
+        shape,
+        items: typed.items,
+        takes: typed.takes,
+        closes: typed.close,
+        runs,
+        letters,
+        oracle,
+    })
+}
+
+// The shape of the four numbers.
+fn read_shape(capacity: u64, modulus: u64, width: u64, batch: u64) -> Result<Shape, ScriptFault>
+    ensures accepted { IfOk result (λ _. shape_in capacity modulus width batch ≡ Ok tt) }
+    ensures made { IfOk result (HasBatch capacity modulus width batch) }
+    ensures refused { IfErr result (λ e. shape_in capacity modulus width batch ≡ Err e) }
+{
+    match Shape::with_batch(capacity, modulus, width, batch) {
+        Ok(shape) => Ok(shape),
+        Err(fault) => Err(ScriptFault::Shape(fault)),
+    }
+}
+
+// Whether the shape's cells cannot hold the item.
+fn is_wide(shape: &Shape, item: u64) -> bool
+    ensures { result ≡ is_too_wide (width_of shape.now) item }
+{
+    !shape.fits(item)
+}
+
+// The place of the first item that is too wide.
+fn first_too_wide(shape: &Shape, items: &[u64]) -> Option<usize>
+    ensures { result ≡ position (is_too_wide (width_of shape.now)) items.now }
+{
+    items.iter().position(|item| is_wide(shape, *item))
+}
+
+// Whether there are few enough items, and each fits the shape.
+#[tactic(auto, unfolding(crate::specs::ScriptReading::items_in))]
+fn check_items(shape: &Shape, items: &[u64]) -> Result<(), ScriptFault>
+    ensures { result ≡ items_in (width_of shape.now) items.now }
+{
+    if items.len() > ITEM_LIMIT {
+        return Err(ScriptFault::TooManyItems);
+    }
+    match first_too_wide(shape, items) {
+        Some(place) => Err(ScriptFault::ItemTooWide(place as u64)),
+        None => Ok(()),
+    }
+}
+
+// The runs of the schedule's letters.
+#[tactic(auto, unfolding(crate::specs::ScriptReading::schedule_of))]
+fn read_schedule<A: Allocator + Copy>(alloc: A, text: &[u8]) -> Result<Vec<Run, A>, ScriptFault>
+    ensures read { IfOk result (λ runs. schedule_of text.now ≡ Ok (spelled runs.items)) }
+    ensures within { IfOk result (λ runs. length (spelled runs.items) ≤ LETTER_LIMIT) }
+    ensures refused { IfErr result (λ e. (e ≡ ScriptFault.OutOfMemory) ⊎ (schedule_of text.now ≡ Err e)) }
+{
+    match first_stray(text) {
+        Some(place) => Err(ScriptFault::BadSchedule(place as u64)),
+        None => runs(alloc, text),
+    }
+}
+
+// The place of the first byte that is no answer.
+fn first_no_answer(text: &[u8]) -> Option<usize>
+    ensures { result ≡ position is_no_answer text.now }
+{
+    text.iter().position(|b| !(*b == b'0' || *b == b'1'))
+}
+
+// The answers of a text of `0` and `1`.
+fn answers<A: Allocator + Copy>(alloc: A, text: &[u8]) -> Result<Vec<bool, A>, ScriptFault>
+    ensures read { IfOk result (λ v. v.items ≡ map (λ b. b == 49) text.now) }
+    ensures refused { IfErr result (λ e. e ≡ ScriptFault.OutOfMemory) }
+{
+    let answers = text.iter().map(|b| *b == b'1').collect(alloc)?;
+    Ok(answers)
+}
+
+// The oracle's answers.
+#[tactic(auto, unfolding(crate::specs::ScriptReading::oracle_of))]
+fn read_oracle<A: Allocator + Copy>(alloc: A, text: &[u8]) -> Result<Vec<bool, A>, ScriptFault>
+    ensures read { IfOk result (λ v. oracle_of text.now ≡ Ok v.items) }
+    ensures refused { IfErr result (λ e. (e ≡ ScriptFault.OutOfMemory) ⊎ (oracle_of text.now ≡ Err e)) }
+{
+    match first_no_answer(text) {
+        Some(place) => Err(ScriptFault::BadOracle(place as u64)),
+        None => answers(alloc, text),
+    }
+}

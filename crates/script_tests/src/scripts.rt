@@ -1,0 +1,512 @@
+use bits_core::{ShapeFault, Side};
+use ring_script::{Field, ITEM_LIMIT, LETTER_LIMIT, Script, ScriptFault};
+use std::alloc::{AllocGlobal, Global};
+use std::process::Abort;
+use std::test::Fail;
+
+// The fields of a plain script.
+const PLAIN: [(&str, &str); 8] = [
+    ("capacity", "1"),
+    ("modulus", "3"),
+    ("width", "1"),
+    ("items", "[1]"),
+    ("takes", "1"),
+    ("close", "false"),
+    ("schedule", "\"P8C10\""),
+    ("oracle", "\"\""),
+];
+
+// A plain script with its batch named, without some fields, and with further members behind it, each
+// with a comma before it. Since the last of two equal names counts, these change what is plain.
+fn script_with(alloc: Global, left_out: &[&str], members: &str) -> Result<String, Fail> {
+    let mut text = String::from_str(alloc, "{\"batch\":1")?;
+    for (name, value) in PLAIN.iter() {
+        if !left_out.iter().any(|other| *other == *name) {
+            text.push_str(",\"")?;
+            text.push_str(name)?;
+            text.push_str("\":")?;
+            text.push_str(value)?;
+        }
+    }
+    text.push_str(members)?;
+    text.push_str("}")?;
+    Ok(text)
+}
+
+// The bytes have this fault, or none.
+fn expect_fault(rt: &(impl Abort + AllocGlobal), bytes: &[u8], fault: Option<ScriptFault>) {
+    assert_eq!(rt; Script::read(rt.alloc(), bytes).err(), fault);
+}
+
+// A plain script with these members behind it has this fault, or none.
+fn expect_with(
+    rt: &(impl Abort + AllocGlobal),
+    members: &str,
+    fault: Option<ScriptFault>,
+) -> Result<(), Fail> {
+    let text = script_with(rt.alloc(), &[], members)?;
+    assert_eq!(rt;
+        Script::read(rt.alloc(), text.as_bytes()).err(),
+        fault,
+        "{members}"
+    );
+    Ok(())
+}
+
+// The same where the members are a text, so many of a part, and a text.
+fn expect_repeated(
+    rt: &(impl Abort + AllocGlobal),
+    members: (&str, &str, usize, &str),
+    fault: Option<ScriptFault>,
+) -> Result<(), Fail> {
+    let (before, part, times, after) = members;
+    let parts = part.repeat(rt.alloc(), times)?;
+    let whole = format!(in rt.alloc(); "{before}{parts}{after}")?;
+    expect_with(rt, whole.as_str(), fault)
+}
+
+fn expect_number(rt: &impl Abort, what: &str, made: u64, wanted: u64) {
+    assert_eq!(rt; made, wanted, "{what}");
+}
+
+// The shape has this capacity, modulus, width and batch.
+fn expect_shape(rt: &impl Abort, script: &Script<Global>, numbers: [u64; 4]) {
+    let shape = script.shape();
+    expect_number(rt, "capacity", shape.capacity(), numbers[0]);
+    expect_number(rt, "modulus", shape.modulus(), numbers[1]);
+    expect_number(rt, "width", shape.width(), numbers[2]);
+    expect_number(rt, "batch", shape.batch(), numbers[3]);
+}
+
+fn expect_lists(rt: &impl Abort, script: &Script<Global>, items: &[u64], oracle: &[bool]) {
+    assert!(rt; script.items() == items);
+    assert!(rt; script.oracle() == oracle);
+}
+
+// The letters of the schedule are those of a text of P and C, and there are no more.
+fn expect_letters(rt: &impl Abort, script: &Script<Global>, letters: &str) {
+    for (place, letter) in letters.as_bytes().iter().enumerate() {
+        let side = if *letter == b'P' { Side::P } else { Side::C };
+        assert_eq!(rt; script.letter(place as u64), Some(side), "at {place}");
+    }
+    let count = letters.len() as u64;
+    expect_number(rt, "letters", script.len(), count);
+    assert_eq!(rt; script.letter(count), None);
+    assert_eq!(rt; script.letter(u64::MAX), None);
+}
+
+#[test]
+fn reads_each_field(rt: HostRuntime) -> Result<(), Fail> {
+    let text = "{\"capacity\":4,\"modulus\":9,\"width\":3,\"items\":[7,0,5],\"takes\":2,\
+        \"close\":true,\"schedule\":\"CP2C3\",\"oracle\":\"011\"}";
+    let script = Script::read(rt.alloc(), text.as_bytes())?;
+    expect_shape(&rt, &script, [4, 9, 3, 1]);
+    expect_lists(&rt, &script, &[7, 0, 5], &[false, true, true]);
+    expect_number(&rt, "takes", script.takes(), 2);
+    assert!(rt; script.closes());
+    expect_letters(&rt, &script, "CPPCCC");
+    Ok(())
+}
+
+#[test]
+fn reads_fields_in_another_order(rt: HostRuntime) -> Result<(), Fail> {
+    let text = " { \"oracle\" : \"\", \"schedule\" : \"\", \"close\" : false, \"takes\" : 0,\n\
+        \"items\" : [ ], \"batch\" : 64, \"width\" : 64, \"modulus\" : 256, \"capacity\" : 64 } \n";
+    let script = Script::read(rt.alloc(), text.as_bytes())?;
+    expect_shape(&rt, &script, [64, 256, 64, 64]);
+    expect_lists(&rt, &script, &[], &[]);
+    expect_number(&rt, "takes", script.takes(), 0);
+    assert!(rt; !script.closes());
+    expect_letters(&rt, &script, "");
+    Ok(())
+}
+
+// Of a name that stands twice the last value counts, whatever the first one was.
+#[test]
+fn reads_the_last_of_a_name(rt: HostRuntime) -> Result<(), Fail> {
+    let twice = ",\"takes\":5,\"takes\":6,\"close\":0,\"close\":true";
+    let text = script_with(rt.alloc(), &[], twice)?;
+    let script = Script::read(rt.alloc(), text.as_bytes())?;
+    expect_number(&rt, "takes", script.takes(), 6);
+    assert!(rt; script.closes());
+    expect_with(
+        &rt,
+        ",\"takes\":5,\"takes\":null",
+        Some(ScriptFault::WrongKind(Field::Takes)),
+    )
+}
+
+#[test]
+fn reads_a_batch(rt: HostRuntime) -> Result<(), Fail> {
+    let three = script_with(rt.alloc(), &[], ",\"capacity\":3,\"modulus\":7,\"batch\":3")?;
+    let script = Script::read(rt.alloc(), three.as_bytes())?;
+    expect_shape(&rt, &script, [3, 7, 1, 3]);
+    Ok(())
+}
+
+const ACCEPTED: [&str; 16] = [
+    "",
+    ",\"batch\":1",
+    ",\"schedule\":\"P1000000\"",
+    ",\"schedule\":\"P999999C\"",
+    ",\"schedule\":\"P\\u00432\"",
+    ",\"schedule\":\"PPP\"",
+    ",\"schedule\":\"C1P10C100\"",
+    ",\"schedule\":\"\"",
+    ",\"oracle\":\"0110\"",
+    ",\"items\":[0,1,1]",
+    ",\"items\":[]",
+    ",\"takes\":18446744073709551615",
+    ",\"width\":3,\"items\":[7]",
+    ",\"width\":63,\"items\":[9223372036854775807]",
+    ",\"width\":64,\"items\":[18446744073709551615]",
+    ",\"capacity\":3,\"modulus\":7,\"batch\":3",
+];
+
+#[test]
+fn accepts(rt: HostRuntime) -> Result<(), Fail> {
+    for members in ACCEPTED.iter() {
+        expect_with(&rt, members, None)?;
+    }
+    Ok(())
+}
+
+const SHAPE_FAULTS: [(&str, ShapeFault); 11] = [
+    (",\"capacity\":0", ShapeFault::Capacity),
+    (",\"capacity\":65", ShapeFault::Capacity),
+    (",\"modulus\":2", ShapeFault::Modulus),
+    (",\"modulus\":257", ShapeFault::Modulus),
+    (",\"width\":0", ShapeFault::Width),
+    (",\"width\":65", ShapeFault::Width),
+    (
+        ",\"capacity\":3,\"modulus\":6,\"batch\":3",
+        ShapeFault::Modulus,
+    ),
+    (
+        ",\"capacity\":3,\"modulus\":7,\"batch\":0",
+        ShapeFault::Batch,
+    ),
+    (
+        ",\"capacity\":3,\"modulus\":0,\"batch\":4",
+        ShapeFault::Batch,
+    ),
+    (
+        ",\"width\":65,\"modulus\":2,\"items\":[2]",
+        ShapeFault::Modulus,
+    ),
+    (",\"width\":0,\"items\":[2]", ShapeFault::Width),
+];
+
+#[test]
+fn refuses_shapes(rt: HostRuntime) -> Result<(), Fail> {
+    for (members, fault) in SHAPE_FAULTS.iter() {
+        expect_with(&rt, members, Some(ScriptFault::Shape(*fault)))?;
+    }
+    Ok(())
+}
+
+const WIDE_ITEMS: [(&str, u64); 8] = [
+    (",\"items\":[2]", 0),
+    (",\"items\":[1,0,2,3]", 2),
+    (",\"width\":3,\"items\":[7,8]", 1),
+    (",\"width\":63,\"items\":[9223372036854775808]", 0),
+    (",\"items\":[2],\"schedule\":\"P0C\"", 0),
+    (",\"items\":[2],\"schedule\":\"P0C\",\"oracle\":\"x\"", 0),
+    (",\"items\":[2],\"schedule\":\"P1000001\"", 0),
+    (",\"items\":[2],\"oracle\":\"x\"", 0),
+];
+
+#[test]
+fn refuses_items_that_do_not_fit(rt: HostRuntime) -> Result<(), Fail> {
+    for (members, place) in WIDE_ITEMS.iter() {
+        expect_with(&rt, members, Some(ScriptFault::ItemTooWide(*place)))?;
+    }
+    Ok(())
+}
+
+const BAD_SCHEDULES: [(&str, u64); 9] = [
+    (",\"schedule\":\"P0C\"", 1),
+    (",\"schedule\":\"3P\"", 0),
+    (",\"schedule\":\"0\"", 0),
+    (",\"schedule\":\"p\"", 0),
+    (",\"schedule\":\"P C\"", 1),
+    (",\"schedule\":\"P1C0\"", 3),
+    (",\"schedule\":\"C\u{e9}\"", 1),
+    (",\"schedule\":\"P99999999Q\"", 9),
+    (",\"schedule\":\"P0C\",\"oracle\":\"x\"", 1),
+];
+
+#[test]
+fn refuses_bytes_of_a_schedule(rt: HostRuntime) -> Result<(), Fail> {
+    for (members, place) in BAD_SCHEDULES.iter() {
+        expect_with(&rt, members, Some(ScriptFault::BadSchedule(*place)))?;
+    }
+    Ok(())
+}
+
+const TOO_LONG: [&str; 6] = [
+    ",\"schedule\":\"P1000001\"",
+    ",\"schedule\":\"P999999C2\"",
+    ",\"schedule\":\"P1000000C\"",
+    ",\"schedule\":\"P18446744073709551616\"",
+    ",\"schedule\":\"P18446744073709551617\"",
+    ",\"schedule\":\"P1000001\",\"oracle\":\"x\"",
+];
+
+#[test]
+fn refuses_long_schedules(rt: HostRuntime) -> Result<(), Fail> {
+    for members in TOO_LONG.iter() {
+        expect_with(&rt, members, Some(ScriptFault::ScheduleTooLong))?;
+    }
+    Ok(())
+}
+
+const BAD_ORACLES: [(&str, u64); 3] = [
+    (",\"oracle\":\"01x\"", 2),
+    (",\"oracle\":\"2\"", 0),
+    (",\"oracle\":\"1 0\"", 1),
+];
+
+#[test]
+fn refuses_bytes_of_an_oracle(rt: HostRuntime) -> Result<(), Fail> {
+    for (members, place) in BAD_ORACLES.iter() {
+        expect_with(&rt, members, Some(ScriptFault::BadOracle(*place)))?;
+    }
+    Ok(())
+}
+
+const UNKNOWN: [&str; 5] = [
+    ",\"note\":0",
+    ",\"Capacity\":1",
+    ",\"\":1",
+    ",\"note\":0,\"oracle\":1,\"capacity\":null",
+    ",\"capacity\":0,\"batch \":1",
+];
+
+#[test]
+fn refuses_unknown_names(rt: HostRuntime) -> Result<(), Fail> {
+    for members in UNKNOWN.iter() {
+        expect_with(&rt, members, Some(ScriptFault::UnknownField))?;
+    }
+    Ok(())
+}
+
+const NEEDED: [(&str, Field); 8] = [
+    ("capacity", Field::Capacity),
+    ("modulus", Field::Modulus),
+    ("width", Field::Width),
+    ("items", Field::Items),
+    ("takes", Field::Takes),
+    ("close", Field::Close),
+    ("schedule", Field::Schedule),
+    ("oracle", Field::Oracle),
+];
+
+// Without the field, and without the later one too, the field is the one that is missing.
+fn expect_missing(
+    rt: &(impl Abort + AllocGlobal),
+    name: &str,
+    later: &str,
+    field: Field,
+) -> Result<(), Fail> {
+    assert!(rt; field.name() == name);
+    let text = script_with(rt.alloc(), &[later, name], ",\"batch\":null")?;
+    expect_fault(rt, text.as_bytes(), Some(ScriptFault::MissingField(field)));
+    Ok(())
+}
+
+#[test]
+fn names_the_missing_field(rt: HostRuntime) -> Result<(), Fail> {
+    for (name, field) in NEEDED.iter() {
+        expect_missing(&rt, name, name, *field)?;
+        expect_missing(&rt, name, "oracle", *field)?;
+    }
+    Ok(())
+}
+
+const WRONG_KINDS: [(&str, Field); 19] = [
+    (",\"capacity\":\"1\"", Field::Capacity),
+    (",\"modulus\":true", Field::Modulus),
+    (",\"width\":null", Field::Width),
+    (",\"items\":1", Field::Items),
+    (",\"items\":{}", Field::Items),
+    (",\"items\":\"1\"", Field::Items),
+    (",\"items\":[1,\"1\"]", Field::Items),
+    (",\"items\":[[1]]", Field::Items),
+    (",\"items\":[2,null]", Field::Items),
+    (",\"items\":[-1]", Field::Items),
+    (",\"takes\":[1]", Field::Takes),
+    (",\"close\":0", Field::Close),
+    (",\"close\":\"true\"", Field::Close),
+    (",\"schedule\":1", Field::Schedule),
+    (",\"schedule\":[\"P\"]", Field::Schedule),
+    (",\"oracle\":false", Field::Oracle),
+    (",\"batch\":\"1\"", Field::Batch),
+    (",\"batch\":[]", Field::Batch),
+    (",\"capacity\":0,\"batch\":-1", Field::Batch),
+];
+
+// Each field of a wrong kind in turn; and of two the first, of which the batch is the last.
+#[test]
+fn names_the_field_of_the_wrong_kind(rt: HostRuntime) -> Result<(), Fail> {
+    for (members, field) in WRONG_KINDS.iter() {
+        expect_with(&rt, members, Some(ScriptFault::WrongKind(*field)))?;
+    }
+    let first = ",\"batch\":null,\"oracle\":1,\"close\":0";
+    expect_with(&rt, first, Some(ScriptFault::WrongKind(Field::Close)))
+}
+
+const OTHER_NUMBERS: [&str; 8] = [
+    "-1",
+    "-0.5",
+    "1.0",
+    "1.5",
+    "1e3",
+    "1E0",
+    "18446744073709551616",
+    "100000000000000000000000000000000000000000",
+];
+
+#[test]
+fn refuses_other_numbers(rt: HostRuntime) -> Result<(), Fail> {
+    let modulus = Some(ScriptFault::WrongKind(Field::Modulus));
+    let items = Some(ScriptFault::WrongKind(Field::Items));
+    for number in OTHER_NUMBERS.iter() {
+        expect_repeated(&rt, (",\"modulus\":", number, 1, ""), modulus)?;
+        expect_repeated(&rt, (",\"items\":[1,", number, 1, "]"), items)?;
+    }
+    Ok(())
+}
+
+#[test]
+fn keeps_the_limits(rt: HostRuntime) -> Result<(), Fail> {
+    expect_number(&rt, "items", ITEM_LIMIT as u64, 1000);
+    expect_number(&rt, "letters", LETTER_LIMIT, 1_000_000);
+    let many = Some(ScriptFault::TooManyItems);
+    let long = Some(ScriptFault::ScheduleTooLong);
+    expect_repeated(&rt, (",\"items\":[1", ",1", 999, "]"), None)?;
+    expect_repeated(&rt, (",\"items\":[2", ",2", 1000, "]"), many)?;
+    expect_repeated(&rt, (",\"schedule\":\"", "PC", 500_000, "\""), None)?;
+    expect_repeated(&rt, (",\"schedule\":\"P", "PC", 500_000, "\""), long)
+}
+
+// A count of more digits than any machine number has.
+#[test]
+fn reads_long_counts(rt: HostRuntime) -> Result<(), Fail> {
+    let long = Some(ScriptFault::ScheduleTooLong);
+    let no_count = Some(ScriptFault::BadSchedule(1));
+    let stray = Some(ScriptFault::BadSchedule(101));
+    expect_repeated(&rt, (",\"schedule\":\"P", "0", 64, "\""), no_count)?;
+    expect_repeated(&rt, (",\"schedule\":\"P", "9", 100, "\""), long)?;
+    expect_repeated(&rt, (",\"schedule\":\"P1", "0", 99, "\""), long)?;
+    expect_repeated(&rt, (",\"schedule\":\"P1", "0", 99, "x\""), stray)
+}
+
+#[test]
+fn keeps_the_depth(rt: HostRuntime) -> Result<(), Fail> {
+    let deep = "[".repeat(rt.alloc(), 200)?;
+    let members = format!(in rt.alloc(); ",\"items\":{deep}")?;
+    expect_repeated(
+        &rt,
+        (members.as_str(), "]", 200, ""),
+        Some(ScriptFault::NotJson),
+    )
+}
+
+const BYTES: [(&[u8], ScriptFault); 14] = [
+    (b"", ScriptFault::NotJson),
+    (b"{", ScriptFault::NotJson),
+    (b"{}{}", ScriptFault::NotJson),
+    (b"{\"note\":0", ScriptFault::NotJson),
+    (b"\"\xff\"", ScriptFault::NotJson),
+    (b"{\"\xc3\":0}", ScriptFault::NotJson),
+    (b"{\"takes\":1e999}", ScriptFault::NotJson),
+    (b"{\"oracle\":\"\\ud800\"}", ScriptFault::NotJson),
+    (b"[]", ScriptFault::NotObject),
+    (b"null", ScriptFault::NotObject),
+    (b"1", ScriptFault::NotObject),
+    (b"\"{}\"", ScriptFault::NotObject),
+    (b"{}", ScriptFault::MissingField(Field::Capacity)),
+    (b"{\"a\":0}", ScriptFault::UnknownField),
+];
+
+#[test]
+fn refuses_bytes(rt: HostRuntime) {
+    for (bytes, fault) in BYTES.iter() {
+        expect_fault(&rt, bytes, Some(*fault));
+    }
+}
+
+const WORDS: [(ScriptFault, u8, &str); 16] = [
+    (ScriptFault::NotJson, 1, "script is not JSON"),
+    (ScriptFault::NotObject, 2, "script is not an object"),
+    (ScriptFault::UnknownField, 3, "script has an unknown field"),
+    (
+        ScriptFault::MissingField(Field::Close),
+        4,
+        "field close is missing",
+    ),
+    (
+        ScriptFault::WrongKind(Field::Batch),
+        5,
+        "field batch has the wrong kind",
+    ),
+    (
+        ScriptFault::Shape(ShapeFault::Capacity),
+        6,
+        "capacity must be from 1 to 64",
+    ),
+    (
+        ScriptFault::Shape(ShapeFault::Modulus),
+        6,
+        "modulus must be from capacity + batch + 1 to 256",
+    ),
+    (
+        ScriptFault::Shape(ShapeFault::Width),
+        6,
+        "width must be from 1 to 64",
+    ),
+    (
+        ScriptFault::Shape(ShapeFault::Batch),
+        6,
+        "batch must be from 1 to capacity",
+    ),
+    (ScriptFault::TooManyItems, 7, "script has too many items"),
+    (
+        ScriptFault::ItemTooWide(12),
+        8,
+        "item 12 does not fit the width",
+    ),
+    (
+        ScriptFault::BadSchedule(34),
+        9,
+        "schedule is wrong at byte 34",
+    ),
+    (ScriptFault::ScheduleTooLong, 10, "schedule is too long"),
+    (ScriptFault::BadOracle(5), 11, "oracle is wrong at byte 5"),
+    (ScriptFault::OutOfMemory, 12, "out of memory"),
+    (
+        ScriptFault::MissingField(Field::Capacity),
+        4,
+        "field capacity is missing",
+    ),
+];
+
+fn expect_words(
+    rt: &(impl Abort + AllocGlobal),
+    faults: &[(ScriptFault, u8, &str)],
+) -> Result<(), Fail> {
+    for (fault, number, words) in faults {
+        let told = fault.to_string(rt.alloc())?;
+        assert!(rt;
+            fault.number() == *number && told.as_str() == *words,
+            "{told}"
+        );
+    }
+    Ok(())
+}
+
+#[test]
+fn faults_have_their_numbers_and_words(rt: HostRuntime) -> Result<(), Fail> {
+    expect_words(&rt, WORDS.as_slice())
+}
