@@ -1,5 +1,9 @@
-//! Tests of `ring_player` with an allocator that refuses.
+//! Tests of `ring_player`.
 #![tactic(auto)]
 
 #[cfg(test)]
-mod tests;
+mod growths;
+#[cfg(test)]
+mod plays;
+#[cfg(test)]
+mod scripts;

@@ -1,7 +1,5 @@
-pub mod Results
-pub mod Faults
-pub mod Fields
-pub mod Schedule
-pub mod Script
-pub mod Objects
-pub mod Views
+pub mod Plays
+pub mod Headline
+pub mod Actors
+pub mod SoFar
+pub mod Worlds

@@ -1,141 +1,37 @@
-//! Why bytes are no script.
+//! Why a play stops.
 ghost use Rattle.std.specs.Prelude.{◌≡◌};
-ghost use Rattle.ring_player.specs.Fields.{name_of};
-ghost use Rattle.ring_player.specs.Faults.{script_fault_number};
 
-use bits_core::ShapeFault;
-use std::alloc::{AllocError, AllocFailed};
-use std::fmt;
+use bits_core::MemoryFault;
+use std::alloc::AllocError;
 use thiserror::Error;
 
-/// A field of a script. It is printed as its name.
-#[derive(Clone, Copy, PartialEq, Eq, Debug)]
-pub enum Field {
-    /// `capacity`: how many cells the ring has, a whole number.
-    Capacity,
-    /// `modulus`: the modulus of the ring's two counts, a whole number.
-    Modulus,
-    /// `width`: how many binary digits an item has, a whole number.
-    Width,
-    /// `items`: the items to put, in order, an array of whole numbers.
-    Items,
-    /// `takes`: how many items the consumer wants, a whole number.
-    Takes,
-    /// `close`: whether the producer closes after the last item, true or false.
-    Close,
-    /// `schedule`: letters `P` and `C`, each with a count or without, a text.
-    Schedule,
-    /// `oracle`: the answers of overlapped reads, a text of `0` and `1`.
-    Oracle,
-}
-
-impl Field {
-    /// The field's name in a script: the word of the variant in small letters.
-    pub fn name(&self) -> &'static str
-        ensures { result.now ≡ name_of self.now }
-    {
-        match self {
-            Field::Capacity => "capacity",
-            Field::Modulus => "modulus",
-            Field::Width => "width",
-            Field::Items => "items",
-            Field::Takes => "takes",
-            Field::Close => "close",
-            Field::Schedule => "schedule",
-            Field::Oracle => "oracle",
-        }
-    }
-}
-
-impl fmt::Display for Field {
-    fn fmt<W: fmt::Write>(&self, f: &mut fmt::Formatter<W>) -> fmt::Result {
-        write!(f, "{}", self.name())
-    }
-}
-
-/// Why bytes are no script.
+/// Why a play made no event.
 #[derive(Clone, Copy, PartialEq, Eq, Debug, Error)]
-pub enum ScriptFault {
-    /// The bytes are not UTF-8, or not the text of one JSON value, or arrays and objects stand in one
-    /// another more than 127 deep.
-    #[error("script is not JSON")]
-    NotJson,
-    /// The JSON value is no object.
-    #[error("script is not an object")]
-    NotObject,
-    /// The object has a name that is none of a script's fields.
-    #[error("script has an unknown field")]
-    UnknownField,
-    /// The object lacks this field.
-    #[error("field {0} is missing")]
-    MissingField(Field),
-    /// The value of this field is not of the field's kind. For `Items`, the value may also be an
-    /// array in which something is no whole number.
-    #[error("field {0} has the wrong kind")]
-    WrongKind(Field),
-    /// Capacity, modulus and width are no shape.
-    #[error(transparent)]
-    Shape(ShapeFault),
-    /// There are more items than a script may have.
-    #[error("script has too many items")]
-    TooManyItems,
-    /// The item at this place, counted from 0, does not fit the width.
-    #[error("item {0} does not fit the width")]
-    ItemTooWide(u64),
-    /// The byte of the schedule at this place, counted from 0, cannot stand there.
-    #[error("schedule is wrong at byte {0}")]
-    BadSchedule(u64),
-    /// The schedule stands for more letters than a script may have.
-    #[error("schedule is too long")]
-    ScheduleTooLong,
-    /// The byte of the oracle at this place, counted from 0, is neither `0` nor `1`.
-    #[error("oracle is wrong at byte {0}")]
-    BadOracle(u64),
+pub enum PlayFault {
     /// Memory ran out.
     #[error("out of memory")]
     OutOfMemory,
 }
 
-impl ScriptFault {
-    /// The number of the fault: 1 `NotJson`, 2 `NotObject`, 3 `UnknownField`, 4 `MissingField`,
-    /// 5 `WrongKind`, 6 `Shape`, 7 `TooManyItems`, 8 `ItemTooWide`, 9 `BadSchedule`,
-    /// 10 `ScheduleTooLong`, 11 `BadOracle`, 12 `OutOfMemory`.
+impl PlayFault {
+    /// The number of the fault: 1 `OutOfMemory`.
     pub fn number(&self) -> u8
-        ensures { result ≡ script_fault_number self.now }
+        ensures { result ≡ 1 }
     {
         match self {
-            ScriptFault::NotJson => 1,
-            ScriptFault::NotObject => 2,
-            ScriptFault::UnknownField => 3,
-            ScriptFault::MissingField(_) => 4,
-            ScriptFault::WrongKind(_) => 5,
-            ScriptFault::Shape(_) => 6,
-            ScriptFault::TooManyItems => 7,
-            ScriptFault::ItemTooWide(_) => 8,
-            ScriptFault::BadSchedule(_) => 9,
-            ScriptFault::ScheduleTooLong => 10,
-            ScriptFault::BadOracle(_) => 11,
-            ScriptFault::OutOfMemory => 12,
+            PlayFault::OutOfMemory => 1,
         }
     }
 }
 
-impl From<AllocError> for ScriptFault {
-    ghost use Rattle.ring_player.specs.declared.faults.ScriptFault.TheVariants.{OutOfMemory};
-
-    ghost from_gives = { λ _ e. e ≡ OutOfMemory };
-
-    fn from(_error: AllocError) -> ScriptFault {
-        ScriptFault::OutOfMemory
+impl From<AllocError> for PlayFault {
+    fn from(_error: AllocError) -> PlayFault {
+        PlayFault::OutOfMemory
     }
 }
 
-impl<T: Drop> From<AllocFailed<T>> for ScriptFault {
-    ghost use Rattle.ring_player.specs.declared.faults.ScriptFault.TheVariants.{OutOfMemory};
-
-    ghost from_gives = { λ _ e. e ≡ OutOfMemory };
-
-    fn from(_error: AllocFailed<T>) -> ScriptFault {
-        ScriptFault::OutOfMemory
+impl From<MemoryFault> for PlayFault {
+    fn from(_error: MemoryFault) -> PlayFault {
+        PlayFault::OutOfMemory
     }
 }

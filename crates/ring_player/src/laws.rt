@@ -1,10 +1,22 @@
-//! What a script is, in the words of its format. The contract of a function that does nothing.
-ghost use Rattle.std.specs.Prelude.{◌≡◌, ◌↔◌, ℕ, List, Ok};
-ghost use Rattle.ring_player.specs.Script.{Content, given_by, script_of};
-ghost use Rattle.ring_player.specs.Objects.{IsScript};
+//! What holds of every play of a script. Each law is the contract of a function that does nothing.
+ghost use Rattle.ring_player.specs.Headline.{EveryPlayFills, EveryPlayHolds};
 
-/// Bytes are read as a script of a content exactly where they are an object of the format that
-/// holds it.
-pub fn script_is_object()
-    ensures { (bytes : List ℕ) → (content : Content) → (script_of bytes ≡ Ok (given_by content)) ↔ IsScript bytes content }
-{}
+use ring_core::laws::{closed_stays, items_put_are_read, items_taken_are_read, ring_law};
+
+/// The sentence of the ring holds of every play of a script.
+pub fn every_play_holds()
+    ensures { EveryPlayHolds }
+{
+    ring_law();
+    closed_stays();
+    items_put_are_read();
+    items_taken_are_read();
+}
+
+/// In every play of a script, where a put began that stored fewer items than the world offered it, the items stored up
+/// to and with it, less those of takes that had ended, are at least the capacity.
+pub fn every_play_fills()
+    ensures { EveryPlayFills }
+{
+    ring_law();
+}

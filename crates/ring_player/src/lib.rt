@@ -1,15 +1,13 @@
-//! Scripts: one interleaving of the ring's two sides, written as a JSON object.
+//! The player: the two sides of a script at work on one memory of safe bits.
 #![tactic(auto)]
 
+mod actors;
 mod faults;
-mod fields;
 pub mod laws;
-mod schedules;
-mod scripts;
+mod putting;
+mod taking;
+mod worlds;
 
-pub use faults::{Field, ScriptFault};
-pub use schedules::LETTER_LIMIT;
-pub use scripts::{ITEM_LIMIT, Script};
-
-#[cfg(test)]
-mod tests;
+pub use faults::PlayFault;
+pub use ring_script::{Field, ITEM_LIMIT, LETTER_LIMIT, Script, ScriptFault};
+pub use worlds::{Report, World, play};

@@ -1,0 +1,120 @@
+use crate::scripts::{Asked, ONE, Wanted, expect_report, text_of};
+use bits_core::Side;
+use refusing::Refusing;
+use ring_player::{PlayFault, Script, World, play};
+use std::alloc::{AllocGlobal, Allocator, Global};
+use std::process::Abort;
+use std::test::Fail;
+
+// Wrap under an open count write.
+const WRAP: Asked<'static> = ("[1,0,1]", 3, false, "P8C10P10C12P9C14", "01");
+
+const WRAPPED: Wanted<'static> = (63, &[1, 0, 1], &[1, 0, 1], false, [0, 1, 2]);
+
+// As many allocations as none makes.
+const MANY: u64 = 1_000_000;
+
+// What is seen of a world: its events, items put, items taken; the last one taken; told; full, empty, flickers.
+type Seen = ([usize; 3], Option<u64>, bool, [u64; 3]);
+
+fn seen<A: Allocator>(world: &World<A>) -> Seen {
+    (
+        [
+            world.history().len(),
+            world.put_items().len(),
+            world.taken_items().len(),
+        ],
+        world.taken_items().last().copied(),
+        world.told(),
+        [world.full(), world.empty(), world.flickers()],
+    )
+}
+
+// A step whose growth is refused leaves the world as it was, and is then made again.
+// Answers whether it was refused.
+fn step_again(
+    rt: &impl Abort,
+    alloc: &Refusing<Global>,
+    world: &mut World<&Refusing<Global>>,
+    side: Side,
+) -> Result<bool, Fail> {
+    let before = seen(world);
+    alloc.refuse_after(0);
+    let step = world.step(side);
+    let refused = alloc.has_refused();
+    alloc.refuse_after(MANY);
+    match step {
+        Ok(moved) => {
+            assert!(rt; moved && !refused);
+            Ok(false)
+        }
+        Err(fault) => {
+            assert!(rt; fault == PlayFault::OutOfMemory && refused);
+            assert!(rt; seen(world) == before);
+            assert!(rt; world.step(side)?);
+            Ok(true)
+        }
+    }
+}
+
+#[test]
+fn steps_that_were_refused_can_be_made_again(rt: HostRuntime) -> Result<(), Fail> {
+    let alloc = Refusing::after(rt.alloc(), MANY);
+    let text = text_of(rt.alloc(), &ONE, &WRAP)?;
+    let script = Script::read_in(&alloc, rt.alloc(), text.as_bytes())?;
+    let mut world = World::new(&alloc, &script);
+    let mut refused: u64 = 0;
+    for run in script.runs() {
+        for made in 0..run.count {
+            if step_again(&rt, &alloc, &mut world, run.side)? {
+                refused = refused.saturating_add(1);
+            }
+        }
+    }
+    // the first growths of the history and of the items taken
+    assert!(rt; 2 <= refused);
+    let report = world.report();
+    expect_report(&rt, "a world refused", &script, &report, &WRAPPED);
+    Ok(())
+}
+
+// Plays the wrap, where the allocation after so many is refused, and answers whether one was.
+fn is_refused(rt: &(impl Abort + AllocGlobal), allocations: u64) -> Result<bool, Fail> {
+    let alloc = Refusing::after(rt.alloc(), MANY);
+    let text = text_of(rt.alloc(), &ONE, &WRAP)?;
+    let script = Script::read_in(&alloc, rt.alloc(), text.as_bytes())?;
+    alloc.refuse_after(allocations);
+    match play(&alloc, &script) {
+        Err(fault) => {
+            assert!(rt; fault == PlayFault::OutOfMemory && alloc.has_refused());
+            Ok(true)
+        }
+        Ok(report) => {
+            assert!(rt; !alloc.has_refused());
+            expect_report(rt, "a play", &script, &report, &WRAPPED);
+            Ok(false)
+        }
+    }
+}
+
+#[test]
+fn each_growth_of_a_play_may_be_refused(rt: HostRuntime) -> Result<(), Fail> {
+    let mut refused: u64 = 0;
+    for allocations in 0..40 {
+        if !is_refused(&rt, allocations)? {
+            break;
+        }
+        refused = refused.saturating_add(1);
+    }
+    // the first growths of the history and of the items taken
+    assert!(rt; 2 <= refused && refused < 40);
+    Ok(())
+}
+
+#[test]
+fn the_fault_has_its_number_and_words(rt: HostRuntime) -> Result<(), Fail> {
+    let fault = PlayFault::OutOfMemory;
+    let words = fault.to_string(rt.alloc())?;
+    assert!(rt; fault.number() == 1 && words.as_str() == "out of memory");
+    Ok(())
+}

@@ -1,0 +1,240 @@
+use crate::scripts::{Asked, Case, ONE, expect_reports, text_of};
+use bits_core::{Act, Bit, Event, Side};
+use ring_player::{Script, World, play};
+use std::alloc::{AllocGlobal, Global};
+use std::process::Abort;
+use std::test::Fail;
+
+const WHOLE_CALLS: [Case<'static>; 6] = [
+    (
+        "plain path",
+        ONE,
+        ("[1]", 1, false, "P8C10", ""),
+        (18, &[1], &[1], false, [0, 0, 0]),
+    ),
+    (
+        "nothing",
+        ONE,
+        ("[1]", 1, false, "", ""),
+        (0, &[], &[], false, [0, 0, 0]),
+    ),
+    (
+        "full at capacity one",
+        ONE,
+        ("[1,1]", 0, false, "P10", ""),
+        (10, &[1], &[], false, [1, 0, 0]),
+    ),
+    (
+        "five items",
+        ONE,
+        ("[1,0,0,1,1]", 5, false, "P8C10P10C12P10C6P8C10P8C10", ""),
+        (92, &[1, 0, 0, 1, 1], &[1, 0, 0, 1, 1], false, [0, 0, 0]),
+    ),
+    (
+        "largest shape",
+        [1, 256, 64, 1],
+        ("[18446744073709551615]", 1, false, "P134C136", ""),
+        (
+            270,
+            &[18446744073709551615],
+            &[18446744073709551615],
+            false,
+            [0, 0, 0],
+        ),
+    ),
+    (
+        "two cells",
+        [2, 4, 2, 1],
+        ("[2,1,3]", 1, false, "P22C14P12", ""),
+        (48, &[2, 1, 3], &[2], false, [1, 0, 0]),
+    ),
+];
+
+#[test]
+fn whole_calls_give_their_reports(rt: HostRuntime) -> Result<(), Fail> {
+    expect_reports(&rt, &WHOLE_CALLS)
+}
+
+const OVERLAPS: [Case<'static>; 5] = [
+    (
+        "count write open, then seen old",
+        ONE,
+        ("[1]", 2, false, "P7C14", "01"),
+        (21, &[1], &[1], false, [0, 1, 2]),
+    ),
+    (
+        "take's count write open",
+        ONE,
+        ("[1,0,1]", 2, false, "P8C9P12", "01"),
+        (29, &[1, 0], &[], false, [1, 0, 2]),
+    ),
+    (
+        "wrap under an open count write",
+        ONE,
+        ("[1,0,1]", 3, false, "P8C10P10C12P9C14", "01"),
+        (63, &[1, 0, 1], &[1, 0, 1], false, [0, 1, 2]),
+    ),
+    (
+        "a read spans a put, answers one",
+        ONE,
+        ("[1]", 1, false, "C1P8C13", "1"),
+        (22, &[1], &[1], false, [0, 1, 1]),
+    ),
+    (
+        "a read spans a put, answers zero",
+        ONE,
+        ("[1]", 1, false, "C1P8C9", "0"),
+        (18, &[1], &[1], false, [0, 0, 1]),
+    ),
+];
+
+#[test]
+fn overlapped_reads_answer_as_the_oracle_says(rt: HostRuntime) -> Result<(), Fail> {
+    expect_reports(&rt, &OVERLAPS)
+}
+
+const CLOSES: [Case<'static>; 5] = [
+    (
+        "second scan finds the item",
+        ONE,
+        ("[1]", 2, true, "C2P10C22", ""),
+        (34, &[1], &[1], true, [0, 0, 0]),
+    ),
+    (
+        "idle letters",
+        ONE,
+        ("[1]", 2, true, "C2P10C22P3C5", ""),
+        (34, &[1], &[1], true, [0, 0, 0]),
+    ),
+    (
+        "closed while the close bit is being written",
+        ONE,
+        ("[]", 1, true, "P1C6", "1"),
+        (7, &[], &[], true, [0, 0, 1]),
+    ),
+    (
+        "cut before closed",
+        ONE,
+        ("[]", 1, true, "P1C5", "1"),
+        (6, &[], &[], false, [0, 0, 1]),
+    ),
+    (
+        "close bit flickers",
+        ONE,
+        ("[1]", 2, true, "C2P9C18", "10"),
+        (29, &[1], &[1], false, [0, 1, 2]),
+    ),
+];
+
+#[test]
+fn a_close_is_told_once_it_is_read(rt: HostRuntime) -> Result<(), Fail> {
+    expect_reports(&rt, &CLOSES)
+}
+
+const BATCHES: [Case<'static>; 2] = [
+    (
+        "batch of three",
+        [3, 7, 1, 3],
+        ("[1,0,1]", 4, false, "P11C46", "0001"),
+        (57, &[1, 0, 1], &[1, 0, 1], false, [0, 1, 4]),
+    ),
+    (
+        "partial batches",
+        [3, 6, 1, 2],
+        ("[1,0,1,1]", 0, false, "P20", ""),
+        (20, &[1, 0, 1], &[], false, [1, 0, 0]),
+    ),
+];
+
+#[test]
+fn batches_give_their_reports(rt: HostRuntime) -> Result<(), Fail> {
+    expect_reports(&rt, &BATCHES)
+}
+
+const A_MILLION_FULL: [Case<'static>; 1] = [(
+    "a million letters of a full ring",
+    ONE,
+    ("[1,1]", 0, false, "P1000000", ""),
+    (1_000_000, &[1], &[], false, [499_996, 0, 0]),
+)];
+
+#[test]
+fn a_full_ring_is_played_for_a_million_letters(rt: HostRuntime) -> Result<(), Fail> {
+    expect_reports(&rt, &A_MILLION_FULL)
+}
+
+const A_MILLION_IDLE: [Case<'static>; 1] = [(
+    "a million idle letters",
+    ONE,
+    ("[]", 0, false, "P1000000", ""),
+    (0, &[], &[], false, [0, 0, 0]),
+)];
+
+#[test]
+fn a_million_idle_letters_add_nothing(rt: HostRuntime) -> Result<(), Fail> {
+    expect_reports(&rt, &A_MILLION_IDLE)
+}
+
+// A call of a side begins with the read of the first bit of the other side's count.
+fn begins_call(event: &Event) -> bool {
+    event.act == Act::ReadBegin && (event.bit == Bit::R(0) || event.bit == Bit::S(0))
+}
+
+// The calls of the play follow each other, and each has so many events.
+fn expect_calls(
+    rt: &(impl Abort + AllocGlobal),
+    shape: &[u64; 4],
+    asked: &Asked,
+    lengths: &[usize],
+) -> Result<(), Fail> {
+    let text = text_of(rt.alloc(), shape, asked)?;
+    let script = Script::read(rt.alloc(), text.as_bytes())?;
+    let report = play(rt.alloc(), &script)?;
+    let mut made: Vec<usize, _> = Vec::new(rt.alloc());
+    let mut length: usize = 0;
+    for event in report.history.iter() {
+        if begins_call(event) && 0 < length {
+            made.push(length)?;
+            length = 0;
+        }
+        length = length.saturating_add(1);
+    }
+    made.push(length)?;
+    assert!(rt; made.as_slice() == lengths);
+    Ok(())
+}
+
+#[test]
+fn calls_have_their_events(rt: HostRuntime) -> Result<(), Fail> {
+    let five = ("[1,0,0,1,1]", 5, false, "P8C10P10C12P10C6P8C10P8C10", "");
+    expect_calls(&rt, &ONE, &five, &[8, 10, 10, 12, 10, 6, 8, 10, 8, 10])?;
+    let partial = ("[1,0,1,1]", 0, false, "P20", "");
+    expect_calls(&rt, &[3, 6, 1, 2], &partial, &[10, 8, 2])
+}
+
+// The next steps of a side: so many that add an event, and then two that add none.
+fn expect_steps(
+    rt: &(impl Abort + AllocGlobal),
+    world: &mut World<Global>,
+    side: Side,
+    count: usize,
+) -> Result<(), Fail> {
+    let before = world.history().len();
+    for made in 0..count {
+        assert!(rt; world.step(side)?);
+    }
+    assert!(rt; !world.step(side)?);
+    assert!(rt; !world.step(side)?);
+    assert_eq!(rt; world.history().len().checked_sub(before), Some(count));
+    Ok(())
+}
+
+#[test]
+fn a_side_that_is_done_adds_nothing(rt: HostRuntime) -> Result<(), Fail> {
+    let text = text_of(rt.alloc(), &ONE, &("[1]", 2, true, "", ""))?;
+    let script = Script::read(rt.alloc(), text.as_bytes())?;
+    let mut world = World::new(rt.alloc(), &script);
+    expect_steps(&rt, &mut world, Side::P, 10)?;
+    expect_steps(&rt, &mut world, Side::C, 20)?;
+    expect_steps(&rt, &mut world, Side::P, 0)
+}

@@ -1,0 +1,118 @@
+-- What one event does to the words that a play is stated in.
+use Rattle.std.proofs.Common.{◌≡◌, inl, inr, ◌+◌, ◌*◌, ◌≤◌, Bool, true, false, Option, Some, None, List, [], ◌∷◌, ◌++◌, length, refl, sym, ap, subst, ◌∙◌, append_assoc, append-nil, length-append, arith}
+use Rattle.std.specs.Prelude.{if◌then◌else◌}
+use Rattle.bits_core.specs.declared.events.Side.{Side}
+use Rattle.bits_core.specs.declared.events.Side.TheVariants.{P, C}
+use Rattle.bits_core.specs.declared.events.Access.{Access}
+use Rattle.bits_core.specs.declared.events.Access.TheVariants as access
+use Rattle.bits_core.specs.declared.events.Event.{Event}
+use Rattle.bits_core.specs.Bits.{is_by, other, same_side}
+use Rattle.bits_core.specs.Laws.{OwnChanges}
+use Rattle.bits_core.specs.Made.{Made, answered, begin_event, end_event, events_of, own}
+use Rattle.ring_core.specs.Puts.{put_program}
+use Rattle.ring_core.specs.Takes.{take_program}
+use Rattle.ring_player.specs.Actors.{begun, so_far, IsMove}
+use Rattle.ring_player.specs.Plays.{AreMoves, IsDone, IsDoneAfter, IsProgram, sides}
+use Rattle.ring_script.specs.Script.{Content}
+
+-- ---- the events of one side
+
+same_side-refl : (s : Side) → same_side s s ≡ true
+same_side-refl P = refl
+same_side-refl C = refl
+
+same_side-other : (s : Side) → same_side (other s) s ≡ false
+same_side-other P = refl
+same_side-other C = refl
+
+pub by_side : (s : Side) (e : Event) → e.side ≡ s → is_by s e ≡ true
+by_side s e by = ap (λ t. same_side s t) by ∙ same_side-refl s
+
+pub not_by : (s : Side) (e : Event) → e.side ≡ s → is_by (other s) e ≡ false
+not_by s e by = ap (λ t. same_side (other s) t) by ∙ same_side-other s
+
+pub own_by : OwnChanges → (s : Side) (h : List Event) (e : Event) → e.side ≡ s → own s (h ++ e ∷ []) ≡ own s h ++ e ∷ []
+own_by law s h e by = law s h e ∙ ap (λ t. if t then own s h ++ e ∷ [] else own s h) (by_side s e by)
+
+pub own_other : OwnChanges → (s : Side) (h : List Event) (e : Event) → e.side ≡ s → own (other s) (h ++ e ∷ []) ≡ own (other s) h
+own_other law s h e by = law (other s) h e ∙ ap (λ t. if t then own (other s) h ++ e ∷ [] else own (other s) h) (not_by s e by)
+
+-- ---- the events of accesses
+
+pub events-append : (s : Side) (xs ys : List Made) → events_of s (xs ++ ys) ≡ events_of s xs ++ events_of s ys
+events-append s [] ys = refl
+events-append s (x ∷ xs) ys = ap (λ l. begin_event s x ∷ end_event s x ∷ l) (events-append s xs ys)
+
+pub length-events : (s : Side) (xs : List Made) → length (events_of s xs) ≡ 2 * length xs
+length-events s [] = refl
+length-events s (x ∷ xs) = omega (arith, length-events s xs)
+
+-- an access begins alike whatever it is answered
+pub begins_as : (s : Side) (a : Access) (v : Bool) → begin_event s (answered a v) ≡ begun s a
+begins_as s (access.Read b) v = refl
+begins_as s (access.Write b w) v = refl
+
+-- the events of one access more
+pub events-more : (s : Side) (list : List Made) (a : Access) (v : Bool) → events_of s (list ++ answered a v ∷ []) ≡ so_far s list (Some a) ++ end_event s (answered a v) ∷ []
+events-more s list a v =
+    events-append s list (answered a v ∷ []) ∙ ap (λ e. events_of s list ++ (e ∷ end_event s (answered a v) ∷ [])) (begins_as s a v)
+    ∙ sym (append_assoc (events_of s list) (begun s a ∷ []) (end_event s (answered a v) ∷ []))
+
+pub so_far_length : (s : Side) (list : List Made) (o : Option Access) → (2 * length list ≤ length (so_far s list o)) × (length (so_far s list o) ≤ 2 * length list + 1)
+so_far_length s list None = (omega (arith, length-events s list), omega (arith, length-events s list))
+so_far_length s list (Some a) =
+    (omega (arith, length-events s list, length-append (events_of s list) (begun s a ∷ [])), omega (arith, length-events s list, length-append (events_of s list) (begun s a ∷ [])))
+
+-- an open access is no whole list of accesses
+pub not_whole : (s : Side) (xs ys : List Made) (e : Event) → events_of s xs ++ e ∷ [] ≡ events_of s ys → ⊥
+not_whole s xs ys e same = absurd (omega (arith, ap length same, length-append (events_of s xs) (e ∷ []), length-events s xs, length-events s ys))
+
+done_whole : (script : Content) (s : Side) (events : List Event) → IsDoneAfter script s events → (ys : List Made) × (events ≡ events_of s ys)
+done_whole script P events d = (put_program script.shape d.calls, d.whole)
+done_whole script C events d = (take_program script.shape d.calls, d.whole)
+
+pub open_not_done : (script : Content) (s : Side) (h : List Event) (list : List Made) (a : Access) → own s h ≡ so_far s list (Some a) → ¬ IsDone script s h
+open_not_done script s h list a are d =
+    let w = done_whole script s (own s h) d in
+    not_whole s list w.0 (begun s a) (sym are ∙ w.1)
+
+-- a beginning of a program is one
+pub program_beginning : (script : Content) (s : Side) (xs ys : List Event) → IsProgram script s (xs ++ ys) → IsProgram script s xs
+program_beginning script P xs ys (calls, are, (rest, e)) = (calls, are, (ys ++ rest, sym (append_assoc xs ys rest) ∙ e))
+program_beginning script C xs ys (calls, are, (rest, e)) = (calls, are, (ys ++ rest, sym (append_assoc xs ys rest) ∙ e))
+
+-- ---- the moves
+
+pub moves-more :
+    (script : Content) (letters : List Side) (letter : Side) (past later : List Event) (e : Event) → AreMoves script letters past later →
+    (¬ IsDone script letter (past ++ later)) → e.side ≡ letter → AreMoves script (letters ++ letter ∷ []) past (later ++ e ∷ [])
+moves-more script [] letter past [] e m more by = inr (subst (λ (t : List Event). ¬ IsDone script letter t) (append-nil past) more, (e, [], refl, by, tt))
+moves-more script [] letter past (x ∷ later) e m more by = absurd m
+moves-more script (l ∷ letters) letter past later e (inl (d, m)) more by = inl (d, moves-more script letters letter past later e m more by)
+moves-more script (l ∷ letters) letter past later e (inr (n, (x, xs, is, of, m))) more by =
+    let more' : ¬ IsDone script letter ((past ++ x ∷ []) ++ xs) =
+    subst (λ (t : List Event). ¬ IsDone script letter t) (ap (λ (t : List Event). past ++ t) is ∙ sym (append_assoc past (x ∷ []) xs)) more in
+    inr (n, (x, xs ++ e ∷ [], ap (λ (t : List Event). t ++ e ∷ []) is, of, moves-more script letters letter (past ++ x ∷ []) xs e m more' by))
+
+pub moves-idle :
+    (script : Content) (letters : List Side) (letter : Side) (past later : List Event) → AreMoves script letters past later →
+    IsDone script letter (past ++ later) → AreMoves script (letters ++ letter ∷ []) past later
+moves-idle script [] letter past [] m d = inl (subst (λ (t : List Event). IsDone script letter t) (append-nil past) d, tt)
+moves-idle script [] letter past (x ∷ later) m d = absurd m
+moves-idle script (l ∷ letters) letter past later (inl (d', m)) d = inl (d', moves-idle script letters letter past later m d)
+moves-idle script (l ∷ letters) letter past later (inr (n, (x, xs, is, of, m))) d =
+    let d' : IsDone script letter ((past ++ x ∷ []) ++ xs) =
+    subst (λ (t : List Event). IsDone script letter t) (ap (λ (t : List Event). past ++ t) is ∙ sym (append_assoc past (x ∷ []) xs)) d in
+    inr (n, (x, xs, is, of, moves-idle script letters letter (past ++ x ∷ []) xs m d'))
+
+pub sides-more : (h : List Event) (e : Event) → sides (h ++ e ∷ []) ≡ sides h ++ e.side ∷ []
+sides-more [] e = refl
+sides-more (x ∷ h) e = ap (λ (t : List Side). x.side ∷ t) (sides-more h e)
+
+-- one step, in terms of letters
+pub moves_step :
+    (script : Content) (letters : List Side) (s : Side) (h h' : List Event) (moved : Bool) → AreMoves script letters [] h → IsMove script s moved h h' →
+    AreMoves script (letters ++ s ∷ []) [] h'
+moves_step script letters s h h' true m (e, is, by, not) =
+    subst (λ (t : List Event). AreMoves script (letters ++ s ∷ []) [] t) (sym is) (moves-more script letters s [] h e m not by)
+moves_step script letters s h h' false m (is, d) = subst (λ (t : List Event). AreMoves script (letters ++ s ∷ []) [] t) (sym is) (moves-idle script letters s [] h m d)

@@ -1,0 +1,53 @@
+-- What the next access of a machine says, by cases of the call under way and of the access.
+use Rattle.std.proofs.Common.{◌≡◌, Bool, true, false, Option, Some, None, List, refl, sym, subst}
+use Rattle.bits_core.specs.declared.events.Access.{Access}
+use Rattle.bits_core.specs.declared.shapes.Shape.{Shape}
+use Rattle.bits_core.specs.Made.{Made}
+use Rattle.ring_core.specs.ConsumerCalls.{ConsumerStands, TakeGoesOn}
+use Rattle.ring_core.specs.ConsumerState.{ConsumerState, is_taking}
+use Rattle.ring_core.specs.ProducerCalls.{ProducerStands, PutGoesOn}
+use Rattle.ring_core.specs.ProducerState.{Call, call_of, ProducerState}
+use Rattle.ring_core.specs.Puts.{Puts, put_program}
+use Rattle.ring_core.specs.Takes.{Takes, take_program}
+
+abbrev pub IsNextPut : Shape → Puts → Option Call → List Made → Option Access → Type 0
+IsNextPut shape calls None made None = made ≡ put_program shape calls
+IsNextPut shape calls (Some c) made None = ⊥
+IsNextPut shape calls None made (Some a) = ⊥
+IsNextPut shape calls (Some c) made (Some a) = PutGoesOn shape calls c made a
+
+abbrev pub NextPut : ProducerState → Option Access → Type 0
+NextPut p due = (calls : Puts) (made : List Made) → ProducerStands p calls made → IsNextPut p.shape calls (call_of p) made due
+
+pub put_next :
+    (p : ProducerState) (due : Option Access) →
+    ((calls : Puts) (made : List Made) → ProducerStands p calls made → due ≡ None → (call_of p ≡ None) × (made ≡ put_program p.shape calls)) →
+    ((calls : Puts) (made : List Made) (a : Access) → ProducerStands p calls made → due ≡ Some a → (c : Call) × (call_of p ≡ Some c) × PutGoesOn p.shape calls c made a) →
+    NextPut p due
+put_next p None rest on calls made s =
+    let (none, all) = rest calls made s refl in
+    subst (λ c. IsNextPut p.shape calls c made None) (sym none) all
+put_next p (Some a) rest on calls made s =
+    let (c, is, goes) = on calls made a s refl in
+    subst (λ d. IsNextPut p.shape calls d made (Some a)) (sym is) goes
+
+abbrev pub IsNextTake : Shape → Takes → Bool → List Made → Option Access → Type 0
+IsNextTake shape calls false made None = made ≡ take_program shape calls
+IsNextTake shape calls true made None = ⊥
+IsNextTake shape calls false made (Some a) = ⊥
+IsNextTake shape calls true made (Some a) = TakeGoesOn shape calls made a
+
+abbrev pub NextTake : ConsumerState → Option Access → Type 0
+NextTake p due = (calls : Takes) (made : List Made) → ConsumerStands p calls made → IsNextTake p.shape calls (is_taking p) made due
+
+pub take_next :
+    (p : ConsumerState) (due : Option Access) →
+    ((calls : Takes) (made : List Made) → ConsumerStands p calls made → due ≡ None → (is_taking p ≡ false) × (made ≡ take_program p.shape calls)) →
+    ((calls : Takes) (made : List Made) (a : Access) → ConsumerStands p calls made → due ≡ Some a → (is_taking p ≡ true) × TakeGoesOn p.shape calls made a) →
+    NextTake p due
+take_next p None rest on calls made s =
+    let (none, all) = rest calls made s refl in
+    subst (λ t. IsNextTake p.shape calls t made None) (sym none) all
+take_next p (Some a) rest on calls made s =
+    let (is, goes) = on calls made a s refl in
+    subst (λ t. IsNextTake p.shape calls t made (Some a)) (sym is) goes

@@ -1,0 +1,52 @@
+-- The calls that are over, where all but the last are.
+use Rattle.std.proofs.Common.{◌≡◌, ℕ, ◌+◌, ◌-◌, ◌*◌, ◌<◌, ◌≤◌, Bool, cond, List, [], ◌∷◌, ◌++◌, length, refl, ap, ap₂, arith, length-append}
+use Rattle.std.proofs.lemmas.Bool.{le-leb, lt-leb}
+use Rattle.bits_core.specs.declared.shapes.Shape.{Shape}
+use Rattle.ring_core.specs.Counts.{Count}
+use Rattle.ring_core.specs.Items.{events_in}
+use Rattle.ring_core.specs.Over.{over}
+use Rattle.ring_core.specs.Puts.{Put, put_phrase, put_phrases, stored_after}
+use Rattle.ring_core.specs.Takes.{Take, take_phrase, take_phrases, taken_after}
+
+module _ {S X : Type 0} (events : S → X → ℕ) (after : S → X → S) where
+  abbrev total : S → List X → ℕ
+  total s [] = 0
+  total s (x ∷ xs) = events s x + total (after s x) xs
+
+  all_over : (s : S) (xs : List X) (t : ℕ) → total s xs ≤ t → over events after s xs t ≡ xs
+  all_over s [] t l = refl
+  all_over s (x ∷ xs) t l =
+      ap₂ (λ (b : Bool) (r : List X). cond b (x ∷ r) []) (le-leb (events s x) t (omega (arith, l))) (all_over (after s x) xs (t - events s x) (omega (arith, l)))
+
+  cut_over : (s : S) (xs : List X) (x : X) (t : ℕ) → total s xs ≤ t → t < total s (xs ++ x ∷ []) → over events after s (xs ++ x ∷ []) t ≡ xs
+  cut_over s [] x t l m = ap (λ (b : Bool). cond b (x ∷ []) []) (lt-leb (events s x) t (omega (arith, m)))
+  cut_over s (y ∷ xs) x t l m =
+      ap₂ (λ (b : Bool) (r : List X). cond b (y ∷ r) []) (le-leb (events s y) t (omega (arith, l))) (cut_over (after s y) xs x (t - events s y) (omega (arith, l)) (omega (arith, m)))
+
+puts_total : (shape : Shape) (c : Count) (xs : List Put) → total (λ c x. events_in (put_phrase shape c x)) (stored_after shape) c xs ≡ 2 * length (put_phrases shape c xs)
+puts_total shape c [] = refl
+puts_total shape c (x ∷ xs) = omega (arith, puts_total shape (stored_after shape c x) xs, length-append (put_phrase shape c x) (put_phrases shape (stored_after shape c x) xs))
+
+takes_total : (shape : Shape) (k : ℕ) (xs : List Take) → total (λ k x. events_in (take_phrase shape k x)) taken_after k xs ≡ 2 * length (take_phrases shape k xs)
+takes_total shape k [] = refl
+takes_total shape k (x ∷ xs) = omega (arith, takes_total shape (taken_after k x) xs, length-append (take_phrase shape k x) (take_phrases shape (taken_after k x) xs))
+
+pub puts_all_over :
+    (shape : Shape) (c : Count) (xs : List Put) (t : ℕ) → 2 * length (put_phrases shape c xs) ≤ t → over (λ c x. events_in (put_phrase shape c x)) (stored_after shape) c xs t ≡ xs
+puts_all_over shape c xs t l = all_over (λ c x. events_in (put_phrase shape c x)) (stored_after shape) c xs t (omega (arith, l, puts_total shape c xs))
+
+pub puts_cut_over :
+    (shape : Shape) (c : Count) (xs : List Put) (x : Put) (t : ℕ) → 2 * length (put_phrases shape c xs) ≤ t → t < 2 * length (put_phrases shape c (xs ++ x ∷ [])) →
+    over (λ c x. events_in (put_phrase shape c x)) (stored_after shape) c (xs ++ x ∷ []) t ≡ xs
+puts_cut_over shape c xs x t l m =
+    cut_over (λ c x. events_in (put_phrase shape c x)) (stored_after shape) c xs x t (omega (arith, l, puts_total shape c xs)) (omega (arith, m, puts_total shape c (xs ++ x ∷ [])))
+
+pub takes_all_over :
+    (shape : Shape) (k : ℕ) (xs : List Take) (t : ℕ) → 2 * length (take_phrases shape k xs) ≤ t → over (λ k x. events_in (take_phrase shape k x)) taken_after k xs t ≡ xs
+takes_all_over shape k xs t l = all_over (λ k x. events_in (take_phrase shape k x)) taken_after k xs t (omega (arith, l, takes_total shape k xs))
+
+pub takes_cut_over :
+    (shape : Shape) (k : ℕ) (xs : List Take) (x : Take) (t : ℕ) → 2 * length (take_phrases shape k xs) ≤ t → t < 2 * length (take_phrases shape k (xs ++ x ∷ [])) →
+    over (λ k x. events_in (take_phrase shape k x)) taken_after k (xs ++ x ∷ []) t ≡ xs
+takes_cut_over shape k xs x t l m =
+    cut_over (λ k x. events_in (take_phrase shape k x)) taken_after k xs x t (omega (arith, l, takes_total shape k xs)) (omega (arith, m, takes_total shape k (xs ++ x ∷ [])))

@@ -1,0 +1,520 @@
+-- What the producer's actor does with its machine.
+use Rattle.std.proofs.Common.{◌≡◌, ℕ, zero, suc, ◌+◌, ◌*◌, ◌%◌, ◌<◌, ◌≤◌, Bool, true, false, cond, Option, Some, None, List, [], ◌∷◌, ◌++◌, length, take, drop, refl, sym, ap, subst, ◌∙◌, append_assoc, append-nil, length-append, arith}
+use Rattle.std.specs.Prelude.{is_some, IfSome}
+use Rattle.bits_core.specs.declared.events.Side.TheVariants.{P}
+use Rattle.bits_core.specs.declared.events.Access.{Access}
+use Rattle.bits_core.specs.declared.shapes.Shape.{Shape}
+use Rattle.bits_core.specs.Shape.{AllFit, batch_of, modulus_of, width_of}
+use Rattle.bits_core.specs.Made.{Made, answered, events_of, IsBeginning}
+use Rattle.bits_core.specs.Open.{IsOpenRight}
+use Rattle.ring_core.specs.declared.producers.BatchReply.{BatchReply}
+use Rattle.ring_core.specs.Calls.{LastBitIsDue}
+use Rattle.ring_core.specs.Counts.{past, Count, first_count}
+use Rattle.ring_core.specs.ProducerCalls.{and_put, closes_with, HasCallMore, HasMoved, IsAfter, IsPutOf, IsReply, last_reply, new_producer, no_puts, ProducerStands, reply_to, room_in}
+use Rattle.ring_core.specs.ProducerState.{batch_reply, Call, call_of, Close, due_put, ProducerState, Put}
+use Rattle.ring_core.specs.Puts as puts
+use Rattle.ring_core.specs.Puts.{ArePuts, Full, IsBatch, number_after, Puts, put_program, Stored, stored_after, stored_count, stored_in}
+use Rattle.ring_core.specs.Over.{fulls}
+use Rattle.ring_core.specs.Readings.{PutsAreFirst}
+use Rattle.ring_player.specs.Actors.{IsAsked, IsPutting, PutTally, after_reply, full_in_reply, so_far, stored_in_reply}
+use Rattle.ring_player.specs.Plays.{AreAttempts, ArePutsOf, IsDoneProducer, IsProgram, offered}
+use Rattle.ring_script.specs.Script.{Content, Fit}
+use Rattle.ring_player.proofs.Nexts.{IsNextPut, NextPut as NextOf}
+use Rattle.ring_player.proofs.Moves.{events-append, events-more, length-events, program_beginning}
+
+-- ---- the items offered
+
+-- each item fits the shape
+pub all_fit : (shape : Shape) (items : List ℕ) → Fit (width_of shape) items → AllFit shape items
+all_fit shape [] f = tt
+all_fit shape (x ∷ items) f = (f 0 0 (omega arith), all_fit shape items (λ k d l. f (suc k) d (omega (arith, l))))
+
+fit-drop : (shape : Shape) (n : ℕ) (xs : List ℕ) → AllFit shape xs → AllFit shape (drop n xs)
+fit-drop shape zero [] f = f
+fit-drop shape zero (x ∷ xs) f = f
+fit-drop shape (suc n) [] f = tt
+fit-drop shape (suc n) (x ∷ xs) f = fit-drop shape n xs f.1
+
+fit-take : (shape : Shape) (n : ℕ) (xs : List ℕ) → AllFit shape xs → AllFit shape (take n xs)
+fit-take shape zero [] f = tt
+fit-take shape zero (x ∷ xs) f = tt
+fit-take shape (suc n) [] f = tt
+fit-take shape (suc n) (x ∷ xs) f = (f.0, fit-take shape n xs f.1)
+
+left_some : (n : ℕ) (xs : List ℕ) → n < length xs → 1 ≤ length (drop n xs)
+left_some zero [] l = absurd (omega (arith, l))
+left_some zero (x ∷ xs) l = omega arith
+left_some (suc n) [] l = absurd (omega (arith, l))
+left_some (suc n) (x ∷ xs) l = left_some n xs (omega (arith, l))
+
+taken_some : (n : ℕ) (xs : List ℕ) → 1 ≤ n → 1 ≤ length xs → 1 ≤ length (take n xs)
+taken_some zero xs l m = absurd (omega (arith, l))
+taken_some (suc n) [] l m = absurd (omega (arith, m))
+taken_some (suc n) (x ∷ xs) l m = omega arith
+
+taken_few : (n : ℕ) (xs : List ℕ) → length (take n xs) ≤ n
+taken_few zero [] = omega arith
+taken_few zero (x ∷ xs) = omega arith
+taken_few (suc n) [] = omega arith
+taken_few (suc n) (x ∷ xs) = omega (arith, taken_few n xs)
+
+pub offered_is_batch : (script : Content) (shape : Shape) (items : List ℕ) (n : ℕ) → shape ≡ script.shape → items ≡ offered script n → AllFit script.shape script.items → n < length script.items → IsBatch shape items
+offered_is_batch script shape items n same is fit l =
+    subst (λ t. IsBatch t items) (sym same) (subst (λ t. IsBatch script.shape t) (sym is) (record {
+      some = taken_some (batch_of script.shape) (drop n script.items) script.shape.has_batch (left_some n script.items l);
+      few = taken_few (batch_of script.shape) (drop n script.items);
+      fit = fit-take script.shape (batch_of script.shape) (drop n script.items) (fit-drop script.shape n script.items fit);
+    }))
+
+-- ---- attempts
+
+number_is : (shape : Shape) (c : Count) (xs : List puts.Put) → (stored_count shape c xs).number ≡ stored_in c.number xs
+number_is shape c [] = refl
+number_is shape c (x ∷ xs) = number_is shape (stored_after shape c x) xs
+
+attempts-more :
+    (script : Content) (n : ℕ) (xs : List puts.Put) (x : puts.Put) → AreAttempts script n xs → stored_in n xs < length script.items →
+    IsPutOf script.shape (stored_in n xs) (offered script (stored_in n xs)) x → AreAttempts script n (xs ++ x ∷ [])
+attempts-more script n [] x m l is = (l, is, tt)
+attempts-more script n (y ∷ xs) x (l', is', m) l is = (l', is', attempts-more script (number_after n y) xs x m l is)
+
+stored-more : (n : ℕ) (xs : List puts.Put) (x : puts.Put) → stored_in n (xs ++ x ∷ []) ≡ number_after (stored_in n xs) x
+stored-more n [] x = refl
+stored-more n (y ∷ xs) x = stored-more (number_after n y) xs x
+
+past_is : (n : ℕ) (items : List ℕ) → past n items ≡ n + length items
+past_is n [] = omega arith
+past_is n (x ∷ items) = omega (arith, past_is (suc n) items)
+
+after_more : (n : ℕ) (x : puts.Put) → n ≤ number_after n x
+after_more n (Stored seen items) = omega (arith, past_is n items)
+after_more n (Full seen) = omega arith
+
+stored_rises : (n : ℕ) (xs ys : List puts.Put) → stored_in n xs ≤ stored_in n (xs ++ ys)
+stored_rises n [] [] = omega arith
+stored_rises n [] (y ∷ ys) = omega (arith, after_more n y, stored_rises (number_after n y) [] ys)
+stored_rises n (x ∷ xs) ys = stored_rises (number_after n x) xs ys
+
+taken_within : (n k : ℕ) (xs : List ℕ) → k < length xs → k + length (take n (drop k xs)) ≤ length xs
+taken_within n zero [] l = absurd (omega (arith, l))
+taken_within zero zero (x ∷ xs) l = omega arith
+taken_within (suc n) zero (x ∷ xs) l = omega (arith, shorter n xs)
+  where
+    shorter : (n : ℕ) (xs : List ℕ) → length (take n xs) ≤ length xs
+    shorter zero [] = omega arith
+    shorter zero (x ∷ xs) = omega arith
+    shorter (suc n) [] = omega arith
+    shorter (suc n) (x ∷ xs) = omega (arith, shorter n xs)
+taken_within n (suc k) [] l = absurd (omega (arith, l))
+taken_within n (suc k) (x ∷ xs) l = omega (arith, taken_within n k xs (omega (arith, l)))
+
+take_shorter : (n : ℕ) (xs : List ℕ) → length (take n xs) ≤ length xs
+take_shorter zero [] = omega arith
+take_shorter zero (x ∷ xs) = omega arith
+take_shorter (suc n) [] = omega arith
+take_shorter (suc n) (x ∷ xs) = omega (arith, take_shorter n xs)
+
+-- attempts store no more items than there are
+attempt_within : (script : Content) (n : ℕ) (x : puts.Put) → n < length script.items → IsPutOf script.shape n (offered script n) x → number_after n x ≤ length script.items
+attempt_within script n (Stored seen items) l is =
+    omega (arith, past_is n items, ap length is, take_shorter (room_in script.shape (n % modulus_of script.shape) seen) (offered script n), taken_within (batch_of script.shape) n script.items l)
+attempt_within script n (Full seen) l is = omega (arith, l)
+
+pub attempts_within : (script : Content) (n : ℕ) (xs : List puts.Put) → n ≤ length script.items → AreAttempts script n xs → stored_in n xs ≤ length script.items
+attempts_within script n [] l m = l
+attempts_within script n (x ∷ xs) l (l', is, m) = attempts_within script (number_after n x) xs (attempt_within script n x l' is) m
+
+-- ---- the program
+
+pub calls_asked :
+    (script : Content) (c : Call) (calls more : Puts) → AreAttempts script 0 calls.puts → IsAsked script calls (Some c) → HasCallMore script.shape c calls more →
+    ArePutsOf script more
+calls_asked script (Put items) calls more m (items_are, left) (x, of, more_is, are, o) = record {
+  are = are;
+  attempts = subst (λ (t : Puts). AreAttempts script 0 t.puts) (sym more_is)
+      (attempts-more script 0 calls.puts x m left
+      (subst (λ t. IsPutOf script.shape (stored_in 0 calls.puts) t x) items_are (subst (λ t. IsPutOf script.shape t items x) (number_is script.shape first_count calls.puts) of)));
+  closes = λ e. absurd (true_false (sym e ∙ ap (λ (t : Puts). t.closes) more_is));
+}
+  where
+    true_false : true ≡ false → ⊥
+    true_false e = absurd (cc)
+calls_asked script Close calls more m asked (more_is, are, o) = record {
+  are = are;
+  attempts = subst (λ (t : Puts). AreAttempts script 0 t.puts) (sym more_is) m;
+  closes = λ e. subst (λ (t : Puts). (script.closes ≡ true) × (stored_in 0 t.puts ≡ length script.items)) (sym more_is) asked;
+}
+
+-- what the access that is due, once it is answered so, goes on to
+goes_on :
+    (script : Content) (c : Option Call) (calls : Puts) (list : List Made) (a : Access) (v : Bool) → AreAttempts script 0 calls.puts → IsAsked script calls c →
+    IsNextPut script.shape calls c list (Some a) → (LastBitIsDue script.shape P (Some a) → v ≡ true) → IsProgram script P (events_of P (list ++ answered a v ∷ []))
+goes_on script None calls list a v m asked next one = absurd next
+goes_on script (Some c) calls list a v m asked next one =
+    let (more, has, (rest, e)) = next v one in
+    (more, calls_asked script c calls more m asked has, (events_of P rest, sym (events-append P (list ++ answered a v ∷ []) rest) ∙ ap (events_of P) e))
+
+-- ---- one step of the actor
+
+abbrev StandsOn : ProducerState → ProducerState → Type 0
+StandsOn p p' = (calls : Puts) (made : List Made) → ProducerStands p calls made → ProducerStands p' calls made
+
+abbrev HasMovedFrom : ProducerState → ProducerState → List Made → Access → Bool → Type 0
+HasMovedFrom p p' list a v = (calls : Puts) → ProducerStands p calls list → HasMoved p p' calls (list ++ answered a v ∷ [])
+
+pub none_of : {A : Type 0} → (o : Option A) → is_some o ≡ false → o ≡ None
+none_of None e = refl
+none_of (Some a) e = absurd (cc)
+
+-- where none is due, no call is under way, and the accesses are those of the calls
+idle : (shape : Shape) (calls : Puts) (c : Option Call) (made : List Made) → IsNextPut shape calls c made None → (c ≡ None) × (made ≡ put_program shape calls)
+idle shape calls None made next = (refl, next)
+idle shape calls (Some c) made next = absurd next
+
+-- where no call is under way the accesses are those of the calls
+at_rest_is : (shape : Shape) (calls : Puts) (c : Option Call) (made : List Made) (due : Option Access) → c ≡ None → IsNextPut shape calls c made due → made ≡ put_program shape calls
+at_rest_is shape calls None made None e next = next
+at_rest_is shape calls None made (Some a) e next = absurd next
+at_rest_is shape calls (Some c) made due e next = absurd (some_none e)
+  where
+    some_none : Some c ≡ None → ⊥
+    some_none e = absurd (cc)
+
+pub next_in :
+    (script : Content) (p : ProducerState) (kept : PutTally) (list : List Made) (o due : Option Access) → (s : IsPutting script p kept list o) → NextOf p due →
+    IsNextPut script.shape s.calls (call_of p) list due
+next_in script p kept list o due s next = subst (λ (t : Shape). IsNextPut t s.calls (call_of p) list due) s.same_shape (next s.calls list s.there)
+
+pub begins_access :
+    (script : Content) (p : ProducerState) (kept : PutTally) (list : List Made) (due : Option Access) (a : Access) → IsPutting script p kept list None → NextOf p due → due ≡ Some a →
+    IsPutting script p kept list (Some a)
+begins_access script p kept list due a s next is =
+    let n : IsNextPut script.shape s.calls (call_of p) list (Some a) = subst (λ d. IsNextPut script.shape s.calls (call_of p) list d) is (next_in script p kept list None due s next) in
+    record {
+      calls = s.calls;
+      there = s.there;
+      same_shape = s.same_shape;
+      attempts = s.attempts;
+      counted = s.counted;
+      filled = s.filled;
+      long = s.long;
+      batched = s.batched;
+      asked = s.asked;
+      program = program_beginning script P (so_far P list (Some a)) _
+          (subst (λ t. IsProgram script P t) (events-more P list a true) (goes_on script (call_of p) s.calls list a true s.attempts s.asked n (λ l. refl)));
+    }
+
+-- the access that is due is of a bit of the script's shape, by the side that may
+pub right :
+    (script : Content) (p : ProducerState) (kept : PutTally) (list : List Made) (due : Option Access) (a : Access) → IsPutting script p kept list None → IfSome due (IsOpenRight p.shape P) →
+    due ≡ Some a → IsOpenRight script.shape P a
+right script p kept list due a s ok is =
+    let there : IsOpenRight p.shape P a = subst (λ d. IfSome d (IsOpenRight p.shape P)) is ok in
+    subst (λ t. IsOpenRight t P a) s.same_shape there
+
+-- ---- where an access is due the side is not done
+
+same_calls : (a b : Puts) → a.puts ≡ b.puts → a.closes ≡ b.closes → a ≡ b
+same_calls a b p q = ap (λ (t : List puts.Put). record { puts = t; closes = a.closes }) p ∙ ap (λ (t : Bool). record { puts = b.puts; closes = t }) q
+
+split_last : (xs ys zs : List puts.Put) (x y : puts.Put) → xs ++ x ∷ [] ≡ ys ++ y ∷ zs → (ws : List puts.Put) × (xs ≡ ys ++ ws)
+split_last xs [] zs x y e = (xs, refl)
+split_last [] (w ∷ []) zs x y e = absurd (cc)
+split_last [] (w ∷ v ∷ ys) zs x y e = absurd (cc)
+split_last (w ∷ xs) (v ∷ ys) zs x y e =
+    let tails : xs ++ x ∷ [] ≡ ys ++ y ∷ zs = cc in
+    let head : w ≡ v = cc in
+    let (ws, f) = split_last xs ys zs x y tails in
+    (ws, ap (λ l. w ∷ l) f ∙ ap (λ t. t ∷ (ys ++ ws)) head)
+
+pub unfinished :
+    PutsAreFirst → (script : Content) (p : ProducerState) (kept : PutTally) (list : List Made) (due : Option Access) (a : Access) → IsPutting script p kept list None → NextOf p due →
+    due ≡ Some a → ¬ IsDoneProducer script (events_of P list)
+unfinished law script p kept list due a s next is d =
+    by_call (call_of p) s.asked (subst (λ t. IsNextPut script.shape s.calls (call_of p) list t) is (next_in script p kept list None due s next))
+  where
+    -- the done calls begin the calls with the one under way, which have more accesses
+    longer : (more : Puts) (rest : List Made) → (list ++ answered a true ∷ []) ++ rest ≡ put_program script.shape more → 2 * length (put_program script.shape d.calls) < 2 * length (put_program script.shape more)
+    longer more rest e =
+        omega (
+          arith,
+          ap length e,
+          length-append (list ++ answered a true ∷ []) rest,
+          length-append list (answered a true ∷ []),
+          ap length d.whole,
+          length-events P list,
+          length-events P (put_program script.shape d.calls),
+        )
+
+    begins_more : (more : Puts) (rest : List Made) → (list ++ answered a true ∷ []) ++ rest ≡ put_program script.shape more →
+        IsBeginning (events_of P (put_program script.shape d.calls)) (events_of P (put_program script.shape more))
+    begins_more more rest e = (
+      events_of P (answered a true ∷ rest),
+      ap (λ l. l ++ events_of P (answered a true ∷ rest)) (sym d.whole) ∙ sym (events-append P list (answered a true ∷ rest)) ∙
+          ap (events_of P) (sym (append_assoc list (answered a true ∷ []) rest) ∙ e),
+    )
+
+    not_all : (more : Puts) → d.calls ≡ more → 2 * length (put_program script.shape d.calls) < 2 * length (put_program script.shape more) → ⊥
+    not_all more same l = absurd (omega (arith, l, ap (λ (t : Puts). length (put_program script.shape t)) same))
+
+    put_less : (more : Puts) (x : puts.Put) (rest : List puts.Put) → more ≡ and_put s.calls x → more.puts ≡ d.calls.puts ++ rest →
+        (d.calls.closes ≡ true → d.calls ≡ more) → 2 * length (put_program script.shape d.calls) < 2 * length (put_program script.shape more) → stored_in 0 s.calls.puts < length script.items → ⊥
+    put_less more x [] more_is e whole l left =
+        by_close d.calls.closes refl
+      where
+        by_close : (b : Bool) → d.calls.closes ≡ b → ⊥
+        by_close true f = not_all more (whole f) l
+        by_close false f =
+            let puts_same : d.calls.puts ≡ more.puts = sym (append-nil d.calls.puts) ∙ sym e in
+            let closes_same : d.calls.closes ≡ more.closes = f ∙ sym (ap (λ (t : Puts). t.closes) more_is) in
+            not_all more (same_calls d.calls more puts_same closes_same) l
+    put_less more x (y ∷ rest) more_is e whole l left =
+        let (ws, f) = split_last s.calls.puts d.calls.puts rest x y (sym (ap (λ (t : Puts). t.puts) more_is) ∙ e) in
+        absurd (omega (arith, left, d.all, stored_rises 0 d.calls.puts ws, ap (stored_in 0) f))
+
+    by_call : (c : Option Call) → IsAsked script s.calls c → IsNextPut script.shape s.calls c list (Some a) → ⊥
+    by_call None asked n = absurd n
+    by_call (Some (Put items)) (items_are, left) n =
+        let (more, (x, of, more_is, are, o), (rest, e)) = n true (λ l. refl) in
+        let (rises, whole) = law script.shape d.calls more d.are are (begins_more more rest e) in
+        put_less more x rises.0 more_is rises.1 whole (longer more rest e) left
+    by_call (Some Close) (closes, all) n =
+        let (more, (more_is, are, o), (rest, e)) = n true (λ l. refl) in
+        let (rises, whole) = law script.shape d.calls more d.are are (begins_more more rest e) in
+        not_all more (whole (d.closes ∙ closes)) (longer more rest e)
+
+-- ---- the next call begins
+
+pub began_put :
+    (script : Content) (p p' : ProducerState) (kept : PutTally) (list : List Made) (items : List ℕ) → IsPutting script p kept list None → NextOf p None → kept.stored < length script.items →
+    items ≡ offered script kept.stored → p'.shape ≡ p.shape → p'.batched ≡ true → (p.closed ≡ false → (call_of p' ≡ Some (Put items)) × (p'.closed ≡ false)) → StandsOn p p' →
+    IsPutting script p' kept list None
+began_put script p p' kept list items s next left are shape batched begun on =
+    let (none, whole) = idle p.shape s.calls (call_of p) list (next s.calls list s.there) in
+    let not_closed : p.closed ≡ false = s.there.closed_is ∙ ap (closes_with s.calls) none ∙ still_open s.calls.closes refl in
+    let (call, o) = begun not_closed in
+    record {
+      calls = s.calls;
+      there = on s.calls list s.there;
+      same_shape = shape ∙ s.same_shape;
+      attempts = s.attempts;
+      counted = s.counted;
+      filled = s.filled;
+      long = s.long;
+      batched = λ items e. batched;
+      asked = subst (λ t. IsAsked script s.calls t) (sym call) (are ∙ ap (offered script) s.counted, omega (arith, left, s.counted));
+      program = s.program;
+    }
+  where
+    asked_none : IsAsked script s.calls None
+    asked_none = subst (λ t. IsAsked script s.calls t) (idle p.shape s.calls (call_of p) list (next s.calls list s.there)).0 s.asked
+
+    still_open : (b : Bool) → s.calls.closes ≡ b → s.calls.closes ≡ false
+    still_open false e = e
+    still_open true e = absurd (omega (arith, (asked_none e).1, s.counted, left))
+
+-- it has begun one, or it may not
+pub began_one :
+    (script : Content) (p p' : ProducerState) (kept : PutTally) (list : List Made) (items : List ℕ) → IsPutting script p kept list None → NextOf p None → kept.stored < length script.items →
+    (p.closed ≡ false → (call_of p' ≡ Some (Put items)) × (p'.closed ≡ false)) → call_of p' ≡ None → ⊥
+began_one script p p' kept list items s next left begun e =
+    let (none, whole) = idle p.shape s.calls (call_of p) list (next s.calls list s.there) in
+    let not_closed : p.closed ≡ false = s.there.closed_is ∙ ap (closes_with s.calls) none ∙ still_open s.calls.closes refl in
+    let call : call_of p' ≡ Some (Put items) = (begun not_closed).0 in
+    absurd (none_some (sym e ∙ call))
+  where
+    none_some : None ≡ Some (Put items) → ⊥
+    none_some e = absurd (cc)
+
+    asked_none : IsAsked script s.calls None
+    asked_none = subst (λ t. IsAsked script s.calls t) (idle p.shape s.calls (call_of p) list (next s.calls list s.there)).0 s.asked
+
+    still_open : (b : Bool) → s.calls.closes ≡ b → s.calls.closes ≡ false
+    still_open false e = e
+    still_open true e = absurd (omega (arith, (asked_none e).1, s.counted, left))
+
+pub began_close :
+    (script : Content) (p p' : ProducerState) (kept : PutTally) (list : List Made) → IsPutting script p kept list None → length script.items ≤ kept.stored → script.closes ≡ true →
+    p'.shape ≡ p.shape → call_of p' ≡ Some Close → StandsOn p p' → IsPutting script p' kept list None
+began_close script p p' kept list s over closes shape call on = record {
+  calls = s.calls;
+  there = on s.calls list s.there;
+  same_shape = shape ∙ s.same_shape;
+  attempts = s.attempts;
+  counted = s.counted;
+  filled = s.filled;
+  long = s.long;
+  batched = λ items e. absurd (no_put items (sym call ∙ e));
+  asked = subst (λ t. IsAsked script s.calls t) (sym call) (closes, omega (arith, over, s.counted, attempts_within script 0 s.calls.puts (omega arith) s.attempts));
+  program = s.program;
+}
+  where
+    no_put : (items : List ℕ) → Some Close ≡ Some (Put items) → ⊥
+    no_put items e = absurd (cc)
+
+pub is_done :
+    (script : Content) (p : ProducerState) (kept : PutTally) (list : List Made) → IsPutting script p kept list None → NextOf p None → length script.items ≤ kept.stored →
+    script.closes ≡ p.closed → IsDoneProducer script (events_of P list)
+is_done script p kept list s next over closes =
+    let (none, whole) = idle p.shape s.calls (call_of p) list (next s.calls list s.there) in
+    record {
+      calls = s.calls;
+      are = subst (λ (t : Shape). ArePuts t 0 s.calls.puts) s.same_shape s.there.are;
+      all = omega (arith, over, s.counted, attempts_within script 0 s.calls.puts (omega arith) s.attempts);
+      closes = sym (closes ∙ s.there.closed_is ∙ ap (closes_with s.calls) none);
+      whole = ap (events_of P) (whole ∙ ap (λ (t : Shape). put_program t s.calls) s.same_shape);
+    }
+
+-- a close that was not asked for was not made
+pub not_closed : (script : Content) (p : ProducerState) (kept : PutTally) (list : List Made) → IsPutting script p kept list None → NextOf p None → script.closes ≡ false → script.closes ≡ p.closed
+not_closed script p kept list s next closes =
+    let (none, whole) = idle p.shape s.calls (call_of p) list (next s.calls list s.there) in
+    closes ∙ sym (s.there.closed_is ∙ ap (closes_with s.calls) none ∙ by_close s.calls.closes refl)
+  where
+    asked_none : IsAsked script s.calls None
+    asked_none = subst (λ t. IsAsked script s.calls t) (idle p.shape s.calls (call_of p) list (next s.calls list s.there)).0 s.asked
+
+    clash : script.closes ≡ true → ⊥
+    clash e = absurd (cc)
+
+    by_close : (b : Bool) → s.calls.closes ≡ b → s.calls.closes ≡ false
+    by_close false e = e
+    by_close true e = absurd (clash (asked_none e).0)
+
+-- ---- the access ends
+
+last-more : (first : Option BatchReply) (xs : List puts.Put) (x : puts.Put) → last_reply first (xs ++ x ∷ []) ≡ Some (reply_to x)
+last-more first [] x = refl
+last-more first (y ∷ xs) x = last-more (Some (reply_to y)) xs x
+
+counted_by : (n : ℕ) (x : puts.Put) → number_after n x ≡ n + stored_in_reply (Some (reply_to x))
+counted_by n (Stored seen items) = past_is n items
+counted_by n (Full seen) = omega arith
+
+fulls-more : (xs : List puts.Put) (x : puts.Put) → fulls xs + full_in_reply (Some (reply_to x)) ≡ fulls (xs ++ x ∷ [])
+fulls-more [] (Stored seen items) = refl
+fulls-more [] (Full seen) = refl
+fulls-more (Stored seen items ∷ xs) x = fulls-more xs x
+fulls-more (Full seen ∷ xs) x = omega (arith, fulls-more xs x)
+
+-- what the actor has counted is what is stored, and it stands after one access more
+pub ended :
+    (script : Content) (p p' : ProducerState) (kept : PutTally) (list : List Made) (due : Option Access) (a : Access) (v : Bool) → IsPutting script p kept list (Some a) → NextOf p due → due ≡ due_put p →
+    due_put p ≡ Some a → (LastBitIsDue script.shape P (due_put p) → v ≡ true) → HasMovedFrom p p' list a v → p'.shape ≡ p.shape → p'.batched ≡ p.batched → (due' : Option Access) → NextOf p' due' →
+    IsPutting script p' (after_reply kept (batch_reply p')) (list ++ answered a v ∷ []) None
+ended script p p' kept list due a v s next due_is is one moved shape batched due' next' =
+    let n : IsNextPut script.shape s.calls (call_of p) list (Some a) = subst (λ d. IsNextPut script.shape s.calls (call_of p) list d) (due_is ∙ is) (next_in script p kept list (Some a) due s next) in
+    let one' : LastBitIsDue script.shape P (Some a) → v ≡ true = subst (λ d. LastBitIsDue script.shape P d → v ≡ true) is one in
+    let goes : IsProgram script P (events_of P (list ++ answered a v ∷ [])) = goes_on script (call_of p) s.calls list a v s.attempts s.asked n one' in
+    let (more, there, after) = moved s.calls s.there in
+    let after' : IsAfter script.shape (call_of p) (call_of p') s.calls more p'.reply = subst (λ (t : Shape). IsAfter t (call_of p) (call_of p') s.calls more p'.reply) s.same_shape after in
+    by_call (call_of p) (call_of p') refl refl more s.asked there after' goes
+  where
+    rest_reply : (more : Puts) (x : puts.Put) → more ≡ and_put s.calls x → IsReply more None p'.reply → p'.reply ≡ Some (reply_to x)
+    rest_reply more x more_is r = (subst (λ (t : Puts). IsReply t None p'.reply) more_is r) ∙ last-more None s.calls.puts x
+
+    whole_long : (more : Puts) → ProducerStands p' more (list ++ answered a v ∷ []) → call_of p' ≡ None → length (put_program script.shape more) ≤ length (list ++ answered a v ∷ [])
+    whole_long more there none =
+        let at_rest = at_rest_is p'.shape more (call_of p') (list ++ answered a v ∷ []) due' none (next' more (list ++ answered a v ∷ []) there) in
+        omega (arith, ap length at_rest, ap (λ (t : Shape). length (put_program t more)) (shape ∙ s.same_shape))
+
+    none_told : (p'.reply ≡ None) → batch_reply p' ≡ None
+    none_told e = ap (λ t. cond p'.batched t None) e ∙ by_batched p'.batched
+      where
+        by_batched : (b : Bool) → cond {A = Option BatchReply} b None None ≡ None
+        by_batched true = refl
+        by_batched false = refl
+
+    quiet : (p'.reply ≡ None) → kept.stored + stored_in_reply (batch_reply p') ≡ kept.stored
+    quiet e = let nothing : kept.stored + 0 ≡ kept.stored = omega arith in ap (λ t. kept.stored + stored_in_reply t) (none_told e) ∙ nothing
+
+    quiet_full : (p'.reply ≡ None) → kept.full + full_in_reply (batch_reply p') ≡ kept.full
+    quiet_full e = let nothing : kept.full + 0 ≡ kept.full = omega arith in ap (λ t. kept.full + full_in_reply t) (none_told e) ∙ nothing
+
+    by_call :
+        (c d : Option Call) → call_of p ≡ c → call_of p' ≡ d → (more : Puts) → IsAsked script s.calls c → ProducerStands p' more (list ++ answered a v ∷ []) →
+        IsAfter script.shape c d s.calls more p'.reply → IsProgram script P (events_of P (list ++ answered a v ∷ [])) →
+        IsPutting script p' (after_reply kept (batch_reply p')) (list ++ answered a v ∷ []) None
+    by_call None d c_is d_is more asked there after goes = absurd after
+    by_call (Some c) (Some d) c_is d_is more asked there (same, more_is) goes =
+        let silent : p'.reply ≡ None = subst (λ t. IsReply more t p'.reply) d_is there.reply_is in
+        record {
+          calls = more;
+          there = there;
+          same_shape = shape ∙ s.same_shape;
+          attempts = subst (λ (t : Puts). AreAttempts script 0 t.puts) (sym more_is) s.attempts;
+          counted = quiet silent ∙ s.counted ∙ ap (λ (t : Puts). stored_in 0 t.puts) (sym more_is);
+          filled = quiet_full silent ∙ s.filled ∙ ap (λ (t : Puts). fulls t.puts) (sym more_is);
+          long = omega (arith, s.long, ap (λ (t : Puts). length (put_program script.shape t)) more_is, length-append list (answered a v ∷ []));
+          batched = λ items e. batched ∙ s.batched items (c_is ∙ ap (λ t. Some t) (sym same) ∙ sym d_is ∙ e);
+          asked = subst (λ t. IsAsked script more t) (sym d_is) (subst (λ t. IsAsked script more (Some t)) (sym same) (subst (λ (t : Puts). IsAsked script t (Some c)) (sym more_is) asked));
+          program = goes;
+        }
+    by_call (Some (Put items)) None c_is d_is more (items_are, left) there ((x, of, more_is, are, o), silent) goes =
+        let told : p'.reply ≡ Some (reply_to x) = rest_reply more x more_is (subst (λ t. IsReply more t p'.reply) d_is there.reply_is) in
+        let batch : p'.batched ≡ true = batched ∙ s.batched items c_is in
+        let reply_is : batch_reply p' ≡ Some (reply_to x) = ap (λ t. cond t p'.reply None) batch ∙ told in
+        record {
+          calls = more;
+          there = there;
+          same_shape = shape ∙ s.same_shape;
+          attempts = (calls_asked script (Put items) s.calls more s.attempts (items_are, left) (x, of, more_is, are, o)).attempts;
+          filled = ap (λ t. kept.full + full_in_reply t) reply_is ∙ ap (λ t. t + full_in_reply (Some (reply_to x))) s.filled ∙ fulls-more s.calls.puts x ∙ ap (λ (t : Puts). fulls t.puts) (sym more_is);
+          counted = ap (λ t. kept.stored + stored_in_reply t) reply_is ∙ ap (λ t. t + stored_in_reply (Some (reply_to x))) s.counted ∙ sym (counted_by (stored_in 0 s.calls.puts) x)
+              ∙ sym (stored-more 0 s.calls.puts x) ∙ ap (λ (t : Puts). stored_in 0 t.puts) (sym more_is);
+          long = whole_long more there d_is;
+          batched = λ items e. absurd (none_some items (sym d_is ∙ e));
+          asked = subst (λ t. IsAsked script more t) (sym d_is) (calls_asked script (Put items) s.calls more s.attempts (items_are, left) (x, of, more_is, are, o)).closes;
+          program = goes;
+        }
+      where
+        none_some : (items : List ℕ) → None ≡ Some (Put items) → ⊥
+        none_some items e = absurd (cc)
+    by_call (Some Close) None c_is d_is more asked there ((more_is, are, o), silent) goes =
+        record {
+          calls = more;
+          there = there;
+          same_shape = shape ∙ s.same_shape;
+          attempts = subst (λ (t : Puts). AreAttempts script 0 t.puts) (sym more_is) s.attempts;
+          counted = quiet (silent refl) ∙ s.counted ∙ ap (λ (t : Puts). stored_in 0 t.puts) (sym more_is);
+          filled = quiet_full (silent refl) ∙ s.filled ∙ ap (λ (t : Puts). fulls t.puts) (sym more_is);
+          long = whole_long more there d_is;
+          batched = λ items e. absurd (none_some items (sym d_is ∙ e));
+          asked = subst (λ t. IsAsked script more t) (sym d_is) (calls_asked script Close s.calls more s.attempts asked (more_is, are, o)).closes;
+          program = goes;
+        }
+      where
+        none_some : (items : List ℕ) → None ≡ Some (Put items) → ⊥
+        none_some items e = absurd (cc)
+
+pub ended_within : (script : Content) (p : ProducerState) (kept : PutTally) (list : List Made) (o : Option Access) → IsPutting script p kept list o → kept.stored ≤ length script.items
+ended_within script p kept list o s = omega (arith, s.counted, attempts_within script 0 s.calls.puts (omega arith) s.attempts)
+
+-- an actor that has made no access
+pub new_putting : (script : Content) (p : ProducerState) → p ≡ new_producer script.shape → ProducerStands p no_puts [] → IsPutting script p (record { stored = 0; full = 0 }) [] None
+new_putting script p is there = record {
+  calls = no_puts;
+  there = there;
+  same_shape = ap (λ (t : ProducerState). t.shape) is;
+  attempts = tt;
+  counted = refl;
+  filled = refl;
+  long = omega arith;
+  batched = λ items e. absurd (none_some items (sym none ∙ e));
+  asked = subst (λ t. IsAsked script no_puts t) (sym none) closed;
+  program = (no_puts, record { are = tt; attempts = tt; closes = closed }, (events_of P (put_program script.shape no_puts), refl));
+}
+  where
+    none : call_of p ≡ None
+    none = ap call_of is
+
+    none_some : (items : List ℕ) → None ≡ Some (Put items) → ⊥
+    none_some items e = absurd (cc)
+
+    closed : false ≡ true → (script.closes ≡ true) × (0 ≡ length script.items)
+    closed e = absurd (cc)
+
+-- where none is due, no call is under way
+pub resting :
+    (script : Content) (p : ProducerState) (kept : PutTally) (list : List Made) (due : Option Access) → IsPutting script p kept list None → NextOf p due → due ≡ None → call_of p ≡ None
+resting script p kept list due s next none = (idle script.shape s.calls (call_of p) list (subst (λ d. IsNextPut script.shape s.calls (call_of p) list d) none (next_in script p kept list None due s next))).0

@@ -1,0 +1,176 @@
+-- What one step of a side does.
+use Rattle.std.proofs.Common.{◌≡◌, ℕ, zero, suc, ◌<◌, ◌≤◌, Bool, true, false, Option, Some, None, List, [], ◌∷◌, ◌++◌, length, refl, sym, ap, subst, ◌∙◌, append_assoc, append-nil, length-append, arith}
+use Rattle.std.specs.Prelude.{if◌then◌else◌, not, ◌^◌}
+use Rattle.std.proofs.lemmas.List.Filters.{length-filter_both}
+use Rattle.bits_core.specs.declared.events.Side.{Side}
+use Rattle.bits_core.specs.declared.events.Side.TheVariants.{P, C}
+use Rattle.bits_core.specs.declared.events.Bit.{Bit}
+use Rattle.bits_core.specs.declared.events.Access.{Access}
+use Rattle.bits_core.specs.declared.events.Access.TheVariants as access
+use Rattle.bits_core.specs.declared.events.Act.TheVariants.{ReadEnd}
+use Rattle.bits_core.specs.declared.events.Event.{Event}
+use Rattle.bits_core.specs.Bits.{begun_by, is_by, other}
+use Rattle.bits_core.specs.History.{open_access}
+use Rattle.bits_core.specs.Laws.{OpenChanges, OwnChanges}
+use Rattle.bits_core.specs.Lawful.{IsLawful}
+use Rattle.bits_core.specs.Made.{Made, Read, answered, end_event, events_of, own}
+use Rattle.bits_core.specs.Open.{IsReading, IsWriting, bit_of}
+use Rattle.bits_core.specs.Shape.{modulus_of}
+use Rattle.register_core.specs.Row.{row_bit}
+use Rattle.register_core.specs.ScanState.{row_read_by, zero_reads}
+use Rattle.ring_core.specs.Calls.{EndsInZeros, LastBitIsDue}
+use Rattle.ring_core.specs.RingLaw.{PutsAreSeen, TakesAreSeen}
+use Rattle.ring_player.specs.Actors.{begun, so_far, IsMove, IsPlaying}
+use Rattle.ring_player.specs.Plays.{IsProgram}
+use Rattle.ring_script.specs.Script.{Content}
+use Rattle.ring_player.proofs.Moves.{by_side, events-more, length-events, open_not_done, own_by, own_other, so_far_length}
+
+abbrev pub Stands : Type 1
+Stands = List Made → Option Access → Type 0
+
+pub open_by : OpenChanges → (s : Side) (h : List Event) (e : Event) → e.side ≡ s → open_access s (h ++ e ∷ []) ≡ begun_by e
+open_by law s h e by = law s h e ∙ ap (λ t. if t then begun_by e else open_access s h) (by_side s e by)
+
+none_some : {A : Type 0} {G : Type 0} (a : A) → None ≡ Some a → G
+none_some a p = absurd (cc)
+
+-- where the side stands, by the access that it has open
+pub playing :
+    (s : Side) (h : List Event) (due : Option Access) (stands : Stands) (list : List Made) (o : Option Access) → open_access s h ≡ o → stands list o → own s h ≡ so_far s list o →
+    ((a : Access) → o ≡ Some a → due ≡ Some a) → IsPlaying s h due stands
+playing s h due stands list o e there own_is is_due = record {
+  list = list;
+  there = subst (stands list) (sym e) there;
+  own_is = own_is ∙ ap (so_far s list) (sym e);
+  is_due = λ a f. is_due a (sym e ∙ f);
+}
+
+pub there_with : (s : Side) (h : List Event) (due : Option Access) (stands : Stands) (o : Option Access) → (p : IsPlaying s h due stands) → open_access s h ≡ o → stands p.list o
+there_with s h due stands o p e = subst (stands p.list) e p.there
+
+pub own_with : (s : Side) (h : List Event) (due : Option Access) (stands : Stands) (o : Option Access) → (p : IsPlaying s h due stands) → open_access s h ≡ o → own s h ≡ so_far s p.list o
+own_with s h due stands o p e = p.own_is ∙ ap (so_far s p.list) e
+
+-- an actor whose side stands still
+pub playing_on : (s : Side) (h : List Event) (due due' : Option Access) (stands stands' : Stands) → IsPlaying s h due stands → due' ≡ due → ((list : List Made) (o : Option Access) → stands list o → stands' list o) → IsPlaying s h due' stands'
+playing_on s h due due' stands stands' p same on = record { list = p.list; there = on p.list (open_access s h) p.there; own_is = p.own_is; is_due = λ a e. same ∙ p.is_due a e }
+
+pub reading : (o : Option Access) → IsReading o → o ≡ Some (access.Read (bit_of o))
+reading None r = absurd r
+reading (Some (access.Read b)) r = refl
+reading (Some (access.Write b v)) r = absurd r
+
+pub writing : (o : Option Access) → IsWriting o → (v : Bool) × (o ≡ Some (access.Write (bit_of o) v))
+writing None w = absurd w
+writing (Some (access.Read b)) w = absurd w
+writing (Some (access.Write b v)) w = (v, refl)
+
+-- an open access ended
+pub after_end :
+    OpenChanges → OwnChanges → (s : Side) (h h' : List Event) (due due' : Option Access) (stands stands' : Stands) (a : Access) (v : Bool) (e : Event) → (p : IsPlaying s h due stands) →
+    open_access s h ≡ Some a → h' ≡ h ++ e ∷ [] → e ≡ end_event s (answered a v) → e.side ≡ s → begun_by e ≡ None → stands' (p.list ++ answered a v ∷ []) None → IsPlaying s h' due' stands'
+after_end opens owns s h h' due due' stands stands' a v e p o is end by ends there =
+    subst (λ (t : List Event). IsPlaying s t due' stands') (sym is)
+    (playing s (h ++ e ∷ []) due' stands' (p.list ++ answered a v ∷ []) None (open_by opens s h e by ∙ ends) there
+    (own_by owns s h e by ∙ ap (λ l. l ++ e ∷ []) (own_with s h due stands (Some a) p o) ∙ ap (λ x. so_far s p.list (Some a) ++ x ∷ []) end ∙ sym (events-more s p.list a v))
+    (λ b f. none_some b f))
+
+-- the due access begun
+begun_begins : (s : Side) (a : Access) → begun_by (begun s a) ≡ Some a
+begun_begins s (access.Read b) = refl
+begun_begins s (access.Write b v) = refl
+
+pub begun_side : (s : Side) (a : Access) → (begun s a).side ≡ s
+begun_side s (access.Read b) = refl
+begun_side s (access.Write b v) = refl
+
+pub after_begin :
+    OpenChanges → OwnChanges → (s : Side) (h h' : List Event) (due due' : Option Access) (stands stands' : Stands) (a : Access) → (p : IsPlaying s h due stands) → open_access s h ≡ None →
+    h' ≡ h ++ begun s a ∷ [] → due' ≡ Some a → stands' p.list (Some a) → IsPlaying s h' due' stands'
+after_begin opens owns s h h' due due' stands stands' a p o is is_due there =
+    let e : Event = begun s a in
+    let by : e.side ≡ s = begun_side s a in
+    subst (λ (t : List Event). IsPlaying s t due' stands') (sym is)
+    (playing s (h ++ e ∷ []) due' stands' p.list (Some a) (open_by opens s h e by ∙ begun_begins s a) there
+    (own_by owns s h e by ∙ ap (λ l. l ++ e ∷ []) (own_with s h due stands None p o))
+    (λ b f. is_due ∙ f))
+
+-- a side whose access was open was not done
+pub end_move :
+    (script : Content) (s : Side) (h h' : List Event) (due : Option Access) (stands : Stands) (a : Access) (e : Event) → IsPlaying s h due stands → open_access s h ≡ Some a → h' ≡ h ++ e ∷ [] →
+    e.side ≡ s → IsMove script s true h h'
+end_move script s h h' due stands a e p o is by = (e, is, by, open_not_done script s h p.list a (own_with s h due stands (Some a) p o))
+
+-- ---- the last bit of a count is not read as 0
+
+length-zeros : (row : ℕ → Bit) (n : ℕ) → length (zero_reads row n) ≡ n
+length-zeros row zero = refl
+length-zeros row (suc n) = omega (arith, length-append (zero_reads row n) (Read (row n) false ∷ []), length-zeros row n)
+
+-- reads of 0 in all bits
+all_zero :
+    (row : ℕ → Bit) (list before : List Made) (last modulus : ℕ) (b : Bit) → list ≡ before ++ zero_reads row last → suc last ≡ modulus → b ≡ row last →
+    list ++ Read b false ∷ [] ≡ before ++ (zero_reads row modulus ++ [])
+all_zero row list before last modulus b e f g =
+    ap (λ l. l ++ Read b false ∷ []) e ∙ append_assoc before (zero_reads row last) (Read b false ∷ []) ∙ ap (λ x. before ++ (zero_reads row last ++ Read x false ∷ [])) g
+    ∙ ap (λ n. before ++ zero_reads row n) f ∙ ap (λ l. before ++ l) (sym (append-nil (zero_reads row modulus)))
+
+row_same : (s : Side) (i j : ℕ) (m : ℕ) → suc i ≡ m → suc j ≡ m → row_read_by s i ≡ row_read_by s j
+row_same s i j m e f = let same : i ≡ j = omega (arith, e, f) in ap (row_read_by s) same
+
+never_false :
+    PutsAreSeen → TakesAreSeen → (script : Content) (s : Side) (h : List Event) (list : List Made) (b : Bit) → IsLawful script.shape h → IsProgram script (other s) (own (other s) h) →
+    own s h ≡ events_of s (list ++ Read b false ∷ []) → EndsInZeros script.shape s list → (i : ℕ) → b ≡ row_read_by s i → suc i ≡ modulus_of script.shape → ⊥
+never_false puts takes script P h list b lawful (calls, are, begins) own_is (before, last, top, list_is) i b_is i_top =
+    let made : list ++ Read b false ∷ [] ≡ before ++ (zero_reads (row_bit C) (modulus_of script.shape) ++ []) =
+    all_zero (row_bit C) list before last (modulus_of script.shape) b list_is top (b_is ∙ row_same P i last (modulus_of script.shape) i_top top) in
+    let fewer = (takes script.shape h calls lawful (record { are = are; events = begins })).1 (list ++ Read b false ∷ []) before [] ([], append-nil (own P h) ∙ own_is) made in
+    absurd (omega (
+      arith,
+      fewer,
+      ap length own_is,
+      length-events P (list ++ Read b false ∷ []),
+      ap length made,
+      length-append before (zero_reads (row_bit C) (modulus_of script.shape) ++ []),
+      length-append (zero_reads (row_bit C) (modulus_of script.shape)) [],
+      length-zeros (row_bit C) (modulus_of script.shape),
+    ))
+never_false puts takes script C h list b lawful (calls, are, begins) own_is (before, last, top, list_is) i b_is i_top =
+    let made : list ++ Read b false ∷ [] ≡ before ++ (zero_reads (row_bit P) (modulus_of script.shape) ++ []) =
+    all_zero (row_bit P) list before last (modulus_of script.shape) b list_is top (b_is ∙ row_same C i last (modulus_of script.shape) i_top top) in
+    let fewer = (puts script.shape h calls lawful (record { are = are.are; events = begins })).1 (list ++ Read b false ∷ []) before [] ([], append-nil (own C h) ∙ own_is) made in
+    absurd (omega (
+      arith,
+      fewer,
+      ap length own_is,
+      length-events C (list ++ Read b false ∷ []),
+      ap length made,
+      length-append before (zero_reads (row_bit P) (modulus_of script.shape) ++ []),
+      length-append (zero_reads (row_bit P) (modulus_of script.shape)) [],
+      length-zeros (row_bit P) (modulus_of script.shape),
+    ))
+
+same_read : (b c : Bit) → Some (access.Read b) ≡ Some (access.Read c) → b ≡ c
+same_read b c e = cc
+
+pub answers_one :
+    PutsAreSeen → TakesAreSeen → OwnChanges → (script : Content) (s : Side) (h h' : List Event) (due : Option Access) (stands : Stands) (b : Bit) (v : Bool) → (p : IsPlaying s h due stands) →
+    open_access s h ≡ Some (access.Read b) → h' ≡ h ++ record { side = s; bit = b; act = ReadEnd v } ∷ [] → IsLawful script.shape h' → IsProgram script (other s) (own (other s) h) →
+    (LastBitIsDue script.shape s due → EndsInZeros script.shape s p.list) → LastBitIsDue script.shape s due → v ≡ true
+answers_one puts takes owns script s h h' due stands b true p o is lawful other_is zeros last = refl
+answers_one puts takes owns script s h h' due stands b false p o is lawful other_is zeros last =
+    let e : Event = record { side = s; bit = b; act = ReadEnd false } in
+    let (i, due_is, top) = last in
+    let there : own s h' ≡ events_of s (p.list ++ Read b false ∷ []) =
+    ap (own s) is ∙ own_by owns s h e refl ∙ ap (λ l. l ++ e ∷ []) (own_with s h due stands (Some (access.Read b)) p o) ∙ sym (events-more s p.list (access.Read b) false) in
+    let others : IsProgram script (other s) (own (other s) h') = subst (λ t. IsProgram script (other s) t) (sym (ap (own (other s)) is ∙ own_other owns s h e refl)) other_is in
+    absurd (never_false puts takes script s h' p.list b lawful others there (zeros last) i (same_read b (row_read_by s i) (sym (p.is_due (access.Read b) o) ∙ due_is)) top)
+
+-- ---- no more accesses than a count can tell
+
+own-length : (s : Side) (h : List Event) → length (own s h) ≤ length h
+own-length s h = omega (arith, length-filter_both (is_by s) (λ e. not (is_by s e)) (λ e. refl) h)
+
+pub accesses_few : (s : Side) (h : List Event) (due : Option Access) (stands : Stands) (n : ℕ) → (p : IsPlaying s h due stands) → n ≡ length h → n < 2 ^ 64 → length p.list < 2 ^ 63
+accesses_few s h due stands n p is few =
+    omega (arith, is, few, own-length s h, ap length p.own_is, so_far_length s p.list (open_access s h))

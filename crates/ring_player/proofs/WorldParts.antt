@@ -1,0 +1,215 @@
+-- What a step of one side leaves of the world.
+use Rattle.std.proofs.Common.{◌≡◌, ◌⊎◌, inl, inr, ℕ, ◌+◌, ◌<◌, Bool, true, false, Option, Some, None, Result, Ok, Err, List, [], ◌∷◌, ◌++◌, length, take, append_assoc, append-nil, refl, sym, ap, subst, ◌∙◌, arith}
+use Rattle.std.specs.Prelude.{if◌then◌else◌, IfOk, OnErr, OnOk, ◌↔◌}
+use Rattle.bits_core.specs.declared.events.Side.{Side}
+use Rattle.bits_core.specs.declared.events.Side.TheVariants.{P, C}
+use Rattle.bits_core.specs.declared.events.Access.{Access}
+use Rattle.bits_core.specs.declared.events.Act.TheVariants.{ReadEnd}
+use Rattle.bits_core.specs.declared.events.Event.{Event}
+use Rattle.bits_core.specs.Bits.{begun_by, other}
+use Rattle.bits_core.specs.History.{open_access}
+use Rattle.bits_core.specs.Lawful.{IsLawful}
+use Rattle.bits_core.specs.Laws.{FlickerIsByInterval, OpenChanges, OverlapIsByInterval, OwnChanges}
+use Rattle.bits_core.specs.Made.{own}
+use Rattle.bits_core.specs.Memory.{EndsOverlappedRead, Recorded}
+use Rattle.bits_core.specs.Oracle.{turn}
+use Rattle.ring_player.specs.Actors.{IsAtTurn, IsMove, IsPlaying, so_far}
+use Rattle.ring_player.specs.Plays.{AreInTurn, AreMoves, IsDone, IsPlayed, IsProgram, Plays, sides}
+use Rattle.std.specs.Prelude.{replicate, slice_index_or}
+use Rattle.std.proofs.lemmas.List.{take_more}
+use Rattle.ring_script.specs.declared.schedules.Run.{Run}
+use Rattle.ring_script.specs.Schedule.{spelled}
+use Rattle.ring_script.specs.Script.{Content}
+use Rattle.ring_core.specs.Items.{ItemsAreRead, items_put_in, items_taken_in, TakenAreRead, ToldIn}
+use Rattle.ring_core.specs.Over.{empties, fulls, PutsOverAreRead, puts_over_in, TakesOverAreRead, takes_over_in}
+use Rattle.ring_core.specs.Puts.{FollowsPuts, Puts}
+use Rattle.ring_core.specs.Takes.{FollowsTakes, Takes}
+use Rattle.ring_player.specs.SoFar.{PutSoFar, TakenSoFar}
+use Rattle.ring_player.specs.Worlds.{IsWorld}
+use Rattle.ring_player.proofs.Moves.{moves-more, moves_step, not_by, own_other, sides-more}
+use Rattle.ring_player.proofs.Steps.{Stands}
+
+-- one event of the side, which was not done, or nothing
+abbrev pub Grown : Content → Side → (h h' : List Event) → Type 0
+Grown script s h h' = ((e : Event) × (h' ≡ h ++ e ∷ []) × (e.side ≡ s) × (¬ IsDone script s h)) ⊎ (h' ≡ h)
+
+grown_by : (script : Content) (s : Side) (h h' : List Event) (moved : Bool) → IsMove script s moved h h' → Grown script s h h'
+grown_by script s h h' true m = inl m
+grown_by script s h h' false m = inr m.0
+
+pub grown : {E : Type 0} (script : Content) (s : Side) (h h' : List Event) (r : Result Bool E) → IfOk r (λ moved. IsMove script s moved h h') → OnErr r (h' ≡ h) → Grown script s h h'
+grown script s h h' (Ok moved) ok err = grown_by script s h h' moved ok
+grown script s h h' (Err e) ok err = inr err
+
+-- the other side stands where it was
+playing_other :
+    OpenChanges → OwnChanges → (script : Content) (s : Side) (h h' : List Event) (due : Option Access) (stands : Stands) → Grown script s h h' → IsPlaying (other s) h due stands →
+    IsPlaying (other s) h' due stands
+playing_other opens owns script s h h' due stands (inl (e, is, by, n)) p =
+    let open_same : open_access (other s) (h ++ e ∷ []) ≡ open_access (other s) h =
+    opens (other s) h e ∙ ap (λ t. if t then begun_by e else open_access (other s) h) (not_by s e by) in
+    subst (λ (t : List Event). IsPlaying (other s) t due stands) (sym is) (record {
+      list = p.list;
+      there = subst (stands p.list) (sym open_same) p.there;
+      own_is = own_other owns s h e by ∙ p.own_is ∙ ap (so_far (other s) p.list) (sym open_same);
+      is_due = λ a f. p.is_due a (sym open_same ∙ f);
+    })
+playing_other opens owns script s h h' due stands (inr is) p = subst (λ (t : List Event). IsPlaying (other s) t due stands) (sym is) p
+
+moves_grown : (script : Content) (s : Side) (h h' : List Event) → Grown script s h h' → AreMoves script (sides h) [] h → AreMoves script (sides h') [] h'
+moves_grown script s h h' (inl (e, is, by, not)) m =
+    let m' : AreMoves script (sides h ++ e.side ∷ []) [] (h ++ e ∷ []) = moves-more script (sides h) e.side [] h e m (subst (λ (t : Side). ¬ IsDone script t h) (sym by) not) refl in
+    subst (λ (t : List Event). AreMoves script (sides t) [] t) (sym is) (subst (λ (l : List Side). AreMoves script l [] (h ++ e ∷ [])) (sym (sides-more h e)) m')
+moves_grown script s h h' (inr is) m = subst (λ (t : List Event). AreMoves script (sides t) [] t) (sym is) m
+
+pub producer_steps :
+    OpenChanges → OwnChanges → (script : Content) (m m' : Recorded) (ps ps' cs : Content) (pd pd' cd : Option Access) (pt pt' ct : Stands) (a a' : ℕ → Bool) → IsWorld script m ps cs pd cd pt ct a →
+    m'.shape ≡ m.shape → ps' ≡ ps → IsPlaying P m'.events pd' pt' → Grown ps P m.events m'.events → ((turns : ℕ → Bool) → IsAtTurn turns m.events a → IsAtTurn turns m'.events a') →
+    IsWorld script m' ps' cs pd' cd pt' ct a'
+producer_steps opens owns script m m' ps ps' cs pd pd' cd pt pt' ct a a' w shape same playing g turns =
+    let g' : Grown script P m.events m'.events = subst (λ (t : Content). Grown t P m.events m'.events) w.put_script_is g in
+    record {
+      shape = shape ∙ w.shape;
+      put_script_is = same ∙ w.put_script_is;
+      take_script_is = w.take_script_is;
+      puts = playing;
+      takes = playing_other opens owns script P m.events m'.events cd ct g' w.takes;
+      oracle = turns (turn script.oracle) w.oracle;
+      moves = moves_grown script P m.events m'.events g' w.moves;
+    }
+
+pub consumer_steps :
+    OpenChanges → OwnChanges → (script : Content) (m m' : Recorded) (ps cs cs' : Content) (pd cd cd' : Option Access) (pt ct ct' : Stands) (a a' : ℕ → Bool) → IsWorld script m ps cs pd cd pt ct a →
+    m'.shape ≡ m.shape → cs' ≡ cs → IsPlaying C m'.events cd' ct' → Grown cs C m.events m'.events → ((turns : ℕ → Bool) → IsAtTurn turns m.events a → IsAtTurn turns m'.events a') →
+    IsWorld script m' ps cs' pd cd' pt ct' a'
+consumer_steps opens owns script m m' ps cs cs' pd cd cd' pt ct ct' a a' w shape same playing g turns =
+    let g' : Grown script C m.events m'.events = subst (λ (t : Content). Grown t C m.events m'.events) w.take_script_is g in
+    record {
+      shape = shape ∙ w.shape;
+      put_script_is = w.put_script_is;
+      take_script_is = same ∙ w.take_script_is;
+      puts = playing_other opens owns script C m.events m'.events pd pt g' w.puts;
+      takes = playing;
+      oracle = turns (turn script.oracle) w.oracle;
+      moves = moves_grown script C m.events m'.events g' w.moves;
+    }
+
+-- ---- the history is a play
+
+in_turn : OverlapIsByInterval → FlickerIsByInterval → (script : Content) (h : List Event) (answers : ℕ → Bool) → IsLawful script.shape h → IsAtTurn (turn script.oracle) h answers → AreInTurn script.oracle h
+in_turn overlap flicker script h answers lawful t s b start stop v r o =
+    let ends : EndsOverlappedRead h stop = record { side = s; bit = b; answer = v; start = start; read = r; overlap = o } in
+    t.answered stop (record { side = s; bit = b; act = ReadEnd v }) v r.ends refl ((flicker script.shape h lawful stop).1 ends)
+
+pub plays_of :
+    OverlapIsByInterval → FlickerIsByInterval → (script : Content) (m : Recorded) (ps cs : Content) (pd cd : Option Access) (pt ct : Stands) (a : ℕ → Bool) → IsWorld script m ps cs pd cd pt ct a →
+    IsLawful m.shape m.events → IsProgram ps P (own P m.events) → IsProgram cs C (own C m.events) → Plays script (sides m.events) m.events
+plays_of overlap flicker script m ps cs pd cd pt ct a w lawful puts takes =
+    let lawful' : IsLawful script.shape m.events = subst (λ t. IsLawful t m.events) w.shape lawful in
+    record {
+      played = record {
+        lawful = lawful';
+        puts = subst (λ (t : Content). IsProgram t P (own P m.events)) w.put_script_is puts;
+        takes = subst (λ (t : Content). IsProgram t C (own C m.events)) w.take_script_is takes;
+        answers = in_turn overlap flicker script m.events a lawful' w.oracle;
+      };
+      moves = w.moves;
+    }
+
+pub letters_of :
+    {E : Type 0} (script script' : Content) (s : Side) (h h' : List Event) (r : Result Bool E) → script' ≡ script → IfOk r (λ moved. IsMove script s moved h h') → IsPlayed script' h' →
+    OnOk r ((letters : List Side) → Plays script letters h → Plays script' (letters ++ s ∷ []) h')
+letters_of script script' s h h' (Ok moved) same m played = λ letters p.
+    (record { played = played; moves = subst (λ (t : Content). AreMoves t (letters ++ s ∷ []) [] h') (sym same) (moves_step script letters s h h' moved p.moves m) })
+letters_of script script' s h h' (Err e) same m played = tt
+
+pub new_playing : (s : Side) (due : Option Access) (stands : Stands) → stands [] None → IsPlaying s [] due stands
+new_playing s due stands there = record { list = []; there = there; own_is = refl; is_due = λ a e. none_some a e }
+  where
+    none_some : (a : Access) → None ≡ Some a → due ≡ Some a
+    none_some a e = absurd (cc)
+
+pub new_turn : (turns answers : ℕ → Bool) → ((i : ℕ) → answers i ≡ turns i) → IsAtTurn turns [] answers
+new_turn turns answers same = record { answered = λ p e v at. absurd (none_some at); left = λ i. same i ∙ ap turns (omega arith) }
+  where
+    none_some : {e : Event} → None ≡ Some e → ⊥
+    none_some e = absurd (cc)
+
+pub new_world :
+    (script : Content) (m : Recorded) (ps cs : Content) (pd cd : Option Access) (pt ct : Stands) (a : ℕ → Bool) → m.shape ≡ script.shape → m.events ≡ [] → ps ≡ script → cs ≡ script →
+    pt [] None → ct [] None → ((i : ℕ) → a i ≡ turn script.oracle i) → IsWorld script m ps cs pd cd pt ct a
+new_world script m ps cs pd cd pt ct a shape empty p q puts takes oracle = record {
+  shape = shape;
+  put_script_is = p;
+  take_script_is = q;
+  puts = subst (λ (t : List Event). IsPlaying P t pd pt) (sym empty) (new_playing P pd pt puts);
+  takes = subst (λ (t : List Event). IsPlaying C t cd ct) (sym empty) (new_playing C cd ct takes);
+  oracle = subst (λ (t : List Event). IsAtTurn (turn script.oracle) t a) (sym empty) (new_turn (turn script.oracle) a oracle);
+  moves = subst (λ (t : List Event). AreMoves script (sides t) [] t) (sym empty) tt;
+}
+
+-- ---- what was taken and told
+
+pub taken_of :
+    TakenAreRead → (script cs : Content) (h : List Event) (due : Option Access) (stands : Stands) (taken : List ℕ) (told : Bool) (empty : ℕ) → cs ≡ script → (p : IsPlaying C h due stands) →
+    TakenSoFar cs.shape (so_far C p.list (open_access C h)) taken told empty → (takes : Takes) → FollowsTakes script.shape h takes →
+    (taken ≡ items_taken_in script.shape h takes) × ((told ≡ true) ↔ ToldIn script.shape h takes)
+taken_of read script cs h due stands taken told empty same p t takes follows =
+    let u : TakenSoFar script.shape (own C h) taken told empty =
+    subst (λ (x : Content). TakenSoFar x.shape (own C h) taken told empty) same (subst (λ l. TakenSoFar cs.shape l taken told empty) (sym p.own_is) t) in
+    let mine : FollowsTakes script.shape h u.takes = record { are = u.are; events = u.begins } in
+    let (items, told_there) = read script.shape h u.takes takes mine follows in
+    let (items', told_back) = read script.shape h takes u.takes follows mine in
+    (sym u.items ∙ items, (λ e. told_there (u.tells.0 e), λ e. u.tells.1 (told_back e)))
+
+pub empty_of :
+    TakesOverAreRead → (script cs : Content) (h : List Event) (due : Option Access) (stands : Stands) (taken : List ℕ) (told : Bool) (empty : ℕ) → cs ≡ script → (p : IsPlaying C h due stands) →
+    TakenSoFar cs.shape (so_far C p.list (open_access C h)) taken told empty → (takes : Takes) → FollowsTakes script.shape h takes → empty ≡ empties (takes_over_in script.shape h takes)
+empty_of read script cs h due stands taken told empty same p t takes follows =
+    let u : TakenSoFar script.shape (own C h) taken told empty =
+    subst (λ (x : Content). TakenSoFar x.shape (own C h) taken told empty) same (subst (λ l. TakenSoFar cs.shape l taken told empty) (sym p.own_is) t) in
+    let mine : FollowsTakes script.shape h u.takes = record { are = u.are; events = u.begins } in
+    sym u.over ∙ ap empties (read script.shape h u.takes takes mine follows)
+
+-- ---- what was put
+
+pub put_of :
+    ItemsAreRead → (script ps : Content) (h : List Event) (due : Option Access) (stands : Stands) (put : List ℕ) (full : ℕ) → ps ≡ script → (p : IsPlaying P h due stands) →
+    PutSoFar ps.shape (so_far P p.list (open_access P h)) put full → (puts : Puts) → FollowsPuts script.shape h puts → put ≡ items_put_in script.shape h puts
+put_of read script ps h due stands put full same p t puts follows =
+    let u : PutSoFar script.shape (own P h) put full = subst (λ (x : Content). PutSoFar x.shape (own P h) put full) same (subst (λ l. PutSoFar ps.shape l put full) (sym p.own_is) t) in
+    let mine : FollowsPuts script.shape h u.puts = record { are = u.are; events = u.begins } in
+    sym u.items ∙ read script.shape h u.puts puts mine follows
+
+pub full_of :
+    PutsOverAreRead → (script ps : Content) (h : List Event) (due : Option Access) (stands : Stands) (put : List ℕ) (full : ℕ) → ps ≡ script → (p : IsPlaying P h due stands) →
+    PutSoFar ps.shape (so_far P p.list (open_access P h)) put full → (puts : Puts) → FollowsPuts script.shape h puts → full ≡ fulls (puts_over_in script.shape h puts)
+full_of read script ps h due stands put full same p t puts follows =
+    let u : PutSoFar script.shape (own P h) put full = subst (λ (x : Content). PutSoFar x.shape (own P h) put full) same (subst (λ l. PutSoFar ps.shape l put full) (sym p.own_is) t) in
+    let mine : FollowsPuts script.shape h u.puts = record { are = u.are; events = u.begins } in
+    sym u.over ∙ ap fulls (read script.shape h u.puts puts mine follows)
+
+-- ---- the schedule
+
+-- the letters of the first runs, and of one more
+spelled-append : (xs ys : List Run) → spelled (xs ++ ys) ≡ spelled xs ++ spelled ys
+unfolding spelled
+spelled-append [] ys = refl
+spelled-append (x ∷ xs) ys = ap (λ l. replicate x.count x.side ++ l) (spelled-append xs ys) ∙ sym (append_assoc (replicate x.count x.side) (spelled xs) (spelled ys))
+
+spelled-one : (x : Run) → spelled (x ∷ []) ≡ replicate x.count x.side
+unfolding spelled
+spelled-one x = append-nil (replicate x.count x.side)
+
+pub spelled-more :
+    (xs : List Run) (i : ℕ) (d : Run) → i < length xs → spelled (take (i + 1) xs) ≡ spelled (take i xs) ++ replicate (slice_index_or xs i d).count (slice_index_or xs i d).side
+spelled-more xs i d l =
+    ap spelled (take_more xs i d l) ∙ spelled-append (take i xs) (slice_index_or xs i d ∷ []) ∙ ap (λ t. spelled (take i xs) ++ t) (spelled-one (slice_index_or xs i d))
+
+pub spelled-none : spelled [] ≡ []
+unfolding spelled
+spelled-none = refl
+
+pub ok_is : {A E : Type 0} {G : Type 0} (r : Result A E) (a : A) → r ≡ Ok a → OnOk r G → G
+ok_is (Ok b) a e g = g
+ok_is (Err x) a e g = absurd (cc)

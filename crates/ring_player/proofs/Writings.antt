@@ -1,0 +1,265 @@
+-- What the producer's actor counts by its accesses, and what it has put.
+use Rattle.std.proofs.Common.{◌≡◌, ℕ, ◌+◌, ◌-◌, ◌*◌, ◌/◌, ◌%◌, ◌<◌, ◌≤◌, Bool, true, false, cond, Option, Some, None, List, [], ◌∷◌, ◌++◌, length, take, drop, refl, sym, ap, ap₂, subst, ◌∙◌, append_assoc, append-nil, length-append, arith}
+use Rattle.std.specs.Prelude.{nat_lt}
+use Rattle.std.proofs.lemmas.Bool.{ltb-false}
+use Rattle.bits_core.specs.declared.events.Side.TheVariants.{P}
+use Rattle.bits_core.specs.declared.events.Access.{Access}
+use Rattle.bits_core.specs.declared.events.Access.TheVariants as access
+use Rattle.bits_core.specs.declared.events.Bit.TheVariants as bit
+use Rattle.bits_core.specs.declared.shapes.Shape.{Shape}
+use Rattle.bits_core.specs.Shape.{batch_of, modulus_of, width_of}
+use Rattle.bits_core.specs.Made.{Made, Read, Write, answered, end_event, events_of, IsBeginning}
+use Rattle.register_core.specs.ScanState.{row_read_by, zero_reads}
+use Rattle.ring_core.specs.Counts.{batch_phrase, Count, first_count}
+use Rattle.ring_core.specs.CountWrites.{CountsAreWritten, CountsShowNumbers}
+use Rattle.ring_core.specs.Items.{all_put, events_in, items_put}
+use Rattle.ring_core.specs.Over.{fulls, puts_over}
+use Rattle.ring_core.specs.ProducerCalls.{HasCallMore, room_in}
+use Rattle.ring_core.specs.ProducerState.{Call, call_of, Close, ProducerState, Put}
+use Rattle.ring_core.specs.Puts as puts
+use Rattle.ring_core.specs.Puts.{accesses_before_count, ArePuts, close_phrase, Full, put_phrase, put_phrases, put_program, Puts, Stored, stored_after}
+use Rattle.ring_script.specs.Script.{Content}
+use Rattle.ring_player.specs.Actors.{begun, digits_by, digits_in, HasWritten, IsAsked, IsPutting, items_begun, put_once, PutTally, so_far, with_open}
+use Rattle.ring_player.specs.Plays.{AreAttempts, ArePutsOf, offered}
+use Rattle.ring_player.specs.SoFar.{PutSoFar}
+use Rattle.ring_player.proofs.Headlines.{drop-drop, parts, past_is}
+use Rattle.ring_player.proofs.Moves.{events-append, events-more, length-events, so_far_length}
+use Rattle.ring_player.proofs.Nexts.{IsNextPut, NextPut}
+use Rattle.ring_player.proofs.Overs.{puts_all_over, puts_cut_over}
+use Rattle.ring_player.proofs.Puttings.{calls_asked, next_in}
+use Rattle.ring_player.proofs.Written.{begun-append, digits-append, put_begun, put_nothing}
+
+-- ---- one access more
+
+digit_more : (a : Access) (v : Bool) → digits_in (answered a v ∷ []) ≡ digits_by (Some a)
+digit_more (access.Read b) v = refl
+digit_more (access.Write (bit.Cell j i) w) v = refl
+digit_more (access.Write (bit.S i) w) v = refl
+digit_more (access.Write (bit.R i) w) v = refl
+digit_more (access.Write bit.X w) v = refl
+
+begun_more : (w n seen : ℕ) (a : Access) (v : Bool) → items_begun w n seen (answered a v ∷ []) ≡ put_once (Some a) (n / w) seen
+begun_more w n seen (access.Read b) v = refl
+begun_more w n seen (access.Write (bit.Cell j i) u) v = refl
+begun_more w n seen (access.Write (bit.S i) u) v = refl
+begun_more w n seen (access.Write (bit.R i) u) v = refl
+begun_more w n seen (access.Write bit.X u) v = refl
+
+-- what is begun with an access more
+begun_with : (w : ℕ) (list : List Made) (a : Access) (v : Bool) → items_begun w 0 0 (list ++ answered a v ∷ []) ≡ put_once (Some a) (digits_in list / w) (items_begun w 0 0 list)
+begun_with w list a v =
+    let none : 0 + digits_in list ≡ digits_in list = omega arith in
+    begun-append w 0 0 list (answered a v ∷ []) ∙ begun_more w (0 + digits_in list) (items_begun w 0 0 list) a v ∙ ap (λ n. put_once (Some a) (n / w) (items_begun w 0 0 list)) none
+
+pub begins_writing :
+    (script : Content) (digits put : ℕ) (list : List Made) (a : Access) (due : Option Access) (width now : ℕ) → due ≡ Some a → width ≡ width_of script.shape → now ≡ put_once due (digits / width) put →
+    HasWritten script digits put list None → HasWritten script digits now list (Some a)
+begins_writing script digits put list a due width now due_is width_is now_is s = record {
+  digits_are = s.digits_are;
+  put_is = now_is ∙ ap (λ d. put_once d (digits / width) put) due_is ∙ ap₂ (λ d w. put_once (Some a) (d / w) put) s.digits_are width_is ∙ ap (put_once (Some a) (digits_in list / width_of script.shape)) s.put_is
+      ∙ sym (begun_with (width_of script.shape) list a true);
+}
+
+pub ends_writing :
+    (script : Content) (digits put : ℕ) (list : List Made) (a : Access) (v : Bool) (due : Option Access) (more : ℕ) → due ≡ Some a → more ≡ digits_by due → HasWritten script digits put list (Some a) →
+    HasWritten script (digits + more) put (list ++ answered a v ∷ []) None
+ends_writing script digits put list a v due more due_is more_is s = record {
+  digits_are = ap₂ (λ d m. d + m) s.digits_are (more_is ∙ ap digits_by due_is ∙ sym (digit_more a v)) ∙ sym (digits-append list (answered a v ∷ []));
+  put_is = s.put_is ∙ begun_with (width_of script.shape) list a true ∙ sym (begun_with (width_of script.shape) list a v);
+}
+
+-- ---- no more than there are accesses
+
+pub digits_few : (list : List Made) → digits_in list ≤ length list
+digits_few [] = omega arith
+digits_few (Read b v ∷ list) = omega (arith, digits_few list)
+digits_few (Write (bit.Cell j i) v ∷ list) = omega (arith, digits_few list)
+digits_few (Write (bit.S i) v ∷ list) = omega (arith, digits_few list)
+digits_few (Write (bit.R i) v ∷ list) = omega (arith, digits_few list)
+digits_few (Write bit.X v ∷ list) = omega (arith, digits_few list)
+
+pub digit_few : (due : Option Access) → digits_by due ≤ 1
+digit_few None = omega arith
+digit_few (Some (access.Read b)) = omega arith
+digit_few (Some (access.Write (bit.Cell j i) v)) = omega arith
+digit_few (Some (access.Write (bit.S i) v)) = omega arith
+digit_few (Some (access.Write (bit.R i) v)) = omega arith
+digit_few (Some (access.Write bit.X v)) = omega arith
+
+fulls_few : (shape : Shape) (c : Count) (list : List puts.Put) → fulls list ≤ length (put_phrases shape c list)
+fulls_few shape c [] = omega arith
+fulls_few shape c (Stored u items ∷ list) =
+    omega (arith, fulls_few shape (stored_after shape c (Stored u items)) list, length-append (put_phrase shape c (Stored u items)) (put_phrases shape (stored_after shape c (Stored u items)) list))
+fulls_few shape c (Full u ∷ list) =
+    omega (
+      arith,
+      fulls_few shape (stored_after shape c (Full u)) list,
+      length-append (put_phrase shape c (Full u)) (put_phrases shape (stored_after shape c (Full u)) list),
+      length-append (zero_reads (row_read_by P) u) (Read (row_read_by P u) true ∷ []),
+    )
+
+pub full_few : (script : Content) (p : ProducerState) (kept : PutTally) (list : List Made) (o : Option Access) → IsPutting script p kept list o → kept.full ≤ length list
+full_few script p kept list o s =
+    omega (arith, s.filled, fulls_few script.shape first_count s.calls.puts, s.long, length-append (put_phrases script.shape first_count s.calls.puts) (close_phrase s.calls.closes))
+
+-- ---- what is put is the first of the script's items
+
+begin_take : (xs ys : List ℕ) → IsBeginning xs ys → xs ≡ take (length xs) ys
+begin_take [] [] p = refl
+begin_take [] (y ∷ ys) p = refl
+begin_take (x ∷ xs) [] (r, e) = absurd (cc)
+begin_take (x ∷ xs) (y ∷ ys) (r, e) =
+    let tails : xs ++ r ≡ ys = cc in
+    let head : x ≡ y = cc in
+    ap (λ l. x ∷ l) (begin_take xs ys (r, tails)) ∙ ap (λ z. z ∷ take (length xs) ys) head
+
+put_first : (shape : Shape) (c : Count) (list : List puts.Put) (t : ℕ) → IsBeginning (items_put shape c list t) (all_put list)
+put_first shape c [] t = ([], refl)
+put_first shape c (Full u ∷ list) t = put_first shape c list (t - events_in (put_phrase shape c (Full u)))
+put_first shape c (Stored u items ∷ list) t =
+    by_test (put_first shape next list later) (nat_lt front t) refl
+  where
+    next : Count
+    next = stored_after shape c (Stored u items)
+
+    front : ℕ
+    front = events_in (accesses_before_count shape c.number u items)
+
+    later : ℕ
+    later = t - events_in (put_phrase shape c (Stored u items))
+
+    by_test : IsBeginning (items_put shape next list later) (all_put list) → (b : Bool) → nat_lt front t ≡ b → IsBeginning (cond b items [] ++ items_put shape next list later) (items ++ all_put list)
+    by_test (r, e) true f = (r, append_assoc items (items_put shape next list later) r ∙ ap (λ l. items ++ l) e)
+    by_test (r, e) false f =
+        let none : items_put shape next list later ≡ [] = put_nothing shape next list later (omega (arith, ltb-false front t f, length-append (accesses_before_count shape c.number u items) (batch_phrase shape P c items))) in
+        (items ++ all_put list, ap (λ (l : List ℕ). [] ++ l ++ (items ++ all_put list)) none)
+
+attempts_first : (script : Content) (n : ℕ) (list : List puts.Put) → AreAttempts script n list → IsBeginning (all_put list) (drop n script.items)
+attempts_first script n [] m = (drop n script.items, refl)
+attempts_first script n (Stored seen items ∷ list) (l, is, m) =
+    let room : ℕ = room_in script.shape (n % modulus_of script.shape) seen in
+    let left : List ℕ = drop n script.items in
+    let (r, e) = attempts_first script (puts.number_after n (Stored seen items)) list m in
+    let there : puts.number_after n (Stored seen items) ≡ n + length (take room (offered script n)) = past_is n items ∙ ap (λ t. n + length t) is in (
+      r,
+      append_assoc items (all_put list) r ∙ ap₂ (λ (x : List ℕ) (y : List ℕ). x ++ y) is (e ∙ ap (λ k. drop k script.items) there ∙ sym (drop-drop (length (take room (offered script n))) n script.items))
+          ∙ parts room (batch_of script.shape) left,
+    )
+attempts_first script n (Full seen ∷ list) (l, is, m) = attempts_first script n list m
+
+begins-trans : {A : Type 0} (xs ys zs : List A) → IsBeginning xs ys → IsBeginning ys zs → IsBeginning xs zs
+begins-trans xs ys zs (r, e) (r', f) = (r ++ r', sym (append_assoc xs r r') ∙ ap (λ l. l ++ r') e ∙ f)
+
+none_dropped : (xs : List ℕ) → drop 0 xs ≡ xs
+none_dropped [] = refl
+none_dropped (x ∷ xs) = refl
+
+-- ---- what was put so far
+
+with_open_length : (list : List Made) (o : Option Access) → (length (so_far P list o) ≤ 2 * length (with_open list o)) × (2 * length (with_open list o) ≤ length (so_far P list o) + 1)
+with_open_length list None = (omega (arith, length-events P list), omega (arith, length-events P list))
+with_open_length list (Some a) = (
+  omega (arith, length-events P list, length-append (events_of P list) (begun P a ∷ []), length-append list (answered a true ∷ [])),
+  omega (arith, length-events P list, length-append (events_of P list) (begun P a ∷ []), length-append list (answered a true ∷ [])),
+)
+
+-- by one reading
+reading_so_far :
+    CountsShowNumbers → CountsAreWritten → (script : Content) (digits put full : ℕ) (list : List Made) (o : Option Access) → HasWritten script digits put list o → (more : Puts) → ArePutsOf script more →
+    IsBeginning (with_open list o) (put_program script.shape more) → IsBeginning (so_far P list o) (events_of P (put_program script.shape more)) →
+    fulls (puts_over script.shape first_count more.puts (length (so_far P list o))) ≡ full → PutSoFar script.shape (so_far P list o) (take put script.items) full
+reading_so_far numbers written script digits put full list o s more asked begins events over =
+    let shape : Shape = script.shape in
+    let t : ℕ = length (so_far P list o) in
+    let bounds = with_open_length list o in
+    let w : ℕ = width_of shape in
+    let start : 0 * w ≡ 0 = omega arith in
+    let none : 0 + length (items_put shape first_count more.puts t) ≡ length (items_put shape first_count more.puts t) = omega arith in
+    let count : put ≡ length (items_put shape first_count more.puts t) =
+    s.put_is ∙ ap (λ n. items_begun w n 0 (with_open list o)) (sym start)
+    ∙ put_begun numbers written shape first_count more.puts more.closes (with_open list o) t (numbers shape).0 asked.are begins bounds.0 bounds.1 ∙ none in
+    let first : IsBeginning (items_put shape first_count more.puts t) script.items =
+    begins-trans (items_put shape first_count more.puts t) (all_put more.puts) script.items (put_first shape first_count more.puts t)
+    (subst (IsBeginning (all_put more.puts)) (none_dropped script.items) (attempts_first script 0 more.puts asked.attempts)) in
+    record {
+      puts = more;
+      are = asked.are;
+      begins = events;
+      items = begin_take (items_put shape first_count more.puts t) script.items first ∙ ap (λ n. take n script.items) (sym count);
+      over = over;
+    }
+
+pub put_so_far :
+    CountsShowNumbers → CountsAreWritten → (script : Content) (p : ProducerState) (kept : PutTally) (digits put : ℕ) (list : List Made) (o due : Option Access) → IsPutting script p kept list o →
+    HasWritten script digits put list o → NextPut p due → ((a : Access) → o ≡ Some a → due ≡ Some a) → PutSoFar script.shape (so_far P list o) (take put script.items) kept.full
+put_so_far numbers written script p kept digits put list o due s h next is_due = by_due due is_due (call_of p) s.asked (next_in script p kept list o due s next)
+  where
+    calls : Puts
+    calls = s.calls
+
+    shape : Shape
+    shape = script.shape
+
+    front : ℕ
+    front = length (put_phrases shape first_count calls.puts)
+
+    program_parts : (more : Puts) → length (put_program shape more) ≡ length (put_phrases shape first_count more.puts) + length (close_phrase more.closes)
+    program_parts more = length-append (put_phrases shape first_count more.puts) (close_phrase more.closes)
+
+    -- the calls that are over have come
+    come : 2 * front ≤ length (so_far P list o)
+    come = omega (arith, s.long, program_parts calls, so_far_length P list o)
+
+    no_open : (o : Option Access) → ((a : Access) → o ≡ Some a → None ≡ Some a) → o ≡ None
+    no_open None f = refl
+    no_open (Some a) f = absurd (none_some (f a refl))
+      where
+        none_some : None ≡ Some a → ⊥
+        none_some e = absurd (cc)
+
+    of_calls : IsAsked script calls None → ArePutsOf script calls
+    of_calls closes = record { are = subst (λ (t : Shape). ArePuts t 0 calls.puts) s.same_shape s.there.are; attempts = s.attempts; closes = closes }
+
+    some_same : (a b : Access) → Some a ≡ Some b → a ≡ b
+    some_same a b e = cc
+
+    open_begins : (o : Option Access) (a : Access) → ((b : Access) → o ≡ Some b → Some a ≡ Some b) → IsBeginning (with_open list o) (list ++ answered a true ∷ [])
+    open_begins None a f = (answered a true ∷ [], refl)
+    open_begins (Some b) a f = ([], append-nil (list ++ answered b true ∷ []) ∙ ap (λ x. list ++ answered x true ∷ []) (sym (some_same a b (f b refl))))
+
+    events_begin : (o : Option Access) (a : Access) → ((b : Access) → o ≡ Some b → Some a ≡ Some b) → IsBeginning (so_far P list o) (events_of P (list ++ answered a true ∷ []))
+    events_begin None a f = (events_of P (answered a true ∷ []), sym (events-append P list (answered a true ∷ [])))
+    events_begin (Some b) a f =
+        (end_event P (answered a true) ∷ [], ap (λ x. so_far P list (Some x) ++ end_event P (answered a true) ∷ []) (sym (some_same a b (f b refl))) ∙ sym (events-more P list a true))
+
+    over_more : (c : Call) (more : Puts) → HasCallMore shape c calls more → length list < length (put_program shape more) → puts_over shape first_count more.puts (length (so_far P list o)) ≡ calls.puts
+    over_more (Put items) more (x, of, more_is, are, still) longer =
+        let t : ℕ = length (so_far P list o) in
+        let size : length (put_program shape more) ≡ length (put_phrases shape first_count (calls.puts ++ x ∷ [])) =
+        omega (arith, ap (λ (m : Puts). length (put_program shape m)) more_is, ap length (append-nil (put_phrases shape first_count (calls.puts ++ x ∷ [])))) in
+        ap (λ (m : Puts). puts_over shape first_count m.puts t) more_is ∙ puts_cut_over shape first_count calls.puts x t come (omega (arith, longer, size, so_far_length P list o))
+    over_more Close more (more_is, are, still) longer =
+        let t : ℕ = length (so_far P list o) in
+        ap (λ (m : Puts). puts_over shape first_count m.puts t) more_is ∙ puts_all_over shape first_count calls.puts t come
+
+    by_due :
+        (due : Option Access) → ((a : Access) → o ≡ Some a → due ≡ Some a) → (c : Option Call) → IsAsked script calls c → IsNextPut shape calls c list due →
+        PutSoFar shape (so_far P list o) (take put script.items) kept.full
+    by_due None f None asked whole =
+        let none : o ≡ None = no_open o f in
+        let made : with_open list o ≡ put_program shape calls = ap (with_open list) none ∙ whole in
+        let es : so_far P list o ≡ events_of P (put_program shape calls) = ap (so_far P list) none ∙ ap (events_of P) whole in
+        reading_so_far numbers written script digits put kept.full list o h calls (of_calls asked) ([], append-nil (with_open list o) ∙ made) ([], append-nil (so_far P list o) ∙ es)
+        (ap fulls (puts_all_over shape first_count calls.puts (length (so_far P list o)) come) ∙ sym s.filled)
+    by_due None f (Some c) asked next = absurd next
+    by_due (Some a) f None asked next = absurd next
+    by_due (Some a) f (Some c) asked next =
+        let (more, has, (rest, e)) = next true (λ l. refl) in
+        let longer : length list < length (put_program shape more) = omega (arith, ap length e, length-append (list ++ answered a true ∷ []) rest, length-append list (answered a true ∷ [])) in
+        let whole : IsBeginning (list ++ answered a true ∷ []) (put_program shape more) = (rest, e) in
+        let whole_events : IsBeginning (events_of P (list ++ answered a true ∷ [])) (events_of P (put_program shape more)) =
+        (events_of P rest, sym (events-append P (list ++ answered a true ∷ []) rest) ∙ ap (events_of P) e) in
+        reading_so_far numbers written script digits put kept.full list o h more (calls_asked script c calls more s.attempts asked has)
+        (begins-trans (with_open list o) (list ++ answered a true ∷ []) (put_program shape more) (open_begins o a f) whole)
+        (begins-trans (so_far P list o) (events_of P (list ++ answered a true ∷ [])) (events_of P (put_program shape more)) (events_begin o a f) whole_events)
+        (ap fulls (over_more c more has longer) ∙ sym s.filled)

@@ -1,0 +1,26 @@
+use Rattle.std.proofs.Common.{subst}
+use Rattle.bits_core.specs.declared.events.Side.TheVariants.{P}
+use Rattle.bits_core.specs.Made.{events_of}
+use Rattle.bits_core.specs.Open.{IsOpenRight}
+use Rattle.ring_player.proofs.Nexts.{put_next}
+use Rattle.ring_player.specs.Plays.{IsDoneProducer}
+use Rattle.ring_script.specs.Script.{Content}
+use Rattle.ring_player.proofs.Puttings.{resting, right, unfinished}
+use Rattle.ring_player.proofs.putting.PutActorActor.next.Goals as goal
+
+pub returns-clause-unfinished : goal.returns-clause-unfinished
+returns-clause-unfinished g c a is list s =
+    let y = c.begin_call.new.self in
+    subst (λ (t : Content). ¬ IsDoneProducer t (events_of P list)) c.begin_call.ensures.script
+    (unfinished c.calls_are_first.ensures.puts y.script.now y.producer (record { stored = y.stored; full = y.full }) list c.next.result a (c.begin_call.ensures.stands list s.0) (put_next _ _ c.next.ensures.rest c.next.ensures.goes_on) is)
+
+pub returns-clause-right : goal.returns-clause-right
+returns-clause-right g c a is list s =
+    let y = c.begin_call.new.self in
+    subst (λ (t : Content). IsOpenRight t.shape P a) c.begin_call.ensures.script
+    (right y.script.now y.producer (record { stored = y.stored; full = y.full }) list c.next.result a (c.begin_call.ensures.stands list s.0) c.next.ensures.right is)
+
+pub returns-clause-done : goal.returns-clause-done
+returns-clause-done g c none list s =
+    let y = c.begin_call.new.self in
+    c.begin_call.ensures.done (resting y.script.now y.producer (record { stored = y.stored; full = y.full }) list c.next.result (c.begin_call.ensures.stands list s.0) (put_next _ _ c.next.ensures.rest c.next.ensures.goes_on) none) list s.0

@@ -1,7 +1,0 @@
-use Rattle.std.proofs.Common.{◌≡◌, drop}
-use Rattle.ring_player.specs.Schedule.{stray_from, stray_in}
-use Rattle.ring_player.proofs.schedules.first_stray.Given as goal
-
--- what is left decides
-abbrev pub invariant-loop-i : goal.invariant-loop-i
-invariant-loop-i l = stray_from l.i l.before (drop l.i l.text) ≡ stray_in l.text

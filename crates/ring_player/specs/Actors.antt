@@ -1,0 +1,170 @@
+-- One side of the world at work: where it stands in a history, and what one step of it does.
+use Rattle.std.specs.Prelude.{◌≡◌, ℕ, ◌+◌, ◌/◌, ◌<◌, ◌≤◌, Bool, true, false, Option, Some, None, List, [], ◌∷◌, ◌++◌, length, slice_get}
+use Rattle.bits_core.specs.declared.events.Side.{Side}
+use Rattle.bits_core.specs.declared.events.Side.TheVariants.{P, C}
+use Rattle.bits_core.specs.declared.events.Bit.TheVariants as bit
+use Rattle.bits_core.specs.declared.events.Access.{Access}
+use Rattle.bits_core.specs.declared.events.Access.TheVariants as access
+use Rattle.bits_core.specs.declared.events.Act.TheVariants.{ReadBegin, ReadEnd, WriteBegin}
+use Rattle.bits_core.specs.declared.events.Event.{Event}
+use Rattle.bits_core.specs.History.{open_access}
+use Rattle.bits_core.specs.Made.{Made, Read, Write, answered, events_of, own}
+use Rattle.bits_core.specs.Memory.{count_below, flicker_count, is_flicker_at}
+use Rattle.ring_core.specs.ConsumerCalls.{ConsumerStands, tells}
+use Rattle.ring_core.specs.ConsumerState.{ConsumerState, is_taking}
+use Rattle.ring_core.specs.ProducerCalls.{ProducerStands}
+use Rattle.ring_core.specs.ProducerState.{ProducerState, Call, Put, Close, call_of}
+use Rattle.ring_core.specs.declared.consumers.TakeReply.{TakeReply}
+use Rattle.ring_core.specs.declared.consumers.TakeReply.TheVariants as taken
+use Rattle.ring_core.specs.declared.producers.BatchReply.{BatchReply}
+use Rattle.ring_core.specs.declared.producers.BatchReply.TheVariants as reply
+use Rattle.bits_core.specs.Shape.{width_of}
+use Rattle.ring_core.specs.Over.{empties, fulls}
+use Rattle.ring_core.specs.Puts.{Puts, stored_in, put_program}
+use Rattle.ring_core.specs.Takes.{Take, Takes, Item, ItemAfterClose, Empty, taken_in, take_program}
+use Rattle.ring_player.specs.Plays.{offered, AreAttempts, IsProgram, IsDone}
+use Rattle.ring_script.specs.Script.{Content}
+
+-- the event by which an access begins
+abbrev pub begun : Side → Access → Event
+begun s (access.Read b) = record { side = s; bit = b; act = ReadBegin }
+begun s (access.Write b v) = record { side = s; bit = b; act = WriteBegin v }
+
+-- the events of accesses that were made, and of the one that is open
+abbrev pub so_far : Side → List Made → Option Access → List Event
+so_far s list None = events_of s list
+so_far s list (Some a) = events_of s list ++ begun s a ∷ []
+
+-- an actor of the side, which has an access due, stands where the side is in the history
+pub record IsPlaying (s : Side) (h : List Event) (due : Option Access) (stands : List Made → Option Access → Type 0) : Type 0 where
+  pub list : List Made
+  pub there : stands list (open_access s h)
+  pub own_is : own s h ≡ so_far s list (open_access s h)
+  pub is_due : (a : Access) → open_access s h ≡ Some a → due ≡ Some a
+
+-- one event of the side where it was not done, and else nothing
+abbrev pub IsMove : Content → Side → Bool → (h h' : List Event) → Type 0
+IsMove script s true h h' = (e : Event) × (h' ≡ h ++ e ∷ []) × (e.side ≡ s) × (¬ IsDone script s h)
+IsMove script s false h h' = (h' ≡ h) × IsDone script s h
+
+-- the overlapped reads so far were answered in turn, and the oracle goes on from there
+pub record IsAtTurn (turns : ℕ → Bool) (h : List Event) (answers : ℕ → Bool) : Type 0 where
+  pub answered : (place : ℕ) (e : Event) (v : Bool) → slice_get h place ≡ Some e → e.act ≡ ReadEnd v → is_flicker_at h place ≡ true → v ≡ turns (count_below place (is_flicker_at h))
+  pub left : (i : ℕ) → answers i ≡ turns (flicker_count h + i)
+
+-- ---- the producer's actor
+
+-- the script asks for the call under way; and for the close that was made
+abbrev pub IsAsked : Content → Puts → Option Call → Type 0
+IsAsked script calls None = calls.closes ≡ true → (script.closes ≡ true) × (stored_in 0 calls.puts ≡ length script.items)
+IsAsked script calls (Some (Put items)) = (items ≡ offered script (stored_in 0 calls.puts)) × (stored_in 0 calls.puts < length script.items)
+IsAsked script calls (Some Close) = (script.closes ≡ true) × (stored_in 0 calls.puts ≡ length script.items)
+
+-- how many items a put stored, by its reply
+abbrev pub stored_in_reply : Option BatchReply → ℕ
+stored_in_reply None = 0
+stored_in_reply (Some (reply.Stored count)) = count
+stored_in_reply (Some reply.Full) = 0
+stored_in_reply (Some reply.Closed) = 0
+
+-- how many puts were answered that the ring is full, by a reply
+abbrev pub full_in_reply : Option BatchReply → ℕ
+full_in_reply None = 0
+full_in_reply (Some (reply.Stored count)) = 0
+full_in_reply (Some reply.Full) = 1
+full_in_reply (Some reply.Closed) = 0
+
+-- what the actor counts by its replies: the items that were stored, and the puts that found the ring full
+pub record PutTally : Type 0 where
+  pub stored : ℕ
+  pub full : ℕ
+
+abbrev pub after_reply : PutTally → Option BatchReply → PutTally
+after_reply kept reply = record { stored = kept.stored + stored_in_reply reply; full = kept.full + full_in_reply reply }
+
+-- it stands after these accesses, with this one open
+pub record IsPutting (script : Content) (p : ProducerState) (kept : PutTally) (list : List Made) (opened : Option Access) : Type 0 where
+  pub calls : Puts
+  pub there : ProducerStands p calls list
+  pub same_shape : p.shape ≡ script.shape
+  pub attempts : AreAttempts script 0 calls.puts
+  pub counted : kept.stored ≡ stored_in 0 calls.puts
+  pub filled : kept.full ≡ fulls calls.puts
+  pub long : length (put_program script.shape calls) ≤ length list
+  pub batched : (items : List ℕ) → call_of p ≡ Some (Put items) → p.batched ≡ true
+  pub asked : IsAsked script calls (call_of p)
+  pub program : IsProgram script P (so_far P list opened)
+
+-- how many digits of cells these accesses write
+abbrev pub digits_in : List Made → ℕ
+digits_in [] = 0
+digits_in (Read b v ∷ list) = digits_in list
+digits_in (Write (bit.Cell j i) v ∷ list) = 1 + digits_in list
+digits_in (Write (bit.S i) v ∷ list) = digits_in list
+digits_in (Write (bit.R i) v ∷ list) = digits_in list
+digits_in (Write bit.X v ∷ list) = digits_in list
+
+-- how many items were written where the last count write begins among these accesses, behind n digits; seen, where none does
+abbrev pub items_begun : ℕ → (n seen : ℕ) → List Made → ℕ
+items_begun width n seen [] = seen
+items_begun width n seen (Read b v ∷ list) = items_begun width n seen list
+items_begun width n seen (Write (bit.Cell j i) v ∷ list) = items_begun width (1 + n) seen list
+items_begun width n seen (Write (bit.S i) v ∷ list) = items_begun width n (n / width) list
+items_begun width n seen (Write (bit.R i) v ∷ list) = items_begun width n seen list
+items_begun width n seen (Write bit.X v ∷ list) = items_begun width n seen list
+
+-- how many digits an access writes, and how many items are put once it has begun, behind so many that were written and put
+abbrev pub digits_by : Option Access → ℕ
+digits_by None = 0
+digits_by (Some (access.Read b)) = 0
+digits_by (Some (access.Write (bit.Cell j i) v)) = 1
+digits_by (Some (access.Write (bit.S i) v)) = 0
+digits_by (Some (access.Write (bit.R i) v)) = 0
+digits_by (Some (access.Write bit.X v)) = 0
+
+abbrev pub put_once : Option Access → (written put : ℕ) → ℕ
+put_once None written put = put
+put_once (Some (access.Read b)) written put = put
+put_once (Some (access.Write (bit.Cell j i) v)) written put = put
+put_once (Some (access.Write (bit.S i) v)) written put = written
+put_once (Some (access.Write (bit.R i) v)) written put = put
+put_once (Some (access.Write bit.X v)) written put = put
+
+-- the accesses, with the one that has begun
+abbrev pub with_open : List Made → Option Access → List Made
+with_open list None = list
+with_open list (Some a) = list ++ answered a true ∷ []
+
+-- what the actor counts by its accesses: the digits that were written, and the items whose count write has begun
+pub record HasWritten (script : Content) (digits put : ℕ) (list : List Made) (opened : Option Access) : Type 0 where
+  pub digits_are : digits ≡ digits_in list
+  pub put_is : put ≡ items_begun (width_of script.shape) 0 0 (with_open list opened)
+
+-- ---- the consumer's actor
+
+-- the items of takes
+abbrev pub all_taken : List Take → List ℕ
+all_taken [] = []
+all_taken (Item seen item ∷ takes) = item ∷ all_taken takes
+all_taken (ItemAfterClose seen again item ∷ takes) = item ∷ all_taken takes
+all_taken (Empty seen ∷ takes) = all_taken takes
+
+-- how many takes were answered that the ring is empty, by a reply
+abbrev pub empty_in : Option TakeReply → ℕ
+empty_in None = 0
+empty_in (Some (taken.Item item)) = 0
+empty_in (Some taken.Empty) = 1
+empty_in (Some taken.Closed) = 0
+
+-- it stands after these accesses, with this one open
+pub record IsTaking (script : Content) (p : ConsumerState) (taken : List ℕ) (told : Bool) (empty : ℕ) (list : List Made) (opened : Option Access) : Type 0 where
+  pub calls : Takes
+  pub there : ConsumerStands p calls list
+  pub same_shape : p.shape ≡ script.shape
+  pub taken_is : taken ≡ all_taken calls.takes
+  pub told_is : told ≡ tells calls.end
+  pub empty_is : empty ≡ empties calls.takes
+  pub few : taken_in 0 calls.takes ≤ script.takes
+  pub long : length (take_program script.shape calls) ≤ length list
+  pub asked : is_taking p ≡ true → taken_in 0 calls.takes < script.takes
+  pub program : IsProgram script C (so_far C list opened)

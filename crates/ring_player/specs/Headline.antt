@@ -1,0 +1,49 @@
+-- The sentence of the ring, of every play of a script.
+use Rattle.std.specs.Prelude.{◌≡◌, ℕ, ◌+◌, ◌<◌, ◌≤◌, List, length}
+use Rattle.bits_core.specs.declared.events.Side.{Side}
+use Rattle.bits_core.specs.declared.events.Side.TheVariants.{P, C}
+use Rattle.bits_core.specs.declared.events.Event.{Event}
+use Rattle.bits_core.specs.Made.{IsBeginning, IsPlaceOf, clock, own}
+use Rattle.bits_core.specs.Shape.{capacity_of}
+use Rattle.ring_core.specs.CallsAt.{IsPutAt, scan_events, takes_ended}
+use Rattle.ring_core.specs.Items.{items_put_in, items_taken_in, ToldIn}
+use Rattle.ring_core.specs.Puts.{FollowsPuts, Puts, Stored}
+use Rattle.ring_core.specs.RingLaw.{CellsAreQuiet, ClosedIsTrue, EmptyIsFresh, FullIsFresh, IsRun, TakenArePrefix, TakesMatchPuts, WordsAreQuiet}
+use Rattle.ring_core.specs.Takes.{FollowsTakes, Takes}
+use Rattle.ring_player.specs.Plays.{ArePutsOf, offered, Plays}
+use Rattle.ring_script.specs.Script.{Content}
+
+-- Whatever calls the events of the two sides are read as: the items taken are a prefix of the items put, each taken once, by
+-- the take of its number; no cell's read overlaps its write; Empty and Full are answered only where the calls ended before
+-- require it; once Closed is told, every item put has been taken, and none comes later.
+pub record HeadlineOf (script : Content) (h : List Event) (puts : Puts) (takes : Takes) : Type 0 where
+  pub prefix : TakenArePrefix script.shape h puts takes
+  pub once : TakesMatchPuts script.shape h puts takes
+  pub cells : CellsAreQuiet script.shape h puts takes
+  pub words : WordsAreQuiet script.shape h puts takes
+  pub empty : EmptyIsFresh script.shape h puts takes
+  pub full : FullIsFresh script.shape h puts takes
+  pub closed : ClosedIsTrue script.shape h puts takes
+  pub all : ToldIn script.shape h takes → items_put_in script.shape h puts ≡ script.items
+  pub stays :
+      (h' : List Event) (puts' : Puts) (takes' : Takes) → IsRun script.shape h' puts' takes' → IsBeginning h h' → ToldIn script.shape h takes →
+      (items_put_in script.shape h' puts' ≡ items_put_in script.shape h puts) × (items_taken_in script.shape h' takes' ≡ items_taken_in script.shape h takes)
+
+abbrev pub HoldsHeadline : Content → List Event → Type 0
+HoldsHeadline script h = (puts : Puts) (takes : Takes) → FollowsPuts script.shape h puts → FollowsTakes script.shape h takes → HeadlineOf script h puts takes
+
+-- it holds of every play
+abbrev pub EveryPlayHolds : Type 0
+EveryPlayHolds = (script : Content) (letters : List Side) (h : List Event) → Plays script letters h → HoldsHeadline script h
+
+-- where a put stored fewer items than the world offered it, the items stored up to and with it, less the takes of an item that had
+-- ended where it began, are at least the capacity
+abbrev pub FillsRing : Content → List Event → Type 0
+FillsRing script h =
+    (puts : Puts) (takes : Takes) → ArePutsOf script puts → FollowsPuts script.shape h puts → FollowsTakes script.shape h takes →
+    (seen : ℕ) (items : List ℕ) (n start stop : ℕ) → IsPutAt script.shape puts (Stored seen items) n start stop →
+    start + scan_events P seen ≤ length (own P h) → length items < length (offered script n) →
+    (first : ℕ) × IsPlaceOf P h start first × (takes_ended script.shape takes (clock C h first) + capacity_of script.shape ≤ n + length items)
+
+abbrev pub EveryPlayFills : Type 0
+EveryPlayFills = (script : Content) (letters : List Side) (h : List Event) → Plays script letters h → FillsRing script h

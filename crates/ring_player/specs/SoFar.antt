@@ -1,0 +1,28 @@
+-- What an actor has put, or taken, in its events so far, by one reading of them.
+use Rattle.std.specs.Prelude.{◌≡◌, ℕ, ◌↔◌, Bool, true, List, length}
+use Rattle.bits_core.specs.declared.events.Event.{Event}
+use Rattle.bits_core.specs.declared.events.Side.TheVariants.{P, C}
+use Rattle.bits_core.specs.declared.shapes.Shape.{Shape}
+use Rattle.bits_core.specs.Made.{events_of, IsBeginning}
+use Rattle.ring_core.specs.Counts.{first_count}
+use Rattle.ring_core.specs.Items.{IsTold, items_put, items_taken}
+use Rattle.ring_core.specs.Over.{empties, fulls, puts_over, takes_over}
+use Rattle.ring_core.specs.Puts.{ArePuts, put_program, Puts}
+use Rattle.ring_core.specs.Takes.{AreTakes, take_program, Takes}
+
+-- the items that were put, and how many puts found the ring full
+pub record PutSoFar (shape : Shape) (events : List Event) (put : List ℕ) (full : ℕ) : Type 0 where
+  pub puts : Puts
+  pub are : ArePuts shape 0 puts.puts
+  pub begins : IsBeginning events (events_of P (put_program shape puts))
+  pub items : items_put shape first_count puts.puts (length events) ≡ put
+  pub over : fulls (puts_over shape first_count puts.puts (length events)) ≡ full
+
+-- the items that were taken, whether a take was told that the ring is closed, and how many found it empty
+pub record TakenSoFar (shape : Shape) (events : List Event) (taken : List ℕ) (told : Bool) (empty : ℕ) : Type 0 where
+  pub takes : Takes
+  pub are : AreTakes shape 0 takes.takes takes.end
+  pub begins : IsBeginning events (events_of C (take_program shape takes))
+  pub items : items_taken shape 0 takes.takes (length events) ≡ taken
+  pub tells : (told ≡ true) ↔ IsTold shape takes (length events)
+  pub over : empties (takes_over shape 0 takes.takes (length events)) ≡ empty

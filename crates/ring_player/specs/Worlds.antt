@@ -1,0 +1,26 @@
+-- The world: what it is seen as, and how its parts stand together.
+use Rattle.std.specs.Prelude.{◌≡◌, ℕ, Bool, Option, List, []}
+use Rattle.bits_core.specs.declared.events.Side.TheVariants.{P, C}
+use Rattle.bits_core.specs.declared.events.Access.{Access}
+use Rattle.bits_core.specs.declared.events.Event.{Event}
+use Rattle.bits_core.specs.Made.{Made}
+use Rattle.bits_core.specs.Memory.{Recorded}
+use Rattle.bits_core.specs.Oracle.{turn}
+use Rattle.ring_player.specs.Actors.{IsPlaying, IsAtTurn}
+use Rattle.ring_player.specs.Plays.{AreMoves, sides}
+use Rattle.ring_script.specs.Script.{Content}
+
+-- a world is seen as its script and its history
+pub record Played : Type 0 where
+  pub script : Content
+  pub history : List Event
+
+-- its parts stand together
+pub record IsWorld (script : Content) (memory : Recorded) (put_script take_script : Content) (put_due take_due : Option Access) (put_stands take_stands : List Made → Option Access → Type 0) (answers : ℕ → Bool) : Type 0 where
+  pub shape : memory.shape ≡ script.shape
+  pub put_script_is : put_script ≡ script
+  pub take_script_is : take_script ≡ script
+  pub puts : IsPlaying P memory.events put_due put_stands
+  pub takes : IsPlaying C memory.events take_due take_stands
+  pub oracle : IsAtTurn (turn script.oracle) memory.events answers
+  pub moves : AreMoves script (sides memory.events) [] memory.events

@@ -1,0 +1,218 @@
+//! One side of the world at work.
+ghost use Rattle.std.specs.Prelude.{◌≡◌, ◌≢◌, ℕ, Bool, true, false, Some, None, List, [], ◌∷◌, ◌++◌, OnErr, OnOk, IfOk, length};
+ghost use Rattle.bits_core.specs.Bits.{other};
+ghost use Rattle.bits_core.specs.History.{open_access};
+ghost use Rattle.bits_core.specs.Made.{own};
+ghost use Rattle.bits_core.specs.Open.{IsOpenRight, IsReading, IsWriting};
+ghost use Rattle.ring_player.specs.Actors.{IsAtTurn, IsMove, IsPlaying, begun};
+ghost use Rattle.ring_player.specs.Plays.{IsProgram};
+
+use crate::faults::PlayFault;
+use bits_core::laws::{open_changes, own_changes};
+use bits_core::{Access, Memory, Oracle, Side};
+use ring_core::laws::last_bit_is_one;
+use std::alloc::Allocator;
+
+/// What makes the calls of one side: its machine, and what the script asks of it.
+pub trait Actor {
+    ghost use Rattle.std.specs.Prelude.{◌≡◌, ◌≢◌, ◌<◌, ◌^◌, true, Option, Some, None, List, [], ◌∷◌, ◌++◌, OnOk, length};
+    ghost use Rattle.bits_core.specs.declared.events.Access.{Access};
+    ghost use Rattle.bits_core.specs.declared.events.Side.{Side};
+    ghost use Rattle.bits_core.specs.Made.{Made, answered, events_of};
+    ghost use Rattle.bits_core.specs.Open.{IsOpenRight};
+    ghost use Rattle.ring_core.specs.Calls.{LastBitIsDue, EndsInZeros};
+    ghost use Rattle.ring_player.specs.Plays.{IsDoneAfter};
+    ghost use Rattle.ring_script.specs.Script.{Content};
+
+    ghost script: { Self → Content };
+
+    ghost side: { Self → Side };
+
+    ghost due: { Self → Option Access };
+
+    ghost stands: { Self → List Made → Option Access → Type 0 };
+
+    ghost ready: { Self → Type 0 };
+
+    /// Begins the next call where none is under way, and answers the access that is due, if any.
+    fn next(&mut self) -> Option<Access>
+        ensures due { result ≡ due self.new }
+        ensures script { script self.new ≡ script self.old }
+        ensures side { side self.new ≡ side self.old }
+        ensures stands { (list : List Made) → stands self.old list None → stands self.new list None }
+        ensures done { result ≡ None → (list : List Made) → stands self.old list None → IsDoneAfter (script self.old) (side self.old) (events_of (side self.old) list) }
+        ensures unfinished { (access : Access) → result ≡ Some access → (list : List Made) → stands self.old list None → ¬ IsDoneAfter (script self.old) (side self.old) (events_of (side self.old) list) }
+        ensures right { (access : Access) → result ≡ Some access → (list : List Made) → stands self.old list None → IsOpenRight (script self.old).shape (side self.old) access };
+
+    /// The access that is due has begun.
+    fn begin(&mut self)
+        requires due { due self.old ≢ None }
+        ensures due { due self.new ≡ due self.old }
+        ensures script { script self.new ≡ script self.old }
+        ensures side { side self.new ≡ side self.old }
+        ensures stands { (list : List Made) (access : Access) → due self.old ≡ Some access → stands self.old list None → stands self.new list (Some access) };
+
+    /// Makes room for what the end of an access gives.
+    fn reserve(&mut self) -> Result<(), PlayFault>
+        ensures due { due self.new ≡ due self.old }
+        ensures script { script self.new ≡ script self.old }
+        ensures side { side self.new ≡ side self.old }
+        ensures stands { (list : List Made) (opened : Option Access) → stands self.old list opened → stands self.new list opened }
+        ensures ready { OnOk result (ready self.new) };
+
+    /// What is known where the last bit of a count is due.
+    fn last_bit(&self)
+        ensures { LastBitIsDue (script self.now).shape (side self.now) (due self.now) → (list : List Made) (opened : Option Access) → stands self.now list opened → EndsInZeros (script self.now).shape (side self.now) list };
+
+    /// The access that is due, and that had begun, has ended with this answer.
+    fn end(&mut self, answer: bool)
+        requires there { (list : List Made) × (access : Access) × (due self.old ≡ Some access) × stands self.old list (Some access) × (length list < 2 ^ 63) }
+        requires one { LastBitIsDue (script self.old).shape (side self.old) (due self.old) → answer ≡ true }
+        requires ready { ready self.old }
+        ensures script { script self.new ≡ script self.old }
+        ensures side { side self.new ≡ side self.old }
+        ensures stands { (list : List Made) (access : Access) → due self.old ≡ Some access → stands self.old list (Some access) → stands self.new (list ++ answered access answer ∷ []) None };
+}
+
+/// Begins the access.
+fn begin<M: Allocator>(memory: &mut Memory<M>, side: Side, access: Access) -> Result<(), PlayFault>
+    requires right { IsOpenRight memory.old.shape side access }
+    requires none_open { open_access side memory.old.events ≡ None }
+    ensures shape { memory.new.shape ≡ memory.old.shape }
+    ensures ok { OnOk result (memory.new.events ≡ memory.old.events ++ begun side access ∷ []) }
+    ensures err { OnErr result (memory.new ≡ memory.old) }
+{
+    match access {
+        Access::Read(bit) => memory.begin_read(side, bit)?,
+        Access::Write(bit, value) => memory.begin_write(side, bit, value)?,
+    }
+    Ok(())
+}
+
+/// How many events the memory has recorded; so they are fewer than a count can tell.
+fn event_count<M: Allocator>(memory: &Memory<M>) -> usize
+    ensures { result ≡ length memory.now.events }
+{
+    memory.events().len()
+}
+
+/// Ends the read that the side has open.
+fn end_read<M: Allocator, A: Actor, O: Oracle>(
+    memory: &mut Memory<M>,
+    actor: &mut A,
+    oracle: &mut O,
+    side: Side,
+) -> Result<(), PlayFault>
+    requires open { IsReading (open_access side memory.old.events) }
+    requires playing { IsPlaying side memory.old.events (A.due actor.old) (A.stands actor.old) }
+    requires side { A.side actor.old ≡ side }
+    requires shape { memory.old.shape ≡ (A.script actor.old).shape }
+    requires other { IsProgram (A.script actor.old) (other side) (own (other side) memory.old.events) }
+    ensures shape { memory.new.shape ≡ memory.old.shape }
+    ensures script { A.script actor.new ≡ A.script actor.old }
+    ensures side { A.side actor.new ≡ A.side actor.old }
+    ensures playing { IsPlaying side memory.new.events (A.due actor.new) (A.stands actor.new) }
+    ensures ok { OnOk result (IsMove (A.script actor.old) side true memory.old.events memory.new.events) }
+    ensures err { OnErr result (memory.new.events ≡ memory.old.events) }
+    ensures err_oracle { OnErr result (oracle.new ≡ oracle.old) }
+    ensures turns { (turns : ℕ → Bool) → IsAtTurn turns memory.old.events (O.answers oracle.old) → IsAtTurn turns memory.new.events (O.answers oracle.new) }
+{
+    open_changes();
+    own_changes();
+    last_bit_is_one();
+    event_count(memory);
+    actor.reserve()?;
+    actor.last_bit();
+    let answer = memory.end_read(side, oracle)?;
+    memory.events();
+    actor.end(answer);
+    Ok(())
+}
+
+/// Ends the write that the side has open.
+fn end_write<M: Allocator, A: Actor>(
+    memory: &mut Memory<M>,
+    actor: &mut A,
+    side: Side,
+) -> Result<(), PlayFault>
+    requires open { IsWriting (open_access side memory.old.events) }
+    requires playing { IsPlaying side memory.old.events (A.due actor.old) (A.stands actor.old) }
+    requires side { A.side actor.old ≡ side }
+    ensures shape { memory.new.shape ≡ memory.old.shape }
+    ensures script { A.script actor.new ≡ A.script actor.old }
+    ensures side { A.side actor.new ≡ A.side actor.old }
+    ensures playing { IsPlaying side memory.new.events (A.due actor.new) (A.stands actor.new) }
+    ensures ok { OnOk result (IsMove (A.script actor.old) side true memory.old.events memory.new.events) }
+    ensures err { OnErr result (memory.new.events ≡ memory.old.events) }
+    ensures turns { (turns answers : ℕ → Bool) → IsAtTurn turns memory.old.events answers → IsAtTurn turns memory.new.events answers }
+{
+    open_changes();
+    own_changes();
+    event_count(memory);
+    actor.reserve()?;
+    memory.end_write(side)?;
+    actor.end(true);
+    Ok(())
+}
+
+/// Begins the next access of the side, if it is not done.
+fn go_on<M: Allocator, A: Actor>(
+    memory: &mut Memory<M>,
+    actor: &mut A,
+    side: Side,
+) -> Result<bool, PlayFault>
+    requires none_open { open_access side memory.old.events ≡ None }
+    requires playing { IsPlaying side memory.old.events (A.due actor.old) (A.stands actor.old) }
+    requires side { A.side actor.old ≡ side }
+    requires shape { memory.old.shape ≡ (A.script actor.old).shape }
+    ensures shape { memory.new.shape ≡ memory.old.shape }
+    ensures script { A.script actor.new ≡ A.script actor.old }
+    ensures side { A.side actor.new ≡ A.side actor.old }
+    ensures playing { IsPlaying side memory.new.events (A.due actor.new) (A.stands actor.new) }
+    ensures ok { IfOk result (λ moved. IsMove (A.script actor.old) side moved memory.old.events memory.new.events) }
+    ensures err { OnErr result (memory.new.events ≡ memory.old.events) }
+    ensures turns { (turns answers : ℕ → Bool) → IsAtTurn turns memory.old.events answers → IsAtTurn turns memory.new.events answers }
+{
+    open_changes();
+    own_changes();
+    match actor.next() {
+        None => Ok(false),
+        Some(access) => {
+            begin(memory, side, access)?;
+            actor.begin();
+            Ok(true)
+        }
+    }
+}
+
+/// One step of the side: it ends the access that it has open, or begins the next one, or is done.
+pub fn advance<M: Allocator, A: Actor, O: Oracle>(
+    memory: &mut Memory<M>,
+    actor: &mut A,
+    oracle: &mut O,
+    side: Side,
+) -> Result<bool, PlayFault>
+    requires playing { IsPlaying side memory.old.events (A.due actor.old) (A.stands actor.old) }
+    requires side { A.side actor.old ≡ side }
+    requires shape { memory.old.shape ≡ (A.script actor.old).shape }
+    requires other { IsProgram (A.script actor.old) (other side) (own (other side) memory.old.events) }
+    ensures shape { memory.new.shape ≡ memory.old.shape }
+    ensures script { A.script actor.new ≡ A.script actor.old }
+    ensures side { A.side actor.new ≡ A.side actor.old }
+    ensures playing { IsPlaying side memory.new.events (A.due actor.new) (A.stands actor.new) }
+    ensures ok { IfOk result (λ moved. IsMove (A.script actor.old) side moved memory.old.events memory.new.events) }
+    ensures err { OnErr result (memory.new.events ≡ memory.old.events) }
+    ensures turns { (turns : ℕ → Bool) → IsAtTurn turns memory.old.events (O.answers oracle.old) → IsAtTurn turns memory.new.events (O.answers oracle.new) }
+{
+    match memory.pending(side) {
+        Some(Access::Read(_)) => {
+            end_read(memory, actor, oracle, side)?;
+            Ok(true)
+        }
+        Some(Access::Write(_, _)) => {
+            end_write(memory, actor, side)?;
+            Ok(true)
+        }
+        None => go_on(memory, actor, side),
+    }
+}
