@@ -1,0 +1,11 @@
+//! Tests of the audit of programs, on traces and on plays of scripts.
+#![tactic(auto)]
+
+#[cfg(test)]
+mod expects;
+#[cfg(test)]
+mod growths;
+#[cfg(test)]
+mod plays;
+#[cfg(test)]
+mod traces;

@@ -1,0 +1,124 @@
+-- The events of a side that are a beginning of those of accesses, one event more.
+use Rattle.std.proofs.Common.{◌≡◌, ◌*◌, Bool, Some, None, List, [], ◌∷◌, ◌++◌, length, refl, sym, ap, ◌∙◌, arith}
+use Rattle.bits_core.specs.declared.events.Side.{Side}
+use Rattle.bits_core.specs.declared.events.Act.{Act}
+use Rattle.bits_core.specs.declared.events.Act.TheVariants.{ReadBegin, ReadEnd, WriteBegin, WriteEnd}
+use Rattle.bits_core.specs.declared.events.Bit.{Bit}
+use Rattle.bits_core.specs.declared.events.Access.{Access}
+use Rattle.bits_core.specs.declared.events.Access.TheVariants as begins
+use Rattle.bits_core.specs.declared.events.Event.{Event}
+use Rattle.bits_core.specs.Bits.{begun_access, begun_by}
+use Rattle.bits_core.specs.Made.{Made, Read, Write, access_of, answered, begin_event, end_event, events_of, IsBeginning}
+use Rattle.ring_audit.specs.Sides.{begin_of}
+
+-- ---- one access
+
+pub begin_is : (s : Side) (x : Made) → begin_event s x ≡ begin_of s (access_of x)
+begin_is s (Read b v) = refl
+begin_is s (Write b v) = refl
+
+pub access_is : (a : Access) (v : Bool) → access_of (answered a v) ≡ a
+access_is (begins.Read b) v = refl
+access_is (begins.Write b w) v = refl
+
+pub answer_is : (x : Made) → (v : Bool) × (x ≡ answered (access_of x) v)
+answer_is (Read b v) = (v, refl)
+answer_is (Write b v) = (v, refl)
+
+pub begun_is : (s : Side) (x : Made) → begun_by (begin_event s x) ≡ Some (access_of x)
+begun_is s (Read b v) = refl
+begun_is s (Write b v) = refl
+
+pub ended_is : (s : Side) (x : Made) → begun_by (end_event s x) ≡ None
+ended_is s (Read b v) = refl
+ended_is s (Write b v) = refl
+
+pub begun_of : (s : Side) (a : Access) → begun_by (begin_of s a) ≡ Some a
+begun_of s (begins.Read b) = refl
+begun_of s (begins.Write b v) = refl
+
+-- an access is known by its begin
+pub same_access : (s : Side) (a : Access) (x : Made) → begin_of s a ≡ begin_event s x → access_of x ≡ a
+same_access s a x e = let both : Some a ≡ Some (access_of x) = sym (begun_of s a) ∙ ap begun_by e ∙ begun_is s x in cc
+
+-- the event that begins an access
+event_of : (s : Side) (b : Bit) (act : Act) (a : Access) → begun_access b act ≡ Some a → record { side = s; bit = b; act = act } ≡ begin_of s a
+event_of s b ReadBegin a e = let is : begins.Read b ≡ a = cc in ap (begin_of s) is
+event_of s b (ReadEnd v) a e = absurd (cc)
+event_of s b (WriteBegin v) a e = let is : begins.Write b v ≡ a = cc in ap (begin_of s) is
+event_of s b WriteEnd a e = absurd (cc)
+
+pub begins_so : (s : Side) (e : Event) (a : Access) → e.side ≡ s → begun_by e ≡ Some a → e ≡ begin_of s a
+begins_so s e a by begun = event_of e.side e.bit e.act a begun ∙ ap (λ t. begin_of t a) by
+
+-- an access is known by its events
+pub same_made : (s : Side) (x y : Made) → begin_event s x ≡ begin_event s y → end_event s x ≡ end_event s y → x ≡ y
+same_made s (Read b v) (Read c w) e f =
+    let bits : b ≡ c = ap (λ (x : Event). x.bit) e in
+    let acts : ReadEnd v ≡ ReadEnd w = ap (λ (x : Event). x.act) f in
+    cc
+same_made s (Read b v) (Write c w) e f = let acts : ReadBegin ≡ WriteBegin w = ap (λ (x : Event). x.act) e in absurd (cc)
+same_made s (Write b v) (Read c w) e f = let acts : WriteBegin v ≡ ReadBegin = ap (λ (x : Event). x.act) e in absurd (cc)
+same_made s (Write b v) (Write c w) e f =
+    let bits : b ≡ c = ap (λ (x : Event). x.bit) e in
+    let acts : WriteBegin v ≡ WriteBegin w = ap (λ (x : Event). x.act) e in
+    cc
+
+-- ---- one event more
+
+-- behind these accesses the program goes on with one that the event begins
+pub record GoesOnWith (s : Side) (made whole : List Made) (e : Event) : Type 0 where
+  pub next : Made
+  pub rest : List Made
+  pub whole_is : whole ≡ made ++ next ∷ rest
+  pub begins : e ≡ begin_event s next
+
+pub next_begins : (s : Side) (made whole : List Made) (e : Event) → IsBeginning (events_of s made ++ e ∷ []) (events_of s whole) → GoesOnWith s made whole e
+next_begins s [] [] e (rest, p) = absurd (cc)
+next_begins s [] (y ∷ whole) e (rest, p) = record { next = y; rest = whole; whole_is = refl; begins = cc }
+next_begins s (m ∷ made) [] e (rest, p) = absurd (cc)
+next_begins s (m ∷ made) (y ∷ whole) e (rest, p) =
+    let same : m ≡ y = same_made s m y (cc) (cc) in
+    let tails : (events_of s made ++ e ∷ []) ++ rest ≡ events_of s whole = cc in
+    let on : GoesOnWith s made whole e = next_begins s made whole e (rest, tails) in
+    record {
+      next = on.next;
+      rest = on.rest;
+      whole_is = ap (λ l. y ∷ l) on.whole_is ∙ ap (λ z. z ∷ (made ++ on.next ∷ on.rest)) (sym same);
+      begins = on.begins;
+    }
+
+-- and that the second event ends
+pub record GoesOnBy (s : Side) (made whole : List Made) (b e : Event) : Type 0 where
+  pub next : Made
+  pub rest : List Made
+  pub whole_is : whole ≡ made ++ next ∷ rest
+  pub begins : b ≡ begin_event s next
+  pub ends : e ≡ end_event s next
+
+pub next_ends : (s : Side) (made whole : List Made) (b e : Event) → IsBeginning (events_of s made ++ b ∷ e ∷ []) (events_of s whole) → GoesOnBy s made whole b e
+next_ends s [] [] b e (rest, p) = absurd (cc)
+next_ends s [] (y ∷ whole) b e (rest, p) = record { next = y; rest = whole; whole_is = refl; begins = cc; ends = cc }
+next_ends s (m ∷ made) [] b e (rest, p) = absurd (cc)
+next_ends s (m ∷ made) (y ∷ whole) b e (rest, p) =
+    let same : m ≡ y = same_made s m y (cc) (cc) in
+    let tails : (events_of s made ++ b ∷ e ∷ []) ++ rest ≡ events_of s whole = cc in
+    let on : GoesOnBy s made whole b e = next_ends s made whole b e (rest, tails) in
+    record {
+      next = on.next;
+      rest = on.rest;
+      whole_is = ap (λ l. y ∷ l) on.whole_is ∙ ap (λ z. z ∷ (made ++ on.next ∷ on.rest)) (sym same);
+      begins = on.begins;
+      ends = on.ends;
+    }
+
+-- ---- lists of events
+
+pub events_of-append : (s : Side) (xs ys : List Made) → events_of s (xs ++ ys) ≡ events_of s xs ++ events_of s ys
+events_of-append s [] ys = refl
+events_of-append s (x ∷ xs) ys = ap (λ l. begin_event s x ∷ end_event s x ∷ l) (events_of-append s xs ys)
+
+-- an access has two events
+pub length-events : (s : Side) (xs : List Made) → length (events_of s xs) ≡ 2 * length xs
+length-events s [] = refl
+length-events s (x ∷ xs) = omega (arith, length-events s xs)

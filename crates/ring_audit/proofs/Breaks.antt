@@ -1,0 +1,136 @@
+-- The first place up to and with which a history is not of the programs.
+use Rattle.std.proofs.Common.{◌≡◌, ◌↔◌, ℕ, zero, suc, ◌+◌, ◌≤◌, ◌<◌, Bool, IsTrue, List, [], ◌∷◌, ◌++◌, length, take, drop, get_or, refl, sym, ap, subst, ◌∙◌, arith, append_assoc}
+use Rattle.std.proofs.Math.Seq.{take-length}
+use Rattle.std.proofs.lemmas.Option.{slice_get_within}
+use Rattle.std.proofs.lemmas.List.Elements.{filter-append}
+use Rattle.std.proofs.lemmas.List.{take-append-drop, take_more, take-take, take_at}
+use Rattle.bits_core.specs.declared.events.Side.TheVariants.{P, C}
+use Rattle.bits_core.specs.declared.events.Event.{Event}
+use Rattle.bits_core.specs.declared.audits.Kind.{Kind}
+use Rattle.bits_core.specs.declared.audits.Kind.TheVariants.{WrongSide, OutOfTurn, NotPermitted, NotProgram}
+use Rattle.bits_core.specs.declared.shapes.Shape.{Shape}
+use Rattle.bits_core.specs.declared.audits.Verdict.{Verdict}
+use Rattle.bits_core.specs.declared.audits.Verdict.TheVariants as bits
+use Rattle.bits_core.specs.Audit.{IsFirstFault, IsVerdict}
+use Rattle.bits_core.specs.Laws.{BeginningIsLawful, FaultBreaks}
+use Rattle.bits_core.specs.Lawful.{IsLawful}
+use Rattle.bits_core.specs.declared.events.Side.{Side}
+use Rattle.bits_core.specs.Bits.{is_by}
+use Rattle.bits_core.specs.Made.{own, IsBeginning}
+use Rattle.ring_audit.specs.Audit.{IsOfPrograms, IsFound, IsKindAt, IsFirstBreak, Statement, Lawful, Fault, IsFinding, lawful_until, tells_lawful}
+use Rattle.ring_audit.specs.PutReading.{PutsStand, HasPut}
+use Rattle.ring_audit.specs.TakeReading.{TakesStand, HasTaken}
+use Rattle.ring_audit.specs.Reading.{Reading, Stands, BothFollow}
+
+pub of_programs : (shape : Shape) (h : List Event) → IsLawful shape h → BothFollow shape h → IsOfPrograms shape h
+of_programs shape h lawful ((puts, are, events), (takes, are', events')) =
+    (puts, takes, record { lawful = lawful; puts_follow = record { are = are; events = events }; takes_follow = record { are = are'; events = events' } })
+
+both_follow : (shape : Shape) (h : List Event) → IsOfPrograms shape h → BothFollow shape h
+both_follow shape h (puts, takes, run) =
+    ((puts, run.puts_follow.are, run.puts_follow.events), (takes, run.takes_follow.are, run.takes_follow.events))
+
+pub lawful_take : BeginningIsLawful → (shape : Shape) (h : List Event) (n : ℕ) → IsLawful shape h → IsLawful shape (take n h)
+lawful_take law shape h n lawful = law shape (take n h) (drop n h) (subst (IsLawful shape) (sym (take-append-drop n h)) lawful)
+
+-- where the event behind the first i is not of the programs
+pub break_of_program :
+    BeginningIsLawful → (of shape : Shape) (h part : List Event) (n i : ℕ) (d : Event) → of ≡ shape → part ≡ take n h → IsLawful shape part → i < length part → length part ≤ length h → i < n →
+    BothFollow of (take i part) → (BothFollow of (take i part ++ get_or part i d ∷ []) → ⊥) → IsFirstBreak shape h i NotProgram
+break_of_program law of shape h part n i d same part_is lawful within few below follow breaks =
+    let before : take i part ≡ take i h = ap (take i) part_is ∙ take-take i n h (omega (arith, below)) in
+    let after : take (suc i) part ≡ take (suc i) h = ap (take (suc i)) part_is ∙ take-take (suc i) n h (omega (arith, below)) in
+    let one : suc i ≡ i + 1 = omega arith in
+    let more : take (suc i) part ≡ take i part ++ get_or part i d ∷ [] = ap (λ k. take k part) one ∙ take_more part i d within in
+    record {
+      within = omega (arith, within, few);
+      before = subst (IsOfPrograms shape) before (of_programs shape (take i part) (lawful_take law shape part i lawful) (subst (λ s. BothFollow s (take i part)) same follow));
+      breaks = λ runs. breaks (subst (λ s. BothFollow s (take i part ++ get_or part i d ∷ [])) (sym same) (subst (BothFollow shape) (sym after ∙ more) (both_follow shape (take (suc i) h) runs)));
+      kind_is = subst (IsLawful shape) after (lawful_take law shape part (suc i) lawful);
+    }
+
+kind_at : (shape : Shape) (h : List Event) (place : ℕ) (kind : Kind) → IsFirstFault shape h place kind → IsKindAt shape h place kind
+kind_at shape h place WrongSide fault = fault
+kind_at shape h place OutOfTurn fault = fault
+kind_at shape h place NotPermitted fault = fault
+kind_at shape h place NotProgram fault = absurd fault.fault
+
+-- where the bits are at fault first
+pub break_of_bits :
+    FaultBreaks → (shape : Shape) (h : List Event) (place : ℕ) (kind : Kind) → IsFirstFault shape h place kind → BothFollow shape (take place h) → IsFirstBreak shape h place kind
+break_of_bits law shape h place kind fault follow = record {
+  within = slice_get_within h place fault.event fault.at_place;
+  before = of_programs shape (take place h) (law shape h place kind fault).0 follow;
+  breaks = λ runs. (law shape h place kind fault).1 runs.2.lawful;
+  kind_is = kind_at shape h place kind fault;
+}
+
+-- ---- the finding
+
+pub both_read :
+    (shape : Shape) (r : Reading) (told : Bool) →
+    ((es : List Event) (items stored : List ℕ) → PutsStand shape r.puts es items stored → HasPut shape es items) →
+    ((es : List Event) (items : List ℕ) → TakesStand shape r.takes es items → HasTaken shape es items told) → (h : List Event) → Stands shape r h → BothFollow shape h
+both_read shape r told puts_so takes_so h st =
+    let p = puts_so (own P h) st.items st.stored st.puts_stand in
+    let t = takes_so (own C h) r.taken st.takes_stand in
+    ((p.calls, p.are, p.events), (t.calls, t.are, t.events))
+
+pub found :
+    (shape : Shape) (r : Reading) (told : Bool) (put : List ℕ) →
+    ((es : List Event) (items stored : List ℕ) → PutsStand shape r.puts es items stored → HasPut shape es items) →
+    ((es : List Event) (items : List ℕ) → TakesStand shape r.takes es items → HasTaken shape es items told) → put ≡ take r.counted r.put →
+    (h : List Event) → IsLawful shape h → Stands shape r h → IsFound shape h put r.taken told
+found shape r told put puts_so takes_so kept h lawful st =
+    let p = puts_so (own P h) st.items st.stored st.puts_stand in
+    let t = takes_so (own C h) r.taken st.takes_stand in
+    let items_are : put ≡ st.items =
+    kept ∙ ap (λ n. take n r.put) st.counted_is ∙ ap (take (length st.items)) st.put_is ∙ take_at st.items st.stored (length st.items) refl in
+    record {
+      puts = p.calls;
+      takes = t.calls;
+      run = record { lawful = lawful; puts_follow = record { are = p.are; events = p.events }; takes_follow = record { are = t.are; events = t.events } };
+      put_is = items_are ∙ p.put;
+      taken_is = t.taken;
+      told_is = t.told_is;
+    }
+
+-- ---- the part that is lawful
+
+pub lawful_part :
+    FaultBreaks → (shape : Shape) (h : List Event) (verdict : Verdict) (n : ℕ) → IsVerdict shape h verdict → n ≡ lawful_until (length h) verdict → IsLawful shape (take n h)
+lawful_part law shape h bits.Lawful n is e = subst (IsLawful shape) (sym (ap (λ k. take k h) e ∙ take-length h)) is
+lawful_part law shape h (bits.Fault place kind) n is e = subst (IsLawful shape) (ap (λ k. take k h) (sym e)) (law shape h place kind is).0
+
+pub length_part : (h : List Event) (n : ℕ) → n ≤ length h → length (take n h) ≡ n
+length_part [] zero l = refl
+length_part [] (suc n) l = absurd (omega (arith, l))
+length_part (e ∷ h) zero l = refl
+length_part (e ∷ h) (suc n) l = ap suc (length_part h n (omega (arith, l)))
+
+-- ---- exactly
+
+own-append : (s : Side) (h g : List Event) → own s (h ++ g) ≡ own s h ++ own s g
+own-append s h g = filter-append (is_by s) h g
+
+begins_take : (s : Side) (h : List Event) (n : ℕ) (all : List Event) → IsBeginning (own s h) all → IsBeginning (own s (take n h)) all
+begins_take s h n all (rest, e) = (
+  own s (drop n h) ++ rest,
+  sym (append_assoc (own s (take n h)) (own s (drop n h)) rest) ∙ ap (λ l. l ++ rest) (sym (own-append s (take n h) (drop n h)) ∙ ap (own s) (take-append-drop n h)) ∙ e,
+)
+
+-- a beginning of a history of the programs is of the programs
+pub programs_take : BeginningIsLawful → (shape : Shape) (h : List Event) (n : ℕ) → IsOfPrograms shape h → IsOfPrograms shape (take n h)
+programs_take law shape h n (puts, takes, run) = (
+  puts,
+  takes,
+  record {
+    lawful = lawful_take law shape h n run.lawful;
+    puts_follow = record { are = run.puts_follow.are; events = begins_take P h n _ run.puts_follow.events };
+    takes_follow = record { are = run.takes_follow.are; events = begins_take C h n _ run.takes_follow.events };
+  },
+)
+
+pub exact_finding : BeginningIsLawful → (shape : Shape) (h : List Event) (f : Statement) → IsFinding shape h f → IsTrue (tells_lawful f) ↔ IsOfPrograms shape h
+exact_finding law shape h (Lawful put taken told) found = (λ e. (found.puts, found.takes, found.run), λ runs. refl)
+exact_finding law shape h (Fault place kind) found = (λ e. absurd (cc), λ runs. absurd (found.breaks (programs_take law shape h (suc place) runs)))

@@ -1,0 +1,14 @@
+pub mod Beginnings
+pub mod Readers
+pub mod TakeReads
+pub mod TakeItems
+pub mod TakeSteps
+pub mod TakeEnds
+pub mod PutReads
+pub mod PutSteps
+pub mod PutItems
+pub mod PutEnds
+pub mod Readings
+pub mod Breaks
+pub mod Findings
+pub mod Sentences

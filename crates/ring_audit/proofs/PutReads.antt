@@ -1,0 +1,296 @@
+-- The reader of puts: where it stops, the events are of no puts.
+use Rattle.std.proofs.Common.{◌≡◌, ◌≢◌, inl, inr, ℕ, zero, suc, ◌+◌, ◌%◌, ◌<◌, ◌≤◌, Bool, true, false, not, is_some, Option, Some, None, List, [], ◌∷◌, ◌++◌, length, if◌then◌else◌, nat_lt, refl, sym, ap, subst, ◌∙◌, arith, append_assoc, append-nil, length-append}
+use Rattle.std.proofs.Math.Path.{fun_ext}
+use Rattle.std.proofs.lemmas.Bool.Decides.{nat_tests}
+use Rattle.bits_core.specs.declared.events.Side.{Side}
+use Rattle.bits_core.specs.declared.events.Side.TheVariants.{P}
+use Rattle.bits_core.specs.declared.events.Bit.TheVariants.{S, X, Cell}
+use Rattle.bits_core.specs.declared.events.Access.{Access}
+use Rattle.bits_core.specs.declared.events.Access.TheVariants as begins
+use Rattle.bits_core.specs.declared.events.Event.{Event}
+use Rattle.bits_core.specs.declared.shapes.Shape.{Shape}
+use Rattle.bits_core.specs.Shape.{capacity_of, modulus_of, width_of}
+use Rattle.bits_core.specs.Made.{Made, Read, Write, access_of, answered, begin_event, end_event, events_of}
+use Rattle.register_core.specs.Row.{RowWrite, row_bit, first_bits, bits_after, writes_in}
+use Rattle.register_core.specs.Word.{digit_writes}
+use Rattle.register_core.specs.WordState.{ReaderState, due_read}
+use Rattle.register_core.specs.Unary.{unary_phrase}
+use Rattle.register_core.specs.UnaryState.{UnaryState, bit_in, due_writes, due_unary, first_access}
+use Rattle.register_core.specs.ScanState.{ScanState, LastIsDue, zero_reads, scan_phrase, row_read_by, due_scan}
+use Rattle.ring_core.specs.Counts.{LeavesRoom, past, Count, first_count, count_bits}
+use Rattle.ring_core.specs.Puts.{Puts, words_phrase, put_phrases, put_program}
+use Rattle.ring_core.specs.Calls.{IsScanning}
+use Rattle.ring_core.specs.PutParts.{GoesBehind, left_by, count_write, ScansOrCloses, ScansOn, StoresOrCounts, StoresOn, CountsOn}
+use Rattle.ring_core.specs.GoingOn.{LastPutsReadOne}
+use Rattle.ring_core.specs.Readings.{PutsAreFirst}
+use Rattle.ring_audit.specs.declared.puts.PutStep.{PutStep}
+use Rattle.ring_audit.specs.declared.puts.Stage.{Stage}
+use Rattle.ring_audit.specs.declared.puts.Stage.TheVariants.{Resting, Scanning, Choosing, Storing, Counting, Closed}
+use Rattle.ring_audit.specs.Sides.{begin_of, AreOfPuts}
+use Rattle.ring_audit.specs.PutReading.{PutReading, IsPutReading, HasReadPut, IsAt, RowHolds, IsMost, has_items, MadeAt, PutsStand}
+use Rattle.ring_audit.proofs.Readers as readers
+use Rattle.ring_audit.proofs.Beginnings.{begin_is, access_is, same_access, same_made, GoesOnWith, GoesOnBy, events_of-append}
+
+-- calls whose events go on so
+rest_on :
+    (shape : Shape) (r : PutReading) (es : List Event) (items stored : List ℕ) (st : PutsStand shape r es items stored) (e : Event) → r.open_access ≡ None →
+    (of_puts : AreOfPuts shape (es ++ e ∷ [])) → GoesOnWith P st.made (put_program shape of_puts.0) e
+rest_on shape r es items stored st e none (calls, are, begins) = readers.rest_on P es st.made (put_program shape calls) r.open_access e st.events_are none begins
+
+work_on :
+    (shape : Shape) (r : PutReading) (es : List Event) (items stored : List ℕ) (st : PutsStand shape r es items stored) (a : Access) (e : Event) → r.open_access ≡ Some a →
+    (of_puts : AreOfPuts shape (es ++ e ∷ [])) → GoesOnBy P st.made (put_program shape of_puts.0) (begin_of P a) e
+work_on shape r es items stored st a e some (calls, are, begins) = readers.work_on P es st.made (put_program shape calls) r.open_access a e st.events_are some begins
+
+-- ---- where it stops
+
+-- what a scan has due
+pub scan_due : (side : Side) (m : ℕ) (s : ScanState) → IsScanning side m s → due_scan s ≡ Some (begins.Read (row_read_by side s.zeros))
+scan_due side m s is =
+    ap (λ b. if b then None else Some (begins.Read (row_read_by s.side s.zeros))) is.not_found ∙ ap (λ t. Some (begins.Read (row_read_by t s.zeros))) is.side_is
+
+-- a 0 of the last bit
+pub zero_at_last :
+    LastPutsReadOne → (shape : Shape) (r : PutReading) (es : List Event) (items stored : List ℕ) (a : Access) → PutsStand shape r es items stored → r.open_access ≡ Some a →
+    IsScanning P (modulus_of shape) r.scan → due_scan r.scan ≡ Some a → LastIsDue r.scan → AreOfPuts shape (es ++ end_event P (answered a false) ∷ []) → ⊥
+zero_at_last one shape r es items stored a st some scans due last of_puts =
+    let on = work_on shape r es items stored st a (end_event P (answered a false)) some of_puts in
+    let begun : begin_event P (answered a false) ≡ begin_event P on.next =
+    begin_is P (answered a false) ∙ ap (begin_of P) (access_is a false) ∙ on.begins in
+    let next_is : on.next ≡ answered a false = sym (same_made P (answered a false) on.next begun on.ends) in
+    let both : Some a ≡ Some (begins.Read (row_read_by P r.scan.zeros)) = sym due ∙ scan_due P (modulus_of shape) r.scan scans in
+    let a_is : a ≡ begins.Read (row_read_by P r.scan.zeros) = cc in
+    let next_reads : on.next ≡ Read (row_read_by P r.scan.zeros) false = next_is ∙ ap (λ z. answered z false) a_is in
+    let clash : false ≡ true =
+    one shape of_puts.0 of_puts.1 st.made r.scan.zeros false on.rest (on.whole_is ∙ ap (λ z. st.made ++ z ∷ on.rest) next_reads) (last.1 ∙ scans.modulus_is) in
+    absurd (cc)
+
+-- ---- where it stops, by the stage
+
+-- the calls go on behind the puts so far
+goes_behind :
+    (shape : Shape) (r : PutReading) (es : List Event) (items stored : List ℕ) (st : PutsStand shape r es items stored) (part : List Made) (e : Event) →
+    st.made ≡ put_phrases shape first_count st.puts ++ part → (of_puts : AreOfPuts shape (es ++ e ∷ [])) →
+    (on : GoesOnWith P st.made (put_program shape of_puts.0) e) → GoesBehind shape st.puts (part ++ on.next ∷ on.rest)
+goes_behind shape r es items stored st part e made_is of_puts on = record {
+  calls = of_puts.0;
+  are = of_puts.1;
+  program_is = on.whole_is ∙ ap (λ l. l ++ on.next ∷ on.rest) made_is ∙ append_assoc (put_phrases shape first_count st.puts) part (on.next ∷ on.rest);
+}
+
+pub made_at : (shape : Shape) (r : PutReading) (es : List Event) (items stored : List ℕ) (st : PutsStand shape r es items stored) (stage : Stage) → r.stage ≡ stage →
+    MadeAt stage shape r st.puts items stored st.made
+made_at shape r es items stored st stage e = subst (λ s. MadeAt s shape r st.puts items stored st.made) e st.made_is
+
+-- between calls
+pub no_call :
+    ScansOrCloses → (shape : Shape) (r : PutReading) (es : List Event) (items stored : List ℕ) (a : Access) → PutsStand shape r es items stored → r.open_access ≡ None →
+    r.stage ≡ Resting → (begins.Write X true ≡ a → ⊥) → (begins.Read (row_read_by P 0) ≡ a → ⊥) → AreOfPuts shape (es ++ begin_of P a ∷ []) → ⊥
+no_call law shape r es items stored a st none stage no_close no_read of_puts =
+    let (rests, made_is) = made_at shape r es items stored st Resting stage in
+    let on = rest_on shape r es items stored st (begin_of P a) none of_puts in
+    let is_a : access_of on.next ≡ a = same_access P a on.next on.begins in
+    let g = goes_behind shape r es items stored st [] (begin_of P a) (made_is ∙ sym (append-nil (put_phrases shape first_count st.puts))) of_puts on in
+    elim (law shape st.puts on.next on.rest st.are g) [
+      | inl (v, e) ↦ no_read (sym (ap access_of e) ∙ is_a)
+      | inr e ↦ no_close (sym (ap access_of e) ∙ is_a)
+    ]
+
+-- in a scan
+pub no_read :
+    ScansOn → (shape : Shape) (r : PutReading) (es : List Event) (items stored : List ℕ) (a : Access) → PutsStand shape r es items stored → r.open_access ≡ None →
+    r.stage ≡ Scanning → 0 < r.scan.zeros → (begins.Read (row_read_by P r.scan.zeros) ≡ a → ⊥) → AreOfPuts shape (es ++ begin_of P a ∷ []) → ⊥
+no_read law shape r es items stored a st none stage some wrong of_puts =
+    by_zeros r.scan.zeros refl
+  where
+    by_zeros : (zeros : ℕ) → r.scan.zeros ≡ zeros → ⊥
+    by_zeros zero e = absurd (omega (arith, some, e))
+    by_zeros (suc zeros) e =
+        let (rests, made_is) = made_at shape r es items stored st Scanning stage in
+        let on = rest_on shape r es items stored st (begin_of P a) none of_puts in
+        let is_a : access_of on.next ≡ a = same_access P a on.next on.begins in
+        let g = goes_behind shape r es items stored st (zero_reads (row_read_by P) (suc zeros)) (begin_of P a)
+        (made_is ∙ ap (λ n. put_phrases shape first_count st.puts ++ zero_reads (row_read_by P) n) e) of_puts on in
+        let (v, is) = law shape st.puts zeros on.next on.rest st.are g in
+        wrong (ap (λ n. begins.Read (row_read_by P n)) e ∙ sym (ap access_of is) ∙ is_a)
+
+-- where something may be stored there is room
+pub has_room_then : (shape : Shape) (n seen m : ℕ) → IsMost shape n seen m → LeavesRoom shape (n % modulus_of shape) seen
+has_room_then shape n seen m may = omega (arith, may.room, may.some)
+
+-- the bits of a row
+same_row_writes : (us vs : List RowWrite) → writes_in (row_bit P) us ≡ writes_in (row_bit P) vs → us ≡ vs
+same_row_writes [] [] e = refl
+same_row_writes [] (v ∷ vs) e = absurd (cc)
+same_row_writes (u ∷ us) [] e = absurd (cc)
+same_row_writes (u ∷ us) (v ∷ vs) e =
+    let heads : Write (S u.bit) u.value ≡ Write (S v.bit) v.value = cc in
+    let bits : u.bit ≡ v.bit = cc in
+    let values : u.value ≡ v.value = cc in
+    let head : u ≡ v = ap (λ b. record { bit = b; value = u.value }) bits ∙ ap (λ w. record { bit = v.bit; value = w }) values in
+    let tail : us ≡ vs = same_row_writes us vs (cc) in
+    cc
+
+pub row_bits : (row : UnaryState) (bits : ℕ → Bool) → row.side ≡ P → RowHolds row bits → bit_in row.bits ≡ bits
+row_bits row bits side h =
+    let same : h.writes ≡ h.stands.writes =
+    same_row_writes h.writes h.stands.writes (h.stands.made_is ∙ ap (λ s. writes_in (row_bit s) h.stands.writes) side) in
+    fun_ext (λ i. h.stands.remembered i ∙ ap (λ ws. bits_after first_bits ws i) (sym same) ∙ ap (λ f. f i) h.left)
+
+-- what is due once the count of these items is asked for
+pub count_due :
+    (shape : Shape) (row : UnaryState) (c : Count) (items : List ℕ) (next : ℕ) → row.side ≡ P → RowHolds row c.bits → next ≡ past c.number items % modulus_of shape →
+    due_writes (record row { value = next }) ≡ count_bits shape c items
+count_due shape row c items next side h e = ap (λ f. unary_phrase f next) (row_bits row c.bits side h) ∙ ap (unary_phrase c.bits) e
+
+-- the first access of bit writes
+pub first_due : (row : UnaryState) (w : RowWrite) (more : List RowWrite) → row.side ≡ P → due_writes row ≡ w ∷ more → due_unary row ≡ Some (access_of (count_write w))
+first_due row w more side e = ap (first_access (row_bit row.side)) e ∙ ap (λ s. Some (begins.Write (row_bit s w.bit) w.value)) side
+
+-- behind a scan that found room, or a whole word
+pub no_word_nor_count :
+    StoresOrCounts → (shape : Shape) (r : PutReading) (es : List Event) (items stored : List ℕ) (a : Access) → PutsStand shape r es items stored → r.open_access ≡ None →
+    r.stage ≡ Choosing → r.row.side ≡ P → ((v : Bool) → 0 < r.room → a ≡ begins.Write (Cell r.cell 0) v → ⊥) →
+    (r.some ≡ true → due_unary (record r.row { value = r.next }) ≡ Some a → ⊥) → AreOfPuts shape (es ++ begin_of P a ∷ []) → ⊥
+no_word_nor_count law shape r es items stored a st none stage side no_word no_count of_puts =
+    let (s, made_is) = made_at shape r es items stored st Choosing stage in
+    let c : Count = left_by shape st.puts in
+    let scan : List Made = scan_phrase (row_read_by P) s.seen in
+    let words : List Made = words_phrase shape c.number stored in
+    let on = rest_on shape r es items stored st (begin_of P a) none of_puts in
+    let is_a : access_of on.next ≡ a = same_access P a on.next on.begins in
+    let g = goes_behind shape r es items stored st (scan ++ words) (begin_of P a) made_is of_puts on in
+    elim (law shape st.puts s.seen stored on.next on.rest st.are (has_room_then shape c.number s.seen (length stored + r.room) s.may) s.fit
+    (subst (GoesBehind shape st.puts) (append_assoc scan words (on.next ∷ on.rest)) g)) [
+      | inl (v, e, room, few) ↦
+          let most : suc (length stored) ≤ length stored + r.room = s.may.most (suc (length stored)) room few in
+          no_word v (omega (arith, most)) (sym is_a ∙ ap access_of e ∙ ap (λ j. begins.Write (Cell j 0) v) (sym s.cell_is))
+      | inr (some, w, more, bits, e) ↦
+          no_count (s.some_is ∙ has_some stored some)
+          (first_due (record r.row { value = r.next }) w more side (count_due shape r.row c stored r.next side s.holds s.next_is ∙ bits) ∙ ap Some (sym (ap access_of e) ∙ is_a))
+    ]
+  where
+    has_some : (l : List ℕ) → 1 ≤ length l → has_items l ≡ true
+    has_some [] l = absurd (omega (arith, l))
+    has_some (x ∷ l) m = refl
+
+-- in a word
+pub no_digit :
+    StoresOn → (shape : Shape) (r : PutReading) (es : List Event) (items stored : List ℕ) (a : Access) → PutsStand shape r es items stored → r.open_access ≡ None →
+    r.stage ≡ Storing → r.word.read < width_of shape → 0 < r.word.read → ((v : Bool) → a ≡ begins.Write (Cell r.cell r.word.read) v → ⊥) →
+    AreOfPuts shape (es ++ begin_of P a ∷ []) → ⊥
+no_digit law shape r es items stored a st none stage below some wrong of_puts =
+    by_read r.word.read refl
+  where
+    by_read : (read : ℕ) → r.word.read ≡ read → ⊥
+    by_read zero e = absurd (omega (arith, some, e))
+    by_read (suc read) e =
+        let (s, reads, stands, made_is) = made_at shape r es items stored st Storing stage in
+        let c : Count = left_by shape st.puts in
+        let scan : List Made = scan_phrase (row_read_by P) s.seen in
+        let words : List Made = words_phrase shape c.number stored in
+        let digits : List Made = writes_in (Cell (past c.number stored % capacity_of shape)) (digit_writes r.word.value (suc read)) in
+        let on = rest_on shape r es items stored st (begin_of P a) none of_puts in
+        let is_a : access_of on.next ≡ a = same_access P a on.next on.begins in
+        let front : List Made = put_phrases shape first_count st.puts in
+        let made_so : st.made ≡ front ++ (scan ++ (words ++ digits)) =
+        made_is ∙ ap (λ n. front ++ (scan ++ (words ++ writes_in (Cell r.cell) (digit_writes r.word.value n)))) e
+        ∙ ap (λ j. front ++ (scan ++ (words ++ writes_in (Cell j) (digit_writes r.word.value (suc read))))) s.cell_is in
+        let g = goes_behind shape r es items stored st (scan ++ (words ++ digits)) (begin_of P a) made_so of_puts on in
+        let parts : (scan ++ (words ++ digits)) ++ on.next ∷ on.rest ≡ scan ++ (words ++ (digits ++ on.next ∷ on.rest)) =
+        append_assoc scan (words ++ digits) (on.next ∷ on.rest) ∙ ap (λ l. scan ++ l) (append_assoc words digits (on.next ∷ on.rest)) in
+        let (v, is) = law shape st.puts s.seen stored r.word.value read on.next on.rest st.are
+        (has_room_then shape c.number s.seen (length stored + r.room) s.may) s.fit (omega (arith, below, e)) (subst (GoesBehind shape st.puts) parts g) in
+        wrong v (sym is_a ∙ ap access_of is ∙ ap (λ j. begins.Write (Cell j (suc read)) v) (sym s.cell_is) ∙ ap (λ n. begins.Write (Cell r.cell n) v) (sym e))
+
+some_due : (ws : List RowWrite) → (ws ≡ [] → ⊥) → (w : RowWrite) × (more : List RowWrite) × (ws ≡ w ∷ more)
+some_due [] none = absurd (none refl)
+some_due (w ∷ more) none = (w, more, refl)
+
+-- in a count write
+pub no_bit :
+    CountsOn → (shape : Shape) (r : PutReading) (es : List Event) (items stored : List ℕ) (a : Access) → PutsStand shape r es items stored → r.open_access ≡ None →
+    r.stage ≡ Counting → r.row.side ≡ P → due_unary r.row ≢ None → (due_unary r.row ≡ Some a → ⊥) → AreOfPuts shape (es ++ begin_of P a ∷ []) → ⊥
+no_bit law shape r es items stored a st none stage side due wrong of_puts =
+    let (s, made_is) = made_at shape r es items stored st Counting stage in
+    let c : Count = left_by shape st.puts in
+    let scan : List Made = scan_phrase (row_read_by P) s.seen in
+    let words : List Made = words_phrase shape c.number s.batch in
+    let front : List Made = put_phrases shape first_count st.puts in
+    let (u, writes, writes_are) = s.begun none in
+    let (w, more, due_are) = some_due (due_writes r.row) (λ e. due (ap (first_access (row_bit r.row.side)) e)) in
+    let bits : List Made = writes_in (row_bit P) (u ∷ writes) in
+    let made_so : st.made ≡ front ++ (scan ++ (words ++ bits)) = made_is ∙ ap (λ ws. front ++ (scan ++ (words ++ writes_in (row_bit P) ws))) writes_are in
+    let on = rest_on shape r es items stored st (begin_of P a) none of_puts in
+    let is_a : access_of on.next ≡ a = same_access P a on.next on.begins in
+    let g = goes_behind shape r es items stored st (scan ++ (words ++ bits)) (begin_of P a) made_so of_puts on in
+    let parts : (scan ++ (words ++ bits)) ++ on.next ∷ on.rest ≡ scan ++ (words ++ (bits ++ on.next ∷ on.rest)) =
+    append_assoc scan (words ++ bits) (on.next ∷ on.rest) ∙ ap (λ l. scan ++ l) (append_assoc words bits (on.next ∷ on.rest)) in
+    let batch = s.is_put.2 in
+    let room : LeavesRoom shape (c.number % modulus_of shape) s.seen = omega (arith, s.is_put.1, batch.some) in
+    let is = law shape st.puts s.seen s.batch u w writes more on.next on.rest st.are room batch.fit
+    (s.parts ∙ ap (λ ws. ws ++ due_writes r.row) writes_are ∙ ap (λ ws. (u ∷ writes) ++ ws) due_are) (subst (GoesBehind shape st.puts) parts g) in
+    wrong (first_due r.row w more side due_are ∙ ap Some (sym (ap access_of is) ∙ is_a))
+
+-- behind the close
+pub no_more :
+    PutsAreFirst → (shape : Shape) (r : PutReading) (es : List Event) (items stored : List ℕ) (a : Access) → PutsStand shape r es items stored → r.open_access ≡ None →
+    r.stage ≡ Closed → AreOfPuts shape (es ++ begin_of P a ∷ []) → ⊥
+no_more first shape r es items stored a st none stage of_puts =
+    let (rests, made_is) = made_at shape r es items stored st Closed stage in
+    let on = rest_on shape r es items stored st (begin_of P a) none of_puts in
+    let calls : Puts = record { puts = st.puts; closes = true } in
+    let more : List Made = on.next ∷ on.rest in
+    let whole : put_program shape calls ++ more ≡ put_program shape of_puts.0 = ap (λ l. l ++ more) (sym made_is) ∙ sym on.whole_is in
+    let events : events_of P (put_program shape calls) ++ events_of P more ≡ events_of P (put_program shape of_puts.0) =
+    sym (events_of-append P (put_program shape calls) more) ∙ ap (events_of P) whole in
+    let all : calls ≡ of_puts.0 = (first shape calls of_puts.0 st.are of_puts.1 (events_of P more, events)).1 refl in
+    absurd (omega (arith, ap length whole, length-append (put_program shape calls) more, ap (λ z. length (put_program shape z)) all))
+
+-- ---- from what the reader is inside
+
+-- what is read of its fields is read of it
+pub lift : (r now new : PutReading) (e : Event) (step : PutStep) → r ≡ now → HasReadPut r.shape r new e step → HasReadPut now.shape now new e step
+lift r now new e step is read = subst (λ (z : PutReading). HasReadPut z.shape z new e step) is read
+
+pub at_stage : (r : PutReading) (stage : Stage) → IsPutReading r → r.stage ≡ stage → IsAt stage r
+at_stage r stage is e = subst (λ s. IsAt s r) e is.at
+
+pub same_open : (o : Option Access) (a b : Access) → o ≡ Some a → o ≡ Some b → a ≡ b
+same_open o a b e f = let both : Some a ≡ Some b = sym e ∙ f in cc
+
+pub no_due_none : (row : UnaryState) (a : Access) → due_unary row ≡ Some a → due_unary row ≢ None
+no_due_none row a e f = let clash : Some a ≡ None = sym e ∙ f in absurd (cc)
+
+-- a word that goes on reads its next digit
+pub read_due : (w : ReaderState) → w.read < w.width → due_read w ≡ Some (begins.Read (Cell w.cell w.read))
+read_due w l = by_test (nat_lt w.read w.width) refl
+  where
+    by_test : (b : Bool) → nat_lt w.read w.width ≡ b → due_read w ≡ Some (begins.Read (Cell w.cell w.read))
+    by_test true e = ap (λ b. if b then Some (begins.Read (Cell w.cell w.read)) else None) e
+    by_test false e = absurd (grind (arith, nat_tests))
+
+pub not_whole : (w : ReaderState) → None ≡ (if nat_lt w.read w.width then None else Some w.value) → w.read < w.width
+not_whole w e = by_test (nat_lt w.read w.width) refl
+  where
+    by_test : (b : Bool) → nat_lt w.read w.width ≡ b → w.read < w.width
+    by_test true f = grind (arith, nat_tests)
+    by_test false f = let clash : None ≡ Some w.value = e ∙ ap (λ b. if b then None else Some w.value) f in absurd (cc)
+
+pub whole_word : (w : ReaderState) (item : ℕ) → Some item ≡ (if nat_lt w.read w.width then None else Some w.value) → (item ≡ w.value) × (w.width ≤ w.read)
+whole_word w item e = by_test (nat_lt w.read w.width) refl
+  where
+    by_test : (b : Bool) → nat_lt w.read w.width ≡ b → (item ≡ w.value) × (w.width ≤ w.read)
+    by_test true f = let clash : Some item ≡ None = e ∙ ap (λ b. if b then None else Some w.value) f in absurd (cc)
+    by_test false f = let both : Some item ≡ Some w.value = e ∙ ap (λ b. if b then None else Some w.value) f in (cc, grind (arith, nat_tests))
+
+pub no_value : (s : ScanState) → None ≡ (if s.found then Some s.zeros else None) → s.found ≡ false
+no_value s e = by_found s.found refl
+  where
+    by_found : (b : Bool) → s.found ≡ b → s.found ≡ false
+    by_found true f = let clash : None ≡ Some s.zeros = e ∙ ap (λ b. if b then Some s.zeros else None) f in absurd (cc)
+    by_found false f = f
+
+pub no_due : (o : Option Access) (b : Bool) → is_some o ≡ not b → b ≡ true → o ≡ None
+no_due None b e f = refl
+no_due (Some a) b e f = let clash : true ≡ false = e ∙ ap not f in absurd (cc)

@@ -1,0 +1,93 @@
+-- A reader of one side has read the events of accesses that were made, and the begin of the one that is open: one event more.
+use Rattle.std.proofs.Common.{◌≡◌, suc, ◌*◌, ◌≤◌, Bool, Option, Some, None, List, [], ◌∷◌, ◌++◌, length, sym, ap, subst, ◌∙◌, arith, append_assoc, append-nil, length-append}
+use Rattle.bits_core.specs.declared.events.Side.{Side}
+use Rattle.bits_core.specs.declared.events.Access.{Access}
+use Rattle.bits_core.specs.declared.events.Event.{Event}
+use Rattle.bits_core.specs.Bits.{begun_by}
+use Rattle.bits_core.specs.Made.{Made, access_of, answered, end_event, events_of, IsBeginning}
+use Rattle.ring_audit.specs.Sides.{begin_of, open_events, EndsSo}
+use Rattle.ring_audit.proofs.Beginnings.{begin_is, access_is, answer_is, begun_is, ended_is, same_access, GoesOnWith, next_begins, GoesOnBy, next_ends, events_of-append, length-events}
+
+-- ---- what was read
+
+-- with no access open
+pub at_rest : (s : Side) (es : List Event) (made : List Made) (o : Option Access) → es ≡ events_of s made ++ open_events s o → o ≡ None → es ≡ events_of s made
+at_rest s es made o is none = is ∙ ap (λ z. events_of s made ++ open_events s z) none ∙ append-nil (events_of s made)
+
+-- with one open, and one event more
+at_work :
+    (s : Side) (es : List Event) (made : List Made) (o : Option Access) (a : Access) (e : Event) → es ≡ events_of s made ++ open_events s o → o ≡ Some a →
+    es ++ e ∷ [] ≡ events_of s made ++ begin_of s a ∷ e ∷ []
+at_work s es made o a e is some =
+    ap (λ l. l ++ e ∷ []) (is ∙ ap (λ z. events_of s made ++ open_events s z) some) ∙ append_assoc (events_of s made) (begin_of s a ∷ []) (e ∷ [])
+
+-- two for each access that was made, and one for the open one
+pub open-short : (s : Side) (made : List Made) (o : Option Access) → length (events_of s made ++ open_events s o) ≤ suc (2 * length made)
+open-short s made None = omega (arith, length-append (events_of s made) [], length-events s made)
+open-short s made (Some a) = omega (arith, length-append (events_of s made) (begin_of s a ∷ []), length-events s made)
+
+pub open-long : (s : Side) (made : List Made) (o : Option Access) → 2 * length made ≤ length (events_of s made ++ open_events s o)
+open-long s made None = omega (arith, length-append (events_of s made) [], length-events s made)
+open-long s made (Some a) = omega (arith, length-append (events_of s made) (begin_of s a ∷ []), length-events s made)
+
+-- ---- where it goes on
+
+-- with a begin
+pub opened :
+    (s : Side) (es : List Event) (made : List Made) (o : Option Access) (a : Access) → es ≡ events_of s made ++ open_events s o → o ≡ None →
+    es ++ begin_of s a ∷ [] ≡ events_of s made ++ open_events s (Some a)
+opened s es made o a is none = ap (λ l. l ++ begin_of s a ∷ []) (at_rest s es made o is none)
+
+-- with an end
+pub ended :
+    (s : Side) (es : List Event) (made : List Made) (o : Option Access) (a : Access) (v : Bool) → es ≡ events_of s made ++ open_events s o → o ≡ Some a →
+    es ++ end_event s (answered a v) ∷ [] ≡ events_of s (made ++ answered a v ∷ []) ++ open_events s None
+ended s es made o a v is some =
+    at_work s es made o a (end_event s (answered a v)) is some
+    ∙ ap (λ b. events_of s made ++ b ∷ end_event s (answered a v) ∷ []) (sym (begin_is s (answered a v) ∙ ap (begin_of s) (access_is a v)))
+    ∙ sym (events_of-append s made (answered a v ∷ []))
+    ∙ sym (append-nil (events_of s (made ++ answered a v ∷ [])))
+
+-- a program whose events begin so goes on with an access that the event begins
+pub rest_on :
+    (s : Side) (es : List Event) (made whole : List Made) (o : Option Access) (e : Event) → es ≡ events_of s made ++ open_events s o → o ≡ None →
+    IsBeginning (es ++ e ∷ []) (events_of s whole) → GoesOnWith s made whole e
+rest_on s es made whole o e is none begins = next_begins s made whole e (subst (λ l. IsBeginning (l ++ e ∷ []) (events_of s whole)) (at_rest s es made o is none) begins)
+
+-- or with the open one, which it ends
+pub work_on :
+    (s : Side) (es : List Event) (made whole : List Made) (o : Option Access) (a : Access) (e : Event) → es ≡ events_of s made ++ open_events s o → o ≡ Some a →
+    IsBeginning (es ++ e ∷ []) (events_of s whole) → GoesOnBy s made whole (begin_of s a) e
+work_on s es made whole o a e is some begins =
+    next_ends s made whole (begin_of s a) e (subst (λ l. IsBeginning l (events_of s whole)) (at_work s es made o a e is some) begins)
+
+-- ---- where it stops
+
+-- a begin while an access is open
+pub begin_in_access :
+    (s : Side) (es : List Event) (made whole : List Made) (o : Option Access) (a : Access) (e : Event) (b : Access) → es ≡ events_of s made ++ open_events s o → o ≡ Some a →
+    begun_by e ≡ Some b → IsBeginning (es ++ e ∷ []) (events_of s whole) → ⊥
+begin_in_access s es made whole o a e b is some begun begins =
+    let on = work_on s es made whole o a e is some begins in
+    let clash : Some b ≡ None = sym begun ∙ ap begun_by on.ends ∙ ended_is s on.next in
+    absurd (cc)
+
+-- an end while none is open
+pub end_at_rest :
+    (s : Side) (es : List Event) (made whole : List Made) (o : Option Access) (e : Event) → es ≡ events_of s made ++ open_events s o → o ≡ None → begun_by e ≡ None →
+    IsBeginning (es ++ e ∷ []) (events_of s whole) → ⊥
+end_at_rest s es made whole o e is none no_begin begins =
+    let on = rest_on s es made whole o e is none begins in
+    let clash : None ≡ Some (access_of on.next) = sym no_begin ∙ ap begun_by on.begins ∙ begun_is s on.next in
+    absurd (cc)
+
+-- an event that does not end the access that is open
+pub wrong_end :
+    (s : Side) (es : List Event) (made whole : List Made) (o : Option Access) (a : Access) (e : Event) → es ≡ events_of s made ++ open_events s o → o ≡ Some a → e.side ≡ s →
+    ((v : Bool) → EndsSo a e v → ⊥) → IsBeginning (es ++ e ∷ []) (events_of s whole) → ⊥
+wrong_end s es made whole o a e is some by no_end begins =
+    let on = work_on s es made whole o a e is some begins in
+    let same : access_of on.next ≡ a = same_access s a on.next on.begins in
+    let (v, next_so) = answer_is on.next in
+    let next_is : on.next ≡ answered a v = next_so ∙ ap (λ z. answered z v) same in
+    no_end v (on.ends ∙ ap (end_event s) next_is ∙ ap (λ t. end_event t (answered a v)) (sym by))

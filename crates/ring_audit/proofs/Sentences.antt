@@ -1,0 +1,36 @@
+-- The sentence of the ring of a history that was found lawful and of the programs.
+use Rattle.std.proofs.Common.{◌≡◌, ℕ, Bool, List, length, sym, ap, subst, ◌∙◌, arith}
+use Rattle.std.proofs.Math.Seq.{take-length}
+use Rattle.bits_core.specs.declared.events.Side.{Side}
+use Rattle.bits_core.specs.declared.events.Side.TheVariants.{P, C}
+use Rattle.bits_core.specs.declared.events.Event.{Event}
+use Rattle.bits_core.specs.declared.shapes.Shape.{Shape}
+use Rattle.bits_core.specs.Made.{clock, own, IsBeginning}
+use Rattle.ring_core.specs.Counts.{first_count}
+use Rattle.ring_core.specs.Items.{items_put, items_taken, IsTold}
+use Rattle.ring_core.specs.RingLaw.{InEveryRun, ClosedStays, RingLaw}
+use Rattle.ring_audit.specs.Audit.{IsFound, MeetsSentence, Statement, Lawful, Fault, IsFinding, SaysSentence}
+
+clock_end : (s : Side) (h : List Event) → clock s h (length h) ≡ length (own s h)
+clock_end s h = ap (λ l. length (own s l)) (take-length h)
+
+sentence : InEveryRun RingLaw → ClosedStays → (shape : Shape) (h : List Event) (put taken : List ℕ) (told : Bool) → IsFound shape h put taken told → MeetsSentence shape h put taken told
+sentence holds stays shape h put taken told f =
+    let law : RingLaw shape h f.puts f.takes = holds shape h f.puts f.takes f.run in
+    let put_so : items_put shape first_count f.puts.puts (clock P h (length h)) ≡ put = ap (items_put shape first_count f.puts.puts) (clock_end P h) ∙ sym f.put_is in
+    let taken_so : items_taken shape 0 f.takes.takes (clock C h (length h)) ≡ taken = ap (items_taken shape 0 f.takes.takes) (clock_end C h) ∙ sym f.taken_is in
+    record {
+      prefix = subst (λ l. IsBeginning l put) taken_so (subst (IsBeginning (items_taken shape 0 f.takes.takes (clock C h (length h)))) put_so (law.prefix (length h)));
+      all = λ e.
+          (let at : IsTold shape f.takes (clock C h (length h)) = subst (IsTold shape f.takes) (sym (clock_end C h)) (f.told_is.0 e) in
+          let (all_put, all_taken, closes, behind) = law.closed (length h) (length h) at (omega arith) in
+          sym taken_so ∙ all_taken ∙ sym all_put ∙ put_so);
+      stays = λ e h' put' taken' told' begins g.
+          (let same = stays shape h h' f.puts g.puts f.takes g.takes f.run g.run begins (f.told_is.0 e) in
+          (g.put_is ∙ same.0 ∙ sym f.put_is, g.taken_is ∙ same.1 ∙ sym f.taken_is));
+      law = λ puts takes run. holds shape h puts takes run;
+    }
+
+pub says_sentence : InEveryRun RingLaw → ClosedStays → (shape : Shape) (h : List Event) (f : Statement) → IsFinding shape h f → SaysSentence shape h f
+says_sentence holds stays shape h (Lawful put taken told) found = sentence holds stays shape h put taken told found
+says_sentence holds stays shape h (Fault place kind) found = record {}

@@ -1,0 +1,217 @@
+-- What was taken and told so far, by calls that the events are a beginning of.
+use Rattle.std.proofs.Common.{◌≡◌, inl, inr, ℕ, suc, ◌+◌, ◌-◌, ◌*◌, ◌<◌, ◌≤◌, ◌↔◌, Bool, true, false, Option, Some, None, List, [], ◌∷◌, ◌++◌, length, refl, sym, ap, subst, ◌∙◌, arith, append_assoc, append-nil, length-append, nat_le, if◌then◌else◌, IsTrue}
+use Rattle.std.proofs.lemmas.Bool.{lt-leb, le-leb}
+use Rattle.bits_core.specs.declared.events.Side.TheVariants.{C}
+use Rattle.bits_core.specs.declared.events.Access.{Access}
+use Rattle.bits_core.specs.declared.events.Event.{Event}
+use Rattle.bits_core.specs.declared.shapes.Shape.{Shape}
+use Rattle.bits_core.specs.Made.{Made, answered, end_event, events_of, IsBeginning}
+use Rattle.ring_core.specs.declared.consumers.TakeReply.{TakeReply}
+use Rattle.ring_core.specs.declared.consumers.TakeReply.TheVariants as replies
+use Rattle.ring_core.specs.declared.consumers.Stage.{Stage}
+use Rattle.ring_core.specs.declared.consumers.Stage.TheVariants.{Idle, Scanning, Checking, Rescanning, Loading, Counting}
+use Rattle.ring_core.specs.Takes.{Take, Item, ItemAfterClose, Empty, Takes, End, Open, Closed, taken_after, taken_in, take_phrase, take_phrases, end_phrase, take_program, AreTakes}
+use Rattle.ring_core.specs.Items.{events_in, items_taken, Tells, IsTold}
+use Rattle.ring_core.specs.ConsumerState.{ConsumerState, due_take, takes_at, is_taking}
+use Rattle.ring_core.specs.ConsumerCalls.{ConsumerStands, MadeAt, HasTakeMore, TakeGoesOn, IsReply, last_reply, reply_at_end}
+use Rattle.ring_audit.specs.Sides.{begin_of, open_events}
+use Rattle.ring_audit.specs.TakeReading.{IsTakeReading, TakesStand, HasTaken, all_taken, tells_closed}
+use Rattle.ring_audit.proofs.Readers.{open-short, open-long}
+use Rattle.ring_audit.proofs.Beginnings.{begin_is, access_is, events_of-append, length-events}
+
+-- ---- items
+
+-- the item of a take that has ended within t events of it
+abbrev item_by : Shape → ℕ → Take → ℕ → List ℕ
+item_by shape k (Item seen item) t = (if nat_le (events_in (take_phrase shape k (Item seen item))) t then item ∷ [] else [])
+item_by shape k (ItemAfterClose seen again item) t = (if nat_le (events_in (take_phrase shape k (ItemAfterClose seen again item))) t then item ∷ [] else [])
+item_by shape k (Empty seen) t = []
+
+from_first :
+    (shape : Shape) (k : ℕ) (x : Take) (takes : List Take) (t : ℕ) →
+    items_taken shape k (x ∷ takes) t ≡ item_by shape k x t ++ items_taken shape (taken_after k x) takes (t - events_in (take_phrase shape k x))
+from_first shape k (Item seen item) takes t = refl
+from_first shape k (ItemAfterClose seen again item) takes t = refl
+from_first shape k (Empty seen) takes t = refl
+
+not_yet : (shape : Shape) (k : ℕ) (x : Take) (t : ℕ) → t < events_in (take_phrase shape k x) → item_by shape k x t ≡ []
+not_yet shape k (Item seen item) t l = ap (λ b. if b then item ∷ [] else []) (lt-leb (events_in (take_phrase shape k (Item seen item))) t l)
+not_yet shape k (ItemAfterClose seen again item) t l =
+    ap (λ b. if b then item ∷ [] else []) (lt-leb (events_in (take_phrase shape k (ItemAfterClose seen again item))) t l)
+not_yet shape k (Empty seen) t l = refl
+
+-- while the one take has not ended it has taken nothing
+late : (shape : Shape) (k : ℕ) (x : Take) (t : ℕ) → t < events_in (take_phrase shape k x) → items_taken shape k (x ∷ []) t ≡ []
+late shape k x t l = from_first shape k x [] t ∙ append-nil (item_by shape k x t) ∙ not_yet shape k x t l
+
+ended_take : (shape : Shape) (k : ℕ) (x : Take) (t : ℕ) (rest : List ℕ) → events_in (take_phrase shape k x) ≤ t → (xs : List Take) → all_taken xs ≡ rest → item_by shape k x t ++ rest ≡ all_taken (x ∷ xs)
+ended_take shape k (Item seen item) t rest l xs e =
+    ap (λ b. (if b then item ∷ [] else []) ++ rest) (le-leb (events_in (take_phrase shape k (Item seen item))) t l) ∙ ap (λ r. item ∷ r) (sym e)
+ended_take shape k (ItemAfterClose seen again item) t rest l xs e =
+    ap (λ b. (if b then item ∷ [] else []) ++ rest) (le-leb (events_in (take_phrase shape k (ItemAfterClose seen again item))) t l) ∙ ap (λ r. item ∷ r) (sym e)
+ended_take shape k (Empty seen) t rest l xs e = sym e
+
+events_in-append : (xs ys : List Made) → events_in (xs ++ ys) ≡ events_in xs + events_in ys
+events_in-append xs ys = omega (arith, length-append xs ys)
+
+-- the items of takes that have all ended, and of those behind them
+items-behind :
+    (shape : Shape) (k : ℕ) (xs ys : List Take) (t : ℕ) → events_in (take_phrases shape k xs) ≤ t →
+    items_taken shape k (xs ++ ys) t ≡ all_taken xs ++ items_taken shape (taken_in k xs) ys (t - events_in (take_phrases shape k xs))
+items-behind shape k [] ys t l = let none : t - 0 ≡ t = omega arith in ap (items_taken shape k ys) (sym none)
+items-behind shape k (x ∷ xs) ys t l =
+    let m : ℕ = taken_after k x in
+    let here : ℕ = events_in (take_phrase shape k x) in
+    let there : ℕ = events_in (take_phrases shape m xs) in
+    let both : events_in (take_phrases shape k (x ∷ xs)) ≡ here + there = events_in-append (take_phrase shape k x) (take_phrases shape m xs) in
+    let rest : items_taken shape m (xs ++ ys) (t - here) ≡ all_taken xs ++ items_taken shape (taken_in m xs) ys ((t - here) - there) =
+    items-behind shape m xs ys (t - here) (omega (arith, l, both)) in
+    let left : (t - here) - there ≡ t - events_in (take_phrases shape k (x ∷ xs)) = omega (arith, both) in
+    let last : List ℕ = items_taken shape (taken_in m xs) ys (t - events_in (take_phrases shape k (x ∷ xs))) in
+    from_first shape k x (xs ++ ys) t
+    ∙ ap (λ l. item_by shape k x t ++ l) (rest ∙ ap (λ n. all_taken xs ++ items_taken shape (taken_in m xs) ys n) left)
+    ∙ sym (append_assoc (item_by shape k x t) (all_taken xs) last)
+    ∙ ap (λ l. l ++ last) (ended_take shape k x t (all_taken xs) (omega (arith, l, both)) xs refl)
+
+-- ---- replies
+
+last-not_closed : (first : Option TakeReply) (xs : List Take) → tells_closed first ≡ false → tells_closed (last_reply first xs) ≡ false
+last-not_closed first [] e = e
+last-not_closed first (Item seen item ∷ xs) e = last-not_closed (Some (replies.Item item)) xs refl
+last-not_closed first (ItemAfterClose seen again item ∷ xs) e = last-not_closed (Some (replies.Item item)) xs refl
+last-not_closed first (Empty seen ∷ xs) e = last-not_closed (Some replies.Empty) xs refl
+
+abbrev SaysTold : Bool → Type 0 → Type 0
+SaysTold b told = IsTrue b ↔ told
+
+says_not : (b : Bool) (told : Type 0) → b ≡ false → (told → ⊥) → SaysTold b told
+says_not true told e no_one = absurd (cc)
+says_not false told e no_one = (λ is. absurd (cc), λ t. absurd (no_one t))
+
+-- the reply behind calls that are over
+told-over : (shape : Shape) (calls : Takes) (end : End) (t : ℕ) → calls.end ≡ end → events_in (take_program shape calls) ≤ t →
+    SaysTold (tells_closed (reply_at_end end calls.takes)) (IsTold shape calls t)
+told-over shape calls Open t e l =
+    says_not (tells_closed (last_reply None calls.takes)) (IsTold shape calls t) (last-not_closed None calls.takes refl) (λ told. subst Tells e told.0)
+told-over shape calls (Closed seen again) t e l = (λ is. (subst Tells (sym e) (record {}), l), λ told. refl)
+
+-- ---- the take under way
+
+-- its accesses come behind those of the takes
+front_at :
+    (st : Stage) (p : ConsumerState) (calls : Takes) (k : ℕ) (made : List Made) → MadeAt st p calls k made → takes_at st ≡ true →
+    (part : List Made) × (made ≡ take_phrases p.shape 0 calls.takes ++ part)
+front_at Idle p calls k made is e = absurd (cc)
+front_at Scanning p calls k made (rests, reads, stands, is) e = (reads, is)
+front_at Checking p calls k made (rests, seen, none, is) e = (_, is)
+front_at Rescanning p calls k made (rests, seen, none, reads, stands, is) e = (_, is)
+front_at Loading p calls k made (rests, look, finds, reads, stands, is) e = (_, is)
+front_at Counting p calls k made (look, finds, fits, writes, stands, is) e = (_, is)
+
+phrases-push :
+    (shape : Shape) (k : ℕ) (xs : List Take) (x : Take) →
+    take_phrases shape k (xs ++ x ∷ []) ≡ take_phrases shape k xs ++ take_phrase shape (taken_in k xs) x
+phrases-push shape k [] x = append-nil (take_phrase shape k x)
+phrases-push shape k (y ∷ xs) x =
+    ap (λ l. take_phrase shape k y ++ l) (phrases-push shape (taken_after k y) xs x) ∙
+    sym (append_assoc (take_phrase shape k y) (take_phrases shape (taken_after k y) xs) (take_phrase shape (taken_in (taken_after k y) xs) x))
+
+-- no item is brought before it has ended
+taken-under_way :
+    (shape : Shape) (calls more : Takes) (t : ℕ) → HasTakeMore shape calls more → events_in (take_phrases shape 0 calls.takes) ≤ t →
+    t < events_in (take_program shape more) → all_taken calls.takes ≡ items_taken shape 0 more.takes t
+taken-under_way shape calls more t has reached not_ended =
+    let k : ℕ = taken_in 0 calls.takes in
+    let front : ℕ = events_in (take_phrases shape 0 calls.takes) in
+    elim has.is_one_more [
+      | inl (x, more_is) ↦
+          let program : events_in (take_program shape more) ≡ front + events_in (take_phrase shape k x) =
+          ap (λ c. events_in (take_program shape c)) more_is
+          ∙ ap events_in (append-nil (take_phrases shape 0 (calls.takes ++ x ∷ [])) ∙ phrases-push shape 0 calls.takes x)
+          ∙ events_in-append (take_phrases shape 0 calls.takes) (take_phrase shape k x) in
+          let nothing : items_taken shape k (x ∷ []) (t - front) ≡ [] = late shape k x (t - front) (omega (arith, program, reached, not_ended)) in
+          sym (append-nil (all_taken calls.takes)) ∙ ap (λ l. all_taken calls.takes ++ l) (sym nothing) ∙ sym (items-behind shape 0 calls.takes (x ∷ []) t reached)
+          ∙ ap (λ (c : Takes). items_taken shape 0 c.takes t) (sym more_is)
+      | inr (seen, again, more_is) ↦
+          sym (append-nil (all_taken calls.takes)) ∙ sym (items-behind shape 0 calls.takes [] t reached)
+          ∙ ap (λ l. items_taken shape 0 l t) (append-nil calls.takes) ∙ ap (λ (c : Takes). items_taken shape 0 c.takes t) (sym more_is)
+    ]
+
+-- they are a beginning of the events of a list that goes on with the access
+open_begins :
+    (made rest : List Made) (a : Access) (o : Option Access) → ((b : Access) → o ≡ Some b → b ≡ a) →
+    IsBeginning (events_of C made ++ open_events C o) (events_of C (made ++ answered a true ∷ rest))
+open_begins made rest a None same = (
+  events_of C (answered a true ∷ rest),
+  ap (λ l. l ++ events_of C (answered a true ∷ rest)) (append-nil (events_of C made)) ∙ sym (events_of-append C made (answered a true ∷ rest)),
+)
+open_begins made rest a (Some b) same = (
+  end_event C (answered a true) ∷ events_of C rest,
+  append_assoc (events_of C made) (begin_of C b ∷ []) (end_event C (answered a true) ∷ events_of C rest)
+      ∙ ap (λ z. events_of C made ++ begin_of C z ∷ end_event C (answered a true) ∷ events_of C rest) (same b refl)
+      ∙ ap (λ z. events_of C made ++ z ∷ end_event C (answered a true) ∷ events_of C rest) (sym (begin_is C (answered a true) ∙ ap (begin_of C) (access_is a true)))
+      ∙ sym (events_of-append C made (answered a true ∷ rest)),
+)
+
+-- ---- both
+
+taken_at :
+    (shape : Shape) (p : ConsumerState) (o : Option Access) (es : List Event) (items : List ℕ) (due : Option Access) (reply : Option TakeReply) →
+    (st : TakesStand shape (record { consumer = p; open_access = o }) es items) → ((a : Access) → o ≡ Some a → due ≡ Some a) →
+    ((a : Access) → due ≡ Some a → (is_taking p ≡ true) × TakeGoesOn shape st.calls st.made a) →
+    (due ≡ None → (is_taking p ≡ false) × (st.made ≡ take_program shape st.calls)) → IsReply st.calls (is_taking p) reply → HasTaken shape es items (tells_closed reply)
+taken_at shape p o es items None reply st is_due goes rests replied =
+    let (idle, made_is) = rests refl in
+    let answers : IsReply st.calls false reply = subst (λ b. IsReply st.calls b reply) idle replied in
+    let none : o ≡ None = no_open o is_due in
+    let program : List Made = take_program shape st.calls in
+    let es_is : es ≡ events_of C program =
+    st.events_are ∙ ap (λ z. events_of C st.made ++ open_events C z) none ∙ append-nil (events_of C st.made) ∙ ap (events_of C) made_is in
+    let long : length es ≡ events_in program = ap length es_is ∙ length-events C program in
+    let phrases : List Made = take_phrases shape 0 st.calls.takes in
+    let reached : events_in phrases ≤ length es = omega (arith, long, length-append phrases (end_phrase st.calls.end)) in
+    record {
+      calls = st.calls;
+      are = subst (λ s. AreTakes s 0 st.calls.takes st.calls.end) st.shape_is st.stands.are;
+      events = ([], append-nil es ∙ es_is);
+      taken = st.items_are ∙ sym (append-nil (all_taken st.calls.takes)) ∙ sym (items-behind shape 0 st.calls.takes [] (length es) reached)
+          ∙ ap (λ l. items_taken shape 0 l (length es)) (append-nil st.calls.takes);
+      told_is = subst (λ r. SaysTold (tells_closed r) (IsTold shape st.calls (length es))) (sym answers)
+          (told-over shape st.calls st.calls.end (length es) refl (omega (arith, long)));
+    }
+  where
+    no_open : (z : Option Access) → ((a : Access) → z ≡ Some a → None ≡ Some a) → z ≡ None
+    no_open None f = refl
+    no_open (Some a) f = let clash : None ≡ Some a = f a refl in absurd (cc)
+taken_at shape p o es items (Some a) reply st is_due goes rests replied =
+    let (is, on) = goes a refl in
+    let answers : IsReply st.calls true reply = subst (λ b. IsReply st.calls b reply) is replied in
+    let (more, has, (rest, f)) = on true (λ last. refl) in
+    let program : take_program shape more ≡ st.made ++ answered a true ∷ rest = sym f ∙ append_assoc st.made (answered a true ∷ []) rest in
+    let same : (b : Access) → o ≡ Some b → b ≡ a = λ b e. (let both : Some a ≡ Some b = is_due b e in cc) in
+    let upper : length es ≤ suc (2 * length st.made) = subst (λ l. length l ≤ suc (2 * length st.made)) (sym st.events_are) (open-short C st.made o) in
+    let lower : 2 * length st.made ≤ length es = subst (λ l. 2 * length st.made ≤ length l) (sym st.events_are) (open-long C st.made o) in
+    let (part, front) = front_at p.stage p st.calls _ st.made st.stands.made_is is in
+    let front_is : st.made ≡ take_phrases shape 0 st.calls.takes ++ part = front ∙ ap (λ s. take_phrases s 0 st.calls.takes ++ part) st.shape_is in
+    let reached : events_in (take_phrases shape 0 st.calls.takes) ≤ length es =
+    omega (arith, lower, ap length front_is, length-append (take_phrases shape 0 st.calls.takes) part) in
+    let not_ended : length es < events_in (take_program shape more) =
+    omega (arith, upper, ap length program, length-append st.made (answered a true ∷ rest)) in
+    record {
+      calls = more;
+      are = has.are;
+      events = subst (λ l. IsBeginning l (events_of C (take_program shape more))) (sym st.events_are)
+          (subst (λ l. IsBeginning (events_of C st.made ++ open_events C o) (events_of C l)) (sym program) (open_begins st.made rest a o same));
+      taken = st.items_are ∙ taken-under_way shape st.calls more (length es) has reached not_ended;
+      told_is = says_not (tells_closed reply) (IsTold shape more (length es)) (ap tells_closed answers) (λ told. absurd (omega (arith, told.1, not_ended)));
+    }
+
+pub has_taken :
+    (p : ConsumerState) (o : Option Access) (due : Option Access) (reply : Option TakeReply) → IsTakeReading (record { consumer = p; open_access = o }) → due ≡ due_take p →
+    ((calls : Takes) (made : List Made) (a : Access) → ConsumerStands p calls made → due ≡ Some a → (is_taking p ≡ true) × TakeGoesOn p.shape calls made a) →
+    ((calls : Takes) (made : List Made) → ConsumerStands p calls made → due ≡ None → (is_taking p ≡ false) × (made ≡ take_program p.shape calls)) →
+    ((calls : Takes) (made : List Made) → ConsumerStands p calls made → IsReply calls (is_taking p) reply) →
+    (es : List Event) (items : List ℕ) → TakesStand p.shape (record { consumer = p; open_access = o }) es items → HasTaken p.shape es items (tells_closed reply)
+has_taken p o due reply is due_is goes rests replies_so es items st =
+    taken_at p.shape p o es items due reply st (λ a e. due_is ∙ is.is_due a e) (λ a e. goes st.calls st.made a st.stands e) (λ e. rests st.calls st.made st.stands e)
+    (replies_so st.calls st.made st.stands)

@@ -1,0 +1,87 @@
+-- What an audit of a history says: of its bits and of the programs of its two sides.
+use Rattle.std.specs.Prelude.{◌≡◌, ℕ, suc, ◌<◌, ◌↔◌, Bool, true, false, IsTrue, List, length, take}
+use Rattle.bits_core.specs.declared.events.Event.{Event}
+use Rattle.bits_core.specs.declared.audits.Kind.{Kind}
+use Rattle.bits_core.specs.declared.audits.Kind.TheVariants.{WrongSide, OutOfTurn, NotPermitted, NotProgram}
+use Rattle.bits_core.specs.declared.audits.Verdict.{Verdict}
+use Rattle.bits_core.specs.declared.audits.Verdict.TheVariants as bits
+use Rattle.bits_core.specs.declared.shapes.Shape.{Shape}
+use Rattle.bits_core.specs.Audit.{IsFirstFault}
+use Rattle.bits_core.specs.Lawful.{IsLawful}
+use Rattle.bits_core.specs.Made.{IsBeginning}
+use Rattle.ring_audit.specs.declared.audits.Finding.{Finding}
+use Rattle.ring_audit.specs.declared.audits.Finding.TheVariants as findings
+use Rattle.ring_core.specs.Puts.{Puts}
+use Rattle.ring_core.specs.Takes.{Takes}
+use Rattle.ring_core.specs.Items.{items_put_in, items_taken_in, ToldIn}
+use Rattle.ring_core.specs.RingLaw.{IsRun, RingLaw}
+
+-- the history is lawful and both sides follow their programs
+abbrev pub IsOfPrograms : Shape → List Event → Type 0
+IsOfPrograms shape h = (puts : Puts) × (takes : Takes) × IsRun shape h puts takes
+
+-- by calls that both sides follow, these items were put and these taken, and the consumer was told this
+pub record IsFound (shape : Shape) (h : List Event) (put taken : List ℕ) (told : Bool) : Type 0 where
+  pub puts : Puts
+  pub takes : Takes
+  pub run : IsRun shape h puts takes
+  pub put_is : put ≡ items_put_in shape h puts
+  pub taken_is : taken ≡ items_taken_in shape h takes
+  pub told_is : IsTrue told ↔ ToldIn shape h takes
+
+-- the kind of a fault at a place: the program's where the events up to and with it are lawful, else that of the bits
+abbrev pub IsKindAt : Shape → List Event → ℕ → Kind → Type 0
+IsKindAt shape h place NotProgram = IsLawful shape (take (suc place) h)
+IsKindAt shape h place WrongSide = IsFirstFault shape h place WrongSide
+IsKindAt shape h place OutOfTurn = IsFirstFault shape h place OutOfTurn
+IsKindAt shape h place NotPermitted = IsFirstFault shape h place NotPermitted
+
+-- the events before the place are of the programs, and with the event at it they are not
+pub record IsFirstBreak (shape : Shape) (h : List Event) (place : ℕ) (kind : Kind) : Type 0 where
+  pub within : place < length h
+  pub before : IsOfPrograms shape (take place h)
+  pub breaks : ¬ IsOfPrograms shape (take (suc place) h)
+  pub kind_is : IsKindAt shape h place kind
+
+-- what a finding says
+pub data Statement : Type 0 where
+  Lawful : (put taken : List ℕ) (told : Bool) → Statement
+  Fault : (place : ℕ) (kind : Kind) → Statement
+
+abbrev pub statement : {A : Type 0} → Finding A → Statement
+statement (findings.Lawful put taken told) = Lawful put.items taken.items told
+statement (findings.Fault place kind) = Fault place kind
+
+-- what may be said of a history
+abbrev pub IsFinding : Shape → List Event → Statement → Type 0
+IsFinding shape h (Lawful put taken told) = IsFound shape h put taken told
+IsFinding shape h (Fault place kind) = IsFirstBreak shape h place kind
+
+-- and there is one thing that may
+abbrev pub OneFinding : Type 0
+OneFinding = (shape : Shape) (h : List Event) (a b : Statement) → IsFinding shape h a → IsFinding shape h b → a ≡ b
+
+-- whether it is said that the history is lawful and of the programs
+abbrev pub tells_lawful : Statement → Bool
+tells_lawful (Lawful put taken told) = true
+tells_lawful (Fault place kind) = false
+
+-- The sentence of the ring, where these items were put and taken and this was told: those taken are a prefix of those put; once
+-- told, all that were put were taken, and in no longer history of the programs are there more; and in whichever way the events
+-- are read as calls, the law of the ring holds of these.
+pub record MeetsSentence (shape : Shape) (h : List Event) (put taken : List ℕ) (told : Bool) : Type 0 where
+  pub prefix : IsBeginning taken put
+  pub all : IsTrue told → taken ≡ put
+  pub stays :
+      IsTrue told → (h' : List Event) (put' taken' : List ℕ) (told' : Bool) → IsBeginning h h' → IsFound shape h' put' taken' told' →
+      (put' ≡ put) × (taken' ≡ taken)
+  pub law : (puts : Puts) (takes : Takes) → IsRun shape h puts takes → RingLaw shape h puts takes
+
+abbrev pub SaysSentence : Shape → List Event → Statement → Type 0
+SaysSentence shape h (Lawful put taken told) = MeetsSentence shape h put taken told
+SaysSentence shape h (Fault place kind) = Unit {0}
+
+-- how many events there are before the first fault of the bits
+abbrev pub lawful_until : ℕ → Verdict → ℕ
+lawful_until n bits.Lawful = n
+lawful_until n (bits.Fault place kind) = place

@@ -1,0 +1,5 @@
+pub mod Sides
+pub mod TakeReading
+pub mod PutReading
+pub mod Reading
+pub mod Audit

@@ -1,0 +1,30 @@
+-- What the readers of both sides have read of a history.
+use Rattle.std.specs.Prelude.{◌≡◌, ℕ, List, ◌++◌, length}
+use Rattle.bits_core.specs.declared.events.Side.TheVariants.{P, C}
+use Rattle.bits_core.specs.declared.events.Event.{Event}
+use Rattle.bits_core.specs.declared.shapes.Shape.{Shape}
+use Rattle.bits_core.specs.Made.{own}
+use Rattle.ring_audit.specs.Sides.{AreOfPuts, AreOfTakes}
+use Rattle.ring_audit.specs.PutReading.{PutReading, PutsStand}
+use Rattle.ring_audit.specs.TakeReading.{TakeReading, TakesStand}
+
+-- both readers, the items that were stored and how many of them are counted, and the items that were taken
+pub record Reading : Type 0 where
+  pub puts : PutReading
+  pub takes : TakeReading
+  pub put : List ℕ
+  pub counted : ℕ
+  pub taken : List ℕ
+
+-- both stand after their side's events
+pub record Stands (shape : Shape) (r : Reading) (h : List Event) : Type 0 where
+  pub items : List ℕ
+  pub stored : List ℕ
+  pub puts_stand : PutsStand shape r.puts (own P h) items stored
+  pub takes_stand : TakesStand shape r.takes (own C h) r.taken
+  pub put_is : r.put ≡ items ++ stored
+  pub counted_is : r.counted ≡ length items
+
+-- the events of both sides are a beginning of those of calls
+abbrev pub BothFollow : Shape → List Event → Type 0
+BothFollow shape h = AreOfPuts shape (own P h) × AreOfTakes shape (own C h)

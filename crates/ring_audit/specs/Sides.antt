@@ -1,0 +1,43 @@
+-- The events of one side, read one after the other.
+use Rattle.std.specs.Prelude.{◌≡◌, Bool, Option, Some, None, List, [], ◌∷◌}
+use Rattle.bits_core.specs.declared.events.Side.{Side}
+use Rattle.bits_core.specs.declared.events.Side.TheVariants.{P, C}
+use Rattle.bits_core.specs.declared.events.Act.TheVariants.{ReadBegin, WriteBegin}
+use Rattle.bits_core.specs.declared.events.Access.{Access}
+use Rattle.bits_core.specs.declared.events.Bit.{Bit}
+use Rattle.bits_core.specs.declared.events.Access.TheVariants as begins
+use Rattle.bits_core.specs.declared.events.Event.{Event}
+use Rattle.bits_core.specs.declared.shapes.Shape.{Shape}
+use Rattle.bits_core.specs.Made.{answered, end_event, events_of, IsBeginning}
+use Rattle.ring_core.specs.Puts.{Puts, put_program, ArePuts}
+use Rattle.ring_core.specs.Takes.{Takes, take_program, AreTakes}
+
+-- the event with which a side begins an access
+abbrev pub begin_of : Side → Access → Event
+begin_of s (begins.Read b) = record { side = s; bit = b; act = ReadBegin }
+begin_of s (begins.Write b v) = record { side = s; bit = b; act = WriteBegin v }
+
+-- the begin of the access that is open
+abbrev pub open_events : Side → Option Access → List Event
+open_events s None = []
+open_events s (Some access) = begin_of s access ∷ []
+
+-- the event ends the access, which is answered so
+abbrev pub EndsSo : Access → Event → Bool → Type 0
+EndsSo access e v = e ≡ end_event e.side (answered access v)
+
+-- the events are a beginning of those of calls of the producer, or of the consumer
+abbrev pub AreOfPuts : Shape → List Event → Type 0
+AreOfPuts shape es = (calls : Puts) × ArePuts shape 0 calls.puts × IsBeginning es (events_of P (put_program shape calls))
+
+abbrev pub AreOfTakes : Shape → List Event → Type 0
+AreOfTakes shape es = (calls : Takes) × AreTakes shape 0 calls.takes calls.end × IsBeginning es (events_of C (take_program shape calls))
+
+-- the access writes the bit that would be read next
+abbrev pub WritesNext : Option Access → Access → Type 0
+WritesNext read access = (b : Bit) × (v : Bool) × (read ≡ Some (begins.Read b)) × (access ≡ begins.Write b v)
+
+-- what an access tells: the answer of a read, or the value of a write
+abbrev pub told_of : Access → Bool → Bool
+told_of (begins.Read b) answer = answer
+told_of (begins.Write b v) answer = v

@@ -1,0 +1,36 @@
+//! Why an audit gave no finding.
+ghost use Rattle.std.specs.Prelude.{◌≡◌};
+
+use std::alloc::{AllocError, AllocFailed};
+use thiserror::Error;
+
+/// Why an audit gave no finding.
+#[derive(Clone, Copy, PartialEq, Eq, Debug, Error)]
+pub enum AuditFault {
+    /// Memory for the lists of a finding ran out.
+    #[error("out of memory")]
+    OutOfMemory,
+}
+
+impl AuditFault {
+    /// The number of the fault: 1 `OutOfMemory`.
+    pub fn number(&self) -> u8
+        ensures { result ≡ 1 }
+    {
+        match self {
+            AuditFault::OutOfMemory => 1,
+        }
+    }
+}
+
+impl From<AllocError> for AuditFault {
+    fn from(_error: AllocError) -> AuditFault {
+        AuditFault::OutOfMemory
+    }
+}
+
+impl<T: Drop> From<AllocFailed<T>> for AuditFault {
+    fn from(_error: AllocFailed<T>) -> AuditFault {
+        AuditFault::OutOfMemory
+    }
+}

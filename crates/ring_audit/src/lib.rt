@@ -1,0 +1,12 @@
+//! The audit of programs: whether a recorded history of a ring's bits is lawful and both sides follow their programs.
+#![tactic(auto)]
+
+mod audits;
+mod faults;
+pub mod laws;
+mod puts;
+mod sides;
+mod takes;
+
+pub use audits::{Finding, audit};
+pub use faults::AuditFault;

@@ -1,0 +1,363 @@
+//! The producer's events, read as its puts.
+ghost use Rattle.std.specs.Prelude.{◌≡◌, ◌≢◌, ◌≤◌, ◌<◌, ◌↔◌, ◌++◌, ◌∷◌, [], ℕ, List, None, Some, Bool, true, false, IsTrue};
+ghost use Rattle.bits_core.specs.declared.events.Side.TheVariants.{P};
+ghost use Rattle.bits_core.specs.declared.events.Bit.TheVariants.{Cell};
+ghost use Rattle.bits_core.specs.declared.events.Event.{Event as AnEvent};
+ghost use Rattle.bits_core.specs.Made.{answered, end_event};
+ghost use Rattle.bits_core.specs.Shape.{modulus_of, batch_of};
+ghost use Rattle.ring_core.specs.Counts.{LeavesRoom, LeavesRoomFor};
+ghost use Rattle.ring_audit.specs.Sides.{begin_of};
+ghost use Rattle.ring_audit.specs.PutReading.{PutsStand, HasReadPut, HasPut};
+
+use crate::sides::{answer_to, begun_by, is_same, told_by, writes_next};
+use bits_core::{Access, Bit, Event, Shape, Side};
+use register_core::{UnaryScan, UnaryWriter, WordReader};
+use ring_core::laws::{calls_are_first, counts_are_written, last_reads_are_one, puts_go_on};
+use ring_core::{distance, has_room};
+use std::marker::Model;
+
+/// What an event of the producer came to.
+#[derive(Clone, Copy, PartialEq, Eq, Debug)]
+pub enum PutStep {
+    /// It is not the next one of any puts.
+    Stops,
+    /// It is.
+    GoesOn,
+    /// It is, and ends the word of this item.
+    Stores(u64),
+    /// It is, and begins the count write of the items stored since the last one.
+    Counts,
+}
+
+/// How far the put under way has come.
+#[derive(Clone, Copy, PartialEq, Eq, Debug)]
+enum Stage {
+    Resting,
+    Scanning,
+    Choosing,
+    Storing,
+    Counting,
+    Closing,
+    Closed,
+}
+
+/// Reads the events of a producer as its puts, whose items it learns from the digits that they write, and
+/// their number from the count write. It takes no memory.
+#[derive(Drop)]
+pub struct PutReader {
+    shape: Shape,
+    count: u64,
+    next: u64,
+    cell: u64,
+    stage: Stage,
+    scan: UnaryScan,
+    word: WordReader,
+    room: u64,
+    some: bool,
+    row: UnaryWriter,
+    open_access: Option<Access>,
+}
+
+impl Model for PutReader {
+    ghost use Rattle.ring_audit.specs.PutReading.{PutReading, IsPutReading};
+
+    ghost Value = { PutReading };
+
+    ghost view = { λ r. record { shape = r.shape; count = r.count; next = r.next; cell = r.cell; stage = r.stage; scan = r.scan; word = r.word; room = r.room; some = r.some; row = r.row; open_access = r.open_access } };
+
+    ghost invariant = { λ r. IsPutReading (record { shape = r.shape; count = r.count; next = r.next; cell = r.cell; stage = r.stage; scan = r.scan; word = r.word; room = r.room; some = r.some; row = r.row; open_access = r.open_access }) };
+}
+
+// The most items that may be stored behind a scan of this value, where one may.
+fn most_items(shape: &Shape, count: u64, seen: u64) -> u64
+    requires count { count < modulus_of shape.now }
+    requires seen { seen < modulus_of shape.now }
+    requires room { LeavesRoom shape.now count seen }
+    ensures some { 1 ≤ result }
+    ensures room { LeavesRoomFor shape.now count seen result }
+    ensures few { result ≤ batch_of shape.now }
+    ensures most { (k : ℕ) → LeavesRoomFor shape.now count seen k → k ≤ batch_of shape.now → k ≤ result }
+{
+    let room = shape.capacity() - distance(count, seen, shape.modulus());
+    let batch = shape.batch();
+    if room < batch { room } else { batch }
+}
+
+impl PutReader {
+    ghost use Rattle.ring_audit.specs.declared.puts.Stage.TheVariants.{Resting, Scanning, Choosing, Storing, Counting, Closing};
+
+    /// A reader that has read no event.
+    pub fn new(shape: &Shape) -> Self
+        ensures shape { result.shape ≡ shape.now }
+        ensures stands { PutsStand shape.now result [] [] [] }
+    {
+        PutReader {
+            shape: *shape,
+            count: 0,
+            next: 0,
+            cell: 0,
+            stage: Stage::Resting,
+            scan: UnaryScan::new(shape, Side::P),
+            word: WordReader::new(shape, 0),
+            room: 0,
+            some: false,
+            row: UnaryWriter::new(shape, Side::P),
+            open_access: None,
+        }
+    }
+
+    /// Reads the producer's next event. Once it has stopped, nothing is said of it.
+    pub fn read(&mut self, event: Event) -> PutStep
+        requires { event.side ≡ P }
+        ensures shape { self.new.shape ≡ self.old.shape }
+        ensures read { HasReadPut self.old.shape self.old self.new event result }
+    {
+        match begun_by(event) {
+            Some(access) => match self.open_access {
+                Some(_) => PutStep::Stops,
+                None => self.begin(access),
+            },
+            None => match self.open_access {
+                Some(access) => match answer_to(access, event) {
+                    Some(answer) => self.finish(access, answer),
+                    None => PutStep::Stops,
+                },
+                None => PutStep::Stops,
+            },
+        }
+    }
+
+    // An access begins while none is open.
+    fn begin(&mut self, access: Access) -> PutStep
+        requires { self.old.open_access ≡ None }
+        ensures shape { self.new.shape ≡ self.old.shape }
+        ensures read { HasReadPut self.old.shape self.old self.new (begin_of P access) result }
+    {
+        calls_are_first();
+        match self.stage {
+            Stage::Resting => self.begin_call(access),
+            Stage::Scanning => self.begin_read(access),
+            Stage::Choosing => self.begin_word(access),
+            Stage::Storing => self.begin_digit(access),
+            Stage::Counting => self.begin_bit(access),
+            Stage::Closing => PutStep::Stops,
+            Stage::Closed => PutStep::Stops,
+        }
+    }
+
+    // Between calls: a scan begins, or the close.
+    fn begin_call(&mut self, access: Access) -> PutStep
+        requires none { self.old.open_access ≡ None }
+        requires stage { self.old.stage ≡ Resting }
+        ensures shape { self.new.shape ≡ self.old.shape }
+        ensures read { HasReadPut self.old.shape self.old self.new (begin_of P access) result }
+    {
+        puts_go_on();
+        if is_same(Some(Access::Write(Bit::X, true)), access) {
+            self.stage = Stage::Closing;
+            self.open_access = Some(access);
+            PutStep::GoesOn
+        } else {
+            self.scan = UnaryScan::new(&self.shape, Side::P);
+            if is_same(self.scan.next(), access) {
+                self.stage = Stage::Scanning;
+                self.open_access = Some(access);
+                PutStep::GoesOn
+            } else {
+                PutStep::Stops
+            }
+        }
+    }
+
+    // In a scan: the next read begins.
+    fn begin_read(&mut self, access: Access) -> PutStep
+        requires none { self.old.open_access ≡ None }
+        requires stage { self.old.stage ≡ Scanning }
+        ensures shape { self.new.shape ≡ self.old.shape }
+        ensures read { HasReadPut self.old.shape self.old self.new (begin_of P access) result }
+    {
+        puts_go_on();
+        if is_same(self.scan.next(), access) {
+            self.open_access = Some(access);
+            PutStep::GoesOn
+        } else {
+            PutStep::Stops
+        }
+    }
+
+    // Behind a scan that found room, or a whole word: the next word begins, or the count write.
+    fn begin_word(&mut self, access: Access) -> PutStep
+        requires none { self.old.open_access ≡ None }
+        requires stage { self.old.stage ≡ Choosing }
+        ensures shape { self.new.shape ≡ self.old.shape }
+        ensures read { HasReadPut self.old.shape self.old self.new (begin_of P access) result }
+    {
+        puts_go_on();
+        if self.room > 0 && writes_next(WordReader::new(&self.shape, self.cell).next(), access) {
+            self.word = WordReader::new(&self.shape, self.cell);
+            self.stage = Stage::Storing;
+            self.open_access = Some(access);
+            PutStep::GoesOn
+        } else if self.some {
+            self.begin_count(access)
+        } else {
+            PutStep::Stops
+        }
+    }
+
+    // Behind a whole word: the count write begins, where the access is no write of the next word.
+    fn begin_count(&mut self, access: Access) -> PutStep
+        requires none { self.old.open_access ≡ None }
+        requires stage { self.old.stage ≡ Choosing }
+        requires some { self.old.some ≡ true }
+        requires no_word { (v : Bool) → 0 < self.old.room → access ≢ Access.Write (Cell self.old.cell 0) v }
+        ensures shape { self.new.shape ≡ self.old.shape }
+        ensures read { HasReadPut self.old.shape self.old self.new (begin_of P access) result }
+    {
+        puts_go_on();
+        self.row.write(self.next);
+        if is_same(self.row.next(), access) {
+            self.stage = Stage::Counting;
+            self.open_access = Some(access);
+            PutStep::Counts
+        } else {
+            // it has stopped, with a row that is at rest no more
+            self.stage = Stage::Closed;
+            PutStep::Stops
+        }
+    }
+
+    // In a word: the write of its next digit begins.
+    fn begin_digit(&mut self, access: Access) -> PutStep
+        requires none { self.old.open_access ≡ None }
+        requires stage { self.old.stage ≡ Storing }
+        ensures shape { self.new.shape ≡ self.old.shape }
+        ensures read { HasReadPut self.old.shape self.old self.new (begin_of P access) result }
+    {
+        puts_go_on();
+        if writes_next(self.word.next(), access) {
+            self.open_access = Some(access);
+            PutStep::GoesOn
+        } else {
+            PutStep::Stops
+        }
+    }
+
+    // In a count write: its next bit write begins.
+    fn begin_bit(&mut self, access: Access) -> PutStep
+        requires none { self.old.open_access ≡ None }
+        requires stage { self.old.stage ≡ Counting }
+        ensures shape { self.new.shape ≡ self.old.shape }
+        ensures read { HasReadPut self.old.shape self.old self.new (begin_of P access) result }
+    {
+        puts_go_on();
+        if is_same(self.row.next(), access) {
+            self.open_access = Some(access);
+            PutStep::GoesOn
+        } else {
+            PutStep::Stops
+        }
+    }
+
+    // The open access ends with this answer.
+    fn finish(&mut self, access: Access, answer: bool) -> PutStep
+        requires { self.old.open_access ≡ Some access }
+        ensures shape { self.new.shape ≡ self.old.shape }
+        ensures read { HasReadPut self.old.shape self.old self.new (end_event P (answered access answer)) result }
+    {
+        match self.stage {
+            Stage::Scanning => self.finish_read(access, answer),
+            Stage::Storing => self.finish_digit(access, answer),
+            Stage::Counting => self.finish_bit(access, answer),
+            Stage::Closing => self.finish_close(access, answer),
+            Stage::Resting | Stage::Choosing | Stage::Closed => PutStep::Stops,
+        }
+    }
+
+    // A read of a scan ends.
+    fn finish_read(&mut self, access: Access, answer: bool) -> PutStep
+        requires open_access { self.old.open_access ≡ Some access }
+        requires stage { self.old.stage ≡ Scanning }
+        ensures shape { self.new.shape ≡ self.old.shape }
+        ensures read { HasReadPut self.old.shape self.old self.new (end_event P (answered access answer)) result }
+    {
+        last_reads_are_one();
+        if self.scan.expects_one() && !answer {
+            return PutStep::Stops;
+        }
+        self.open_access = None;
+        self.scan.feed(answer);
+        match self.scan.value() {
+            None => {}
+            Some(seen) => {
+                if has_room(&self.shape, self.count, seen) {
+                    self.room = most_items(&self.shape, self.count, seen);
+                    self.next = self.count;
+                    self.some = false;
+                    self.stage = Stage::Choosing;
+                } else {
+                    self.stage = Stage::Resting;
+                }
+            }
+        }
+        PutStep::GoesOn
+    }
+
+    // A write of a digit ends.
+    fn finish_digit(&mut self, access: Access, answer: bool) -> PutStep
+        requires open_access { self.old.open_access ≡ Some access }
+        requires stage { self.old.stage ≡ Storing }
+        ensures shape { self.new.shape ≡ self.old.shape }
+        ensures read { HasReadPut self.old.shape self.old self.new (end_event P (answered access answer)) result }
+    {
+        self.open_access = None;
+        self.word.feed(told_by(access, answer));
+        match self.word.value() {
+            None => PutStep::GoesOn,
+            Some(item) => {
+                self.cell = (self.cell + 1) % self.shape.capacity();
+                self.next = (self.next + 1) % self.shape.modulus();
+                self.room -= 1;
+                self.some = true;
+                self.stage = Stage::Choosing;
+                PutStep::Stores(item)
+            }
+        }
+    }
+
+    // A bit write of the count ends.
+    fn finish_bit(&mut self, access: Access, answer: bool) -> PutStep
+        requires open_access { self.old.open_access ≡ Some access }
+        requires stage { self.old.stage ≡ Counting }
+        ensures shape { self.new.shape ≡ self.old.shape }
+        ensures read { HasReadPut self.old.shape self.old self.new (end_event P (answered access answer)) result }
+    {
+        self.open_access = None;
+        self.row.feed(answer);
+        if self.row.next().is_none() {
+            self.count = self.next;
+            self.stage = Stage::Resting;
+        }
+        PutStep::GoesOn
+    }
+
+    // The close ends.
+    fn finish_close(&mut self, access: Access, answer: bool) -> PutStep
+        requires open_access { self.old.open_access ≡ Some access }
+        requires stage { self.old.stage ≡ Closing }
+        ensures shape { self.new.shape ≡ self.old.shape }
+        ensures read { HasReadPut self.old.shape self.old self.new (end_event P (answered access answer)) result }
+    {
+        self.open_access = None;
+        self.stage = Stage::Closed;
+        PutStep::GoesOn
+    }
+
+    /// What was read so far is a beginning of the events of puts.
+    pub fn follow(&self)
+        ensures { (es : List AnEvent) (items stored : List ℕ) → PutsStand self.now.shape self.now es items stored → HasPut self.now.shape es items }
+    {
+        counts_are_written();
+        let _due = self.word.next();
+    }
+}
