@@ -1,0 +1,274 @@
+//! Runs of the program in which a call fails, with what they must write and how they must end.
+use crate::fakes::{HaltingReader, HaltingWriter};
+use bits_core::{TraceFault, Verdict, read_trace};
+use refusing::Refusing;
+use ring_player::Report;
+use ring_program::{AppFault, execute, load, report_text, verdict_text};
+use std::alloc::AllocGlobal;
+use std::io::ErrorKind;
+use std::process::Abort;
+use std::thread::Threads;
+
+pub const BITS: &[&str] = &["lamport_ring", "audit", "--bits"];
+
+pub const PLAY: &[&str] = &["lamport_ring", "play"];
+
+pub const TRACE: &[&str] = &["lamport_ring", "play", "--trace"];
+
+/// A run on a reader that fails after so many reads ends with this status and these texts.
+pub fn expect_read(
+    rt: &(impl Abort + AllocGlobal + Threads),
+    words: &[&str],
+    mut input: HaltingReader<'_>,
+    status: u8,
+    out: &str,
+    err: &str,
+) {
+    let mut output = Vec::new(rt.alloc());
+    let mut errors = Vec::new(rt.alloc());
+    let ended = execute(rt, rt.alloc(), words, &mut input, &mut output, &mut errors);
+    assert_eq!(rt; ended, status);
+    assert!(rt; output.as_slice() == out.as_bytes());
+    assert!(rt; errors.as_slice() == err.as_bytes());
+}
+
+/// Each read of the input failing in turn, and none.
+pub fn expect_failed_reads(
+    rt: &(impl Abort + AllocGlobal + Threads),
+    words: &[&str],
+    bytes: &[u8],
+    kind: ErrorKind,
+    out: &str,
+) {
+    let reads = (bytes.len() as u64).saturating_add(1);
+    for reads_before in 0..reads {
+        let input = HaltingReader {
+            bytes,
+            reads_before,
+            kind,
+        };
+        expect_read(rt, words, input, 1, "", "refused: input failed\n");
+    }
+    let input = HaltingReader {
+        bytes,
+        reads_before: reads,
+        kind,
+    };
+    expect_read(rt, words, input, 0, out, "");
+}
+
+/// A run with this writer ends with the status, and has written so many bytes.
+pub fn expect_written(
+    rt: &(impl Abort + AllocGlobal + Threads),
+    words: &[&str],
+    bytes: &[u8],
+    mut output: HaltingWriter,
+    status: u8,
+    taken: usize,
+) {
+    let mut input = bytes;
+    let mut errors = Vec::new(rt.alloc());
+    let ended = execute(rt, rt.alloc(), words, &mut input, &mut output, &mut errors);
+    assert_eq!(rt; ended, status);
+    assert_eq!(rt; output.taken, taken);
+    let err = if status == 1 {
+        "refused: output failed\n"
+    } else {
+        ""
+    };
+    assert!(rt; errors.as_slice() == err.as_bytes());
+}
+
+/// Each write of the output failing in turn, then none, and then the flush.
+pub fn expect_failed_writes(
+    rt: &(impl Abort + AllocGlobal + Threads),
+    words: &[&str],
+    bytes: &[u8],
+    status: u8,
+    length: usize,
+) {
+    for taken in 0..length {
+        expect_written(
+            rt,
+            words,
+            bytes,
+            HaltingWriter::after(taken as u64),
+            1,
+            taken,
+        );
+    }
+    let whole = HaltingWriter::after(length as u64);
+    expect_written(rt, words, bytes, whole, status, length);
+    expect_written(rt, words, bytes, HaltingWriter::unflushed(), 1, length);
+}
+
+/// A standard error that takes nothing changes no status.
+pub fn expect_unheard(
+    rt: &(impl Abort + AllocGlobal + Threads),
+    rows: &[(&'static [&'static str], &'static str, u8)],
+) {
+    for (words, input, status) in rows {
+        let mut bytes = input.as_bytes();
+        let mut output = Vec::new(rt.alloc());
+        let mut errors = HaltingWriter::after(0);
+        let ended = execute(rt, rt.alloc(), words, &mut bytes, &mut output, &mut errors);
+        assert_eq!(rt; ended, *status, "status of {words:?}");
+    }
+}
+
+/// A command line and an input, the status of a run on them, and how many growths it has at least.
+pub type Growing = (&'static [&'static str], &'static str, u8, u64);
+
+// A run without the growth that comes after so many: whether there was one to refuse.
+fn expect_growth(
+    rt: &(impl Abort + AllocGlobal + Threads),
+    row: &Growing,
+    allocations: u64,
+) -> bool {
+    let (words, input, status, least) = row;
+    let alloc = Refusing::after(rt.alloc(), allocations);
+    let mut bytes = input.as_bytes();
+    let mut output = Vec::new(rt.alloc());
+    let mut errors = Vec::new(rt.alloc());
+    let ended = execute(rt, &alloc, words, &mut bytes, &mut output, &mut errors);
+    if !alloc.has_refused() {
+        assert_eq!(rt; ended, *status);
+        assert!(rt; *least <= allocations);
+        return false;
+    }
+    assert_eq!(rt; ended, 1, "growth {allocations}");
+    assert!(rt; output.is_empty());
+    assert!(rt; errors.as_slice() == b"refused: out of memory\n".as_slice());
+    true
+}
+
+/// Each growth of each run refused in turn, and none.
+pub fn expect_refused_growths(rt: &(impl Abort + AllocGlobal + Threads), rows: &[Growing]) {
+    for row in rows {
+        let mut is_whole = false;
+        for allocations in 0..100 {
+            if !expect_growth(rt, row, allocations) {
+                is_whole = true;
+                break;
+            }
+        }
+        assert!(rt; is_whole);
+    }
+}
+
+// A play without the growth that comes after so many: whether it was refused, and whether there was one to refuse.
+fn expect_play(
+    rt: &(impl Abort + AllocGlobal + Threads),
+    words: &[&str],
+    script: &[u8],
+    out: &str,
+    allocations: u64,
+) -> (bool, bool) {
+    let alloc = Refusing::after(rt.alloc(), allocations);
+    let mut input = script;
+    let mut output = Vec::new(rt.alloc());
+    let mut errors = Vec::new(rt.alloc());
+    let ended = execute(rt, &alloc, words, &mut input, &mut output, &mut errors);
+    let is_refused = ended != 0;
+    let (out, err) = if is_refused {
+        assert_eq!(rt; ended, 1);
+        ("", "refused: out of memory\n")
+    } else {
+        (out, "")
+    };
+    assert!(rt; output.as_slice() == out.as_bytes());
+    assert!(rt; errors.as_slice() == err.as_bytes());
+    (is_refused, alloc.has_refused())
+}
+
+/// Each growth of a play refused in turn, and none: the play is refused, or a vector makes do with a
+/// smaller growth and the output is the right one. At least so many are refused.
+pub fn expect_refused_plays(
+    rt: &(impl Abort + AllocGlobal + Threads),
+    words: &[&str],
+    script: &[u8],
+    out: &str,
+    least: u64,
+) {
+    let mut refused: u64 = 0;
+    for allocations in 0..100 {
+        let (is_refused, has_growth) = expect_play(rt, words, script, out, allocations);
+        if !has_growth {
+            assert!(rt; !is_refused);
+            assert!(rt; least <= refused);
+            return;
+        }
+        refused = refused.saturating_add(u64::from(is_refused));
+    }
+    assert!(rt; false, "a growth was refused each time");
+}
+
+/// `load`, each growth refused in turn, and none.
+pub fn expect_refused_load(rt: &(impl Abort + AllocGlobal), bytes: &[u8]) {
+    for allocations in 0..20 {
+        let alloc = Refusing::after(rt.alloc(), allocations);
+        let mut input = bytes;
+        let refused = load(&alloc, &mut input).err();
+        if !alloc.has_refused() {
+            assert_eq!(rt; refused, None);
+            assert!(rt; 1 <= allocations);
+            return;
+        }
+        assert_eq!(rt; refused, Some(AppFault::OutOfMemory));
+    }
+    assert!(rt; false, "a growth was refused each time");
+}
+
+/// `read_trace`, each growth refused in turn, and none.
+pub fn expect_refused_trace(rt: &(impl Abort + AllocGlobal), bytes: &[u8]) {
+    for allocations in 0..20 {
+        let alloc = Refusing::after(rt.alloc(), allocations);
+        let refused = read_trace(&alloc, bytes).err();
+        if !alloc.has_refused() {
+            assert_eq!(rt; refused, None);
+            assert!(rt; 1 <= allocations);
+            return;
+        }
+        assert_eq!(rt; refused, Some(TraceFault::OutOfMemory));
+    }
+    assert!(rt; false, "a growth was refused each time");
+}
+
+/// `verdict_text`, each growth refused in turn, and none.
+pub fn expect_refused_text(rt: &(impl Abort + AllocGlobal), verdict: &Verdict) {
+    for allocations in 0..20 {
+        let alloc = Refusing::after(rt.alloc(), allocations);
+        let refused = verdict_text(&alloc, verdict).err();
+        if !alloc.has_refused() {
+            assert_eq!(rt; refused, None);
+            assert!(rt; 1 <= allocations);
+            return;
+        }
+        assert_eq!(rt; refused, Some(AppFault::OutOfMemory));
+    }
+    assert!(rt; false, "a growth was refused each time");
+}
+
+/// `report_text`, each growth refused in turn, and none.
+pub fn expect_refused_report(rt: &(impl Abort + AllocGlobal), put: &[u64]) {
+    let report = Report {
+        history: Vec::new(rt.alloc()),
+        put,
+        taken: Vec::new(rt.alloc()),
+        told: true,
+        full: 0,
+        empty: 0,
+        flicker: 0,
+    };
+    for allocations in 0..20 {
+        let alloc = Refusing::after(rt.alloc(), allocations);
+        let refused = report_text(&alloc, &report).err();
+        if !alloc.has_refused() {
+            assert_eq!(rt; refused, None);
+            assert!(rt; 1 <= allocations);
+            return;
+        }
+        assert_eq!(rt; refused, Some(AppFault::OutOfMemory));
+    }
+    assert!(rt; false, "a growth was refused each time");
+}

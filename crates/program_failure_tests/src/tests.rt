@@ -1,0 +1,115 @@
+use crate::expects::{
+    BITS, Growing, PLAY, TRACE, expect_failed_reads, expect_failed_writes, expect_read,
+    expect_refused_growths, expect_refused_load, expect_refused_plays, expect_refused_report,
+    expect_refused_text, expect_refused_trace, expect_unheard, expect_written,
+};
+use crate::fakes::{HaltingReader, HaltingWriter};
+use bits_core::{Kind, Verdict};
+use std::io::ErrorKind;
+
+const INVERSION: &str =
+    "shape 1 3 1\nP write s0 0\nC read s0\nC got s0 1\nC read s0\nC got s0 0\nP wrote s0\nC read s0\nC got s0 0\n";
+
+const STALE: &str = "shape 1 3 1\nC read s0\nC got s0 0\n";
+
+const PLAIN: &str =
+    "{\"capacity\":1,\"modulus\":3,\"width\":1,\"items\":[1],\"takes\":1,\"close\":false,\"schedule\":\"P8C10\",\"oracle\":\"1\"}";
+
+const PLAIN_REPORT: &str = "events 18\nput 1\ntaken 1\ntold no\nfull 0\nempty 0\nflicker 0\n";
+
+const PLAIN_TRACE: &str = "\
+shape 1 3 1
+P read r0
+P got r0 1
+P write c0.0 1
+P wrote c0.0
+P write s1 1
+P wrote s1
+P write s0 0
+P wrote s0
+C read s0
+C got s0 0
+C read s1
+C got s1 1
+C read c0.0
+C got c0.0 1
+C write r1 1
+C wrote r1
+C write r0 0
+C wrote r0
+";
+
+const HELP: &[&str] = &["lamport_ring", "--help"];
+
+const VERSION: &[&str] = &["lamport_ring", "--version"];
+
+#[test]
+fn stops_at_a_failed_read(rt: HostRuntime) {
+    let trace = INVERSION.as_bytes();
+    expect_failed_reads(&rt, BITS, trace, ErrorKind::Other, "lawful\n");
+    expect_failed_reads(&rt, BITS, trace, ErrorKind::Interrupted, "lawful\n");
+    let script = PLAIN.as_bytes();
+    expect_failed_reads(&rt, PLAY, script, ErrorKind::Other, PLAIN_REPORT);
+}
+
+#[test]
+fn stops_at_a_failed_write_or_flush(rt: HostRuntime) {
+    let stale = STALE.as_bytes();
+    expect_failed_writes(&rt, BITS, stale, 3, "fault: line 3: not permitted\n".len());
+    expect_failed_writes(&rt, PLAY, PLAIN.as_bytes(), 0, PLAIN_REPORT.len());
+    expect_failed_writes(&rt, TRACE, PLAIN.as_bytes(), 0, PLAIN_TRACE.len());
+    expect_failed_writes(&rt, VERSION, b"", 0, "lamport_ring 0.1.0\n".len());
+    expect_written(&rt, HELP, b"", HaltingWriter::after(100), 1, 100);
+}
+
+#[test]
+fn reads_nothing_where_nothing_is_asked(rt: HostRuntime) {
+    let input = HaltingReader {
+        bytes: b"",
+        reads_before: 0,
+        kind: ErrorKind::Other,
+    };
+    expect_read(&rt, VERSION, input, 0, "lamport_ring 0.1.0\n", "");
+}
+
+const UNHEARD: [(&[&str], &str, u8); 5] = [
+    (&["lamport_ring", "audit"], STALE, 3),
+    (&["lamport_ring", "audit"], "x", 1),
+    (PLAY, PLAIN, 0),
+    (PLAY, "", 1),
+    (&["lamport_ring", "run"], "", 2),
+];
+
+#[test]
+fn ignores_a_failed_standard_error(rt: HostRuntime) {
+    expect_unheard(&rt, &UNHEARD);
+}
+
+const GROWING: [Growing; 3] = [
+    // the input, the events and the text
+    (BITS, STALE, 3, 3),
+    (BITS, INVERSION, 0, 3),
+    // the text of help
+    (HELP, "", 0, 1),
+];
+
+#[test]
+fn the_program_refuses_at_each_growth(rt: HostRuntime) {
+    expect_refused_growths(&rt, &GROWING);
+}
+
+#[test]
+fn a_play_is_refused_or_right_at_each_growth(rt: HostRuntime) {
+    // the input, the items, the letters, the oracle, the events, the items taken and the text
+    expect_refused_plays(&rt, PLAY, PLAIN.as_bytes(), PLAIN_REPORT, 7);
+    expect_refused_plays(&rt, TRACE, PLAIN.as_bytes(), PLAIN_TRACE, 7);
+}
+
+#[test]
+fn each_call_refuses_at_each_growth(rt: HostRuntime) {
+    expect_refused_load(&rt, STALE.as_bytes());
+    expect_refused_trace(&rt, INVERSION.as_bytes());
+    let kind = Kind::NotPermitted;
+    expect_refused_report(&rt, &[1, 0, u64::MAX]);
+    expect_refused_text(&rt, &Verdict::Fault { place: 7, kind });
+}

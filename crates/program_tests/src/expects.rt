@@ -1,0 +1,218 @@
+//! Runs of the program, with what they must write and how they must end.
+use bits_core::{Kind, Verdict};
+use ring_player::Report;
+use ring_program::{AppFault, Refusal, execute, load, report_text, verdict_text};
+use std::alloc::AllocGlobal;
+use std::io;
+use std::io::Read;
+use std::process::Abort;
+use std::test::Fail;
+use std::thread::Threads;
+
+pub const BITS: &[&str] = &["lamport_ring", "audit", "--bits"];
+
+pub const PLAY: &[&str] = &["lamport_ring", "play"];
+
+pub const TRACE: &[&str] = &["lamport_ring", "play", "--trace"];
+
+/// A run on the reader ends with this status, and has written these texts.
+pub fn expect_run_on<R: Read>(
+    rt: &(impl Abort + AllocGlobal + Threads),
+    words: &[&str],
+    input: &mut R,
+    status: u8,
+    out: &str,
+    err: &str,
+) {
+    let mut output = Vec::new(rt.alloc());
+    let mut errors = Vec::new(rt.alloc());
+    let ended = execute(rt, rt.alloc(), words, input, &mut output, &mut errors);
+    assert_eq!(rt; ended, status);
+    assert!(rt; output.as_slice() == out.as_bytes());
+    assert!(rt; errors.as_slice() == err.as_bytes());
+}
+
+/// Each input has this status and this text on the output, by `audit --bits` and by `audit`.
+pub fn expect_verdicts(
+    rt: &(impl Abort + AllocGlobal + Threads),
+    rows: &[(&'static str, u8, &'static str)],
+) {
+    for (input, status, out) in rows {
+        let mut bytes = input.as_bytes();
+        expect_run_on(rt, BITS, &mut bytes, *status, out, "");
+        let mut bytes = input.as_bytes();
+        let words = ["lamport_ring", "audit"];
+        expect_run_on(rt, &words, &mut bytes, *status, out, "");
+    }
+}
+
+/// Each input is refused, with these words.
+pub fn expect_refusals(
+    rt: &(impl Abort + AllocGlobal + Threads),
+    rows: &[(&'static str, &'static str)],
+) {
+    for (input, err) in rows {
+        let mut bytes = input.as_bytes();
+        expect_run_on(rt, BITS, &mut bytes, 1, "", err);
+    }
+}
+
+/// Each script has this report and, where one stands there, this trace.
+pub fn expect_plays(
+    rt: &(impl Abort + AllocGlobal + Threads),
+    rows: &[(&'static str, &'static str, Option<&'static str>)],
+) {
+    for (script, report, trace) in rows {
+        let mut bytes = script.as_bytes();
+        expect_run_on(rt, PLAY, &mut bytes, 0, report, "");
+        if let Some(trace) = trace {
+            let mut bytes = script.as_bytes();
+            expect_run_on(rt, TRACE, &mut bytes, 0, trace, "");
+        }
+    }
+}
+
+/// The trace of each script is lawful.
+pub fn expect_lawful_plays(rt: &(impl Abort + AllocGlobal + Threads), rows: &[&'static str]) {
+    for script in rows {
+        let mut input = script.as_bytes();
+        let mut trace = Vec::new(rt.alloc());
+        let mut errors = Vec::new(rt.alloc());
+        let ended = execute(rt, rt.alloc(), TRACE, &mut input, &mut trace, &mut errors);
+        assert_eq!(rt; ended, 0);
+        expect_run_on(rt, BITS, &mut trace.as_slice(), 0, "lawful\n", "");
+    }
+}
+
+/// Each input is refused by the player, with these words.
+pub fn expect_refused_scripts(
+    rt: &(impl Abort + AllocGlobal + Threads),
+    rows: &[(&'static str, &'static str)],
+) {
+    for (input, err) in rows {
+        let mut bytes = input.as_bytes();
+        expect_run_on(rt, PLAY, &mut bytes, 1, "", err);
+        let mut bytes = input.as_bytes();
+        expect_run_on(rt, TRACE, &mut bytes, 1, "", err);
+    }
+}
+
+/// The report of these items and numbers, of a history with no event, has this text.
+pub fn expect_report(
+    rt: &(impl Abort + AllocGlobal),
+    put: &[u64],
+    told: bool,
+    counts: (u64, u64, u64),
+    text: &str,
+) -> Result<(), Fail> {
+    let report = Report {
+        history: Vec::new(rt.alloc()),
+        put,
+        taken: put.to_vec(rt.alloc())?,
+        told,
+        full: counts.0,
+        empty: counts.1,
+        flicker: counts.2,
+    };
+    let told = report_text(rt.alloc(), &report)?;
+    assert!(rt; told.as_bytes() == text.as_bytes());
+    Ok(())
+}
+
+/// Each refusal has these words.
+pub fn expect_refusal_words(
+    rt: &(impl Abort + AllocGlobal),
+    rows: &[(Refusal, &'static str)],
+) -> Result<(), Fail> {
+    for (refusal, words) in rows {
+        assert_eq!(rt; refusal.to_string(rt.alloc())?.as_str(), *words);
+    }
+    Ok(())
+}
+
+/// Each command line has this status: with 0 there is a text on the output alone, with 2 on the
+/// standard error alone.
+pub fn expect_statuses(
+    rt: &(impl Abort + AllocGlobal + Threads),
+    rows: &[(&'static [&'static str], u8)],
+) {
+    for (words, status) in rows {
+        let mut input = b"".as_slice();
+        let mut output = Vec::new(rt.alloc());
+        let mut errors = Vec::new(rt.alloc());
+        let ended = execute(rt, rt.alloc(), words, &mut input, &mut output, &mut errors);
+        assert_eq!(rt; ended, *status, "status of {words:?}");
+        assert_eq!(rt; output.is_empty(), *status == 2);
+        assert_eq!(rt; errors.is_empty(), *status == 0);
+    }
+}
+
+/// Each command line ends with the status, and its one text has this piece.
+pub fn expect_words(
+    rt: &(impl Abort + AllocGlobal + Threads),
+    rows: &[(&'static [&'static str], u8, &'static str)],
+) -> Result<(), Fail> {
+    for (words, status, piece) in rows {
+        let mut input = b"".as_slice();
+        let mut output = Vec::new(rt.alloc());
+        let mut errors = Vec::new(rt.alloc());
+        let ended = execute(rt, rt.alloc(), words, &mut input, &mut output, &mut errors);
+        assert_eq!(rt; ended, *status, "status of {words:?}");
+        let bytes = if *status == 0 { output } else { errors };
+        let text = std::str::from_utf8(bytes.as_slice())?;
+        assert!(rt;
+            text.contains(*piece),
+            "no {piece:?} in the text of {words:?}"
+        );
+    }
+    Ok(())
+}
+
+/// So many bytes are an input of this length, or too many.
+pub fn expect_load(rt: &(impl Abort + AllocGlobal), count: u64, length: Option<usize>) {
+    match load(rt.alloc(), &mut io::repeat(0).take(count)) {
+        Ok(bytes) => assert_eq!(rt; Some(bytes.len()), length),
+        Err(fault) => {
+            assert_eq!(rt; fault, AppFault::TooLarge);
+            assert_eq!(rt; length, None);
+        }
+    }
+}
+
+// A verdict has this text.
+fn expect_text(rt: &(impl Abort + AllocGlobal), verdict: &Verdict, text: &str) -> Result<(), Fail> {
+    let told = verdict_text(rt.alloc(), verdict)?;
+    assert!(rt; told.as_bytes() == text.as_bytes());
+    Ok(())
+}
+
+/// Each fault has this text, and the lawful verdict its own.
+pub fn expect_texts(
+    rt: &(impl Abort + AllocGlobal),
+    rows: &[(usize, Kind, &'static str)],
+) -> Result<(), Fail> {
+    for (place, kind, text) in rows {
+        let verdict = Verdict::Fault {
+            place: *place,
+            kind: *kind,
+        };
+        expect_text(rt, &verdict, text)?;
+    }
+    expect_text(rt, &Verdict::Lawful, "lawful\n")
+}
+
+/// Each fault has this number and these words, also as a refusal.
+pub fn expect_faults(
+    rt: &(impl Abort + AllocGlobal),
+    rows: &[(AppFault, u8, &'static str)],
+) -> Result<(), Fail> {
+    for (fault, number, words) in rows {
+        assert_eq!(rt; fault.number(), *number);
+        assert_eq!(rt; fault.to_string(rt.alloc())?.as_str(), *words);
+        assert_eq!(rt;
+            Refusal::App(*fault).to_string(rt.alloc())?.as_str(),
+            *words
+        );
+    }
+    Ok(())
+}

@@ -1,0 +1,9 @@
+//! Tests of `ring_program`: what it writes and how it ends.
+#![tactic(auto)]
+
+#[cfg(test)]
+mod expects;
+#[cfg(test)]
+mod plays;
+#[cfg(test)]
+mod tests;

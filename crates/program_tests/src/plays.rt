@@ -1,0 +1,195 @@
+use crate::expects::{
+    expect_lawful_plays, expect_plays, expect_refusal_words, expect_refused_scripts, expect_report,
+};
+use ring_player::{PlayFault, ScriptFault};
+use ring_program::Refusal;
+use std::test::Fail;
+
+const PLAIN: &str =
+    "{\"capacity\":1,\"modulus\":3,\"width\":1,\"items\":[1],\"takes\":1,\"close\":false,\"schedule\":\"P8C10\",\"oracle\":\"\"}";
+
+const PLAIN_REPORT: &str = "events 18\nput 1\ntaken 1\ntold no\nfull 0\nempty 0\nflicker 0\n";
+
+const PLAIN_TRACE: &str = "\
+shape 1 3 1
+P read r0
+P got r0 1
+P write c0.0 1
+P wrote c0.0
+P write s1 1
+P wrote s1
+P write s0 0
+P wrote s0
+C read s0
+C got s0 0
+C read s1
+C got s1 1
+C read c0.0
+C got c0.0 1
+C write r1 1
+C wrote r1
+C write r0 0
+C wrote r0
+";
+
+const SEEN_OLD: &str =
+    "{\"capacity\":1,\"modulus\":3,\"width\":1,\"items\":[1],\"takes\":2,\"close\":false,\"schedule\":\"P7C14\",\"oracle\":\"01\"}";
+
+const SEEN_OLD_TRACE: &str = "\
+shape 1 3 1
+P read r0
+P got r0 1
+P write c0.0 1
+P wrote c0.0
+P write s1 1
+P wrote s1
+P write s0 0
+C read s0
+C got s0 0
+C read s1
+C got s1 1
+C read c0.0
+C got c0.0 1
+C write r1 1
+C wrote r1
+C write r0 0
+C wrote r0
+C read s0
+C got s0 1
+C read x
+C got x 0
+";
+
+const BATCH: &str =
+    "{\"capacity\":3,\"modulus\":7,\"width\":1,\"items\":[1,0,1],\"takes\":4,\"close\":false,\"schedule\":\"P11C46\",\"oracle\":\"0001\",\"batch\":3}";
+
+const PLAYS: [(&str, &str, Option<&str>); 9] = [
+    (PLAIN, PLAIN_REPORT, Some(PLAIN_TRACE)),
+    // a batch of 1 is what a script without one has
+    (
+        "{\"capacity\":1,\"modulus\":3,\"width\":1,\"items\":[1],\"takes\":1,\"close\":false,\"schedule\":\"P8C10\",\"oracle\":\"\",\"batch\":1}",
+        PLAIN_REPORT,
+        Some(PLAIN_TRACE),
+    ),
+    // a count write is open to the end: the first scan sees the new count, a later one the old
+    (
+        SEEN_OLD,
+        "events 21\nput 1\ntaken 1\ntold no\nfull 0\nempty 1\nflicker 2\n",
+        Some(SEEN_OLD_TRACE),
+    ),
+    // no letter: no event, and empty lists
+    (
+        "{\"capacity\":1,\"modulus\":3,\"width\":1,\"items\":[1],\"takes\":1,\"close\":false,\"schedule\":\"\",\"oracle\":\"\"}",
+        "events 0\nput\ntaken\ntold no\nfull 0\nempty 0\nflicker 0\n",
+        Some("shape 1 3 1\n"),
+    ),
+    (
+        "{\"capacity\":1,\"modulus\":3,\"width\":1,\"items\":[1,1],\"takes\":0,\"close\":false,\"schedule\":\"P10\",\"oracle\":\"\"}",
+        "events 10\nput 1\ntaken\ntold no\nfull 1\nempty 0\nflicker 0\n",
+        None,
+    ),
+    // told that the ring is closed, behind the item that the second scan found
+    (
+        "{\"capacity\":1,\"modulus\":3,\"width\":1,\"items\":[1],\"takes\":2,\"close\":true,\"schedule\":\"C2P10C22\",\"oracle\":\"\"}",
+        "events 34\nput 1\ntaken 1\ntold yes\nfull 0\nempty 0\nflicker 0\n",
+        None,
+    ),
+    // a third put finds two cells full, and stores once an item was taken
+    (
+        "{\"capacity\":2,\"modulus\":4,\"width\":2,\"items\":[2,1,3],\"takes\":1,\"close\":false,\"schedule\":\"P22C14P12\",\"oracle\":\"\"}",
+        "events 48\nput 2 1 3\ntaken 2\ntold no\nfull 1\nempty 0\nflicker 0\n",
+        None,
+    ),
+    // three items under one count write
+    (
+        BATCH,
+        "events 57\nput 1 0 1\ntaken 1 0 1\ntold no\nfull 0\nempty 1\nflicker 4\n",
+        None,
+    ),
+    // the side that is done makes no event
+    (
+        "{\"capacity\":1,\"modulus\":3,\"width\":1,\"items\":[1],\"takes\":2,\"close\":true,\"schedule\":\"C2P10C22P3C5\",\"oracle\":\"\"}",
+        "events 34\nput 1\ntaken 1\ntold yes\nfull 0\nempty 0\nflicker 0\n",
+        None,
+    ),
+];
+
+#[test]
+fn tells_the_report_and_the_trace_of_a_play(rt: HostRuntime) {
+    expect_plays(&rt, &PLAYS);
+}
+
+#[test]
+fn the_trace_of_a_play_is_lawful(rt: HostRuntime) {
+    expect_lawful_plays(&rt, &[PLAIN, SEEN_OLD, BATCH]);
+}
+
+const REFUSALS: [(&str, &str); 13] = [
+    ("", "refused: script is not JSON\n"),
+    ("{", "refused: script is not JSON\n"),
+    ("[]", "refused: script is not an object\n"),
+    (
+        "{\"capacity\":1,\"modulus\":3,\"width\":1,\"items\":[1],\"takes\":1,\"close\":false,\"schedule\":\"P8C10\",\"oracle\":\"\",\"note\":1}",
+        "refused: script has an unknown field\n",
+    ),
+    ("{}", "refused: field capacity is missing\n"),
+    (
+        "{\"capacity\":\"1\",\"modulus\":3,\"width\":1,\"items\":[1],\"takes\":1,\"close\":false,\"schedule\":\"P8C10\",\"oracle\":\"\"}",
+        "refused: field capacity has the wrong kind\n",
+    ),
+    (
+        "{\"capacity\":1,\"modulus\":3,\"width\":1,\"items\":[1],\"takes\":1,\"close\":false,\"schedule\":\"P8C10\",\"oracle\":\"\",\"batch\":\"1\"}",
+        "refused: field batch has the wrong kind\n",
+    ),
+    (
+        "{\"capacity\":1,\"modulus\":2,\"width\":1,\"items\":[1],\"takes\":1,\"close\":false,\"schedule\":\"P8C10\",\"oracle\":\"\"}",
+        "refused: modulus must be from capacity + batch + 1 to 256\n",
+    ),
+    (
+        "{\"capacity\":1,\"modulus\":3,\"width\":1,\"items\":[1],\"takes\":1,\"close\":false,\"schedule\":\"P8C10\",\"oracle\":\"\",\"batch\":0}",
+        "refused: batch must be from 1 to capacity\n",
+    ),
+    (
+        "{\"capacity\":1,\"modulus\":3,\"width\":1,\"items\":[2],\"takes\":1,\"close\":false,\"schedule\":\"P8C10\",\"oracle\":\"\"}",
+        "refused: item 0 does not fit the width\n",
+    ),
+    (
+        "{\"capacity\":1,\"modulus\":3,\"width\":1,\"items\":[1],\"takes\":1,\"close\":false,\"schedule\":\"P0C\",\"oracle\":\"\"}",
+        "refused: schedule is wrong at byte 1\n",
+    ),
+    (
+        "{\"capacity\":1,\"modulus\":3,\"width\":1,\"items\":[1],\"takes\":1,\"close\":false,\"schedule\":\"P1000001\",\"oracle\":\"\"}",
+        "refused: schedule is too long\n",
+    ),
+    (
+        "{\"capacity\":1,\"modulus\":3,\"width\":1,\"items\":[1],\"takes\":1,\"close\":false,\"schedule\":\"P8C10\",\"oracle\":\"01x\"}",
+        "refused: oracle is wrong at byte 2\n",
+    ),
+];
+
+#[test]
+fn refuses_what_is_no_script(rt: HostRuntime) {
+    expect_refused_scripts(&rt, &REFUSALS);
+}
+
+#[test]
+fn reports_have_their_text(rt: HostRuntime) -> Result<(), Fail> {
+    let text = "events 0\nput\ntaken\ntold no\nfull 0\nempty 0\nflicker 0\n";
+    expect_report(&rt, &[], false, (0, 0, 0), text)?;
+    let text =
+        "events 0\nput 0 18446744073709551615\ntaken 0 18446744073709551615\ntold yes\nfull 18446744073709551615\nempty 1\nflicker 20\n";
+    expect_report(&rt, &[0, u64::MAX], true, (u64::MAX, 1, 20), text)
+}
+
+const WORDS: [(Refusal, &str); 2] = [
+    (
+        Refusal::Script(ScriptFault::BadSchedule(7)),
+        "schedule is wrong at byte 7",
+    ),
+    (Refusal::Play(PlayFault::OutOfMemory), "out of memory"),
+];
+
+#[test]
+fn refusals_have_the_words_of_their_faults(rt: HostRuntime) -> Result<(), Fail> {
+    expect_refusal_words(&rt, &WORDS)
+}

@@ -1,0 +1,262 @@
+use crate::expects::{
+    BITS, expect_faults, expect_load, expect_refusals, expect_run_on, expect_statuses,
+    expect_texts, expect_verdicts, expect_words,
+};
+use bits_core::Kind;
+use ring_program::{AppFault, INPUT_LIMIT};
+use std::io;
+use std::test::Fail;
+
+const INVERSION: &str =
+    "shape 1 3 1\nP write s0 0\nC read s0\nC got s0 1\nC read s0\nC got s0 0\nP wrote s0\nC read s0\nC got s0 0\n";
+
+const STALE: &str = "shape 1 3 1\nC read s0\nC got s0 0\n";
+
+const VERDICTS: [(&str, u8, &str); 11] = [
+    // a stale read without cause
+    (STALE, 3, "fault: line 3: not permitted\n"),
+    // two reads during a write: new and then old, old and then new; then each with a stale read
+    (INVERSION, 0, "lawful\n"),
+    (
+        "shape 1 3 1\nP write s0 0\nC read s0\nC got s0 0\nC read s0\nC got s0 1\nP wrote s0\nC read s0\nC got s0 0\n",
+        0,
+        "lawful\n",
+    ),
+    (
+        "shape 1 3 1\nP write s0 0\nC read s0\nC got s0 0\nC read s0\nC got s0 1\nP wrote s0\nC read s0\nC got s0 1\n",
+        3,
+        "fault: line 9: not permitted\n",
+    ),
+    (
+        "shape 1 3 1\nP write s0 0\nC read s0\nC got s0 1\nC read s0\nC got s0 0\nP wrote s0\nC read s0\nC got s0 1\n",
+        3,
+        "fault: line 9: not permitted\n",
+    ),
+    // an unchanged write flickers
+    (
+        "shape 1 3 1\nP write s0 1\nC read s0\nC got s0 0\n",
+        0,
+        "lawful\n",
+    ),
+    // the count before the cell, by the bits alone
+    (
+        "shape 1 3 1\nP read r0\nP got r0 1\nP write s1 1\n",
+        0,
+        "lawful\n",
+    ),
+    (
+        "shape 1 3 1\nP got r0 1\n",
+        3,
+        "fault: line 2: out of turn\n",
+    ),
+    ("shape 1 3 1\nP read s0\n", 3, "fault: line 2: wrong side\n"),
+    ("shape 1 3 1\n", 0, "lawful\n"),
+    (
+        "shape 1 3 1\nP read r0\nP read r0\n",
+        3,
+        "fault: line 3: out of turn\n",
+    ),
+];
+
+#[test]
+fn tells_the_verdict(rt: HostRuntime) {
+    expect_verdicts(&rt, &VERDICTS);
+}
+
+const REFUSALS: [(&str, &str); 7] = [
+    (
+        "shape 1 3 1\nP read r",
+        "refused: trace line 2 is not a line of the format\n",
+    ),
+    ("", "refused: trace line 1 is not a line of the format\n"),
+    (
+        "shape 1 2 1\n",
+        "refused: modulus must be from capacity + batch + 1 to 256\n",
+    ),
+    ("shape 65 2 1\n", "refused: capacity must be from 1 to 64\n"),
+    ("shape 1 3 0\n", "refused: width must be from 1 to 64\n"),
+    (
+        "shape 1 3 1\nP read r0",
+        "refused: trace line 2 is not a line of the format\n",
+    ),
+    (
+        "shape 1 3 1\nP read r3\n",
+        "refused: trace line 2 is not a line of the format\n",
+    ),
+];
+
+#[test]
+fn refuses_what_is_no_trace(rt: HostRuntime) {
+    expect_refusals(&rt, &REFUSALS);
+}
+
+#[test]
+fn bounds_the_events(rt: HostRuntime) -> Result<(), Fail> {
+    let mut text = b"shape 1 3 1\n".to_vec(rt.alloc())?;
+    for _ in 0..500_000 {
+        text.extend_from_slice(b"C read s0\nC got s0 1\n")?;
+    }
+    expect_run_on(&rt, BITS, &mut text.as_slice(), 0, "lawful\n", "");
+    for line in [b"C read s0\n".as_slice(), b"nonsense"] {
+        let mut longer = text.as_slice().to_vec(rt.alloc())?;
+        longer.extend_from_slice(line)?;
+        let err = "refused: trace has too many events\n";
+        expect_run_on(&rt, BITS, &mut longer.as_slice(), 1, "", err);
+    }
+    Ok(())
+}
+
+// What the words ask for decides the status.
+const STATUSES: [(&[&str], u8); 21] = [
+    (&["lamport_ring", "audit", "--bits", "--bits"], 2),
+    (&["lamport_ring", "audit", "--bits=true"], 2),
+    (&["lamport_ring", "audit", "x"], 2),
+    (&["lamport_ring", "audit", "--trace"], 2),
+    (&["lamport_ring", "audit", "--version"], 2),
+    (&["lamport_ring", "play", "--bits"], 2),
+    (&["lamport_ring", "play", "--trace", "--trace"], 2),
+    (&["lamport_ring", "play", "--trace=true"], 2),
+    (&["lamport_ring", "play", "x.json"], 2),
+    (&["lamport_ring", "run"], 2),
+    (&["lamport_ring"], 2),
+    (&[], 2),
+    (&["lamport_ring", "--help"], 0),
+    (&["lamport_ring", "-h"], 0),
+    (&["lamport_ring", "help"], 0),
+    (&["lamport_ring", "help", "audit"], 0),
+    (&["lamport_ring", "audit", "-h"], 0),
+    (&["lamport_ring", "help", "play"], 0),
+    (&["lamport_ring", "play", "-h"], 0),
+    (&["lamport_ring", "--version"], 0),
+    (&["lamport_ring", "-V"], 0),
+];
+
+#[test]
+fn reads_the_command_line(rt: HostRuntime) {
+    expect_statuses(&rt, &STATUSES);
+}
+
+const HELP: &[&str] = &["lamport_ring", "--help"];
+
+const AUDIT_HELP: &[&str] = &["lamport_ring", "audit", "--help"];
+
+const PLAY_HELP: &[&str] = &["lamport_ring", "play", "--help"];
+
+const EXAMPLE: &str = "  lamport_ring audit --bits < examples/new_old_inversion.trace\n";
+
+const PLAY_EXAMPLE: &str = "  lamport_ring play < examples/plain_path.json\n";
+
+const WORDS: [(&[&str], u8, &str); 22] = [
+    (HELP, 0, EXAMPLE),
+    (HELP, 0, PLAY_EXAMPLE),
+    (
+        HELP,
+        0,
+        "  0  done: a play, a lawful history, or help or the version that was asked for\n",
+    ),
+    (
+        HELP,
+        0,
+        "  1  refused, for the cause that standard error gives\n",
+    ),
+    (HELP, 0, "  2  the command line is wrong\n"),
+    (HELP, 0, "  3  the audit found a fault\n"),
+    (AUDIT_HELP, 0, EXAMPLE),
+    (
+        AUDIT_HELP,
+        0,
+        "Usage: lamport_ring audit [--bits] < TRACE\n",
+    ),
+    (AUDIT_HELP, 0, "from standard input\n"),
+    (AUDIT_HELP, 0, "  2  the command line is wrong\n"),
+    (AUDIT_HELP, 0, "  3  the audit found a fault\n"),
+    // the name of a file: its trace has to come on standard input
+    (
+        &["lamport_ring", "audit", "x.trace"],
+        2,
+        "error: unexpected argument 'x.trace' found\n\nUsage: lamport_ring audit [--bits] < TRACE\n",
+    ),
+    (
+        &["lamport_ring", "run"],
+        2,
+        "error: unrecognized subcommand 'run'\n",
+    ),
+    (PLAY_HELP, 0, PLAY_EXAMPLE),
+    (
+        PLAY_HELP,
+        0,
+        "Usage: lamport_ring play [--trace] < SCRIPT\n",
+    ),
+    (PLAY_HELP, 0, "from standard input\n"),
+    (PLAY_HELP, 0, "  0  the script was played\n"),
+    (
+        PLAY_HELP,
+        0,
+        "  1  refused: the input is no script, or could not be read, or the output failed\n",
+    ),
+    (PLAY_HELP, 0, "  2  the command line is wrong\n"),
+    // the name of a file: its script has to come on standard input
+    (
+        &["lamport_ring", "play", "x.json"],
+        2,
+        "error: unexpected argument 'x.json' found\n\nUsage: lamport_ring play [--trace] < SCRIPT\n",
+    ),
+    (&["lamport_ring"], 2, "Usage: lamport_ring <COMMAND>\n"),
+    (&["lamport_ring", "-V"], 0, "lamport_ring 0.1.0\n"),
+];
+
+#[test]
+fn help_and_complaints_have_their_words(rt: HostRuntime) -> Result<(), Fail> {
+    expect_words(&rt, &WORDS)
+}
+
+#[test]
+fn tells_its_version(rt: HostRuntime) {
+    let words = ["lamport_ring", "--version"];
+    expect_run_on(
+        &rt,
+        &words,
+        &mut b"".as_slice(),
+        0,
+        "lamport_ring 0.1.0\n",
+        "",
+    );
+}
+
+#[test]
+fn bounds_the_input(rt: HostRuntime) {
+    expect_load(&rt, 33_554_432, Some(INPUT_LIMIT));
+    expect_load(&rt, 33_554_433, None);
+    expect_load(&rt, u64::MAX, None);
+    let err = "refused: input is too large\n";
+    expect_run_on(&rt, BITS, &mut io::repeat(0), 1, "", err);
+}
+
+const TEXTS: [(usize, Kind, &str); 5] = [
+    (0, Kind::WrongSide, "fault: line 2: wrong side\n"),
+    (0, Kind::OutOfTurn, "fault: line 2: out of turn\n"),
+    (0, Kind::NotPermitted, "fault: line 2: not permitted\n"),
+    (0, Kind::NotProgram, "fault: line 2: not of the program\n"),
+    (
+        usize::MAX,
+        Kind::OutOfTurn,
+        "fault: line 18446744073709551617: out of turn\n",
+    ),
+];
+
+#[test]
+fn verdicts_have_their_texts(rt: HostRuntime) -> Result<(), Fail> {
+    expect_texts(&rt, &TEXTS)
+}
+
+const FAULTS: [(AppFault, u8, &str); 4] = [
+    (AppFault::ReadFailed, 1, "input failed"),
+    (AppFault::TooLarge, 2, "input is too large"),
+    (AppFault::WriteFailed, 3, "output failed"),
+    (AppFault::OutOfMemory, 4, "out of memory"),
+];
+
+#[test]
+fn faults_have_their_numbers_and_words(rt: HostRuntime) -> Result<(), Fail> {
+    expect_faults(&rt, &FAULTS)
+}

@@ -1,0 +1,32 @@
+use Rattle.std.proofs.Common.{refl}
+use Rattle.clap.proofs.OnLiterals.{clap_on_literals}
+use Rattle.ring_program.specs.CommandLine.{application, request_of}
+use Rattle.ring_program.proofs.command_line.command_lines.Goals as goal
+
+pub returns-clause-audit : goal.returns-clause-audit
+unfolding clap_on_literals application request_of
+returns-clause-audit c name = refl
+
+pub returns-clause-audit_bits : goal.returns-clause-audit_bits
+unfolding clap_on_literals application request_of
+returns-clause-audit_bits c name = refl
+
+pub returns-clause-twice : goal.returns-clause-twice
+unfolding clap_on_literals application request_of
+returns-clause-twice c name = refl
+
+pub returns-clause-nothing : goal.returns-clause-nothing
+unfolding clap_on_literals application request_of
+returns-clause-nothing c name = refl
+
+pub returns-clause-other : goal.returns-clause-other
+unfolding clap_on_literals application request_of
+returns-clause-other c name = refl
+
+pub returns-clause-play : goal.returns-clause-play
+unfolding clap_on_literals application request_of
+returns-clause-play c name = refl
+
+pub returns-clause-play_trace : goal.returns-clause-play_trace
+unfolding clap_on_literals application request_of
+returns-clause-play_trace c name = refl

@@ -1,0 +1,20 @@
+use Rattle.std.proofs.Common.{refl}
+use Rattle.ring_program.proofs.PlayLemmas.{play_within}
+use Rattle.ring_program.proofs.program.trace_answer.Goals as goal
+
+pub returns-clause-answered : goal.returns-clause-answered
+returns-clause-answered g c =
+    let script = c.in_ok-script.script in
+    let h = c.in_ok-report.report.history.items in
+    record {
+      content = script;
+      history = h;
+      played = record {
+        is_script = c.in_ok-script.ensures.read;
+        plays = c.in_ok-report.ensures.plays;
+        headline = c.in_ok-report.ensures.headline;
+        batches = c.in_ok-report.ensures.batches;
+      };
+      is_trace = rw (c.shape.ensures, c.as_slice.ensures.value) at (c.in_ok-text.ensures.again (rw c.as_slice.ensures.value (play_within _ script h c.in_ok-script.ensures.read c.in_ok-report.ensures.plays)));
+      ends = refl;
+    }

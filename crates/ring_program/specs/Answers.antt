@@ -1,0 +1,200 @@
+-- What the program answers to a request on an input, and how it ends.
+use Rattle.std.specs.Prelude.{◌≡◌, ◌≢◌, ◌⊎◌, ◌<◌, ◌≤◌, ℕ, List, [], Option, Some, None, length, take}
+use Rattle.std.specs.Io.KnownBytes.{Appends, Keeps}
+use Rattle.clap.specs.Kinds.{IsAmong, Kinds}
+use Rattle.clap.specs.declared.error.kind.ErrorKind.{ErrorKind}
+use Rattle.clap.specs.declared.error.kind.ErrorKind.TheVariants as kind
+use Rattle.bits_core.specs.Audit.{IsVerdict}
+use Rattle.bits_core.specs.Trace.{IsTrace, IsTraceFault}
+use Rattle.bits_core.specs.declared.audits.Verdict.{Verdict}
+use Rattle.bits_core.specs.declared.audits.Verdict.TheVariants.{Lawful, Fault}
+use Rattle.bits_core.specs.declared.events.Event.{Event}
+use Rattle.bits_core.specs.declared.shapes.Shape.{Shape}
+use Rattle.bits_core.specs.declared.traces.TraceFault.{TraceFault}
+use Rattle.bits_core.specs.declared.traces.TraceFault.TheVariants as trace
+use Rattle.ring_player.specs.Headline.{FillsRing, HoldsHeadline}
+use Rattle.ring_player.specs.Plays.{Plays}
+use Rattle.ring_player.specs.declared.faults.PlayFault.TheVariants as play
+use Rattle.ring_script.specs.Faults.{IsScriptFault}
+use Rattle.ring_script.specs.Script.{Content, IsScript}
+use Rattle.ring_script.specs.declared.faults.ScriptFault.{ScriptFault}
+use Rattle.ring_script.specs.declared.faults.ScriptFault.TheVariants as script
+use Rattle.ring_program.specs.Reports.{Reports}
+use Rattle.ring_program.specs.Texts.{Summary, report_text_of, verdict_text_of}
+use Rattle.ring_program.specs.declared.inputs.TheConstants.{INPUT_LIMIT}
+use Rattle.ring_program.specs.declared.program.Ending.{Ending}
+use Rattle.ring_program.specs.declared.program.Ending.TheVariants.{Done, FaultFound}
+use Rattle.ring_program.specs.declared.command_line.Request.{Request}
+use Rattle.ring_program.specs.declared.command_line.Request.TheVariants.{Audit, AuditBits, Play, PlayTrace}
+use Rattle.ring_program.specs.declared.faults.AppFault.TheVariants as app
+use Rattle.ring_program.specs.declared.faults.Refusal.{Refusal}
+use Rattle.ring_program.specs.declared.faults.Refusal.TheVariants as refusal
+
+-- the exit status that goes with an ending
+abbrev pub status_of : Ending → ℕ
+status_of Done = 0
+status_of FaultFound = 3
+
+-- how an audit with this verdict ends
+abbrev pub verdict_ending_of : Verdict → Ending
+verdict_ending_of Lawful = Done
+verdict_ending_of (Fault place kind) = FaultFound
+
+-- the input is a trace, and the text and the ending are those of the verdict on its bits
+pub record AuditsBits (input text : List ℕ) (ending : Ending) : Type 0 where
+  pub shape : Shape
+  pub events : List Event
+  pub verdict : Verdict
+  pub is_trace : IsTrace input shape events
+  pub is_verdict : IsVerdict shape events verdict
+  pub words : text ≡ verdict_text_of verdict
+  pub ends : ending ≡ verdict_ending_of verdict
+
+-- the input is a script, and this is the history of its play, by the letters of its schedule
+pub record IsPlayed (input : List ℕ) (content : Content) (history : List Event) : Type 0 where
+  pub is_script : IsScript input content
+  pub plays : Plays content content.letters history
+  pub headline : HoldsHeadline content history
+  pub batches : FillsRing content history
+
+-- the text is that of a report of the play
+pub record PlaysScript (input text : List ℕ) (ending : Ending) : Type 0 where
+  pub content : Content
+  pub history : List Event
+  pub summary : Summary
+  pub played : IsPlayed input content history
+  pub reports : Reports content history summary
+  pub words : text ≡ report_text_of summary
+  pub ends : ending ≡ Done
+
+-- the text is a trace, of the play's history
+pub record TracesScript (input text : List ℕ) (ending : Ending) : Type 0 where
+  pub content : Content
+  pub history : List Event
+  pub played : IsPlayed input content history
+  pub is_trace : IsTrace text content.shape history
+  pub ends : ending ≡ Done
+
+-- the request, on this input, is answered by this text and this ending
+abbrev pub Answers : Request → List ℕ → List ℕ → Ending → Type 0
+Answers Audit input text ending = AuditsBits input text ending
+Answers AuditBits input text ending = AuditsBits input text ending
+Answers Play input text ending = PlaysScript input text ending
+Answers PlayTrace input text ending = TracesScript input text ending
+
+-- how a request that was answered may end: an audit alone may have found a fault
+abbrev pub MayEnd : Request → Ending → Type 0
+MayEnd Audit ending = Unit {0}
+MayEnd AuditBits ending = Unit {0}
+MayEnd Play ending = ending ≡ Done
+MayEnd PlayTrace ending = ending ≡ Done
+
+-- the input is no trace, for this cause
+abbrev pub RefusesTrace : List ℕ → Refusal → Type 0
+RefusesTrace input e = (fault : TraceFault) × (e ≡ refusal.Trace fault) × IsTraceFault input fault
+
+-- the input is no script, for this cause
+abbrev pub RefusesScript : List ℕ → Refusal → Type 0
+RefusesScript input e = (fault : ScriptFault) × (e ≡ refusal.Script fault) × IsScriptFault input fault
+
+-- the request refuses the input, for this cause
+abbrev pub Refuses : Request → List ℕ → Refusal → Type 0
+Refuses Audit input e = RefusesTrace input e
+Refuses AuditBits input e = RefusesTrace input e
+Refuses Play input e = RefusesScript input e
+Refuses PlayTrace input e = RefusesScript input e
+
+-- more bytes came than an input may have
+abbrev pub IsTooLarge : List ℕ → Refusal → Type 0
+IsTooLarge input e = (e ≡ refusal.App app.TooLarge) × (INPUT_LIMIT < length input)
+
+-- memory ran out, in the program, the trace, the script or the play
+abbrev pub IsOutOfMemory : Refusal → Type 0
+IsOutOfMemory e = (e ≡ refusal.App app.OutOfMemory)
+    ⊎ ((e ≡ refusal.Trace trace.OutOfMemory) ⊎ ((e ≡ refusal.Script script.OutOfMemory) ⊎ (e ≡ refusal.Play play.OutOfMemory)))
+
+-- memory ran out, or a read failed
+unfoldable pub IsShortage : Refusal → Type 0
+IsShortage e = IsOutOfMemory e ⊎ (e ≡ refusal.App app.ReadFailed)
+
+-- a true cause of a refusal, of a request on an input; only of an input that is not too large the text is refused
+abbrev pub IsCause : Request → List ℕ → Refusal → Type 0
+IsCause request input e = IsShortage e ⊎ (IsTooLarge input e ⊎ ((length input ≤ INPUT_LIMIT) × Refuses request input e))
+
+-- the request was answered: the output gained the whole text, and the status is the answer's
+pub record Told (request : Request) (input : List ℕ) (before after : Option (List ℕ)) (status : ℕ) : Type 0 where
+  pub text : List ℕ
+  pub ending : Ending
+  pub within : length input ≤ INPUT_LIMIT
+  pub answer : Answers request input text ending
+  pub ends : status ≡ status_of ending
+  pub written : Appends before after text
+
+-- the output gained a front of the text of the answer
+pub record CutShort (request : Request) (input : List ℕ) (before after : Option (List ℕ)) : Type 0 where
+  pub text : List ℕ
+  pub ending : Ending
+  pub within : length input ≤ INPUT_LIMIT
+  pub answer : Answers request input text ending
+  pub count : ℕ
+  pub written : Appends before after (take count text)
+
+-- a refusal: for a true cause, and the output gained nothing; or a write failed, after the output had gained a front of the text
+abbrev pub Refused : Request → List ℕ → Option (List ℕ) → Option (List ℕ) → Refusal → Type 0
+Refused request input before after e = (IsCause request input e × Keeps before after)
+    ⊎ ((e ≡ refusal.App app.WriteFailed) × CutShort request input before after)
+
+-- how the program ends on a request
+abbrev pub Ends : Request → List ℕ → Option (List ℕ) → Option (List ℕ) → ℕ → Type 0
+Ends request input before after status = Told request input before after status
+    ⊎ ((status ≡ 1) × (e : Refusal) × Refused request input before after e)
+
+-- help or the version was asked for
+abbrev pub IsHelp : ErrorKind → Type 0
+IsHelp k = (k ≡ kind.DisplayHelp) ⊎ (k ≡ kind.DisplayVersion)
+
+-- memory ran out, before anything was written
+abbrev pub NoMemory : Option (List ℕ) → Option (List ℕ) → ℕ → Type 0
+NoMemory before after status = (status ≡ 1) × Keeps before after
+
+-- a text was written: all of it, with status 0, or a front of it, with status 1
+abbrev pub Shown : Option (List ℕ) → Option (List ℕ) → ℕ → Type 0
+Shown before after status = (text : List ℕ) × (((status ≡ 0) × Appends before after text)
+    ⊎ ((status ≡ 1) × (count : ℕ) × Appends before after (take count text)))
+
+-- how the program ends where the command line gave an error of this kind
+abbrev pub Explains : ErrorKind → Option (List ℕ) → Option (List ℕ) → ℕ → Type 0
+Explains k before after status =
+    ((k ≡ kind.OutOfMemory) × NoMemory before after status)
+    ⊎ ((IsHelp k × (NoMemory before after status ⊎ Shown before after status))
+    ⊎ ((¬ IsHelp k) × (k ≢ kind.OutOfMemory) × (status ≡ 2) × Keeps before after))
+
+-- help or the version was asked for, and written
+pub record HelpGiven (kinds : Kinds) (before after : Option (List ℕ)) (status : ℕ) : Type 0 where
+  pub asked : ErrorKind
+  pub among : IsAmong asked kinds
+  pub is_help : IsHelp asked
+  pub shown : Shown before after status
+
+-- the words are wrong, and nothing was written
+pub record Mistaken (kinds : Kinds) (before after : Option (List ℕ)) (status : ℕ) : Type 0 where
+  pub ends : status ≡ 2
+  pub kept : Keeps before after
+  pub mistake : (kinds ≡ []) ⊎ ((k : ErrorKind) × IsAmong k kinds × ¬ IsHelp k)
+
+-- how the program ends where the words ask for nothing, which have these faults
+abbrev pub EndsUnasked : Kinds → Option (List ℕ) → Option (List ℕ) → ℕ → Type 0
+EndsUnasked kinds before after status = NoMemory before after status
+    ⊎ (HelpGiven kinds before after status ⊎ Mistaken kinds before after status)
+
+-- the exit statuses of a request, whatever the reader and the writers do
+abbrev pub IsStatusOf : Request → ℕ → Type 0
+IsStatusOf Audit status = (status ≡ 0) ⊎ ((status ≡ 1) ⊎ (status ≡ 3))
+IsStatusOf AuditBits status = (status ≡ 0) ⊎ ((status ≡ 1) ⊎ (status ≡ 3))
+IsStatusOf Play status = (status ≡ 0) ⊎ (status ≡ 1)
+IsStatusOf PlayTrace status = (status ≡ 0) ⊎ (status ≡ 1)
+
+-- those of words that ask for this request or for nothing
+abbrev pub IsStatus : Option Request → ℕ → Type 0
+IsStatus (Some request) status = IsStatusOf request status
+IsStatus None status = (status ≡ 0) ⊎ ((status ≡ 1) ⊎ (status ≡ 2))

@@ -1,0 +1,5 @@
+pub mod Answers
+pub mod CommandLine
+pub mod Faults
+pub mod Reports
+pub mod Texts

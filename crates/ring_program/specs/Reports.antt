@@ -1,0 +1,22 @@
+-- What a report of a history of a script has to tell.
+use Rattle.std.specs.Prelude.{◌≡◌, ◌↔◌, true, List, length}
+use Rattle.bits_core.specs.Memory.{flicker_count}
+use Rattle.bits_core.specs.declared.events.Event.{Event}
+use Rattle.ring_core.specs.Items.{ToldIn, items_put_in, items_taken_in}
+use Rattle.ring_core.specs.Over.{empties, fulls, puts_over_in, takes_over_in}
+use Rattle.ring_core.specs.Puts.{FollowsPuts, Puts}
+use Rattle.ring_core.specs.Takes.{FollowsTakes, Takes}
+use Rattle.ring_script.specs.Script.{Content}
+use Rattle.ring_program.specs.Texts.{Summary}
+
+-- by the calls that the history's events are read as: the items put, the items taken, whether a take was told that the ring is
+-- closed, and how many puts have ended that found the ring full, and takes that found it empty; and how many reads have
+-- ended that a write overlapped
+pub record Reports (script : Content) (h : List Event) (summary : Summary) : Type 0 where
+  pub events : summary.events ≡ length h
+  pub put : (puts : Puts) → FollowsPuts script.shape h puts → summary.put ≡ items_put_in script.shape h puts
+  pub taken : (takes : Takes) → FollowsTakes script.shape h takes → summary.taken ≡ items_taken_in script.shape h takes
+  pub told : (takes : Takes) → FollowsTakes script.shape h takes → (summary.told ≡ true) ↔ ToldIn script.shape h takes
+  pub full : (puts : Puts) → FollowsPuts script.shape h puts → summary.full ≡ fulls (puts_over_in script.shape h puts)
+  pub empty : (takes : Takes) → FollowsTakes script.shape h takes → summary.empty ≡ empties (takes_over_in script.shape h takes)
+  pub flicker : summary.flicker ≡ flicker_count h

@@ -1,0 +1,59 @@
+-- The texts of the answers.
+use Rattle.std.specs.Prelude.{ℕ, Bool, true, false, List, [], ◌∷◌, ◌++◌, ◌+◌, codes, decimal, length}
+use Rattle.std.specs.List.{flat_map}
+use Rattle.bits_core.specs.Audit.{kind_words}
+use Rattle.bits_core.specs.declared.audits.Verdict.{Verdict}
+use Rattle.bits_core.specs.declared.audits.Verdict.TheVariants.{Lawful, Fault}
+use Rattle.ring_player.specs.declared.worlds.Report.{Report}
+
+-- the verdict in one line; the event at place i, from 0, stands on line i + 2 of its trace
+abbrev pub verdict_text_of : Verdict → List ℕ
+verdict_text_of Lawful = codes "lawful" ++ 10 ∷ []
+verdict_text_of (Fault place kind) =
+    codes "fault: line " ++ decimal (place + 2) ++ codes ": " ++ kind_words kind ++ 10 ∷ []
+
+-- ---- the text of a report
+
+-- what a report tells: how many events there were, the items put and taken, whether the consumer was told that the ring is
+-- closed, how many puts found the ring full and takes found it empty, and how many reads a write overlapped
+pub record Summary : Type 0 where
+  pub events : ℕ
+  pub put : List ℕ
+  pub taken : List ℕ
+  pub told : Bool
+  pub full : ℕ
+  pub empty : ℕ
+  pub flicker : ℕ
+
+abbrev pub summary_of : {A : Type 0} → Report A → Summary
+summary_of r = record {
+  events = length r.history.items;
+  put = r.put.now;
+  taken = r.taken.items;
+  told = r.told;
+  full = r.full;
+  empty = r.empty;
+  flicker = r.flicker;
+}
+
+-- a number after a space
+abbrev pub number_text : ℕ → List ℕ
+number_text n = codes " " ++ decimal n
+
+-- a line of a word and a number
+abbrev pub count_line : List ℕ → ℕ → List ℕ
+count_line word n = word ++ (number_text n ++ codes "\n")
+
+-- a line of a word and the items of a list, each after a space
+abbrev pub list_line : List ℕ → List ℕ → List ℕ
+list_line word items = word ++ (flat_map number_text items ++ codes "\n")
+
+abbrev pub told_line : Bool → List ℕ
+told_line true = codes "told yes\n"
+told_line false = codes "told no\n"
+
+-- the lines of a report
+abbrev pub report_text_of : Summary → List ℕ
+report_text_of r =
+    count_line (codes "events") r.events ++ (list_line (codes "put") r.put ++ (list_line (codes "taken") r.taken ++ (told_line r.told
+    ++ (count_line (codes "full") r.full ++ (count_line (codes "empty") r.empty ++ count_line (codes "flicker") r.flicker)))))

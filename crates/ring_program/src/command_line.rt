@@ -1,0 +1,220 @@
+//! The command line.
+ghost use Rattle.std.specs.Prelude.{◌≡◌, ◌⊎◌, ◌∷◌, ℕ, List, Some, codes, false, [], IfOk, IfErr, OnOk, None, map, option_map};
+ghost use Rattle.clap.specs.Words.{HasKind, app_of, fault_of, found_of, kind_of, rows_of, subcommand_of, subcommand_rows_of};
+ghost use Rattle.clap.specs.declared.builder.command.Command.TheViews.{out-Command};
+ghost use Rattle.ring_program.specs.CommandLine.{application, audit_command, audit_request_of, is_flag_given, play_command, play_request_of, request_in, request_of};
+
+use clap::error::ErrorKind;
+use clap::{Arg, ArgAction, ArgMatches, Command, Error};
+use std::alloc::{AllocError, Global};
+
+/// The program's version, which `--version` prints behind its name.
+const VERSION: &str = "0.1.0";
+
+// The usage, which is also told where a word of `audit` is wrong, such as the name of a file.
+const AUDIT_USAGE: &str = "lamport_ring audit [--bits] < TRACE";
+
+const AUDIT_HELP: &str = "\
+A trace has a line `shape CAPACITY MODULUS WIDTH`, and then a line for each
+event of the history:
+
+  P write s1 1    side P begins to write 1 to bit s1
+  P wrote s1      its write ends
+  C read s1       side C begins to read bit s1
+  C got s1 0      its read ends and answers 0
+
+Bits are s0, s1, .. and r0, r1, .., x, and cJ.I for digit I of cell J. The
+answer is `lawful`, or the first line at fault and why.
+
+Example:
+  lamport_ring audit --bits < examples/new_old_inversion.trace
+
+Exit status:
+  0  the history is lawful
+  1  refused: the input is no trace, or could not be read, or the output failed
+  2  the command line is wrong
+  3  the audit found a fault";
+
+const PLAY_USAGE: &str = "lamport_ring play [--trace] < SCRIPT";
+
+const PLAY_HELP: &str = "\
+A script is a JSON object:
+
+  capacity, modulus, width  the shape of the ring, whole numbers
+  items     the items to put, in order
+  takes     how many items the consumer wants
+  close     true or false: whether the producer closes after the last item
+  schedule  whose event comes next: letters P and C with counts, as P8C10
+  oracle    what overlapped reads answer in turn, as 01
+  batch     the most items under one count write; 1 where it is left out
+
+The answer says how many events there were, the items put and taken, whether
+the consumer was told that the ring is closed, how many puts found the ring
+full, how many takes found it empty, and how many reads a write overlapped.
+
+Examples:
+  lamport_ring play < examples/plain_path.json
+  lamport_ring play --trace < examples/plain_path.json | lamport_ring audit --bits
+
+Exit status:
+  0  the script was played
+  1  refused: the input is no script, or could not be read, or the output failed
+  2  the command line is wrong";
+
+const PROGRAM_HELP: &str = "\
+Examples:
+  lamport_ring play < examples/plain_path.json
+  lamport_ring audit --bits < examples/new_old_inversion.trace
+
+Exit status:
+  0  done: a play, a lawful history, or help or the version that was asked for
+  1  refused, for the cause that standard error gives
+  2  the command line is wrong
+  3  the audit found a fault";
+
+/// What the words ask for.
+#[derive(Clone, Copy, Debug, PartialEq, Eq)]
+pub enum Request {
+    /// `audit`
+    Audit,
+    /// `audit --bits`
+    AuditBits,
+    /// `play`
+    Play,
+    /// `play --trace`
+    PlayTrace,
+}
+
+fn audit<'a>(alloc: Global) -> Result<Command<'a>, AllocError>
+    ensures made { IfOk result (λ command. app_of command ≡ audit_command) }
+    ensures local { IfOk result (λ command. (out-Command command).has_globals ≡ false) }
+{
+    let bits = Arg::new(alloc, "bits")
+        .long("bits")
+        .action(ArgAction::SetTrue)
+        .help("Check the bits alone (for now, audit does so without it too)");
+    let command = Command::new(alloc, "audit")
+        .about("Audit a trace of accesses to safe bits, from standard input")
+        .override_usage(AUDIT_USAGE)
+        .after_help(AUDIT_HELP)
+        .arg(bits)?;
+    Ok(command)
+}
+
+fn play<'a>(alloc: Global) -> Result<Command<'a>, AllocError>
+    ensures made { IfOk result (λ command. app_of command ≡ play_command) }
+    ensures local { IfOk result (λ command. (out-Command command).has_globals ≡ false) }
+{
+    let trace = Arg::new(alloc, "trace")
+        .long("trace")
+        .action(ArgAction::SetTrue)
+        .help("Print the whole history, as a trace, in place of the report");
+    let command = Command::new(alloc, "play")
+        .about("Play a script of the ring's two sides, from standard input")
+        .override_usage(PLAY_USAGE)
+        .after_help(PLAY_HELP)
+        .arg(trace)?;
+    Ok(command)
+}
+
+fn program<'a>(alloc: Global) -> Result<Command<'a>, AllocError>
+    ensures { IfOk result (λ command. app_of command ≡ application) }
+{
+    let audit = audit(alloc)?;
+    let play = play(alloc)?;
+    let command = Command::new(alloc, "lamport_ring")
+        .about(
+            "A producer-consumer ring from safe bits: plays of scripts, audits of recorded histories",
+        )
+        .version(VERSION)
+        .after_help(PROGRAM_HELP)
+        .subcommand_required(true)
+        .subcommand(audit)?
+        .subcommand(play)?;
+    Ok(command)
+}
+
+// The matches of the words, where the program takes them.
+fn parse<'a>(alloc: Global, words: &'a [&'a str]) -> Result<ArgMatches<'a>, Error>
+    ensures taken { OnOk result (fault_of application (map (λ w. w.now) words.entry.now) ≡ []) }
+    ensures found { IfOk result (λ matches. subcommand_rows_of matches ≡ subcommand_of application (map (λ w. w.now) words.entry.now)) }
+    ensures kinds { IfErr result (HasKind (fault_of application (map (λ w. w.now) words.entry.now))) }
+{
+    let command = program(alloc)?;
+    command.try_get_matches_from(words)
+}
+
+// The command that was named, with its own matches.
+fn named<'m, 'a>(matches: &'m ArgMatches<'a>) -> Option<(&'a str, &'m ArgMatches<'a>)>
+    ensures { option_map (λ found. (found.0.now, rows_of (found_of found.1.now))) result ≡ subcommand_rows_of matches.now }
+{
+    matches.subcommand()
+}
+
+// The flag was given.
+fn is_given(matches: &ArgMatches<'_>, id: &str) -> bool
+    ensures { result ≡ is_flag_given id.now (rows_of (found_of matches.now)) }
+{
+    match matches.get_str(id) {
+        Some(value) => value == "true",
+        None => false,
+    }
+}
+
+fn audit_request(matches: &ArgMatches<'_>) -> Request
+    ensures { result ≡ audit_request_of (rows_of (found_of matches.now)) }
+{
+    if is_given(matches, "bits") {
+        Request::AuditBits
+    } else {
+        Request::Audit
+    }
+}
+
+fn play_request(matches: &ArgMatches<'_>) -> Request
+    ensures { result ≡ play_request_of (rows_of (found_of matches.now)) }
+{
+    if is_given(matches, "trace") {
+        Request::PlayTrace
+    } else {
+        Request::Play
+    }
+}
+
+fn request_found(matches: &ArgMatches<'_>) -> Option<Request>
+    ensures { result ≡ request_in (subcommand_rows_of matches.now) }
+{
+    let (name, inner) = named(matches)?;
+    if name == "audit" {
+        Some(audit_request(inner))
+    } else if name == "play" {
+        Some(play_request(inner))
+    } else {
+        None
+    }
+}
+
+/// What the words ask for, the program's name first. An `Err` where they are no command line of
+/// this program or ask for help or the version, or where memory ran out.
+pub fn read_words<'a>(alloc: Global, words: &'a [&'a str]) -> Result<Option<Request>, Error>
+    ensures asked { IfOk result (λ request. request ≡ request_of (map (λ w. w.now) words.entry.now)) }
+    ensures taken { OnOk result (fault_of application (map (λ w. w.now) words.entry.now) ≡ []) }
+    ensures refused { IfErr result (λ e. (kind_of e ≡ ErrorKind.OutOfMemory) ⊎ (request_of (map (λ w. w.now) words.entry.now) ≡ None)) }
+    ensures kinds { IfErr result (HasKind (fault_of application (map (λ w. w.now) words.entry.now))) }
+{
+    match parse(alloc, words) {
+        Ok(matches) => Ok(request_found(&matches)),
+        Err(error) => Err(error),
+    }
+}
+
+/// The command lines of the program, by its name and their words.
+pub fn command_lines()
+    ensures audit { (name : List ℕ) → request_of (name ∷ codes "audit" ∷ []) ≡ Some Request.Audit }
+    ensures audit_bits { (name : List ℕ) → request_of (name ∷ codes "audit" ∷ codes "--bits" ∷ []) ≡ Some Request.AuditBits }
+    ensures twice { (name : List ℕ) → request_of (name ∷ codes "audit" ∷ codes "--bits" ∷ codes "--bits" ∷ []) ≡ None }
+    ensures play { (name : List ℕ) → request_of (name ∷ codes "play" ∷ []) ≡ Some Request.Play }
+    ensures play_trace { (name : List ℕ) → request_of (name ∷ codes "play" ∷ codes "--trace" ∷ []) ≡ Some Request.PlayTrace }
+    ensures other { (name : List ℕ) → request_of (name ∷ codes "run" ∷ []) ≡ None }
+    ensures nothing { (name : List ℕ) → request_of (name ∷ []) ≡ None }
+{}

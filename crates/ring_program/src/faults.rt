@@ -1,0 +1,107 @@
+//! Why the program refuses.
+ghost use Rattle.std.specs.Prelude.{◌≡◌};
+
+use bits_core::TraceFault;
+use ring_player::{PlayFault, ScriptFault};
+use std::alloc::AllocError;
+use thiserror::Error;
+
+/// A fault of the program's surroundings.
+#[derive(Clone, Copy, Debug, PartialEq, Eq, Error)]
+pub enum AppFault {
+    /// A read of the input failed.
+    #[error("input failed")]
+    ReadFailed,
+    /// More bytes came than an input may have.
+    #[error("input is too large")]
+    TooLarge,
+    /// A write of the output failed.
+    #[error("output failed")]
+    WriteFailed,
+    /// Memory ran out.
+    #[error("out of memory")]
+    OutOfMemory,
+}
+
+impl AppFault {
+    ghost use Rattle.ring_program.specs.Faults.{number_of};
+
+    /// The number of the fault: 1 `ReadFailed`, 2 `TooLarge`, 3 `WriteFailed`, 4 `OutOfMemory`.
+    pub fn number(&self) -> u8
+        ensures { result ≡ number_of self.now }
+    {
+        match self {
+            AppFault::ReadFailed => 1,
+            AppFault::TooLarge => 2,
+            AppFault::WriteFailed => 3,
+            AppFault::OutOfMemory => 4,
+        }
+    }
+}
+
+impl From<AllocError> for AppFault {
+    ghost use Rattle.ring_program.specs.declared.faults.AppFault.TheVariants.{OutOfMemory};
+
+    ghost from_gives = { λ _ e. e ≡ OutOfMemory };
+
+    fn from(_error: AllocError) -> AppFault {
+        AppFault::OutOfMemory
+    }
+}
+
+/// Why a command gave no answer.
+#[derive(Clone, Copy, Debug, PartialEq, Eq, Error)]
+pub enum Refusal {
+    /// For the program's surroundings.
+    #[error(transparent)]
+    App(AppFault),
+    /// The input is no trace.
+    #[error(transparent)]
+    Trace(TraceFault),
+    /// The input is no script.
+    #[error(transparent)]
+    Script(ScriptFault),
+    /// The play of a script stopped.
+    #[error(transparent)]
+    Play(PlayFault),
+}
+
+impl From<AppFault> for Refusal {
+    ghost use Rattle.ring_program.specs.declared.faults.Refusal.TheVariants.{App};
+
+    ghost from_gives = { λ fault e. e ≡ App fault };
+
+    fn from(fault: AppFault) -> Refusal {
+        Refusal::App(fault)
+    }
+}
+
+impl From<TraceFault> for Refusal {
+    ghost use Rattle.ring_program.specs.declared.faults.Refusal.TheVariants.{Trace};
+
+    ghost from_gives = { λ fault e. e ≡ Trace fault };
+
+    fn from(fault: TraceFault) -> Refusal {
+        Refusal::Trace(fault)
+    }
+}
+
+impl From<ScriptFault> for Refusal {
+    ghost use Rattle.ring_program.specs.declared.faults.Refusal.TheVariants.{Script};
+
+    ghost from_gives = { λ fault e. e ≡ Script fault };
+
+    fn from(fault: ScriptFault) -> Refusal {
+        Refusal::Script(fault)
+    }
+}
+
+impl From<PlayFault> for Refusal {
+    ghost use Rattle.ring_program.specs.declared.faults.Refusal.TheVariants.{Play};
+
+    ghost from_gives = { λ fault e. e ≡ Play fault };
+
+    fn from(fault: PlayFault) -> Refusal {
+        Refusal::Play(fault)
+    }
+}
