@@ -1,17 +1,24 @@
 #!/usr/bin/env python3
 """Time and peak memory: python3 bench/bench.py, from any folder, on a machine that does nothing else.
 
-It prints a table: for each input the shortest and the median time of some runs, and the peak memory above that of the
-bare process (the same command on a trace of two events). It builds the programs first where they are not built.
+It prints a table: for each input the shortest and the median time of some runs, the shortest time of a twin in plain
+Rust (audit_twin.rs, built with rustc -O) and the ratio to it, and the peak memory above that of the bare process (the
+same command on a trace of two events) beside what it is to stay below: the input and 16 bytes an event. A second table is
+of plays: their time, that of a play whose trace is written, and the peak memory of both. It builds the programs first
+where they are not built.
 """
+import json
 import os
+import random
 import statistics
 import subprocess
 import sys
+import tempfile
 import time
 
 TOP = os.path.dirname(os.path.dirname(os.path.abspath(__file__)))
-AUDIT = [f"{TOP}/crates/lamport_ring/out/lamport_ring", "audit", "--bits"]
+PROGRAM = f"{TOP}/crates/lamport_ring/out/lamport_ring"
+AUDIT = [PROGRAM, "audit", "--bits"]
 MEMORY = [f"{TOP}/crates/memory_bench/out/memory_bench"]
 RUNS = 20
 
@@ -31,12 +38,69 @@ def overlapped(events):
     return "\n".join(lines) + "\n"
 
 
+def random_bits(events):
+    """Random accesses to random bits of the largest shape. Reads that a write overlaps answer at random."""
+    pick = random.Random(1)
+    read_by = {
+        "P": [f"r{i}" for i in range(256)],
+        "C": [f"s{i}" for i in range(256)] + ["x"] + [f"c{j}.{i}" for j in range(64) for i in range(64)],
+    }
+    written_by = {"P": read_by["C"], "C": read_by["P"]}
+    held = {bit: 0 for bits in read_by.values() for bit in bits} | {"s0": 1, "r0": 1}
+    opened = {"P": None, "C": None}
+    lines = ["shape 64 256 64"]
+    while len(lines) - 1 < events:
+        side = pick.choice("PC")
+        other = "PC"[side == "P"]
+        if opened[side] is None:
+            if pick.random() < 0.5:
+                bit = pick.choice(read_by[side])
+                beside = opened[other]
+                opened[side] = [bit, None, beside is not None and beside[0] == bit]
+                lines.append(f"{side} read {bit}")
+            else:
+                # now and then the bit that the other side reads
+                beside = opened[other]
+                overlaps = beside is not None and beside[1] is None and pick.random() < 0.5
+                bit = beside[0] if overlaps else pick.choice(written_by[side])
+                if overlaps:
+                    beside[2] = True
+                value = pick.randrange(2)
+                opened[side] = [bit, value, False]
+                lines.append(f"{side} write {bit} {value}")
+        else:
+            bit, value, overlapped = opened[side]
+            opened[side] = None
+            if value is None:
+                lines.append(f"{side} got {bit} {pick.randrange(2) if overlapped else held[bit]}")
+            else:
+                held[bit] = value
+                lines.append(f"{side} wrote {bit}")
+    return "\n".join(lines) + "\n"
+
+
+def script(schedule, items):
+    """A script with this schedule: the consumer wants more items than there are, so that it never is done."""
+    fields = {"capacity": 1, "modulus": 3, "width": 1, "items": items, "takes": 2000, "close": False}
+    return json.dumps(fields | {"schedule": schedule, "oracle": "01"}, separators=(",", ":"))
+
+
+def one_side(letters):
+    """Letters of one side, under one count: two puts, of which the second finds the ring full again and again."""
+    return script(f"P{letters}", [1, 1])
+
+
+def both_sides(letters):
+    """Letters of the two sides in turn, each written out, so that reads overlap writes."""
+    return script("PC" * (letters // 2), [1, 0] * 500)
+
+
 def seconds(command, text, wanted):
-    """Runs the command once on the text, and times it."""
+    """Runs the command once on the text, and times it. Where no output is wanted, any does."""
     start = time.perf_counter()
     done = subprocess.run(command, input=text.encode(), capture_output=True)
     took = time.perf_counter() - start
-    if (done.returncode, done.stdout) != (0, wanted):
+    if done.returncode != 0 or done.stdout != wanted and wanted is not None:
         sys.exit(f"{command} ended with {done.returncode} and printed {done.stdout!r}")
     return took
 
@@ -69,37 +133,60 @@ def peak(command, text):
     return most
 
 
-def measure(command, text, wanted):
-    """The two columns of the times, and the peak memory."""
-    took = [seconds(command, text, wanted) * 1000 for _ in range(RUNS)]
-    most = max(peak(command, text) for _ in range(10))
-    return f"{min(took):.1f} | {statistics.median(took):.1f}", most
+def times(command, twin, text, wanted):
+    """The times of some runs in milliseconds, and those of the twin's, turn by turn."""
+    took = [], []
+    for _ in range(RUNS):
+        for which, each in enumerate([command, twin]):
+            took[which].append(seconds(each, text, wanted) * 1000)
+    return took
 
 
-def build():
+def build(twin):
     subprocess.run([f"{TOP}/lamport_ring", "--help"], check=True, stdout=subprocess.DEVNULL)
     print("bench: building memory_bench by its proof, where it is not built", file=sys.stderr)
     subprocess.run(["rt", "run"], cwd=f"{TOP}/crates/memory_bench", check=True, capture_output=True)
+    subprocess.run(["rustc", "-O", "--edition", "2024", "-o", twin, f"{TOP}/bench/audit_twin.rs"], check=True)
 
 
 def main():
-    build()
-    bare = max(peak(AUDIT, quiet(2)) for _ in range(10))
-    print(f"{os.cpu_count()} cores, {RUNS} runs of each; the bare audit has {bare} KiB at its peak")
+    with tempfile.TemporaryDirectory() as folder:
+        twin = f"{folder}/audit_twin"
+        build(twin)
+        bare = max(peak(AUDIT, quiet(2)) for _ in range(10))
+        print(f"{os.cpu_count()} cores, {RUNS} runs of each; the bare audit has {bare} KiB at its peak")
+        print()
+        print("| What | Input, bytes | Shortest, ms | Median, ms | Twin, ms | Ratio | Above the bare audit, KiB | Allowed, KiB |")
+        print("|---|---|---|---|---|---|---|---|")
+        for name, make in [("quiet", quiet), ("every read overlapped", overlapped), ("random bits of the largest shape", random_bits)]:
+            for events in [1_000, 10_000, 100_000, 1_000_000]:
+                text = make(events)
+                took, twins = times(AUDIT, [twin], text, b"lawful\n")
+                above = max(peak(AUDIT, text) for _ in range(5)) - bare
+                print(
+                    f"| {events:,} events, {name} | {len(text)} | {min(took):.1f} | {statistics.median(took):.1f} | "
+                    f"{min(twins):.1f} | {min(took) / min(twins):.2f} | {above} | {(len(text) + 16 * events) // 1024} |",
+                    flush=True,
+                )
+        took = [seconds(MEMORY, "", b"events 10000, flickers 2500\n") * 1000 for _ in range(RUNS)]
+        print(f"| 10,000 events made by a memory | 0 | {min(took):.1f} | {statistics.median(took):.1f} | | | | |")
+        plays(bare)
+
+
+def plays(bare):
+    """The table of plays."""
     print()
-    print("| what | input, bytes | shortest, ms | median, ms | peak, KiB | above the bare audit | allowed |")
-    print("|---|---|---|---|---|---|---|")
-    for name, text, events in [
-        ("audit of 1,000 events, lawful", quiet(1_000), 1_000),
-        ("audit of 10,000 events, lawful", quiet(10_000), 10_000),
-        ("audit of 100,000 events, lawful", quiet(100_000), 100_000),
-        ("audit of 1,000,000 events, lawful", quiet(1_000_000), 1_000_000),
-        ("audit of 1,000,000 events, every read overlapped", overlapped(1_000_000), 1_000_000),
-    ]:
-        took, most = measure(AUDIT, text, b"lawful\n")
-        print(f"| {name} | {len(text)} | {took} | {most} | {most - bare} | {(len(text) + 64 * events) // 1024} |")
-    took, most = measure(MEMORY, "", b"events 10000, flickers 2500\n")
-    print(f"| 10,000 events made by a memory | 0 | {took} | {most} | | |")
+    print("| What | Script, bytes | `play`, ms | Above the bare audit, KiB | `play --trace`, ms | Above the bare audit, KiB |")
+    print("|---|---|---|---|---|---|")
+    for name, make in [("one side", one_side), ("both sides in turn", both_sides)]:
+        for letters in [10_000, 100_000, 1_000_000]:
+            text = make(letters)
+            cells = []
+            for command in [[PROGRAM, "play"], [PROGRAM, "play", "--trace"]]:
+                took = min(seconds(command, text, None) for _ in range(RUNS)) * 1000
+                above = max(peak(command, text) for _ in range(5)) - bare
+                cells.append(f"{took:.1f} | {above}")
+            print(f"| {letters:,} letters, {name} | {len(text)} | {' | '.join(cells)} |", flush=True)
 
 
 main()
