@@ -42,7 +42,14 @@ for trace in examples/*.trace; do
         *) fail "$verdict has no verdict" ;;
     esac
     run "$status" "$verdict" audit --bits <"$trace"
-    echo "examples: $(basename "$trace" .trace): $(cat "$verdict"), status $status"
+    finding="${trace%.trace}.finding"
+    case $(head -n 1 "$finding") in
+        lawful) status=0 ;;
+        fault:*) status=3 ;;
+        *) fail "$finding has no finding" ;;
+    esac
+    run "$status" "$finding" audit <"$trace"
+    echo "examples: $(basename "$trace" .trace): $(cat "$verdict"); with the programs: $(head -n 1 "$finding")"
 done
 
 echo "examples: each script by the player, and the trace of its play by the audit"
@@ -55,6 +62,9 @@ for script in examples/*.json; do
     fi
     ./lamport_ring play --trace <"$script" >"$room/trace" || fail "$name: play --trace: status $?"
     run 0 "$room/lawful" audit --bits <"$room/trace"
+    # The audit finds the lists that the report has: its lines `put`, `taken` and `told`.
+    { echo lawful; sed -n 2,4p "examples/$name.report"; } >"$room/finding"
+    run 0 "$room/finding" audit <"$room/trace"
     echo "examples: $name: $(head -n 1 "examples/$name.report"), lawful"
 done
 

@@ -2,14 +2,17 @@
 use crate::fakes::{HaltingReader, HaltingWriter};
 use bits_core::{TraceFault, Verdict, read_trace};
 use refusing::Refusing;
+use ring_audit::Finding;
 use ring_player::Report;
-use ring_program::{AppFault, execute, load, report_text, verdict_text};
+use ring_program::{AppFault, audit_text, execute, load, report_text, verdict_text};
 use std::alloc::AllocGlobal;
 use std::io::ErrorKind;
 use std::process::Abort;
 use std::thread::Threads;
 
 pub const BITS: &[&str] = &["lamport_ring", "audit", "--bits"];
+
+pub const AUDIT: &[&str] = &["lamport_ring", "audit"];
 
 pub const PLAY: &[&str] = &["lamport_ring", "play"];
 
@@ -239,6 +242,30 @@ pub fn expect_refused_text(rt: &(impl Abort + AllocGlobal), verdict: &Verdict) {
     for allocations in 0..20 {
         let alloc = Refusing::after(rt.alloc(), allocations);
         let refused = verdict_text(&alloc, verdict).err();
+        if !alloc.has_refused() {
+            assert_eq!(rt; refused, None);
+            assert!(rt; 1 <= allocations);
+            return;
+        }
+        assert_eq!(rt; refused, Some(AppFault::OutOfMemory));
+    }
+    assert!(rt; false, "a growth was refused each time");
+}
+
+/// `audit_text`, each growth refused in turn, and none.
+pub fn expect_refused_finding(rt: &(impl Abort + AllocGlobal), put: &[u64], taken: &[u64]) {
+    let (Ok(put), Ok(taken)) = (put.to_vec(rt.alloc()), taken.to_vec(rt.alloc())) else {
+        assert!(rt; false, "the lists have room");
+        return;
+    };
+    let finding = Finding::Lawful {
+        put,
+        taken,
+        told: true,
+    };
+    for allocations in 0..20 {
+        let alloc = Refusing::after(rt.alloc(), allocations);
+        let refused = audit_text(&alloc, &finding).err();
         if !alloc.has_refused() {
             assert_eq!(rt; refused, None);
             assert!(rt; 1 <= allocations);

@@ -1,7 +1,8 @@
 use crate::expects::{
-    BITS, Growing, PLAY, TRACE, expect_failed_reads, expect_failed_writes, expect_read,
-    expect_refused_growths, expect_refused_load, expect_refused_plays, expect_refused_report,
-    expect_refused_text, expect_refused_trace, expect_unheard, expect_written,
+    AUDIT, BITS, Growing, PLAY, TRACE, expect_failed_reads, expect_failed_writes, expect_read,
+    expect_refused_finding, expect_refused_growths, expect_refused_load, expect_refused_plays,
+    expect_refused_report, expect_refused_text, expect_refused_trace, expect_unheard,
+    expect_written,
 };
 use crate::fakes::{HaltingReader, HaltingWriter};
 use bits_core::{Kind, Verdict};
@@ -49,6 +50,8 @@ fn stops_at_a_failed_read(rt: HostRuntime) {
     expect_failed_reads(&rt, BITS, trace, ErrorKind::Other, "lawful\n");
     expect_failed_reads(&rt, BITS, trace, ErrorKind::Interrupted, "lawful\n");
     let script = PLAIN.as_bytes();
+    let found = "lawful\nput 1\ntaken 1\ntold no\n";
+    expect_failed_reads(&rt, AUDIT, PLAIN_TRACE.as_bytes(), ErrorKind::Other, found);
     expect_failed_reads(&rt, PLAY, script, ErrorKind::Other, PLAIN_REPORT);
 }
 
@@ -56,6 +59,8 @@ fn stops_at_a_failed_read(rt: HostRuntime) {
 fn stops_at_a_failed_write_or_flush(rt: HostRuntime) {
     let stale = STALE.as_bytes();
     expect_failed_writes(&rt, BITS, stale, 3, "fault: line 3: not permitted\n".len());
+    let found = "lawful\nput 1\ntaken 1\ntold no\n".len();
+    expect_failed_writes(&rt, AUDIT, PLAIN_TRACE.as_bytes(), 0, found);
     expect_failed_writes(&rt, PLAY, PLAIN.as_bytes(), 0, PLAIN_REPORT.len());
     expect_failed_writes(&rt, TRACE, PLAIN.as_bytes(), 0, PLAIN_TRACE.len());
     expect_failed_writes(&rt, VERSION, b"", 0, "lamport_ring 0.1.0\n".len());
@@ -73,8 +78,8 @@ fn reads_nothing_where_nothing_is_asked(rt: HostRuntime) {
 }
 
 const UNHEARD: [(&[&str], &str, u8); 5] = [
-    (&["lamport_ring", "audit"], STALE, 3),
-    (&["lamport_ring", "audit"], "x", 1),
+    (AUDIT, STALE, 3),
+    (AUDIT, "x", 1),
     (PLAY, PLAIN, 0),
     (PLAY, "", 1),
     (&["lamport_ring", "run"], "", 2),
@@ -85,10 +90,13 @@ fn ignores_a_failed_standard_error(rt: HostRuntime) {
     expect_unheard(&rt, &UNHEARD);
 }
 
-const GROWING: [Growing; 3] = [
+const GROWING: [Growing; 5] = [
     // the input, the events and the text
     (BITS, STALE, 3, 3),
     (BITS, INVERSION, 0, 3),
+    // the input, the events, the items put, the items taken and the text
+    (AUDIT, PLAIN_TRACE, 0, 5),
+    (AUDIT, STALE, 3, 3),
     // the text of help
     (HELP, "", 0, 1),
 ];
@@ -112,4 +120,5 @@ fn each_call_refuses_at_each_growth(rt: HostRuntime) {
     let kind = Kind::NotPermitted;
     expect_refused_report(&rt, &[1, 0, u64::MAX]);
     expect_refused_text(&rt, &Verdict::Fault { place: 7, kind });
+    expect_refused_finding(&rt, &[1, 0], &[u64::MAX]);
 }

@@ -1,8 +1,9 @@
 //! Runs of the program, with what they must write and how they must end.
 use bits_core::{Kind, Verdict};
+use ring_audit::Finding;
 use ring_player::Report;
-use ring_program::{AppFault, Refusal, execute, load, report_text, verdict_text};
-use std::alloc::AllocGlobal;
+use ring_program::{AppFault, Refusal, audit_text, execute, load, report_text, verdict_text};
+use std::alloc::{AllocGlobal, Global};
 use std::io;
 use std::io::Read;
 use std::process::Abort;
@@ -10,6 +11,8 @@ use std::test::Fail;
 use std::thread::Threads;
 
 pub const BITS: &[&str] = &["lamport_ring", "audit", "--bits"];
+
+pub const AUDIT: &[&str] = &["lamport_ring", "audit"];
 
 pub const PLAY: &[&str] = &["lamport_ring", "play"];
 
@@ -32,17 +35,15 @@ pub fn expect_run_on<R: Read>(
     assert!(rt; errors.as_slice() == err.as_bytes());
 }
 
-/// Each input has this status and this text on the output, by `audit --bits` and by `audit`.
+/// Each input has this status and this text on the output, by this command.
 pub fn expect_verdicts(
     rt: &(impl Abort + AllocGlobal + Threads),
+    words: &[&str],
     rows: &[(&'static str, u8, &'static str)],
 ) {
     for (input, status, out) in rows {
         let mut bytes = input.as_bytes();
-        expect_run_on(rt, BITS, &mut bytes, *status, out, "");
-        let mut bytes = input.as_bytes();
-        let words = ["lamport_ring", "audit"];
-        expect_run_on(rt, &words, &mut bytes, *status, out, "");
+        expect_run_on(rt, words, &mut bytes, *status, out, "");
     }
 }
 
@@ -54,6 +55,8 @@ pub fn expect_refusals(
     for (input, err) in rows {
         let mut bytes = input.as_bytes();
         expect_run_on(rt, BITS, &mut bytes, 1, "", err);
+        let mut bytes = input.as_bytes();
+        expect_run_on(rt, AUDIT, &mut bytes, 1, "", err);
     }
 }
 
@@ -72,15 +75,19 @@ pub fn expect_plays(
     }
 }
 
-/// The trace of each script is lawful.
-pub fn expect_lawful_plays(rt: &(impl Abort + AllocGlobal + Threads), rows: &[&'static str]) {
-    for script in rows {
+/// The trace of each script is lawful, and the audit of programs finds this of it.
+pub fn expect_lawful_plays(
+    rt: &(impl Abort + AllocGlobal + Threads),
+    rows: &[(&'static str, &'static str)],
+) {
+    for (script, found) in rows {
         let mut input = script.as_bytes();
         let mut trace = Vec::new(rt.alloc());
         let mut errors = Vec::new(rt.alloc());
         let ended = execute(rt, rt.alloc(), TRACE, &mut input, &mut trace, &mut errors);
         assert_eq!(rt; ended, 0);
         expect_run_on(rt, BITS, &mut trace.as_slice(), 0, "lawful\n", "");
+        expect_run_on(rt, AUDIT, &mut trace.as_slice(), 0, found, "");
     }
 }
 
@@ -199,6 +206,26 @@ pub fn expect_texts(
         expect_text(rt, &verdict, text)?;
     }
     expect_text(rt, &Verdict::Lawful, "lawful\n")
+}
+
+/// A fault that an audit found has this text, and these lists theirs.
+pub fn expect_finding_texts(
+    rt: &(impl Abort + AllocGlobal),
+    fault: (usize, Kind, &str),
+    lists: (&[u64], &[u64], bool, &str),
+) -> Result<(), Fail> {
+    let (place, kind, text) = fault;
+    let told = audit_text(rt.alloc(), &Finding::<Global>::Fault { place, kind })?;
+    assert!(rt; told.as_bytes() == text.as_bytes());
+    let (put, taken, told, text) = lists;
+    let finding = Finding::Lawful {
+        put: put.to_vec(rt.alloc())?,
+        taken: taken.to_vec(rt.alloc())?,
+        told,
+    };
+    let told = audit_text(rt.alloc(), &finding)?;
+    assert!(rt; told.as_bytes() == text.as_bytes());
+    Ok(())
 }
 
 /// Each fault has this number and these words, also as a refusal.

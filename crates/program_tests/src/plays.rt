@@ -1,6 +1,7 @@
 use crate::expects::{
     expect_lawful_plays, expect_plays, expect_refusal_words, expect_refused_scripts, expect_report,
 };
+use ring_audit::AuditFault;
 use ring_player::{PlayFault, ScriptFault};
 use ring_program::Refusal;
 use std::test::Fail;
@@ -63,6 +64,9 @@ C got x 0
 const BATCH: &str =
     "{\"capacity\":3,\"modulus\":7,\"width\":1,\"items\":[1,0,1],\"takes\":4,\"close\":false,\"schedule\":\"P11C46\",\"oracle\":\"0001\",\"batch\":3}";
 
+const CLOSED: &str =
+    "{\"capacity\":1,\"modulus\":3,\"width\":1,\"items\":[1],\"takes\":2,\"close\":true,\"schedule\":\"C2P10C22\",\"oracle\":\"\"}";
+
 const PLAYS: [(&str, &str, Option<&str>); 9] = [
     (PLAIN, PLAIN_REPORT, Some(PLAIN_TRACE)),
     // a batch of 1 is what a script without one has
@@ -90,7 +94,7 @@ const PLAYS: [(&str, &str, Option<&str>); 9] = [
     ),
     // told that the ring is closed, behind the item that the second scan found
     (
-        "{\"capacity\":1,\"modulus\":3,\"width\":1,\"items\":[1],\"takes\":2,\"close\":true,\"schedule\":\"C2P10C22\",\"oracle\":\"\"}",
+        CLOSED,
         "events 34\nput 1\ntaken 1\ntold yes\nfull 0\nempty 0\nflicker 0\n",
         None,
     ),
@@ -119,9 +123,16 @@ fn tells_the_report_and_the_trace_of_a_play(rt: HostRuntime) {
     expect_plays(&rt, &PLAYS);
 }
 
+const FOUND: [(&str, &str); 4] = [
+    (PLAIN, "lawful\nput 1\ntaken 1\ntold no\n"),
+    (SEEN_OLD, "lawful\nput 1\ntaken 1\ntold no\n"),
+    (BATCH, "lawful\nput 1 0 1\ntaken 1 0 1\ntold no\n"),
+    (CLOSED, "lawful\nput 1\ntaken 1\ntold yes\n"),
+];
+
 #[test]
 fn the_trace_of_a_play_is_lawful(rt: HostRuntime) {
-    expect_lawful_plays(&rt, &[PLAIN, SEEN_OLD, BATCH]);
+    expect_lawful_plays(&rt, &FOUND);
 }
 
 const REFUSALS: [(&str, &str); 13] = [
@@ -181,12 +192,13 @@ fn reports_have_their_text(rt: HostRuntime) -> Result<(), Fail> {
     expect_report(&rt, &[0, u64::MAX], true, (u64::MAX, 1, 20), text)
 }
 
-const WORDS: [(Refusal, &str); 2] = [
+const WORDS: [(Refusal, &str); 3] = [
     (
         Refusal::Script(ScriptFault::BadSchedule(7)),
         "schedule is wrong at byte 7",
     ),
     (Refusal::Play(PlayFault::OutOfMemory), "out of memory"),
+    (Refusal::Audit(AuditFault::OutOfMemory), "out of memory"),
 ];
 
 #[test]

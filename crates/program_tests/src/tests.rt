@@ -60,7 +60,7 @@ const VERDICTS: [(&str, u8, &str); 11] = [
 
 #[test]
 fn tells_the_verdict(rt: HostRuntime) {
-    expect_verdicts(&rt, &VERDICTS);
+    expect_verdicts(&rt, BITS, &VERDICTS);
 }
 
 const REFUSALS: [(&str, &str); 7] = [
@@ -144,11 +144,14 @@ const PLAY_HELP: &[&str] = &["lamport_ring", "play", "--help"];
 
 const EXAMPLE: &str = "  lamport_ring audit --bits < examples/new_old_inversion.trace\n";
 
+const AUDIT_EXAMPLE: &str = "  lamport_ring audit < examples/plain_path.trace\n";
+
 const PLAY_EXAMPLE: &str = "  lamport_ring play < examples/plain_path.json\n";
 
-const WORDS: [(&[&str], u8, &str); 22] = [
+const WORDS: [(&[&str], u8, &str); 24] = [
     (HELP, 0, EXAMPLE),
     (HELP, 0, PLAY_EXAMPLE),
+    (HELP, 0, AUDIT_EXAMPLE),
     (
         HELP,
         0,
@@ -162,6 +165,7 @@ const WORDS: [(&[&str], u8, &str); 22] = [
     (HELP, 0, "  2  the command line is wrong\n"),
     (HELP, 0, "  3  the audit found a fault\n"),
     (AUDIT_HELP, 0, EXAMPLE),
+    (AUDIT_HELP, 0, AUDIT_EXAMPLE),
     (
         AUDIT_HELP,
         0,

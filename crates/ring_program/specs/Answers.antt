@@ -12,6 +12,9 @@ use Rattle.bits_core.specs.declared.events.Event.{Event}
 use Rattle.bits_core.specs.declared.shapes.Shape.{Shape}
 use Rattle.bits_core.specs.declared.traces.TraceFault.{TraceFault}
 use Rattle.bits_core.specs.declared.traces.TraceFault.TheVariants as trace
+use Rattle.ring_audit.specs.Audit.{IsFinding, SaysSentence, Statement}
+use Rattle.ring_audit.specs.Audit as audit
+use Rattle.ring_audit.specs.declared.faults.AuditFault.TheVariants as finding
 use Rattle.ring_player.specs.Headline.{FillsRing, HoldsHeadline}
 use Rattle.ring_player.specs.Plays.{Plays}
 use Rattle.ring_player.specs.declared.faults.PlayFault.TheVariants as play
@@ -20,7 +23,7 @@ use Rattle.ring_script.specs.Script.{Content, IsScript}
 use Rattle.ring_script.specs.declared.faults.ScriptFault.{ScriptFault}
 use Rattle.ring_script.specs.declared.faults.ScriptFault.TheVariants as script
 use Rattle.ring_program.specs.Reports.{Reports}
-use Rattle.ring_program.specs.Texts.{Summary, report_text_of, verdict_text_of}
+use Rattle.ring_program.specs.Texts.{Summary, audit_text_of, report_text_of, verdict_text_of}
 use Rattle.ring_program.specs.declared.inputs.TheConstants.{INPUT_LIMIT}
 use Rattle.ring_program.specs.declared.program.Ending.{Ending}
 use Rattle.ring_program.specs.declared.program.Ending.TheVariants.{Done, FaultFound}
@@ -40,6 +43,11 @@ abbrev pub verdict_ending_of : Verdict → Ending
 verdict_ending_of Lawful = Done
 verdict_ending_of (Fault place kind) = FaultFound
 
+-- how an audit with this finding ends
+abbrev pub finding_ending_of : Statement → Ending
+finding_ending_of (audit.Lawful put taken told) = Done
+finding_ending_of (audit.Fault place kind) = FaultFound
+
 -- the input is a trace, and the text and the ending are those of the verdict on its bits
 pub record AuditsBits (input text : List ℕ) (ending : Ending) : Type 0 where
   pub shape : Shape
@@ -49,6 +57,18 @@ pub record AuditsBits (input text : List ℕ) (ending : Ending) : Type 0 where
   pub is_verdict : IsVerdict shape events verdict
   pub words : text ≡ verdict_text_of verdict
   pub ends : ending ≡ verdict_ending_of verdict
+
+-- The input is a trace, and the text and the ending are those of the one finding of its bits and of the programs of its two
+-- sides. Lists that it tells meet the sentence of the ring
+pub record AuditsPrograms (input text : List ℕ) (ending : Ending) : Type 0 where
+  pub shape : Shape
+  pub events : List Event
+  pub found : Statement
+  pub is_trace : IsTrace input shape events
+  pub is_finding : IsFinding shape events found
+  pub sentence : SaysSentence shape events found
+  pub words : text ≡ audit_text_of found
+  pub ends : ending ≡ finding_ending_of found
 
 -- the input is a script, and this is the history of its play, by the letters of its schedule
 pub record IsPlayed (input : List ℕ) (content : Content) (history : List Event) : Type 0 where
@@ -77,7 +97,7 @@ pub record TracesScript (input text : List ℕ) (ending : Ending) : Type 0 where
 
 -- the request, on this input, is answered by this text and this ending
 abbrev pub Answers : Request → List ℕ → List ℕ → Ending → Type 0
-Answers Audit input text ending = AuditsBits input text ending
+Answers Audit input text ending = AuditsPrograms input text ending
 Answers AuditBits input text ending = AuditsBits input text ending
 Answers Play input text ending = PlaysScript input text ending
 Answers PlayTrace input text ending = TracesScript input text ending
@@ -108,10 +128,11 @@ Refuses PlayTrace input e = RefusesScript input e
 abbrev pub IsTooLarge : List ℕ → Refusal → Type 0
 IsTooLarge input e = (e ≡ refusal.App app.TooLarge) × (INPUT_LIMIT < length input)
 
--- memory ran out, in the program, the trace, the script or the play
+-- memory ran out, in the program, the trace, the audit, the script or the play
 abbrev pub IsOutOfMemory : Refusal → Type 0
 IsOutOfMemory e = (e ≡ refusal.App app.OutOfMemory)
-    ⊎ ((e ≡ refusal.Trace trace.OutOfMemory) ⊎ ((e ≡ refusal.Script script.OutOfMemory) ⊎ (e ≡ refusal.Play play.OutOfMemory)))
+    ⊎ ((e ≡ refusal.Trace trace.OutOfMemory) ⊎ ((e ≡ refusal.Audit finding.OutOfMemory)
+    ⊎ ((e ≡ refusal.Script script.OutOfMemory) ⊎ (e ≡ refusal.Play play.OutOfMemory))))
 
 -- memory ran out, or a read failed
 unfoldable pub IsShortage : Refusal → Type 0

@@ -3,14 +3,52 @@ use Rattle.std.specs.Prelude.{ℕ, Bool, true, false, List, [], ◌∷◌, ◌++
 use Rattle.std.specs.List.{flat_map}
 use Rattle.bits_core.specs.Audit.{kind_words}
 use Rattle.bits_core.specs.declared.audits.Verdict.{Verdict}
-use Rattle.bits_core.specs.declared.audits.Verdict.TheVariants.{Lawful, Fault}
+use Rattle.bits_core.specs.declared.audits.Verdict.TheVariants as bits
+use Rattle.bits_core.specs.declared.audits.Kind.{Kind}
+use Rattle.ring_audit.specs.Audit.{Statement, Lawful, Fault}
 use Rattle.ring_player.specs.declared.worlds.Report.{Report}
 
--- the verdict in one line; the event at place i, from 0, stands on line i + 2 of its trace
+-- a fault in one line; the event at place i, from 0, stands on line i + 2 of its trace
+abbrev pub fault_line : ℕ → Kind → List ℕ
+fault_line place kind = codes "fault: line " ++ decimal (place + 2) ++ codes ": " ++ kind_words kind ++ 10 ∷ []
+
+-- the line of a lawful history
+abbrev pub lawful_line : List ℕ
+lawful_line = codes "lawful\n"
+
+-- a verdict in one line
 abbrev pub verdict_text_of : Verdict → List ℕ
-verdict_text_of Lawful = codes "lawful" ++ 10 ∷ []
-verdict_text_of (Fault place kind) =
-    codes "fault: line " ++ decimal (place + 2) ++ codes ": " ++ kind_words kind ++ 10 ∷ []
+verdict_text_of bits.Lawful = lawful_line
+verdict_text_of (bits.Fault place kind) = fault_line place kind
+
+-- ---- lines
+
+-- a number after a space
+abbrev pub number_text : ℕ → List ℕ
+number_text n = codes " " ++ decimal n
+
+-- a line of a word and a number
+abbrev pub count_line : List ℕ → ℕ → List ℕ
+count_line word n = word ++ (number_text n ++ codes "\n")
+
+-- a line of a word and the items of a list, each after a space
+abbrev pub list_line : List ℕ → List ℕ → List ℕ
+list_line word items = word ++ (flat_map number_text items ++ codes "\n")
+
+abbrev pub told_line : Bool → List ℕ
+told_line true = codes "told yes\n"
+told_line false = codes "told no\n"
+
+-- ---- the text of a finding
+
+-- the items put and taken, and whether the consumer was told that the ring is closed
+abbrev pub lists_text_of : List ℕ → List ℕ → Bool → List ℕ
+lists_text_of put taken told = lawful_line ++ (list_line (codes "put") put ++ (list_line (codes "taken") taken ++ told_line told))
+
+-- what was found of a history
+abbrev pub audit_text_of : Statement → List ℕ
+audit_text_of (Lawful put taken told) = lists_text_of put taken told
+audit_text_of (Fault place kind) = fault_line place kind
 
 -- ---- the text of a report
 
@@ -35,22 +73,6 @@ summary_of r = record {
   empty = r.empty;
   flicker = r.flicker;
 }
-
--- a number after a space
-abbrev pub number_text : ℕ → List ℕ
-number_text n = codes " " ++ decimal n
-
--- a line of a word and a number
-abbrev pub count_line : List ℕ → ℕ → List ℕ
-count_line word n = word ++ (number_text n ++ codes "\n")
-
--- a line of a word and the items of a list, each after a space
-abbrev pub list_line : List ℕ → List ℕ → List ℕ
-list_line word items = word ++ (flat_map number_text items ++ codes "\n")
-
-abbrev pub told_line : Bool → List ℕ
-told_line true = codes "told yes\n"
-told_line false = codes "told no\n"
 
 -- the lines of a report
 abbrev pub report_text_of : Summary → List ℕ

@@ -15,18 +15,23 @@ const VERSION: &str = "0.1.0";
 const AUDIT_USAGE: &str = "lamport_ring audit [--bits] < TRACE";
 
 const AUDIT_HELP: &str = "\
-A trace has a line `shape CAPACITY MODULUS WIDTH`, and then a line for each
-event of the history:
+A trace has a line `shape CAPACITY MODULUS WIDTH`, with the batch behind these
+where it is over 1, and then a line for each event of the history:
 
   P write s1 1    side P begins to write 1 to bit s1
   P wrote s1      its write ends
   C read s1       side C begins to read bit s1
   C got s1 0      its read ends and answers 0
 
-Bits are s0, s1, .. and r0, r1, .., x, and cJ.I for digit I of cell J. The
-answer is `lawful`, or the first line at fault and why.
+Bits are s0, s1, .. and r0, r1, .., x, and cJ.I for digit I of cell J.
 
-Example:
+The answer is `lawful` where each read's answer is one that safe bits may give
+and both sides follow the ring's programs, with the items put, the items taken
+and whether the consumer was told that the ring is closed. Else it is the first
+line at fault and why. With --bits the programs are left out, and the items too.
+
+Examples:
+  lamport_ring audit < examples/plain_path.trace
   lamport_ring audit --bits < examples/new_old_inversion.trace
 
 Exit status:
@@ -54,7 +59,7 @@ full, how many takes found it empty, and how many reads a write overlapped.
 
 Examples:
   lamport_ring play < examples/plain_path.json
-  lamport_ring play --trace < examples/plain_path.json | lamport_ring audit --bits
+  lamport_ring play --trace < examples/plain_path.json | lamport_ring audit
 
 Exit status:
   0  the script was played
@@ -64,6 +69,7 @@ Exit status:
 const PROGRAM_HELP: &str = "\
 Examples:
   lamport_ring play < examples/plain_path.json
+  lamport_ring audit < examples/plain_path.trace
   lamport_ring audit --bits < examples/new_old_inversion.trace
 
 Exit status:
@@ -92,9 +98,9 @@ fn audit<'a>(alloc: Global) -> Result<Command<'a>, AllocError>
     let bits = Arg::new(alloc, "bits")
         .long("bits")
         .action(ArgAction::SetTrue)
-        .help("Check the bits alone (for now, audit does so without it too)");
+        .help("Check the bits alone, not the programs of the two sides");
     let command = Command::new(alloc, "audit")
-        .about("Audit a trace of accesses to safe bits, from standard input")
+        .about("Audit a trace of a ring's accesses to safe bits, from standard input")
         .override_usage(AUDIT_USAGE)
         .after_help(AUDIT_HELP)
         .arg(bits)?;

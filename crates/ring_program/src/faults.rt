@@ -2,6 +2,7 @@
 ghost use Rattle.std.specs.Prelude.{◌≡◌};
 
 use bits_core::TraceFault;
+use ring_audit::AuditFault;
 use ring_player::{PlayFault, ScriptFault};
 use std::alloc::AllocError;
 use thiserror::Error;
@@ -58,6 +59,9 @@ pub enum Refusal {
     /// The input is no trace.
     #[error(transparent)]
     Trace(TraceFault),
+    /// The audit of a trace stopped.
+    #[error(transparent)]
+    Audit(AuditFault),
     /// The input is no script.
     #[error(transparent)]
     Script(ScriptFault),
@@ -83,6 +87,16 @@ impl From<TraceFault> for Refusal {
 
     fn from(fault: TraceFault) -> Refusal {
         Refusal::Trace(fault)
+    }
+}
+
+impl From<AuditFault> for Refusal {
+    ghost use Rattle.ring_program.specs.declared.faults.Refusal.TheVariants.{Audit};
+
+    ghost from_gives = { λ fault e. e ≡ Audit fault };
+
+    fn from(fault: AuditFault) -> Refusal {
+        Refusal::Audit(fault)
     }
 }
 

@@ -5,6 +5,7 @@
 mod command_line;
 mod faults;
 mod inputs;
+mod lines;
 mod program;
 mod reports;
 mod texts;
@@ -13,4 +14,4 @@ pub use faults::{AppFault, Refusal};
 pub use inputs::{INPUT_LIMIT, load};
 pub use program::{complain, execute, refuse};
 pub use reports::report_text;
-pub use texts::verdict_text;
+pub use texts::{audit_text, verdict_text};

@@ -2,7 +2,8 @@
 ghost use Rattle.std.specs.Prelude.{◌≡◌, ◌≢◌, ◌≤◌, ◌⊎◌, List, ℕ, None, IfOk, IfErr, IfSome, IfNone, OnOk, OnErr, length, map, string_bytes, take};
 ghost use Rattle.std.specs.Io.KnownBytes.{Appends, Keeps};
 ghost use Rattle.clap.specs.Words.{fault_of, kind_of};
-ghost use Rattle.ring_program.specs.Answers.{Answers, AuditsBits, Ends, EndsUnasked, Explains, IsCause, IsShortage, IsStatus, MayEnd, PlaysScript, Refused, Refuses, RefusesScript, RefusesTrace, TracesScript, status_of, verdict_ending_of};
+ghost use Rattle.ring_program.specs.Answers.{Answers, AuditsBits, AuditsPrograms, Ends, EndsUnasked, Explains, IsCause, IsShortage, IsStatus, MayEnd, PlaysScript, Refused, Refuses, RefusesScript, RefusesTrace, TracesScript, finding_ending_of, status_of, verdict_ending_of};
+ghost use Rattle.ring_audit.specs.Audit.{statement};
 ghost use Rattle.ring_program.specs.declared.inputs.TheConstants.{INPUT_LIMIT};
 ghost use Rattle.ring_program.specs.CommandLine.{application, request_of};
 
@@ -10,10 +11,11 @@ use crate::command_line::{Request, read_words};
 use crate::faults::{AppFault, Refusal};
 use crate::inputs::load;
 use crate::reports::report_text;
-use crate::texts::verdict_text;
+use crate::texts::{audit_text, verdict_text};
 use bits_core::{Verdict, audit_bits, read_trace, write_trace};
 use clap::Error;
 use clap::error::ErrorKind;
+use ring_audit::{Finding, audit};
 use ring_player::{Script, play};
 use std::alloc::{AllocGlobal, Allocator, Global};
 use std::fmt::Display;
@@ -57,6 +59,30 @@ fn verdict_ending(verdict: Verdict) -> Ending
         Verdict::Lawful => Ending::Done,
         Verdict::Fault { .. } => Ending::FaultFound,
     }
+}
+
+// How an audit with this finding ends.
+fn finding_ending<A: Allocator>(finding: &Finding<A>) -> Ending
+    ensures { result ≡ finding_ending_of (statement finding.now) }
+{
+    match finding {
+        Finding::Lawful { .. } => Ending::Done,
+        Finding::Fault { .. } => Ending::FaultFound,
+    }
+}
+
+// The answer of `audit` on an input.
+#[tactic(auto, unfolding(crate::specs::Answers::IsShortage))]
+fn audit_answer<A: Allocator + Copy>(alloc: A, input: &[u8]) -> Result<Answer<A>, Refusal>
+    ensures answered { IfOk result (λ answer. AuditsPrograms input.now (string_bytes answer.text) answer.ending) }
+    ensures refused { IfErr result (λ e. IsShortage e ⊎ RefusesTrace input.now e) }
+    ensures unwritten { IfErr result (λ e. e ≢ Refusal.App AppFault.WriteFailed) }
+{
+    let (shape, events) = read_trace(alloc, input)?;
+    let finding = audit(alloc, &shape, events.as_slice())?;
+    let text = audit_text(alloc, &finding)?;
+    let ending = finding_ending(&finding);
+    Ok(Answer { text, ending })
 }
 
 // The answer of `audit --bits` on an input.
@@ -115,8 +141,7 @@ fn trace_answer<A: Allocator + Copy>(
     })
 }
 
-// The answer to a request on an input. `audit` alone answers as `audit --bits` does, until the
-// programs of the two sides are audited too.
+// The answer to a request on an input.
 fn answer_to<A: Allocator + Copy>(
     alloc: A,
     json: Global,
@@ -129,7 +154,8 @@ fn answer_to<A: Allocator + Copy>(
     ensures unwritten { IfErr result (λ e. e ≢ Refusal.App AppFault.WriteFailed) }
 {
     match request {
-        Request::Audit | Request::AuditBits => audit_bits_answer(alloc, input),
+        Request::Audit => audit_answer(alloc, input),
+        Request::AuditBits => audit_bits_answer(alloc, input),
         Request::Play => play_answer(alloc, json, input),
         Request::PlayTrace => trace_answer(alloc, json, input),
     }

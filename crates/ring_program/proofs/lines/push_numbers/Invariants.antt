@@ -1,7 +1,7 @@
 use Rattle.std.proofs.Common.{◌≡◌, ◌++◌, take, string_bytes}
 use Rattle.std.specs.List.{flat_map}
 use Rattle.ring_program.specs.Texts.{number_text}
-use Rattle.ring_program.proofs.reports.push_numbers.Given as goal
+use Rattle.ring_program.proofs.lines.push_numbers.Given as goal
 
 -- the text has gained the numbers so far
 abbrev pub invariant-loop-number : goal.invariant-loop-number
