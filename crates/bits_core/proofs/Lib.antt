@@ -23,3 +23,4 @@ pub mod FlickerLaws
 pub mod OwnEvents
 pub mod MadeLemmas
 pub mod MarkLemmas
+pub mod OwnOpen

@@ -1,5 +1,5 @@
 -- The laws that the layers above stand on.
-use Rattle.std.specs.Prelude.{◌≡◌, ℕ, suc, ◌*◌, ◌<◌, ◌≤◌, ◌⊎◌, ◌↔◌, ◌||◌, Bool, true, Some, List, [], ◌∷◌, ◌++◌, length, take, slice_get, if◌then◌else◌, is_some, unwrap_or}
+use Rattle.std.specs.Prelude.{◌≡◌, ℕ, suc, ◌*◌, ◌<◌, ◌≤◌, ◌⊎◌, ◌↔◌, ◌||◌, Bool, true, false, Some, None, List, [], ◌∷◌, ◌++◌, length, take, slice_get, if◌then◌else◌, is_some, unwrap_or}
 use Rattle.bits_core.specs.declared.events.Side.{Side}
 use Rattle.bits_core.specs.declared.events.Bit.{Bit}
 use Rattle.bits_core.specs.declared.events.Access.{Access}
@@ -10,8 +10,8 @@ use Rattle.bits_core.specs.declared.shapes.Shape.{Shape}
 use Rattle.bits_core.specs.declared.traces.TraceFault.{TraceFault}
 use Rattle.bits_core.specs.Audit.{IsFirstFault, IsVerdict}
 use Rattle.bits_core.specs.Trace.{IsTrace, IsTraceFault}
-use Rattle.bits_core.specs.Bits.{writer, is_by, begun_by, write_of}
-use Rattle.bits_core.specs.History.{open_access, open_write, held, held_at_begin, is_overlapped}
+use Rattle.bits_core.specs.Bits.{reader, writer, is_by, begun_by, write_of}
+use Rattle.bits_core.specs.History.{before_last, open_access, open_write, held, held_at_begin, is_overlapped}
 use Rattle.bits_core.specs.Intervals.{IsAccess, IsHeld, IsOpenAt, IsRead, HasOverlap}
 use Rattle.bits_core.specs.Lawful.{IsLawful}
 use Rattle.bits_core.specs.Memory.{EndsOverlappedRead, is_flicker_at}
@@ -117,3 +117,22 @@ AccessIsMade =
     (s : Side) (h : List Event) (made : List Made) → IsBeginning (own s h) (events_of s made) →
     (access : Access) (start stop : ℕ) → IsAccess h s access start stop →
     (n : ℕ) × (x : Made) × (slice_get made n ≡ Some x) × (access_of x ≡ access) × IsMadeAt s h n x start stop
+
+-- what stands before a side's last event, by one event more
+abbrev pub BeforeLastChanges : Type 0
+BeforeLastChanges = (s : Side) (h : List Event) (e : Event) → before_last s (h ++ e ∷ []) ≡ (if is_by s e then h else before_last s h)
+
+-- the open access of a side follows from its own events
+abbrev pub OpenFromOwn : Type 0
+OpenFromOwn = (s : Side) (h : List Event) → open_access s h ≡ open_access s (own s h)
+
+-- whole accesses, one after the other, leave none open
+abbrev pub MadeLeaveNoneOpen : Type 0
+MadeLeaveNoneOpen = (s : Side) (made : List Made) → open_access s (events_of s made) ≡ None
+
+-- while no write of a bit overlaps its reader's last access, no write of it is open, none was where the access began, and it
+-- holds what it held there
+abbrev pub QuietIsHeld : Type 0
+QuietIsHeld =
+    (shape : Shape) (h : List Event) (s : Side) (b : Bit) → IsLawful shape h → s ≡ reader b → is_overlapped s b h ≡ false →
+    (open_write b h ≡ None) × (open_write b (before_last s h) ≡ None) × (held b h ≡ held_at_begin s b h)

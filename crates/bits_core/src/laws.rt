@@ -1,6 +1,6 @@
 //! The laws of histories and of trace text that the layers above stand on, each the contract of a
 //! function that does nothing.
-ghost use Rattle.bits_core.specs.Laws.{AccessIsMade, BeginningIsLawful, ClockCountsPlaces, EmptyIsLawful, FaultBreaks, FaultyIsNoTrace, FlickerIsByInterval, HeldAtBeginChanges, HeldChanges, HeldIsByInterval, LawfulByOneMore, MadeIsAccess, OneFault, OneReading, OneVerdict, OpenChanges, OpenIsByInterval, OpenWriteChanges, OverlapChanges, OverlapIsByInterval, OverlapIsDecidable, OwnChanges, OwnHasOnePlace, OwnHasPlace, TraceOrFault};
+ghost use Rattle.bits_core.specs.Laws.{AccessIsMade, BeforeLastChanges, BeginningIsLawful, ClockCountsPlaces, EmptyIsLawful, FaultBreaks, FaultyIsNoTrace, FlickerIsByInterval, HeldAtBeginChanges, HeldChanges, HeldIsByInterval, LawfulByOneMore, MadeIsAccess, MadeLeaveNoneOpen, OneFault, OneReading, OneVerdict, OpenChanges, OpenFromOwn, OpenIsByInterval, OpenWriteChanges, OverlapChanges, OverlapIsByInterval, OverlapIsDecidable, OwnChanges, OwnHasOnePlace, OwnHasPlace, QuietIsHeld, TraceOrFault};
 
 /// The history with no event is lawful.
 pub fn empty_is_lawful()
@@ -125,4 +125,24 @@ pub fn made_is_access()
 /// Each access of a side in the history is one that the side made.
 pub fn access_is_made()
     ensures { AccessIsMade }
+{}
+
+/// How what stands before a side's last event changes by one event.
+pub fn before_last_changes()
+    ensures { BeforeLastChanges }
+{}
+
+/// The open access of a side follows from its own events.
+pub fn open_from_own()
+    ensures { OpenFromOwn }
+{}
+
+/// Whole accesses leave none open.
+pub fn made_leave_none_open()
+    ensures { MadeLeaveNoneOpen }
+{}
+
+/// While no write of a bit overlaps its reader's last access, the bit holds what it held where that began.
+pub fn quiet_is_held()
+    ensures { QuietIsHeld }
 {}

@@ -11,11 +11,11 @@ use Rattle.ring_core.specs.declared.consumers.TakeReply.TheVariants as replies
 use Rattle.ring_core.specs.declared.consumers.Stage.{Stage}
 use Rattle.ring_core.specs.declared.consumers.Stage.TheVariants.{Idle, Scanning, Checking, Rescanning, Loading, Counting}
 use Rattle.ring_core.specs.Takes.{Take, Item, ItemAfterClose, Empty, Takes, End, Open, Closed, taken_after, taken_in, take_phrase, take_phrases, end_phrase, take_program, AreTakes}
-use Rattle.ring_core.specs.Items.{events_in, items_taken, Tells, IsTold}
+use Rattle.ring_core.specs.Items.{all_taken, events_in, items_taken, Tells, IsTold}
 use Rattle.ring_core.specs.ConsumerState.{ConsumerState, due_take, takes_at, is_taking}
 use Rattle.ring_core.specs.ConsumerCalls.{ConsumerStands, MadeAt, HasTakeMore, TakeGoesOn, IsReply, last_reply, reply_at_end}
 use Rattle.ring_audit.specs.Sides.{begin_of, open_events}
-use Rattle.ring_audit.specs.TakeReading.{IsTakeReading, TakesStand, HasTaken, all_taken, tells_closed}
+use Rattle.ring_audit.specs.TakeReading.{IsTakeReading, TakesStand, HasTaken, tells_closed}
 use Rattle.ring_audit.proofs.Readers.{open-short, open-long}
 use Rattle.ring_audit.proofs.Beginnings.{begin_is, access_is, events_of-append, length-events}
 

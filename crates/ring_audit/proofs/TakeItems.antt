@@ -5,7 +5,8 @@ use Rattle.ring_core.specs.declared.consumers.TakeReply.{TakeReply}
 use Rattle.ring_core.specs.declared.consumers.TakeReply.TheVariants as replies
 use Rattle.ring_core.specs.Takes.{Take, Item, ItemAfterClose, Empty, Takes}
 use Rattle.ring_core.specs.ConsumerCalls.{reply_to, last_reply, reply_at_end, IsReply, IsAfter}
-use Rattle.ring_audit.specs.TakeReading.{all_taken, brought, step_by}
+use Rattle.ring_core.specs.Items.{all_taken}
+use Rattle.ring_audit.specs.TakeReading.{brought, step_by}
 
 -- the item of a reply
 abbrev pub replied : Option TakeReply → List ℕ

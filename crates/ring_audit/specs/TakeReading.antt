@@ -5,8 +5,8 @@ use Rattle.bits_core.specs.declared.events.Access.{Access}
 use Rattle.bits_core.specs.declared.events.Event.{Event}
 use Rattle.bits_core.specs.declared.shapes.Shape.{Shape}
 use Rattle.bits_core.specs.Made.{Made, events_of, IsBeginning}
-use Rattle.ring_core.specs.Takes.{Take, Item, ItemAfterClose, Empty, Takes, take_program, AreTakes}
-use Rattle.ring_core.specs.Items.{items_taken, IsTold}
+use Rattle.ring_core.specs.Takes.{Takes, take_program, AreTakes}
+use Rattle.ring_core.specs.Items.{all_taken, items_taken, IsTold}
 use Rattle.ring_core.specs.ConsumerState.{ConsumerState, due_take}
 use Rattle.ring_core.specs.ConsumerCalls.{ConsumerStands}
 use Rattle.ring_core.specs.declared.consumers.TakeReply.{TakeReply}
@@ -23,13 +23,6 @@ pub record TakeReading : Type 0 where
 -- the open access is the one that the machine has due
 pub record IsTakeReading (r : TakeReading) : Type 0 where
   pub is_due : (access : Access) → r.open_access ≡ Some access → due_take r.consumer ≡ Some access
-
--- the items that these takes take
-abbrev pub all_taken : List Take → List ℕ
-all_taken [] = []
-all_taken (Item seen item ∷ takes) = item ∷ all_taken takes
-all_taken (ItemAfterClose seen again item ∷ takes) = item ∷ all_taken takes
-all_taken (Empty seen ∷ takes) = all_taken takes
 
 -- the reader stands after these events of the consumer, whose takes that have ended took these items
 pub record TakesStand (shape : Shape) (r : TakeReading) (es : List Event) (items : List ℕ) : Type 0 where

@@ -53,3 +53,4 @@ pub mod Witness
 pub mod Alike
 pub mod LastBits
 pub mod PutParts
+pub mod WholeCalls

@@ -80,7 +80,7 @@ take_total shape calls =
     total_is C shape first_count (take_looks calls.takes calls.end) ∙ ap (λ l. 2 * length l) (sym (takes_as_looks shape 0 calls.takes calls.end))
 
 -- the items of all puts
-all_is : (shape : Shape) (c : Count) (puts : List Put) → all_items (spans P shape c (put_looks puts)) ≡ all_put puts
+pub all_is : (shape : Shape) (c : Count) (puts : List Put) → all_items (spans P shape c (put_looks puts)) ≡ all_put puts
 all_is shape c [] = refl
 all_is shape c (Stored seen items ∷ puts) = ap (λ l. items ++ l) (all_is shape (stored_after shape c (Stored seen items)) puts)
 all_is shape c (Full seen ∷ puts) = all_is shape c puts

@@ -26,6 +26,13 @@ all_put [] = []
 all_put (Stored seen items ∷ puts) = items ++ all_put puts
 all_put (Full seen ∷ puts) = all_put puts
 
+-- the items of all these takes
+abbrev pub all_taken : List Take → List ℕ
+all_taken [] = []
+all_taken (Item seen item ∷ takes) = item ∷ all_taken takes
+all_taken (ItemAfterClose seen again item ∷ takes) = item ∷ all_taken takes
+all_taken (Empty seen ∷ takes) = all_taken takes
+
 -- the items of the takes that have ended within the first t events, where k items were taken before them
 abbrev pub items_taken : Shape → ℕ → List Take → ℕ → List ℕ
 items_taken shape k [] t = []

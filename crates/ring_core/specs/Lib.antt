@@ -10,6 +10,7 @@ pub mod Following
 pub mod PutParts
 pub mod Calls
 pub mod CallsAt
+pub mod Whole
 pub mod ProducerState
 pub mod ProducerCalls
 pub mod ConsumerState

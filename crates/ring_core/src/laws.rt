@@ -8,6 +8,7 @@ ghost use Rattle.ring_core.specs.Over.{PutsOverAreRead, TakesOverAreRead};
 ghost use Rattle.ring_core.specs.PutParts.{CountsOn, ScansOn, ScansOrCloses, StoresOn, StoresOrCounts};
 ghost use Rattle.ring_core.specs.Readings.{PutsAreFirst, PutsAreRead, TakesAreFirst, TakesAreRead};
 ghost use Rattle.ring_core.specs.RingLaw.{CellsAreQuiet, ClosedIsTrue, ClosedStays, EmptyIsFresh, FillIsFresh, FullIsFresh, HasARun, InEveryRun, IsWithin, PutsAreInRange, PutsAreSeen, RunsByPut, RunsByTake, TakenArePrefix, TakesAreInRange, TakesAreSeen, TakesMatchPuts, WordsAreQuiet};
+ghost use Rattle.ring_core.specs.Whole.{WholePutsCount, WholeTakesCount};
 
 use bits_core::laws::{
     access_is_made, clock_counts_places, empty_is_lawful, lawful_by_one_more, made_is_access,
@@ -63,6 +64,13 @@ pub fn calls_over_are_read()
 {
     calls_are_first();
 }
+
+/// Where the events of a side are those of whole calls, all items of these were put or taken, and as many are counted
+/// by the count writes that have begun.
+pub fn whole_calls_count()
+    ensures puts { WholePutsCount }
+    ensures takes { WholeTakesCount }
+{}
 
 /// The bits of a count show how many items it has counted, modulo the modulus; and each count write of a call has an
 /// access.

@@ -1,0 +1,115 @@
+-- What is open, by one event after another: from a side's own events, after whole accesses, and while nothing overlaps.
+use Rattle.std.proofs.Common.{◌≡◌, Bool, true, false, ◌||◌, cond, Option, Some, None, List, [], ◌∷◌, ◌++◌, refl, ap, sym, subst, ◌∙◌, append-nil, append_assoc}
+use Rattle.std.specs.Prelude.{is_some, unwrap_or, if◌then◌else◌}
+use Rattle.std.proofs.lemmas.Bool.{or_parts, false≢true}
+use Rattle.bits_core.specs.declared.events.Side.{Side}
+use Rattle.bits_core.specs.declared.events.Side.TheVariants.{P, C}
+use Rattle.bits_core.specs.declared.events.Bit.{Bit}
+use Rattle.bits_core.specs.declared.events.Event.{Event}
+use Rattle.bits_core.specs.declared.shapes.Shape.{Shape}
+use Rattle.bits_core.specs.Bits.{other, writer, reader, same_side, is_by, begun_by, write_of}
+use Rattle.bits_core.specs.History.{before_last, open_access, open_write, held, held_at_begin, is_overlapped}
+use Rattle.bits_core.specs.Lawful.{IsLawful}
+use Rattle.bits_core.specs.Made.{Made, Read, Write, begin_event, end_event, events_of, own}
+use Rattle.bits_core.specs.Laws.{OpenFromOwn, MadeLeaveNoneOpen, QuietIsHeld}
+use Rattle.bits_core.proofs.Histories.{before_last-push, open_access-push}
+use Rattle.bits_core.proofs.Changes.{same_side-same, open_write-push, is_overlapped-push}
+use Rattle.bits_core.proofs.LawProofs.{lawful_by_one_more, held_changes}
+use Rattle.bits_core.proofs.OwnEvents.{by_case, own_changes}
+
+-- by one event more
+grow : (Q : List Event → Type 0) → ((h : List Event) (e : Event) → Q h → Q (h ++ e ∷ [])) → (h more : List Event) → Q h → Q (h ++ more)
+grow Q step h [] q = subst Q (sym (append-nil h)) q
+grow Q step h (e ∷ more) q = subst Q (append_assoc h (e ∷ []) more) (grow Q step (h ++ e ∷ []) more (step h e q))
+
+by_events : (Q : List Event → Type 0) → Q [] → ((h : List Event) (e : Event) → Q h → Q (h ++ e ∷ [])) → (h : List Event) → Q h
+by_events Q none step h = grow Q step [] h none
+
+pick : {A : Type 0} → (t v : Bool) (x y : A) → t ≡ v → (if t then x else y) ≡ (if v then x else y)
+pick t v x y e = ap (λ b. if b then x else y) e
+
+-- the open access of a side, from its own events
+pub open_from_own : OpenFromOwn
+open_from_own s = by_events (λ h. open_access s h ≡ open_access s (own s h)) refl
+    (λ h e was. by_case (is_by s e)
+    (λ by.
+    (open_access-push s h e ∙ pick (is_by s e) true (begun_by e) (open_access s h) by) ∙
+    sym (ap (open_access s) (own_changes s h e ∙ pick (is_by s e) true (own s h ++ e ∷ []) (own s h) by) ∙ open_access-push s (own s h) e ∙ pick (is_by s e) true (begun_by e) (open_access s (own s h)) by))
+    (λ by.
+    (open_access-push s h e ∙ pick (is_by s e) false (begun_by e) (open_access s h) by) ∙ was ∙
+    sym (ap (open_access s) (own_changes s h e ∙ pick (is_by s e) false (own s h ++ e ∷ []) (own s h) by))))
+
+-- whole accesses
+by_end : (s : Side) (x : Made) → is_by s (end_event s x) ≡ true
+by_end s (Read b v) = same_side-same s
+by_end s (Write b v) = same_side-same s
+
+begun_end : (s : Side) (x : Made) → begun_by (end_event s x) ≡ None
+begun_end s (Read b v) = refl
+begun_end s (Write b v) = refl
+
+none_behind : (s : Side) (before : List Event) (made : List Made) → open_access s before ≡ None → open_access s (before ++ events_of s made) ≡ None
+none_behind s before [] is = ap (open_access s) (append-nil before) ∙ is
+none_behind s before (x ∷ made) is =
+    let begun : List Event = before ++ begin_event s x ∷ [] in
+    let none : open_access s (begun ++ end_event s x ∷ []) ≡ None =
+        open_access-push s begun (end_event s x) ∙ pick (is_by s (end_event s x)) true (begun_by (end_event s x)) (open_access s begun) (by_end s x) ∙ begun_end s x in
+    ap (open_access s) (sym (append_assoc begun (end_event s x ∷ []) (events_of s made) ∙ append_assoc before (begin_event s x ∷ []) (end_event s x ∷ events_of s made)))
+    ∙ none_behind s (begun ++ end_event s x ∷ []) made none
+
+pub made_leave_none_open : MadeLeaveNoneOpen
+made_leave_none_open s made = none_behind s [] made refl
+
+-- ---- while nothing overlaps
+
+not_open : {A : Type 0} → (o : Option A) → is_some o ≡ false → o ≡ None
+not_open None e = refl
+not_open (Some v) e = absurd (false≢true (sym e))
+
+reads_not : (b : Bit) (s : Side) → s ≡ reader b → same_side (writer b) s ≡ false
+reads_not b s is = ap (same_side (writer b)) is ∙ go (writer b)
+  where
+    go : (y : Side) → same_side y (other y) ≡ false
+    go P = refl
+    go C = refl
+
+same_true : (x y : Side) → same_side x y ≡ true → x ≡ y
+same_true P P e = refl
+same_true P C e = absurd (false≢true e)
+same_true C P e = absurd (false≢true e)
+same_true C C e = refl
+
+abbrev Quiet : Side → Bit → List Event → Type 0
+Quiet s b h = is_overlapped s b h ≡ false → (open_write b h ≡ None) × (open_write b (before_last s h) ≡ None) × (held b h ≡ held b (before_last s h))
+
+quiet : (shape : Shape) (s : Side) (b : Bit) → s ≡ reader b → (h : List Event) → IsLawful shape h → Quiet s b h
+quiet shape s b is = by_events (λ h. IsLawful shape h → Quiet s b h)
+    (λ lawful over. (refl, refl, refl))
+    (λ h e was more over.
+    let lawful : IsLawful shape h = ((lawful_by_one_more shape h e).0 more).0 in
+    let w : Side = writer b in
+    by_case (is_by s e)
+    (λ by.
+    let none : open_write b h ≡ None = not_open (open_write b h) (sym (is_overlapped-push s b h e ∙ pick (is_by s e) true (is_some (open_write b h)) (is_overlapped s b h || is_some (write_of b e)) by) ∙ over) in
+    let not_w : is_by w e ≡ false = ap (same_side w) (sym (same_true s e.side by)) ∙ reads_not b s is in
+    let before : before_last s (h ++ e ∷ []) ≡ h = before_last-push s h e ∙ pick (is_by s e) true h (before_last s h) by in (
+      open_write-push b h e ∙ pick (is_by w e) false (write_of b e) (open_write b h) not_w ∙ none,
+      ap (open_write b) before ∙ none,
+      held_changes shape b h e lawful ∙ pick (is_by w e) false (unwrap_or (open_write b h) (held b h)) (held b h) not_w ∙ sym (ap (held b) before),
+    ))
+    (λ by.
+    let parts = or_parts (is_overlapped s b h) (is_some (write_of b e)) (sym (is_overlapped-push s b h e ∙ pick (is_by s e) false (is_some (open_write b h)) (is_overlapped s b h || is_some (write_of b e)) by) ∙ over) in
+    let q = was lawful parts.0 in
+    let begun : write_of b e ≡ None = not_open (write_of b e) parts.1 in
+    let before : before_last s (h ++ e ∷ []) ≡ before_last s h = before_last-push s h e ∙ pick (is_by s e) false h (before_last s h) by in (
+      open_write-push b h e ∙ (λ i. if is_by w e then begun i else q.0 i) ∙ either (is_by w e) None,
+      ap (open_write b) before ∙ q.1,
+      held_changes shape b h e lawful ∙ (λ i. if is_by w e then unwrap_or (q.0 i) (held b h) else held b h) ∙ either (is_by w e) (held b h) ∙ q.2 ∙ sym (ap (held b) before),
+    )))
+  where
+    either : {A : Type 0} → (t : Bool) (x : A) → (if t then x else x) ≡ x
+    either true x = refl
+    either false x = refl
+
+pub quiet_is_held : QuietIsHeld
+quiet_is_held shape h s b lawful is over = quiet shape s b is h lawful over
