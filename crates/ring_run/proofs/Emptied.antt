@@ -1,0 +1,336 @@
+-- What a take that finds the ring empty says of the puts that its taker knows.
+use Rattle.std.proofs.Common.{◌≡◌, ◌⊎◌, inl, inr, ⊎_elim, ℕ, zero, suc, ◌+◌, ◌*◌, ◌<◌, ◌≤◌, Bool, true, false, Some, None, List, [], ◌∷◌, ◌++◌, length, take, refl, ap, sym, subst, ◌∙◌, arith, append-nil, append_assoc, length-append}
+use Rattle.std.specs.Prelude.{slice_get}
+use native.Mathlib.Decide.{dec_lt}
+use Rattle.bits_core.specs.declared.events.Side.{Side}
+use Rattle.bits_core.specs.declared.events.Side.TheVariants.{P, C}
+use Rattle.bits_core.specs.declared.events.Bit.TheVariants.{X}
+use Rattle.bits_core.specs.declared.events.Event.{Event}
+use Rattle.bits_core.specs.declared.shapes.Shape.{Shape}
+use Rattle.bits_core.specs.Bits.{is_by}
+use Rattle.bits_core.specs.Shape.{width_of}
+use Rattle.bits_core.specs.Laws.{MadeIsAccess}
+use Rattle.bits_core.specs.Made.{Made, Write, events_of, own, clock, place_of, IsPlaceOf, IsBeginning}
+use Rattle.ring_core.specs.declared.consumers.TakeReply.TheVariants as reply
+use Rattle.ring_core.specs.Counts.{Count, first_count, past}
+use Rattle.ring_core.specs.Puts.{Put, Stored, Full, Puts, stored_in, stored_after, put_phrase, put_phrases, close_phrase, put_program}
+use Rattle.ring_core.specs.Takes.{Take, Item, ItemAfterClose, Empty, End, Open, Takes, taken_in, taken_after, take_phrase, take_phrases, end_phrase, take_program}
+use Rattle.ring_core.specs.Items.{events_in, all_put, all_taken}
+use Rattle.ring_core.specs.CallsAt.{IsTakeAt, scan_events, StoresItem, item_of}
+use Rattle.ring_core.specs.Readings.{PutsAreFirst, TakesAreRead}
+use Rattle.ring_core.specs.RingLaw.{IsRun, InEveryRun, IsEmptyAt, EmptyIsFresh}
+use Rattle.ring_core.specs.ConsumerCalls as takes
+use Rattle.ring_core.specs.ConsumerCalls.{and_take, tells, reply_at_end}
+use Rattle.ring_run.specs.Rule.{Stands}
+use Rattle.ring_run.specs.Ends.{HasPuts, HasTakes, TakeAdds}
+use Rattle.ring_run.specs.Laws.{EmptyAfterMeeting, TakesAdd}
+use Rattle.ring_run.proofs.Histories.{by_case}
+use Rattle.ring_run.proofs.Lists.{events_of-append, length-events_of}
+use Rattle.ring_run.proofs.TakerCalls.{last-snoc}
+
+-- ---- the last item of some puts
+
+last_of : (items : List ℕ) → (length items ≡ 0) ⊎ ((index : ℕ) × (item : ℕ) × (slice_get items index ≡ Some item) × (suc index ≡ length items))
+last_of [] = inl refl
+last_of (x ∷ []) = inr (0, x, refl, refl)
+last_of (x ∷ y ∷ items) = ⊎_elim (λ none. absurd (omega (arith, none))) (λ r. inr (suc r.0, r.1, r.2, ap suc r.3)) (last_of (y ∷ items))
+
+past_is : (n : ℕ) (items : List ℕ) → past n items ≡ n + length items
+past_is n [] = omega arith
+past_is n (x ∷ items) = omega (arith, past_is (suc n) items)
+
+-- the put that stored it, behind n items
+record LastStored (n : ℕ) (puts : List Put) : Type 0 where
+  pub before : List Put
+  pub seen : ℕ
+  pub items : List ℕ
+  pub after : List Put
+  pub among : puts ≡ before ++ Stored seen items ∷ after
+  pub index : ℕ
+  pub item : ℕ
+  pub listed : slice_get items index ≡ Some item
+  pub number : suc (stored_in n before + index) ≡ n + length (all_put puts)
+
+last_stored : (n : ℕ) (puts : List Put) → (length (all_put puts) ≡ 0) ⊎ LastStored n puts
+last_stored n [] = inl refl
+last_stored n (Full seen ∷ puts) = ⊎_elim
+    (λ none. inl none)
+    (λ (r : LastStored n puts). inr (record { before = Full seen ∷ r.before; seen = r.seen; items = r.items; after = r.after; among = ap (λ l. Full seen ∷ l) r.among; index = r.index; item = r.item; listed = r.listed; number = r.number }))
+    (last_stored n puts)
+last_stored n (Stored seen items ∷ puts) =
+    let long : length (items ++ all_put puts) ≡ length items + length (all_put puts) = length-append items (all_put puts) in
+    ⊎_elim
+    (λ (none : length (all_put puts) ≡ 0). ⊎_elim
+    (λ (nothing : length items ≡ 0). inl (omega (arith, long, none, nothing)))
+    (λ here. inr (record { before = []; seen = seen; items = items; after = puts; among = refl; index = here.0; item = here.1; listed = here.2; number = omega (arith, long, none, here.3) }))
+    (last_of items))
+    (λ (r : LastStored (past n items) puts).
+    let number : suc (stored_in (past n items) r.before + r.index) ≡ n + length (items ++ all_put puts) = omega (arith, r.number, past_is n items, long) in
+    inr (record { before = Stored seen items ∷ r.before; seen = r.seen; items = r.items; after = r.after; among = ap (λ l. Stored seen items ∷ l) r.among; index = r.index; item = r.item; listed = r.listed; number = number }))
+    (last_stored (past n items) puts)
+
+-- more puts have more accesses
+grows : (shape : Shape) (c : Count) (xs ys : List Put) → length (put_phrases shape c xs) ≤ length (put_phrases shape c (xs ++ ys))
+grows shape c [] ys = omega arith
+grows shape c (x ∷ xs) ys =
+    let next : Count = stored_after shape c x in
+    omega (arith, length-append (put_phrase shape c x) (put_phrases shape next xs), length-append (put_phrase shape c x) (put_phrases shape next (xs ++ ys)), grows shape next xs ys)
+
+-- that item, among calls which begin with these puts
+record StoresLast (shape : Shape) (puts : List Put) (calls : Puts) : Type 0 where
+  pub j : ℕ
+  pub item : ℕ
+  pub word : ℕ
+  pub stop : ℕ
+  pub stores : StoresItem shape calls j item word stop
+  pub last : suc j ≡ length (all_put puts)
+  pub within : stop ≤ events_in (put_phrases shape first_count puts)
+
+stores_last : (shape : Shape) (puts : List Put) (calls : Puts) (more : List Put) → calls.puts ≡ puts ++ more → LastStored 0 puts → StoresLast shape puts calls
+stores_last shape puts calls more is r =
+    let x : Put = Stored r.seen r.items in
+    let start : ℕ = events_in (put_phrases shape first_count r.before) in
+    let stop : ℕ = events_in (put_phrases shape first_count (r.before ++ x ∷ [])) in
+    let longer : stop ≤ events_in (put_phrases shape first_count ((r.before ++ x ∷ []) ++ r.after)) = omega (arith, grows shape first_count (r.before ++ x ∷ []) r.after) in
+    record {
+      j = stored_in 0 r.before + r.index;
+      item = r.item;
+      word = start + scan_events P r.seen + 2 * (r.index * width_of shape);
+      stop = stop;
+      stores = record {
+        seen = r.seen;
+        items = r.items;
+        n = stored_in 0 r.before;
+        start = start;
+        index = r.index;
+        is_put = record {
+          before = r.before;
+          after = r.after ++ more;
+          among = is ∙ ap (λ l. l ++ more) r.among ∙ append_assoc r.before (x ∷ r.after) more;
+          number = refl;
+          starts = refl;
+          stops = refl;
+        };
+        listed = r.listed;
+        number = refl;
+        writes = refl;
+      };
+      last = omega (arith, r.number);
+      within = subst (λ l. stop ≤ events_in (put_phrases shape first_count l)) (append_assoc r.before (x ∷ []) r.after ∙ sym r.among) longer;
+    }
+
+-- ---- how many items are taken
+
+counted : (k : ℕ) (before : List Take) (x : Take) (after : List Take) (item : ℕ) → item_of x ≡ Some item → suc (taken_in k before) ≤ k + length (all_taken (before ++ x ∷ after))
+counted k [] (Item seen i) after item has = omega arith
+counted k [] (ItemAfterClose seen again i) after item has = omega arith
+counted k [] (Empty seen) after item has = absurd (cc)
+counted k (Item seen i ∷ before) x after item has = omega (arith, counted (suc k) before x after item has)
+counted k (ItemAfterClose seen again i ∷ before) x after item has = omega (arith, counted (suc k) before x after item has)
+counted k (Empty seen ∷ before) x after item has = counted k before x after item has
+
+none_more : (xs : List Take) (seen : ℕ) → all_taken (xs ++ Empty seen ∷ []) ≡ all_taken xs
+none_more [] seen = refl
+none_more (Item s i ∷ xs) seen = ap (λ l. i ∷ l) (none_more xs seen)
+none_more (ItemAfterClose s a i ∷ xs) seen = ap (λ l. i ∷ l) (none_more xs seen)
+none_more (Empty s ∷ xs) seen = none_more xs seen
+
+-- ---- own events
+
+own_mine : (s : Side) (e : Event) (h : List Event) → is_by s e ≡ true → own s (e ∷ h) ≡ e ∷ own s h
+own_mine s e h by = rw by refl
+
+own_theirs : (s : Side) (e : Event) (h : List Event) → is_by s e ≡ false → own s (e ∷ h) ≡ own s h
+own_theirs s e h by = rw by refl
+
+own_append : (s : Side) (h more : List Event) → own s (h ++ more) ≡ own s h ++ own s more
+own_append s [] more = refl
+own_append s (e ∷ h) more = by_case (is_by s e)
+    (λ by. own_mine s e (h ++ more) by ∙ ap (λ l. e ∷ l) (own_append s h more) ∙ sym (ap (λ l. l ++ own s more) (own_mine s e h by)))
+    (λ by. own_theirs s e (h ++ more) by ∙ own_append s h more ∙ sym (ap (λ l. l ++ own s more) (own_theirs s e h by)))
+
+-- before a place of a beginning of the history a side has no more events than in that, and behind it no fewer
+inside : (s : Side) (known more : List Event) (place : ℕ) → place ≤ length known → clock s (known ++ more) place ≤ length (own s known)
+inside s known more zero l = omega arith
+inside s [] more (suc n) l = absurd (omega (arith, l))
+inside s (e ∷ known) more (suc n) l =
+    let rest : length (own s (take n (known ++ more))) ≤ length (own s known) = inside s known more n (omega (arith, l)) in
+    by_case (is_by s e)
+    (λ by. omega (arith, rest, ap length (own_mine s e (take n (known ++ more)) by), ap length (own_mine s e known by)))
+    (λ by. omega (arith, rest, ap length (own_theirs s e (take n (known ++ more)) by), ap length (own_theirs s e known by)))
+
+behind : (s : Side) (known more : List Event) (place : ℕ) → length known ≤ place → length (own s known) ≤ clock s (known ++ more) place
+behind s [] more place l = omega arith
+behind s (e ∷ known) more zero l = absurd (omega (arith, l))
+behind s (e ∷ known) more (suc n) l =
+    let rest : length (own s known) ≤ length (own s (take n (known ++ more))) = behind s known more n (omega (arith, l)) in
+    by_case (is_by s e)
+    (λ by. omega (arith, rest, ap length (own_mine s e (take n (known ++ more)) by), ap length (own_mine s e known by)))
+    (λ by. omega (arith, rest, ap length (own_theirs s e (take n (known ++ more)) by), ap length (own_theirs s e known by)))
+
+there : (xs : List Made) (x : Made) (ys : List Made) → slice_get (xs ++ x ∷ ys) (length xs) ≡ Some x
+there [] x ys = refl
+there (y ∷ xs) x ys = there xs x ys
+
+-- ---- the take that finds the ring empty
+
+module _ (law : InEveryRun EmptyIsFresh) (first : PutsAreFirst) (made : MadeIsAccess)
+    (shape : Shape) (known before after : List Event) (puts : Puts) (calls : Takes) (seen : ℕ) (is_open : calls.end ≡ Open)
+    (whole : HasPuts shape (own P known) puts) (was : HasTakes shape before calls) (begins : IsBeginning (own C known) before)
+    (st : Stands shape C after known) (has : HasTakes shape after (and_take calls (Empty seen))) where
+  abbrev h : List Event
+  h = st.history
+
+  abbrev more : Takes
+  more = and_take calls (Empty seen)
+
+  abbrev rest : List Event
+  rest = st.begins.0
+
+  h_is : known ++ rest ≡ h
+  h_is = st.begins.1
+
+  run : IsRun shape h st.ring.puts more
+  run = record {
+    lawful = st.ring.run.lawful;
+    puts_follow = st.ring.run.puts_follow;
+    takes_follow = record { are = has.are; events = ([], append-nil (own C h) ∙ st.list_is ∙ has.list_is) };
+  }
+
+  start : ℕ
+  start = events_in (take_phrases shape 0 calls.takes)
+
+  is_take : IsTakeAt shape more (Empty seen) (taken_in 0 calls.takes) start (events_in (take_phrases shape 0 (calls.takes ++ Empty seen ∷ [])))
+  unfolding start
+  is_take = record { before = calls.takes; after = []; among = refl; number = refl; starts = refl; stops = refl }
+
+  over : events_in (take_phrases shape 0 (calls.takes ++ Empty seen ∷ [])) ≤ length (own C h)
+  over =
+      omega (arith, ap length (st.list_is ∙ has.list_is), length-events_of C (take_program shape more), length-append (take_phrases shape 0 (calls.takes ++ Empty seen ∷ [])) [])
+
+  fresh : (first : ℕ) × IsPlaceOf C h start first × IsEmptyAt shape h st.ring.puts more first
+  fresh = law shape h st.ring.puts more run seen (taken_in 0 calls.takes) start (events_in (take_phrases shape 0 (calls.takes ++ Empty seen ∷ []))) is_take over
+
+  abbrev place : ℕ
+  place = fresh.0
+
+  before_long : length before ≡ start
+  unfolding start
+  before_long =
+      ap length was.list_is ∙ length-events_of C (take_program shape calls) ∙
+      ap (λ (l : List Made). 2 * length l) (ap (λ (e : End). take_phrases shape 0 calls.takes ++ end_phrase e) is_open ∙ append-nil (take_phrases shape 0 calls.takes))
+
+  -- it began behind what is known
+  later : length known ≤ place
+  later = go (dec_lt place (length known))
+    where
+      go : Dec (place < length known) → length known ≤ place
+      go (yes l) =
+          let few : clock C (known ++ rest) (suc place) ≤ length (own C known) = inside C known rest (suc place) (omega (arith, l)) in
+          let past : clock C h (suc place) ≡ suc start = fresh.1.past in
+          absurd (omega (arith, few, ap (λ l. clock C l (suc place)) h_is, past, before_long, ap length begins.1, length-append (own C known) begins.0))
+      go (no l) = omega (arith, l)
+
+  own_known : IsBeginning (own P known) (own P h)
+  own_known = (own P rest, sym (own_append P known rest) ∙ ap (own P) h_is)
+
+  are_first : ((more : List Put) × (st.ring.puts.puts ≡ puts.puts ++ more)) × (puts.closes ≡ true → puts ≡ st.ring.puts)
+  are_first =
+      let follows = st.ring.run.puts_follow in
+      let both : List Event = own_known.0 ++ follows.events.0 in
+      first shape puts st.ring.puts whole.are follows.are
+      (both, ap (λ l. l ++ both) (sym whole.list_is) ∙ sym (append_assoc (own P known) own_known.0 follows.events.0) ∙ ap (λ l. l ++ follows.events.0) own_known.1 ∙ follows.events.1)
+
+  known_long : length (own P known) ≡ 2 * (length (put_phrases shape first_count puts.puts) + length (close_phrase puts.closes))
+  known_long =
+      omega (arith, ap length whole.list_is, length-events_of P (put_program shape puts), length-append (put_phrases shape first_count puts.puts) (close_phrase puts.closes))
+
+  behind_known : (place' : ℕ) → length known ≤ place' → length (own P known) ≤ clock P h place'
+  behind_known place' l = subst (λ l. length (own P known) ≤ clock P l place') h_is (behind P known rest place' l)
+
+  -- the last item of the known puts was taken before it
+  pub items : length (all_put puts.puts) ≤ length (all_taken calls.takes)
+  items = ⊎_elim
+      (λ (none : length (all_put puts.puts) ≡ 0). omega (arith, none))
+      (λ (r : LastStored 0 puts.puts).
+      let s = stores_last shape puts.puts st.ring.puts are_first.0.0 are_first.0.1 r in
+      let ended : s.stop ≤ clock P h place = omega (arith, s.within, known_long, behind_known place later) in
+      let (word, past, taken, done) = fresh.2.all_taken s.j s.item s.word s.stop s.stores ended in
+      let is = taken.is_take in
+      let few : suc (taken_in 0 is.before) ≤ length (all_taken (is.before ++ taken.take ∷ is.after)) = omega (arith, counted 0 is.before taken.take is.after s.item taken.has) in
+      omega (arith, s.last, is.number, few, ap (λ l. length (all_taken l)) is.among, ap length (none_more calls.takes seen)))
+      (last_stored 0 puts.puts)
+
+  -- and no close is among them
+  pub open_yet : puts.closes ≡ false
+  open_yet = by_case (puts.closes)
+      (λ closes.
+      let phrases : List Made = put_phrases shape first_count puts.puts in
+      let program : put_program shape st.ring.puts ≡ phrases ++ Write X true ∷ [] = ap (put_program shape) (sym (are_first.1 closes)) ∙ ap (λ b. phrases ++ close_phrase b) closes in
+      let long : length (own P known) ≡ 2 * (length phrases + 1) = known_long ∙ ap (λ b. 2 * (length phrases + length (close_phrase b))) closes in
+      let more_own : length (own P known) ≤ length (own P h) = omega (arith, ap length own_known.1, length-append (own P known) own_known.0) in
+      let (stop, at) = made P h (put_program shape st.ring.puts) st.ring.run.puts_follow.events (length phrases) (Write X true)
+      (ap (λ l. slice_get l (length phrases)) program ∙ there phrases (Write X true) []) (omega (arith, long, more_own)) in
+      let ended = (at.ended (omega (arith, long, more_own))).0 in
+      let not_before : ¬ (stop < place) = fresh.2.not_closed true (place_of P h (2 * length phrases)) stop at.access in
+      let begun : length known ≤ stop = omega (arith, not_before, later) in
+      absurd (omega (arith, long, behind_known stop begun, ended.before)))
+      (λ no_close. no_close)
+
+-- ---- the law
+
+empty_of : (x : Take) → takes.reply_to x ≡ reply.Empty → (seen : ℕ) × (x ≡ Empty seen)
+empty_of (Item seen item) e = absurd (cc)
+empty_of (ItemAfterClose seen again item) e = absurd (cc)
+empty_of (Empty seen) e = (seen, refl)
+
+-- the take that was answered so
+empty_adds :
+    (shape : Shape) (before after : List Event) (calls : Takes) (told : Bool) → TakeAdds told shape calls reply.Empty before after →
+    (seen : ℕ) × (calls.end ≡ Open) × HasTakes shape after (and_take calls (Empty seen))
+empty_adds shape before after calls true a = absurd (cc)
+empty_adds shape before after calls false (more, is_more, replied, has) = ⊎_elim
+    (λ (one : (x : Take) × (more ≡ and_take calls x)).
+    let q : Some reply.Empty ≡ Some (takes.reply_to one.0) = replied ∙ ap (λ (t : Takes). reply_at_end t.end t.takes) one.1 ∙ last-snoc None calls.takes one.0 in
+    let (seen, x_is) = empty_of one.0 (let e : reply.Empty ≡ takes.reply_to one.0 = cc in sym e) in
+    (seen, is_more.not_over, subst (HasTakes shape after) (one.1 ∙ ap (and_take calls) x_is) has))
+    (λ told. absurd (let q : Some reply.Empty ≡ Some reply.Closed = replied ∙ ap (λ (t : Takes). reply_at_end t.end t.takes) told.2 in cc))
+    is_more.is_one_more
+
+pub empty-after : InEveryRun EmptyIsFresh → PutsAreFirst → TakesAreRead → MadeIsAccess → EmptyAfterMeeting
+empty-after law first read made shape known before after puts calls whole was begins st taken =
+    let same : taken.calls ≡ calls = read shape taken.calls calls taken.before_is.are was.are (sym taken.before_is.list_is ∙ was.list_is) in
+    let adds : TakeAdds (tells calls.end) shape calls reply.Empty before after = subst (λ (t : Takes). TakeAdds (tells t.end) shape t reply.Empty before after) same taken.adds in
+    let (seen, is_open, has) = empty_adds shape before after calls (tells calls.end) adds in (
+      items law first made shape known before after puts calls seen is_open whole was begins st has,
+      open_yet law first made shape known before after puts calls seen is_open whole was begins st has,
+    )
+
+-- ---- a take adds to the list
+
+take_phrases-append : (shape : Shape) (k : ℕ) (xs ys : List Take) → take_phrases shape k (xs ++ ys) ≡ take_phrases shape k xs ++ take_phrases shape (taken_in k xs) ys
+take_phrases-append shape k [] ys = refl
+take_phrases-append shape k (x ∷ xs) ys =
+    ap (λ l. take_phrase shape k x ++ l) (take_phrases-append shape (taken_after k x) xs ys) ∙
+    sym (append_assoc (take_phrase shape k x) (take_phrases shape (taken_after k x) xs) (take_phrases shape (taken_in (taken_after k x) xs) ys))
+
+-- the accesses of calls that are not over begin those of one take more
+one_more : (shape : Shape) (calls more : Takes) → takes.HasTakeMore shape calls more → (rest : List Made) × (take_program shape more ≡ take_program shape calls ++ rest)
+one_more shape calls more is_more =
+    let phrases : List Made = take_phrases shape 0 calls.takes in
+    let program : take_program shape calls ≡ phrases = ap (λ (e : End). phrases ++ end_phrase e) is_more.not_over ∙ append-nil phrases in
+    ⊎_elim
+    (λ (one : (x : Take) × (more ≡ and_take calls x)).
+    let last : List Made = take_phrases shape (taken_in 0 calls.takes) (one.0 ∷ []) in
+    (last, ap (take_program shape) one.1 ∙ append-nil (take_phrases shape 0 (calls.takes ++ one.0 ∷ [])) ∙ take_phrases-append shape 0 calls.takes (one.0 ∷ []) ∙ ap (λ l. l ++ last) (sym program)))
+    (λ told. (end_phrase (takes.and_end calls told.0 told.1).end, ap (take_program shape) told.2 ∙ ap (λ l. l ++ end_phrase (takes.and_end calls told.0 told.1).end) (sym program)))
+    is_more.is_one_more
+
+pub takes-add : TakesAdd
+takes-add shape before after answer taken = go (tells taken.calls.end) taken.adds
+  where
+    go : (told : Bool) → TakeAdds told shape taken.calls answer before after → IsBeginning before after
+    go true a = ([], append-nil before ∙ sym a.1)
+    go false (more, is_more, replied, has) =
+        let (rest, is) = one_more shape taken.calls more is_more in
+        (events_of C rest, ap (λ l. l ++ events_of C rest) taken.before_is.list_is ∙ sym (events_of-append C (take_program shape taken.calls) rest) ∙ ap (events_of C) (sym is) ∙ sym has.list_is)

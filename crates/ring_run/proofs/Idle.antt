@@ -1,0 +1,64 @@
+-- Ends between calls.
+use Rattle.std.proofs.Common.{◌≡◌, Bool, false, Option, Some, None, List, [], ◌∷◌, refl, ap, sym, subst, ◌∙◌}
+use Rattle.bits_core.specs.declared.events.Side.TheVariants.{P, C}
+use Rattle.bits_core.specs.declared.events.Event.{Event}
+use Rattle.bits_core.specs.History.{open_access}
+use Rattle.ring_core.specs.declared.consumers.TakeReply.{TakeReply}
+use Rattle.ring_core.specs.Takes as takes
+use Rattle.ring_core.specs.Takes.{Take, Takes}
+use Rattle.ring_core.specs.Puts.{put_program, ArePuts}
+use Rattle.ring_core.specs.Takes.{take_program, AreTakes}
+use Rattle.ring_core.specs.ProducerState.{ProducerState, call_of}
+use Rattle.ring_core.specs.ProducerCalls.{closes_with}
+use Rattle.ring_core.specs.ConsumerState.{ConsumerState, is_taking}
+use Rattle.ring_core.specs.ConsumerCalls.{reply_to, last_reply, reply_at_end, tells, IsReply}
+use Rattle.ring_run.specs.Ring.{RingEnd}
+use Rattle.ring_run.specs.declared.views.View.{View}
+use Rattle.ring_run.specs.Rule.{IsIdle, Stands, joint, putter_of, taker_of, list_of}
+use Rattle.ring_run.specs.Machines.{IsPutter, IsTaker}
+use Rattle.ring_run.specs.Meetings.{closed_reply, ClosesAre, TellsAre}
+use Rattle.ring_run.specs.Below.{LawsBelow}
+use Rattle.bits_core.specs.declared.shapes.Shape.{Shape}
+use Rattle.ring_run.proofs.Moves.{ring_empty}
+use Rattle.ring_run.proofs.PutterCalls as putter
+use Rattle.ring_run.proofs.TakerCalls as taker
+
+pub putter_idle : LawsBelow → (e : RingEnd) (m : ProducerState) (whole : List Event) → IsPutter e m whole → call_of m ≡ None → IsIdle P e.list
+putter_idle laws e m whole i none = ap (open_access P) (putter.rest_list e m i.calls i.made i.at none) ∙ laws.made_idle P (put_program e.ring.shape i.calls)
+
+pub taker_idle : LawsBelow → (e : RingEnd) (m : ConsumerState) (whole : List Event) → IsTaker e m whole → is_taking m ≡ false → IsIdle C e.list
+taker_idle laws e m whole i none = ap (open_access C) (taker.rest_list e m i.calls i.made i.at none) ∙ laws.made_idle C (take_program e.ring.shape i.calls)
+
+never_closed : (x : Take) → closed_reply (Some (reply_to x)) ≡ false
+never_closed (takes.Item seen item) = refl
+never_closed (takes.ItemAfterClose seen again item) = refl
+never_closed (takes.Empty seen) = refl
+
+last_not : (first : Option TakeReply) (xs : List Take) → closed_reply first ≡ false → closed_reply (last_reply first xs) ≡ false
+last_not first [] is = is
+last_not first (x ∷ xs) is = last_not (Some (reply_to x)) xs (never_closed x)
+
+told_at_end : (end : takes.End) (xs : List Take) → closed_reply (reply_at_end end xs) ≡ tells end
+told_at_end takes.Open xs = last_not None xs refl
+told_at_end (takes.Closed seen again) xs = refl
+
+pub tells_are : (e : RingEnd) (m : ConsumerState) (whole : List Event) → (i : IsTaker e m whole) → is_taking m ≡ false → (r : Option TakeReply) → IsReply i.calls (is_taking m) r → (told : Bool) → told ≡ closed_reply r → TellsAre e.ring.shape e.list told
+tells_are e m whole i none r replied told is = record {
+  calls = i.calls;
+  list_is = record { are = subst (λ s. AreTakes s 0 i.calls.takes i.calls.end) i.at.shape_is i.at.stands.are; list_is = taker.rest_list e m i.calls i.made i.at none };
+  told_is = is ∙ ap closed_reply (subst (λ t. IsReply i.calls t r) none replied) ∙ told_at_end i.calls.end i.calls.takes;
+}
+
+pub closes_are : (e : RingEnd) (m : ProducerState) (whole : List Event) → (i : IsPutter e m whole) → call_of m ≡ None → (closed : Bool) → closed ≡ closes_with i.calls (call_of m) → ClosesAre e.ring.shape e.list closed
+closes_are e m whole i none closed is = record {
+  calls = i.calls;
+  list_is = record { are = subst (λ s. ArePuts s 0 i.calls.puts) i.at.shape_is i.at.stands.are; list_is = putter.rest_list e m i.calls i.made i.at none };
+  closes = is ∙ ap (closes_with i.calls) none;
+}
+
+-- at first both ends stand in the history with no event
+pub putter_starts : LawsBelow → (shape : Shape) (v : View) → v ≡ putter_of (joint [] [] [] []) → Stands shape P (list_of P v) v.known
+putter_starts laws shape v is = subst (λ w. Stands shape P (list_of P w) w.known) (sym is) (record { history = []; ring = ring_empty laws shape; list_is = refl; begins = ([], refl) })
+
+pub taker_starts : LawsBelow → (shape : Shape) (v : View) → v ≡ taker_of (joint [] [] [] []) → Stands shape C (list_of C v) v.known
+taker_starts laws shape v is = subst (λ w. Stands shape C (list_of C w) w.known) (sym is) (record { history = []; ring = ring_empty laws shape; list_is = refl; begins = ([], refl) })

@@ -1,0 +1,14 @@
+pub mod Emptied
+pub mod Histories
+pub mod Idle
+pub mod Lists
+pub mod Moves
+pub mod Places
+pub mod PutterCalls
+pub mod PutterMoves
+pub mod Relayed
+pub mod RelayLemmas
+pub mod Sent
+pub mod Steps
+pub mod TakerCalls
+pub mod TakerMoves

@@ -1,0 +1,329 @@
+-- One put or take more of a relay.
+use Rattle.std.proofs.Common.{◌≡◌, ◌≢◌, ◌⊎◌, ⊎_elim, ℕ, zero, suc, ◌+◌, ◌-◌, ◌<◌, ◌≤◌, Bool, true, false, Some, None, List, [], ◌∷◌, ◌++◌, length, take, ◌%◌, append_assoc, refl, ap, sym, subst, ◌∙◌, arith, append-nil}
+use Rattle.std.proofs.lemmas.List.{length-append}
+use Rattle.std.proofs.Math.Seq.{take-add, take-length, drop-nil}
+use Rattle.std.proofs.Math.ListN.{drop}
+use Rattle.bits_core.specs.declared.shapes.Shape.{Shape}
+use Rattle.bits_core.specs.Shape.{AllFit, batch_of, modulus_of}
+use Rattle.bits_core.specs.declared.events.Event.{Event}
+use Rattle.ring_core.specs.declared.producers.BatchReply as batch_replies
+use Rattle.ring_core.specs.declared.producers.BatchReply.TheVariants as batch_reply
+use Rattle.ring_core.specs.declared.consumers.TakeReply as take_replies
+use Rattle.ring_core.specs.declared.consumers.TakeReply.TheVariants as take_reply
+use Rattle.ring_core.specs.Counts.{Count, first_count}
+use Rattle.ring_core.specs.Puts as puts
+use Rattle.ring_core.specs.Puts.{Put, Puts, IsBatch}
+use Rattle.ring_core.specs.Takes as takes
+use Rattle.ring_core.specs.Takes.{Take, Takes}
+use Rattle.ring_core.specs.Items.{all_put, all_taken}
+use Rattle.ring_core.specs.Over.{fulls, empties}
+use Rattle.ring_core.specs.Readings.{PutsAreRead, TakesAreRead}
+use Rattle.ring_core.specs.ProducerCalls.{and_put, and_close, no_puts, IsPutOf}
+use Rattle.ring_core.specs.ProducerCalls as put_calls
+use Rattle.ring_core.specs.ConsumerCalls.{and_take, and_end, no_takes, tells, HasTakeMore, reply_at_end, last_reply}
+use Rattle.ring_core.specs.ConsumerCalls as take_calls
+use Rattle.ring_run.specs.Ends.{HasPuts, HasPutAll, PutAdds, HasClosed, CloseAdds, HasTakes, HasTaken, TakeAdds}
+use Rattle.ring_run.proofs.TakerCalls.{last-snoc}
+use Rattle.ring_run.specs.Relays.{AreGiven, PutsAre, TakesAre}
+
+-- ---- lists
+
+-- the first of the first are the first
+first_of : (a b : ℕ) (xs : List ℕ) → (take a (take b xs) ≡ take (length (take a (take b xs))) xs) × (length (take a (take b xs)) ≤ length xs)
+first_of zero zero [] = (refl, omega arith)
+first_of zero zero (x ∷ xs) = (refl, omega arith)
+first_of zero (suc b) [] = (refl, omega arith)
+first_of zero (suc b) (x ∷ xs) = (refl, omega arith)
+first_of (suc a) zero [] = (refl, omega arith)
+first_of (suc a) zero (x ∷ xs) = (refl, omega arith)
+first_of (suc a) (suc b) [] = (refl, omega arith)
+first_of (suc a) (suc b) (x ∷ xs) = let r = first_of a b xs in (ap (λ (l : List ℕ). x ∷ l) r.0, omega (arith, r.1))
+
+length_left : (n : ℕ) (xs : List ℕ) → n ≤ length xs → n + length (drop n xs) ≡ length xs
+length_left zero [] le = omega arith
+length_left zero (x ∷ xs) le = omega arith
+length_left (suc n) [] le = absurd (omega (arith, le))
+length_left (suc n) (x ∷ xs) le = omega (arith, length_left n xs (omega (arith, le)))
+
+stored_snoc : (xs : List Put) (seen : ℕ) (items : List ℕ) → all_put (xs ++ puts.Stored seen items ∷ []) ≡ all_put xs ++ items
+stored_snoc [] seen items = append-nil items
+stored_snoc (puts.Stored s i ∷ xs) seen items = ap (λ (l : List ℕ). i ++ l) (stored_snoc xs seen items) ∙ sym (append_assoc i (all_put xs) items)
+stored_snoc (puts.Full s ∷ xs) seen items = stored_snoc xs seen items
+
+full_snoc : (xs : List Put) (seen : ℕ) → all_put (xs ++ puts.Full seen ∷ []) ≡ all_put xs
+full_snoc [] seen = refl
+full_snoc (puts.Stored s i ∷ xs) seen = ap (λ (l : List ℕ). i ++ l) (full_snoc xs seen)
+full_snoc (puts.Full s ∷ xs) seen = full_snoc xs seen
+
+fulls_stored : (xs : List Put) (seen : ℕ) (items : List ℕ) → fulls (xs ++ puts.Stored seen items ∷ []) ≡ fulls xs
+fulls_stored [] seen items = refl
+fulls_stored (puts.Stored s i ∷ xs) seen items = fulls_stored xs seen items
+fulls_stored (puts.Full s ∷ xs) seen items = ap (λ n. 1 + n) (fulls_stored xs seen items)
+
+fulls_full : (xs : List Put) (seen : ℕ) → fulls (xs ++ puts.Full seen ∷ []) ≡ suc (fulls xs)
+fulls_full [] seen = omega arith
+fulls_full (puts.Stored s i ∷ xs) seen = fulls_full xs seen
+fulls_full (puts.Full s ∷ xs) seen = omega (arith, fulls_full xs seen)
+
+one_longer : (xs : List Put) (x : Put) → length (xs ++ x ∷ []) ≡ suc (length xs)
+one_longer xs x = omega (arith, length-append xs (x ∷ []))
+
+-- what one put is given
+fit_first : (shape : Shape) (n : ℕ) (xs : List ℕ) → AllFit shape xs → AllFit shape (take n xs)
+fit_first shape zero xs fit = tt
+fit_first shape (suc n) [] fit = tt
+fit_first shape (suc n) (x ∷ xs) fit = (fit.0, fit_first shape n xs fit.1)
+
+fit_left : (shape : Shape) (n : ℕ) (xs : List ℕ) → AllFit shape xs → AllFit shape (drop n xs)
+fit_left shape zero xs fit = fit
+fit_left shape (suc n) [] fit = tt
+fit_left shape (suc n) (x ∷ xs) fit = fit_left shape n xs fit.1
+
+pub length_first : (n : ℕ) (xs : List ℕ) → n ≤ length xs → length (take n xs) ≡ n
+length_first zero xs le = refl
+length_first (suc n) [] le = absurd (omega (arith, le))
+length_first (suc n) (x ∷ xs) le = ap suc (length_first n xs (omega (arith, le)))
+
+pub offers : (shape : Shape) (items : List ℕ) (put n : ℕ) → AllFit shape items → put < length items → 0 < n → n ≤ batch_of shape → put + n ≤ length items → IsBatch shape (take n (drop put items))
+offers shape items put n all more some few left =
+    let long : length (take n (drop put items)) ≡ n = length_first n (drop put items) (omega (arith, left, length_left put items (omega (arith, more)))) in
+    record {
+      some = omega (arith, long, some);
+      few = omega (arith, long, few);
+      fit = fit_first shape n (drop put items) (fit_left shape put items all);
+    }
+
+-- what a put is given is a batch of the items left, or all of them
+pub given_is : (shape : Shape) (n : ℕ) (xs : List ℕ) → (n ≡ batch_of shape) ⊎ ((n ≡ length xs) × (length xs ≤ batch_of shape)) → take n xs ≡ take (batch_of shape) xs
+given_is shape n xs most = ⊎_elim
+    (λ (is : n ≡ batch_of shape). ap (λ k. take k xs) is)
+    (λ (all : (n ≡ length xs) × (length xs ≤ batch_of shape)). ap (λ k. take k xs) all.0 ∙ take-length xs ∙ sym (take_whole (batch_of shape) xs all.1))
+    most
+  where
+    take_whole : (k : ℕ) (xs : List ℕ) → length xs ≤ k → take k xs ≡ xs
+    take_whole zero [] le = refl
+    take_whole zero (x ∷ xs) le = absurd (omega (arith, le))
+    take_whole (suc k) [] le = refl
+    take_whole (suc k) (x ∷ xs) le = ap (λ l. x ∷ l) (take_whole k xs (omega (arith, le)))
+
+pub given_there : (shape : Shape) (items : List ℕ) (put n : ℕ) → put ≤ length items → (n ≡ batch_of shape) ⊎ ((n ≡ length items - put) × (length items - put ≤ batch_of shape)) →
+    take (put + n - put) (drop put items) ≡ take (batch_of shape) (drop put items)
+given_there shape items put n within most =
+    let same : put + n - put ≡ n = omega arith in
+    let left : length items - put ≡ length (drop put items) = omega (arith, length_left put items within) in
+    ap (λ k. take k (drop put items)) same ∙ given_is shape n (drop put items)
+    (subst (λ k. (n ≡ batch_of shape) ⊎ ((n ≡ k) × (k ≤ batch_of shape))) left most)
+
+-- ---- puts
+
+drop_both : (a b : ℕ) (xs : List ℕ) → drop b (drop a xs) ≡ drop (a + b) xs
+drop_both zero b xs = ap (λ k. drop k xs) (let e : b ≡ 0 + b = omega arith in e)
+drop_both (suc a) b [] = drop-nil b ∙ sym (drop-nil (suc a + b))
+drop_both (suc a) b (x ∷ xs) = drop_both a b xs ∙ ap (λ k. drop k (x ∷ xs)) (let e : suc (a + b) ≡ suc a + b = omega arith in e)
+
+-- one put more, given the items that those before it left
+given_more : (shape : Shape) (n : ℕ) (items : List ℕ) (xs : List Put) (x : Put) → AreGiven shape n items xs →
+    IsPutOf shape (puts.stored_in n xs) (take (batch_of shape) (drop (length (all_put xs)) items)) x → AreGiven shape n items (xs ++ x ∷ [])
+given_more shape n items [] x are is = (is, tt)
+given_more shape n items (puts.Stored seen few ∷ xs) x are is =
+    let left : drop (length (few ++ all_put xs)) items ≡ drop (length (all_put xs)) (drop (length few) items) =
+    ap (λ k. drop k items) (length-append few (all_put xs)) ∙ sym (drop_both (length few) (length (all_put xs)) items) in (
+      are.0,
+      given_more shape (puts.number_after n (puts.Stored seen few)) (drop (length few) items) xs x are.1
+          (subst (λ l. IsPutOf shape (puts.stored_in n (puts.Stored seen few ∷ xs)) (take (batch_of shape) l) x) left is),
+    )
+given_more shape n items (puts.Full seen ∷ xs) x are is = (are.0, given_more shape n items xs x are.1 is)
+
+counted_is : (shape : Shape) (c : Count) (xs : List Put) → (puts.stored_count shape c xs).number ≡ puts.stored_in c.number xs
+counted_is shape c [] = refl
+counted_is shape c (x ∷ xs) = counted_is shape (puts.stored_after shape c x) xs
+
+same_puts : PutsAreRead → (shape : Shape) (list : List Event) (a b : Puts) → HasPuts shape list a → HasPuts shape list b → a ≡ b
+same_puts read shape list a b ha hb = read shape a b ha.are hb.are (sym ha.list_is ∙ hb.list_is)
+
+pub no_puts_are : (shape : Shape) (list : List Event) (items : List ℕ) → list ≡ [] → PutsAre shape list items 0 0 0 false
+no_puts_are shape list items is = record {
+  calls = no_puts;
+  list_is = record { are = tt; list_is = is };
+  given = tt;
+  in_order = refl;
+  within = omega arith;
+  made_is = refl;
+  full_is = refl;
+  closes_is = refl;
+}
+
+module _ (read : PutsAreRead) (shape : Shape) (list list' : List Event) (items : List ℕ) (put made full : ℕ) (p : PutsAre shape list items put made full false) where
+  adds_false : (given : List ℕ) (reply : batch_replies.BatchReply) → HasPutAll shape given list list' reply → PutAdds false shape p.calls given reply list list'
+  adds_false given reply h =
+      let same : h.calls ≡ p.calls = same_puts read shape list h.calls p.calls h.before_is p.list_is in
+      subst (λ (z : Puts × Bool). PutAdds z.1 shape z.0 given reply list list') (λ i. (same i, (ap (λ (q : Puts). q.closes) same ∙ p.closes_is) i)) h.adds
+
+  -- the calls with one put more
+  more_given : (given : List ℕ) → given ≡ take (batch_of shape) (drop put items) → (x : Put) → IsPutOf shape (put_calls.count_of shape p.calls).number given x → AreGiven shape 0 items (p.calls.puts ++ x ∷ [])
+  more_given given is x of =
+      let long : put ≡ length (all_put p.calls.puts) = sym (ap length p.in_order ∙ length_first put items p.within) in
+      given_more shape 0 items p.calls.puts x p.given
+      (subst (λ (z : ℕ × List ℕ). IsPutOf shape z.0 z.1 x) (λ i. (counted_is shape first_count p.calls.puts i, (is ∙ ap (λ k. take (batch_of shape) (drop k items)) long) i)) of)
+
+  -- how many a put that stored has stored
+  pub stored : (given : List ℕ) (n m : ℕ) → given ≡ take n (drop put items) → given ≡ take (batch_of shape) (drop put items) → HasPutAll shape given list list' (batch_reply.Stored m) →
+      (put + m ≤ length items) × PutsAre shape list' items (put + m) (suc made) full false
+  stored given n m is whole h = go (adds_false given (batch_reply.Stored m) h)
+    where
+      go : PutAdds false shape p.calls given (batch_reply.Stored m) list list' → (put + m ≤ length items) × PutsAre shape list' items (put + m) (suc made) full false
+      go (puts.Stored seen few, of, reply, has) =
+          let room : ℕ = put_calls.room_in shape ((put_calls.count_of shape p.calls).number % modulus_of shape) seen in
+          let few_is : few ≡ take room (take n (drop put items)) = of ∙ ap (take room) is in
+          let long : m ≡ length few = cc in
+          let first = first_of room n (drop put items) in
+          let these : few ≡ take m (drop put items) = few_is ∙ first.0 ∙ ap (λ (k : ℕ). take k (drop put items)) (sym (long ∙ ap length few_is)) in
+          let fits : put + m ≤ length items = omega (arith, long, ap length few_is, first.1, length_left put items p.within) in (
+            fits,
+            record {
+              calls = and_put p.calls (puts.Stored seen few);
+              list_is = has;
+              given = more_given given whole (puts.Stored seen few) of;
+              in_order = stored_snoc p.calls.puts seen few ∙ (λ j. p.in_order j ++ these j) ∙ sym (take-add put m items);
+              within = fits;
+              made_is = one_longer p.calls.puts (puts.Stored seen few) ∙ ap suc p.made_is;
+              full_is = fulls_stored p.calls.puts seen few ∙ p.full_is;
+              closes_is = refl;
+            },
+          )
+      go (puts.Full seen, of, reply, has) = absurd (cc)
+
+  pub was_full : (given : List ℕ) → given ≡ take (batch_of shape) (drop put items) → HasPutAll shape given list list' batch_reply.Full → PutsAre shape list' items put (suc made) (suc full) false
+  was_full given whole h = go (adds_false given batch_reply.Full h)
+    where
+      go : PutAdds false shape p.calls given batch_reply.Full list list' → PutsAre shape list' items put (suc made) (suc full) false
+      go (puts.Stored seen i, of, reply, has) = absurd (cc)
+      go (puts.Full seen, of, reply, has) = record {
+        calls = and_put p.calls (puts.Full seen);
+        list_is = has;
+        given = more_given given whole (puts.Full seen) of;
+        in_order = full_snoc p.calls.puts seen ∙ p.in_order;
+        within = p.within;
+        made_is = one_longer p.calls.puts (puts.Full seen) ∙ ap suc p.made_is;
+        full_is = fulls_full p.calls.puts seen ∙ ap suc p.full_is;
+        closes_is = refl;
+      }
+
+  pub not_closed : (given : List ℕ) → HasPutAll shape given list list' batch_reply.Closed → ⊥
+  not_closed given h = go (adds_false given batch_reply.Closed h)
+    where
+      go : PutAdds false shape p.calls given batch_reply.Closed list list' → ⊥
+      go (puts.Stored seen i, of, reply, has) = cc
+      go (puts.Full seen, of, reply, has) = cc
+
+  pub now_closed : HasClosed shape list list' → PutsAre shape list' items put made full true
+  now_closed h =
+      let same : h.calls ≡ p.calls = same_puts read shape list h.calls p.calls h.before_is p.list_is in
+      let has : CloseAdds false shape p.calls list list' = subst (λ (z : Puts × Bool). CloseAdds z.1 shape z.0 list list') (λ i. (same i, (ap (λ (q : Puts). q.closes) same ∙ p.closes_is) i)) h.adds in
+      record { calls = and_close p.calls; list_is = has; given = p.given; in_order = p.in_order; within = p.within; made_is = p.made_is; full_is = p.full_is; closes_is = refl }
+
+-- ---- takes
+
+same_takes : TakesAreRead → (shape : Shape) (list : List Event) (a b : Takes) → HasTakes shape list a → HasTakes shape list b → a ≡ b
+same_takes read shape list a b ha hb = read shape a b ha.are hb.are (sym ha.list_is ∙ hb.list_is)
+
+pub no_takes_are : (shape : Shape) (list : List Event) → list ≡ [] → TakesAre shape list [] 0 false
+no_takes_are shape list is = record {
+  calls = no_takes;
+  list_is = record { are = tt; list_is = is };
+  taken_is = refl;
+  empty_is = refl;
+  told_is = refl;
+}
+
+-- the items and the empty takes of one take more
+gives : take_replies.TakeReply → List ℕ
+gives (take_reply.Item i) = i ∷ []
+gives take_reply.Empty = []
+gives take_reply.Closed = []
+
+empty_one : take_replies.TakeReply → ℕ
+empty_one (take_reply.Item i) = 0
+empty_one take_reply.Empty = 1
+empty_one take_reply.Closed = 0
+
+taken_snoc : (xs : List Take) (x : Take) → all_taken (xs ++ x ∷ []) ≡ all_taken xs ++ gives (take_calls.reply_to x)
+unfolding gives
+taken_snoc [] (takes.Item seen item) = refl
+taken_snoc [] (takes.ItemAfterClose seen again item) = refl
+taken_snoc [] (takes.Empty seen) = refl
+taken_snoc (takes.Item s i ∷ xs) x = ap (λ (l : List ℕ). i ∷ l) (taken_snoc xs x)
+taken_snoc (takes.ItemAfterClose s a i ∷ xs) x = ap (λ (l : List ℕ). i ∷ l) (taken_snoc xs x)
+taken_snoc (takes.Empty s ∷ xs) x = taken_snoc xs x
+
+empties_snoc : (xs : List Take) (x : Take) → empties (xs ++ x ∷ []) ≡ empties xs + empty_one (take_calls.reply_to x)
+unfolding empty_one
+empties_snoc [] (takes.Item seen item) = refl
+empties_snoc [] (takes.ItemAfterClose seen again item) = refl
+empties_snoc [] (takes.Empty seen) = refl
+empties_snoc (takes.Item s i ∷ xs) x = empties_snoc xs x
+empties_snoc (takes.ItemAfterClose s a i ∷ xs) x = empties_snoc xs x
+empties_snoc (takes.Empty s ∷ xs) x = omega (arith, empties_snoc xs x)
+
+never_closed : (x : Take) → take_calls.reply_to x ≢ take_reply.Closed
+never_closed (takes.Item seen item) e = cc
+never_closed (takes.ItemAfterClose seen again item) e = cc
+never_closed (takes.Empty seen) e = cc
+
+module _ (read : TakesAreRead) (shape : Shape) (list list' : List Event) (taken : List ℕ) (empty : ℕ) (p : TakesAre shape list taken empty false) where
+  adds_take : (reply : take_replies.TakeReply) → HasTaken shape list list' reply → TakeAdds false shape p.calls reply list list'
+  adds_take reply h =
+      let same : h.calls ≡ p.calls = same_takes read shape list h.calls p.calls h.before_is p.list_is in
+      subst (λ (z : Takes × Bool). TakeAdds z.1 shape z.0 reply list list') (λ i. (same i, (ap (λ (q : Takes). tells q.end) same ∙ p.told_is) i)) h.adds
+
+  one_more : (reply : take_replies.TakeReply) → reply ≢ take_reply.Closed → HasTaken shape list list' reply → TakesAre shape list' (taken ++ gives reply) (empty + empty_one reply) false
+  one_more reply open_yet h =
+      let a = adds_take reply h in
+      ⊎_elim
+      (λ one.
+      let x : Take = one.0 in
+      let is : reply ≡ take_calls.reply_to x = let q : Some reply ≡ Some (take_calls.reply_to x) = a.2 ∙ ap (λ (t : Takes). reply_at_end t.end t.takes) one.1 ∙ last-snoc None p.calls.takes x in cc in
+      record {
+        calls = and_take p.calls x;
+        list_is = subst (HasTakes shape list') one.1 a.3;
+        taken_is = taken_snoc p.calls.takes x ∙ (λ i. p.taken_is i ++ gives (sym is i));
+        empty_is = empties_snoc p.calls.takes x ∙ (λ i. p.empty_is i + empty_one (sym is i));
+        told_is = refl;
+      })
+      (λ told. absurd (open_yet (let q : Some reply ≡ Some take_reply.Closed = a.2 ∙ ap (λ (t : Takes). reply_at_end t.end t.takes) told.2 in cc)))
+      a.1.is_one_more
+
+  pub took : (item : ℕ) → HasTaken shape list list' (take_reply.Item item) → TakesAre shape list' (taken ++ item ∷ []) empty false
+  unfolding gives empty_one
+  took item h = subst (λ (n : ℕ). TakesAre shape list' (taken ++ item ∷ []) n false) (omega arith) (one_more (take_reply.Item item) (λ e. cc) h)
+
+  pub was_empty : HasTaken shape list list' take_reply.Empty → TakesAre shape list' taken (suc empty) false
+  unfolding gives empty_one
+  was_empty h =
+      let plus : empty + 1 ≡ suc empty = omega arith in
+      subst (λ (z : List ℕ × ℕ). TakesAre shape list' z.0 z.1 false) (λ i. (append-nil taken i, plus i)) (one_more take_reply.Empty (λ e. cc) h)
+
+  pub was_told : HasTaken shape list list' take_reply.Closed → TakesAre shape list' taken empty true
+  was_told h =
+      let a = adds_take take_reply.Closed h in
+      ⊎_elim
+      (λ one. absurd (never_closed one.0 (let q : Some take_reply.Closed ≡ Some (take_calls.reply_to one.0) = a.2 ∙ ap (λ (t : Takes). reply_at_end t.end t.takes) one.1 ∙ last-snoc None p.calls.takes one.0 in cc)))
+      (λ told. record {
+        calls = and_end p.calls told.0 told.1;
+        list_is = subst (HasTakes shape list') told.2 a.3;
+        taken_is = p.taken_is;
+        empty_is = p.empty_is;
+        told_is = refl;
+      })
+      a.1.is_one_more
+
+-- ---- an end after two calls
+
+pub same_trans : (a b c : Rattle.ring_run.specs.Ring.RingEnd) → Rattle.ring_run.specs.Hands.IsSameEnd a b → Rattle.ring_run.specs.Hands.IsSameEnd b c → Rattle.ring_run.specs.Hands.IsSameEnd a c
+same_trans a b c s t = record { ring = t.ring ∙ s.ring; side = t.side ∙ s.side; known = t.known ∙ s.known }
+
+pub puts_there : (a b : Rattle.ring_run.specs.Ring.RingEnd) (items : List ℕ) (put made full : ℕ) → Rattle.ring_run.specs.Hands.IsSameEnd a b → PutsAre a.ring.shape a.list items put made full false → PutsAre b.ring.shape a.list items put made full false
+puts_there a b items put made full s p = subst (λ (z : Shape). PutsAre z a.list items put made full false) (sym (ap (λ (r : Rattle.ring_run.specs.Ring.Ring). r.shape) s.ring)) p
+
+pub takes_there : (a b : Rattle.ring_run.specs.Ring.RingEnd) (taken : List ℕ) (empty : ℕ) → Rattle.ring_run.specs.Hands.IsSameEnd a b → TakesAre a.ring.shape a.list taken empty false → TakesAre b.ring.shape a.list taken empty false
+takes_there a b taken empty s p = subst (λ (z : Shape). TakesAre z a.list taken empty false) (sym (ap (λ (r : Rattle.ring_run.specs.Ring.Ring). r.shape) s.ring)) p

@@ -1,0 +1,20 @@
+use Rattle.std.proofs.Common.{◌≡◌, true, [], ◌∷◌, ◌++◌, sym, subst}
+use Rattle.bits_core.specs.declared.events.Access.TheVariants.{Read}
+use Rattle.bits_core.specs.Bits.{reader}
+use Rattle.bits_core.specs.Shape.{belongs}
+use Rattle.ring_run.specs.Programs.{Follows, begin_of}
+use Rattle.ring_run.specs.Ring.{RingEnd}
+use Rattle.ring_run.specs.Rule.{IsIdle}
+use Rattle.ring_run.proofs.Moves.{begins_read}
+use Rattle.ring_run.proofs.hands.Hand.begin_read.Goals as goal
+
+pub load_noted-self-inside-requires-clause-rule : goal.load_noted-self-inside-requires-clause-rule
+load_noted-self-inside-requires-clause-rule c =
+    let h = c.self.inside in
+    let is = sym c.self.view_is in
+    let b = c.args.bit in
+    λ slots. begins_read c.laws_below.ensures h.ring.shape h.side b slots h.seat.id h.seat.me c.self.invariant.2 c.self.invariant.3
+    (subst (λ (e : RingEnd). belongs e.ring.shape b ≡ true) is c.requires.bit.0)
+    (subst (λ (e : RingEnd). e.side ≡ reader b) is c.requires.bit.1)
+    (subst (λ (e : RingEnd). IsIdle e.side e.list) is c.requires.idle)
+    (subst (λ (e : RingEnd). Follows e.ring.shape e.side (e.list ++ begin_of e.side (Read b) ∷ [])) is c.requires.program)

@@ -1,0 +1,22 @@
+use Rattle.std.proofs.Common.{◌≡◌, true, [], ◌∷◌, ◌++◌, sym, subst}
+use Rattle.bits_core.specs.declared.events.Access.TheVariants.{Write}
+use Rattle.bits_core.specs.Bits.{writer}
+use Rattle.bits_core.specs.Shape.{belongs}
+use Rattle.ring_run.specs.Programs.{Follows, begin_of}
+use Rattle.ring_run.specs.Ring.{RingEnd}
+use Rattle.ring_run.specs.Rule.{IsIdle}
+use Rattle.ring_run.proofs.Moves.{begins_write}
+use Rattle.ring_run.proofs.hands.Hand.begin_write.Goals as goal
+
+pub store_noted-requires-clause-rule : goal.store_noted-requires-clause-rule
+store_noted-requires-clause-rule c =
+    let h = c.self.inside in
+    let is = sym c.self.view_is in
+    let b = c.args.bit in
+    let v = c.args.value in
+    λ slots. begins_write c.laws_below.ensures h.ring.shape h.side b slots h.seat.id h.seat.me c.self.invariant.2 c.self.invariant.3
+    (subst (λ (e : RingEnd). belongs e.ring.shape b ≡ true) is c.requires.bit.0)
+    (subst (λ (e : RingEnd). e.side ≡ writer b) is c.requires.bit.1)
+    (subst (λ (e : RingEnd). IsIdle e.side e.list) is c.requires.idle)
+    v
+    (subst (λ (e : RingEnd). Follows e.ring.shape e.side (e.list ++ begin_of e.side (Write b v) ∷ [])) is c.requires.program)

@@ -1,0 +1,75 @@
+use Rattle.std.proofs.Common.{◌≡◌, ◌≤◌, ◌+◌, ◌*◌, ◌⊎◌, false, [], ◌∷◌, length, Some, None, refl, subst, ◌∙◌}
+use Rattle.std.specs.Prelude.{IfSome, IfNone}
+use Rattle.bits_core.specs.declared.events.Event.{Event}
+use Rattle.ring_core.specs.declared.producers.PutReply.TheVariants.{Closed}
+use Rattle.ring_core.specs.Lengths.{longest_put}
+use Rattle.ring_core.specs.ProducerState.{Put, call_of}
+use Rattle.ring_run.specs.Hands.{Grows, IsSameEnd}
+use Rattle.ring_run.specs.Ends.{PutterState, puts_whole, whole_put, HasPut, HasPutPart}
+use Rattle.ring_run.proofs.PutterCalls.{same_step, step_putter, step_few, item_one, item_none, item_some}
+use Rattle.ring_run.proofs.putters.PutCore.step_put.Goals as goal
+
+pub invariant_of-self : goal.invariant_of-self
+invariant_of-self g c =
+    let p = c.self.inside in
+    let i = c.self.invariant in
+    let s : PutterState = record { end = p.hand; call = call_of p.machine; batched = p.machine.batched; start = p.start.value.list } in
+    step_putter s p.machine c.mark_start.new.start.value.list i.calls i.made (Put (c.args.item ∷ [])) i.at refl c.mark_start.ensures i.whole_is
+    c.begin_put.new.machine (c.begin_put.ensures.begins i.calls i.made i.at.stands) c.advance.new.hand c.advance.new.machine c.advance.ensures.rests (c.advance.ensures.steps i.calls i.made)
+
+pub returns-clause-same : goal.returns-clause-same
+returns-clause-same g c =
+    let p = c.self.inside in
+    let i = c.self.invariant in
+    let s : PutterState = record { end = p.hand; call = call_of p.machine; batched = p.machine.batched; start = p.start.value.list } in
+    subst (λ (z : PutterState). IsSameEnd z.end c.advance.new.hand) c.self.view_is
+    (same_step s p.machine c.mark_start.new.start.value.list i.calls i.made (Put (c.args.item ∷ [])) i.at refl c.mark_start.ensures i.whole_is
+    c.begin_put.new.machine (c.begin_put.ensures.begins i.calls i.made i.at.stands) c.advance.new.hand c.advance.new.machine c.advance.ensures.rests (c.advance.ensures.steps i.calls i.made))
+
+pub returns-clause-lawful : goal.returns-clause-lawful
+returns-clause-lawful g c =
+    let p = c.self.inside in
+    let i = c.self.invariant in
+    let s : PutterState = record { end = p.hand; call = call_of p.machine; batched = p.machine.batched; start = p.start.value.list } in
+    (step_putter s p.machine c.mark_start.new.start.value.list i.calls i.made (Put (c.args.item ∷ [])) i.at refl c.mark_start.ensures i.whole_is
+    c.begin_put.new.machine (c.begin_put.ensures.begins i.calls i.made i.at.stands) c.advance.new.hand c.advance.new.machine c.advance.ensures.rests (c.advance.ensures.steps i.calls i.made)).at.lawful
+
+pub returns-clause-one : goal.returns-clause-one
+returns-clause-one g c =
+    let p = c.self.inside in
+    let i = c.self.invariant in
+    let s : PutterState = record { end = p.hand; call = call_of p.machine; batched = p.machine.batched; start = p.start.value.list } in
+    subst (λ (z : PutterState). ((c.reply.result ≡ Some Closed) × (c.advance.new.hand ≡ z.end)) ⊎ ((e : Event) × Grows z.end c.advance.new.hand e)) c.self.view_is
+    (item_one s p.machine c.mark_start.new.start.value.list i.calls i.made (Put (c.args.item ∷ [])) i.at refl c.mark_start.ensures i.whole_is
+    c.begin_put.new.machine (c.begin_put.ensures.begins i.calls i.made i.at.stands) c.advance.new.hand c.advance.new.machine c.advance.ensures.rests (c.advance.ensures.steps i.calls i.made)
+    c.args.item refl (c.advance.ensures.kind ∙ c.begin_put.ensures.kind) c.reply.result c.reply.ensures.state)
+
+pub returns-clause-none : goal.returns-clause-none
+returns-clause-none g c =
+    let p = c.self.inside in
+    let i = c.self.invariant in
+    let s : PutterState = record { end = p.hand; call = call_of p.machine; batched = p.machine.batched; start = p.start.value.list } in
+    let m = c.advance.new.machine in
+    subst (λ (z : PutterState). IfNone c.reply.result ((call_of m ≡ Some (Put (c.args.item ∷ []))) × (m.batched ≡ false) × (whole_put (call_of m) c.advance.new.hand.list c.mark_start.new.start.value.list ≡ puts_whole z) × HasPutPart c.advance.new.hand.ring.shape (Put (c.args.item ∷ [])) (whole_put (call_of m) c.advance.new.hand.list c.mark_start.new.start.value.list) c.advance.new.hand.list)) c.self.view_is
+    (item_none s p.machine c.mark_start.new.start.value.list i.calls i.made (Put (c.args.item ∷ [])) i.at refl c.mark_start.ensures i.whole_is
+    c.begin_put.new.machine (c.begin_put.ensures.begins i.calls i.made i.at.stands) c.advance.new.hand m c.advance.ensures.rests (c.advance.ensures.steps i.calls i.made)
+    c.args.item refl (c.advance.ensures.kind ∙ c.begin_put.ensures.kind) c.reply.result c.reply.ensures.state)
+
+pub returns-clause-some : goal.returns-clause-some
+returns-clause-some g c =
+    let p = c.self.inside in
+    let i = c.self.invariant in
+    let s : PutterState = record { end = p.hand; call = call_of p.machine; batched = p.machine.batched; start = p.start.value.list } in
+    subst (λ (z : PutterState). IfSome c.reply.result (λ r. (call_of c.advance.new.machine ≡ None) × HasPut c.advance.new.hand.ring.shape c.args.item (puts_whole z) c.advance.new.hand.list r)) c.self.view_is
+    (item_some s p.machine c.mark_start.new.start.value.list i.calls i.made (Put (c.args.item ∷ [])) i.at refl c.mark_start.ensures i.whole_is
+    c.begin_put.new.machine (c.begin_put.ensures.begins i.calls i.made i.at.stands) c.advance.new.hand c.advance.new.machine c.advance.ensures.rests (c.advance.ensures.steps i.calls i.made)
+    c.args.item refl (c.advance.ensures.kind ∙ c.begin_put.ensures.kind) c.reply.result c.reply.ensures.state)
+
+pub returns-clause-few : goal.returns-clause-few
+returns-clause-few g c =
+    let p = c.self.inside in
+    let i = c.self.invariant in
+    let s : PutterState = record { end = p.hand; call = call_of p.machine; batched = p.machine.batched; start = p.start.value.list } in
+    subst (λ (z : PutterState). length c.advance.new.hand.list ≤ length (puts_whole z) + 2 * longest_put c.advance.new.hand.ring.shape) c.self.view_is
+    (step_few s p.machine c.mark_start.new.start.value.list i.calls i.made (Put (c.args.item ∷ [])) i.at refl c.mark_start.ensures i.whole_is
+    c.begin_put.new.machine (c.begin_put.ensures.begins i.calls i.made i.at.stands) c.advance.new.hand c.advance.new.machine c.advance.ensures.rests (c.advance.ensures.steps i.calls i.made))

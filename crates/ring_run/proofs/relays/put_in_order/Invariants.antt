@@ -1,0 +1,12 @@
+use Rattle.std.proofs.Common.{◌≡◌, ◌-◌, ◌≤◌, false}
+use Rattle.ring_run.specs.Hands.{IsSameEnd}
+use Rattle.ring_run.specs.Relays.{PutsAre}
+use Rattle.ring_run.proofs.relays.put_in_order.Given as goal
+
+abbrev pub invariant-puts : goal.invariant-puts
+invariant-puts g l =
+    g.E.PutEnd.idle l.putter × IsSameEnd (g.E.PutEnd.end l.initial.putter) (g.E.PutEnd.end l.putter) ×
+    PutsAre (g.E.PutEnd.end l.putter).ring.shape (g.E.PutEnd.end l.putter).list l.items l.put l.made l.full false × (l.made ≤ l.limit) × (l.full ≤ l.made) × (l.items ≡ l.initial.items) × (l.limit ≡ l.initial.limit) × (l.shape ≡ (g.E.PutEnd.end l.putter).ring.shape)
+
+abbrev pub decreases-puts : goal.decreases-puts
+decreases-puts g l = l.limit - l.made

@@ -1,0 +1,44 @@
+-- What one step of an end adds to its list.
+use Rattle.std.specs.Prelude.{◌≡◌, ◌⊎◌, ℕ, ◌+◌, Bool, [], ◌∷◌, ◌++◌, Option, Some, None}
+use Rattle.bits_core.specs.declared.events.Side.{Side}
+use Rattle.bits_core.specs.declared.events.Access.{Access}
+use Rattle.bits_core.specs.declared.events.Event.{Event}
+use Rattle.bits_core.specs.History.{open_access}
+use Rattle.ring_run.specs.Ring.{RingEnd}
+use Rattle.ring_run.specs.Programs.{Follows, GoesOn, begin_of, end_of}
+use Rattle.ring_run.specs.Rule.{Stands}
+
+-- the same end but for its list
+pub record IsSameEnd (a b : RingEnd) : Type 0 where
+  pub ring : b.ring ≡ a.ring
+  pub side : b.side ≡ a.side
+  pub known : b.known ≡ a.known
+
+-- the end's list is this side of a lawful history whose two sides follow their programs, and which begins with what the end knows
+abbrev pub StandsAs : Side → RingEnd → Type 0
+StandsAs x e = Stands e.ring.shape x e.list e.known
+
+-- e was added to the list, and nothing else changed. The list is one side of a lawful history
+pub record Grows (a b : RingEnd) (e : Event) : Type 0 where
+  pub same : IsSameEnd a b
+  pub list : b.list ≡ a.list ++ e ∷ []
+  pub stands : Stands b.ring.shape b.side b.list b.known
+
+-- the access can begin, or it is open and can end
+abbrev pub CanStep : RingEnd → Access → Type 0
+CanStep a access =
+    ((open_access a.side a.list ≡ None) × Follows a.ring.shape a.side (a.list ++ begin_of a.side access ∷ []))
+    ⊎ ((open_access a.side a.list ≡ Some access) × GoesOn a.ring.shape a.side access a.list)
+
+-- the access began, or it ended with this answer
+abbrev pub HasStepped : RingEnd → RingEnd → Access → Option Bool → Type 0
+HasStepped a b access None = (open_access a.side a.list ≡ None) × Grows a b (begin_of a.side access)
+HasStepped a b access (Some v) = (open_access a.side a.list ≡ Some access) × Grows a b (end_of a.side access v)
+
+-- an oracle, by the answers that it has from now on, was asked nothing, or once
+abbrev pub IsAskedOnce : {O : Type 0} → (O → ℕ → Bool) → O → O → Type 0
+IsAskedOnce answers old new = (new ≡ old) ⊎ ((i : ℕ) → answers new i ≡ answers old (i + 1))
+
+-- and where it was asked, this is what it said
+abbrev pub IsAskedFor : {O : Type 0} → (O → ℕ → Bool) → O → O → Bool → Type 0
+IsAskedFor answers old new v = (new ≡ old) ⊎ ((v ≡ answers old 0) × ((i : ℕ) → answers new i ≡ answers old (i + 1)))

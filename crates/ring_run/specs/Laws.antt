@@ -1,0 +1,26 @@
+-- What a caller of the ends may rest on.
+use Rattle.std.specs.Prelude.{◌≡◌, ◌≤◌, false, List, length}
+use Rattle.bits_core.specs.declared.shapes.Shape.{Shape}
+use Rattle.bits_core.specs.declared.events.Side.TheVariants.{P, C}
+use Rattle.bits_core.specs.declared.events.Event.{Event}
+use Rattle.bits_core.specs.Made.{own, IsBeginning}
+use Rattle.ring_core.specs.declared.consumers.TakeReply.{TakeReply}
+use Rattle.ring_core.specs.declared.consumers.TakeReply.TheVariants.{Empty}
+use Rattle.ring_core.specs.Puts.{Puts}
+use Rattle.ring_core.specs.Takes.{Takes}
+use Rattle.ring_core.specs.Items.{all_put, all_taken}
+use Rattle.ring_run.specs.Rule.{Stands}
+use Rattle.ring_run.specs.Ends.{HasPuts, HasTakes, HasTaken}
+
+-- A taker knows a history, whose puts are whole, and has made whole takes, those of that history among them. Where the next take
+-- finds the ring empty, each item of these puts was taken before it, and no close stands behind them.
+abbrev pub EmptyAfterMeeting : Type 0
+EmptyAfterMeeting =
+    (shape : Shape) (known before after : List Event) (puts : Puts) (takes : Takes) →
+    HasPuts shape (own P known) puts → HasTakes shape before takes → IsBeginning (own C known) before →
+    Stands shape C after known → HasTaken shape before after Empty →
+    (length (all_put puts.puts) ≤ length (all_taken takes.takes)) × (puts.closes ≡ false)
+
+-- a take leaves the list that was there, and adds to it
+abbrev pub TakesAdd : Type 0
+TakesAdd = (shape : Shape) (before after : List Event) (reply : TakeReply) → HasTaken shape before after reply → IsBeginning before after

@@ -1,0 +1,11 @@
+pub mod Below
+pub mod Ends
+pub mod Hands
+pub mod Laws
+pub mod Machines
+pub mod Meetings
+pub mod Programs
+pub mod Relays
+pub mod Ring
+pub mod Rule
+pub mod Words

@@ -1,0 +1,36 @@
+-- Lists of one side's events that follow its program, and histories whose two sides do.
+use Rattle.std.specs.Prelude.{◌≡◌, Bool, true, List, [], ◌∷◌, ◌++◌}
+use Rattle.bits_core.specs.declared.shapes.Shape.{Shape}
+use Rattle.bits_core.specs.declared.events.Side.{Side}
+use Rattle.bits_core.specs.declared.events.Side.TheVariants.{P, C}
+use Rattle.bits_core.specs.declared.events.Access.{Access}
+use Rattle.bits_core.specs.declared.events.Event.{Event}
+use Rattle.bits_core.specs.Lawful.{IsLawful}
+use Rattle.bits_core.specs.Made.{answered, begin_event, end_event, events_of, own, IsBeginning}
+use Rattle.ring_core.specs.Puts.{Puts, put_program, ArePuts}
+use Rattle.ring_core.specs.Takes.{Takes, take_program, AreTakes}
+use Rattle.ring_core.specs.RingLaw.{IsRun}
+
+-- the events are those of calls of the side, the last perhaps cut
+abbrev pub Follows : Shape → Side → List Event → Type 0
+Follows shape P list = (calls : Puts) × ArePuts shape 0 calls.puts × IsBeginning list (events_of P (put_program shape calls))
+Follows shape C list = (calls : Takes) × AreTakes shape 0 calls.takes calls.end × IsBeginning list (events_of C (take_program shape calls))
+
+-- a lawful history whose two sides follow their programs
+pub record IsRing (shape : Shape) (h : List Event) : Type 0 where
+  pub puts : Puts
+  pub takes : Takes
+  pub run : IsRun shape h puts takes
+
+-- the two events of an access
+abbrev pub begin_of : Side → Access → Event
+begin_of x access = begin_event x (answered access true)
+
+abbrev pub end_of : Side → Access → Bool → Event
+end_of x access v = end_event x (answered access v)
+
+-- whatever the open access is answered, where that is lawful, the side goes on by its program
+abbrev pub GoesOn : Shape → Side → Access → List Event → Type 0
+GoesOn shape x access list =
+    (h : List Event) (v : Bool) → IsLawful shape (h ++ end_of x access v ∷ []) → IsRing shape h → own x h ≡ list →
+    Follows shape x (list ++ end_of x access v ∷ [])

@@ -1,0 +1,77 @@
+-- What a relay works its two ends to.
+use Rattle.std.specs.Prelude.{◌≡◌, ◌⊎◌, ℕ, ◌+◌, ◌≤◌, ◌==◌, Bool, false, List, [], ◌∷◌, length, take, drop, if◌then◌else◌}
+use Rattle.bits_core.specs.declared.shapes.Shape.{Shape}
+use Rattle.bits_core.specs.declared.events.Event.{Event}
+use Rattle.bits_core.specs.declared.events.Side.TheVariants.{P, C}
+use Rattle.bits_core.specs.Made.{own}
+use Rattle.ring_run.specs.Programs.{IsRing}
+use Rattle.ring_core.specs.Puts.{Put, Puts, number_after}
+use Rattle.ring_core.specs.Takes.{Takes}
+use Rattle.ring_core.specs.Items.{all_put, all_taken}
+use Rattle.bits_core.specs.Shape.{batch_of}
+use Rattle.ring_core.specs.CallsAt.{stored_by}
+use Rattle.ring_core.specs.ProducerCalls.{IsPutOf}
+use Rattle.ring_core.specs.Over.{fulls, empties}
+use Rattle.ring_core.specs.ConsumerCalls.{tells}
+use Rattle.ring_run.specs.Ends.{HasPuts, HasTakes}
+
+-- These puts, behind n items, were given the items in order: each as many of those not yet stored as the shape's batch has, or
+-- all where fewer are left.
+abbrev pub AreGiven : Shape → ℕ → List ℕ → List Put → Type 0
+AreGiven shape n items [] = Unit {0}
+AreGiven shape n items (x ∷ puts) =
+    IsPutOf shape n (take (batch_of shape) items) x × AreGiven shape (number_after n x) (drop (stored_by x) items) puts
+
+-- the list is of `made` puts, which were given the items so, stored the first `put` of them in order and of which `full` found
+-- the ring full, and perhaps of a close
+pub record PutsAre (shape : Shape) (list : List Event) (items : List ℕ) (put made full : ℕ) (closes : Bool) : Type 0 where
+  pub calls : Puts
+  pub list_is : HasPuts shape list calls
+  pub given : AreGiven shape 0 items calls.puts
+  pub in_order : all_put calls.puts ≡ take put items
+  pub within : put ≤ length items
+  pub made_is : length calls.puts ≡ made
+  pub full_is : fulls calls.puts ≡ full
+  pub closes_is : calls.closes ≡ closes
+
+-- all items were stored, or as many puts as the limit were made; a close stands exactly where all were stored
+pub record HasRelayedPuts (shape : Shape) (list : List Event) (items : List ℕ) (limit put made full : ℕ) : Type 0 where
+  pub puts : PutsAre shape list items put made full (put == length items)
+  pub most : made ≤ limit
+  pub all_or_limit : (put ≡ length items) ⊎ (made ≡ limit)
+
+-- the list is of takes of these items, in order, of `empty` that found the ring empty, and perhaps of one that was told that the ring is closed
+pub record TakesAre (shape : Shape) (list : List Event) (taken : List ℕ) (empty : ℕ) (told : Bool) : Type 0 where
+  pub calls : Takes
+  pub list_is : HasTakes shape list calls
+  pub taken_is : all_taken calls.takes ≡ taken
+  pub empty_is : empties calls.takes ≡ empty
+  pub told_is : tells calls.end ≡ told
+
+-- at most as many takes as the limit were made, and as many where none was told that the ring is closed
+pub record HasRelayedTakes (shape : Shape) (list : List Event) (limit : ℕ) (taken : List ℕ) (empty : ℕ) (closed : Bool) : Type 0 where
+  pub takes : TakesAre shape list taken empty closed
+  pub most : length taken + empty + (if closed then 1 else 0) ≤ limit
+  pub all : closed ≡ false → length taken + empty ≡ limit
+
+-- whole takes were made, at most as many as the limit
+pub record HasMadeTakes (shape : Shape) (list : List Event) (limit : ℕ) : Type 0 where
+  pub taken : List ℕ
+  pub empty : ℕ
+  pub told : Bool
+  pub takes : TakesAre shape list taken empty told
+  pub most : length taken + empty + (if told then 1 else 0) ≤ limit
+
+-- all that a relay's puts may come to
+pub record HasMadePuts (shape : Shape) (list : List Event) (items : List ℕ) (limit : ℕ) : Type 0 where
+  pub put : ℕ
+  pub made : ℕ
+  pub full : ℕ
+  pub puts : HasRelayedPuts shape list items limit put made full
+
+-- one lawful history, whose two sides follow their programs, counts so
+pub record IsRelayed (shape : Shape) (items : List ℕ) (most_puts most_takes put made full : ℕ) (taken : List ℕ) (empty : ℕ) (closed : Bool) : Type 0 where
+  pub history : List Event
+  pub ring : IsRing shape history
+  pub puts : HasRelayedPuts shape (own P history) items most_puts put made full
+  pub takes : HasRelayedTakes shape (own C history) most_takes taken empty closed

@@ -1,0 +1,18 @@
+-- A ring and an end as a contract sees them.
+use Rattle.std.specs.Prelude.{List}
+use Rattle.atomic_table.specs.Seated.{TableId}
+use Rattle.bits_core.specs.declared.shapes.Shape.{Shape}
+use Rattle.bits_core.specs.declared.events.Side.{Side}
+use Rattle.bits_core.specs.declared.events.Event.{Event}
+
+-- a ring: its shape, and which ring it is
+pub record Ring : Type 0 where
+  pub shape : Shape
+  pub id : TableId
+
+-- an end: its ring, its side, its list, and what it knows
+pub record RingEnd : Type 0 where
+  pub ring : Ring
+  pub side : Side
+  pub list : List Event
+  pub known : List Event

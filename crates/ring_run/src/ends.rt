@@ -1,0 +1,128 @@
+//! The two ends of a ring, as a relay and other callers use them.
+
+use crate::putters::Putter;
+use crate::takers::Taker;
+use bits_core::{Oracle, Shape};
+use ring_core::{BatchReply, PutReply, TakeReply};
+
+/// An end that puts. Its meaning is the list of its events: each call adds exactly its own accesses, and answers what
+/// they came to.
+pub trait PutEnd {
+    ghost use Rattle.std.specs.Prelude.{◌≡◌, ◌^◌, ◌<◌};
+    ghost use Rattle.bits_core.specs.Shape.{width_of};
+    ghost use Rattle.ring_run.specs.Ring.{RingEnd};
+    ghost use Rattle.ring_run.specs.Hands.{IsSameEnd, StandsAs};
+    ghost use Rattle.bits_core.specs.declared.events.Side.TheVariants.{P};
+    ghost use Rattle.ring_core.specs.Puts.{IsBatch};
+    ghost use Rattle.ring_run.specs.Ends.{HasPut, HasPutAll, HasClosed};
+
+    ghost end: { Self → RingEnd };
+
+    /// No call is under way.
+    ghost idle: { Self → Type 0 };
+
+    /// The shape of the ring. At all times the end's list is one side of a lawful history whose two sides follow their
+    /// programs, and which begins with what the end knows.
+    fn shape(&self) -> Shape
+        ensures shape { result ≡ (end self.now).ring.shape }
+        ensures lawful { StandsAs P (end self.now) };
+
+    /// Puts the item: `Stored` where there was room for it, `Full` where a scan of the consumer's count left none, and
+    /// then nothing is stored. After a close the answer is `Closed`, with no access. The item has to fit the width.
+    fn put(&mut self, item: u64) -> PutReply
+        requires idle { idle self.old }
+        requires fits { item < 2 ^ width_of (end self.old).ring.shape }
+        ensures idle { idle self.new }
+        ensures same { IsSameEnd (end self.old) (end self.new) }
+        ensures lawful { StandsAs P (end self.new) }
+        ensures phrase { HasPut (end self.new).ring.shape item (end self.old).list (end self.new).list result };
+
+    /// Puts the items under one count write, from the first on as many as there is room for: `Stored` with that
+    /// number, `Full` where there is room for none. After a close the answer is `Closed`, with no access. There are 1 to
+    /// as many items as the shape's batch, and each has to fit the width.
+    fn put_all(&mut self, items: &[u64]) -> BatchReply
+        requires idle { idle self.old }
+        requires batch { IsBatch (end self.old).ring.shape items.now }
+        ensures idle { idle self.new }
+        ensures same { IsSameEnd (end self.old) (end self.new) }
+        ensures lawful { StandsAs P (end self.new) }
+        ensures phrase { HasPutAll (end self.new).ring.shape items.now (end self.old).list (end self.new).list result };
+
+    /// Closes the ring: one write of the close bit. A second close makes no access.
+    fn close(&mut self)
+        requires idle { idle self.old }
+        ensures idle { idle self.new }
+        ensures same { IsSameEnd (end self.old) (end self.new) }
+        ensures lawful { StandsAs P (end self.new) }
+        ensures phrase { HasClosed (end self.new).ring.shape (end self.old).list (end self.new).list };
+}
+
+/// An end that takes. Its meaning is the list of its events, as for an end that puts.
+pub trait TakeEnd {
+    ghost use Rattle.std.specs.Prelude.{◌≡◌};
+    ghost use Rattle.ring_run.specs.Ring.{RingEnd};
+    ghost use Rattle.ring_run.specs.Hands.{IsSameEnd, StandsAs};
+    ghost use Rattle.bits_core.specs.declared.events.Side.TheVariants.{C};
+    ghost use Rattle.ring_run.specs.Ends.{HasTaken};
+
+    ghost end: { Self → RingEnd };
+
+    /// No take is under way.
+    ghost idle: { Self → Type 0 };
+
+    /// The shape of the ring. At all times the end's list is one side of a lawful history whose two sides follow their
+    /// programs, and which begins with what the end knows.
+    fn shape(&self) -> Shape
+        ensures shape { result ≡ (end self.now).ring.shape }
+        ensures lawful { StandsAs C (end self.now) };
+
+    /// Takes the next item: `Item`; `Empty` where a scan of the producer's count shows none and the close bit is 0;
+    /// `Closed` where the close bit is 1 and a second scan shows none either. Once it was told `Closed` each take is
+    /// answered so, with no access.
+    fn take(&mut self) -> TakeReply
+        requires idle { idle self.old }
+        ensures idle { idle self.new }
+        ensures same { IsSameEnd (end self.old) (end self.new) }
+        ensures lawful { StandsAs C (end self.new) }
+        ensures phrase { HasTaken (end self.new).ring.shape (end self.old).list (end self.new).list result };
+}
+
+impl<'a, O: Oracle + Drop> PutEnd for Putter<'a, O> {
+    ghost use Rattle.std.specs.Prelude.{◌≡◌, None};
+
+    ghost end = { λ p. p.end };
+
+    ghost idle = { λ p. p.call ≡ None };
+
+    fn shape(&self) -> Shape {
+        self.core.shape()
+    }
+
+    fn put(&mut self, item: u64) -> PutReply {
+        self.put_item(item)
+    }
+
+    fn put_all(&mut self, items: &[u64]) -> BatchReply {
+        self.put_items(items)
+    }
+
+    fn close(&mut self) {
+        self.close_ring();
+    }
+}
+
+impl<'a, O: Oracle + Drop> TakeEnd for Taker<'a, O> {
+    ghost use Rattle.std.specs.Prelude.{◌≡◌, false};
+
+    ghost end = { λ p. p.end };
+
+    ghost idle = { λ p. p.taking ≡ false };
+
+    fn shape(&self) -> Shape {
+        self.core.shape()
+    }
+
+    fn take(&mut self) -> TakeReply {
+        self.take_item()
+    }
+}

@@ -1,0 +1,167 @@
+//! The four steps of an end, for either side.
+ghost use Rattle.std.specs.Prelude.{◌≡◌, ℕ, ◌+◌, ◌⊎◌, true, false, [], ◌∷◌, ◌++◌, Some, IfSome, IfNone};
+ghost use Rattle.bits_core.specs.declared.events.Access.TheVariants.{Read, Write};
+ghost use Rattle.bits_core.specs.Shape.{belongs};
+ghost use Rattle.bits_core.specs.Bits.{reader, writer};
+ghost use Rattle.bits_core.specs.Open.{IsOpenRight};
+ghost use Rattle.bits_core.specs.History.{open_access};
+ghost use Rattle.ring_run.specs.Words.{digit, agrees, answer_of};
+ghost use Rattle.ring_run.specs.Programs.{Follows, GoesOn, begin_of, end_of};
+ghost use Rattle.ring_run.specs.Rule.{IsIdle};
+ghost use Rattle.ring_run.specs.Hands.{Grows, CanStep, HasStepped, IsAskedFor};
+
+use crate::below::laws_below;
+use crate::views::View;
+use crate::words::Words;
+use atomic_table::Seat;
+use bits_core::{Access, Bit, Oracle, Side};
+use std::marker::{Brand, Model};
+
+// A seat of one side, with its open access and the first load of its open read.
+#[derive(Drop)]
+pub struct Hand<'a> {
+    pub(crate) ring: Words<'a>,
+    pub(crate) seat: Seat<(), View>,
+    pub(crate) side: Side,
+    pub(crate) opened: Option<Access>,
+    pub(crate) first: u64,
+}
+
+impl<'a> Model for Hand<'a> {
+    ghost use Rattle.std.specs.Prelude.{◌≡◌, true, false, []};
+    ghost use Rattle.bits_core.specs.Bits.{other};
+    ghost use Rattle.bits_core.specs.History.{open_access};
+    ghost use Rattle.ring_run.specs.Ring.{RingEnd};
+    ghost use Rattle.ring_run.specs.Rule.{list_of, may_step};
+
+    ghost Value = { RingEnd };
+
+    ghost view = { λ h. record { ring = h.ring; side = h.side; list = list_of h.side h.seat.me.0; known = h.seat.me.0.known } };
+
+    ghost invariant = { λ h. (h.seat.table_id ≡ h.ring.id) × (h.seat.me.1 ≡ []) × (may_step h.side h.seat.me.0 ≡ true) × (may_step (other h.side) h.seat.me.0 ≡ false) × (h.seat.me.0.first ≡ h.first) × (h.opened ≡ open_access h.side (list_of h.side h.seat.me.0)) };
+}
+
+impl<'a> Hand<'a> {
+    fn begin_read(&mut self, bit: Bit)
+        requires bit { (belongs self.old.ring.shape bit ≡ true) × (self.old.side ≡ reader bit) }
+        requires idle { IsIdle self.old.side self.old.list }
+        requires program { Follows self.old.ring.shape self.old.side (self.old.list ++ begin_of self.old.side (Read bit) ∷ []) }
+        ensures { Grows self.old self.new (begin_of self.old.side (Read bit)) }
+    {
+        laws_below();
+        let side = self.side;
+        self.first = self
+            .ring
+            .load_noted::<Brand, ()>(&mut self.seat, bit, side, &());
+        self.opened = Some(Access::Read(bit));
+    }
+
+    // The second load, and the answer by both. The oracle is asked at most once.
+    fn end_read<O: Oracle>(&mut self, bit: Bit, oracle: &mut O) -> bool
+        requires bit { (belongs self.old.ring.shape bit ≡ true) × (self.old.side ≡ reader bit) }
+        requires at { open_access self.old.side self.old.list ≡ Some (Read bit) }
+        requires program { GoesOn self.old.ring.shape self.old.side (Read bit) self.old.list }
+        ensures grows { Grows self.old self.new (end_of self.old.side (Read bit) result) }
+        ensures oracle { IsAskedFor O.answers oracle.old oracle.new result }
+    {
+        laws_below();
+        let side = self.side;
+        let found = self
+            .ring
+            .load_noted::<Brand, O>(&mut self.seat, bit, side, oracle);
+        self.opened = None;
+        answer(self.first, found, oracle)
+    }
+
+    fn begin_write(&mut self, bit: Bit, value: bool)
+        requires bit { (belongs self.old.ring.shape bit ≡ true) × (self.old.side ≡ writer bit) }
+        requires idle { IsIdle self.old.side self.old.list }
+        requires program { Follows self.old.ring.shape self.old.side (self.old.list ++ begin_of self.old.side (Write bit value) ∷ []) }
+        ensures { Grows self.old self.new (begin_of self.old.side (Write bit value)) }
+    {
+        laws_below();
+        let side = self.side;
+        self.ring
+            .store_noted::<Brand, bool>(&mut self.seat, bit, side, &value, 2);
+        self.opened = Some(Access::Write(bit, value));
+    }
+
+    fn end_write(&mut self, bit: Bit, value: bool)
+        requires bit { (belongs self.old.ring.shape bit ≡ true) × (self.old.side ≡ writer bit) }
+        requires at { open_access self.old.side self.old.list ≡ Some (Write bit value) }
+        requires program { GoesOn self.old.ring.shape self.old.side (Write bit value) self.old.list }
+        ensures { Grows self.old self.new (end_of self.old.side (Write bit value) value) }
+    {
+        laws_below();
+        let side = self.side;
+        let new = word_of(value);
+        self.ring
+            .store_noted::<Brand, bool>(&mut self.seat, bit, side, &value, new);
+        self.opened = None;
+    }
+
+    fn begin(&mut self, access: Access)
+        requires right { IsOpenRight self.old.ring.shape self.old.side access }
+        requires idle { IsIdle self.old.side self.old.list }
+        requires program { Follows self.old.ring.shape self.old.side (self.old.list ++ begin_of self.old.side access ∷ []) }
+        ensures { Grows self.old self.new (begin_of self.old.side access) }
+    {
+        match access {
+            Access::Read(bit) => self.begin_read(bit),
+            Access::Write(bit, value) => self.begin_write(bit, value),
+        }
+    }
+
+    fn end<O: Oracle>(&mut self, access: Access, oracle: &mut O) -> bool
+        requires right { IsOpenRight self.old.ring.shape self.old.side access }
+        requires at { open_access self.old.side self.old.list ≡ Some access }
+        requires program { GoesOn self.old.ring.shape self.old.side access self.old.list }
+        ensures grows { Grows self.old self.new (end_of self.old.side access result) }
+        ensures oracle { IsAskedFor O.answers oracle.old oracle.new result }
+    {
+        match access {
+            Access::Read(bit) => self.end_read(bit, oracle),
+            Access::Write(bit, value) => {
+                self.end_write(bit, value);
+                value
+            }
+        }
+    }
+
+    // One step: the access begins, or, where it is open, it ends with the answer.
+    pub fn step<O: Oracle>(&mut self, access: Access, oracle: &mut O) -> Option<bool>
+        requires right { IsOpenRight self.old.ring.shape self.old.side access }
+        requires can { CanStep self.old access }
+        ensures stepped { HasStepped self.old self.new access result }
+        ensures none { IfNone result (oracle.new ≡ oracle.old) }
+        ensures some { IfSome result (IsAskedFor O.answers oracle.old oracle.new) }
+    {
+        match self.opened {
+            None => {
+                self.begin(access);
+                None
+            }
+            Some(_) => Some(self.end(access, oracle)),
+        }
+    }
+}
+
+// The answer of a read by the words that its two loads found: where both are 0, or both 1, it is that, and the oracle is
+// not asked; else the oracle is asked once.
+fn answer<O: Oracle>(first: u64, found: u64, oracle: &mut O) -> bool
+    ensures answer { result ≡ answer_of first found (O.answers oracle.old 0) }
+    ensures agree { agrees first found ≡ true → oracle.new ≡ oracle.old }
+    ensures asks { agrees first found ≡ false → (i : ℕ) → O.answers oracle.new i ≡ O.answers oracle.old (i + 1) }
+{
+    if first == found && found < 2 {
+        found == 1
+    } else {
+        oracle.answer()
+    }
+}
+
+fn word_of(value: bool) -> u64
+    ensures { result ≡ digit value }
+{
+    if value { 1 } else { 0 }
+}

@@ -1,0 +1,24 @@
+//! What a caller of the ends may rest on, each the contract of a function that does nothing.
+ghost use Rattle.ring_run.specs.Laws.{EmptyAfterMeeting, TakesAdd};
+
+use bits_core::laws::made_is_access;
+use ring_core::laws::{calls_are_first, ring_law, takes_are_read};
+
+/// No take is answered `Empty` while an item of a put that a meeting showed is not taken, nor once a meeting showed
+/// the close: of a taker that knows a history, and has made takes behind it, the next one finds the ring empty only
+/// where these have taken as many items as that history's puts stored, and no close stands in it. By the law of the
+/// ring, which says that the ring was empty where such a take began.
+pub fn empty_after_meeting()
+    ensures { EmptyAfterMeeting }
+{
+    ring_law();
+    calls_are_first();
+    takes_are_read();
+    made_is_access();
+}
+
+/// A take leaves the taker's list as it was and adds to it. So the list of a taker begins with its side of what a
+/// meeting showed, however many takes it made since.
+pub fn takes_add()
+    ensures { TakesAdd }
+{}

@@ -1,0 +1,328 @@
+//! How the two ends of a ring are made, meet, and end.
+ghost use Rattle.std.specs.Prelude.{◌≡◌, false, None, []};
+ghost use Rattle.bits_core.specs.declared.events.Side.TheVariants.{P, C};
+ghost use Rattle.ring_run.specs.Hands.{StandsAs};
+ghost use Rattle.ring_run.specs.Rule.{IsIdle};
+ghost use Rattle.ring_run.specs.Meetings.{Keeps, Meets, ClosesAre, TellsAre, closed_reply};
+
+use crate::below::laws_below;
+use crate::hands::Hand;
+use crate::putters::{PutCore, Putter};
+use crate::rings::{FlickerRing, Start};
+use crate::takers::{TakeCore, Taker};
+use crate::views::View;
+use crate::words::Words;
+use atomic_table::Seat;
+use bits_core::{Oracle, Side};
+use ring_core::{Consumer, Producer, TakeReply};
+use std::alloc::{Allocator, Global};
+use std::marker::Model;
+use std::snapshot::Snapshot;
+
+/// A ring whose run is over: its ends are gone. To a contract it is one lawful history, whether a close stands in it,
+/// and whether a take was told that the ring is closed.
+#[derive(Drop)]
+pub struct Finished {
+    seat: Seat<(), View>,
+    closed: bool,
+    told: bool,
+}
+
+impl Model for Finished {
+    ghost use Rattle.ring_run.specs.Meetings.{Ending};
+
+    ghost Value = { Ending };
+
+    ghost view = { λ f. record { history = f.seat.me.0.known; closed = f.closed; told = f.told } };
+}
+
+impl Finished {
+    /// Whether the putter's close was made.
+    pub fn closed(&self) -> bool
+        ensures { result ≡ self.now.closed }
+    {
+        self.closed
+    }
+
+    /// Whether the taker was told that the ring is closed.
+    pub fn told(&self) -> bool
+        ensures { result ≡ self.now.told }
+    {
+        self.told
+    }
+}
+
+impl<A: Allocator> FlickerRing<A> {
+    /// The two ends of the ring: the one puts, the other takes. They have made no call and know the history with no
+    /// event. The start is the one that was made with this ring; it is spent, so a ring has one pair of ends. Each end
+    /// has an oracle, which says what a read answers whose two loads do not agree. It takes no memory.
+    pub fn ends<'a, O1: Oracle + Drop, O2: Oracle + Drop>(
+        &'a self,
+        start: Start,
+        oracle_p: O1,
+        oracle_c: O2,
+    ) -> (Putter<'a, O1>, Taker<'a, O2>)
+        requires { start ≡ self.now.id }
+        ensures putter { (result.0.end ≡ record { ring = self.now; side = P; list = []; known = [] }) × (result.0.call ≡ None) }
+        ensures taker { (result.1.end ≡ record { ring = self.now; side = C; list = []; known = [] }) × (result.1.taking ≡ false) }
+        ensures lawful { StandsAs P result.0.end × StandsAs C result.1.end }
+    {
+        let (p, c) = first_cores(self.words(), self.words(), start);
+        (
+            Putter {
+                core: p,
+                oracle: oracle_p,
+            },
+            Taker {
+                core: c,
+                oracle: oracle_c,
+            },
+        )
+    }
+}
+
+// With an allocator's name, so that `FlickerRing::meet` and `FlickerRing::finish` are called with none: ends have none.
+impl FlickerRing<Global> {
+    /// Both ends learn one lawful history, whose sides are their two lists and which begins with what each knew. All
+    /// later calls of both stand behind it. The ends are those of one ring, with no call under way; they come back with
+    /// the same lists. It makes no access and takes no memory.
+    pub fn meet<'a, O1: Oracle + Drop, O2: Oracle + Drop>(
+        putter: Putter<'a, O1>,
+        taker: Taker<'a, O2>,
+    ) -> (Putter<'a, O1>, Taker<'a, O2>)
+        requires ring { putter.end.ring ≡ taker.end.ring }
+        requires idle { (putter.call ≡ None) × (taker.taking ≡ false) }
+        ensures putter { Keeps putter.entry.end result.0.end × (result.0.call ≡ None) }
+        ensures taker { Keeps taker.entry.end result.1.end × (result.1.taking ≡ false) }
+        ensures one { result.1.end.known ≡ result.0.end.known }
+        ensures meets { Meets putter.entry.end taker.entry.end result.0.end.known }
+        ensures lawful { StandsAs P result.0.end × StandsAs C result.1.end }
+    {
+        let Putter {
+            core: p,
+            oracle: oracle_p,
+        } = putter;
+        let Taker {
+            core: c,
+            oracle: oracle_c,
+        } = taker;
+        let (p, c) = meet_cores(p, c);
+        (
+            Putter {
+                core: p,
+                oracle: oracle_p,
+            },
+            Taker {
+                core: c,
+                oracle: oracle_c,
+            },
+        )
+    }
+
+    /// Ends the ring's run, of which one lawful history is left, whose sides are the two lists and which begins with
+    /// what each end knew. The ends are those of one ring, with no call under way. It makes no access and takes no
+    /// memory.
+    pub fn finish<'a, O1: Oracle + Drop, O2: Oracle + Drop>(
+        putter: Putter<'a, O1>,
+        taker: Taker<'a, O2>,
+    ) -> Finished
+        requires ring { putter.end.ring ≡ taker.end.ring }
+        requires idle { (putter.call ≡ None) × (taker.taking ≡ false) }
+        ensures meets { Meets putter.entry.end taker.entry.end result.history }
+        ensures closed { ClosesAre putter.entry.end.ring.shape putter.entry.end.list result.closed }
+        ensures told { TellsAre taker.entry.end.ring.shape taker.entry.end.list result.told }
+    {
+        let Putter { core: p, oracle: _ } = putter;
+        let Taker { core: c, oracle: _ } = taker;
+        finish_cores(p, c)
+    }
+}
+
+fn first_cores<'a>(ring: Words<'a>, same: Words<'a>, start: Start) -> (PutCore<'a>, TakeCore<'a>)
+    requires { (same ≡ ring) × (start ≡ ring.id) }
+    ensures putter { (result.0.end ≡ record { ring = ring.entry; side = P; list = []; known = [] }) × (result.0.call ≡ None) }
+    ensures taker { (result.1.end ≡ record { ring = ring.entry; side = C; list = []; known = [] }) × (result.1.taking ≡ false) }
+    ensures lawful { StandsAs P result.0.end × StandsAs C result.1.end }
+{
+    let shape = ring.shape();
+    let (p, c) = first_hands(ring, same, start);
+    let start_p = Snapshot::of(&p);
+    let start_c = Snapshot::of(&c);
+    (
+        PutCore {
+            hand: p,
+            machine: Producer::new(shape),
+            start: start_p,
+        },
+        TakeCore {
+            hand: c,
+            machine: Consumer::new(shape),
+            start: start_c,
+        },
+    )
+}
+
+fn meet_cores<'a>(putter: PutCore<'a>, taker: TakeCore<'a>) -> (PutCore<'a>, TakeCore<'a>)
+    requires ring { putter.end.ring ≡ taker.end.ring }
+    requires idle { (putter.call ≡ None) × (taker.taking ≡ false) }
+    ensures putter { Keeps putter.entry.end result.0.end × (result.0.call ≡ None) }
+    ensures taker { Keeps taker.entry.end result.1.end × (result.1.taking ≡ false) }
+    ensures one { result.1.end.known ≡ result.0.end.known }
+    ensures meets { Meets putter.entry.end taker.entry.end result.0.end.known }
+    ensures lawful { StandsAs P result.0.end × StandsAs C result.1.end }
+{
+    laws_below();
+    let PutCore {
+        hand: p,
+        machine: producer,
+        start: start_p,
+    } = putter;
+    let TakeCore {
+        hand: c,
+        machine: consumer,
+        start: start_c,
+    } = taker;
+    let (p, c) = meet_hands(p, c);
+    (
+        PutCore {
+            hand: p,
+            machine: producer,
+            start: start_p,
+        },
+        TakeCore {
+            hand: c,
+            machine: consumer,
+            start: start_c,
+        },
+    )
+}
+
+fn finish_cores<'a>(putter: PutCore<'a>, taker: TakeCore<'a>) -> Finished
+    requires ring { putter.end.ring ≡ taker.end.ring }
+    requires idle { (putter.call ≡ None) × (taker.taking ≡ false) }
+    ensures meets { Meets putter.entry.end taker.entry.end result.history }
+    ensures closed { ClosesAre putter.entry.end.ring.shape putter.entry.end.list result.closed }
+    ensures told { TellsAre taker.entry.end.ring.shape taker.entry.end.list result.told }
+{
+    laws_below();
+    let PutCore {
+        hand: p,
+        machine: producer,
+        start: _,
+    } = putter;
+    let TakeCore {
+        hand: c,
+        machine: consumer,
+        start: _,
+    } = taker;
+    let closed = producer.is_closed();
+    let told = is_closed_reply(consumer.reply());
+    let seat = join_hands(p, c);
+    Finished { seat, closed, told }
+}
+
+fn is_closed_reply(reply: Option<TakeReply>) -> bool
+    ensures { result ≡ closed_reply reply }
+{
+    match reply {
+        Some(TakeReply::Closed) => true,
+        Some(TakeReply::Item(_)) => false,
+        Some(TakeReply::Empty) => false,
+        None => false,
+    }
+}
+
+fn first_hands<'a>(ring: Words<'a>, same: Words<'a>, start: Start) -> (Hand<'a>, Hand<'a>)
+    requires { (same ≡ ring) × (start ≡ ring.id) }
+    ensures putter { result.0 ≡ record { ring = ring.entry; side = P; list = []; known = [] } }
+    ensures taker { result.1 ≡ record { ring = ring.entry; side = C; list = []; known = [] } }
+    ensures lawful { StandsAs P result.0 × StandsAs C result.1 }
+{
+    laws_below();
+    let Start { mut seat } = start;
+    let other = ring.part(&mut seat);
+    (
+        Hand {
+            ring,
+            seat,
+            side: Side::P,
+            opened: None,
+            first: 0,
+        },
+        Hand {
+            ring: same,
+            seat: other,
+            side: Side::C,
+            opened: None,
+            first: 0,
+        },
+    )
+}
+
+fn meet_hands<'a>(p: Hand<'a>, c: Hand<'a>) -> (Hand<'a>, Hand<'a>)
+    requires sides { (p.side ≡ P) × (c.side ≡ C) }
+    requires ring { p.ring ≡ c.ring }
+    requires idle { IsIdle P p.list × IsIdle C c.list }
+    ensures putter { Keeps p.entry result.0 }
+    ensures taker { Keeps c.entry result.1 }
+    ensures one { result.1.known ≡ result.0.known }
+    ensures meets { Meets p.entry c.entry result.0.known }
+    ensures lawful { StandsAs P result.0 × StandsAs C result.1 }
+{
+    let Hand {
+        ring,
+        mut seat,
+        side: _,
+        opened: _,
+        first: _,
+    } = p;
+    let Hand {
+        ring: same,
+        seat: other,
+        side: _,
+        opened: _,
+        first: _,
+    } = c;
+    ring.rejoin(&mut seat, other);
+    let other = ring.part(&mut seat);
+    (
+        Hand {
+            ring,
+            seat,
+            side: Side::P,
+            opened: None,
+            first: 0,
+        },
+        Hand {
+            ring: same,
+            seat: other,
+            side: Side::C,
+            opened: None,
+            first: 0,
+        },
+    )
+}
+
+fn join_hands<'a>(p: Hand<'a>, c: Hand<'a>) -> Seat<(), View>
+    requires sides { (p.side ≡ P) × (c.side ≡ C) }
+    requires ring { p.ring ≡ c.ring }
+    requires idle { IsIdle P p.list × IsIdle C c.list }
+    ensures { Meets p.entry c.entry result.me.0.known }
+{
+    let Hand {
+        ring,
+        mut seat,
+        side: _,
+        opened: _,
+        first: _,
+    } = p;
+    let Hand {
+        ring: _,
+        seat: other,
+        side: _,
+        opened: _,
+        first: _,
+    } = c;
+    ring.rejoin(&mut seat, other);
+    seat
+}

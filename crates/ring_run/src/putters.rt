@@ -1,0 +1,291 @@
+//! The producer's end.
+ghost use Rattle.std.specs.Prelude.{◌≡◌, ◌≢◌, ◌⊎◌, ℕ, ◌+◌, ◌*◌, ◌^◌, ◌<◌, ◌≤◌, true, false, Some, None, List, [], ◌∷◌, ◌++◌, length, IfSome, IfNone, IsTrue};
+ghost use Rattle.bits_core.specs.declared.events.Event.{Event};
+ghost use Rattle.bits_core.specs.Made.{Made};
+ghost use Rattle.bits_core.specs.Shape.{width_of};
+ghost use Rattle.ring_core.specs.declared.producers.PutReply.TheVariants.{Closed};
+ghost use Rattle.ring_core.specs.declared.producers.BatchReply.TheVariants as batch_reply;
+ghost use Rattle.ring_core.specs.Lengths.{longest_put};
+ghost use Rattle.ring_core.specs.Puts.{Puts, IsBatch};
+ghost use Rattle.ring_core.specs.ProducerState.{Put, Close, due_put, call_of};
+ghost use Rattle.ring_core.specs.ProducerCalls.{ProducerStands, longest_of};
+ghost use Rattle.ring_run.specs.Hands.{Grows, IsAskedOnce, IsSameEnd, StandsAs};
+ghost use Rattle.bits_core.specs.declared.events.Side.TheVariants.{P};
+ghost use Rattle.ring_run.specs.Ends.{HasPut, HasPutAll, HasPutPart, HasClosed, whole_put, puts_whole};
+ghost use Rattle.ring_run.specs.Machines.{PutterAt, PutterStep, CallBegins};
+
+use crate::below::laws_below;
+use crate::hands::Hand;
+use bits_core::{Oracle, Shape};
+use ring_core::{BatchReply, Producer, PutReply};
+use std::marker::Model;
+use std::snapshot::Snapshot;
+
+// The producer's end but for its oracle.
+#[derive(Drop)]
+pub struct PutCore<'a> {
+    pub(crate) hand: Hand<'a>,
+    pub(crate) machine: Producer,
+    // the hand as the call under way began
+    pub(crate) start: Snapshot<Hand<'a>>,
+}
+
+impl<'a> Model for PutCore<'a> {
+    ghost use Rattle.ring_core.specs.ProducerState.{call_of};
+    ghost use Rattle.ring_run.specs.Ends.{PutterState, whole_put};
+    ghost use Rattle.ring_run.specs.Machines.{IsPutter};
+
+    ghost Value = { PutterState };
+
+    ghost view = { λ p. record { end = p.hand; call = call_of p.machine; batched = p.machine.batched; start = p.start.value.list } };
+
+    ghost invariant = { λ p. IsPutter p.hand p.machine (whole_put (call_of p.machine) p.hand.list p.start.value.list) };
+}
+
+/// The producer's end of a ring. Its calls `put`, `put_all` and `close` are those of [`PutEnd`](crate::PutEnd); the step
+/// calls here make one atomic step each of such a call.
+///
+/// To a contract it is its list of events, what it knows, and the call under way with the list where that began. They
+/// take no memory and wait for nobody.
+#[derive(Drop)]
+pub struct Putter<'a, O: Oracle + Drop> {
+    pub(crate) core: PutCore<'a>,
+    pub(crate) oracle: O,
+}
+
+impl<'a, O: Oracle + Drop> Model for Putter<'a, O> {
+    ghost use Rattle.ring_run.specs.Ends.{PutterState};
+
+    ghost Value = { PutterState };
+
+    ghost view = { λ p. p.core };
+}
+
+// One step of the call under way.
+fn advance<'a, O: Oracle>(hand: &mut Hand<'a>, machine: &mut Producer, oracle: &mut O)
+    requires at { (calls : Puts) × (made : List Made) × PutterAt hand.old machine.old calls made }
+    ensures rests { call_of machine.old ≡ None → (machine.new ≡ machine.old) × (hand.new ≡ hand.old) }
+    ensures kind { machine.new.batched ≡ machine.old.batched }
+    ensures steps { (calls : Puts) (made : List Made) → PutterAt hand.old machine.old calls made → call_of machine.old ≢ None → PutterStep hand.old machine.old hand.new machine.new calls }
+    ensures oracle { IsAskedOnce O.answers oracle.old oracle.new }
+{
+    laws_below();
+    let _expects = machine.expects_one();
+    match machine.next() {
+        None => {}
+        Some(access) => match hand.step(access, oracle) {
+            None => {}
+            Some(answer) => machine.feed(answer),
+        },
+    }
+}
+
+// Keeps the hand where no call is under way.
+fn mark_start<'a>(start: &mut Snapshot<Hand<'a>>, hand: &Hand<'a>, machine: &Producer)
+    requires stands { (calls : Puts) × (made : List Made) × ProducerStands machine.now calls made }
+    ensures { start.new.value.list ≡ whole_put (call_of machine.now) hand.now.list start.old.value.list }
+{
+    if machine.next().is_none() {
+        *start = Snapshot::of(hand);
+    }
+}
+
+// Begins a put where no call is under way.
+fn begin_put(machine: &mut Producer, item: u64)
+    requires stands { (calls : Puts) × (made : List Made) × ProducerStands machine.old calls made }
+    requires fits { item < 2 ^ width_of machine.old.shape }
+    requires call { (call_of machine.old ≡ None) ⊎ ((call_of machine.old ≡ Some (Put (item ∷ []))) × (machine.old.batched ≡ false)) }
+    ensures kind { machine.new.batched ≡ false }
+    ensures begins { (calls : Puts) (made : List Made) → ProducerStands machine.old calls made → CallBegins machine.old machine.new calls made (Put (item ∷ [])) }
+{
+    if machine.next().is_none() {
+        machine.put(item);
+    }
+}
+
+// Begins a put of items where no call is under way.
+fn begin_put_all(machine: &mut Producer, items: &[u64])
+    requires stands { (calls : Puts) × (made : List Made) × ProducerStands machine.old calls made }
+    requires batch { IsBatch machine.old.shape items.now }
+    requires call { (call_of machine.old ≡ None) ⊎ ((call_of machine.old ≡ Some (Put items.now)) × (machine.old.batched ≡ true)) }
+    ensures kind { machine.new.batched ≡ true }
+    ensures begins { (calls : Puts) (made : List Made) → ProducerStands machine.old calls made → CallBegins machine.old machine.new calls made (Put items.now) }
+{
+    if machine.next().is_none() {
+        machine.put_all(items);
+    }
+}
+
+// Begins a close where no call is under way.
+fn begin_close(machine: &mut Producer)
+    requires stands { (calls : Puts) × (made : List Made) × ProducerStands machine.old calls made }
+    requires call { (call_of machine.old ≡ None) ⊎ (call_of machine.old ≡ Some Close) }
+    ensures begins { (calls : Puts) (made : List Made) → ProducerStands machine.old calls made → CallBegins machine.old machine.new calls made Close }
+{
+    if machine.next().is_none() {
+        machine.close();
+    }
+}
+
+impl<'a> PutCore<'a> {
+    // The shape of the ring.
+    pub(crate) fn shape(&self) -> Shape
+        ensures shape { result ≡ self.now.end.ring.shape }
+        ensures lawful { StandsAs P self.now.end }
+    {
+        self.hand.ring.shape()
+    }
+
+    // One step of a put of the item, which begins where no call is under way. The reply comes with the last
+    // step. After a close the put is answered `Closed` at once, with no step.
+    fn step_put<O: Oracle>(&mut self, item: u64, oracle: &mut O) -> Option<PutReply>
+        requires fits { item < 2 ^ width_of self.old.end.ring.shape }
+        requires call { (self.old.call ≡ None) ⊎ ((self.old.call ≡ Some (Put (item ∷ []))) × (self.old.batched ≡ false)) }
+        ensures same { IsSameEnd self.old.end self.new.end }
+        ensures lawful { StandsAs P self.new.end }
+        ensures one { ((result ≡ Some Closed) × (self.new.end ≡ self.old.end)) ⊎ ((e : Event) × Grows self.old.end self.new.end e) }
+        ensures none { IfNone result ((self.new.call ≡ Some (Put (item ∷ []))) × (self.new.batched ≡ false) × (puts_whole self.new ≡ puts_whole self.old) × HasPutPart self.new.end.ring.shape (Put (item ∷ [])) (puts_whole self.new) self.new.end.list) }
+        ensures some { IfSome result (λ r. (self.new.call ≡ None) × HasPut self.new.end.ring.shape item (puts_whole self.old) self.new.end.list r) }
+        ensures few { length self.new.end.list ≤ length (puts_whole self.old) + 2 * longest_put self.new.end.ring.shape }
+        ensures oracle { IsAskedOnce O.answers oracle.old oracle.new }
+    {
+        laws_below();
+        mark_start(&mut self.start, &self.hand, &self.machine);
+        begin_put(&mut self.machine, item);
+        advance(&mut self.hand, &mut self.machine, oracle);
+        self.machine.reply()
+    }
+
+    // One step of a put of the items under one count write, which begins where no call is under way. The reply
+    // comes with the last step. After a close the put is answered `Closed` at once, with no step.
+    fn step_put_all<O: Oracle>(&mut self, items: &[u64], oracle: &mut O) -> Option<BatchReply>
+        requires batch { IsBatch self.old.end.ring.shape items.now }
+        requires call { (self.old.call ≡ None) ⊎ ((self.old.call ≡ Some (Put items.now)) × (self.old.batched ≡ true)) }
+        ensures same { IsSameEnd self.old.end self.new.end }
+        ensures lawful { StandsAs P self.new.end }
+        ensures one { ((result ≡ Some batch_reply.Closed) × (self.new.end ≡ self.old.end)) ⊎ ((e : Event) × Grows self.old.end self.new.end e) }
+        ensures none { IfNone result ((self.new.call ≡ Some (Put items.now)) × (self.new.batched ≡ true) × (puts_whole self.new ≡ puts_whole self.old) × HasPutPart self.new.end.ring.shape (Put items.now) (puts_whole self.new) self.new.end.list) }
+        ensures some { IfSome result (λ r. (self.new.call ≡ None) × HasPutAll self.new.end.ring.shape items.now (puts_whole self.old) self.new.end.list r) }
+        ensures few { length self.new.end.list ≤ length (puts_whole self.old) + 2 * longest_of self.new.end.ring.shape items.now }
+        ensures oracle { IsAskedOnce O.answers oracle.old oracle.new }
+    {
+        laws_below();
+        mark_start(&mut self.start, &self.hand, &self.machine);
+        begin_put_all(&mut self.machine, items);
+        advance(&mut self.hand, &mut self.machine, oracle);
+        self.machine.batch_reply()
+    }
+
+    // One step of a close, which begins where no call is under way; true with the last step. A second close
+    // is over at once, with no step.
+    fn step_close<O: Oracle>(&mut self, oracle: &mut O) -> bool
+        requires call { (self.old.call ≡ None) ⊎ (self.old.call ≡ Some Close) }
+        ensures same { IsSameEnd self.old.end self.new.end }
+        ensures lawful { StandsAs P self.new.end }
+        ensures one { ((result ≡ true) × (self.new.end ≡ self.old.end)) ⊎ ((e : Event) × Grows self.old.end self.new.end e) }
+        ensures goes_on { result ≡ false → (self.new.call ≡ Some Close) × (puts_whole self.new ≡ puts_whole self.old) × HasPutPart self.new.end.ring.shape Close (puts_whole self.new) self.new.end.list }
+        ensures over { result ≡ true → (self.new.call ≡ None) × HasClosed self.new.end.ring.shape (puts_whole self.old) self.new.end.list }
+        ensures few { length self.new.end.list ≤ length (puts_whole self.old) + 2 }
+        ensures oracle { IsAskedOnce O.answers oracle.old oracle.new }
+    {
+        laws_below();
+        mark_start(&mut self.start, &self.hand, &self.machine);
+        begin_close(&mut self.machine);
+        advance(&mut self.hand, &mut self.machine, oracle);
+        self.machine.next().is_none()
+    }
+}
+
+impl<'a, O: Oracle + Drop> Putter<'a, O> {
+    /// One step of a put of the item: one event of its accesses. The put begins where no call is under way, and the
+    /// reply comes with its last step. After a close it is answered `Closed` at once, with no step. The item has to fit
+    /// the width, and to be the same until the reply.
+    pub fn step_put(&mut self, item: u64) -> Option<PutReply>
+        requires fits { item < 2 ^ width_of self.old.end.ring.shape }
+        requires call { (self.old.call ≡ None) ⊎ ((self.old.call ≡ Some (Put (item ∷ []))) × (self.old.batched ≡ false)) }
+        ensures same { IsSameEnd self.old.end self.new.end }
+        ensures lawful { StandsAs P self.new.end }
+        ensures one { ((result ≡ Some Closed) × (self.new.end ≡ self.old.end)) ⊎ ((e : Event) × Grows self.old.end self.new.end e) }
+        ensures none { IfNone result ((self.new.call ≡ Some (Put (item ∷ []))) × (self.new.batched ≡ false) × (puts_whole self.new ≡ puts_whole self.old) × HasPutPart self.new.end.ring.shape (Put (item ∷ [])) (puts_whole self.new) self.new.end.list) }
+        ensures some { IfSome result (λ r. (self.new.call ≡ None) × HasPut self.new.end.ring.shape item (puts_whole self.old) self.new.end.list r) }
+        ensures few { length self.new.end.list ≤ length (puts_whole self.old) + 2 * longest_put self.new.end.ring.shape }
+    {
+        self.core.step_put(item, &mut self.oracle)
+    }
+
+    /// One step of a put of the items under one count write, in the same way. There are 1 to as many items as the
+    /// shape's batch, each has to fit the width, and they are the same until the reply.
+    pub fn step_put_all(&mut self, items: &[u64]) -> Option<BatchReply>
+        requires batch { IsBatch self.old.end.ring.shape items.now }
+        requires call { (self.old.call ≡ None) ⊎ ((self.old.call ≡ Some (Put items.now)) × (self.old.batched ≡ true)) }
+        ensures same { IsSameEnd self.old.end self.new.end }
+        ensures lawful { StandsAs P self.new.end }
+        ensures one { ((result ≡ Some batch_reply.Closed) × (self.new.end ≡ self.old.end)) ⊎ ((e : Event) × Grows self.old.end self.new.end e) }
+        ensures none { IfNone result ((self.new.call ≡ Some (Put items.now)) × (self.new.batched ≡ true) × (puts_whole self.new ≡ puts_whole self.old) × HasPutPart self.new.end.ring.shape (Put items.now) (puts_whole self.new) self.new.end.list) }
+        ensures some { IfSome result (λ r. (self.new.call ≡ None) × HasPutAll self.new.end.ring.shape items.now (puts_whole self.old) self.new.end.list r) }
+        ensures few { length self.new.end.list ≤ length (puts_whole self.old) + 2 * longest_of self.new.end.ring.shape items.now }
+    {
+        self.core.step_put_all(items, &mut self.oracle)
+    }
+
+    /// One step of a close, which begins where no call is under way; true with the last step. A second close is over at
+    /// once, with no step.
+    pub fn step_close(&mut self) -> bool
+        requires call { (self.old.call ≡ None) ⊎ (self.old.call ≡ Some Close) }
+        ensures same { IsSameEnd self.old.end self.new.end }
+        ensures lawful { StandsAs P self.new.end }
+        ensures one { ((result ≡ true) × (self.new.end ≡ self.old.end)) ⊎ ((e : Event) × Grows self.old.end self.new.end e) }
+        ensures goes_on { result ≡ false → (self.new.call ≡ Some Close) × (puts_whole self.new ≡ puts_whole self.old) × HasPutPart self.new.end.ring.shape Close (puts_whole self.new) self.new.end.list }
+        ensures over { result ≡ true → (self.new.call ≡ None) × HasClosed self.new.end.ring.shape (puts_whole self.old) self.new.end.list }
+        ensures few { length self.new.end.list ≤ length (puts_whole self.old) + 2 }
+    {
+        self.core.step_close(&mut self.oracle)
+    }
+
+    // Puts the item, or finds the ring full or closed.
+    pub(crate) fn put_item(&mut self, item: u64) -> PutReply
+        requires fits { item < 2 ^ width_of self.old.end.ring.shape }
+        requires idle { self.old.call ≡ None }
+        ensures same { IsSameEnd self.old.end self.new.end }
+        ensures lawful { StandsAs P self.new.end }
+        ensures idle { self.new.call ≡ None }
+        ensures phrase { HasPut self.new.end.ring.shape item self.old.end.list self.new.end.list result }
+    {
+        'steps: loop {
+            if let Some(reply) = self.step_put(item) {
+                return reply;
+            }
+        }
+    }
+
+    // Puts the items under one count write, as many as there is room for, or finds the ring full or closed.
+    pub(crate) fn put_items(&mut self, items: &[u64]) -> BatchReply
+        requires batch { IsBatch self.old.end.ring.shape items.now }
+        requires idle { self.old.call ≡ None }
+        ensures same { IsSameEnd self.old.end self.new.end }
+        ensures lawful { StandsAs P self.new.end }
+        ensures idle { self.new.call ≡ None }
+        ensures phrase { HasPutAll self.new.end.ring.shape items.now self.old.end.list self.new.end.list result }
+    {
+        'steps: loop {
+            if let Some(reply) = self.step_put_all(items) {
+                return reply;
+            }
+        }
+    }
+
+    // Closes the ring. A second close does nothing.
+    pub(crate) fn close_ring(&mut self)
+        requires idle { self.old.call ≡ None }
+        ensures same { IsSameEnd self.old.end self.new.end }
+        ensures lawful { StandsAs P self.new.end }
+        ensures idle { self.new.call ≡ None }
+        ensures phrase { HasClosed self.new.end.ring.shape self.old.end.list self.new.end.list }
+    {
+        'steps: loop {
+            if self.step_close() {
+                return;
+            }
+        }
+    }
+}

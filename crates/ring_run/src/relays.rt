@@ -1,0 +1,263 @@
+//! The two ends of a ring at work in two threads.
+ghost use Rattle.std.specs.Prelude.{◌≡◌, ◌⊎◌, ℕ, ◌+◌, ◌<◌, ◌≤◌, ◌==◌, true, false, [], IfOk, OnOk, length, take};
+ghost use Rattle.ring_run.specs.Hands.{IsSameEnd};
+ghost use Rattle.bits_core.specs.Made.{IsBeginning};
+ghost use Rattle.bits_core.specs.Shape.{AllFit, batch_of, capacity_of};
+ghost use Rattle.ring_run.specs.Relays.{HasMadePuts, HasMadeTakes, HasRelayedPuts, HasRelayedTakes, IsRelayed};
+
+use crate::ends::{PutEnd, TakeEnd};
+use crate::faults::RunFault;
+use crate::gates::Gate;
+use crate::rings::FlickerRing;
+use bits_core::{Oracle, Shape, Side};
+use ring_core::laws::{puts_are_read, ring_law, takes_are_read, whole_calls_count};
+use ring_core::{BatchReply, TakeReply};
+use std::alloc::Allocator;
+use std::thread::{Threads, join_mut};
+
+/// How many puts and takes a relay makes at most.
+#[derive(Clone, Copy, PartialEq, Eq, Debug)]
+pub struct Limits {
+    /// The most puts.
+    pub puts: u64,
+    /// The most takes.
+    pub takes: u64,
+}
+
+impl Limits {
+    /// The same for both.
+    pub fn both(n: u64) -> Limits
+        ensures { (result.puts ≡ n) × (result.takes ≡ n) }
+    {
+        Limits { puts: n, takes: n }
+    }
+}
+
+// How many of the items left one put is given: a batch, or all where fewer are left.
+fn next_batch(shape: &Shape, left: usize) -> usize
+    requires some { 0 < left }
+    ensures some { 0 < result }
+    ensures few { result ≤ batch_of shape.now }
+    ensures left { result ≤ left }
+    ensures most { (result ≡ batch_of shape.now) ⊎ ((result ≡ left) × (left ≤ batch_of shape.now)) }
+{
+    let batch = shape.batch() as usize;
+    if left < batch { left } else { batch }
+}
+
+// Puts the items in order, as many at a time as the shape's batch has, each again while the ring is full, and
+// closes behind the last. Tells how many items were stored, how many puts were made, and how many found the
+// ring full.
+fn put_in_order<E: PutEnd, G: Gate>(
+    putter: &mut E,
+    items: &[u64],
+    limit: u64,
+    gate: &G,
+) -> (u64, u64, u64)
+    requires idle { E.idle putter.old }
+    requires fresh { (E.end putter.old).list ≡ [] }
+    requires fit { AllFit (E.end putter.old).ring.shape items.now }
+    ensures idle { E.idle putter.new }
+    ensures same { IsSameEnd (E.end putter.old) (E.end putter.new) }
+    ensures puts { HasRelayedPuts (E.end putter.new).ring.shape (E.end putter.new).list items.now limit result.0 result.1 result.2 }
+{
+    puts_are_read();
+    let shape = putter.shape();
+    let mut put = 0;
+    let mut made = 0;
+    let mut full = 0;
+    'puts: while put < items.len() && made < limit {
+        gate.pass(Side::P, made);
+        let next = put + next_batch(&shape, items.len() - put);
+        match putter.put_all(&items[put..next]) {
+            BatchReply::Stored(stored) => {
+                put += stored as usize;
+                made += 1;
+            }
+            BatchReply::Full => {
+                full += 1;
+                made += 1;
+            }
+            BatchReply::Closed => unreachable!(),
+        }
+    }
+    if put == items.len() {
+        putter.close();
+    }
+    (put as u64, made, full)
+}
+
+// What the takes of a relay came to.
+#[derive(Drop)]
+struct Taken<A: Allocator> {
+    items: Vec<u64, A>,
+    empty: u64,
+    closed: bool,
+}
+
+// Takes until the ring is closed.
+fn take_all<A: Allocator, E: TakeEnd, G: Gate>(
+    alloc: A,
+    taker: &mut E,
+    limit: u64,
+    gate: &G,
+) -> Result<Taken<A>, RunFault>
+    requires idle { E.idle taker.old }
+    requires fresh { (E.end taker.old).list ≡ [] }
+    ensures idle { E.idle taker.new }
+    ensures same { IsSameEnd (E.end taker.old) (E.end taker.new) }
+    ensures takes { IfOk result (λ t. HasRelayedTakes (E.end taker.new).ring.shape (E.end taker.new).list limit t.items.items t.empty t.closed) }
+    ensures made { HasMadeTakes (E.end taker.new).ring.shape (E.end taker.new).list limit }
+{
+    takes_are_read();
+    let mut items = Vec::new(alloc);
+    let mut empty = 0;
+    let mut closed = false;
+    'takes: while !closed && items.len() as u64 + empty < limit {
+        items.reserve(1)?;
+        gate.pass(Side::C, items.len() as u64 + empty);
+        match taker.take() {
+            TakeReply::Item(item) => match items.push(item) {
+                Ok(()) => {}
+                Err(_) => unreachable!(),
+            },
+            TakeReply::Empty => empty += 1,
+            TakeReply::Closed => closed = true,
+        }
+    }
+    Ok(Taken {
+        items,
+        empty,
+        closed,
+    })
+}
+
+/// What a relay came to.
+#[derive(Drop)]
+pub struct Outcome<A: Allocator> {
+    /// How many items were stored.
+    pub put: u64,
+    /// How many puts were made.
+    pub calls: u64,
+    /// The items taken, in order.
+    pub taken: Vec<u64, A>,
+    /// Whether the taker was told that the ring is closed.
+    pub closed: bool,
+    /// How many puts found the ring full.
+    pub full: u64,
+    /// How many takes found the ring empty.
+    pub empty: u64,
+}
+
+/// Works the two ends at the same time, in two threads. The one side puts the items in order, as many at a time as the
+/// shape's batch has, goes on behind those that were stored, and closes behind the last; so a put that found the ring
+/// full is made again. The other side takes until it is told that the ring is closed. Neither makes more puts or takes
+/// than its limit (the close is not counted), and each passes the gate before each of them, with the number that it has
+/// made.
+///
+/// The ends have made no call yet, and every item has to fit the width. It takes memory for the items that are taken.
+/// `OutOfMemory` is answered only where the allocator refused that: then the puts are made all the same, and both ends
+/// keep the whole calls that they have made.
+pub fn relay<R: Threads, A: Allocator + Copy, E: PutEnd + Send, F: TakeEnd + Send, G: Gate + Sync>(
+    rt: &R,
+    alloc: A,
+    putter: &mut E,
+    taker: &mut F,
+    items: &[u64],
+    limits: Limits,
+    gate: &G,
+) -> Result<Outcome<A>, RunFault>
+    requires idle { E.idle putter.old × F.idle taker.old }
+    requires fresh { ((E.end putter.old).list ≡ []) × ((F.end taker.old).list ≡ []) }
+    requires fit { AllFit (E.end putter.old).ring.shape items.now }
+    ensures idle { E.idle putter.new × F.idle taker.new }
+    ensures same { IsSameEnd (E.end putter.old) (E.end putter.new) × IsSameEnd (F.end taker.old) (F.end taker.new) }
+    ensures puts { IfOk result (λ r. HasRelayedPuts (E.end putter.new).ring.shape (E.end putter.new).list items.now limits.puts r.put r.calls r.full) }
+    ensures takes { IfOk result (λ r. HasRelayedTakes (F.end taker.new).ring.shape (F.end taker.new).list limits.takes r.taken.items r.empty r.closed) }
+    ensures puts_made { HasMadePuts (E.end putter.new).ring.shape (E.end putter.new).list items.now limits.puts }
+    ensures takes_made { HasMadeTakes (F.end taker.new).ring.shape (F.end taker.new).list limits.takes }
+{
+    let (puts, takes) = join_mut(
+        rt,
+        &mut || -> (u64, u64, u64)
+            requires { E.idle putter.now × ((E.end putter.now).list ≡ []) × AllFit (E.end putter.now).ring.shape items.now }
+            ensures { E.idle putter.exit.now × IsSameEnd (E.end putter.entry.now) (E.end putter.exit.now) × HasRelayedPuts (E.end putter.exit.now).ring.shape (E.end putter.exit.now).list items.entry.now limits.puts result.0 result.1 result.2 }
+        { put_in_order(putter, items, limits.puts, gate) },
+        &mut || -> Result<Taken<A>, RunFault>
+            requires { F.idle taker.now × ((F.end taker.now).list ≡ []) }
+            ensures { F.idle taker.exit.now × IsSameEnd (F.end taker.entry.now) (F.end taker.exit.now) × IfOk result (λ t. HasRelayedTakes (F.end taker.exit.now).ring.shape (F.end taker.exit.now).list limits.takes t.items.items t.empty t.closed) × HasMadeTakes (F.end taker.exit.now).ring.shape (F.end taker.exit.now).list limits.takes }
+        { take_all(alloc, taker, limits.takes, gate) },
+    );
+    let takes = takes?;
+    let (put, calls, full) = puts;
+    Ok(Outcome {
+        put,
+        calls,
+        taken: takes.items,
+        closed: takes.closed,
+        full,
+        empty: takes.empty,
+    })
+}
+
+// Makes a ring and its ends, relays, and ends the ring's run.
+fn relay_ring<
+    R: Threads,
+    A: Allocator + Copy,
+    O1: Oracle + Drop + Send,
+    O2: Oracle + Drop + Send,
+    G: Gate + Sync,
+>(
+    rt: &R,
+    alloc: A,
+    shape: Shape,
+    oracle_p: O1,
+    oracle_c: O2,
+    items: &[u64],
+    limits: Limits,
+    gate: &G,
+) -> Result<Outcome<A>, RunFault>
+    requires fit { AllFit shape items.now }
+    ensures { IfOk result (λ r. IsRelayed shape items.now limits.puts limits.takes r.put r.calls r.full r.taken.items r.empty r.closed) }
+{
+    let (ring, start) = FlickerRing::new(alloc, shape)?;
+    let (mut putter, mut taker) = ring.ends(start, oracle_p, oracle_c);
+    let outcome = relay(rt, alloc, &mut putter, &mut taker, items, limits, gate)?;
+    let _finished = FlickerRing::finish(putter, taker);
+    Ok(outcome)
+}
+
+/// Makes a ring and its ends, relays, and ends the ring's run. What it came to is counted in one lawful history of
+/// safe bits whose two sides follow their programs, so by the law of the ring (Lamport 1977) the items taken are the
+/// first of those that were stored; where the taker was told that the ring is closed, all items were stored and taken;
+/// and no more were stored and not taken than the ring has cells.
+///
+/// Every item has to fit the width. It takes memory for the words of the ring and for the items that are taken.
+/// `OutOfMemory` is answered only where the allocator refused some.
+pub fn relay_flicker<
+    R: Threads,
+    A: Allocator + Copy,
+    O1: Oracle + Drop + Send,
+    O2: Oracle + Drop + Send,
+    G: Gate + Sync,
+>(
+    rt: &R,
+    alloc: A,
+    shape: Shape,
+    oracle_p: O1,
+    oracle_c: O2,
+    items: &[u64],
+    limits: Limits,
+    gate: &G,
+) -> Result<Outcome<A>, RunFault>
+    requires fit { AllFit shape items.now }
+    ensures counted { IfOk result (λ r. IsRelayed shape items.now limits.puts limits.takes r.put r.calls r.full r.taken.items r.empty r.closed) }
+    ensures prefix { IfOk result (λ r. IsBeginning r.taken.items (take r.put items.now)) }
+    ensures all { IfOk result (λ r. r.closed ≡ true → (r.put ≡ length items.now) × (r.taken.items ≡ items.now)) }
+    ensures within { IfOk result (λ r. r.put ≤ length r.taken.items + capacity_of shape) }
+{
+    ring_law();
+    whole_calls_count();
+    let outcome = relay_ring(rt, alloc, shape, oracle_p, oracle_c, items, limits, gate)?;
+    Ok(outcome)
+}

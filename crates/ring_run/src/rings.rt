@@ -1,0 +1,100 @@
+//! The ring.
+ghost use Rattle.std.specs.Prelude.{◌≡◌, [], IfOk};
+ghost use Rattle.ring_run.specs.Rule.{joint};
+ghost use Rattle.ring_run.specs.Words.{first_words};
+
+use crate::below::laws_below;
+use crate::faults::RunFault;
+use crate::views::{Law, View};
+use crate::words::Words;
+use atomic_table::{Seat, Table};
+use bits_core::Shape;
+use std::alloc::{AllocError, Allocator};
+use std::marker::Model;
+
+/// The safe bits of one producer and one consumer, shared by two threads with no lock (Lamport 1977, over the
+/// registers of 1986).
+///
+/// Each bit has an atomic word of its own: 0 or 1, and 2 while a write of the bit is under way. A read loads the word
+/// twice. Where both loads give 0, or both give 1, that is its answer; else a write may overlap the read, and the
+/// reading end's oracle says what it answers. So a bit is no more than safe: it flickers while it is written.
+///
+/// To a contract a ring is its shape, and which ring it is.
+#[derive(Drop)]
+pub struct FlickerRing<A: Allocator> {
+    table: Table<(), View, Shape, Law, A>,
+    shape: Shape,
+}
+
+impl<A: Allocator> Model for FlickerRing<A> {
+    ghost use Rattle.std.specs.Prelude.{◌≡◌};
+    ghost use Rattle.ring_run.specs.Words.{word_count};
+    ghost use Rattle.ring_run.specs.Ring.{Ring};
+
+    ghost Value = { Ring };
+
+    ghost view = { λ r. record { shape = r.shape; id = r.table.shared.table_id } };
+
+    ghost invariant = { λ r. (r.table.shared.key ≡ r.shape) × (r.table.shared.table_id.words ≡ word_count r.shape) };
+}
+
+/// The right to make the two ends of one ring; with no other can they be made. To a contract it is which ring it is.
+#[derive(Drop)]
+pub struct Start {
+    pub(crate) seat: Seat<(), View>,
+}
+
+impl Model for Start {
+    ghost use Rattle.std.specs.Prelude.{◌≡◌, []};
+    ghost use Rattle.atomic_table.specs.Seated.{TableId, table_id_coded};
+    ghost use Rattle.ring_run.specs.Rule.{joint};
+
+    ghost Value = { TableId };
+
+    ghost coded = { table_id_coded };
+
+    ghost view = { λ s. s.seat.table_id };
+
+    ghost invariant = { λ s. s.seat.me ≡ (joint [] [] [] [], []) };
+}
+
+impl<A: Allocator + Copy> FlickerRing<A> {
+    /// A ring of this shape with nothing put, and the right to make its ends. It takes memory for one word for each
+    /// bit. `OutOfMemory` is answered only where the allocator refused that.
+    pub fn new(alloc: A, shape: Shape) -> Result<(FlickerRing<A>, Start), RunFault>
+        ensures { IfOk result (λ r. (r.0.shape ≡ shape) × (r.1 ≡ r.0.id)) }
+    {
+        laws_below();
+        let words = starting_words(alloc, shape)?;
+        let (table, seat) = Table::of_words(alloc, words.as_slice(), &shape)?;
+        Ok((FlickerRing { table, shape }, Start { seat }))
+    }
+}
+
+impl<A: Allocator> FlickerRing<A> {
+    /// The shape of the ring.
+    pub fn shape(&self) -> Shape
+        ensures { result ≡ self.now.shape }
+    {
+        self.shape
+    }
+
+    // The words as an end reaches them.
+    pub(crate) fn words<'a>(&'a self) -> Words<'a>
+        ensures { result ≡ self.now }
+    {
+        Words::of(&self.table.shared, self.shape)
+    }
+}
+
+// The words of bits that hold their first values.
+fn starting_words<A: Allocator>(alloc: A, shape: Shape) -> Result<Vec<u64, A>, AllocError>
+    ensures { IfOk result (λ v. v.items ≡ first_words shape) }
+{
+    let m = shape.modulus() as usize;
+    let cells = shape.capacity() as usize * shape.width() as usize;
+    let mut words = vec![in alloc; 0u64; 1 + m + m + cells]?;
+    words[1] = 1;
+    words[1 + m] = 1;
+    Ok(words)
+}

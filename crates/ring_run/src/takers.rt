@@ -1,0 +1,156 @@
+//! The consumer's end.
+ghost use Rattle.std.specs.Prelude.{◌≡◌, ◌≢◌, ◌⊎◌, ℕ, ◌+◌, ◌*◌, ◌<◌, ◌≤◌, true, false, Some, None, List, [], ◌∷◌, ◌++◌, length, IfSome, IfNone};
+ghost use Rattle.bits_core.specs.declared.events.Event.{Event};
+ghost use Rattle.bits_core.specs.Made.{Made};
+ghost use Rattle.ring_core.specs.declared.consumers.TakeReply.TheVariants.{Closed};
+ghost use Rattle.ring_core.specs.Lengths.{longest_take};
+ghost use Rattle.ring_core.specs.Takes.{Takes};
+ghost use Rattle.ring_core.specs.ConsumerState.{due_take, is_taking};
+ghost use Rattle.ring_core.specs.ConsumerCalls.{ConsumerStands};
+ghost use Rattle.ring_run.specs.Hands.{Grows, IsAskedOnce, IsSameEnd, StandsAs};
+ghost use Rattle.bits_core.specs.declared.events.Side.TheVariants.{C};
+ghost use Rattle.ring_run.specs.Ends.{HasTaken, HasTakePart, whole_take, takes_whole};
+ghost use Rattle.ring_run.specs.Machines.{TakerAt, TakerStep, TakeBegins};
+
+use crate::below::laws_below;
+use crate::hands::Hand;
+use bits_core::{Oracle, Shape};
+use ring_core::{Consumer, TakeReply};
+use std::marker::Model;
+use std::snapshot::Snapshot;
+
+// The consumer's end but for its oracle.
+#[derive(Drop)]
+pub struct TakeCore<'a> {
+    pub(crate) hand: Hand<'a>,
+    pub(crate) machine: Consumer,
+    // the hand as the take under way began
+    pub(crate) start: Snapshot<Hand<'a>>,
+}
+
+impl<'a> Model for TakeCore<'a> {
+    ghost use Rattle.ring_core.specs.ConsumerState.{is_taking};
+    ghost use Rattle.ring_run.specs.Ends.{TakerState, whole_take};
+    ghost use Rattle.ring_run.specs.Machines.{IsTaker};
+
+    ghost Value = { TakerState };
+
+    ghost view = { λ p. record { end = p.hand; taking = is_taking p.machine; start = p.start.value.list } };
+
+    ghost invariant = { λ p. IsTaker p.hand p.machine (whole_take (is_taking p.machine) p.hand.list p.start.value.list) };
+}
+
+/// The consumer's end of a ring. Its call `take` is that of [`TakeEnd`](crate::TakeEnd); the step call here makes one
+/// atomic step of it.
+///
+/// To a contract it is its list of events, what it knows, and whether a take is under way with the list where that
+/// began. It takes no memory and waits for nobody.
+#[derive(Drop)]
+pub struct Taker<'a, O: Oracle + Drop> {
+    pub(crate) core: TakeCore<'a>,
+    pub(crate) oracle: O,
+}
+
+impl<'a, O: Oracle + Drop> Model for Taker<'a, O> {
+    ghost use Rattle.ring_run.specs.Ends.{TakerState};
+
+    ghost Value = { TakerState };
+
+    ghost view = { λ p. p.core };
+}
+
+// One step of the take under way.
+fn advance<'a, O: Oracle>(hand: &mut Hand<'a>, machine: &mut Consumer, oracle: &mut O)
+    requires at { (calls : Takes) × (made : List Made) × TakerAt hand.old machine.old calls made }
+    ensures rests { is_taking machine.old ≡ false → (machine.new ≡ machine.old) × (hand.new ≡ hand.old) }
+    ensures steps { (calls : Takes) (made : List Made) → TakerAt hand.old machine.old calls made → is_taking machine.old ≡ true → TakerStep hand.old machine.old hand.new machine.new calls }
+    ensures oracle { IsAskedOnce O.answers oracle.old oracle.new }
+{
+    laws_below();
+    let _expects = machine.expects_one();
+    match machine.next() {
+        None => {}
+        Some(access) => match hand.step(access, oracle) {
+            None => {}
+            Some(answer) => machine.feed(answer),
+        },
+    }
+}
+
+// Keeps the hand where no take is under way.
+fn mark_start<'a>(start: &mut Snapshot<Hand<'a>>, hand: &Hand<'a>, machine: &Consumer)
+    requires stands { (calls : Takes) × (made : List Made) × ConsumerStands machine.now calls made }
+    ensures { start.new.value.list ≡ whole_take (is_taking machine.now) hand.now.list start.old.value.list }
+{
+    if machine.next().is_none() {
+        *start = Snapshot::of(hand);
+    }
+}
+
+// Begins a take where none is under way.
+fn begin_take(machine: &mut Consumer)
+    requires stands { (calls : Takes) × (made : List Made) × ConsumerStands machine.old calls made }
+    ensures begins { (calls : Takes) (made : List Made) → ConsumerStands machine.old calls made → TakeBegins machine.old machine.new calls made }
+{
+    if machine.next().is_none() {
+        machine.take();
+    }
+}
+
+impl<'a> TakeCore<'a> {
+    // The shape of the ring.
+    pub(crate) fn shape(&self) -> Shape
+        ensures shape { result ≡ self.now.end.ring.shape }
+        ensures lawful { StandsAs C self.now.end }
+    {
+        self.hand.ring.shape()
+    }
+
+    // One step of a take, which begins where none is under way. The reply comes with the last step. Once a
+    // take was told `Closed`, each is answered so at once, with no step.
+    fn step_take<O: Oracle>(&mut self, oracle: &mut O) -> Option<TakeReply>
+        ensures same { IsSameEnd self.old.end self.new.end }
+        ensures lawful { StandsAs C self.new.end }
+        ensures one { ((result ≡ Some Closed) × (self.new.end ≡ self.old.end)) ⊎ ((e : Event) × Grows self.old.end self.new.end e) }
+        ensures none { IfNone result ((self.new.taking ≡ true) × (takes_whole self.new ≡ takes_whole self.old) × HasTakePart self.new.end.ring.shape (takes_whole self.new) self.new.end.list) }
+        ensures some { IfSome result (λ r. (self.new.taking ≡ false) × HasTaken self.new.end.ring.shape (takes_whole self.old) self.new.end.list r) }
+        ensures few { length self.new.end.list ≤ length (takes_whole self.old) + 2 * longest_take self.new.end.ring.shape }
+        ensures oracle { IsAskedOnce O.answers oracle.old oracle.new }
+    {
+        laws_below();
+        mark_start(&mut self.start, &self.hand, &self.machine);
+        begin_take(&mut self.machine);
+        advance(&mut self.hand, &mut self.machine, oracle);
+        self.machine.reply()
+    }
+}
+
+impl<'a, O: Oracle + Drop> Taker<'a, O> {
+    /// One step of a take: one event of its accesses. The take begins where none is under way, and the reply comes with
+    /// its last step. Once a take was told `Closed`, each is answered so at once, with no step.
+    pub fn step_take(&mut self) -> Option<TakeReply>
+        ensures same { IsSameEnd self.old.end self.new.end }
+        ensures lawful { StandsAs C self.new.end }
+        ensures one { ((result ≡ Some Closed) × (self.new.end ≡ self.old.end)) ⊎ ((e : Event) × Grows self.old.end self.new.end e) }
+        ensures none { IfNone result ((self.new.taking ≡ true) × (takes_whole self.new ≡ takes_whole self.old) × HasTakePart self.new.end.ring.shape (takes_whole self.new) self.new.end.list) }
+        ensures some { IfSome result (λ r. (self.new.taking ≡ false) × HasTaken self.new.end.ring.shape (takes_whole self.old) self.new.end.list r) }
+        ensures few { length self.new.end.list ≤ length (takes_whole self.old) + 2 * longest_take self.new.end.ring.shape }
+    {
+        self.core.step_take(&mut self.oracle)
+    }
+
+    // Takes an item, or finds the ring empty or closed.
+    pub(crate) fn take_item(&mut self) -> TakeReply
+        requires idle { self.old.taking ≡ false }
+        ensures same { IsSameEnd self.old.end self.new.end }
+        ensures lawful { StandsAs C self.new.end }
+        ensures idle { self.new.taking ≡ false }
+        ensures phrase { HasTaken self.new.end.ring.shape self.old.end.list self.new.end.list result }
+    {
+        'steps: loop {
+            if let Some(reply) = self.step_take() {
+                return reply;
+            }
+        }
+    }
+}

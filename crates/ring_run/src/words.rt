@@ -1,0 +1,145 @@
+//! The words of a ring as its ends reach them.
+ghost use Rattle.std.specs.Prelude.{◌≡◌, ℕ, true, []};
+ghost use Rattle.atomic_table.specs.Table.{Allows};
+ghost use Rattle.bits_core.specs.declared.events.Side.TheVariants.{P, C};
+ghost use Rattle.bits_core.specs.Shape.{belongs};
+ghost use Rattle.ring_run.specs.Rule.{Kept, Added, Learned, Holds, IsIdle, joint, joined, putter_of, taker_of};
+ghost use Rattle.ring_run.specs.Words.{word_place};
+
+use crate::below::laws_below;
+use crate::views::{Adds, Both, Cut, Law, Learns, Note, View};
+use atomic_table::{Seat, Shared};
+use bits_core::{Bit, Shape, Side};
+use std::marker::{Brand, Model};
+
+// The words of a ring, by which one of its ends steps. To a contract they are that ring.
+#[derive(Drop)]
+pub struct Words<'a> {
+    shared: &'a Shared<(), View, Shape, Law>,
+    shape: Shape,
+}
+
+impl<'a> Model for Words<'a> {
+    ghost use Rattle.std.specs.Prelude.{◌≡◌};
+    ghost use Rattle.ring_run.specs.Words.{word_count};
+    ghost use Rattle.ring_run.specs.Ring.{Ring};
+
+    ghost Value = { Ring };
+
+    ghost view = { λ w. record { shape = w.shape; id = w.shared.now.table_id } };
+
+    ghost invariant = { λ w. (w.shared.now.key ≡ w.shape) × (w.shared.now.table_id.words ≡ word_count w.shape) };
+}
+
+impl<'a> Words<'a> {
+    ghost use Rattle.ring_run.specs.Words.{word_count};
+
+    // The words of a table whose key is the shape.
+    pub(crate) fn of(shared: &'a Shared<(), View, Shape, Law>, shape: Shape) -> Words<'a>
+        requires { (shared.now.key ≡ shape) × (shared.now.table_id.words ≡ word_count shape) }
+        ensures { result ≡ record { shape = shape; id = shared.now.table_id } }
+    {
+        Words { shared, shape }
+    }
+
+    // The shape of the ring.
+    pub(crate) fn shape(&self) -> Shape
+        ensures { result ≡ self.now.shape }
+    {
+        self.shape
+    }
+
+    fn word_of(&self, bit: Bit) -> usize
+        requires { belongs self.now.shape bit ≡ true }
+        ensures { result ≡ word_place self.now.shape bit }
+    {
+        match bit {
+            Bit::X => 0,
+            Bit::S(i) => 1 + i as usize,
+            Bit::R(i) => 1 + self.shape.modulus() as usize + i as usize,
+            Bit::Cell(j, i) => {
+                let m = self.shape.modulus() as usize;
+                1 + m + m + (j as usize * self.shape.width() as usize + i as usize)
+            }
+        }
+    }
+
+    // A load. `side` and `about` are for the proof.
+    pub(crate) fn load_noted<N: Note, T>(
+        &self,
+        seat: &mut Seat<(), View>,
+        bit: Bit,
+        side: Side,
+        about: &T,
+    ) -> u64
+        requires own { (seat.old.table_id ≡ self.now.id) × (belongs self.now.shape bit ≡ true) }
+        requires rule { (slots : ℕ) → Allows (Kept self.now.shape) slots seat.old.id seat.old.me (word_place self.now.shape bit) (λ n. n) (Added N.shape N.event seat.old.me) }
+        ensures same { (seat.new.table_id ≡ seat.old.table_id) × (seat.new.id ≡ seat.old.id) }
+        ensures added { Added N.shape N.event seat.old.me result seat.new.me }
+    {
+        let word = self.word_of(bit);
+        self.shared.load::<Adds<N>>(seat, word)
+    }
+
+    // A store.
+    pub(crate) fn store_noted<N: Note, T>(
+        &self,
+        seat: &mut Seat<(), View>,
+        bit: Bit,
+        side: Side,
+        about: &T,
+        new: u64,
+    )
+        requires own { (seat.old.table_id ≡ self.now.id) × (belongs self.now.shape bit ≡ true) }
+        requires rule { (slots : ℕ) → Allows (Kept self.now.shape) slots seat.old.id seat.old.me (word_place self.now.shape bit) (λ _. new) (λ _. Added N.shape N.event seat.old.me new) }
+        ensures same { (seat.new.table_id ≡ seat.old.table_id) × (seat.new.id ≡ seat.old.id) }
+        ensures added { Added N.shape N.event seat.old.me new seat.new.me }
+    {
+        let word = self.word_of(bit);
+        self.shared.store::<Adds<N>>(seat, word, new);
+    }
+
+    // Cuts the joint seat in two.
+    pub(crate) fn part(&self, seat: &mut Seat<(), View>) -> Seat<(), View>
+        requires own { (seat.old.table_id ≡ self.now.id) × (seat.old.me.0.puts ≡ true) × (seat.old.me.0.takes ≡ true) }
+        ensures putter { (seat.new.table_id ≡ seat.old.table_id) × (seat.new.me ≡ (putter_of seat.old.me.0, seat.old.me.1)) }
+        ensures taker { (result.table_id ≡ seat.old.table_id) × (result.me ≡ (taker_of seat.old.me.0, [])) }
+    {
+        self.shared.split_seat::<Cut>(seat)
+    }
+
+    // Puts the two seats together.
+    pub(crate) fn unite(&self, seat: &mut Seat<(), View>, other: Seat<(), View>)
+        requires own { (seat.old.table_id ≡ self.now.id) × (other.table_id ≡ self.now.id) × (other.me.1 ≡ []) }
+        requires sides { (seat.old.me.0.puts ≡ true) × (other.me.0.takes ≡ true) }
+        requires idle { IsIdle P seat.old.me.0.put × IsIdle C other.me.0.taken }
+        ensures { (seat.new.table_id ≡ seat.old.table_id) × (seat.new.me ≡ (joined seat.old.me.0 other.me.0, seat.old.me.1)) }
+    {
+        laws_below();
+        self.shared.join_seat::<Both>(seat, other);
+    }
+
+    // The joint seat learns the history.
+    pub(crate) fn learn<N: Note>(&self, seat: &mut Seat<(), View>)
+        requires own { (seat.old.table_id ≡ self.now.id) × (seat.old.me.0.puts ≡ true) × (seat.old.me.0.takes ≡ true) }
+        requires idle { IsIdle P seat.old.me.0.put × IsIdle C seat.old.me.0.taken }
+        requires shape { N.shape ≡ self.now.shape }
+        ensures { (seat.new.table_id ≡ seat.old.table_id) × Learned self.now.shape seat.old.me seat.new.me }
+    {
+        laws_below();
+        let _ = self.shared.load::<Learns<N>>(seat, 0);
+    }
+
+    // Puts the two seats together, and the joint seat learns the history.
+    pub(crate) fn rejoin(&self, seat: &mut Seat<(), View>, other: Seat<(), View>)
+        requires own { (seat.old.table_id ≡ self.now.id) × (other.table_id ≡ self.now.id) × (other.me.1 ≡ []) }
+        requires sides { (seat.old.me.0.puts ≡ true) × (other.me.0.takes ≡ true) }
+        requires idle { IsIdle P seat.old.me.0.put × IsIdle C other.me.0.taken }
+        ensures same { (seat.new.table_id ≡ seat.old.table_id) × (seat.new.me.1 ≡ seat.old.me.1) }
+        ensures view { seat.new.me.0 ≡ joint seat.old.me.0.put other.me.0.taken seat.new.me.0.known seat.new.me.0.known }
+        ensures holds { Holds self.now.shape seat.new.me.0.known (joined seat.old.me.0 other.me.0) }
+    {
+        self.unite(seat, other);
+        self.learn::<Brand>(seat);
+    }
+}
