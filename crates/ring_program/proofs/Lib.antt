@@ -1,1 +1,3 @@
 mod PlayLemmas
+mod Endings
+mod RunItems

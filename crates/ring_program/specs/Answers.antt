@@ -1,5 +1,5 @@
 -- What the program answers to a request on an input, and how it ends.
-use Rattle.std.specs.Prelude.{◌≡◌, ◌≢◌, ◌⊎◌, ◌<◌, ◌≤◌, ℕ, List, [], Option, Some, None, length, take}
+use Rattle.std.specs.Prelude.{◌≡◌, ◌≢◌, ◌⊎◌, ◌<◌, ◌≤◌, ◌+◌, ℕ, Bool, true, false, List, [], Option, Some, None, IfSome, length, take}
 use Rattle.std.specs.Io.KnownBytes.{Appends, Keeps}
 use Rattle.clap.specs.Kinds.{IsAmong, Kinds}
 use Rattle.clap.specs.declared.error.kind.ErrorKind.{ErrorKind}
@@ -10,6 +10,9 @@ use Rattle.bits_core.specs.declared.audits.Verdict.{Verdict}
 use Rattle.bits_core.specs.declared.audits.Verdict.TheVariants.{Lawful, Fault}
 use Rattle.bits_core.specs.declared.events.Event.{Event}
 use Rattle.bits_core.specs.declared.shapes.Shape.{Shape}
+use Rattle.bits_core.specs.declared.shapes.ShapeFault.{ShapeFault}
+use Rattle.bits_core.specs.Shape.{HasBatch, IsRefusedBatch}
+use Rattle.bits_core.specs.Made.{IsBeginning}
 use Rattle.bits_core.specs.declared.traces.TraceFault.{TraceFault}
 use Rattle.bits_core.specs.declared.traces.TraceFault.TheVariants as trace
 use Rattle.ring_audit.specs.Audit.{IsFinding, SaysSentence, Statement}
@@ -23,12 +26,19 @@ use Rattle.ring_script.specs.Script.{Content, IsScript}
 use Rattle.ring_script.specs.declared.faults.ScriptFault.{ScriptFault}
 use Rattle.ring_script.specs.declared.faults.ScriptFault.TheVariants as script
 use Rattle.ring_program.specs.Reports.{Reports}
-use Rattle.ring_program.specs.Texts.{Summary, audit_text_of, report_text_of, verdict_text_of}
+use Rattle.ring_run.specs.Relays.{IsRelayed}
+use Rattle.ring_run.specs.declared.faults.RunFault.TheVariants as run
+use Rattle.ring_program.specs.Runs.{run_items}
+use Rattle.ring_program.specs.Texts.{Summary, audit_text_of, relay_text_of, report_text_of, verdict_text_of}
 use Rattle.ring_program.specs.declared.inputs.TheConstants.{INPUT_LIMIT}
-use Rattle.ring_program.specs.declared.program.Ending.{Ending}
-use Rattle.ring_program.specs.declared.program.Ending.TheVariants.{Done, FaultFound}
+use Rattle.ring_program.specs.declared.answers.Ending.{Ending}
+use Rattle.ring_program.specs.declared.answers.Ending.TheVariants.{Done, FaultFound, LimitReached}
+use Rattle.ring_program.specs.declared.command_line.Question.{Question}
+use Rattle.ring_program.specs.declared.command_line.Question.TheVariants.{Audit, AuditBits, Play, PlayTrace}
 use Rattle.ring_program.specs.declared.command_line.Request.{Request}
-use Rattle.ring_program.specs.declared.command_line.Request.TheVariants.{Audit, AuditBits, Play, PlayTrace}
+use Rattle.ring_program.specs.declared.command_line.Request.TheVariants.{OnInput}
+use Rattle.ring_program.specs.declared.command_line.Request.TheVariants as request
+use Rattle.ring_program.specs.declared.run_line.Run.{Run}
 use Rattle.ring_program.specs.declared.faults.AppFault.TheVariants as app
 use Rattle.ring_program.specs.declared.faults.Refusal.{Refusal}
 use Rattle.ring_program.specs.declared.faults.Refusal.TheVariants as refusal
@@ -36,12 +46,18 @@ use Rattle.ring_program.specs.declared.faults.Refusal.TheVariants as refusal
 -- the exit status that goes with an ending
 abbrev pub status_of : Ending → ℕ
 status_of Done = 0
+status_of LimitReached = 1
 status_of FaultFound = 3
 
 -- how an audit with this verdict ends
 abbrev pub verdict_ending_of : Verdict → Ending
 verdict_ending_of Lawful = Done
 verdict_ending_of (Fault place kind) = FaultFound
+
+-- how a run ends, by whether its taker was told that the ring is closed
+abbrev pub relay_ending_of : Bool → Ending
+relay_ending_of true = Done
+relay_ending_of false = LimitReached
 
 -- how an audit with this finding ends
 abbrev pub finding_ending_of : Statement → Ending
@@ -95,17 +111,46 @@ pub record TracesScript (input text : List ℕ) (ending : Ending) : Type 0 where
   pub is_trace : IsTrace text content.shape history
   pub ends : ending ≡ Done
 
--- the request, on this input, is answered by this text and this ending
-abbrev pub Answers : Request → List ℕ → List ℕ → Ending → Type 0
+-- what came of a run, in a ring of the shape of its numbers: it is counted in one lawful history whose two sides follow their
+-- programs; the items taken are the first ones, in order, and all of them once the taker was told that the ring is closed
+pub record AnswersRun (run : Run) (text : List ℕ) (ending : Ending) : Type 0 where
+  pub shape : Shape
+  pub put : ℕ
+  pub calls : ℕ
+  pub full : ℕ
+  pub taken : List ℕ
+  pub empty : ℕ
+  pub closed : Bool
+  pub of_numbers : HasBatch run.capacity run.modulus run.width run.batch shape
+  pub relayed : IsRelayed shape (run_items run) run.limits.puts run.limits.takes put calls full taken empty closed
+  pub prefix : IsBeginning taken (take put (run_items run))
+  pub all : closed ≡ true → taken ≡ run_items run
+  pub within : put ≤ length taken + run.capacity
+  pub words : text ≡ relay_text_of put (length taken) closed
+  pub ends : ending ≡ relay_ending_of closed
+
+-- memory ran out, in the program, the trace, the audit, the script, the play or the run
+unfoldable pub IsOutOfMemory : Refusal → Type 0
+IsOutOfMemory e = (e ≡ refusal.App app.OutOfMemory)
+    ⊎ ((e ≡ refusal.Trace trace.OutOfMemory) ⊎ ((e ≡ refusal.Audit finding.OutOfMemory)
+    ⊎ ((e ≡ refusal.Script script.OutOfMemory) ⊎ ((e ≡ refusal.Play play.OutOfMemory) ⊎ (e ≡ refusal.Run run.OutOfMemory)))))
+
+-- a true cause of a refusal of a run: its numbers are no shape's, or memory ran out
+abbrev pub IsRunCause : Run → Refusal → Type 0
+IsRunCause run e = IsOutOfMemory e
+    ⊎ ((fault : ShapeFault) × (e ≡ refusal.Shape fault) × IsRefusedBatch run.capacity run.modulus run.width run.batch fault)
+
+-- the question, on this input, is answered by this text and this ending
+abbrev pub Answers : Question → List ℕ → List ℕ → Ending → Type 0
 Answers Audit input text ending = AuditsPrograms input text ending
 Answers AuditBits input text ending = AuditsBits input text ending
 Answers Play input text ending = PlaysScript input text ending
 Answers PlayTrace input text ending = TracesScript input text ending
 
--- how a request that was answered may end: an audit alone may have found a fault
-abbrev pub MayEnd : Request → Ending → Type 0
-MayEnd Audit ending = Unit {0}
-MayEnd AuditBits ending = Unit {0}
+-- how a question that was answered may end: an audit alone may have found a fault
+abbrev pub MayEnd : Question → Ending → Type 0
+MayEnd Audit ending = (ending ≡ Done) ⊎ (ending ≡ FaultFound)
+MayEnd AuditBits ending = (ending ≡ Done) ⊎ (ending ≡ FaultFound)
 MayEnd Play ending = ending ≡ Done
 MayEnd PlayTrace ending = ending ≡ Done
 
@@ -117,8 +162,8 @@ RefusesTrace input e = (fault : TraceFault) × (e ≡ refusal.Trace fault) × Is
 abbrev pub RefusesScript : List ℕ → Refusal → Type 0
 RefusesScript input e = (fault : ScriptFault) × (e ≡ refusal.Script fault) × IsScriptFault input fault
 
--- the request refuses the input, for this cause
-abbrev pub Refuses : Request → List ℕ → Refusal → Type 0
+-- the question refuses the input, for this cause
+abbrev pub Refuses : Question → List ℕ → Refusal → Type 0
 Refuses Audit input e = RefusesTrace input e
 Refuses AuditBits input e = RefusesTrace input e
 Refuses Play input e = RefusesScript input e
@@ -128,47 +173,63 @@ Refuses PlayTrace input e = RefusesScript input e
 abbrev pub IsTooLarge : List ℕ → Refusal → Type 0
 IsTooLarge input e = (e ≡ refusal.App app.TooLarge) × (INPUT_LIMIT < length input)
 
--- memory ran out, in the program, the trace, the audit, the script or the play
-abbrev pub IsOutOfMemory : Refusal → Type 0
-IsOutOfMemory e = (e ≡ refusal.App app.OutOfMemory)
-    ⊎ ((e ≡ refusal.Trace trace.OutOfMemory) ⊎ ((e ≡ refusal.Audit finding.OutOfMemory)
-    ⊎ ((e ≡ refusal.Script script.OutOfMemory) ⊎ (e ≡ refusal.Play play.OutOfMemory))))
-
 -- memory ran out, or a read failed
 unfoldable pub IsShortage : Refusal → Type 0
 IsShortage e = IsOutOfMemory e ⊎ (e ≡ refusal.App app.ReadFailed)
 
--- a true cause of a refusal, of a request on an input; only of an input that is not too large the text is refused
-abbrev pub IsCause : Request → List ℕ → Refusal → Type 0
-IsCause request input e = IsShortage e ⊎ (IsTooLarge input e ⊎ ((length input ≤ INPUT_LIMIT) × Refuses request input e))
+-- a true cause of a refusal, of a question on an input; only of an input that is not too large the text is refused
+abbrev pub IsCause : Question → List ℕ → Refusal → Type 0
+IsCause question input e = IsShortage e ⊎ (IsTooLarge input e ⊎ ((length input ≤ INPUT_LIMIT) × Refuses question input e))
 
--- the request was answered: the output gained the whole text, and the status is the answer's
-pub record Told (request : Request) (input : List ℕ) (before after : Option (List ℕ)) (status : ℕ) : Type 0 where
+-- what is answered to a question on an input that is not too large
+abbrev pub AnswersWithin : Question → List ℕ → List ℕ → Ending → Type 0
+AnswersWithin question input text ending = (length input ≤ INPUT_LIMIT) × Answers question input text ending
+
+-- ---- how the program ends, by what may be answered and what is a true cause of a refusal
+
+-- an answer was given: the output gained the whole text, and the status is the answer's
+pub record Told (IsAnswer : List ℕ → Ending → Type 0) (before after : Option (List ℕ)) (status : ℕ) : Type 0 where
   pub text : List ℕ
   pub ending : Ending
-  pub within : length input ≤ INPUT_LIMIT
-  pub answer : Answers request input text ending
+  pub answer : IsAnswer text ending
   pub ends : status ≡ status_of ending
   pub written : Appends before after text
 
--- the output gained a front of the text of the answer
-pub record CutShort (request : Request) (input : List ℕ) (before after : Option (List ℕ)) : Type 0 where
+-- the output gained a front of the text of an answer
+pub record CutShort (IsAnswer : List ℕ → Ending → Type 0) (before after : Option (List ℕ)) : Type 0 where
   pub text : List ℕ
   pub ending : Ending
-  pub within : length input ≤ INPUT_LIMIT
-  pub answer : Answers request input text ending
+  pub answer : IsAnswer text ending
   pub count : ℕ
   pub written : Appends before after (take count text)
 
 -- a refusal: for a true cause, and the output gained nothing; or a write failed, after the output had gained a front of the text
-abbrev pub Refused : Request → List ℕ → Option (List ℕ) → Option (List ℕ) → Refusal → Type 0
-Refused request input before after e = (IsCause request input e × Keeps before after)
-    ⊎ ((e ≡ refusal.App app.WriteFailed) × CutShort request input before after)
+abbrev pub Refused : (List ℕ → Ending → Type 0) → (Refusal → Type 0) → Option (List ℕ) → Option (List ℕ) → Refusal → Type 0
+Refused IsAnswer IsReason before after e = (IsReason e × Keeps before after)
+    ⊎ ((e ≡ refusal.App app.WriteFailed) × CutShort IsAnswer before after)
 
--- how the program ends on a request
-abbrev pub Ends : Request → List ℕ → Option (List ℕ) → Option (List ℕ) → ℕ → Type 0
-Ends request input before after status = Told request input before after status
-    ⊎ ((status ≡ 1) × (e : Refusal) × Refused request input before after e)
+abbrev pub EndsBy : (List ℕ → Ending → Type 0) → (Refusal → Type 0) → Option (List ℕ) → Option (List ℕ) → ℕ → Type 0
+EndsBy IsAnswer IsReason before after status = Told IsAnswer before after status
+    ⊎ ((status ≡ 1) × (e : Refusal) × Refused IsAnswer IsReason before after e)
+
+-- how the program ends on a question of this input
+abbrev pub RefusedOn : Question → List ℕ → Option (List ℕ) → Option (List ℕ) → Refusal → Type 0
+RefusedOn question input = Refused (AnswersWithin question input) (IsCause question input)
+
+abbrev pub EndsOn : Question → List ℕ → Option (List ℕ) → Option (List ℕ) → ℕ → Type 0
+EndsOn question input = EndsBy (AnswersWithin question input) (IsCause question input)
+
+-- how it ends on a run, which has no input
+abbrev pub RefusedRun : Run → Option (List ℕ) → Option (List ℕ) → Refusal → Type 0
+RefusedRun run = Refused (AnswersRun run) (IsRunCause run)
+
+abbrev pub EndsRun : Run → Option (List ℕ) → Option (List ℕ) → ℕ → Type 0
+EndsRun run = EndsBy (AnswersRun run) (IsRunCause run)
+
+-- how it ends on a request, where the reader tells that this is its input
+abbrev pub Ends : Request → Option (List ℕ) → Option (List ℕ) → Option (List ℕ) → ℕ → Type 0
+Ends (OnInput question) input before after status = IfSome input (λ bytes. EndsOn question bytes before after status)
+Ends (request.Run run) input before after status = EndsRun run before after status
 
 -- help or the version was asked for
 abbrev pub IsHelp : ErrorKind → Type 0
@@ -208,14 +269,25 @@ abbrev pub EndsUnasked : Kinds → Option (List ℕ) → Option (List ℕ) → �
 EndsUnasked kinds before after status = NoMemory before after status
     ⊎ (HelpGiven kinds before after status ⊎ Mistaken kinds before after status)
 
--- the exit statuses of a request, whatever the reader and the writers do
-abbrev pub IsStatusOf : Request → ℕ → Type 0
-IsStatusOf Audit status = (status ≡ 0) ⊎ ((status ≡ 1) ⊎ (status ≡ 3))
-IsStatusOf AuditBits status = (status ≡ 0) ⊎ ((status ≡ 1) ⊎ (status ≡ 3))
-IsStatusOf Play status = (status ≡ 0) ⊎ (status ≡ 1)
-IsStatusOf PlayTrace status = (status ≡ 0) ⊎ (status ≡ 1)
+-- the exit statuses of a question, whatever the reader and the writers do
+abbrev pub IsStatusOn : Question → ℕ → Type 0
+IsStatusOn Audit status = (status ≡ 0) ⊎ ((status ≡ 1) ⊎ (status ≡ 3))
+IsStatusOn AuditBits status = (status ≡ 0) ⊎ ((status ≡ 1) ⊎ (status ≡ 3))
+IsStatusOn Play status = (status ≡ 0) ⊎ (status ≡ 1)
+IsStatusOn PlayTrace status = (status ≡ 0) ⊎ (status ≡ 1)
 
--- those of words that ask for this request or for nothing
+-- of a request
+abbrev pub IsStatusOf : Request → ℕ → Type 0
+IsStatusOf (OnInput question) status = IsStatusOn question status
+IsStatusOf (request.Run run) status = (status ≡ 0) ⊎ (status ≡ 1)
+
+-- and of words that ask for this request or for nothing
 abbrev pub IsStatus : Option Request → ℕ → Type 0
-IsStatus (Some request) status = IsStatusOf request status
+IsStatus (Some asked) status = IsStatusOf asked status
 IsStatus None status = (status ≡ 0) ⊎ ((status ≡ 1) ⊎ (status ≡ 2))
+
+-- the question that the words ask of an input, if any
+abbrev pub question_in : Option Request → Option Question
+question_in (Some (OnInput question)) = Some question
+question_in (Some (request.Run run)) = None
+question_in None = None

@@ -1,11 +1,19 @@
 -- What the words of the command line ask for.
-use Rattle.std.specs.Prelude.{Bool, true, false, List, [], ◌∷◌, Option, Some, None, codes, if◌then◌else◌}
-use Rattle.std.specs.Option.{option_map_or}
+use Rattle.std.specs.Prelude.{ℕ, Bool, true, false, List, [], ◌∷◌, Option, Some, None, codes, if◌then◌else◌, option_and_then, option_map}
+use Rattle.std.specs.Option.{option_map_or, unwrap_or}
 use Rattle.std.specs.Str.{bytes_eq}
 use Rattle.clap.specs.Words.{App, Kinds, Row, Rule, Text, fault_of, first_of, new_app, new_rule, subcommand_of, with_rule, with_subcommand}
-use Rattle.clap.specs.declared.builder.action.ArgAction.TheVariants.{SetTrue}
+use Rattle.clap.specs.declared.builder.action.ArgAction.TheVariants.{Set, SetTrue}
+use Rattle.clap.specs.ValueTests.{is_unsigned_in}
+use Rattle.clap.specs.declared.builder.value_parser.ValueParser.TheVariants.{Unsigned}
+use Rattle.std.specs.Str.Parse.{digits_value, without_leading_plus}
+use Rattle.ring_program.specs.declared.command_line.Question.{Question}
+use Rattle.ring_program.specs.declared.command_line.Question.TheVariants.{Audit, AuditBits, Play, PlayTrace}
 use Rattle.ring_program.specs.declared.command_line.Request.{Request}
-use Rattle.ring_program.specs.declared.command_line.Request.TheVariants.{Audit, AuditBits, Play, PlayTrace}
+use Rattle.ring_program.specs.declared.command_line.Request.TheVariants.{OnInput}
+use Rattle.ring_program.specs.declared.command_line.Request.TheVariants as request
+use Rattle.ring_program.specs.declared.run_line.Run.{Run}
+use Rattle.ring_program.specs.declared.run_line.TheConstants.{ITEM_LIMIT}
 
 -- `--bits`
 abbrev pub bits : Rule
@@ -23,29 +31,73 @@ trace = record (new_rule (codes "trace")) { long = Some (codes "trace"); action 
 abbrev pub play_command : App
 play_command = with_rule (new_app (codes "play")) trace
 
+-- an option whose value is a number up to the most
+abbrev pub number_rule : Text → ℕ → Rule
+number_rule id most = record (new_rule id) { long = Some id; action = Some Set; value_names = 1; parser = Some (Unsigned 0 most) }
+
+-- one that has to be given
+abbrev pub required_rule : Text → ℕ → Rule
+required_rule id most = record (number_rule id most) { required = true }
+
+-- the largest number of 64 bits
+abbrev pub largest : ℕ
+largest = 18446744073709551615
+
+-- `--batch`, which is 1 where it is left out
+abbrev pub batch_rule : Rule
+batch_rule = record (number_rule (codes "batch") largest) { defaults = codes "1" ∷ [] }
+
+-- `run`, with the five options that have to be given, and two that may be left out
+abbrev pub run_application : App
+run_application =
+    with_rule (with_rule (with_rule (with_rule (with_rule (with_rule (with_rule (new_app (codes "run"))
+    (required_rule (codes "capacity") largest)) (required_rule (codes "modulus") largest)) (required_rule (codes "width") largest))
+    (required_rule (codes "count") ITEM_LIMIT)) (required_rule (codes "limit") largest)) (number_rule (codes "takes") largest)) batch_rule
+
 -- the program, which has a version, and of which one command has to be named
 unfoldable pub application : App
 application =
     let named = new_app (codes "lamport_ring") in
     let required = record named { top = record named.top { subcommand_required = true; has_version = true } } in
-    with_subcommand (with_subcommand required audit_command.top) play_command.top
+    with_subcommand (with_subcommand (with_subcommand required audit_command.top) play_command.top) run_application.top
 
 -- the flag of this id was given
 abbrev pub is_flag_given : Text → List Row → Bool
 is_flag_given id rows = option_map_or (λ t. bytes_eq t (codes "true")) (first_of id rows) false
 
-abbrev pub audit_request_of : List Row → Request
-audit_request_of rows = if is_flag_given (codes "bits") rows then AuditBits else Audit
+abbrev pub audit_question_of : List Row → Question
+audit_question_of rows = if is_flag_given (codes "bits") rows then AuditBits else Audit
 
-abbrev pub play_request_of : List Row → Request
-play_request_of rows = if is_flag_given (codes "trace") rows then PlayTrace else Play
+abbrev pub play_question_of : List Row → Question
+play_question_of rows = if is_flag_given (codes "trace") rows then PlayTrace else Play
+
+-- the number that a text writes in decimal, where it writes one of 64 bits
+abbrev pub number_in : Text → Option ℕ
+number_in text = if is_unsigned_in 0 largest text then Some (digits_value 10 (without_leading_plus text)) else None
+
+-- the number that the option of this id was given
+abbrev pub number_given : Text → List Row → Option ℕ
+number_given id rows = option_and_then number_in (first_of id rows)
+
+abbrev pub run_of_numbers : ℕ → ℕ → ℕ → ℕ → ℕ → ℕ → ℕ → Run
+run_of_numbers capacity modulus width batch count puts takes =
+    record { capacity = capacity; modulus = modulus; width = width; batch = batch; count = count; limits = record { puts = puts; takes = takes } }
+
+-- what the options of `run` ask for: as many takes as puts, where nothing else is said
+abbrev pub run_in : List Row → Option Run
+run_in rows =
+    option_and_then (λ capacity. option_and_then (λ modulus. option_and_then (λ width. option_and_then (λ batch. option_and_then (λ count.
+    option_map (λ puts. run_of_numbers capacity modulus width batch count puts (unwrap_or (number_given (codes "takes") rows) puts))
+    (number_given (codes "limit") rows)) (number_given (codes "count") rows)) (number_given (codes "batch") rows))
+    (number_given (codes "width") rows)) (number_given (codes "modulus") rows)) (number_given (codes "capacity") rows)
 
 -- what the named command asks for
 abbrev pub request_in : Option (Text × List Row) → Option Request
 request_in None = None
 request_in (Some found) =
-    if bytes_eq found.0 (codes "audit") then Some (audit_request_of found.1)
-    else (if bytes_eq found.0 (codes "play") then Some (play_request_of found.1) else None)
+    if bytes_eq found.0 (codes "audit") then Some (OnInput (audit_question_of found.1))
+    else (if bytes_eq found.0 (codes "play") then Some (OnInput (play_question_of found.1))
+    else (if bytes_eq found.0 (codes "run") then option_map request.Run (run_in found.1) else None))
 
 -- a request stands only where the words have no fault
 abbrev pub where_taken : Kinds → Option Request → Option Request
@@ -55,3 +107,21 @@ where_taken (kind ∷ kinds) request = None
 -- what the words ask for, the program's name first; nothing where they are no command line of this program
 unfoldable pub request_of : List Text → Option Request
 request_of words = where_taken (fault_of application words) (request_in (subcommand_of application words))
+
+-- ---- examples of words, behind the program's name
+
+abbrev pub run_words : List ℕ → List Text → List Text
+run_words count more =
+    codes "run" ∷ codes "--capacity" ∷ codes "1" ∷ codes "--modulus" ∷ codes "3" ∷ codes "--width" ∷ codes "6" ∷ codes "--count" ∷ count
+    ∷ codes "--limit" ∷ codes "9" ∷ more
+
+abbrev pub short_run : List Text
+short_run = run_words (codes "64") []
+
+abbrev pub big_run : List Text
+big_run = run_words (codes "1000001") []
+
+abbrev pub long_run : List Text
+long_run =
+    codes "run" ∷ codes "--batch=3" ∷ codes "--takes" ∷ codes "8" ∷ codes "--capacity" ∷ codes "3" ∷ codes "--modulus=7" ∷ codes "--width" ∷ codes "6"
+    ∷ codes "--count=64" ∷ codes "--limit" ∷ codes "9" ∷ []

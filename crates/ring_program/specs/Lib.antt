@@ -2,4 +2,5 @@ pub mod Answers
 pub mod CommandLine
 pub mod Faults
 pub mod Reports
+pub mod Runs
 pub mod Texts

@@ -79,3 +79,13 @@ abbrev pub report_text_of : Summary → List ℕ
 report_text_of r =
     count_line (codes "events") r.events ++ (list_line (codes "put") r.put ++ (list_line (codes "taken") r.taken ++ (told_line r.told
     ++ (count_line (codes "full") r.full ++ (count_line (codes "empty") r.empty ++ count_line (codes "flicker") r.flicker)))))
+
+-- ---- the text of a relay
+
+abbrev pub closed_line : Bool → List ℕ
+closed_line true = codes "closed yes\n"
+closed_line false = codes "closed no\n"
+
+-- how many items were put and taken, and whether the taker was told that the ring is closed
+abbrev pub relay_text_of : ℕ → ℕ → Bool → List ℕ
+relay_text_of put taken closed = count_line (codes "put") put ++ (count_line (codes "taken") taken ++ closed_line closed)

@@ -2,8 +2,9 @@
 ghost use Rattle.std.specs.Prelude.{◌≡◌, ◌⊎◌, ◌∷◌, ℕ, List, Some, codes, false, [], IfOk, IfErr, OnOk, None, map, option_map};
 ghost use Rattle.clap.specs.Words.{HasKind, app_of, fault_of, found_of, kind_of, rows_of, subcommand_of, subcommand_rows_of};
 ghost use Rattle.clap.specs.declared.builder.command.Command.TheViews.{out-Command};
-ghost use Rattle.ring_program.specs.CommandLine.{application, audit_command, audit_request_of, is_flag_given, play_command, play_request_of, request_in, request_of};
+ghost use Rattle.ring_program.specs.CommandLine.{application, audit_command, audit_question_of, is_flag_given, big_run, long_run, play_command, play_question_of, request_in, request_of, run_of_numbers, short_run};
 
+use crate::run_line::{Run, run_command, run_found};
 use clap::error::ErrorKind;
 use clap::{Arg, ArgAction, ArgMatches, Command, Error};
 use std::alloc::{AllocError, Global};
@@ -78,9 +79,9 @@ Exit status:
   2  the command line is wrong
   3  the audit found a fault";
 
-/// What the words ask for.
+/// What the words ask of an input.
 #[derive(Clone, Copy, Debug, PartialEq, Eq)]
-pub enum Request {
+pub enum Question {
     /// `audit`
     Audit,
     /// `audit --bits`
@@ -89,6 +90,15 @@ pub enum Request {
     Play,
     /// `play --trace`
     PlayTrace,
+}
+
+/// What the words ask for.
+#[derive(Clone, Copy, Debug, PartialEq, Eq)]
+pub enum Request {
+    /// To read an input, and to answer of it.
+    OnInput(Question),
+    /// `run`, which reads no input.
+    Run(Run),
 }
 
 fn audit<'a>(alloc: Global) -> Result<Command<'a>, AllocError>
@@ -128,6 +138,7 @@ fn program<'a>(alloc: Global) -> Result<Command<'a>, AllocError>
 {
     let audit = audit(alloc)?;
     let play = play(alloc)?;
+    let run = run_command(alloc)?;
     let command = Command::new(alloc, "lamport_ring")
         .about(
             "A producer-consumer ring from safe bits: plays of scripts, audits of recorded histories",
@@ -136,7 +147,8 @@ fn program<'a>(alloc: Global) -> Result<Command<'a>, AllocError>
         .after_help(PROGRAM_HELP)
         .subcommand_required(true)
         .subcommand(audit)?
-        .subcommand(play)?;
+        .subcommand(play)?
+        .subcommand(run)?;
     Ok(command)
 }
 
@@ -167,23 +179,23 @@ fn is_given(matches: &ArgMatches<'_>, id: &str) -> bool
     }
 }
 
-fn audit_request(matches: &ArgMatches<'_>) -> Request
-    ensures { result ≡ audit_request_of (rows_of (found_of matches.now)) }
+fn audit_question(matches: &ArgMatches<'_>) -> Question
+    ensures { result ≡ audit_question_of (rows_of (found_of matches.now)) }
 {
     if is_given(matches, "bits") {
-        Request::AuditBits
+        Question::AuditBits
     } else {
-        Request::Audit
+        Question::Audit
     }
 }
 
-fn play_request(matches: &ArgMatches<'_>) -> Request
-    ensures { result ≡ play_request_of (rows_of (found_of matches.now)) }
+fn play_question(matches: &ArgMatches<'_>) -> Question
+    ensures { result ≡ play_question_of (rows_of (found_of matches.now)) }
 {
     if is_given(matches, "trace") {
-        Request::PlayTrace
+        Question::PlayTrace
     } else {
-        Request::Play
+        Question::Play
     }
 }
 
@@ -192,9 +204,11 @@ fn request_found(matches: &ArgMatches<'_>) -> Option<Request>
 {
     let (name, inner) = named(matches)?;
     if name == "audit" {
-        Some(audit_request(inner))
+        Some(Request::OnInput(audit_question(inner)))
     } else if name == "play" {
-        Some(play_request(inner))
+        Some(Request::OnInput(play_question(inner)))
+    } else if name == "run" {
+        Some(Request::Run(run_found(inner)?))
     } else {
         None
     }
@@ -216,11 +230,14 @@ pub fn read_words<'a>(alloc: Global, words: &'a [&'a str]) -> Result<Option<Requ
 
 /// The command lines of the program, by its name and their words.
 pub fn command_lines()
-    ensures audit { (name : List ℕ) → request_of (name ∷ codes "audit" ∷ []) ≡ Some Request.Audit }
-    ensures audit_bits { (name : List ℕ) → request_of (name ∷ codes "audit" ∷ codes "--bits" ∷ []) ≡ Some Request.AuditBits }
+    ensures audit { (name : List ℕ) → request_of (name ∷ codes "audit" ∷ []) ≡ Some (Request.OnInput Question.Audit) }
+    ensures audit_bits { (name : List ℕ) → request_of (name ∷ codes "audit" ∷ codes "--bits" ∷ []) ≡ Some (Request.OnInput Question.AuditBits) }
     ensures twice { (name : List ℕ) → request_of (name ∷ codes "audit" ∷ codes "--bits" ∷ codes "--bits" ∷ []) ≡ None }
-    ensures play { (name : List ℕ) → request_of (name ∷ codes "play" ∷ []) ≡ Some Request.Play }
-    ensures play_trace { (name : List ℕ) → request_of (name ∷ codes "play" ∷ codes "--trace" ∷ []) ≡ Some Request.PlayTrace }
-    ensures other { (name : List ℕ) → request_of (name ∷ codes "run" ∷ []) ≡ None }
+    ensures play { (name : List ℕ) → request_of (name ∷ codes "play" ∷ []) ≡ Some (Request.OnInput Question.Play) }
+    ensures play_trace { (name : List ℕ) → request_of (name ∷ codes "play" ∷ codes "--trace" ∷ []) ≡ Some (Request.OnInput Question.PlayTrace) }
+    ensures run { (name : List ℕ) → request_of (name ∷ short_run) ≡ Some (Request.Run (run_of_numbers 1 3 6 1 64 9 9)) }
+    ensures run_with_all { (name : List ℕ) → request_of (name ∷ long_run) ≡ Some (Request.Run (run_of_numbers 3 7 6 3 64 9 8)) }
+    ensures lacking { (name : List ℕ) → request_of (name ∷ codes "run" ∷ []) ≡ None }
+    ensures too_many { (name : List ℕ) → request_of (name ∷ big_run) ≡ None }
     ensures nothing { (name : List ℕ) → request_of (name ∷ []) ≡ None }
 {}

@@ -1,9 +1,10 @@
 //! Why the program refuses.
 ghost use Rattle.std.specs.Prelude.{◌≡◌};
 
-use bits_core::TraceFault;
+use bits_core::{ShapeFault, TraceFault};
 use ring_audit::AuditFault;
 use ring_player::{PlayFault, ScriptFault};
+use ring_run::RunFault;
 use std::alloc::AllocError;
 use thiserror::Error;
 
@@ -68,6 +69,12 @@ pub enum Refusal {
     /// The play of a script stopped.
     #[error(transparent)]
     Play(PlayFault),
+    /// The numbers of a run are no shape's.
+    #[error(transparent)]
+    Shape(ShapeFault),
+    /// A run stopped.
+    #[error(transparent)]
+    Run(RunFault),
 }
 
 impl From<AppFault> for Refusal {
@@ -117,5 +124,25 @@ impl From<PlayFault> for Refusal {
 
     fn from(fault: PlayFault) -> Refusal {
         Refusal::Play(fault)
+    }
+}
+
+impl From<ShapeFault> for Refusal {
+    ghost use Rattle.ring_program.specs.declared.faults.Refusal.TheVariants.{Shape};
+
+    ghost from_gives = { λ fault e. e ≡ Shape fault };
+
+    fn from(fault: ShapeFault) -> Refusal {
+        Refusal::Shape(fault)
+    }
+}
+
+impl From<RunFault> for Refusal {
+    ghost use Rattle.ring_program.specs.declared.faults.Refusal.TheVariants.{Run};
+
+    ghost from_gives = { λ fault e. e ≡ Run fault };
+
+    fn from(fault: RunFault) -> Refusal {
+        Refusal::Run(fault)
     }
 }

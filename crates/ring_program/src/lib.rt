@@ -2,16 +2,21 @@
 //! it reads, what it answers and how it ends.
 #![tactic(auto)]
 
+mod answers;
 mod command_line;
 mod faults;
 mod inputs;
 mod lines;
 mod program;
 mod reports;
+mod run_line;
+mod runs;
 mod texts;
 
+pub use answers::{complain, refuse};
 pub use faults::{AppFault, Refusal};
 pub use inputs::{INPUT_LIMIT, load};
-pub use program::{complain, execute, refuse};
+pub use program::execute;
 pub use reports::report_text;
+pub use runs::relay_text;
 pub use texts::{audit_text, verdict_text};

@@ -19,9 +19,9 @@ pub returns-clause-nothing : goal.returns-clause-nothing
 unfolding clap_on_literals application request_of
 returns-clause-nothing c name = refl
 
-pub returns-clause-other : goal.returns-clause-other
+pub returns-clause-lacking : goal.returns-clause-lacking
 unfolding clap_on_literals application request_of
-returns-clause-other c name = refl
+returns-clause-lacking c name = refl
 
 pub returns-clause-play : goal.returns-clause-play
 unfolding clap_on_literals application request_of
@@ -30,3 +30,15 @@ returns-clause-play c name = refl
 pub returns-clause-play_trace : goal.returns-clause-play_trace
 unfolding clap_on_literals application request_of
 returns-clause-play_trace c name = refl
+
+pub returns-clause-run : goal.returns-clause-run
+unfolding clap_on_literals application request_of
+returns-clause-run c name = refl
+
+pub returns-clause-run_with_all : goal.returns-clause-run_with_all
+unfolding clap_on_literals application request_of
+returns-clause-run_with_all c name = refl
+
+pub returns-clause-too_many : goal.returns-clause-too_many
+unfolding clap_on_literals application request_of
+returns-clause-too_many c name = refl

@@ -19,4 +19,5 @@ returns c =
     let required : app_of c.subcommand_required.result ≡ require_one (app_of c.after_help.result) = ap app_of_fields c.subcommand_required.ensures in
     let audited : app_of c.in_ok-subcommand.field-0 ≡ with_subcommand (require_one (versioned (new_app (codes "lamport_ring")))) audit_command.top =
     c.in_ok-subcommand.ensures.shape (search rules) ∙ ap₂ with_subcommand (required ∙ ap require_one helped) (ap (λ (a : App). a.top) c.in_ok-audit.ensures.made) in
-    c.in_ok-command.ensures.shape (search rules) ∙ ap₂ with_subcommand audited (ap (λ (a : App). a.top) c.in_ok-play.ensures.made)
+    let played = c.in_ok-subcommand-2.ensures.shape (search rules) ∙ ap₂ with_subcommand audited (ap (λ (a : App). a.top) c.in_ok-play.ensures.made) in
+    c.in_ok-command.ensures.shape (search rules) ∙ ap₂ with_subcommand played (ap (λ (a : App). a.top) c.in_ok-run.ensures.made)

@@ -3,11 +3,12 @@ use Rattle.clap.specs.Words.{HasKind, Kinds, kind_of}
 use Rattle.clap.specs.declared.error.Error.{Error}
 use Rattle.clap.specs.declared.error.kind.ErrorKind.{ErrorKind}
 use Rattle.clap.specs.declared.error.kind.ErrorKind.TheVariants as kind
-use Rattle.ring_program.specs.Answers.{Ends, EndsUnasked, Explains, IsHelp, IsShortage, IsStatus, IsStatusOf, NoMemory, Refused, Shown}
+use Rattle.ring_program.specs.Answers.{Ends, EndsUnasked, Explains, IsHelp, IsOutOfMemory, IsShortage, IsStatus, IsStatusOf, IsStatusOn, NoMemory, Shown}
+use Rattle.ring_program.specs.declared.command_line.Question.{Question}
+use Rattle.ring_program.specs.declared.command_line.Question.TheVariants.{Audit, AuditBits, Play, PlayTrace}
 use Rattle.ring_program.specs.declared.command_line.Request.{Request}
-use Rattle.ring_program.specs.declared.command_line.Request.TheVariants.{Audit, AuditBits, Play, PlayTrace}
+use Rattle.ring_program.specs.declared.command_line.Request.TheVariants.{OnInput, Run}
 use Rattle.ring_program.specs.declared.faults.AppFault.TheVariants as app
-use Rattle.ring_program.specs.declared.faults.Refusal.{Refusal}
 use Rattle.ring_program.specs.declared.faults.Refusal.TheVariants as refusal
 use Rattle.ring_program.proofs.program.execute.Goals as goal
 
@@ -21,16 +22,19 @@ only_memory k before after status (inl short) is = short.1
 only_memory k before after status (inr (inl help)) is = absurd (no_help k is help.0)
 only_memory k before after status (inr (inr mistake)) is = absurd (mistake.1 is)
 
+-- a request is refused for want of memory
+short_of : (r : Request) (input before after : Option (List ℕ)) (status : ℕ) → NoMemory before after status → Ends r input before after status
+unfolding IsOutOfMemory IsShortage
+short_of (OnInput question) None before after status short = tt
+short_of (OnInput question) (Some bytes) before after status short = inr (short.0, refusal.App app.OutOfMemory, inl (inl (inl (inl refl)), short.1))
+short_of (Run run) input before after status short = inr (short.0, refusal.App app.OutOfMemory, inl (inl (inl refl), short.1))
+
 -- words that ask for something are refused for want of memory alone
 asked_by : (request : Option Request) (input : Option (List ℕ)) (k : ErrorKind) (before after : Option (List ℕ)) (status : ℕ) → Explains k before after status → (k ≡ kind.OutOfMemory) ⊎ (request ≡ None)
-    → IfSome request (λ r. IfSome input (λ bytes. Ends r bytes before after status))
-unfolding IsShortage
+    → IfSome request (λ r. Ends r input before after status)
 asked_by None input k before after status explains why = tt
-asked_by (Some r) None k before after status explains why = tt
-asked_by (Some r) (Some bytes) k before after status explains (inl is) =
-    let short = only_memory k before after status explains is in
-    inr (short.0, refusal.App app.OutOfMemory, inl (inl (inl (inl refl)), short.1))
-asked_by (Some r) (Some bytes) k before after status explains (inr none) = cc
+asked_by (Some r) input k before after status explains (inl is) = short_of r input before after status (only_memory k before after status explains is)
+asked_by (Some r) input k before after status explains (inr none) = cc
 
 unasked_by : (kinds : Kinds) (e : Error) (before after : Option (List ℕ)) (status : ℕ) → HasKind kinds e → Explains (kind_of e) before after status → EndsUnasked kinds before after status
 unasked_by kinds e before after status has (inl short) = inl short.1
@@ -53,27 +57,25 @@ status_unasked k before after status (inr (inl (help, inl short))) = inr (inl sh
 status_unasked k before after status (inr (inl (help, inr shown))) = status_shown before after status shown
 status_unasked k before after status (inr (inr mistake)) = inr (inr mistake.2)
 
+refused_on : (question : Question) (status : ℕ) → status ≡ 1 → IsStatusOn question status
+refused_on Audit status is = inr (inl is)
+refused_on AuditBits status is = inr (inl is)
+refused_on Play status is = inr is
+refused_on PlayTrace status is = inr is
+
 refused_status : (r : Request) (status : ℕ) → status ≡ 1 → IsStatusOf r status
-refused_status Audit status is = inr (inl is)
-refused_status AuditBits status is = inr (inl is)
-refused_status Play status is = inr is
-refused_status PlayTrace status is = inr is
+refused_status (OnInput question) status is = refused_on question status is
+refused_status (Run run) status is = inr is
 
 status_by : (request : Option Request) (k : ErrorKind) (before after : Option (List ℕ)) (status : ℕ) → Explains k before after status → (k ≡ kind.OutOfMemory) ⊎ (request ≡ None) → IsStatus request status
 status_by None k before after status explains why = status_unasked k before after status explains
 status_by (Some r) k before after status explains (inl is) = refused_status r status ((only_memory k before after status explains is).0)
 status_by (Some r) k before after status explains (inr none) = cc
 
-ends_refused : (r : Request) (input : Option (List ℕ)) (e : Refusal) (before after : Option (List ℕ)) (status : ℕ) → IfSome input (λ bytes. Refused r bytes before after e) → status ≡ 1
-    → IfSome input (λ bytes. Ends r bytes before after status)
-ends_refused r None e before after status refused is = tt
-ends_refused r (Some bytes) e before after status refused is = inr (is, e, refused)
-
--- a refusal of what the words ask for
-refused_asked : (found : Option Request) (r : Request) (input : Option (List ℕ)) (e : Refusal) (before after : Option (List ℕ)) (status : ℕ) → Some r ≡ found
-    → IfSome input (λ bytes. Refused r bytes before after e) → status ≡ 1 → IfSome found (λ q. IfSome input (λ bytes. Ends q bytes before after status))
-refused_asked found r input e before after status same refused is =
-    subst (λ q. IfSome q (λ asked. IfSome input (λ bytes. Ends asked bytes before after status))) same (ends_refused r input e before after status refused is)
+-- what the words ask for was answered
+asked_so : (found : Option Request) (r : Request) (input before after : Option (List ℕ)) (status : ℕ) → Some r ≡ found
+    → Ends r input before after status → IfSome found (λ q. Ends q input before after status)
+asked_so found r input before after status same ends = subst (λ q. IfSome q (λ asked. Ends asked input before after status)) same ends
 
 where_none : (request : Option Request) (P : Type 0) → P → IfNone request P
 where_none None P h = h
@@ -88,8 +90,3 @@ returns-in-Err-clause-unasked g c = where_none _ _ (unasked_by _ c.in-Err.error 
 
 pub returns-in-Err-clause-statuses : goal.returns-in-Err-clause-statuses
 returns-in-Err-clause-statuses g c = status_by _ (kind_of c.in-Err.error) _ _ c.explain.result c.explain.ensures.explained c.in-Err.ensures.refused
-
-pub returns-in-Err-respond-clause-asked : goal.returns-in-Err-respond-clause-asked
-returns-in-Err-respond-clause-asked g c =
-    refused_asked _ c.in-Ok-Some.request (g.I.Read.remaining c.args.input.now) c.in-Err-respond.refusal _ _ c.refuse.result
-    (sym c.in-Ok-Some.field-0-is ∙ c.in-Ok-Some.ensures.asked) c.in-Err-respond.ensures.refused c.refuse.ensures

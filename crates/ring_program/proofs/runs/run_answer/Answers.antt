@@ -1,0 +1,35 @@
+use Rattle.std.proofs.Common.{◌≡◌, ◌∙◌, ℕ, List, take, sym, subst, arith}
+use Rattle.bits_core.specs.Made.{IsBeginning}
+use Rattle.bits_core.specs.Shape.{AllFit}
+use Rattle.ring_run.specs.Relays.{IsRelayed}
+use Rattle.ring_program.specs.Runs.{run_items}
+use Rattle.ring_program.proofs.RunItems.{run_items_fit}
+use Rattle.ring_program.proofs.runs.run_answer.Goals as goal
+
+pub relay_flicker-requires-clause-fit : goal.relay_flicker-requires-clause-fit
+relay_flicker-requires-clause-fit g c κs within =
+    let is = c.as_slice.ensures.value ∙ c.in_ok-items.ensures.items in
+    subst (AllFit c.in_ok-shape.shape) (sym is) (run_items_fit c.in_ok-shape.shape c.args.run c.in_ok-shape.ensures.width_is)
+
+pub returns-clause-answered : goal.returns-clause-answered
+returns-clause-answered g c =
+    let is : c.as_slice.result.now ≡ run_items c.args.run = c.as_slice.ensures.value ∙ c.in_ok-items.ensures.items in
+    let o = c.in_ok-outcome.outcome in
+    let run = c.args.run in
+    let told = c.in_ok-outcome.ensures in
+    record {
+      shape = c.in_ok-shape.shape;
+      put = o.put;
+      calls = o.calls;
+      full = o.full;
+      taken = o.taken.items;
+      empty = o.empty;
+      closed = o.closed;
+      of_numbers = c.in_ok-shape.ensures;
+      relayed = subst (λ (items : List ℕ). IsRelayed c.in_ok-shape.shape items run.limits.puts run.limits.takes o.put o.calls o.full o.taken.items o.empty o.closed) is told.counted;
+      prefix = subst (λ (items : List ℕ). IsBeginning o.taken.items (take o.put items)) is told.prefix;
+      all = λ e. (told.all e).1 ∙ is;
+      within = omega (arith, told.within, c.in_ok-shape.ensures.capacity_is);
+      words = c.in_ok-text.ensures.text;
+      ends = c.relay_ending-ending.ensures;
+    }

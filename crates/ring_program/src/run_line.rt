@@ -1,0 +1,152 @@
+//! The command `run` of the command line.
+ghost use Rattle.std.specs.Prelude.{◌≡◌, IfOk, Some, false, option_map};
+ghost use Rattle.clap.specs.Words.{app_of, first_of, found_of, rows_of, rule_of};
+ghost use Rattle.clap.specs.declared.builder.command.Command.TheViews.{out-Command};
+ghost use Rattle.ring_program.specs.CommandLine.{batch_rule, number_given, number_in, number_rule, required_rule, run_application, run_in};
+
+use clap::builder::ValueParser;
+use clap::{Arg, ArgAction, ArgMatches, Command};
+use ring_run::Limits;
+use std::alloc::{AllocError, Global};
+
+/// The most items that a run may put.
+pub const ITEM_LIMIT: u64 = 1_000_000;
+
+const RUN_USAGE: &str =
+    "lamport_ring run --capacity B --modulus M --width W --count N --limit L [--takes T] [--batch G]";
+
+const RUN_HELP: &str = "\
+Two threads share a ring of flickering bits with no lock. One puts N items,
+the numbers 0, 1, .. modulo 2^W, each again while the ring is full, and closes
+behind the last; the other takes until it is told that the ring is closed. They
+make at most L puts and T takes. The answer says how many items were put and
+taken, and whether the taker was told that the ring is closed.
+
+Example:
+  lamport_ring run --capacity 1 --modulus 3 --width 6 --count 64 --limit 1000000000
+
+Exit status:
+  0  the taker was told that the ring is closed: all items were put and taken
+  1  refused: a limit was reached before, the numbers are no ring's, or the
+     output failed
+  2  the command line is wrong";
+
+/// What `run` is asked for.
+#[derive(Clone, Copy, Debug, PartialEq, Eq)]
+pub struct Run {
+    /// The numbers of the ring's shape.
+    pub capacity: u64,
+    pub modulus: u64,
+    pub width: u64,
+    pub batch: u64,
+    /// How many items to put.
+    pub count: u64,
+    /// The most puts and takes.
+    pub limits: Limits,
+}
+
+// An option whose value is a number up to the most.
+fn number_option<'a>(alloc: Global, id: &'a str, name: &'a str, most: u64, help: &'a str) -> Arg<'a>
+    ensures rule { rule_of result ≡ number_rule id.entry.now most }
+    ensures local { result.global ≡ false }
+{
+    Arg::new(alloc, id)
+        .long(id)
+        .value_name(name)
+        .action(ArgAction::Set)
+        .value_parser(ValueParser::unsigned(0, most))
+        .help(help)
+}
+
+// One that has to be given.
+fn required_option<'a>(
+    alloc: Global,
+    id: &'a str,
+    name: &'a str,
+    most: u64,
+    help: &'a str,
+) -> Arg<'a>
+    ensures rule { rule_of result ≡ required_rule id.entry.now most }
+    ensures local { result.global ≡ false }
+{
+    number_option(alloc, id, name, most, help).required(true)
+}
+
+// The option that may be left out, and is 1 then.
+fn batch_option<'a>(alloc: Global) -> Arg<'a>
+    ensures rule { rule_of result ≡ batch_rule }
+    ensures local { result.global ≡ false }
+{
+    let help = "The most items under one count write";
+    number_option(alloc, "batch", "G", u64::MAX, help).default_value("1")
+}
+
+/// The command.
+pub fn run_command<'a>(alloc: Global) -> Result<Command<'a>, AllocError>
+    ensures made { IfOk result (λ command. app_of command ≡ run_application) }
+    ensures local { IfOk result (λ command. (out-Command command).has_globals ≡ false) }
+{
+    let capacity = required_option(alloc, "capacity", "B", u64::MAX, "How many cells");
+    let modulus = required_option(alloc, "modulus", "M", u64::MAX, "Modulus of the counts");
+    let width = required_option(alloc, "width", "W", u64::MAX, "Binary digits of an item");
+    let count = required_option(alloc, "count", "N", ITEM_LIMIT, "How many items to put");
+    let limit = required_option(alloc, "limit", "L", u64::MAX, "The most puts, and takes");
+    let takes = number_option(alloc, "takes", "T", u64::MAX, "The most takes, where not L");
+    let batch = batch_option(alloc);
+    let command = Command::new(alloc, "run")
+        .about("Relay items through a ring of flickering bits, in two threads")
+        .override_usage(RUN_USAGE)
+        .after_help(RUN_HELP);
+    let command = command.arg(capacity)?;
+    let command = command.arg(modulus)?;
+    let command = command.arg(width)?;
+    let command = command.arg(count)?;
+    let command = command.arg(limit)?;
+    let command = command.arg(takes)?;
+    let command = command.arg(batch)?;
+    Ok(command)
+}
+
+// The number that a text writes in decimal.
+fn number_of(text: &str) -> Option<u64>
+    ensures { result ≡ number_in text.now }
+{
+    match text.parse::<u64>() {
+        Ok(number) => Some(number),
+        Err(_) => None,
+    }
+}
+
+// The number that the option of this id was given.
+fn number_found(matches: &ArgMatches<'_>, id: &str) -> Option<u64>
+    ensures { result ≡ number_given id.now (rows_of (found_of matches.now)) }
+{
+    match matches.get_str(id) {
+        Some(text) => number_of(text),
+        None => None,
+    }
+}
+
+/// What the options ask for.
+pub fn run_found(matches: &ArgMatches<'_>) -> Option<Run>
+    ensures { result ≡ run_in (rows_of (found_of matches.now)) }
+{
+    let capacity = number_found(matches, "capacity")?;
+    let modulus = number_found(matches, "modulus")?;
+    let width = number_found(matches, "width")?;
+    let batch = number_found(matches, "batch")?;
+    let count = number_found(matches, "count")?;
+    let puts = number_found(matches, "limit")?;
+    let takes = match number_found(matches, "takes") {
+        Some(takes) => takes,
+        None => puts,
+    };
+    Some(Run {
+        capacity,
+        modulus,
+        width,
+        batch,
+        count,
+        limits: Limits { puts, takes },
+    })
+}

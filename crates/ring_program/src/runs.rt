@@ -1,0 +1,139 @@
+//! The answer of `run`: items relayed through a ring of flickering bits by two threads.
+ghost use Rattle.std.specs.Prelude.{◌≡◌, ◌≢◌, ◌⊎◌, ◌<◌, ◌≤◌, ◌^◌, All, IfErr, IfOk, List, ℕ, length, string_bytes};
+ghost use Rattle.std.specs.Io.KnownBytes.{Appends};
+ghost use Rattle.ring_program.specs.Answers.{AnswersRun, EndsRun, IsOutOfMemory, IsRunCause, RefusedRun, relay_ending_of};
+ghost use Rattle.ring_program.specs.Runs.{run_item, run_items};
+ghost use Rattle.ring_program.specs.Texts.{closed_line, relay_text_of};
+ghost use Rattle.ring_program.specs.declared.run_line.TheConstants.{ITEM_LIMIT};
+
+use crate::answers::{Answer, Ending, conclude, write_whole};
+use crate::faults::{AppFault, Refusal};
+use crate::lines::push_count;
+use crate::run_line::Run;
+use bits_core::{Flip, Shape};
+use ring_run::{FreeGate, Outcome, relay_flicker};
+use std::alloc::Allocator;
+use std::io::Write;
+use std::thread::Threads;
+
+// An item of so many binary digits.
+fn run_item(width: u64, number: u64) -> u64
+    ensures { result ≡ run_item width number }
+{
+    if width < 64 {
+        number % (1 << width)
+    } else {
+        number
+    }
+}
+
+// The items of a run.
+fn items_of<A: Allocator>(alloc: A, run: &Run) -> Result<Vec<u64, A>, AppFault>
+    ensures items { IfOk result (λ items. items.items ≡ run_items run.now) }
+    ensures memory { IfErr result (λ e. e ≡ AppFault.OutOfMemory) }
+{
+    let mut items = Vec::with_capacity(alloc, run.count as usize)?;
+    for number in 0..run.count {
+        if items.push(run_item(run.width, number)).is_err() {
+            return Err(AppFault::OutOfMemory);
+        }
+    }
+    Ok(items)
+}
+
+// The line that says whether the taker was told that the ring is closed.
+fn closed_words(closed: bool) -> &'static str
+    ensures { result.now ≡ closed_line closed }
+{
+    if closed {
+        "closed yes\n"
+    } else {
+        "closed no\n"
+    }
+}
+
+/// The text of a relay: a line each of how many items were put, how many were taken, and whether the taker was told that
+/// the ring is closed.
+pub fn relay_text<A: Allocator, B: Allocator>(
+    alloc: A,
+    outcome: &Outcome<B>,
+) -> Result<String<A>, AppFault>
+    ensures text { IfOk result (λ text. string_bytes text ≡ relay_text_of outcome.now.put (length outcome.now.taken.items) outcome.now.closed) }
+    ensures memory { IfErr result (λ e. e ≡ AppFault.OutOfMemory) }
+{
+    let mut text = String::new(alloc);
+    push_count(&mut text, "put", outcome.put)?;
+    push_count(&mut text, "taken", outcome.taken.len() as u64)?;
+    text.push_str(closed_words(outcome.closed))?;
+    Ok(text)
+}
+
+// How a run ends.
+fn relay_ending(closed: bool) -> Ending
+    ensures { result ≡ relay_ending_of closed }
+{
+    if closed {
+        Ending::Done
+    } else {
+        Ending::LimitReached
+    }
+}
+
+// The answer of a run.
+#[tactic(auto, unfolding(crate::specs::Answers::IsOutOfMemory))]
+fn run_answer<R: Threads, A: Allocator + Copy>(
+    rt: &R,
+    alloc: A,
+    run: Run,
+) -> Result<Answer<A>, Refusal>
+    ensures answered { IfOk result (λ answer. AnswersRun run (string_bytes answer.text) answer.ending) }
+    ensures refused { IfErr result (IsRunCause run) }
+    ensures unwritten { IfErr result (λ e. e ≢ Refusal.App AppFault.WriteFailed) }
+{
+    let shape = Shape::with_batch(run.capacity, run.modulus, run.width, run.batch)?;
+    let items = items_of(alloc, &run)?;
+    let outcome = relay_flicker(
+        rt,
+        alloc,
+        shape,
+        Flip::new(),
+        Flip::new(),
+        items.as_slice(),
+        run.limits,
+        &FreeGate,
+    )?;
+    let text = relay_text(alloc, &outcome)?;
+    let ending = relay_ending(outcome.closed);
+    Ok(Answer { text, ending })
+}
+
+// Runs, and writes the answer after it is complete.
+fn run_out<R: Threads, A: Allocator + Copy, O: Write>(
+    rt: &R,
+    alloc: A,
+    run: Run,
+    out: &mut O,
+) -> Result<Ending, Refusal>
+    ensures answered { IfOk result (λ ending. (text : List ℕ) × AnswersRun run text ending × Appends (O.contents out.old) (O.contents out.new) text) }
+    ensures refused { IfErr result (RefusedRun run (O.contents out.old) (O.contents out.new)) }
+{
+    let answer = run_answer(rt, alloc, run)?;
+    write_whole(out, answer.text.as_bytes())?;
+    Ok(answer.ending)
+}
+
+/// The program on a run.
+pub fn answer_run<R: Threads, A: Allocator + Copy, O: Write, E: Write>(
+    rt: &R,
+    alloc: A,
+    run: Run,
+    out: &mut O,
+    err: &mut E,
+) -> u8
+    ensures asked { EndsRun run (O.contents out.old) (O.contents out.new) result }
+    ensures quiet { (result ≡ 1) ⊎ ((result ≡ 2) ⊎ (err.new ≡ err.old)) }
+    ensures statuses { (result ≡ 0) ⊎ (result ≡ 1) }
+{
+    let ended = run_out(rt, alloc, run, out);
+    conclude(ended, err)
+}
