@@ -4,8 +4,9 @@
 It prints a table: for each input the shortest and the median time of some runs, the shortest time of a twin in plain
 Rust (audit_twin.rs, built with rustc -O) and the ratio to it, and the peak memory above that of the bare process (the
 same command on a trace of two events) beside what it is to stay below: the input and 16 bytes an event. A second table is
-of plays: their time, that of a play whose trace is written, and the peak memory of both. It builds the programs first
-where they are not built.
+of the audit of programs, on beginnings of traces of plays: its shortest time beside those of the audit of their bits
+and of the twin, and its peak memory. A third is of plays: their time, that of a play whose trace is written, and the peak
+memory of both. It builds the programs first where they are not built.
 """
 import json
 import os
@@ -18,7 +19,8 @@ import time
 
 TOP = os.path.dirname(os.path.dirname(os.path.abspath(__file__)))
 PROGRAM = f"{TOP}/crates/lamport_ring/out/lamport_ring"
-AUDIT = [PROGRAM, "audit", "--bits"]
+AUDIT_BITS = [PROGRAM, "audit", "--bits"]
+AUDIT = [PROGRAM, "audit"]
 MEMORY = [f"{TOP}/crates/memory_bench/out/memory_bench"]
 RUNS = 20
 
@@ -79,9 +81,9 @@ def random_bits(events):
     return "\n".join(lines) + "\n"
 
 
-def script(schedule, items):
+def script(schedule, items, modulus=3, width=1):
     """A script with this schedule: the consumer wants more items than there are, so that it never is done."""
-    fields = {"capacity": 1, "modulus": 3, "width": 1, "items": items, "takes": 2000, "close": False}
+    fields = {"capacity": 1, "modulus": modulus, "width": width, "items": items, "takes": 2000, "close": False}
     return json.dumps(fields | {"schedule": schedule, "oracle": "01"}, separators=(",", ":"))
 
 
@@ -93,6 +95,25 @@ def one_side(letters):
 def both_sides(letters):
     """Letters of the two sides in turn, each written out, so that reads overlap writes."""
     return script("PC" * (letters // 2), [1, 0] * 500)
+
+
+def long_calls(letters):
+    """Letters of the two sides, for calls so long that the items last: counts modulo 256 and items of 64 digits."""
+    return script(("PPC" * letters)[:letters], [2**64 - 1, 0] * 500, 256, 64)
+
+
+def played(text):
+    """The lines of the trace of this script's play."""
+    done = subprocess.run([PROGRAM, "play", "--trace"], input=text.encode(), capture_output=True, check=True)
+    return done.stdout.decode().splitlines(keepends=True)
+
+
+def item_by_item(events):
+    """The lines of a trace of many short calls: six items are put and taken one by one, and then the last three of
+    these again and again, as the ring is after them what it was before them."""
+    again = "P8C10P8C10P10C6"
+    lines = played(script("P8C10P10C12P10C6" + again, [1, 0, 1, 0, 1, 1]))
+    return lines + lines[-52:] * (events // 52)
 
 
 def seconds(command, text, wanted):
@@ -142,18 +163,24 @@ def times(command, twin, text, wanted):
     return took
 
 
-def build(twin):
+def build():
     subprocess.run([f"{TOP}/lamport_ring", "--help"], check=True, stdout=subprocess.DEVNULL)
     print("bench: building memory_bench by its proof, where it is not built", file=sys.stderr)
     subprocess.run(["rt", "run"], cwd=f"{TOP}/crates/memory_bench", check=True, capture_output=True)
-    subprocess.run(["rustc", "-O", "--edition", "2024", "-o", twin, f"{TOP}/bench/audit_twin.rs"], check=True)
+
+
+def build_twin(name, folder):
+    """Builds a twin of this folder into another, and gives the path of its program."""
+    twin = f"{folder}/{name}"
+    subprocess.run(["rustc", "-O", "--edition", "2024", "-o", twin, f"{TOP}/bench/{name}.rs"], check=True)
+    return twin
 
 
 def main():
+    build()
     with tempfile.TemporaryDirectory() as folder:
-        twin = f"{folder}/audit_twin"
-        build(twin)
-        bare = max(peak(AUDIT, quiet(2)) for _ in range(10))
+        twin = build_twin("audit_twin", folder)
+        bare = max(peak(AUDIT_BITS, quiet(2)) for _ in range(10))
         print(f"{os.cpu_count()} cores, {RUNS} runs of each; the bare audit has {bare} KiB at its peak")
         print()
         print("| What | Input, bytes | Shortest, ms | Median, ms | Twin, ms | Ratio | Above the bare audit, KiB | Allowed, KiB |")
@@ -161,8 +188,8 @@ def main():
         for name, make in [("quiet", quiet), ("every read overlapped", overlapped), ("random bits of the largest shape", random_bits)]:
             for events in [1_000, 10_000, 100_000, 1_000_000]:
                 text = make(events)
-                took, twins = times(AUDIT, [twin], text, b"lawful\n")
-                above = max(peak(AUDIT, text) for _ in range(5)) - bare
+                took, twins = times(AUDIT_BITS, [twin, "--bits"], text, b"lawful\n")
+                above = max(peak(AUDIT_BITS, text) for _ in range(5)) - bare
                 print(
                     f"| {events:,} events, {name} | {len(text)} | {min(took):.1f} | {statistics.median(took):.1f} | "
                     f"{min(twins):.1f} | {min(took) / min(twins):.2f} | {above} | {(len(text) + 16 * events) // 1024} |",
@@ -170,7 +197,31 @@ def main():
                 )
         took = [seconds(MEMORY, "", b"events 10000, flickers 2500\n") * 1000 for _ in range(RUNS)]
         print(f"| 10,000 events made by a memory | 0 | {min(took):.1f} | {statistics.median(took):.1f} | | | | |")
+        programs(bare, twin)
         plays(bare)
+
+
+def programs(bare, twin):
+    """The table of the audit of programs. Program and twin have to print the same."""
+    print()
+    print("| What | Input, bytes | `audit --bits`, ms | `audit`, ms | Twin, ms | Ratio | Above the bare audit, KiB |")
+    print("|---|---|---|---|---|---|---|")
+    for name, lines in [
+        ("full ring", played(one_side(1_000_000))),
+        ("both sides, long calls", played(long_calls(1_000_000))),
+        ("both sides, item by item", item_by_item(1_000_000)),
+    ]:
+        for events in [10_000, 100_000, 1_000_000]:
+            text = "".join(lines[: events + 1])
+            wanted = subprocess.run([twin], input=text.encode(), capture_output=True, check=True).stdout
+            bits = min(seconds(AUDIT_BITS, text, b"lawful\n") for _ in range(RUNS)) * 1000
+            took, twins = times(AUDIT, [twin], text, wanted)
+            above = max(peak(AUDIT, text) for _ in range(5)) - bare
+            print(
+                f"| {min(events, len(lines) - 1):,} events, {name} | {len(text)} | {bits:.1f} | {min(took):.1f} | "
+                f"{min(twins):.1f} | {min(took) / min(twins):.2f} | {above} |",
+                flush=True,
+            )
 
 
 def plays(bare):
@@ -189,4 +240,5 @@ def plays(bare):
             print(f"| {letters:,} letters, {name} | {len(text)} | {' | '.join(cells)} |", flush=True)
 
 
-main()
+if __name__ == "__main__":
+    main()
