@@ -159,8 +159,8 @@ pub fn expect_refused_growths(rt: &(impl Abort + AllocGlobal + Threads), rows: &
     }
 }
 
-// A play without the growth that comes after so many: whether it was refused, and whether there was one to refuse.
-fn expect_play(
+// A run without the growth that comes after so many: whether it was refused, and whether there was one to refuse.
+fn expect_ended(
     rt: &(impl Abort + AllocGlobal + Threads),
     words: &[&str],
     script: &[u8],
@@ -184,9 +184,9 @@ fn expect_play(
     (is_refused, alloc.has_refused())
 }
 
-/// Each growth of a play refused in turn, and none: the play is refused, or a vector makes do with a
+/// Each growth of a run refused in turn, and none: it is refused, or a vector makes do with a
 /// smaller growth and the output is the right one. At least so many are refused.
-pub fn expect_refused_plays(
+pub fn expect_refused_or_right(
     rt: &(impl Abort + AllocGlobal + Threads),
     words: &[&str],
     script: &[u8],
@@ -195,7 +195,7 @@ pub fn expect_refused_plays(
 ) {
     let mut refused: u64 = 0;
     for allocations in 0..100 {
-        let (is_refused, has_growth) = expect_play(rt, words, script, out, allocations);
+        let (is_refused, has_growth) = expect_ended(rt, words, script, out, allocations);
         if !has_growth {
             assert!(rt; !is_refused);
             assert!(rt; least <= refused);

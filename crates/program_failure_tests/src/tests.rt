@@ -1,6 +1,6 @@
 use crate::expects::{
     AUDIT, BITS, Growing, PLAY, TRACE, expect_failed_reads, expect_failed_writes, expect_read,
-    expect_refused_finding, expect_refused_growths, expect_refused_load, expect_refused_plays,
+    expect_refused_finding, expect_refused_growths, expect_refused_load, expect_refused_or_right,
     expect_refused_report, expect_refused_text, expect_refused_trace, expect_unheard,
     expect_written,
 };
@@ -40,6 +40,28 @@ C write r0 0
 C wrote r0
 ";
 
+// A run whose outcome does not hang on how its threads take turns: no call is made.
+const HELD: &[&str] = &[
+    "lamport_ring",
+    "run",
+    "--capacity=1",
+    "--modulus=3",
+    "--width=1",
+    "--count=3",
+    "--limit=0",
+];
+
+// One that takes until it is told that the ring is closed.
+const RELAY: &[&str] = &[
+    "lamport_ring",
+    "run",
+    "--capacity=1",
+    "--modulus=3",
+    "--width=6",
+    "--count=8",
+    "--limit=1000000000",
+];
+
 const HELP: &[&str] = &["lamport_ring", "--help"];
 
 const VERSION: &[&str] = &["lamport_ring", "--version"];
@@ -63,6 +85,7 @@ fn stops_at_a_failed_write_or_flush(rt: HostRuntime) {
     expect_failed_writes(&rt, AUDIT, PLAIN_TRACE.as_bytes(), 0, found);
     expect_failed_writes(&rt, PLAY, PLAIN.as_bytes(), 0, PLAIN_REPORT.len());
     expect_failed_writes(&rt, TRACE, PLAIN.as_bytes(), 0, PLAIN_TRACE.len());
+    expect_failed_writes(&rt, RELAY, b"", 0, "put 8\ntaken 8\nclosed yes\n".len());
     expect_failed_writes(&rt, VERSION, b"", 0, "lamport_ring 0.1.0\n".len());
     expect_written(&rt, HELP, b"", HaltingWriter::after(100), 1, 100);
 }
@@ -75,14 +98,21 @@ fn reads_nothing_where_nothing_is_asked(rt: HostRuntime) {
         kind: ErrorKind::Other,
     };
     expect_read(&rt, VERSION, input, 0, "lamport_ring 0.1.0\n", "");
+    let input = HaltingReader {
+        bytes: b"",
+        reads_before: 0,
+        kind: ErrorKind::Other,
+    };
+    expect_read(&rt, RELAY, input, 0, "put 8\ntaken 8\nclosed yes\n", "");
 }
 
-const UNHEARD: [(&[&str], &str, u8); 5] = [
+const UNHEARD: [(&[&str], &str, u8); 6] = [
     (AUDIT, STALE, 3),
     (AUDIT, "x", 1),
     (PLAY, PLAIN, 0),
     (PLAY, "", 1),
-    (&["lamport_ring", "run"], "", 2),
+    (&["lamport_ring", "go"], "", 2),
+    (HELD, "", 1),
 ];
 
 #[test]
@@ -109,8 +139,14 @@ fn the_program_refuses_at_each_growth(rt: HostRuntime) {
 #[test]
 fn a_play_is_refused_or_right_at_each_growth(rt: HostRuntime) {
     // the input, the items, the letters, the oracle, the events, the items taken and the text
-    expect_refused_plays(&rt, PLAY, PLAIN.as_bytes(), PLAIN_REPORT, 7);
-    expect_refused_plays(&rt, TRACE, PLAIN.as_bytes(), PLAIN_TRACE, 7);
+    expect_refused_or_right(&rt, PLAY, PLAIN.as_bytes(), PLAIN_REPORT, 7);
+    expect_refused_or_right(&rt, TRACE, PLAIN.as_bytes(), PLAIN_TRACE, 7);
+}
+
+#[test]
+fn a_run_is_refused_or_right_at_each_growth(rt: HostRuntime) {
+    // the items, the words of the ring, the items taken and the text
+    expect_refused_or_right(&rt, RELAY, b"", "put 8\ntaken 8\nclosed yes\n", 4);
 }
 
 #[test]

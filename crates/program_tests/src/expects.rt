@@ -2,7 +2,10 @@
 use bits_core::{Kind, Verdict};
 use ring_audit::Finding;
 use ring_player::Report;
-use ring_program::{AppFault, Refusal, audit_text, execute, load, report_text, verdict_text};
+use ring_program::{
+    AppFault, Refusal, audit_text, execute, load, relay_text, report_text, verdict_text,
+};
+use ring_run::Outcome;
 use std::alloc::{AllocGlobal, Global};
 use std::io;
 use std::io::Read;
@@ -33,6 +36,43 @@ pub fn expect_run_on<R: Read>(
     assert_eq!(rt; ended, status);
     assert!(rt; output.as_slice() == out.as_bytes());
     assert!(rt; errors.as_slice() == err.as_bytes());
+}
+
+/// Each run with these words and more has this status and these texts. It reads nothing.
+pub fn expect_runs(
+    rt: &(impl Abort + AllocGlobal + Threads),
+    front: &[&'static str],
+    rows: &[(&'static [&'static str], u8, &'static str, &'static str)],
+) -> Result<(), Fail> {
+    for (more, status, out, err) in rows {
+        let mut words = front.to_vec(rt.alloc())?;
+        words.extend_from_slice(more)?;
+        let mut input = b"unread".as_slice();
+        expect_run_on(rt, words.as_slice(), &mut input, *status, out, err);
+        assert!(rt; input == b"unread".as_slice());
+    }
+    Ok(())
+}
+
+/// The text of a relay that came to this.
+pub fn expect_relay_text(
+    rt: &(impl Abort + AllocGlobal),
+    put: u64,
+    taken: &[u64],
+    closed: bool,
+    text: &str,
+) -> Result<(), Fail> {
+    let outcome = Outcome {
+        put,
+        calls: put,
+        taken: taken.to_vec(rt.alloc())?,
+        closed,
+        full: 0,
+        empty: 0,
+    };
+    let told = relay_text(rt.alloc(), &outcome)?;
+    assert!(rt; told.as_bytes() == text.as_bytes());
+    Ok(())
 }
 
 /// Each input has this status and this text on the output, by this command.

@@ -8,4 +8,6 @@ mod expects;
 #[cfg(test)]
 mod plays;
 #[cfg(test)]
+mod runs;
+#[cfg(test)]
 mod tests;

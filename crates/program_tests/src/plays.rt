@@ -1,9 +1,11 @@
 use crate::expects::{
     expect_lawful_plays, expect_plays, expect_refusal_words, expect_refused_scripts, expect_report,
 };
+use bits_core::ShapeFault;
 use ring_audit::AuditFault;
 use ring_player::{PlayFault, ScriptFault};
 use ring_program::Refusal;
+use ring_run::RunFault;
 use std::test::Fail;
 
 const PLAIN: &str =
@@ -192,13 +194,18 @@ fn reports_have_their_text(rt: HostRuntime) -> Result<(), Fail> {
     expect_report(&rt, &[0, u64::MAX], true, (u64::MAX, 1, 20), text)
 }
 
-const WORDS: [(Refusal, &str); 3] = [
+const WORDS: [(Refusal, &str); 5] = [
     (
         Refusal::Script(ScriptFault::BadSchedule(7)),
         "schedule is wrong at byte 7",
     ),
     (Refusal::Play(PlayFault::OutOfMemory), "out of memory"),
     (Refusal::Audit(AuditFault::OutOfMemory), "out of memory"),
+    (Refusal::Run(RunFault::OutOfMemory), "out of memory"),
+    (
+        Refusal::Shape(ShapeFault::Width),
+        "width must be from 1 to 64",
+    ),
 ];
 
 #[test]

@@ -117,7 +117,7 @@ const STATUSES: [(&[&str], u8); 21] = [
     (&["lamport_ring", "play", "--trace", "--trace"], 2),
     (&["lamport_ring", "play", "--trace=true"], 2),
     (&["lamport_ring", "play", "x.json"], 2),
-    (&["lamport_ring", "run"], 2),
+    (&["lamport_ring", "go"], 2),
     (&["lamport_ring"], 2),
     (&[], 2),
     (&["lamport_ring", "--help"], 0),
@@ -155,7 +155,7 @@ const WORDS: [(&[&str], u8, &str); 24] = [
     (
         HELP,
         0,
-        "  0  done: a play, a lawful history, or help or the version that was asked for\n",
+        "  0  done: a play, a lawful history, a whole relay, or help or the version that\n     was asked for\n",
     ),
     (
         HELP,
@@ -181,9 +181,9 @@ const WORDS: [(&[&str], u8, &str); 24] = [
         "error: unexpected argument 'x.trace' found\n\nUsage: lamport_ring audit [--bits] < TRACE\n",
     ),
     (
-        &["lamport_ring", "run"],
+        &["lamport_ring", "go"],
         2,
-        "error: unrecognized subcommand 'run'\n",
+        "error: unrecognized subcommand 'go'\n",
     ),
     (PLAY_HELP, 0, PLAY_EXAMPLE),
     (

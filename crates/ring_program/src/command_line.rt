@@ -72,9 +72,11 @@ Examples:
   lamport_ring play < examples/plain_path.json
   lamport_ring audit < examples/plain_path.trace
   lamport_ring audit --bits < examples/new_old_inversion.trace
+  lamport_ring run --capacity 1 --modulus 3 --width 6 --count 64 --limit 1000000000
 
 Exit status:
-  0  done: a play, a lawful history, or help or the version that was asked for
+  0  done: a play, a lawful history, a whole relay, or help or the version that
+     was asked for
   1  refused, for the cause that standard error gives
   2  the command line is wrong
   3  the audit found a fault";
@@ -141,7 +143,7 @@ fn program<'a>(alloc: Global) -> Result<Command<'a>, AllocError>
     let run = run_command(alloc)?;
     let command = Command::new(alloc, "lamport_ring")
         .about(
-            "A producer-consumer ring from safe bits: plays of scripts, audits of recorded histories",
+            "A producer-consumer ring from safe bits: plays of scripts, audits of recorded histories, two threads",
         )
         .version(VERSION)
         .after_help(PROGRAM_HELP)

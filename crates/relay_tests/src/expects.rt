@@ -1,0 +1,85 @@
+//! What relays come to.
+ghost use Rattle.std.specs.Prelude.{◌≡◌, None, false, []};
+ghost use Rattle.bits_core.specs.Shape.{AllFit};
+ghost use Rattle.ring_run.specs.Hands.{IsSameEnd};
+
+use bits_core::{Oracle, Shape};
+use ring_run::{FreeGate, Gate, Limits, Outcome, Putter, RunFault, Taker, relay, relay_flicker};
+use std::alloc::{AllocGlobal, Allocator, Global};
+use std::process::Abort;
+use std::test::Fail;
+use std::thread::Threads;
+
+/// The items 0 to 63.
+pub const ITEMS: [u64; 64] = [
+    0, 1, 2, 3, 4, 5, 6, 7, 8, 9, 10, 11, 12, 13, 14, 15, 16, 17, 18, 19, 20, 21, 22, 23, 24, 25,
+    26, 27, 28, 29, 30, 31, 32, 33, 34, 35, 36, 37, 38, 39, 40, 41, 42, 43, 44, 45, 46, 47, 48, 49,
+    50, 51, 52, 53, 54, 55, 56, 57, 58, 59, 60, 61, 62, 63,
+];
+
+/// A shape: capacity, modulus, width, batch.
+pub type Numbers = [u64; 4];
+
+/// One cell of one bit.
+pub const ONE: Numbers = [1, 3, 1, 1];
+
+/// Up to three cells of six bits, each with its smallest modulus, and puts of up to three items.
+pub const SHAPES: [Numbers; 4] = [[1, 3, 6, 1], [2, 4, 6, 1], [3, 5, 6, 1], [3, 7, 6, 3]];
+
+/// Answers of an oracle.
+pub const TAPE: &[bool] = &[false, true, true, false, true, false, false];
+
+/// The items taken are the first that were put, and where the taker was told that the ring is closed they are all.
+pub fn expect_in_order<A: Allocator>(rt: &impl Abort, outcome: &Outcome<A>, items: &[u64]) {
+    let taken = outcome.taken.as_slice();
+    assert!(rt; taken.len() as u64 <= outcome.put && outcome.put <= items.len() as u64);
+    for (place, item) in taken.iter().enumerate() {
+        assert_eq!(rt; Some(*item), items.get(place).copied(), "item {place}");
+    }
+    assert!(rt; !outcome.closed || taken.len() == items.len());
+}
+
+/// A relay of the items, with these oracles, gate and limits: its items are in order.
+pub fn expect_relay<O: Oracle + Drop + Send, G: Gate + Sync>(
+    rt: &(impl Abort + AllocGlobal + Threads),
+    numbers: &Numbers,
+    oracles: (O, O),
+    items: &[u64],
+    limits: Limits,
+    gate: &G,
+) -> Result<Outcome<Global>, Fail> {
+    let [capacity, modulus, width, batch] = *numbers;
+    let shape = Shape::with_batch(capacity, modulus, width, batch)?;
+    assert!(rt; shape.fits_all(items));
+    let (oracle_p, oracle_c) = oracles;
+    let outcome = relay_flicker(
+        rt,
+        rt.alloc(),
+        shape,
+        oracle_p,
+        oracle_c,
+        items,
+        limits,
+        gate,
+    )?;
+    expect_in_order(rt, &outcome, items);
+    Ok(outcome)
+}
+
+/// A relay between these ends, which have made no call.
+pub fn relay_between<A: Allocator + Copy, O: Oracle + Drop + Send>(
+    rt: &impl Threads,
+    alloc: A,
+    putter: &mut Putter<'_, O>,
+    taker: &mut Taker<'_, O>,
+    items: &[u64],
+    limits: Limits,
+) -> Result<Outcome<A>, RunFault>
+    requires idle { (putter.old.call ≡ None) × (taker.old.taking ≡ false) }
+    requires fresh { (putter.old.end.list ≡ []) × (taker.old.end.list ≡ []) }
+    requires fit { AllFit putter.old.end.ring.shape items.now }
+    ensures idle { (putter.new.call ≡ None) × (taker.new.taking ≡ false) }
+    ensures same { IsSameEnd putter.old.end putter.new.end × IsSameEnd taker.old.end taker.new.end }
+{
+    relay(rt, alloc, putter, taker, items, limits, &FreeGate)
+}

@@ -1,0 +1,129 @@
+//! Gates that make one side of a relay wait for the other, so many looks at most.
+use crate::expects::{ITEMS, Numbers, ONE, SHAPES, TAPE, expect_relay};
+use bits_core::{Always, Flip, Oracle, Side, Tape};
+use ring_run::{Gate, Limits};
+use std::alloc::AllocGlobal;
+use std::hint::spin_loop;
+use std::process::Abort;
+use std::sync::atomic::{AtomicBool, AtomicU64, Ordering};
+use std::test::Fail;
+use std::thread::Threads;
+
+// Each side waits before its first call until the other one is there.
+#[derive(Drop)]
+struct Meeting {
+    putter: AtomicBool,
+    taker: AtomicBool,
+    ran_out: AtomicBool,
+}
+
+impl Gate for Meeting {
+    fn pass(&self, side: Side, count: u64) {
+        if count > 0 {
+            return;
+        }
+        let (own, other) = match side {
+            Side::P => (&self.putter, &self.taker),
+            Side::C => (&self.taker, &self.putter),
+        };
+        own.store(true, Ordering::SeqCst);
+        for _ in 0..100_000_000 {
+            if other.load(Ordering::SeqCst) {
+                return;
+            }
+            spin_loop();
+        }
+        self.ran_out.store(true, Ordering::SeqCst);
+    }
+}
+
+#[test]
+fn both_sides_run_at_the_same_time(rt: HostRuntime) -> Result<(), Fail> {
+    let gate = Meeting {
+        putter: AtomicBool::new(false),
+        taker: AtomicBool::new(false),
+        ran_out: AtomicBool::new(false),
+    };
+    let oracles = (Flip::new(), Flip::new());
+    let outcome = expect_relay(&rt, &ONE, oracles, &[1], Limits::both(1), &gate)?;
+    assert!(rt; gate.putter.load(Ordering::SeqCst) && gate.taker.load(Ordering::SeqCst));
+    assert!(rt; !gate.ran_out.load(Ordering::SeqCst));
+    assert!(rt; outcome.put == 1 && outcome.calls == 1 && outcome.full == 0);
+    Ok(())
+}
+
+// The taker waits before its fourth take until the putter has made 100 puts. Keeps what each side was last said to have made.
+#[derive(Drop)]
+struct Held {
+    puts: AtomicU64,
+    takes: AtomicU64,
+    ran_out: AtomicBool,
+}
+
+impl Gate for Held {
+    fn pass(&self, side: Side, count: u64) {
+        match side {
+            Side::P => self.puts.store(count, Ordering::SeqCst),
+            Side::C => {
+                self.takes.store(count, Ordering::SeqCst);
+                if count == 3 {
+                    self.hold();
+                }
+            }
+        }
+    }
+}
+
+impl Held {
+    fn hold(&self) {
+        for _ in 0..1_000_000 {
+            if self.puts.load(Ordering::SeqCst) >= 100 {
+                return;
+            }
+            spin_loop();
+        }
+        self.ran_out.store(true, Ordering::SeqCst);
+    }
+}
+
+// Of 100 puts before the fourth take no more than the 3 items taken and the 3 in the ring were stored. The last put and the
+// last take have passed the gate.
+fn expect_held<O: Oracle + Drop + Send>(
+    rt: &(impl Abort + AllocGlobal + Threads),
+    numbers: &Numbers,
+    oracles: (O, O),
+) -> Result<(), Fail> {
+    let gate = Held {
+        puts: AtomicU64::new(0),
+        takes: AtomicU64::new(0),
+        ran_out: AtomicBool::new(false),
+    };
+    let limits = Limits::both(1_000_000);
+    let outcome = expect_relay(rt, numbers, oracles, &ITEMS, limits, &gate)?;
+    assert!(rt;
+        gate.ran_out.load(Ordering::SeqCst) || outcome.full >= 94,
+        "{numbers:?}"
+    );
+    let items = (outcome.taken.len() as u64).saturating_add(u64::from(outcome.closed));
+    let takes = outcome.empty.saturating_add(items);
+    assert_eq!(rt;
+        Some(gate.puts.load(Ordering::SeqCst)),
+        outcome.calls.checked_sub(1)
+    );
+    assert_eq!(rt;
+        Some(gate.takes.load(Ordering::SeqCst)),
+        takes.checked_sub(1)
+    );
+    Ok(())
+}
+
+#[test]
+fn a_taker_that_is_held_leaves_the_ring_full(rt: HostRuntime) -> Result<(), Fail> {
+    for numbers in SHAPES.iter() {
+        expect_held(&rt, numbers, (Always(false), Always(false)))?;
+        expect_held(&rt, numbers, (Always(true), Always(true)))?;
+        expect_held(&rt, numbers, (Flip::new(), Flip::new()))?;
+        expect_held(&rt, numbers, (Tape::new(TAPE), Tape::new(TAPE)))?;
+    }
+    Ok(())
+}

@@ -1,0 +1,28 @@
+use crate::expects::{ITEMS, Numbers, SHAPES, TAPE, expect_relay};
+use bits_core::{Always, Flip, Oracle, Tape};
+use ring_run::{FreeGate, Limits};
+use std::alloc::AllocGlobal;
+use std::process::Abort;
+use std::test::Fail;
+use std::thread::Threads;
+
+fn expect_oracles<O: Oracle + Drop + Send>(
+    rt: &(impl Abort + AllocGlobal + Threads),
+    numbers: &Numbers,
+    oracles: (O, O),
+) -> Result<(), Fail> {
+    let limits = Limits::both(1_000_000);
+    expect_relay(rt, numbers, oracles, &ITEMS, limits, &FreeGate)?;
+    Ok(())
+}
+
+#[test]
+fn items_are_in_order_under_each_oracle(rt: HostRuntime) -> Result<(), Fail> {
+    for numbers in SHAPES.iter() {
+        expect_oracles(&rt, numbers, (Always(false), Always(false)))?;
+        expect_oracles(&rt, numbers, (Always(true), Always(true)))?;
+        expect_oracles(&rt, numbers, (Flip::new(), Flip::new()))?;
+        expect_oracles(&rt, numbers, (Tape::new(TAPE), Tape::new(TAPE)))?;
+    }
+    Ok(())
+}

@@ -1,0 +1,45 @@
+use bits_core::Shape;
+use refusing::Refusing;
+use ring_run::{FlickerRing, RunFault};
+use std::alloc::AllocGlobal;
+use std::process::Abort;
+use std::test::Fail;
+
+// Makes a ring of the shape, each growth refused in turn, and then none.
+fn expect_refused_rings(
+    rt: &(impl Abort + AllocGlobal),
+    numbers: &(u64, u64, u64),
+) -> Result<(), Fail> {
+    let (capacity, modulus, width) = *numbers;
+    let shape = Shape::new(capacity, modulus, width)?;
+    for allocations in 0..20 {
+        let alloc = Refusing::after(rt.alloc(), allocations);
+        let refused = FlickerRing::new(&alloc, shape).err();
+        if !alloc.has_refused() {
+            assert_eq!(rt; refused, None);
+            assert!(rt; 1 <= allocations);
+            return Ok(());
+        }
+        assert_eq!(rt; refused, Some(RunFault::OutOfMemory));
+    }
+    assert!(rt; false, "a growth was refused each time");
+    Ok(())
+}
+
+const SHAPES: [(u64, u64, u64); 3] = [(1, 3, 1), (3, 5, 6), (64, 256, 64)];
+
+#[test]
+fn a_ring_is_refused_at_each_growth(rt: HostRuntime) -> Result<(), Fail> {
+    for numbers in SHAPES.iter() {
+        expect_refused_rings(&rt, numbers)?;
+    }
+    Ok(())
+}
+
+#[test]
+fn the_fault_has_its_number_and_words(rt: HostRuntime) -> Result<(), Fail> {
+    let fault = RunFault::OutOfMemory;
+    let words = fault.to_string(rt.alloc())?;
+    assert!(rt; fault.number() == 1 && words.as_str() == "out of memory");
+    Ok(())
+}
