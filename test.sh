@@ -68,6 +68,13 @@ for script in examples/*.json; do
     echo "examples: $name: $(head -n 1 "examples/$name.report"), lawful"
 done
 
+echo "program: a run over two threads"
+printf 'put 1000\ntaken 1000\nclosed yes\n' >"$room/relayed"
+run 0 "$room/relayed" run --capacity 8 --modulus 10 --width 16 --count 1000 --limit 1000000000 </dev/null
+printf 'put 3\ntaken 0\nclosed no\n' >"$room/limited"
+run 1 "$room/limited" run --capacity 3 --modulus 7 --width 6 --batch 3 --count 64 --limit 2 --takes 0 </dev/null
+[ "$(cat "$room/err")" = "refused: limit reached" ] || fail "a limited run said '$(cat "$room/err")'"
+
 echo "program: refusals, as its process ends"
 refuses 1 "refused: trace line 1 is not a line of the format" audit --bits </dev/null
 head -c 33554433 /dev/zero >"$room/large"
@@ -75,6 +82,7 @@ refuses 1 "refused: input is too large" audit --bits <"$room/large"
 echo '{}' >"$room/braces"
 refuses 1 "refused: script is not JSON" play </dev/null
 refuses 1 "refused: field capacity is missing" play --trace <"$room/braces"
+refuses 1 "refused: modulus must be from capacity + batch + 1 to 256" run --capacity 1 --modulus 2 --width 6 --count 1 --limit 1 </dev/null
 refuses 2 "error: an argument is not text" audit "$(printf '\377')" </dev/null
 status=0
 ./lamport_ring audit --bits <examples/plain_path.trace >/dev/full 2>"$room/err" || status=$?
