@@ -54,3 +54,4 @@ pub mod Alike
 pub mod LastBits
 pub mod PutParts
 pub mod WholeCalls
+pub mod OneCallMore

@@ -11,6 +11,7 @@ pub mod PutParts
 pub mod Calls
 pub mod CallsAt
 pub mod Whole
+pub mod OneCallMore
 pub mod ProducerState
 pub mod ProducerCalls
 pub mod ConsumerState

@@ -4,6 +4,7 @@ ghost use Rattle.ring_core.specs.Following.{PutsAreFollowed, TakesAreFollowed};
 ghost use Rattle.ring_core.specs.GoingOn.{LastPutsReadOne, LastTakesReadOne, PutsGoOnByOne, TakesGoOnAlike, TakesGoOnByOne};
 ghost use Rattle.ring_core.specs.Items.{ItemsAreRead, TakenAreRead};
 ghost use Rattle.ring_core.specs.Lengths.{ItemPutsAreShort, FullPutsAreShort, PutsAreShort, TakesAreShort, EndsAreShort};
+ghost use Rattle.ring_core.specs.OneCallMore.{ClosesByOneMore, EndsByOneMore, PutsByOneMore, TakesByOneMore};
 ghost use Rattle.ring_core.specs.Over.{PutsOverAreRead, TakesOverAreRead};
 ghost use Rattle.ring_core.specs.PutParts.{CountsOn, ScansOn, ScansOrCloses, StoresOn, StoresOrCounts};
 ghost use Rattle.ring_core.specs.Readings.{PutsAreFirst, PutsAreRead, TakesAreFirst, TakesAreRead};
@@ -87,6 +88,15 @@ pub fn calls_are_short()
     ensures puts { PutsAreShort }
     ensures takes { TakesAreShort }
     ensures ends { EndsAreShort }
+{}
+
+/// Behind the whole calls of a program that is not over another put, a close, or another take may follow; its accesses
+/// come behind theirs, and what they count and answer is what it does.
+pub fn programs_by_one_call()
+    ensures puts { PutsByOneMore }
+    ensures closes { ClosesByOneMore }
+    ensures takes { TakesByOneMore }
+    ensures ends { EndsByOneMore }
 {}
 
 /// The access that a call under way goes on with, whatever it is answered, is the only one: behind the same calls and

@@ -1,6 +1,15 @@
+pub mod Blocks
+pub mod CounterMoves
+pub mod CounterPuts
+pub mod CounterPutterCalls
+pub mod CounterStarts
+pub mod CounterTakes
+pub mod CounterTold
+pub mod CounterTakerCalls
 pub mod Emptied
 pub mod Histories
 pub mod Idle
+pub mod LastWrites
 pub mod Lists
 pub mod Moves
 pub mod Places
@@ -8,6 +17,7 @@ pub mod PutterCalls
 pub mod PutterMoves
 pub mod Relayed
 pub mod RelayLemmas
+pub mod Rights
 pub mod Sent
 pub mod Steps
 pub mod TakerCalls

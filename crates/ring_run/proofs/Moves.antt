@@ -25,7 +25,7 @@ use Rattle.ring_core.specs.Takes.{Takes, FollowsTakes}
 use Rattle.ring_run.specs.declared.views.View.{View}
 use Rattle.ring_run.specs.Words.{digit, shown, answer_of, word_place, word_count, first_words, Shows}
 use Rattle.ring_run.specs.Programs.{Follows, IsRing, GoesOn}
-use Rattle.ring_run.specs.Rule.{event, joint, spent, putter_of, taker_of, joined, may_step, list_of, kept_load, and_event, IsIdle, FirstLoad, Fits, FitsAll, Kept, Added, Learned}
+use Rattle.ring_run.specs.Rule.{event, joint, spent, putter_of, taker_of, joined, may_step, list_of, kept_load, and_event, IsIdle, FirstLoad, Fits, FitsAll, KeptBy, Kept, Added, Learned}
 use Rattle.ring_run.specs.Below.{LawsBelow}
 use Rattle.ring_run.proofs.Places.{one_or_apart, place_below, shows_first}
 use Rattle.ring_run.proofs.Histories.{same_side-same, either_side, before_last-mine, before_last-theirs, own-mine, own-theirs, open-mine, open-theirs, shown-read_begin, shown-read_end, shown-apart, shown-write_begin, shown-write_end, permitted}
@@ -281,8 +281,8 @@ split_seats h known owner views id v there puts takes all seat u at y may =
     right_fits seat u is same C may = subst (λ (w : View). Fits h known (two_seats id (length views)) seat w C) same
         (let f = all id v there C takes in record { at = is; list = f.list; known_is = f.known_is; also_is = f.also_is; load = f.load })
 
-pub splits : (shape : Shape) (id : ℕ) (v : View) → v.puts ≡ true → v.takes ≡ true → Splits (Kept shape) id v (putter_of v) (taker_of v)
-splits shape id v puts takes s k at = record {
+pub splits : (count : Shape → ℕ) (IsShown : Shape → List ℕ → List Event → Type 0) (shape : Shape) (id : ℕ) (v : View) → v.puts ≡ true → v.takes ≡ true → Splits (KeptBy count IsShown shape) id v (putter_of v) (taker_of v)
+splits count IsShown shape id v puts takes s k at = record {
   history = k.history;
   known = k.known;
   owner = two_seats id (length s.views);
@@ -293,7 +293,7 @@ splits shape id v puts takes s k at = record {
   seats = split_seats k.history k.known k.owner s.views id v at puts takes k.seats;
 }
 
-no_load : (x : Side) (h : List Event) (load : ℕ) → open_access x h ≡ None → FirstLoad x h load
+pub no_load : (x : Side) (h : List Event) (load : ℕ) → open_access x h ≡ None → FirstLoad x h load
 no_load x h load none b some_read = absurd (cc)
 
 module _ (laws : LawsBelow) (shape : Shape) where
@@ -331,8 +331,9 @@ module _ (laws : LawsBelow) (shape : Shape) where
       both_fit seat u is same C = subst (λ (t : View). Fits h known (two_seats id id) seat t C) same
           (record { at = is; list = taker.list; known_is = putter.known_is; also_is = taker.known_is; load = no_load C h 0 (open_there laws shape C None w.taken h taker.list idle') })
 
-  pub joins : (id : ℕ) (v : View) (there : ℕ) (w : View) → v.puts ≡ true → w.takes ≡ true → IsIdle P v.put → IsIdle C w.taken → Joins (Kept shape) id v there w (joined v w) spent
-  joins id v there w puts takes idle idle' s k at apart at' = record {
+  pub joins : (count : Shape → ℕ) (IsShown : Shape → List ℕ → List Event → Type 0) (id : ℕ) (v : View) (there : ℕ) (w : View) → v.puts ≡ true → w.takes ≡ true → IsIdle P v.put → IsIdle C w.taken
+      → Joins (KeptBy count IsShown shape) id v there w (joined v w) spent
+  joins count IsShown id v there w puts takes idle idle' s k at apart at' = record {
     history = k.history;
     known = k.known;
     owner = two_seats id id;
@@ -347,7 +348,7 @@ module _ (laws : LawsBelow) (shape : Shape) where
 
 -- the joint seat learns
 
-set-same : (l : List ℕ) (i : ℕ) → set l i (get_or l i 0) ≡ l
+pub set-same : (l : List ℕ) (i : ℕ) → set l i (get_or l i 0) ≡ l
 set-same [] i = refl
 set-same (x ∷ xs) zero = refl
 set-same (x ∷ xs) (suc i) = ap (λ (l : List ℕ). x ∷ l) (set-same xs i)
@@ -380,9 +381,9 @@ module _ (laws : LawsBelow) (shape : Shape) where
       here_fits seat u is same C = subst (λ (t : View). Fits h h owner seat t C) same
           (record { at = is ∙ taker.at; list = taker.list; known_is = refl; also_is = refl; load = no_load C h 0 (open_there laws shape C None v.taken h taker.list idle') })
 
-  pub learns : (slots id i : ℕ) (me : Me (Unit {0}) View) → me.0.puts ≡ true → me.0.takes ≡ true → IsIdle P me.0.put → IsIdle C me.0.taken
-      → Allows (Kept shape) slots id me i (λ n. n) (λ _. Learned shape me)
-  learns slots id i me puts takes idle idle' s k homes at small =
+  pub learns : (count : Shape → ℕ) (IsShown : Shape → List ℕ → List Event → Type 0) (slots id i : ℕ) (me : Me (Unit {0}) View) → me.0.puts ≡ true → me.0.takes ≡ true → IsIdle P me.0.put → IsIdle C me.0.taken
+      → Allows (KeptBy count IsShown shape) slots id me i (λ n. n) (λ _. Learned shape me)
+  learns count IsShown slots id i me puts takes idle idle' s k homes at small =
       let h : List Event = k.history in
       let putter : Fits h k.known k.owner id me.0 P = k.seats id me.0 at P puts in
       let taker : Fits h k.known k.owner id me.0 C = k.seats id me.0 at C takes in (
@@ -395,7 +396,7 @@ module _ (laws : LawsBelow) (shape : Shape) where
           owner = k.owner;
           ring = k.ring;
           wide = length-set s.words i (slice_index s.words i) ∙ k.wide;
-          shows = subst (λ (l : List ℕ). Shows shape l h) (sym (set-same s.words i)) k.shows;
+          shows = subst (λ (l : List ℕ). IsShown shape l h) (sym (set-same s.words i)) k.shows;
           begins = ([], append-nil h);
           seats = learn_seats h k.known k.owner s.views id me.0 at puts takes idle idle' k.seats;
         },
@@ -414,7 +415,7 @@ module _ (laws : LawsBelow) (shape : Shape) where
 
 -- the ring before any step
 
-first_seat : (seat : ℕ) (v : View) → get_elem? (joint [] [] [] [] ∷ []) seat ≡ some v → (x : Side) → may_step x v ≡ true → Fits [] [] (λ _. 0) seat v x
+pub first_seat : (seat : ℕ) (v : View) → get_elem? (joint [] [] [] [] ∷ []) seat ≡ some v → (x : Side) → may_step x v ≡ true → Fits [] [] (λ _. 0) seat v x
 first_seat zero v at P may = subst (λ (w : View). Fits [] [] (λ _. 0) 0 w P) (some-injective _ _ at) (record { at = refl; list = refl; known_is = refl; also_is = refl; load = λ b o. absurd (cc) })
 first_seat zero v at C may = subst (λ (w : View). Fits [] [] (λ _. 0) 0 w C) (some-injective _ _ at) (record { at = refl; list = refl; known_is = refl; also_is = refl; load = λ b o. absurd (cc) })
 first_seat (suc seat) v at x may = absurd (some-ne-none v (sym at))

@@ -1,5 +1,6 @@
 -- One put or take more of a relay.
-use Rattle.std.proofs.Common.{◌≡◌, ◌≢◌, ◌⊎◌, ⊎_elim, ℕ, zero, suc, ◌+◌, ◌-◌, ◌<◌, ◌≤◌, Bool, true, false, Some, None, List, [], ◌∷◌, ◌++◌, length, take, ◌%◌, append_assoc, refl, ap, sym, subst, ◌∙◌, arith, append-nil}
+use Rattle.std.proofs.Common.{◌≡◌, ◌≢◌, ◌⊎◌, ⊎_elim, ℕ, zero, suc, ◌+◌, ◌-◌, ◌<◌, ◌≤◌, Bool, true, false, Some, None, List, [], ◌∷◌, ◌++◌, length, take, ◌%◌, append_assoc, refl, ap, sym, subst, ◌∙◌, arith, append-nil, Result, Ok, Err}
+use Rattle.std.specs.Prelude.{IfErr}
 use Rattle.std.proofs.lemmas.List.{length-append}
 use Rattle.std.proofs.Math.Seq.{take-add, take-length, drop-nil}
 use Rattle.std.proofs.Math.ListN.{drop}
@@ -316,6 +317,12 @@ module _ (read : TakesAreRead) (shape : Shape) (list list' : List Event) (taken 
         told_is = refl;
       })
       a.1.is_one_more
+
+-- ---- a fault, whatever it is
+
+pub if_err : {A E : Type 0} (r : Result A E) (X : Type 0) → X → IfErr r (λ _. X)
+if_err (Ok a) X x = tt
+if_err (Err e) X x = x
 
 -- ---- an end after two calls
 

@@ -1,5 +1,6 @@
 -- What the law of the ring says of a relay.
-use Rattle.std.proofs.Common.{Bool, List, [], ap, append-nil, arith, eqb-true, length, subst, sym, take, true, true≢false, ℕ, ◌+◌, ◌∙◌, ◌≡◌, ◌≤◌}
+use Rattle.std.proofs.Common.{Bool, false, List, [], ap, append-nil, arith, eqb-true, length, subst, sym, take, true, true≢false, ℕ, ◌+◌, ◌==◌, ◌∙◌, ◌≡◌, ◌≤◌}
+use Rattle.std.proofs.lemmas.List.{length-append}
 use Rattle.std.proofs.Math.Seq.{take-length}
 use Rattle.bits_core.specs.declared.shapes.Shape.{Shape}
 use Rattle.bits_core.specs.declared.events.Side.{Side}
@@ -15,10 +16,10 @@ use Rattle.ring_core.specs.CallsAt.{puts_begun, takes_begun}
 use Rattle.ring_core.specs.Whole.{WholePutsCount, WholeTakesCount}
 use Rattle.ring_core.specs.ConsumerCalls.{tells}
 use Rattle.ring_core.specs.RingLaw.{IsRun, InEveryRun, IsWithin, TakenArePrefix, ClosedIsTrue}
-use Rattle.ring_run.specs.Ring.{RingEnd}
+use Rattle.ring_run.specs.Ring.{Ring, RingEnd}
 use Rattle.ring_run.specs.Meetings.{Meets}
 use Rattle.ring_run.specs.Programs.{IsRing}
-use Rattle.ring_run.specs.Relays.{HasRelayedPuts, HasRelayedTakes, IsRelayed}
+use Rattle.ring_run.specs.Relays.{HasMadePuts, HasRelayedPuts, HasRelayedTakes, HasTakenMore, IsRelayed, PutsAre, TakesAre}
 use Rattle.ring_run.proofs.Lists.{length-events_of}
 use Rattle.ring_run.proofs.RelayLemmas.{length_first}
 
@@ -28,6 +29,31 @@ clock_at_end s h = ap (λ (l : List Event). length (own s l)) (take-length h)
 tells_true : (end : End) → tells end ≡ true → Tells end
 tells_true Open e = absurd (true≢false (sym e))
 tells_true (Closed seen again) e = tt
+
+-- one history of these puts and takes
+module _ (shape : Shape) (items : List ℕ) (put made full : ℕ) (closes : Bool) (taken : List ℕ) (empty : ℕ) (told : Bool) (h : List Event) (ring : IsRing shape h)
+    (ps : PutsAre shape (own P h) items put made full closes) (ts : TakesAre shape (own C h) taken empty told) where
+  run_of : IsRun shape h ps.calls ts.calls
+  run_of = record {
+    lawful = ring.run.lawful;
+    puts_follow = record { are = ps.list_is.are; events = ([], append-nil (own P h) ∙ ps.list_is.list_is) };
+    takes_follow = record { are = ts.list_is.are; events = ([], append-nil (own C h) ∙ ts.list_is.list_is) };
+  }
+
+  put_of : WholePutsCount → items_put shape first_count ps.calls.puts (clock P h (length h)) ≡ take put items
+  put_of count = ap (items_put shape first_count ps.calls.puts) (clock_at_end P h) ∙ (count shape h ps.calls ps.list_is.are ps.list_is.list_is).0 ∙ ps.in_order
+
+  taken_of : WholeTakesCount → items_taken shape 0 ts.calls.takes (clock C h (length h)) ≡ taken
+  taken_of count = ap (items_taken shape 0 ts.calls.takes) (clock_at_end C h) ∙ (count shape h ts.calls ts.list_is.list_is).0 ∙ ts.taken_is
+
+  prefix_of : InEveryRun TakenArePrefix → WholePutsCount → WholeTakesCount → IsBeginning taken (take put items)
+  prefix_of prefix puts_count takes_count = subst (λ (z : List ℕ × List ℕ). IsBeginning z.0 z.1) (λ i. (taken_of takes_count i, put_of puts_count i)) (prefix shape h ps.calls ts.calls run_of (length h))
+
+  -- no more are taken than there are items
+  few_of : InEveryRun TakenArePrefix → WholePutsCount → WholeTakesCount → length taken ≤ length items
+  few_of prefix puts_count takes_count =
+      let p = prefix_of prefix puts_count takes_count in
+      omega (arith, ap length p.1, length-append taken p.0, length_first put items ps.within, ps.within)
 
 module _ (within : InEveryRun IsWithin) (prefix : InEveryRun TakenArePrefix) (closed_law : InEveryRun ClosedIsTrue) (puts_count : WholePutsCount) (takes_count : WholeTakesCount)
     (shape : Shape) (items : List ℕ) (most_puts most_takes put made full : ℕ) (taken : List ℕ) (empty : ℕ) (closed : Bool) (r : IsRelayed shape items most_puts most_takes put made full taken empty closed) where
@@ -41,20 +67,16 @@ module _ (within : InEveryRun IsWithin) (prefix : InEveryRun TakenArePrefix) (cl
   takes = r.takes.takes.calls
 
   run : IsRun shape h puts takes
-  run = record {
-    lawful = r.ring.run.lawful;
-    puts_follow = record { are = r.puts.puts.list_is.are; events = ([], append-nil (own P h) ∙ r.puts.puts.list_is.list_is) };
-    takes_follow = record { are = r.takes.takes.list_is.are; events = ([], append-nil (own C h) ∙ r.takes.takes.list_is.list_is) };
-  }
+  run = run_of shape items put made full (put == length items) taken empty closed h r.ring r.puts.puts r.takes.takes
 
   put_is : items_put shape first_count puts.puts (clock P h (length h)) ≡ take put items
-  put_is = ap (items_put shape first_count puts.puts) (clock_at_end P h) ∙ (puts_count shape h puts r.puts.puts.list_is.are r.puts.puts.list_is.list_is).0 ∙ r.puts.puts.in_order
+  put_is = put_of shape items put made full (put == length items) taken empty closed h r.ring r.puts.puts r.takes.takes puts_count
 
   taken_is : items_taken shape 0 takes.takes (clock C h (length h)) ≡ taken
-  taken_is = ap (items_taken shape 0 takes.takes) (clock_at_end C h) ∙ (takes_count shape h takes r.takes.takes.list_is.list_is).0 ∙ r.takes.takes.taken_is
+  taken_is = taken_of shape items put made full (put == length items) taken empty closed h r.ring r.puts.puts r.takes.takes takes_count
 
   pub relayed_prefix : IsBeginning taken (take put items)
-  relayed_prefix = subst (λ (z : List ℕ × List ℕ). IsBeginning z.0 z.1) (λ i. (taken_is i, put_is i)) (prefix shape h puts takes run (length h))
+  relayed_prefix = prefix_of shape items put made full (put == length items) taken empty closed h r.ring r.puts.puts r.takes.takes prefix puts_count takes_count
 
   pub relayed_all : closed ≡ true → (put ≡ length items) × (taken ≡ items)
   relayed_all e =
@@ -84,3 +106,13 @@ relayed shape items most_puts most_takes put made full taken empty closed p c p_
   puts = subst (λ (z : Shape × List Event). HasRelayedPuts z.0 z.1 items most_puts put made full) (λ i. (p_is i, sym m.put i)) ps;
   takes = subst (λ (z : Shape × List Event). HasRelayedTakes z.0 z.1 most_takes taken empty closed) (λ i. (c_is i, sym m.taken i)) ts;
 }
+
+-- in one ring no more items are taken than there are to put
+pub none_past :
+    InEveryRun TakenArePrefix → WholePutsCount → WholeTakesCount → (items : List ℕ) (most_puts most_takes : ℕ) (p c : RingEnd) → c.ring ≡ p.ring → (h : List Event) → Meets p c h →
+    HasMadePuts p.ring.shape p.list items most_puts → HasTakenMore c.ring.shape c.list most_takes (length items) → ⊥
+none_past prefix puts_count takes_count items most_puts most_takes p c same h m made more =
+    let shape : Shape = p.ring.shape in
+    let ps : PutsAre shape (own P h) items made.put made.made made.full (made.put == length items) = subst (λ l. PutsAre shape l items made.put made.made made.full (made.put == length items)) (sym m.put) made.puts.puts in
+    let ts : TakesAre shape (own C h) more.taken more.empty false = subst (λ (z : Ring × List Event). TakesAre z.0.shape z.1 more.taken more.empty false) (λ i. (same i, sym m.taken i)) more.takes in
+    absurd (omega (arith, more.more, few_of shape items made.put made.made made.full (made.put == length items) more.taken more.empty false h m.ring ps ts prefix puts_count takes_count))

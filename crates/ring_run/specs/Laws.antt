@@ -1,5 +1,5 @@
 -- What a caller of the ends may rest on.
-use Rattle.std.specs.Prelude.{◌≡◌, ◌≤◌, false, List, length}
+use Rattle.std.specs.Prelude.{◌≡◌, ℕ, ◌<◌, ◌≤◌, false, List, length, slice_index}
 use Rattle.bits_core.specs.declared.shapes.Shape.{Shape}
 use Rattle.bits_core.specs.declared.events.Side.TheVariants.{P, C}
 use Rattle.bits_core.specs.declared.events.Event.{Event}
@@ -11,6 +11,7 @@ use Rattle.ring_core.specs.Takes.{Takes}
 use Rattle.ring_core.specs.Items.{all_put, all_taken}
 use Rattle.ring_run.specs.Rule.{Stands}
 use Rattle.ring_run.specs.Ends.{HasPuts, HasTakes, HasTaken}
+use Rattle.ring_run.specs.Counters.{ShowsWords, words_of}
 
 -- A taker knows a history, whose puts are whole, and has made whole takes, those of that history among them. Where the next take
 -- finds the ring empty, each item of these puts was taken before it, and no close stands behind them.
@@ -24,3 +25,9 @@ EmptyAfterMeeting =
 -- a take leaves the list that was there, and adds to it
 abbrev pub TakesAdd : Type 0
 TakesAdd = (shape : Shape) (before after : List Event) (reply : TakeReply) → HasTaken shape before after reply → IsBeginning before after
+
+-- words of a counter ring that show one history are the same
+abbrev pub WordsAreTold : Type 0
+WordsAreTold =
+    (shape : Shape) (words others : List ℕ) (h : List Event) → ShowsWords shape words h → ShowsWords shape others h →
+    (place : ℕ) → place < words_of shape → slice_index words place ≡ slice_index others place

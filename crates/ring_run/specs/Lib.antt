@@ -1,4 +1,6 @@
 pub mod Below
+pub mod CounterEnds
+pub mod Counters
 pub mod Ends
 pub mod Hands
 pub mod Laws

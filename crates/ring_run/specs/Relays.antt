@@ -1,5 +1,5 @@
 -- What a relay works its two ends to.
-use Rattle.std.specs.Prelude.{◌≡◌, ◌⊎◌, ℕ, ◌+◌, ◌≤◌, ◌==◌, Bool, false, List, [], ◌∷◌, length, take, drop, if◌then◌else◌}
+use Rattle.std.specs.Prelude.{◌≡◌, ◌⊎◌, ℕ, ◌+◌, ◌<◌, ◌≤◌, ◌==◌, Bool, false, List, [], ◌∷◌, length, take, drop, if◌then◌else◌}
 use Rattle.bits_core.specs.declared.shapes.Shape.{Shape}
 use Rattle.bits_core.specs.declared.events.Event.{Event}
 use Rattle.bits_core.specs.declared.events.Side.TheVariants.{P, C}
@@ -54,13 +54,13 @@ pub record HasRelayedTakes (shape : Shape) (list : List Event) (limit : ℕ) (ta
   pub most : length taken + empty + (if closed then 1 else 0) ≤ limit
   pub all : closed ≡ false → length taken + empty ≡ limit
 
--- whole takes were made, at most as many as the limit
-pub record HasMadeTakes (shape : Shape) (list : List Event) (limit : ℕ) : Type 0 where
+-- whole takes were made, at most as many as the limit; they took more items than this number, and none was told that the ring is closed
+pub record HasTakenMore (shape : Shape) (list : List Event) (limit number : ℕ) : Type 0 where
   pub taken : List ℕ
   pub empty : ℕ
-  pub told : Bool
-  pub takes : TakesAre shape list taken empty told
-  pub most : length taken + empty + (if told then 1 else 0) ≤ limit
+  pub takes : TakesAre shape list taken empty false
+  pub most : length taken + empty ≤ limit
+  pub more : number < length taken
 
 -- all that a relay's puts may come to
 pub record HasMadePuts (shape : Shape) (list : List Event) (items : List ℕ) (limit : ℕ) : Type 0 where

@@ -85,16 +85,20 @@ FitsAll h known owner views =
     (seat : ℕ) (v : View) → get_elem? views seat ≡ some v → (x : Side) → may_step x v ≡ true → Fits h known owner seat v x
 
 -- There is a lawful history, whose two sides are the two seats' lists and follow their programs, which the words show, and
--- which begins with what the seats know
-pub record Kept (shape : Shape) (s : State (Unit {0}) View) : Type 0 where
+-- which begins with what the seats know. A ring says how many words it has and what they show
+pub record KeptBy (count : Shape → ℕ) (IsShown : Shape → List ℕ → List Event → Type 0) (shape : Shape) (s : State (Unit {0}) View) : Type 0 where
   pub history : List Event
   pub known : List Event
   pub owner : Side → ℕ
   pub ring : IsRing shape history
-  pub wide : length s.words ≡ word_count shape
-  pub shows : Shows shape s.words history
+  pub wide : length s.words ≡ count shape
+  pub shows : IsShown shape s.words history
   pub begins : IsBeginning known history
   pub seats : FitsAll history known owner s.views
+
+-- the rule of the flickering ring
+abbrev pub Kept : Shape → State (Unit {0}) View → Type 0
+Kept shape s = KeptBy word_count Shows shape s
 
 -- the side has no access open
 abbrev pub IsIdle : Side → List Event → Type 0

@@ -2,16 +2,20 @@
 ghost use Rattle.ring_run.specs.Below.{LawsBelow};
 
 use bits_core::laws::{
-    before_last_changes, empty_is_lawful, held_changes, lawful_by_one_more, made_leave_none_open,
-    open_changes, open_from_own, open_write_changes, own_changes, quiet_is_held,
+    before_last_changes, beginning_is_lawful, empty_is_lawful, held_changes, lawful_by_one_more,
+    made_leave_none_open, open_changes, open_from_own, open_write_changes, own_changes,
+    quiet_is_held,
 };
-use ring_core::laws::{last_bit_is_one, runs_by_one_more};
+use ring_core::laws::{
+    counts_are_written, last_bit_is_one, programs_by_one_call, runs_by_one_more,
+};
 
-// What the steps of the ring rest on.
+// What the steps of the rings rest on.
 pub(crate) fn laws_below()
     ensures { LawsBelow }
 {
     empty_is_lawful();
+    beginning_is_lawful();
     lawful_by_one_more();
     open_changes();
     open_write_changes();
@@ -23,4 +27,6 @@ pub(crate) fn laws_below()
     quiet_is_held();
     runs_by_one_more();
     last_bit_is_one();
+    counts_are_written();
+    programs_by_one_call();
 }

@@ -1,9 +1,17 @@
-//! The running ring of flickering bits: one producer and one consumer in two threads, with no lock (Lamport 1977, over
-//! the registers of 1986). Between any two atomic steps there is one lawful history of safe bits, whose two sides are
-//! the lists of the two ends and follow the programs of the ring's two sides.
+//! The running rings, of flickering bits and of whole words: one producer and one consumer in two threads, with no lock
+//! (Lamport 1977, over the registers of 1986). Between any two atomic steps there is one lawful history of safe bits,
+//! whose two sides are the lists of the two ends and follow the programs of the ring's two sides.
 #![tactic(auto)]
 
 mod below;
+mod counter_ends;
+mod counter_hands;
+mod counter_meetings;
+mod counter_putters;
+mod counter_relays;
+mod counter_rings;
+mod counter_takers;
+mod counter_words;
 mod ends;
 mod faults;
 mod gates;
@@ -17,6 +25,11 @@ mod takers;
 mod views;
 mod words;
 
+pub use counter_meetings::CounterFinished;
+pub use counter_putters::CounterPutter;
+pub use counter_relays::relay_counter;
+pub use counter_rings::{CounterRing, CounterStart};
+pub use counter_takers::CounterTaker;
 pub use ends::{PutEnd, TakeEnd};
 pub use faults::RunFault;
 pub use gates::{FreeGate, Gate};

@@ -23,9 +23,9 @@ use std::snapshot::Snapshot;
 /// and whether a take was told that the ring is closed.
 #[derive(Drop)]
 pub struct Finished {
-    seat: Seat<(), View>,
-    closed: bool,
-    told: bool,
+    pub(crate) seat: Seat<(), View>,
+    pub(crate) closed: bool,
+    pub(crate) told: bool,
 }
 
 impl Model for Finished {
@@ -221,7 +221,7 @@ fn finish_cores<'a>(putter: PutCore<'a>, taker: TakeCore<'a>) -> Finished
     Finished { seat, closed, told }
 }
 
-fn is_closed_reply(reply: Option<TakeReply>) -> bool
+pub(crate) fn is_closed_reply(reply: Option<TakeReply>) -> bool
     ensures { result ≡ closed_reply reply }
 {
     match reply {

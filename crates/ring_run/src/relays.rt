@@ -1,14 +1,16 @@
 //! The two ends of a ring at work in two threads.
-ghost use Rattle.std.specs.Prelude.{◌≡◌, ◌⊎◌, ℕ, ◌+◌, ◌<◌, ◌≤◌, ◌==◌, true, false, [], IfOk, OnOk, length, take};
+ghost use Rattle.std.specs.Prelude.{◌≡◌, ◌⊎◌, ℕ, ◌+◌, ◌<◌, ◌≤◌, ◌==◌, true, false, None, [], IfOk, IfErr, OnOk, length, min, take, vec_capacity};
 ghost use Rattle.ring_run.specs.Hands.{IsSameEnd};
 ghost use Rattle.bits_core.specs.Made.{IsBeginning};
 ghost use Rattle.bits_core.specs.Shape.{AllFit, batch_of, capacity_of};
-ghost use Rattle.ring_run.specs.Relays.{HasMadePuts, HasMadeTakes, HasRelayedPuts, HasRelayedTakes, IsRelayed};
+ghost use Rattle.ring_run.specs.Relays.{HasMadePuts, HasRelayedPuts, HasRelayedTakes, HasTakenMore, IsRelayed};
 
 use crate::ends::{PutEnd, TakeEnd};
 use crate::faults::RunFault;
 use crate::gates::Gate;
+use crate::putters::Putter;
 use crate::rings::FlickerRing;
+use crate::takers::Taker;
 use bits_core::{Oracle, Shape, Side};
 use ring_core::laws::{puts_are_read, ring_law, takes_are_read, whole_calls_count};
 use ring_core::{BatchReply, TakeReply};
@@ -87,49 +89,35 @@ fn put_in_order<E: PutEnd, G: Gate>(
     (put as u64, made, full)
 }
 
-// What the takes of a relay came to.
-#[derive(Drop)]
-struct Taken<A: Allocator> {
-    items: Vec<u64, A>,
-    empty: u64,
-    closed: bool,
-}
-
-// Takes until the ring is closed.
+// Takes until the ring is closed, into a list with no item yet. Tells how many takes found the ring empty, and whether
+// one was told that the ring is closed. An item that the list has no room for, and can get none, is lost, and no more
+// takes are made.
 fn take_all<A: Allocator, E: TakeEnd, G: Gate>(
-    alloc: A,
+    items: &mut Vec<u64, A>,
     taker: &mut E,
     limit: u64,
     gate: &G,
-) -> Result<Taken<A>, RunFault>
+) -> Result<(u64, bool), RunFault>
+    requires none { items.old.items ≡ [] }
     requires idle { E.idle taker.old }
     requires fresh { (E.end taker.old).list ≡ [] }
     ensures idle { E.idle taker.new }
     ensures same { IsSameEnd (E.end taker.old) (E.end taker.new) }
-    ensures takes { IfOk result (λ t. HasRelayedTakes (E.end taker.new).ring.shape (E.end taker.new).list limit t.items.items t.empty t.closed) }
-    ensures made { HasMadeTakes (E.end taker.new).ring.shape (E.end taker.new).list limit }
+    ensures takes { IfOk result (λ t. HasRelayedTakes (E.end taker.new).ring.shape (E.end taker.new).list limit items.new.items t.0 t.1) }
+    ensures fault { IfErr result (λ _. HasTakenMore (E.end taker.new).ring.shape (E.end taker.new).list limit (vec_capacity items.old)) }
 {
     takes_are_read();
-    let mut items = Vec::new(alloc);
     let mut empty = 0;
     let mut closed = false;
     'takes: while !closed && items.len() as u64 + empty < limit {
-        items.reserve(1)?;
         gate.pass(Side::C, items.len() as u64 + empty);
         match taker.take() {
-            TakeReply::Item(item) => match items.push(item) {
-                Ok(()) => {}
-                Err(_) => unreachable!(),
-            },
+            TakeReply::Item(item) => items.push(item)?,
             TakeReply::Empty => empty += 1,
             TakeReply::Closed => closed = true,
         }
     }
-    Ok(Taken {
-        items,
-        empty,
-        closed,
-    })
+    Ok((empty, closed))
 }
 
 /// What a relay came to.
@@ -149,15 +137,71 @@ pub struct Outcome<A: Allocator> {
     pub empty: u64,
 }
 
+// Room for as many items as can be taken where no more are taken than were put.
+fn room_for<A: Allocator>(alloc: A, items: &[u64], limits: Limits) -> Result<Vec<u64, A>, RunFault>
+    ensures { IfOk result (λ v. (v.items ≡ []) × (min (length items.now) limits.takes ≤ vec_capacity v)) }
+{
+    let room = (items.len() as u64).min(limits.takes);
+    let taken = Vec::with_capacity(alloc, room as usize)?;
+    Ok(taken)
+}
+
+// A relay with the list that the items taken come into.
+fn relay_into<R: Threads, A: Allocator, E: PutEnd + Send, F: TakeEnd + Send, G: Gate + Sync>(
+    rt: &R,
+    mut taken: Vec<u64, A>,
+    putter: &mut E,
+    taker: &mut F,
+    items: &[u64],
+    limits: Limits,
+    gate: &G,
+) -> Result<Outcome<A>, RunFault>
+    requires room { (taken.items ≡ []) × (min (length items.now) limits.takes ≤ vec_capacity taken) }
+    requires idle { E.idle putter.old × F.idle taker.old }
+    requires fresh { ((E.end putter.old).list ≡ []) × ((F.end taker.old).list ≡ []) }
+    requires fit { AllFit (E.end putter.old).ring.shape items.now }
+    ensures idle { E.idle putter.new × F.idle taker.new }
+    ensures same { IsSameEnd (E.end putter.old) (E.end putter.new) × IsSameEnd (F.end taker.old) (F.end taker.new) }
+    ensures puts { IfOk result (λ r. HasRelayedPuts (E.end putter.new).ring.shape (E.end putter.new).list items.now limits.puts r.put r.calls r.full) }
+    ensures takes { IfOk result (λ r. HasRelayedTakes (F.end taker.new).ring.shape (F.end taker.new).list limits.takes r.taken.items r.empty r.closed) }
+    ensures fault { IfErr result (λ _. HasMadePuts (E.end putter.new).ring.shape (E.end putter.new).list items.now limits.puts × HasTakenMore (F.end taker.new).ring.shape (F.end taker.new).list limits.takes (length items.now)) }
+{
+    let into = &mut taken;
+    let (puts, takes) = join_mut(
+        rt,
+        &mut || -> (u64, u64, u64)
+            requires { E.idle putter.now × ((E.end putter.now).list ≡ []) × AllFit (E.end putter.now).ring.shape items.now }
+            ensures { E.idle putter.exit.now × IsSameEnd (E.end putter.entry.now) (E.end putter.exit.now) × HasRelayedPuts (E.end putter.exit.now).ring.shape (E.end putter.exit.now).list items.entry.now limits.puts result.0 result.1 result.2 }
+        { put_in_order(putter, items, limits.puts, gate) },
+        &mut || -> Result<(u64, bool), RunFault>
+            requires { (into.now.items ≡ []) × F.idle taker.now × ((F.end taker.now).list ≡ []) }
+            ensures { F.idle taker.exit.now × IsSameEnd (F.end taker.entry.now) (F.end taker.exit.now) × IfOk result (λ t. HasRelayedTakes (F.end taker.exit.now).ring.shape (F.end taker.exit.now).list limits.takes into.exit.now.items t.0 t.1) × IfErr result (λ _. HasTakenMore (F.end taker.exit.now).ring.shape (F.end taker.exit.now).list limits.takes (vec_capacity into.entry.now)) }
+        { take_all(into, taker, limits.takes, gate) },
+    );
+    let (empty, closed) = takes?;
+    let (put, calls, full) = puts;
+    Ok(Outcome {
+        put,
+        calls,
+        taken,
+        closed,
+        full,
+        empty,
+    })
+}
+
 /// Works the two ends at the same time, in two threads. The one side puts the items in order, as many at a time as the
 /// shape's batch has, goes on behind those that were stored, and closes behind the last; so a put that found the ring
 /// full is made again. The other side takes until it is told that the ring is closed. Neither makes more puts or takes
 /// than its limit (the close is not counted), and each passes the gate before each of them, with the number that it has
 /// made.
 ///
-/// The ends have made no call yet, and every item has to fit the width. It takes memory for the items that are taken.
-/// `OutOfMemory` is answered only where the allocator refused that: then the puts are made all the same, and both ends
-/// keep the whole calls that they have made.
+/// The ends have made no call yet, and every item has to fit the width. It takes memory for the items that are taken:
+/// before any call it makes room for as many as there are items, or takes by the limit where these are fewer.
+/// `OutOfMemory` is answered only where the allocator refused some. Where it refused that room, no call was made and
+/// both ends are as they were. Ends of two rings may give more items than were put; where it refused room for one of
+/// these, no more takes are made, the puts are made all the same, and both ends keep the whole calls that they have
+/// made. In a relay through one ring that does not occur.
 pub fn relay<R: Threads, A: Allocator + Copy, E: PutEnd + Send, F: TakeEnd + Send, G: Gate + Sync>(
     rt: &R,
     alloc: A,
@@ -174,33 +218,48 @@ pub fn relay<R: Threads, A: Allocator + Copy, E: PutEnd + Send, F: TakeEnd + Sen
     ensures same { IsSameEnd (E.end putter.old) (E.end putter.new) × IsSameEnd (F.end taker.old) (F.end taker.new) }
     ensures puts { IfOk result (λ r. HasRelayedPuts (E.end putter.new).ring.shape (E.end putter.new).list items.now limits.puts r.put r.calls r.full) }
     ensures takes { IfOk result (λ r. HasRelayedTakes (F.end taker.new).ring.shape (F.end taker.new).list limits.takes r.taken.items r.empty r.closed) }
-    ensures puts_made { HasMadePuts (E.end putter.new).ring.shape (E.end putter.new).list items.now limits.puts }
-    ensures takes_made { HasMadeTakes (F.end taker.new).ring.shape (F.end taker.new).list limits.takes }
+    ensures fault { IfErr result (λ _. ((putter.new ≡ putter.old) × (taker.new ≡ taker.old)) ⊎ (HasMadePuts (E.end putter.new).ring.shape (E.end putter.new).list items.now limits.puts × HasTakenMore (F.end taker.new).ring.shape (F.end taker.new).list limits.takes (length items.now))) }
 {
-    let (puts, takes) = join_mut(
-        rt,
-        &mut || -> (u64, u64, u64)
-            requires { E.idle putter.now × ((E.end putter.now).list ≡ []) × AllFit (E.end putter.now).ring.shape items.now }
-            ensures { E.idle putter.exit.now × IsSameEnd (E.end putter.entry.now) (E.end putter.exit.now) × HasRelayedPuts (E.end putter.exit.now).ring.shape (E.end putter.exit.now).list items.entry.now limits.puts result.0 result.1 result.2 }
-        { put_in_order(putter, items, limits.puts, gate) },
-        &mut || -> Result<Taken<A>, RunFault>
-            requires { F.idle taker.now × ((F.end taker.now).list ≡ []) }
-            ensures { F.idle taker.exit.now × IsSameEnd (F.end taker.entry.now) (F.end taker.exit.now) × IfOk result (λ t. HasRelayedTakes (F.end taker.exit.now).ring.shape (F.end taker.exit.now).list limits.takes t.items.items t.empty t.closed) × HasMadeTakes (F.end taker.exit.now).ring.shape (F.end taker.exit.now).list limits.takes }
-        { take_all(alloc, taker, limits.takes, gate) },
-    );
-    let takes = takes?;
-    let (put, calls, full) = puts;
-    Ok(Outcome {
-        put,
-        calls,
-        taken: takes.items,
-        closed: takes.closed,
-        full,
-        empty: takes.empty,
-    })
+    let taken = room_for(alloc, items, limits)?;
+    relay_into(rt, taken, putter, taker, items, limits, gate)
 }
 
-// Makes a ring and its ends, relays, and ends the ring's run.
+// A relay through one ring, whose run it ends: there is room for all items that are taken, for by the law of the ring
+// they are no more than were put.
+fn relay_ends<
+    'a,
+    R: Threads,
+    A: Allocator,
+    O1: Oracle + Drop + Send,
+    O2: Oracle + Drop + Send,
+    G: Gate + Sync,
+>(
+    rt: &R,
+    taken: Vec<u64, A>,
+    mut putter: Putter<'a, O1>,
+    mut taker: Taker<'a, O2>,
+    items: &[u64],
+    limits: Limits,
+    gate: &G,
+) -> Outcome<A>
+    requires room { (taken.items ≡ []) × (min (length items.now) limits.takes ≤ vec_capacity taken) }
+    requires ring { putter.end.ring ≡ taker.end.ring }
+    requires idle { (putter.call ≡ None) × (taker.taking ≡ false) }
+    requires fresh { (putter.end.list ≡ []) × (taker.end.list ≡ []) }
+    requires fit { AllFit putter.end.ring.shape items.now }
+    ensures { IsRelayed putter.entry.end.ring.shape items.now limits.puts limits.takes result.put result.calls result.full result.taken.items result.empty result.closed }
+{
+    ring_law();
+    whole_calls_count();
+    let outcome = relay_into(rt, taken, &mut putter, &mut taker, items, limits, gate);
+    let _finished = FlickerRing::finish(putter, taker);
+    match outcome {
+        Ok(outcome) => outcome,
+        Err(_) => unreachable!(),
+    }
+}
+
+// Makes a ring and its ends, relays, and ends the ring's run. Once there are the ring and the room, nothing is refused.
 fn relay_ring<
     R: Threads,
     A: Allocator + Copy,
@@ -221,10 +280,9 @@ fn relay_ring<
     ensures { IfOk result (λ r. IsRelayed shape items.now limits.puts limits.takes r.put r.calls r.full r.taken.items r.empty r.closed) }
 {
     let (ring, start) = FlickerRing::new(alloc, shape)?;
-    let (mut putter, mut taker) = ring.ends(start, oracle_p, oracle_c);
-    let outcome = relay(rt, alloc, &mut putter, &mut taker, items, limits, gate)?;
-    let _finished = FlickerRing::finish(putter, taker);
-    Ok(outcome)
+    let taken = room_for(alloc, items, limits)?;
+    let (putter, taker) = ring.ends(start, oracle_p, oracle_c);
+    Ok(relay_ends(rt, taken, putter, taker, items, limits, gate))
 }
 
 /// Makes a ring and its ends, relays, and ends the ring's run. What it came to is counted in one lawful history of
@@ -232,8 +290,8 @@ fn relay_ring<
 /// first of those that were stored; where the taker was told that the ring is closed, all items were stored and taken;
 /// and no more were stored and not taken than the ring has cells.
 ///
-/// Every item has to fit the width. It takes memory for the words of the ring and for the items that are taken.
-/// `OutOfMemory` is answered only where the allocator refused some.
+/// Every item has to fit the width. It takes memory for the words of the ring and, before the first put, for all items
+/// that can be taken. `OutOfMemory` is answered only where the allocator refused some, and then no put was made.
 pub fn relay_flicker<
     R: Threads,
     A: Allocator + Copy,

@@ -3,6 +3,7 @@ use Rattle.ring_run.proofs.below.laws_below.Goals as goal
 pub returns : goal.returns
 returns c = record {
   nothing = c.empty_is_lawful.ensures;
+  beginning = c.beginning_is_lawful.ensures;
   one_more = c.lawful_by_one_more.ensures;
   open_changes = c.open_changes.ensures;
   write_changes = c.open_write_changes.ensures;
@@ -16,4 +17,9 @@ returns c = record {
   take_more = c.runs_by_one_more.ensures.take;
   puts_seen = c.last_bit_is_one.ensures.puts;
   takes_seen = c.last_bit_is_one.ensures.takes;
+  numbers = c.counts_are_written.ensures.numbers;
+  one_put = c.programs_by_one_call.ensures.puts;
+  one_close = c.programs_by_one_call.ensures.closes;
+  one_take = c.programs_by_one_call.ensures.takes;
+  one_end = c.programs_by_one_call.ensures.ends;
 }

@@ -1,5 +1,5 @@
 use Rattle.std.proofs.Common.{◌≡◌, ◌+◌, ◌-◌, ◌≤◌, length}
-use Rattle.std.specs.Prelude.{if◌then◌else◌}
+use Rattle.std.specs.Prelude.{if◌then◌else◌, vec_capacity}
 use Rattle.ring_run.specs.Hands.{IsSameEnd}
 use Rattle.ring_run.specs.Relays.{TakesAre}
 use Rattle.ring_run.proofs.relays.take_all.Given as goal
@@ -7,7 +7,7 @@ use Rattle.ring_run.proofs.relays.take_all.Given as goal
 abbrev pub invariant-takes : goal.invariant-takes
 invariant-takes g l =
     g.E.TakeEnd.idle l.taker × IsSameEnd (g.E.TakeEnd.end l.initial.taker) (g.E.TakeEnd.end l.taker) ×
-    TakesAre (g.E.TakeEnd.end l.taker).ring.shape (g.E.TakeEnd.end l.taker).list l.items.items l.empty l.closed × (length l.items.items + l.empty + (if l.closed then 1 else 0) ≤ l.limit) × (l.limit ≡ l.initial.limit)
+    TakesAre (g.E.TakeEnd.end l.taker).ring.shape (g.E.TakeEnd.end l.taker).list l.items.items l.empty l.closed × (length l.items.items + l.empty + (if l.closed then 1 else 0) ≤ l.limit) × (l.limit ≡ l.initial.limit) × (vec_capacity l.initial.items ≤ vec_capacity l.items)
 
 abbrev pub decreases-takes : goal.decreases-takes
 decreases-takes g l = l.limit - (length l.items.items + l.empty + (if l.closed then 1 else 0))

@@ -14,5 +14,5 @@ load-requires g c =
       c.requires.own.0 ∙ sym (ap (λ (r : Ring). r.id) c.self.view_is),
       omega arith,
       subst (λ (z : Shape). Allows (Kept t.key) t.table_id.slots c.args.seat.now.id c.args.seat.now.me 0 (λ n. n) (λ _. Learned z c.args.seat.now.me)) key
-          (learns c.laws_below.ensures t.key t.table_id.slots c.args.seat.now.id 0 c.args.seat.now.me c.requires.own.1 c.requires.own.2 c.requires.idle.0 c.requires.idle.1),
+          (learns c.laws_below.ensures t.key _ _ t.table_id.slots c.args.seat.now.id 0 c.args.seat.now.me c.requires.own.1 c.requires.own.2 c.requires.idle.0 c.requires.idle.1),
     )

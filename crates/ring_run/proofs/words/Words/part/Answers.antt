@@ -8,5 +8,5 @@ split_seat-requires c =
     let words = c.self.invariant.1 in (
       c.requires.own.0 ∙ sym (ap (λ (r : Ring). r.id) c.self.view_is),
       omega arith,
-      splits _ _ _ c.requires.own.1 c.requires.own.2,
+      splits _ _ _ _ _ c.requires.own.1 c.requires.own.2,
     )

@@ -11,5 +11,5 @@ join_seat-requires c =
       c.requires.own.1 ∙ sym id,
       c.requires.own.2,
       omega arith,
-      joins c.laws_below.ensures _ _ _ _ _ c.requires.sides.0 c.requires.sides.1 c.requires.idle.0 c.requires.idle.1,
+      joins c.laws_below.ensures _ _ _ _ _ _ _ c.requires.sides.0 c.requires.sides.1 c.requires.idle.0 c.requires.idle.1,
     )

@@ -1,0 +1,19 @@
+use Rattle.std.proofs.Common.{◌≡◌, arith, sym, ap, ◌∙◌, subst}
+use Rattle.atomic_table.specs.Table.{Allows}
+use Rattle.bits_core.specs.declared.shapes.Shape.{Shape}
+use Rattle.ring_run.specs.Ring.{Ring}
+use Rattle.ring_run.specs.Counters.{KeptWords}
+use Rattle.ring_run.specs.Rule.{Learned}
+use Rattle.ring_run.proofs.Moves.{learns}
+use Rattle.ring_run.proofs.counter_words.CounterWords.learn.Goals as goal
+
+pub load-requires : goal.load-requires
+load-requires g c =
+    let t = c.self.inside.shared.now in
+    let key : t.key ≡ g.N.Note.shape = c.self.invariant.0 ∙ (ap (λ (r : Ring). r.shape) c.self.view_is ∙ sym c.requires.shape) in
+    let words = c.self.invariant.1 in (
+      c.requires.own.0 ∙ sym (ap (λ (r : Ring). r.id) c.self.view_is),
+      omega arith,
+      subst (λ (z : Shape). Allows (KeptWords t.key) t.table_id.slots c.args.seat.now.id c.args.seat.now.me 0 (λ n. n) (λ _. Learned z c.args.seat.now.me)) key
+          (learns c.laws_below.ensures t.key _ _ t.table_id.slots c.args.seat.now.id 0 c.args.seat.now.me c.requires.own.1 c.requires.own.2 c.requires.idle.0 c.requires.idle.1),
+    )

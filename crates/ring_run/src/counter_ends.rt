@@ -1,0 +1,44 @@
+//! The ends of a counter ring as ends that put and take: who holds them cannot tell them from those of a flickering
+//! ring.
+
+use crate::counter_putters::CounterPutter;
+use crate::counter_takers::CounterTaker;
+use crate::ends::{PutEnd, TakeEnd};
+use bits_core::Shape;
+use ring_core::{BatchReply, PutReply, TakeReply};
+
+impl<'a> PutEnd for CounterPutter<'a> {
+    ghost end = { λ p. p };
+
+    ghost idle = { λ _. Unit {0} };
+
+    fn shape(&self) -> Shape {
+        self.hand.ring.shape()
+    }
+
+    fn put(&mut self, item: u64) -> PutReply {
+        self.put_item(item)
+    }
+
+    fn put_all(&mut self, items: &[u64]) -> BatchReply {
+        self.put_items(items)
+    }
+
+    fn close(&mut self) {
+        self.close_ring();
+    }
+}
+
+impl<'a> TakeEnd for CounterTaker<'a> {
+    ghost end = { λ t. t };
+
+    ghost idle = { λ _. Unit {0} };
+
+    fn shape(&self) -> Shape {
+        self.hand.ring.shape()
+    }
+
+    fn take(&mut self) -> TakeReply {
+        self.take_item()
+    }
+}

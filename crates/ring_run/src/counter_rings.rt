@@ -1,0 +1,82 @@
+//! The counter ring.
+ghost use Rattle.std.specs.Prelude.{◌≡◌, [], IfOk};
+ghost use Rattle.ring_run.specs.Rule.{joint};
+ghost use Rattle.ring_run.specs.Counters.{first_counts};
+
+use crate::below::laws_below;
+use crate::counter_words::{CounterWords, WordLaw};
+use crate::faults::RunFault;
+use crate::rings::Start;
+use crate::views::View;
+use atomic_table::Table;
+use bits_core::Shape;
+use std::alloc::{AllocError, Allocator};
+use std::marker::Model;
+
+/// The ring of one producer and one consumer on a machine with atomic words, shared by two threads with no lock
+/// (Lamport 1977).
+///
+/// Each count, each cell and the close bit has an atomic word of its own. A put is one load, a store of each item's
+/// cell and one store; a take one load, one of the cell and one store. Each load or store stands for a whole scan, a
+/// whole access of a cell, a whole unary write or the close, bit by bit and with nothing between: so each call adds
+/// exactly its accesses to one lawful history of safe bits, as on a [`FlickerRing`](crate::FlickerRing), and who holds
+/// the ends cannot tell the rings apart. No call goes through the bits: they are in the contracts alone.
+///
+/// To a contract a ring is its shape, and which ring it is.
+#[derive(Drop)]
+pub struct CounterRing<A: Allocator> {
+    table: Table<(), View, Shape, WordLaw, A>,
+    shape: Shape,
+}
+
+impl<A: Allocator> Model for CounterRing<A> {
+    ghost use Rattle.std.specs.Prelude.{◌≡◌};
+    ghost use Rattle.ring_run.specs.Counters.{words_of};
+    ghost use Rattle.ring_run.specs.Ring.{Ring};
+
+    ghost Value = { Ring };
+
+    ghost view = { λ r. record { shape = r.shape; id = r.table.shared.table_id } };
+
+    ghost invariant = { λ r. (r.table.shared.key ≡ r.shape) × (r.table.shared.table_id.words ≡ words_of r.shape) };
+}
+
+/// The right to make the two ends of one counter ring: to a contract it is which ring it is, as for a flickering ring.
+pub type CounterStart = Start;
+
+impl<A: Allocator + Copy> CounterRing<A> {
+    /// A ring of this shape with nothing put, and the right to make its ends. It takes memory for one word for each
+    /// cell and three more. `OutOfMemory` is answered only where the allocator refused that.
+    pub fn new(alloc: A, shape: Shape) -> Result<(CounterRing<A>, CounterStart), RunFault>
+        ensures { IfOk result (λ r. (r.0.shape ≡ shape) × (r.1 ≡ r.0.id)) }
+    {
+        laws_below();
+        let words = starting_counts(alloc, shape)?;
+        let (table, seat) = Table::of_words(alloc, words.as_slice(), &shape)?;
+        Ok((CounterRing { table, shape }, Start { seat }))
+    }
+}
+
+impl<A: Allocator> CounterRing<A> {
+    /// The shape of the ring.
+    pub fn shape(&self) -> Shape
+        ensures { result ≡ self.now.shape }
+    {
+        self.shape
+    }
+
+    // The words as an end reaches them.
+    pub(crate) fn words<'a>(&'a self) -> CounterWords<'a>
+        ensures { result ≡ self.now }
+    {
+        CounterWords::of(&self.table.shared, self.shape)
+    }
+}
+
+// The words before any step.
+fn starting_counts<A: Allocator>(alloc: A, shape: Shape) -> Result<Vec<u64, A>, AllocError>
+    ensures { IfOk result (λ v. v.items ≡ first_counts shape) }
+{
+    let words = vec![in alloc; 0u64; 3 + shape.capacity() as usize]?;
+    Ok(words)
+}

@@ -1,0 +1,121 @@
+//! The consumer's end of a counter ring.
+ghost use Rattle.std.specs.Prelude.{◌≡◌, Some};
+ghost use Rattle.bits_core.specs.declared.events.Side.TheVariants.{C};
+ghost use Rattle.ring_core.specs.declared.consumers.TakeReply.TheVariants.{Item};
+ghost use Rattle.ring_core.specs.Takes.{Takes, Open};
+ghost use Rattle.ring_run.specs.Hands.{IsSameEnd, StandsAs};
+ghost use Rattle.ring_run.specs.Ends.{HasTaken};
+ghost use Rattle.ring_run.specs.Ring.{RingEnd};
+ghost use Rattle.ring_run.specs.CounterEnds.{TakerList, TakeMade, TakeKept, LookMade, HasLooked, items_in};
+
+use crate::below::laws_below;
+use crate::counter_hands::{CounterHand, past_in};
+use crate::meetings::is_closed_reply;
+use ring_core::{TakeReply, has_item};
+use std::marker::Model;
+
+/// The consumer's end of a counter ring. No take of it is ever under way.
+#[derive(Drop)]
+pub struct CounterTaker<'a> {
+    pub(crate) hand: CounterHand<'a>,
+    pub(crate) count: u64,
+    pub(crate) cell: u64,
+    pub(crate) told: bool,
+}
+
+impl<'a> Model for CounterTaker<'a> {
+    ghost use Rattle.ring_run.specs.Ring.{RingEnd};
+    ghost use Rattle.ring_run.specs.CounterEnds.{IsTakerList};
+
+    ghost Value = { RingEnd };
+
+    ghost view = { λ t. t.hand };
+
+    ghost invariant = { λ t. IsTakerList t.hand t.count t.cell t.told };
+}
+
+// The scans of a take: nothing where they found an item, and else the reply. One load, and where it shows no item one
+// of the close word; where that is 1, one load more.
+fn look<'a>(hand: &mut CounterHand<'a>, count: u64, cell: u64) -> Option<TakeReply>
+    requires at { (calls : Takes) × TakerList hand.old count cell calls × (calls.end ≡ Open) }
+    ensures { (calls : Takes) → TakerList hand.old count cell calls → calls.end ≡ Open → LookMade hand.old hand.new calls result }
+{
+    laws_below();
+    let shape = hand.ring.shape();
+    let seen = hand.scan();
+    if has_item(&shape, seen, count) {
+        return None;
+    }
+    if !hand.read_close() {
+        return Some(TakeReply::Empty);
+    }
+    let again = hand.scan();
+    if has_item(&shape, again, count) {
+        return None;
+    }
+    Some(TakeReply::Closed)
+}
+
+// Behind the scans that found an item: one load of its cell, and one store of the count.
+fn fetch<'a>(hand: &mut CounterHand<'a>, count: u64, cell: u64) -> u64
+    requires at { (before : RingEnd) × (calls : Takes) × HasLooked before hand.old count cell calls }
+    ensures { (before : RingEnd) (calls : Takes) → HasLooked before hand.old count cell calls → TakeMade before hand.new calls (Item result) }
+{
+    laws_below();
+    let shape = hand.ring.shape();
+    let item = hand.read_cell(cell);
+    let next = past_in(count, 1, shape.modulus());
+    hand.write_count(next);
+    item
+}
+
+// A take from a ring that was not told closed.
+fn take_open<'a>(hand: &mut CounterHand<'a>, count: u64, cell: u64) -> TakeReply
+    requires at { (calls : Takes) × TakerList hand.old count cell calls × (calls.end ≡ Open) }
+    ensures { (calls : Takes) → TakerList hand.old count cell calls → calls.end ≡ Open → TakeMade hand.old hand.new calls result }
+{
+    match look(hand, count, cell) {
+        Some(reply) => reply,
+        None => TakeReply::Item(fetch(hand, count, cell)),
+    }
+}
+
+// How many items a reply brings.
+fn brought(reply: TakeReply) -> u64
+    ensures { result ≡ items_in reply }
+{
+    match reply {
+        TakeReply::Item(_) => 1,
+        TakeReply::Empty => 0,
+        TakeReply::Closed => 0,
+    }
+}
+
+// The same, with the count and the cell.
+fn take_counted<'a>(hand: &mut CounterHand<'a>, count: &mut u64, cell: &mut u64) -> TakeReply
+    requires at { (calls : Takes) × TakerList hand.old count.old cell.old calls × (calls.end ≡ Open) }
+    ensures { (calls : Takes) → TakerList hand.old count.old cell.old calls → calls.end ≡ Open → TakeKept hand.old hand.new count.new cell.new calls result }
+{
+    let shape = hand.ring.shape();
+    let reply = take_open(hand, *count, *cell);
+    let items = brought(reply);
+    *count = past_in(*count, items, shape.modulus());
+    *cell = past_in(*cell, items, shape.capacity());
+    reply
+}
+
+impl<'a> CounterTaker<'a> {
+    // Takes an item, or finds the ring empty or closed.
+    pub(crate) fn take_item(&mut self) -> TakeReply
+        ensures same { IsSameEnd self.old self.new }
+        ensures lawful { StandsAs C self.new }
+        ensures phrase { HasTaken self.new.ring.shape self.old.list self.new.list result }
+    {
+        if self.told {
+            return TakeReply::Closed;
+        }
+        let reply = take_counted(&mut self.hand, &mut self.count, &mut self.cell);
+        self.told = is_closed_reply(Some(reply));
+        reply
+    }
+}
