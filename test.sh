@@ -71,6 +71,8 @@ done
 echo "program: a run over two threads"
 printf 'put 1000\ntaken 1000\nclosed yes\n' >"$room/relayed"
 run 0 "$room/relayed" run --capacity 8 --modulus 10 --width 16 --count 1000 --limit 1000000000 </dev/null
+run 0 "$room/relayed" run --ring counter --capacity 8 --modulus 10 --width 16 --count 1000 --limit 1000000000000 </dev/null
+refuses 2 "error: no such command, or no such ring: a ring is flicker or counter" run --ring torus --capacity 1 --modulus 3 --width 1 --count 1 --limit 1 </dev/null
 printf 'put 3\ntaken 0\nclosed no\n' >"$room/limited"
 run 1 "$room/limited" run --capacity 3 --modulus 7 --width 6 --batch 3 --count 64 --limit 2 --takes 0 </dev/null
 [ "$(cat "$room/err")" = "refused: limit reached" ] || fail "a limited run said '$(cat "$room/err")'"

@@ -13,12 +13,45 @@ const SMALL: [&str; 8] = [
 ];
 
 // What follows the options of the shape, the status, the output and the standard error.
-const RUNS: [(&[&str], u8, &str, &str); 7] = [
+const RUNS: [(&[&str], u8, &str, &str); 10] = [
     (
         &["--count", "64", "--limit", "1000000000"],
         0,
         "put 64\ntaken 64\nclosed yes\n",
         "",
+    ),
+    (
+        &[
+            "--count",
+            "64",
+            "--limit",
+            "1000000000",
+            "--ring",
+            "flicker",
+        ],
+        0,
+        "put 64\ntaken 64\nclosed yes\n",
+        "",
+    ),
+    (
+        &[
+            "--count",
+            "64",
+            "--limit",
+            "18446744073709551615",
+            "--ring=counter",
+        ],
+        0,
+        "put 64\ntaken 64\nclosed yes\n",
+        "",
+    ),
+    (
+        &[
+            "--count", "2", "--limit", "5", "--takes", "0", "--ring", "counter",
+        ],
+        1,
+        "put 1\ntaken 0\nclosed no\n",
+        "refused: limit reached\n",
     ),
     // no put and no take
     (
@@ -80,12 +113,27 @@ const BATCHED: [&str; 10] = [
     "3",
 ];
 
-const BATCHED_RUNS: [(&[&str], u8, &str, &str); 1] = [(
-    &["--count", "64", "--limit", "1000000000"],
-    0,
-    "put 64\ntaken 64\nclosed yes\n",
-    "",
-)];
+const BATCHED_RUNS: [(&[&str], u8, &str, &str); 2] = [
+    (
+        &["--count", "64", "--limit", "1000000000"],
+        0,
+        "put 64\ntaken 64\nclosed yes\n",
+        "",
+    ),
+    (
+        &[
+            "--count",
+            "64",
+            "--limit",
+            "18446744073709551615",
+            "--ring",
+            "counter",
+        ],
+        0,
+        "put 64\ntaken 64\nclosed yes\n",
+        "",
+    ),
+];
 
 #[test]
 fn relays_batches(rt: HostRuntime) -> Result<(), Fail> {
@@ -255,13 +303,27 @@ const RUN_HELP: &[&str] = &["lamport_ring", RUN, "--help"];
 const EXAMPLE: &str =
     "  lamport_ring run --capacity 1 --modulus 3 --width 6 --count 64 --limit 1000000000\n";
 
-const WORDS: [(&[&str], u8, &str); 6] = [
+// A ring that there is not.
+const TORUS: &[&str] = &[
+    "lamport_ring",
+    RUN,
+    "--capacity=1",
+    "--modulus=3",
+    "--width=1",
+    "--count=1",
+    "--limit=1",
+    "--ring",
+    "torus",
+];
+
+const WORDS: [(&[&str], u8, &str); 7] = [
+    (TORUS, 2, "a ring is flicker or counter\n"),
     (&["lamport_ring", "--help"], 0, EXAMPLE),
     (RUN_HELP, 0, EXAMPLE),
     (
         RUN_HELP,
         0,
-        "Usage: lamport_ring run --capacity B --modulus M --width W --count N --limit L [--takes T] [--batch G]\n",
+        "Usage: lamport_ring run --capacity B --modulus M --width W --count N --limit L [--takes T] [--batch G] [--ring RING]\n",
     ),
     (
         RUN_HELP,

@@ -3,8 +3,11 @@ ghost use Rattle.std.specs.Prelude.{◌≡◌, None, false, []};
 ghost use Rattle.bits_core.specs.Shape.{AllFit};
 ghost use Rattle.ring_run.specs.Hands.{IsSameEnd};
 
-use bits_core::{Oracle, Shape};
-use ring_run::{FreeGate, Gate, Limits, Outcome, Putter, RunFault, Taker, relay, relay_flicker};
+use bits_core::{Flip, Oracle, Shape};
+use ring_run::{
+    CounterPutter, CounterTaker, FreeGate, Gate, Limits, Outcome, Putter, RunFault, Taker, relay,
+    relay_counter, relay_flicker,
+};
 use std::alloc::{AllocGlobal, Allocator, Global};
 use std::process::Abort;
 use std::test::Fail;
@@ -39,8 +42,36 @@ pub fn expect_in_order<A: Allocator>(rt: &impl Abort, outcome: &Outcome<A>, item
     assert!(rt; !outcome.closed || taken.len() == items.len());
 }
 
-/// A relay of the items, with these oracles, gate and limits: its items are in order.
-pub fn expect_relay<O: Oracle + Drop + Send, G: Gate + Sync>(
+/// A ring of either kind.
+#[derive(Clone, Copy, Debug)]
+pub enum Kind {
+    Flicker,
+    Counter,
+}
+
+/// A relay of the items on a ring of the kind: its items are in order.
+pub fn expect_relay<G: Gate + Sync>(
+    rt: &(impl Abort + AllocGlobal + Threads),
+    kind: Kind,
+    numbers: &Numbers,
+    items: &[u64],
+    limits: Limits,
+    gate: &G,
+) -> Result<Outcome<Global>, Fail> {
+    if matches!(kind, Kind::Flicker) {
+        let oracles = (Flip::new(), Flip::new());
+        return expect_flicker(rt, numbers, oracles, items, limits, gate);
+    }
+    let [capacity, modulus, width, batch] = *numbers;
+    let shape = Shape::with_batch(capacity, modulus, width, batch)?;
+    assert!(rt; shape.fits_all(items));
+    let outcome = relay_counter(rt, rt.alloc(), shape, items, limits, gate)?;
+    expect_in_order(rt, &outcome, items);
+    Ok(outcome)
+}
+
+/// A relay of the items on a flickering ring, with these oracles: its items are in order.
+pub fn expect_flicker<O: Oracle + Drop + Send, G: Gate + Sync>(
     rt: &(impl Abort + AllocGlobal + Threads),
     numbers: &Numbers,
     oracles: (O, O),
@@ -80,6 +111,40 @@ pub fn relay_between<A: Allocator + Copy, O: Oracle + Drop + Send>(
     requires fit { AllFit putter.old.end.ring.shape items.now }
     ensures idle { (putter.new.call ≡ None) × (taker.new.taking ≡ false) }
     ensures same { IsSameEnd putter.old.end putter.new.end × IsSameEnd taker.old.end taker.new.end }
+{
+    relay(rt, alloc, putter, taker, items, limits, &FreeGate)
+}
+
+/// The same between a counter ring's putter and a flickering ring's taker.
+pub fn relay_across<A: Allocator + Copy, O: Oracle + Drop + Send>(
+    rt: &impl Threads,
+    alloc: A,
+    putter: &mut CounterPutter<'_>,
+    taker: &mut Taker<'_, O>,
+    items: &[u64],
+    limits: Limits,
+) -> Result<Outcome<A>, RunFault>
+    requires idle { taker.old.taking ≡ false }
+    requires fresh { (putter.old.list ≡ []) × (taker.old.end.list ≡ []) }
+    requires fit { AllFit putter.old.ring.shape items.now }
+    ensures idle { taker.new.taking ≡ false }
+    ensures same { IsSameEnd putter.old putter.new × IsSameEnd taker.old.end taker.new.end }
+{
+    relay(rt, alloc, putter, taker, items, limits, &FreeGate)
+}
+
+/// The same between the two ends of counter rings.
+pub fn relay_counted<A: Allocator + Copy>(
+    rt: &impl Threads,
+    alloc: A,
+    putter: &mut CounterPutter<'_>,
+    taker: &mut CounterTaker<'_>,
+    items: &[u64],
+    limits: Limits,
+) -> Result<Outcome<A>, RunFault>
+    requires fresh { (putter.old.list ≡ []) × (taker.old.list ≡ []) }
+    requires fit { AllFit putter.old.ring.shape items.now }
+    ensures same { IsSameEnd putter.old putter.new × IsSameEnd taker.old taker.new }
 {
     relay(rt, alloc, putter, taker, items, limits, &FreeGate)
 }

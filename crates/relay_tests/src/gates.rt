@@ -1,8 +1,8 @@
 //! Gates that make one side of a relay wait for the other, so many looks at most.
-use crate::expects::{ITEMS, Numbers, ONE, SHAPES, TAPE, expect_relay};
+use crate::expects::{ITEMS, Kind, Numbers, ONE, SHAPES, TAPE, expect_flicker, expect_relay};
 use bits_core::{Always, Flip, Oracle, Side, Tape};
-use ring_run::{Gate, Limits};
-use std::alloc::AllocGlobal;
+use ring_run::{Gate, Limits, Outcome};
+use std::alloc::{AllocGlobal, Allocator};
 use std::hint::spin_loop;
 use std::process::Abort;
 use std::sync::atomic::{AtomicBool, AtomicU64, Ordering};
@@ -37,19 +37,26 @@ impl Gate for Meeting {
     }
 }
 
-#[test]
-fn both_sides_run_at_the_same_time(rt: HostRuntime) -> Result<(), Fail> {
+fn expect_meeting(rt: &(impl Abort + AllocGlobal + Threads), kind: Kind) -> Result<(), Fail> {
     let gate = Meeting {
         putter: AtomicBool::new(false),
         taker: AtomicBool::new(false),
         ran_out: AtomicBool::new(false),
     };
-    let oracles = (Flip::new(), Flip::new());
-    let outcome = expect_relay(&rt, &ONE, oracles, &[1], Limits::both(1), &gate)?;
-    assert!(rt; gate.putter.load(Ordering::SeqCst) && gate.taker.load(Ordering::SeqCst));
-    assert!(rt; !gate.ran_out.load(Ordering::SeqCst));
+    let outcome = expect_relay(rt, kind, &ONE, &[1], Limits::both(1), &gate)?;
+    assert!(rt;
+        gate.putter.load(Ordering::SeqCst) && gate.taker.load(Ordering::SeqCst),
+        "{kind:?}"
+    );
+    assert!(rt; !gate.ran_out.load(Ordering::SeqCst), "{kind:?}");
     assert!(rt; outcome.put == 1 && outcome.calls == 1 && outcome.full == 0);
     Ok(())
+}
+
+#[test]
+fn both_sides_run_at_the_same_time(rt: HostRuntime) -> Result<(), Fail> {
+    expect_meeting(&rt, Kind::Flicker)?;
+    expect_meeting(&rt, Kind::Counter)
 }
 
 // The taker waits before its fourth take until the putter has made 100 puts. Keeps what each side was last said to have made.
@@ -86,34 +93,52 @@ impl Held {
     }
 }
 
-// Of 100 puts before the fourth take no more than the 3 items taken and the 3 in the ring were stored. The last put and the
-// last take have passed the gate.
+impl Held {
+    fn new() -> Held {
+        Held {
+            puts: AtomicU64::new(0),
+            takes: AtomicU64::new(0),
+            ran_out: AtomicBool::new(false),
+        }
+    }
+
+    // Of 100 puts before the fourth take no more than the 3 items taken and the 3 in the ring were stored. The last put and
+    // the last take have passed the gate.
+    fn expect_full<A: Allocator>(&self, rt: &impl Abort, outcome: &Outcome<A>) {
+        assert!(rt; self.ran_out.load(Ordering::SeqCst) || outcome.full >= 94);
+        let items = (outcome.taken.len() as u64).saturating_add(u64::from(outcome.closed));
+        let takes = outcome.empty.saturating_add(items);
+        assert_eq!(rt;
+            Some(self.puts.load(Ordering::SeqCst)),
+            outcome.calls.checked_sub(1)
+        );
+        assert_eq!(rt;
+            Some(self.takes.load(Ordering::SeqCst)),
+            takes.checked_sub(1)
+        );
+    }
+}
+
 fn expect_held<O: Oracle + Drop + Send>(
     rt: &(impl Abort + AllocGlobal + Threads),
     numbers: &Numbers,
     oracles: (O, O),
 ) -> Result<(), Fail> {
-    let gate = Held {
-        puts: AtomicU64::new(0),
-        takes: AtomicU64::new(0),
-        ran_out: AtomicBool::new(false),
-    };
+    let gate = Held::new();
     let limits = Limits::both(1_000_000);
-    let outcome = expect_relay(rt, numbers, oracles, &ITEMS, limits, &gate)?;
-    assert!(rt;
-        gate.ran_out.load(Ordering::SeqCst) || outcome.full >= 94,
-        "{numbers:?}"
-    );
-    let items = (outcome.taken.len() as u64).saturating_add(u64::from(outcome.closed));
-    let takes = outcome.empty.saturating_add(items);
-    assert_eq!(rt;
-        Some(gate.puts.load(Ordering::SeqCst)),
-        outcome.calls.checked_sub(1)
-    );
-    assert_eq!(rt;
-        Some(gate.takes.load(Ordering::SeqCst)),
-        takes.checked_sub(1)
-    );
+    let outcome = expect_flicker(rt, numbers, oracles, &ITEMS, limits, &gate)?;
+    gate.expect_full(rt, &outcome);
+    Ok(())
+}
+
+fn expect_held_counter(
+    rt: &(impl Abort + AllocGlobal + Threads),
+    numbers: &Numbers,
+) -> Result<(), Fail> {
+    let gate = Held::new();
+    let limits = Limits::both(1_000_000);
+    let outcome = expect_relay(rt, Kind::Counter, numbers, &ITEMS, limits, &gate)?;
+    gate.expect_full(rt, &outcome);
     Ok(())
 }
 
@@ -124,6 +149,7 @@ fn a_taker_that_is_held_leaves_the_ring_full(rt: HostRuntime) -> Result<(), Fail
         expect_held(&rt, numbers, (Always(true), Always(true)))?;
         expect_held(&rt, numbers, (Flip::new(), Flip::new()))?;
         expect_held(&rt, numbers, (Tape::new(TAPE), Tape::new(TAPE)))?;
+        expect_held_counter(&rt, numbers)?;
     }
     Ok(())
 }

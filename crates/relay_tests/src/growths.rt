@@ -1,65 +1,108 @@
-use crate::expects::{ITEMS, Numbers, expect_in_order, relay_between};
+ghost use Rattle.bits_core.specs.Shape.{AllFit};
+
+use crate::expects::{ITEMS, Kind, Numbers, expect_in_order, relay_between, relay_counted};
 use bits_core::{Flip, Shape};
 use refusing::Refusing;
-use ring_run::{FlickerRing, FreeGate, Limits, RunFault, relay_flicker};
-use std::alloc::AllocGlobal;
+use ring_run::{
+    CounterRing, Finished, FlickerRing, FreeGate, Limits, Outcome, RunFault, relay_counter,
+    relay_flicker,
+};
+use std::alloc::{AllocGlobal, Allocator};
 use std::process::Abort;
 use std::test::Fail;
 use std::thread::Threads;
 
-// A relay of the items on a ring of its own, without the growth that comes after so many: whether it was refused, and
-// whether there was one to refuse.
-fn expect_flicker(
-    rt: &(impl Abort + AllocGlobal + Threads),
-    numbers: &Numbers,
+// A relay of the items on a ring of its own.
+fn relay_on<A: Allocator + Copy>(
+    rt: &impl Threads,
+    alloc: A,
+    kind: Kind,
+    shape: Shape,
     items: &[u64],
     limits: Limits,
+) -> Result<Outcome<A>, RunFault>
+    requires fit { AllFit shape items.now }
+{
+    let (p, c) = (Flip::new(), Flip::new());
+    match kind {
+        Kind::Flicker => relay_flicker(rt, alloc, shape, p, c, items, limits, &FreeGate),
+        Kind::Counter => relay_counter(rt, alloc, shape, items, limits, &FreeGate),
+    }
+}
+
+// Such a relay without the growth that comes after so many: whether it was refused, and whether there was one to refuse.
+fn expect_without(
+    rt: &(impl Abort + AllocGlobal + Threads),
+    kind: Kind,
+    numbers: &Numbers,
     allocations: u64,
 ) -> Result<(bool, bool), Fail> {
     let [capacity, modulus, width, batch] = *numbers;
     let shape = Shape::with_batch(capacity, modulus, width, batch)?;
-    assert!(rt; shape.fits_all(items));
+    assert!(rt; shape.fits_all(&ITEMS));
     let alloc = Refusing::after(rt.alloc(), allocations);
-    let (oracle_p, oracle_c) = (Flip::new(), Flip::new());
-    match relay_flicker(
-        rt, &alloc, shape, oracle_p, oracle_c, items, limits, &FreeGate,
-    ) {
+    match relay_on(rt, &alloc, kind, shape, &ITEMS, Limits::both(1000)) {
         Err(fault) => {
             assert!(rt; fault == RunFault::OutOfMemory && alloc.has_refused());
             Ok((true, true))
         }
         Ok(outcome) => {
-            expect_in_order(rt, &outcome, items);
+            expect_in_order(rt, &outcome, &ITEMS);
             Ok((false, alloc.has_refused()))
         }
     }
 }
 
-#[test]
-fn a_relay_on_its_own_ring_is_refused_at_each_growth(rt: HostRuntime) -> Result<(), Fail> {
-    let limits = Limits::both(1000);
+// Each growth of a relay on a ring of the kind is refused in turn, and then none.
+fn expect_refused_relays(
+    rt: &(impl Abort + AllocGlobal + Threads),
+    kind: Kind,
+) -> Result<(), Fail> {
     let mut refused: u64 = 0;
     for allocations in 0..40 {
-        let (is_refused, has_growth) = expect_flicker(
-            &rt,
-            &[3, 5, 6, 1],
-            &ITEMS,
-            limits,
-            allocations,
-        )?;
+        let (is_refused, has_growth) = expect_without(rt, kind, &[3, 5, 6, 1], allocations)?;
         refused = refused.saturating_add(u64::from(is_refused));
         if !has_growth {
             // the words of the ring, twice, and room for the items taken
-            assert!(rt; 3 <= refused);
+            assert!(rt; 3 <= refused, "{kind:?}");
             return Ok(());
         }
     }
-    assert!(rt; false, "a growth was refused each time");
+    assert!(rt; false, "{kind:?}: a growth was refused each time");
     Ok(())
 }
 
-// A relay of one item without the growth that comes after so many: whether it was refused. The two ends end their run as
-// ever.
+#[test]
+fn a_relay_on_its_own_ring_is_refused_at_each_growth(rt: HostRuntime) -> Result<(), Fail> {
+    expect_refused_relays(&rt, Kind::Flicker)?;
+    expect_refused_relays(&rt, Kind::Counter)
+}
+
+// Whether the relay of one item was refused, which it was where its allocator refused.
+fn expect_one<A: Allocator, B: Allocator>(
+    rt: &impl Abort,
+    relayed: Result<Outcome<A>, RunFault>,
+    alloc: &Refusing<B>,
+) -> bool {
+    match relayed {
+        Err(fault) => {
+            assert!(rt; fault == RunFault::OutOfMemory && alloc.has_refused());
+            true
+        }
+        Ok(outcome) => {
+            assert!(rt; outcome.put == 1 && !alloc.has_refused());
+            false
+        }
+    }
+}
+
+// The run ended with a close that no take was told of, or, where the relay was refused, with no call.
+fn expect_closed(rt: &impl Abort, finished: &Finished, is_refused: bool) {
+    assert!(rt; finished.closed() != is_refused && !finished.told());
+}
+
+// A relay of one item without the growth that comes after so many: whether it was refused. Then the two ends are as they
+// were, and end their run as ever.
 fn expect_relay_of_one(
     rt: &(impl Abort + AllocGlobal + Threads),
     allocations: u64,
@@ -72,18 +115,26 @@ fn expect_relay_of_one(
     let alloc = Refusing::after(rt.alloc(), allocations);
     let limits = Limits::both(1);
     let relayed = relay_between(rt, &alloc, &mut putter, &mut taker, &items, limits);
-    let is_refused = match relayed {
-        Err(fault) => {
-            assert!(rt; fault == RunFault::OutOfMemory && alloc.has_refused());
-            true
-        }
-        Ok(outcome) => {
-            assert!(rt; outcome.put == 1 && !alloc.has_refused());
-            false
-        }
-    };
-    let finished = FlickerRing::finish(putter, taker);
-    assert!(rt; finished.closed() && !finished.told());
+    let is_refused = expect_one(rt, relayed, &alloc);
+    expect_closed(rt, &FlickerRing::finish(putter, taker), is_refused);
+    Ok(is_refused)
+}
+
+// The same on a counter ring.
+fn expect_counter_relay_of_one(
+    rt: &(impl Abort + AllocGlobal + Threads),
+    allocations: u64,
+) -> Result<bool, Fail> {
+    let items = [1];
+    let shape = Shape::new(1, 3, 1)?;
+    assert!(rt; shape.fits_all(&items));
+    let (ring, start) = CounterRing::new(rt.alloc(), shape)?;
+    let (mut putter, mut taker) = ring.ends(start);
+    let alloc = Refusing::after(rt.alloc(), allocations);
+    let limits = Limits::both(1);
+    let relayed = relay_counted(rt, &alloc, &mut putter, &mut taker, &items, limits);
+    let is_refused = expect_one(rt, relayed, &alloc);
+    expect_closed(rt, &CounterRing::finish(putter, taker), is_refused);
     Ok(is_refused)
 }
 
@@ -92,5 +143,7 @@ fn ends_of_a_relay_that_was_refused_can_be_finished(rt: HostRuntime) -> Result<(
     assert!(rt; expect_relay_of_one(&rt, 0)?);
     // room for the items taken is all that it takes
     assert!(rt; !expect_relay_of_one(&rt, 1)?);
+    assert!(rt; expect_counter_relay_of_one(&rt, 0)?);
+    assert!(rt; !expect_counter_relay_of_one(&rt, 1)?);
     Ok(())
 }

@@ -1,6 +1,6 @@
-use crate::expects::{ITEMS, Numbers, ONE, expect_relay, relay_between};
+use crate::expects::{ITEMS, Kind, Numbers, ONE, expect_relay, relay_across, relay_between};
 use bits_core::{Flip, Shape};
-use ring_run::{FlickerRing, FreeGate, Limits, PutEnd};
+use ring_run::{CounterRing, FlickerRing, FreeGate, Limits, PutEnd};
 use std::alloc::AllocGlobal;
 use std::process::Abort;
 use std::test::Fail;
@@ -12,22 +12,29 @@ type Wanted = (u64, u64, &'static [u64], bool, [u64; 2]);
 // A shape, the items, the most puts and the most takes, and all that it may come to.
 type Case = (Numbers, &'static [u64], (u64, u64), &'static [Wanted]);
 
-// Each relay comes to one of what it may come to.
-fn expect_cases(rt: &(impl Abort + AllocGlobal + Threads), cases: &[Case]) -> Result<(), Fail> {
+// Each relay on a ring of the kind comes to one of what it may come to.
+fn expect_cases(
+    rt: &(impl Abort + AllocGlobal + Threads),
+    kind: Kind,
+    cases: &[Case],
+) -> Result<(), Fail> {
     for (numbers, items, (puts, takes), wanted) in cases {
         let limits = Limits {
             puts: *puts,
             takes: *takes,
         };
-        let oracles = (Flip::new(), Flip::new());
-        let outcome = expect_relay(rt, numbers, oracles, items, limits, &FreeGate)?;
+        let outcome = expect_relay(rt, kind, numbers, items, limits, &FreeGate)?;
         let mut is_wanted = false;
         for (put, calls, taken, closed, counts) in *wanted {
             is_wanted |= (outcome.put, outcome.calls, outcome.closed) == (*put, *calls, *closed)
                 && outcome.taken.as_slice() == *taken
                 && [outcome.full, outcome.empty] == *counts;
         }
-        assert!(rt; is_wanted, "{} items, limits {limits:?}", items.len());
+        assert!(rt;
+            is_wanted,
+            "{kind:?}, {} items, limits {limits:?}",
+            items.len()
+        );
     }
     Ok(())
 }
@@ -61,7 +68,8 @@ const LIMITED: [Case; 6] = [
 
 #[test]
 fn a_relay_stops_at_its_limits(rt: HostRuntime) -> Result<(), Fail> {
-    expect_cases(&rt, &LIMITED)
+    expect_cases(&rt, Kind::Flicker, &LIMITED)?;
+    expect_cases(&rt, Kind::Counter, &LIMITED)
 }
 
 #[test]
@@ -72,14 +80,18 @@ fn limits_may_be_the_same_for_both(rt: HostRuntime) {
     }
 }
 
+fn expect_all(rt: &(impl Abort + AllocGlobal + Threads), kind: Kind) -> Result<(), Fail> {
+    let limits = Limits::both(u64::MAX);
+    let outcome = expect_relay(rt, kind, &SIX, &ITEMS, limits, &FreeGate)?;
+    assert!(rt; outcome.put == 64 && outcome.closed, "{kind:?}");
+    assert!(rt; outcome.taken.as_slice() == ITEMS.as_slice(), "{kind:?}");
+    Ok(())
+}
+
 #[test]
 fn all_items_go_through_one_cell(rt: HostRuntime) -> Result<(), Fail> {
-    let limits = Limits::both(1_000_000_000);
-    let oracles = (Flip::new(), Flip::new());
-    let outcome = expect_relay(&rt, &SIX, oracles, &ITEMS, limits, &FreeGate)?;
-    assert!(rt; outcome.put == 64 && outcome.closed);
-    assert!(rt; outcome.taken.as_slice() == ITEMS.as_slice());
-    Ok(())
+    expect_all(&rt, Kind::Flicker)?;
+    expect_all(&rt, Kind::Counter)
 }
 
 // The putter of one ring and the taker of another that was closed before.
@@ -98,6 +110,28 @@ fn ends_of_two_rings_are_worked_alike(rt: HostRuntime) -> Result<(), Fail> {
     assert!(rt; outcome.put == 2 && outcome.calls == 2 && outcome.full == 0);
     assert!(rt; outcome.taken.is_empty() && outcome.empty == 0 && outcome.closed);
     let ended = FlickerRing::finish(putter, taker);
+    let other_ended = FlickerRing::finish(closer, told);
+    assert!(rt; ended.closed() && !ended.told());
+    assert!(rt; other_ended.closed() && other_ended.told());
+    Ok(())
+}
+
+// The putter of a counter ring and the taker of a flickering ring that was closed before.
+#[test]
+fn ends_of_rings_of_both_kinds_are_worked_alike(rt: HostRuntime) -> Result<(), Fail> {
+    let items = [0, 1];
+    let shape = Shape::new(2, 4, 1)?;
+    assert!(rt; shape.fits_all(&items));
+    let (ring, start) = CounterRing::new(rt.alloc(), shape)?;
+    let (mut putter, taker) = ring.ends(start);
+    let (other, other_start) = FlickerRing::new(rt.alloc(), Shape::new(1, 3, 1)?)?;
+    let (mut closer, mut told) = other.ends(other_start, Flip::new(), Flip::new());
+    closer.close();
+    let limits = Limits::both(5);
+    let outcome = relay_across(&rt, rt.alloc(), &mut putter, &mut told, &items, limits)?;
+    assert!(rt; outcome.put == 2 && outcome.calls == 2 && outcome.full == 0);
+    assert!(rt; outcome.taken.is_empty() && outcome.empty == 0 && outcome.closed);
+    let ended = CounterRing::finish(putter, taker);
     let other_ended = FlickerRing::finish(closer, told);
     assert!(rt; ended.closed() && !ended.told());
     assert!(rt; other_ended.closed() && other_ended.told());

@@ -1,4 +1,4 @@
-use crate::expects::{ITEMS, Numbers, SHAPES, TAPE, expect_relay};
+use crate::expects::{ITEMS, Kind, Numbers, SHAPES, TAPE, expect_flicker, expect_relay};
 use bits_core::{Always, Flip, Oracle, Tape};
 use ring_run::{FreeGate, Limits};
 use std::alloc::AllocGlobal;
@@ -12,7 +12,7 @@ fn expect_oracles<O: Oracle + Drop + Send>(
     oracles: (O, O),
 ) -> Result<(), Fail> {
     let limits = Limits::both(1_000_000);
-    expect_relay(rt, numbers, oracles, &ITEMS, limits, &FreeGate)?;
+    expect_flicker(rt, numbers, oracles, &ITEMS, limits, &FreeGate)?;
     Ok(())
 }
 
@@ -23,6 +23,15 @@ fn items_are_in_order_under_each_oracle(rt: HostRuntime) -> Result<(), Fail> {
         expect_oracles(&rt, numbers, (Always(true), Always(true)))?;
         expect_oracles(&rt, numbers, (Flip::new(), Flip::new()))?;
         expect_oracles(&rt, numbers, (Tape::new(TAPE), Tape::new(TAPE)))?;
+    }
+    Ok(())
+}
+
+#[test]
+fn items_are_in_order_on_a_counter_ring(rt: HostRuntime) -> Result<(), Fail> {
+    let limits = Limits::both(1_000_000);
+    for numbers in SHAPES.iter() {
+        expect_relay(&rt, Kind::Counter, numbers, &ITEMS, limits, &FreeGate)?;
     }
     Ok(())
 }

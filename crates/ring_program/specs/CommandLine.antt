@@ -12,6 +12,8 @@ use Rattle.ring_program.specs.declared.command_line.Question.TheVariants.{Audit,
 use Rattle.ring_program.specs.declared.command_line.Request.{Request}
 use Rattle.ring_program.specs.declared.command_line.Request.TheVariants.{OnInput}
 use Rattle.ring_program.specs.declared.command_line.Request.TheVariants as request
+use Rattle.ring_program.specs.declared.run_line.RingKind.{RingKind}
+use Rattle.ring_program.specs.declared.run_line.RingKind.TheVariants.{Flicker, Counter}
 use Rattle.ring_program.specs.declared.run_line.Run.{Run}
 use Rattle.ring_program.specs.declared.run_line.TheConstants.{ITEM_LIMIT}
 
@@ -47,12 +49,16 @@ largest = 18446744073709551615
 abbrev pub batch_rule : Rule
 batch_rule = record (number_rule (codes "batch") largest) { defaults = codes "1" ∷ [] }
 
--- `run`, with the five options that have to be given, and two that may be left out
+-- `--ring`, which is `flicker` where it is left out
+abbrev pub ring_rule : Rule
+ring_rule = record (new_rule (codes "ring")) { long = Some (codes "ring"); action = Some Set; value_names = 1; defaults = codes "flicker" ∷ [] }
+
+-- `run`, with the five options that have to be given, and three that may be left out
 abbrev pub run_application : App
 run_application =
-    with_rule (with_rule (with_rule (with_rule (with_rule (with_rule (with_rule (new_app (codes "run"))
+    with_rule (with_rule (with_rule (with_rule (with_rule (with_rule (with_rule (with_rule (new_app (codes "run"))
     (required_rule (codes "capacity") largest)) (required_rule (codes "modulus") largest)) (required_rule (codes "width") largest))
-    (required_rule (codes "count") ITEM_LIMIT)) (required_rule (codes "limit") largest)) (number_rule (codes "takes") largest)) batch_rule
+    (required_rule (codes "count") ITEM_LIMIT)) (required_rule (codes "limit") largest)) (number_rule (codes "takes") largest)) batch_rule) ring_rule
 
 -- the program, which has a version, and of which one command has to be named
 unfoldable pub application : App
@@ -79,17 +85,25 @@ number_in text = if is_unsigned_in 0 largest text then Some (digits_value 10 (wi
 abbrev pub number_given : Text → List Row → Option ℕ
 number_given id rows = option_and_then number_in (first_of id rows)
 
-abbrev pub run_of_numbers : ℕ → ℕ → ℕ → ℕ → ℕ → ℕ → ℕ → Run
-run_of_numbers capacity modulus width batch count puts takes =
-    record { capacity = capacity; modulus = modulus; width = width; batch = batch; count = count; limits = record { puts = puts; takes = takes } }
+-- the ring of this name
+abbrev pub ring_in : Text → Option RingKind
+ring_in name = if bytes_eq name (codes "flicker") then Some Flicker else (if bytes_eq name (codes "counter") then Some Counter else None)
+
+-- the ring that was asked for
+abbrev pub ring_given : List Row → Option RingKind
+ring_given rows = option_and_then ring_in (first_of (codes "ring") rows)
+
+abbrev pub run_of_numbers : RingKind → ℕ → ℕ → ℕ → ℕ → ℕ → ℕ → ℕ → Run
+run_of_numbers ring capacity modulus width batch count puts takes =
+    record { ring = ring; capacity = capacity; modulus = modulus; width = width; batch = batch; count = count; limits = record { puts = puts; takes = takes } }
 
 -- what the options of `run` ask for: as many takes as puts, where nothing else is said
 abbrev pub run_in : List Row → Option Run
 run_in rows =
-    option_and_then (λ capacity. option_and_then (λ modulus. option_and_then (λ width. option_and_then (λ batch. option_and_then (λ count.
-    option_map (λ puts. run_of_numbers capacity modulus width batch count puts (unwrap_or (number_given (codes "takes") rows) puts))
+    option_and_then (λ ring. option_and_then (λ capacity. option_and_then (λ modulus. option_and_then (λ width. option_and_then (λ batch. option_and_then (λ count.
+    option_map (λ puts. run_of_numbers ring capacity modulus width batch count puts (unwrap_or (number_given (codes "takes") rows) puts))
     (number_given (codes "limit") rows)) (number_given (codes "count") rows)) (number_given (codes "batch") rows))
-    (number_given (codes "width") rows)) (number_given (codes "modulus") rows)) (number_given (codes "capacity") rows)
+    (number_given (codes "width") rows)) (number_given (codes "modulus") rows)) (number_given (codes "capacity") rows)) (ring_given rows)
 
 -- what the named command asks for
 abbrev pub request_in : Option (Text × List Row) → Option Request
@@ -121,7 +135,10 @@ short_run = run_words (codes "64") []
 abbrev pub big_run : List Text
 big_run = run_words (codes "1000001") []
 
+abbrev pub torus_run : List Text
+torus_run = run_words (codes "64") (codes "--ring" ∷ codes "torus" ∷ [])
+
 abbrev pub long_run : List Text
 long_run =
-    codes "run" ∷ codes "--batch=3" ∷ codes "--takes" ∷ codes "8" ∷ codes "--capacity" ∷ codes "3" ∷ codes "--modulus=7" ∷ codes "--width" ∷ codes "6"
+    codes "run" ∷ codes "--ring" ∷ codes "counter" ∷ codes "--batch=3" ∷ codes "--takes" ∷ codes "8" ∷ codes "--capacity" ∷ codes "3" ∷ codes "--modulus=7" ∷ codes "--width" ∷ codes "6"
     ∷ codes "--count=64" ∷ codes "--limit" ∷ codes "9" ∷ []

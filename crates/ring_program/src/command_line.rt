@@ -2,7 +2,8 @@
 ghost use Rattle.std.specs.Prelude.{◌≡◌, ◌⊎◌, ◌∷◌, ℕ, List, Some, codes, false, [], IfOk, IfErr, OnOk, None, map, option_map};
 ghost use Rattle.clap.specs.Words.{HasKind, app_of, fault_of, found_of, kind_of, rows_of, subcommand_of, subcommand_rows_of};
 ghost use Rattle.clap.specs.declared.builder.command.Command.TheViews.{out-Command};
-ghost use Rattle.ring_program.specs.CommandLine.{application, audit_command, audit_question_of, is_flag_given, big_run, long_run, play_command, play_question_of, request_in, request_of, run_of_numbers, short_run};
+ghost use Rattle.ring_program.specs.declared.run_line.RingKind.TheVariants as kind;
+ghost use Rattle.ring_program.specs.CommandLine.{application, audit_command, audit_question_of, is_flag_given, big_run, long_run, play_command, play_question_of, request_in, request_of, run_of_numbers, short_run, torus_run};
 
 use crate::run_line::{Run, run_command, run_found};
 use clap::error::ErrorKind;
@@ -237,9 +238,10 @@ pub fn command_lines()
     ensures twice { (name : List ℕ) → request_of (name ∷ codes "audit" ∷ codes "--bits" ∷ codes "--bits" ∷ []) ≡ None }
     ensures play { (name : List ℕ) → request_of (name ∷ codes "play" ∷ []) ≡ Some (Request.OnInput Question.Play) }
     ensures play_trace { (name : List ℕ) → request_of (name ∷ codes "play" ∷ codes "--trace" ∷ []) ≡ Some (Request.OnInput Question.PlayTrace) }
-    ensures run { (name : List ℕ) → request_of (name ∷ short_run) ≡ Some (Request.Run (run_of_numbers 1 3 6 1 64 9 9)) }
-    ensures run_with_all { (name : List ℕ) → request_of (name ∷ long_run) ≡ Some (Request.Run (run_of_numbers 3 7 6 3 64 9 8)) }
+    ensures run { (name : List ℕ) → request_of (name ∷ short_run) ≡ Some (Request.Run (run_of_numbers kind.Flicker 1 3 6 1 64 9 9)) }
+    ensures run_with_all { (name : List ℕ) → request_of (name ∷ long_run) ≡ Some (Request.Run (run_of_numbers kind.Counter 3 7 6 3 64 9 8)) }
     ensures lacking { (name : List ℕ) → request_of (name ∷ codes "run" ∷ []) ≡ None }
     ensures too_many { (name : List ℕ) → request_of (name ∷ big_run) ≡ None }
+    ensures torus { (name : List ℕ) → request_of (name ∷ torus_run) ≡ None }
     ensures nothing { (name : List ℕ) → request_of (name ∷ []) ≡ None }
 {}

@@ -189,11 +189,14 @@ fn answer_question<A: Allocator + Copy, I: Read, O: Write, E: Write>(
     conclude(ended, err)
 }
 
-// The words were taken and name no command.
+// The words were taken, and name no command or no ring.
 fn unnamed<E: Write>(err: &mut E) -> u8
     ensures { result ≡ 2 }
 {
-    complain(err, "error: no command\n");
+    complain(
+        err,
+        "error: no such command, or no such ring: a ring is flicker or counter\n\nFor more information, try '--help'.\n",
+    );
     2
 }
 

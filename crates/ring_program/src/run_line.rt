@@ -2,7 +2,7 @@
 ghost use Rattle.std.specs.Prelude.{◌≡◌, IfOk, Some, false, option_map};
 ghost use Rattle.clap.specs.Words.{app_of, first_of, found_of, rows_of, rule_of};
 ghost use Rattle.clap.specs.declared.builder.command.Command.TheViews.{out-Command};
-ghost use Rattle.ring_program.specs.CommandLine.{batch_rule, number_given, number_in, number_rule, required_rule, run_application, run_in};
+ghost use Rattle.ring_program.specs.CommandLine.{batch_rule, ring_given, ring_in, ring_rule, number_given, number_in, number_rule, required_rule, run_application, run_in};
 
 use clap::builder::ValueParser;
 use clap::{Arg, ArgAction, ArgMatches, Command};
@@ -13,16 +13,20 @@ use std::alloc::{AllocError, Global};
 pub const ITEM_LIMIT: u64 = 1_000_000;
 
 const RUN_USAGE: &str =
-    "lamport_ring run --capacity B --modulus M --width W --count N --limit L [--takes T] [--batch G]";
+    "lamport_ring run --capacity B --modulus M --width W --count N --limit L [--takes T] [--batch G] [--ring RING]";
 
 const RUN_HELP: &str = "\
-Two threads share a ring of flickering bits with no lock. One puts N items,
-the numbers 0, 1, .. modulo 2^W, each again while the ring is full, and closes
-behind the last; the other takes until it is told that the ring is closed. They
-make at most L puts and T takes. The answer says how many items were put and
-taken, and whether the taker was told that the ring is closed.
+Two threads share a ring with no lock. One puts N items, the numbers 0, 1, ..
+modulo 2^W, each again while the ring is full, and closes behind the last; the
+other takes until it is told that the ring is closed. They make at most L puts
+and T takes. The answer says how many items were put and taken, and whether the
+taker was told that the ring is closed. The flickering ring has a word for each
+bit, which shows that it is being written; the counter ring has a word for each
+counter and each cell, and is faster. What they promise is the same.
 
-Example:
+Examples:
+  lamport_ring run --ring counter --capacity 8 --modulus 10 --width 16 \\
+    --count 1000 --limit 1000000000
   lamport_ring run --capacity 1 --modulus 3 --width 6 --count 64 --limit 1000000000
 
 Exit status:
@@ -31,9 +35,19 @@ Exit status:
      output failed
   2  the command line is wrong";
 
+/// Which ring a run goes through.
+#[derive(Clone, Copy, Debug, PartialEq, Eq)]
+pub enum RingKind {
+    /// A word for each bit, which flickers while it is written.
+    Flicker,
+    /// A word for each counter, each cell and the close bit.
+    Counter,
+}
+
 /// What `run` is asked for.
 #[derive(Clone, Copy, Debug, PartialEq, Eq)]
 pub struct Run {
+    pub ring: RingKind,
     /// The numbers of the ring's shape.
     pub capacity: u64,
     pub modulus: u64,
@@ -81,6 +95,19 @@ fn batch_option<'a>(alloc: Global) -> Arg<'a>
     number_option(alloc, "batch", "G", u64::MAX, help).default_value("1")
 }
 
+// The option of the ring, which is `flicker` where it is left out.
+fn ring_option<'a>(alloc: Global) -> Arg<'a>
+    ensures rule { rule_of result ≡ ring_rule }
+    ensures local { result.global ≡ false }
+{
+    Arg::new(alloc, "ring")
+        .long("ring")
+        .value_name("RING")
+        .action(ArgAction::Set)
+        .default_value("flicker")
+        .help("flicker: a word for each bit; counter: whole words")
+}
+
 /// The command.
 pub fn run_command<'a>(alloc: Global) -> Result<Command<'a>, AllocError>
     ensures made { IfOk result (λ command. app_of command ≡ run_application) }
@@ -93,8 +120,9 @@ pub fn run_command<'a>(alloc: Global) -> Result<Command<'a>, AllocError>
     let limit = required_option(alloc, "limit", "L", u64::MAX, "The most puts, and takes");
     let takes = number_option(alloc, "takes", "T", u64::MAX, "The most takes, where not L");
     let batch = batch_option(alloc);
+    let ring = ring_option(alloc);
     let command = Command::new(alloc, "run")
-        .about("Relay items through a ring of flickering bits, in two threads")
+        .about("Relay items through a ring, in two threads")
         .override_usage(RUN_USAGE)
         .after_help(RUN_HELP);
     let command = command.arg(capacity)?;
@@ -104,6 +132,7 @@ pub fn run_command<'a>(alloc: Global) -> Result<Command<'a>, AllocError>
     let command = command.arg(limit)?;
     let command = command.arg(takes)?;
     let command = command.arg(batch)?;
+    let command = command.arg(ring)?;
     Ok(command)
 }
 
@@ -127,10 +156,34 @@ fn number_found(matches: &ArgMatches<'_>, id: &str) -> Option<u64>
     }
 }
 
+// The ring of this name.
+fn ring_of(name: &str) -> Option<RingKind>
+    ensures { result ≡ ring_in name.now }
+{
+    if name == "flicker" {
+        Some(RingKind::Flicker)
+    } else if name == "counter" {
+        Some(RingKind::Counter)
+    } else {
+        None
+    }
+}
+
+// The ring that was asked for.
+fn ring_found(matches: &ArgMatches<'_>) -> Option<RingKind>
+    ensures { result ≡ ring_given (rows_of (found_of matches.now)) }
+{
+    match matches.get_str("ring") {
+        Some(name) => ring_of(name),
+        None => None,
+    }
+}
+
 /// What the options ask for.
 pub fn run_found(matches: &ArgMatches<'_>) -> Option<Run>
     ensures { result ≡ run_in (rows_of (found_of matches.now)) }
 {
+    let ring = ring_found(matches)?;
     let capacity = number_found(matches, "capacity")?;
     let modulus = number_found(matches, "modulus")?;
     let width = number_found(matches, "width")?;
@@ -142,6 +195,7 @@ pub fn run_found(matches: &ArgMatches<'_>) -> Option<Run>
         None => puts,
     };
     Some(Run {
+        ring,
         capacity,
         modulus,
         width,

@@ -1,6 +1,9 @@
-//! The answer of `run`: items relayed through a ring of flickering bits by two threads.
-ghost use Rattle.std.specs.Prelude.{◌≡◌, ◌≢◌, ◌⊎◌, ◌<◌, ◌≤◌, ◌^◌, All, IfErr, IfOk, List, ℕ, length, string_bytes};
+//! The answer of `run`: items relayed through a ring by two threads.
+ghost use Rattle.std.specs.Prelude.{◌≡◌, ◌≢◌, ◌⊎◌, ◌+◌, ◌≤◌, IfErr, IfOk, List, ℕ, length, string_bytes, take, true};
 ghost use Rattle.std.specs.Io.KnownBytes.{Appends};
+ghost use Rattle.bits_core.specs.Made.{IsBeginning};
+ghost use Rattle.bits_core.specs.Shape.{AllFit, capacity_of};
+ghost use Rattle.ring_run.specs.Relays.{IsRelayed};
 ghost use Rattle.ring_program.specs.Answers.{AnswersRun, EndsRun, IsOutOfMemory, IsRunCause, RefusedRun, relay_ending_of};
 ghost use Rattle.ring_program.specs.Runs.{run_item, run_items};
 ghost use Rattle.ring_program.specs.Texts.{closed_line, relay_text_of};
@@ -9,9 +12,9 @@ ghost use Rattle.ring_program.specs.declared.run_line.TheConstants.{ITEM_LIMIT};
 use crate::answers::{Answer, Ending, conclude, write_whole};
 use crate::faults::{AppFault, Refusal};
 use crate::lines::push_count;
-use crate::run_line::Run;
+use crate::run_line::{RingKind, Run};
 use bits_core::{Flip, Shape};
-use ring_run::{FreeGate, Outcome, relay_flicker};
+use ring_run::{FreeGate, Limits, Outcome, RunFault, relay_counter, relay_flicker};
 use std::alloc::Allocator;
 use std::io::Write;
 use std::thread::Threads;
@@ -79,6 +82,37 @@ fn relay_ending(closed: bool) -> Ending
     }
 }
 
+// Relays the items through a new ring of this kind. Where its loads do not agree, an end of a flickering ring answers 0 and
+// 1 in turn.
+fn relay_through<R: Threads, A: Allocator + Copy>(
+    rt: &R,
+    alloc: A,
+    ring: RingKind,
+    shape: Shape,
+    items: &[u64],
+    limits: Limits,
+) -> Result<Outcome<A>, RunFault>
+    requires fit { AllFit shape items.now }
+    ensures counted { IfOk result (λ r. IsRelayed shape items.now limits.puts limits.takes r.put r.calls r.full r.taken.items r.empty r.closed) }
+    ensures prefix { IfOk result (λ r. IsBeginning r.taken.items (take r.put items.now)) }
+    ensures all { IfOk result (λ r. r.closed ≡ true → (r.put ≡ length items.now) × (r.taken.items ≡ items.now)) }
+    ensures within { IfOk result (λ r. r.put ≤ length r.taken.items + capacity_of shape) }
+{
+    match ring {
+        RingKind::Flicker => relay_flicker(
+            rt,
+            alloc,
+            shape,
+            Flip::new(),
+            Flip::new(),
+            items,
+            limits,
+            &FreeGate,
+        ),
+        RingKind::Counter => relay_counter(rt, alloc, shape, items, limits, &FreeGate),
+    }
+}
+
 // The answer of a run.
 #[tactic(auto, unfolding(crate::specs::Answers::IsOutOfMemory))]
 fn run_answer<R: Threads, A: Allocator + Copy>(
@@ -92,16 +126,7 @@ fn run_answer<R: Threads, A: Allocator + Copy>(
 {
     let shape = Shape::with_batch(run.capacity, run.modulus, run.width, run.batch)?;
     let items = items_of(alloc, &run)?;
-    let outcome = relay_flicker(
-        rt,
-        alloc,
-        shape,
-        Flip::new(),
-        Flip::new(),
-        items.as_slice(),
-        run.limits,
-        &FreeGate,
-    )?;
+    let outcome = relay_through(rt, alloc, run.ring, shape, items.as_slice(), run.limits)?;
     let text = relay_text(alloc, &outcome)?;
     let ending = relay_ending(outcome.closed);
     Ok(Answer { text, ending })

@@ -1,10 +1,12 @@
-// Whole calls of both ends in one thread, in a given order.
+// Whole calls of both ends in one thread, in a given order, on a ring of either kind.
 ghost use Rattle.std.specs.Prelude.{◌≡◌, None, false};
 
 use bits_core::{Flip, Shape};
 use ring_core::{BatchReply, PutReply, TakeReply};
-use ring_run::{FlickerRing, PutEnd, Putter, Start, TakeEnd, Taker};
-use std::alloc::{AllocGlobal, Global};
+use ring_run::{
+    CounterPutter, CounterRing, CounterTaker, FlickerRing, PutEnd, Putter, TakeEnd, Taker,
+};
+use std::alloc::AllocGlobal;
 use std::process::Abort;
 use std::test::Fail;
 
@@ -21,86 +23,119 @@ enum Call {
 // A shape, by its capacity, modulus, width and batch; calls in their order; and at the end: closed, told.
 type Case = ([u64; 4], &'static [Call], bool, bool);
 
-// Two ends that no call is under way at.
+// The call is answered so. It is no meeting.
+fn expect_answer<P: PutEnd, T: TakeEnd>(rt: &impl Abort, putter: &mut P, taker: &mut T, call: &Call)
+    requires idle { P.idle putter.old × T.idle taker.old }
+    ensures idle { P.idle putter.new × T.idle taker.new }
+    ensures putter { (P.end putter.new).ring ≡ (P.end putter.old).ring }
+    ensures taker { (T.end taker.new).ring ≡ (T.end taker.old).ring }
+{
+    let shape = putter.shape();
+    match *call {
+        Call::Put(item, wanted) => {
+            assert!(rt; shape.fits(item));
+            let reply = putter.put(item);
+            assert_eq!(rt; reply, wanted, "put {item}");
+        }
+        Call::PutAll(items, wanted) => {
+            assert!(rt; !items.is_empty() && items.len() as u64 <= shape.batch());
+            assert!(rt; shape.fits_all(items));
+            let reply = putter.put_all(items);
+            assert_eq!(rt; reply, wanted, "put {items:?}");
+        }
+        Call::Close => putter.close(),
+        Call::Take(wanted) => {
+            let reply = taker.take();
+            assert_eq!(rt; reply, wanted);
+        }
+        Call::Meet => {}
+    }
+}
+
+// Two ends of one ring that no call is under way at.
+trait Ends: Sized {
+    // The call is answered so.
+    fn expect(self, rt: &impl Abort, call: &Call) -> Self;
+
+    // Closed, told.
+    fn finish(self) -> (bool, bool);
+}
+
 #[derive(Drop)]
-struct Ends<'a> {
-    shape: Shape,
+struct FlickerEnds<'a> {
     putter: Putter<'a, Flip>,
     taker: Taker<'a, Flip>,
-    ghost of_shape: { putter.end.ring.shape ≡ shape },
     ghost of_one_ring: { putter.end.ring ≡ taker.end.ring },
     ghost idle: { (putter.call ≡ None) × (taker.taking ≡ false) },
 }
 
-impl<'a> Ends<'a> {
-    fn put(&mut self, rt: &impl Abort, item: u64, wanted: PutReply) {
-        assert!(rt; self.shape.fits(item));
-        let reply = self.putter.put(item);
-        assert_eq!(rt; reply, wanted, "put {item}");
-    }
-
-    fn put_all(&mut self, rt: &impl Abort, items: &[u64], wanted: BatchReply) {
-        assert!(rt; !items.is_empty() && items.len() as u64 <= self.shape.batch());
-        assert!(rt; self.shape.fits_all(items));
-        let reply = self.putter.put_all(items);
-        assert_eq!(rt; reply, wanted, "put {items:?}");
-    }
-
-    fn take(&mut self, rt: &impl Abort, wanted: TakeReply) {
-        let reply = self.taker.take();
-        assert_eq!(rt; reply, wanted);
-    }
-
-    fn meet(self) -> Ends<'a> {
-        let Ends {
-            shape,
-            putter,
-            taker,
+impl<'a> Ends for FlickerEnds<'a> {
+    fn expect(self, rt: &impl Abort, call: &Call) -> FlickerEnds<'a> {
+        let FlickerEnds {
+            mut putter,
+            mut taker,
         } = self;
-        let (putter, taker) = FlickerRing::meet(putter, taker);
-        Ends {
-            shape,
-            putter,
-            taker,
+        if matches!(call, Call::Meet) {
+            let (putter, taker) = FlickerRing::meet(putter, taker);
+            return FlickerEnds { putter, taker };
         }
+        expect_answer(rt, &mut putter, &mut taker, call);
+        FlickerEnds { putter, taker }
     }
 
-    fn make(mut self, rt: &impl Abort, call: &Call) -> Ends<'a> {
-        match *call {
-            Call::Put(item, reply) => self.put(rt, item, reply),
-            Call::PutAll(items, reply) => self.put_all(rt, items, reply),
-            Call::Close => self.putter.close(),
-            Call::Take(reply) => self.take(rt, reply),
-            Call::Meet => return self.meet(),
-        }
-        self
+    fn finish(self) -> (bool, bool) {
+        let finished = FlickerRing::finish(self.putter, self.taker);
+        (finished.closed(), finished.told())
     }
 }
 
-fn first_ends<'a>(ring: &'a FlickerRing<Global>, start: Start) -> Ends<'a>
-    requires { start ≡ ring.now.id }
-{
-    let shape = ring.shape();
-    let (putter, taker) = ring.ends(start, Flip::new(), Flip::new());
-    Ends {
-        shape,
-        putter,
-        taker,
+#[derive(Drop)]
+struct CounterEnds<'a> {
+    putter: CounterPutter<'a>,
+    taker: CounterTaker<'a>,
+    ghost of_one_ring: { putter.ring ≡ taker.ring },
+}
+
+impl<'a> Ends for CounterEnds<'a> {
+    fn expect(self, rt: &impl Abort, call: &Call) -> CounterEnds<'a> {
+        let CounterEnds {
+            mut putter,
+            mut taker,
+        } = self;
+        if matches!(call, Call::Meet) {
+            let (putter, taker) = CounterRing::meet(putter, taker);
+            return CounterEnds { putter, taker };
+        }
+        expect_answer(rt, &mut putter, &mut taker, call);
+        CounterEnds { putter, taker }
+    }
+
+    fn finish(self) -> (bool, bool) {
+        let finished = CounterRing::finish(self.putter, self.taker);
+        (finished.closed(), finished.told())
     }
 }
 
 // The calls are answered so, and so the run ends.
+fn expect_run<E: Ends>(rt: &impl Abort, first: E, case: &Case) {
+    let (_, calls, closed, told) = *case;
+    let mut ends = first;
+    for call in calls {
+        ends = ends.expect(rt, call);
+    }
+    assert_eq!(rt; ends.finish(), (closed, told));
+}
+
+// So it is on a ring of either kind.
 fn expect_calls(rt: &(impl Abort + AllocGlobal), case: &Case) -> Result<(), Fail> {
-    let ([capacity, modulus, width, batch], calls, closed, told) = *case;
+    let ([capacity, modulus, width, batch], _, _, _) = *case;
     let shape = Shape::with_batch(capacity, modulus, width, batch)?;
     let (ring, start) = FlickerRing::new(rt.alloc(), shape)?;
-    let mut ends = first_ends(&ring, start);
-    for call in calls {
-        ends = ends.make(rt, call);
-    }
-    let finished = FlickerRing::finish(ends.putter, ends.taker);
-    assert_eq!(rt; finished.closed(), closed);
-    assert_eq!(rt; finished.told(), told);
+    let (putter, taker) = ring.ends(start, Flip::new(), Flip::new());
+    expect_run(rt, FlickerEnds { putter, taker }, case);
+    let (ring, start) = CounterRing::new(rt.alloc(), shape)?;
+    let (putter, taker) = ring.ends(start);
+    expect_run(rt, CounterEnds { putter, taker }, case);
     Ok(())
 }
 

@@ -1,26 +1,41 @@
 use bits_core::Shape;
 use refusing::Refusing;
-use ring_run::{FlickerRing, RunFault};
-use std::alloc::AllocGlobal;
+use ring_run::{CounterRing, FlickerRing, RunFault};
+use std::alloc::{AllocGlobal, Allocator};
 use std::process::Abort;
 use std::test::Fail;
+
+#[derive(Clone, Copy, Debug)]
+enum Kind {
+    Flicker,
+    Counter,
+}
+
+// How the allocator refuses a ring of the shape.
+fn refusal<A: Allocator + Copy>(alloc: A, kind: Kind, shape: Shape) -> Option<RunFault> {
+    match kind {
+        Kind::Flicker => FlickerRing::new(alloc, shape).err(),
+        Kind::Counter => CounterRing::new(alloc, shape).err(),
+    }
+}
 
 // Makes a ring of the shape, each growth refused in turn, and then none.
 fn expect_refused_rings(
     rt: &(impl Abort + AllocGlobal),
+    kind: Kind,
     numbers: &(u64, u64, u64),
 ) -> Result<(), Fail> {
     let (capacity, modulus, width) = *numbers;
     let shape = Shape::new(capacity, modulus, width)?;
     for allocations in 0..20 {
         let alloc = Refusing::after(rt.alloc(), allocations);
-        let refused = FlickerRing::new(&alloc, shape).err();
+        let refused = refusal(&alloc, kind, shape);
         if !alloc.has_refused() {
-            assert_eq!(rt; refused, None);
+            assert_eq!(rt; refused, None, "{kind:?}");
             assert!(rt; 1 <= allocations);
             return Ok(());
         }
-        assert_eq!(rt; refused, Some(RunFault::OutOfMemory));
+        assert_eq!(rt; refused, Some(RunFault::OutOfMemory), "{kind:?}");
     }
     assert!(rt; false, "a growth was refused each time");
     Ok(())
@@ -31,7 +46,8 @@ const SHAPES: [(u64, u64, u64); 3] = [(1, 3, 1), (3, 5, 6), (64, 256, 64)];
 #[test]
 fn a_ring_is_refused_at_each_growth(rt: HostRuntime) -> Result<(), Fail> {
     for numbers in SHAPES.iter() {
-        expect_refused_rings(&rt, numbers)?;
+        expect_refused_rings(&rt, Kind::Flicker, numbers)?;
+        expect_refused_rings(&rt, Kind::Counter, numbers)?;
     }
     Ok(())
 }

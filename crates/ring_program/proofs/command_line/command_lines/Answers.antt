@@ -42,3 +42,7 @@ returns-clause-run_with_all c name = refl
 pub returns-clause-too_many : goal.returns-clause-too_many
 unfolding clap_on_literals application request_of
 returns-clause-too_many c name = refl
+
+pub returns-clause-torus : goal.returns-clause-torus
+unfolding clap_on_literals application request_of
+returns-clause-torus c name = refl

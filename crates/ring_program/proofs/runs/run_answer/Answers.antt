@@ -6,10 +6,10 @@ use Rattle.ring_program.specs.Runs.{run_items}
 use Rattle.ring_program.proofs.RunItems.{run_items_fit}
 use Rattle.ring_program.proofs.runs.run_answer.Goals as goal
 
-pub relay_flicker-requires-clause-fit : goal.relay_flicker-requires-clause-fit
-relay_flicker-requires-clause-fit g c κs within =
+pub relay_through-requires : goal.relay_through-requires
+relay_through-requires g c =
     let is = c.as_slice.ensures.value ∙ c.in_ok-items.ensures.items in
-    subst (AllFit c.in_ok-shape.shape) (sym is) (run_items_fit c.in_ok-shape.shape c.args.run c.in_ok-shape.ensures.width_is)
+    record { fit = subst (AllFit c.in_ok-shape.shape) (sym is) (run_items_fit c.in_ok-shape.shape c.args.run c.in_ok-shape.ensures.width_is) }
 
 pub returns-clause-answered : goal.returns-clause-answered
 returns-clause-answered g c =
