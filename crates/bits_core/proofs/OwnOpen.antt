@@ -53,7 +53,7 @@ none_behind s before [] is = ap (open_access s) (append-nil before) ∙ is
 none_behind s before (x ∷ made) is =
     let begun : List Event = before ++ begin_event s x ∷ [] in
     let none : open_access s (begun ++ end_event s x ∷ []) ≡ None =
-        open_access-push s begun (end_event s x) ∙ pick (is_by s (end_event s x)) true (begun_by (end_event s x)) (open_access s begun) (by_end s x) ∙ begun_end s x in
+    open_access-push s begun (end_event s x) ∙ pick (is_by s (end_event s x)) true (begun_by (end_event s x)) (open_access s begun) (by_end s x) ∙ begun_end s x in
     ap (open_access s) (sym (append_assoc begun (end_event s x ∷ []) (events_of s made) ∙ append_assoc before (begin_event s x ∷ []) (end_event s x ∷ events_of s made)))
     ∙ none_behind s (begun ++ end_event s x ∷ []) made none
 

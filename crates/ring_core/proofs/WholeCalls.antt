@@ -87,7 +87,7 @@ pub whole-takes : WholeTakesCount
 whole-takes shape h calls is =
     let t : ℕ = length (own C h) in
     let long : events_in (take_phrases shape 0 calls.takes) ≤ t =
-        omega (arith, ap length is, length-events C (take_program shape calls), length-append (take_phrases shape 0 calls.takes) (end_phrase calls.end)) in
+    omega (arith, ap length is, length-events C (take_program shape calls), length-append (take_phrases shape 0 calls.takes) (end_phrase calls.end)) in
     (all-taken shape 0 calls.takes t long, all-counted shape 0 calls.takes t long)
 
 -- ---- puts
