@@ -16,10 +16,10 @@ import tempfile
 from bench import PROGRAM, build_twin, seconds
 
 RUNS = 10
-COUNT = 200_000
+COUNT = 1_000_000
 SHAPES = [(1, 3, 1), (8, 10, 16), (64, 256, 64)]
 # The rings of the twin, and the words by which `run` runs the same algorithm, where it does.
-RINGS = [("flicker", []), ("counter", None), ("usual", None)]
+RINGS = [("flicker", []), ("counter", ["--ring", "counter"]), ("usual", None)]
 
 
 def has_run():
@@ -29,7 +29,7 @@ def has_run():
 
 
 def program_seconds(words, shape, count):
-    numbers = zip(["capacity", "modulus", "width", "count", "limit"], [*shape, count, 1_000_000_000])
+    numbers = zip(["capacity", "modulus", "width", "count", "limit"], [*shape, count, 2**64 - 1])
     options = [word for name, number in numbers for word in (f"--{name}", str(number))]
     return seconds([PROGRAM, "run", *options, *words], "", f"put {count}\ntaken {count}\nclosed yes\n".encode())
 
