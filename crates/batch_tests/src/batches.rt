@@ -1,11 +1,11 @@
 ghost use Rattle.std.specs.Prelude.{◌≡◌};
 
 use bits_core::{
-    Always, Memory, MemoryFault, Oracle, Shape, ShapeFault, Side, Tape, Verdict, audit_bits,
+    Always, Event, Memory, MemoryFault, Oracle, Shape, ShapeFault, Side, Store, Tape, Verdict,
+    audit_bits,
 };
 use ring_core::{BatchReply, Consumer, Producer, PutReply, TakeReply};
 use ring_steps::{Step, next_event};
-use std::alloc::Allocator;
 use std::process::Abort;
 use std::test::Fail;
 
@@ -49,9 +49,9 @@ impl Puts {
     }
 
     // At most so many events: fewer where the call is over before.
-    fn run<A: Allocator, O: Oracle>(
+    fn run<S: Store<Event>, O: Oracle>(
         &mut self,
-        memory: &mut Memory<A>,
+        memory: &mut Memory<S>,
         oracle: &mut O,
         events: u64,
     ) -> Result<(), MemoryFault> {
@@ -68,9 +68,9 @@ impl Puts {
 }
 
 // A whole take.
-fn take<A: Allocator, O: Oracle>(
+fn take<S: Store<Event>, O: Oracle>(
     consumer: &mut Consumer,
-    memory: &mut Memory<A>,
+    memory: &mut Memory<S>,
     oracle: &mut O,
 ) -> Result<(), MemoryFault> {
     if consumer.next().is_none() {
@@ -88,10 +88,10 @@ fn take<A: Allocator, O: Oracle>(
 }
 
 // So many events were made, and the puts were answered so.
-fn expect_batch<A: Allocator>(
+fn expect_batch<S: Store<Event>>(
     rt: &impl Abort,
     puts: &Puts,
-    memory: &Memory<A>,
+    memory: &Memory<S>,
     events: usize,
     reply: Option<BatchReply>,
 ) {
@@ -101,10 +101,10 @@ fn expect_batch<A: Allocator>(
 }
 
 // The same of a put of one item.
-fn expect_put<A: Allocator>(
+fn expect_put<S: Store<Event>>(
     rt: &impl Abort,
     puts: &Puts,
-    memory: &Memory<A>,
+    memory: &Memory<S>,
     events: usize,
     reply: Option<PutReply>,
 ) {
@@ -114,10 +114,10 @@ fn expect_put<A: Allocator>(
 }
 
 // A whole take has so many events and is answered so.
-fn expect_take<A: Allocator, O: Oracle>(
+fn expect_take<S: Store<Event>, O: Oracle>(
     rt: &impl Abort,
     consumer: &mut Consumer,
-    memory: &mut Memory<A>,
+    memory: &mut Memory<S>,
     oracle: &mut O,
     events: usize,
     reply: TakeReply,
@@ -129,7 +129,12 @@ fn expect_take<A: Allocator, O: Oracle>(
     Ok(())
 }
 
-fn expect_lawful<A: Allocator>(rt: &impl Abort, memory: &Memory<A>, events: usize, flickers: u64) {
+fn expect_lawful<S: Store<Event>>(
+    rt: &impl Abort,
+    memory: &Memory<S>,
+    events: usize,
+    flickers: u64,
+) {
     assert_eq!(rt; memory.events().len(), events);
     assert_eq!(rt; memory.flickers(), flickers);
     assert_eq!(rt;

@@ -2,22 +2,21 @@
 // handed over with no test of it.
 ghost use Rattle.std.specs.Prelude.{◌≡◌};
 
-use bits_core::{Access, Always, Memory, MemoryFault, Shape, Side};
+use bits_core::{Access, Always, Event, Memory, MemoryFault, Shape, Side, Store};
 use ring_core::{Consumer, Producer, PutReply, TakeReply};
-use std::alloc::Allocator;
 use std::process::Abort;
 use std::test::Fail;
 
 #[derive(Drop)]
-struct Ring<A: Allocator> {
-    memory: Memory<A>,
+struct Ring<S: Store<Event>> {
+    memory: Memory<S>,
     producer: Producer,
     consumer: Consumer,
     ghost of_producer: { producer.shape ≡ memory.shape },
     ghost of_consumer: { consumer.shape ≡ memory.shape },
 }
 
-impl<A: Allocator> Ring<A> {
+impl<S: Store<Event>> Ring<S> {
     // Begins the access that the producer has due, where it has none open.
     fn begin_producer(&mut self) -> Result<(), MemoryFault> {
         if self.memory.pending(Side::P).is_some() {
@@ -79,9 +78,9 @@ impl<A: Allocator> Ring<A> {
     }
 }
 
-fn expect_replies<A: Allocator>(
+fn expect_replies<S: Store<Event>>(
     rt: &impl Abort,
-    ring: &Ring<A>,
+    ring: &Ring<S>,
     events: usize,
     put: Option<PutReply>,
     take: Option<TakeReply>,

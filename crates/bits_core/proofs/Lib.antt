@@ -24,3 +24,4 @@ pub mod OwnEvents
 pub mod MadeLemmas
 pub mod MarkLemmas
 pub mod OwnOpen
+pub mod SeenLemmas

@@ -1,5 +1,5 @@
 -- What is open, by one event after another: from a side's own events, after whole accesses, and while nothing overlaps.
-use Rattle.std.proofs.Common.{◌≡◌, Bool, true, false, ◌||◌, cond, Option, Some, None, List, [], ◌∷◌, ◌++◌, refl, ap, sym, subst, ◌∙◌, append-nil, append_assoc}
+use Rattle.std.proofs.Common.{◌≡◌, Bool, true, false, ◌||◌, Option, Some, None, List, [], ◌∷◌, ◌++◌, refl, ap, sym, subst, ◌∙◌, append-nil, append_assoc}
 use Rattle.std.specs.Prelude.{is_some, unwrap_or, if◌then◌else◌}
 use Rattle.std.proofs.lemmas.Bool.{or_parts, false≢true}
 use Rattle.bits_core.specs.declared.events.Side.{Side}
@@ -8,7 +8,7 @@ use Rattle.bits_core.specs.declared.events.Bit.{Bit}
 use Rattle.bits_core.specs.declared.events.Event.{Event}
 use Rattle.bits_core.specs.declared.shapes.Shape.{Shape}
 use Rattle.bits_core.specs.Bits.{other, writer, reader, same_side, is_by, begun_by, write_of}
-use Rattle.bits_core.specs.History.{before_last, open_access, open_write, held, held_at_begin, is_overlapped}
+use Rattle.bits_core.specs.History.{before_last, open_access, open_write, held, is_overlapped}
 use Rattle.bits_core.specs.Lawful.{IsLawful}
 use Rattle.bits_core.specs.Made.{Made, Read, Write, begin_event, end_event, events_of, own}
 use Rattle.bits_core.specs.Laws.{OpenFromOwn, MadeLeaveNoneOpen, QuietIsHeld}

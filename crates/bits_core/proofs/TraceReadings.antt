@@ -1,9 +1,9 @@
 -- A text has one reading, and bytes have one fault or are a trace.
-use Rattle.std.proofs.Common.{◌≡◌, ◌⊎◌, ◌≢◌, ℕ, suc, ◌+◌, ◌<◌, ◌≤◌, true, Result, Ok, Err, Some, List, [], ◌∷◌, ◌++◌, length, inl, inr, refl, ap, sym, subst, ◌∙◌, append_assoc, arith}
+use Rattle.std.proofs.Common.{◌≡◌, ◌⊎◌, ◌≢◌, ℕ, suc, ◌+◌, ◌<◌, ◌≤◌, true, Result, Ok, Err, Some, List, [], ◌∷◌, ◌++◌, length, take, inl, inr, refl, ap, sym, subst, ◌∙◌, append_assoc, arith}
 use Rattle.std.specs.Prelude.{IfOk, IfErr, MatchResult}
 use Rattle.std.specs.Coded.{le_prop}
 use Rattle.std.specs.List.{flat_map}
-use Rattle.std.proofs.lemmas.List.{append-nil, length-append}
+use Rattle.std.proofs.lemmas.List.{append-nil, length-append, take_all}
 use Rattle.std.proofs.lemmas.Option.{same_Some}
 use mathlib.Core.HLevel.{is_prop→PathP}
 use Rattle.bits_core.specs.declared.events.Event.{Event}
@@ -16,7 +16,7 @@ use Rattle.bits_core.specs.declared.traces.TraceFault.TheVariants.{BadShape, Bad
 use Rattle.bits_core.specs.Shape.{IsRefusedBatch, batch_of, belongs, capacity_of, modulus_of, width_of}
 use Rattle.bits_core.specs.TraceText.{event_line, shape_line, trace_text}
 use Rattle.bits_core.specs.TraceReading.{event_at, shape_at}
-use Rattle.bits_core.specs.Trace.{AreOfShape, BeginsWithShape, GoesOn, HasNoEvent, HasBadLine, HasBadShape, HasShapeLine, IsTooLong, IsTrace, IsTraceFault}
+use Rattle.bits_core.specs.Trace.{AreOfShape, BeginsWithShape, GoesOn, HasMore, HasNoEvent, HasBadLine, HasBadShape, HasShapeLine, IsTooLong, IsTrace, IsTraceFault}
 use Rattle.bits_core.proofs.TraceLines.{event_at-again, shape_at-again, small_indices}
 use Rattle.bits_core.proofs.TraceLemmas.{line_takes}
 
@@ -300,10 +300,31 @@ one_fault bytes TooLong TooLong a b = refl
 one_fault bytes TooLong OutOfMemory a b = absurd b
 one_fault bytes OutOfMemory g a b = absurd a
 
--- so a call that tells readings and faults reads each trace, unless memory runs out
-pub reads_each_trace : {T : Type 0} (bytes : List ℕ) (r : Result T TraceFault) (shape_of : T → Shape) (events_of : T → List Event)
-    → IfOk r (λ t. IsTrace bytes (shape_of t) (events_of t)) → IfErr r (λ e. (e ≡ OutOfMemory) ⊎ IsTraceFault bytes e)
-    → (s : Shape) (es : List Event) → IsTrace bytes s es → MatchResult r (λ t. (shape_of t ≡ s) × (events_of t ≡ es)) (λ e. e ≡ OutOfMemory)
-reads_each_trace bytes (Ok t) shape_of events_of read refused s es trace = one_reading bytes (shape_of t) s (events_of t) es read trace
-reads_each_trace bytes (Err e) shape_of events_of read (inl short) s es trace = short
-reads_each_trace bytes (Err e) shape_of events_of read (inr fault) s es trace = absurd (faulty_is_no_trace bytes e s es fault trace)
+-- ---- room for some events alone
+
+-- a trace has more events than those that another one follows
+more_follows : (bytes : List ℕ) (es : List Event) (s : Shape) (fs : List Event) → HasMore bytes es → IsTrace bytes s fs → length es < length fs
+unfolding Compared
+more_follows bytes es s fs a b =
+    let with_next : List Event = es ++ a.next ∷ [] in
+    let both = agree bytes a.shape s with_next fs a.rest [] (record { text = a.text; each = EachOf-from a.shape with_next a.of_shape }) (Read-whole bytes s fs b) in
+    elim both.events [
+      | inl r ↦ omega (arith, length-append es (a.next ∷ []), length-of with_next fs r.0 r.1)
+      | inr r ↦ omega (arith, length-append es (a.next ∷ []), length-of fs with_next r.0 r.1, ap length (nothing_left r.0 a.rest r.2).0)
+    ]
+
+-- so a call that has so many slots, and tells that none is left only then, reads each trace that has room in them
+pub reads_each_small : (bytes : List ℕ) (r : Result Shape TraceFault) (slots : List Event) (used : ℕ)
+    → IfOk r (λ s. IsTrace bytes s (take used slots)) → IfErr r (λ e. ((e ≡ OutOfMemory) × (length slots ≤ used) × HasMore bytes (take used slots)) ⊎ IsTraceFault bytes e)
+    → (s : Shape) (es : List Event) → IsTrace bytes s es → MatchResult r (λ t. (t ≡ s) × (take used slots ≡ es)) (λ e. (e ≡ OutOfMemory) × (length slots < length es))
+reads_each_small bytes (Ok t) slots used read refused s es trace = one_reading bytes t s (take used slots) es read trace
+reads_each_small bytes (Err e) slots used read (inl short) s es trace =
+    (short.0, omega (arith, more_follows bytes (take used slots) s es short.2 trace, ap length (take_all used slots short.1)))
+reads_each_small bytes (Err e) slots used read (inr fault) s es trace = absurd (faulty_is_no_trace bytes e s es fault trace)
+
+-- what else it may tell
+pub short_or_fault : (bytes : List ℕ) (r : Result Shape TraceFault) (slots : List Event) (used : ℕ)
+    → IfErr r (λ e. ((e ≡ OutOfMemory) × (length slots ≤ used) × HasMore bytes (take used slots)) ⊎ IsTraceFault bytes e) → IfErr r (λ e. (e ≡ OutOfMemory) ⊎ IsTraceFault bytes e)
+short_or_fault bytes (Ok t) slots used refused = refused
+short_or_fault bytes (Err e) slots used (inl short) = inl short.0
+short_or_fault bytes (Err e) slots used (inr fault) = inr fault

@@ -14,3 +14,4 @@ pub mod Open
 pub mod Memory
 pub mod Made
 pub mod Marks
+pub mod Seen

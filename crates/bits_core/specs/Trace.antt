@@ -1,5 +1,5 @@
 -- Which bytes are a trace, and why others are none.
-use Rattle.std.specs.Prelude.{◌≡◌, ◌≢◌, ◌⊎◌, ℕ, ◌+◌, ◌<◌, ◌≤◌, true, List, [], ◌++◌, All, length}
+use Rattle.std.specs.Prelude.{◌≡◌, ◌≢◌, ◌⊎◌, ℕ, ◌+◌, ◌<◌, ◌≤◌, true, List, [], ◌∷◌, ◌++◌, All, length}
 use Rattle.bits_core.specs.declared.traces.TheConstants.{EVENT_LIMIT}
 use Rattle.bits_core.specs.declared.events.Event.{Event}
 use Rattle.bits_core.specs.declared.shapes.Shape.{Shape}
@@ -61,6 +61,14 @@ pub record GoesOn (bytes : List ℕ) (shape : Shape) (events : List Event) (rest
   pub text : bytes ≡ trace_text shape events ++ rest
   pub of_shape : AreOfShape shape events
   pub more : rest ≢ []
+
+-- these events are followed by the line of another one
+pub record HasMore (bytes : List ℕ) (events : List Event) : Type 0 where
+  pub shape : Shape
+  pub next : Event
+  pub rest : List ℕ
+  pub text : bytes ≡ trace_text shape (events ++ next ∷ []) ++ rest
+  pub of_shape : AreOfShape shape (events ++ next ∷ [])
 
 -- as many events as a trace may have are followed by something more
 pub record IsTooLong (bytes : List ℕ) : Type 0 where

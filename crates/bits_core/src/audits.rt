@@ -1,5 +1,5 @@
 //! The audit of a recorded history of safe bits.
-ghost use Rattle.std.specs.Prelude.{◌≡◌, ℕ, ◌↔◌, IsTrue, List, MatchOption};
+ghost use Rattle.std.specs.Prelude.{◌≡◌, ℕ, ◌↔◌, IsTrue, List, [], ◌∷◌, ◌++◌, MatchOption, slice_set};
 ghost use Rattle.bits_core.specs.declared.events.Event.{Event};
 ghost use Rattle.bits_core.specs.declared.shapes.Shape.{Shape};
 ghost use Rattle.bits_core.specs.Bits.{doer};
@@ -8,6 +8,8 @@ ghost use Rattle.bits_core.specs.Steps.{FitsOpen, IsInTurn, IsPermitted, MayFoll
 ghost use Rattle.bits_core.specs.Lawful.{IsLawful};
 ghost use Rattle.bits_core.specs.Audit.{IsFaultAfter, IsVerdict};
 ghost use Rattle.bits_core.specs.Marks.{AreMarks, IsInTable};
+ghost use Rattle.bits_core.specs.Memory.{is_flicker};
+ghost use Rattle.bits_core.specs.Seen.{AreSeen, IsSeen, sound_count};
 
 use crate::events::{Access, Act, Bit, Event, Side};
 use crate::marks::Marks;
@@ -68,6 +70,18 @@ pub enum Verdict {
     Lawful,
     /// The event at `place`, counted from 0, is the first that is at fault.
     Fault { place: usize, kind: Kind },
+}
+
+/// What an event of a lawful history finds and leaves.
+#[derive(Clone, Copy, PartialEq, Eq, Debug)]
+pub struct Seen {
+    /// What the event's bit holds just after the event: the value of the last write of it that
+    /// ended, or else its first value.
+    pub held: bool,
+    /// The event ends a read that a write of its bit overlapped, so any answer was permitted.
+    pub overlapped: bool,
+    /// Just after the event one side has a read open, and the other a write of the same bit.
+    pub clashes: bool,
 }
 
 // The side that may do this to the bit.
@@ -155,6 +169,58 @@ pub fn audit_bits(shape: &Shape, events: &[Event]) -> Verdict
             Some(kind) => return Verdict::Fault { place, kind },
             None => marks.record(*event),
         }
+    }
+    Verdict::Lawful
+}
+
+// Whether the event, which may follow, ends a read that a write overlapped.
+fn ends_overlapped(marks: &Marks, event: Event) -> bool
+    requires { IsInTable event.bit }
+    ensures { (shape : Shape) (past : List Event) → AreMarks shape past marks.now → MayFollow shape past event → result ≡ is_flicker past event }
+{
+    match event.act {
+        Act::ReadEnd(_) => marks.settled(event.side, event.bit).is_none(),
+        _ => false,
+    }
+}
+
+// Goes on to the history with an event more, which may follow, and tells what is seen there.
+fn see(marks: &mut Marks, event: Event) -> Seen
+    requires { IsInTable event.bit }
+    ensures marks { (shape : Shape) (past : List Event) → AreMarks shape past marks.old → MayFollow shape past event → AreMarks shape (past ++ event ∷ []) marks.new }
+    ensures seen { (shape : Shape) (past : List Event) → AreMarks shape past marks.old → MayFollow shape past event → IsSeen past event result }
+{
+    let overlapped = ends_overlapped(marks, event);
+    marks.record(event);
+    Seen {
+        held: marks.held(event.bit),
+        overlapped,
+        clashes: marks.clashes(),
+    }
+}
+
+// Tells what is seen at the place, where there is room for it.
+fn tell(seen: &mut [Seen], place: usize, found: Seen)
+    ensures { seen.new ≡ slice_set seen.old place found }
+{
+    if place < seen.len() {
+        seen[place] = found;
+    }
+}
+
+/// The audit of [`audit_bits`], which also tells what is seen at each event before the first that is
+/// at fault, or at each event where none is: in the order of the events, for as many as there is
+/// room for. The rest of the room stays as it was. It takes no memory.
+pub fn audit_bits_into(shape: &Shape, events: &[Event], seen: &mut [Seen]) -> Verdict
+    ensures verdict { IsVerdict shape.now events.now result }
+    ensures seen { AreSeen events.now (sound_count events.now result) seen.old seen.new }
+{
+    let mut marks = Marks::new();
+    for (place, event) in events.iter().enumerate() {
+        if let Some(kind) = fault_of(shape, &marks, *event) {
+            return Verdict::Fault { place, kind };
+        }
+        tell(seen, place, see(&mut marks, *event));
     }
     Verdict::Lawful
 }

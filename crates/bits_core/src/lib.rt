@@ -9,13 +9,15 @@ mod memory;
 mod oracles;
 mod reading;
 mod shapes;
+mod stores;
 mod traces;
 mod writing;
 
-pub use audits::{Kind, Verdict, audit_bits};
+pub use audits::{Kind, Seen, Verdict, audit_bits, audit_bits_into};
 pub use events::{Access, Act, Bit, Event, Side};
 pub use memory::{Memory, MemoryFault};
 pub use oracles::{Always, Flip, Oracle, Tape};
 pub use shapes::{Shape, ShapeFault};
-pub use traces::{EVENT_LIMIT, TraceFault, read_trace};
+pub use stores::{Filled, Store};
+pub use traces::{EVENT_LIMIT, TraceFault, read_trace, read_trace_into};
 pub use writing::write_trace;

@@ -5,8 +5,9 @@ ghost use Rattle.bits_core.specs.declared.events.Event.{Event};
 ghost use Rattle.bits_core.specs.declared.events.Access.TheVariants.{Read};
 ghost use Rattle.bits_core.specs.declared.shapes.Shape.{Shape};
 ghost use Rattle.bits_core.specs.Bits.{same_bit, first_value, value_written};
-ghost use Rattle.bits_core.specs.History.{open_access};
+ghost use Rattle.bits_core.specs.History.{held, open_access};
 ghost use Rattle.bits_core.specs.Steps.{MayFollow};
+ghost use Rattle.bits_core.specs.Seen.{clashes, is_clash};
 ghost use Rattle.bits_core.specs.Marks.{AreMarks, IsInTable, beside, is_read_of, mark_of, place_of, seat_of, settled, value_ended, with_mark, with_value};
 
 use crate::events::{Access, Act, Bit, Event, Side};
@@ -124,6 +125,17 @@ fn is_read_of(bit: Bit, access: Option<Access>) -> bool
     }
 }
 
+// Whether the two accesses are a read and a write of one bit.
+fn is_clash(a: Option<Access>, b: Option<Access>) -> bool
+    ensures { result ≡ is_clash a b }
+{
+    match (a, b) {
+        (Some(Access::Read(read)), Some(Access::Write(written, _)))
+        | (Some(Access::Write(written, _)), Some(Access::Read(read))) => same_bit(read, written),
+        _ => false,
+    }
+}
+
 impl SideMark {
     // The mark where the other side begins a write of the bit.
     fn beside(self, bit: Bit) -> SideMark
@@ -191,6 +203,21 @@ impl Marks {
         } else {
             Some(self.values[place(bit)])
         }
+    }
+
+    /// What the bit holds: the value of the last write of it that ended, or else its first value.
+    pub fn held(&self, bit: Bit) -> bool
+        requires { IsInTable bit }
+        ensures { (shape : Shape) (past : List Event) → AreMarks shape past self.now → result ≡ held bit past }
+    {
+        self.values[place(bit)]
+    }
+
+    /// Whether one side has a read open, and the other a write of the same bit.
+    pub fn clashes(&self) -> bool
+        ensures { (shape : Shape) (past : List Event) → AreMarks shape past self.now → result ≡ clashes past }
+    {
+        is_clash(self.open_access(Side::P), self.open_access(Side::C))
     }
 
     /// Goes on to the history with an event more, which may follow.

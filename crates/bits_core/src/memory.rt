@@ -1,5 +1,5 @@
 //! A memory of safe bits.
-ghost use Rattle.std.specs.Prelude.{◌≡◌, ◌↔◌, ℕ, ◌+◌, Bool, true, false, if◌then◌else◌, OnOk, OnErr, IfOk, IfSome, IsSome, None, length, unwrap_or};
+ghost use Rattle.std.specs.Prelude.{◌≡◌, ◌↔◌, ℕ, ◌+◌, Bool, true, false, if◌then◌else◌, OnOk, OnErr, IfOk, IfSome, IsSome, None, [], length, unwrap_or};
 ghost use Rattle.bits_core.specs.Bits.{reader, writer};
 ghost use Rattle.bits_core.specs.Shape.{belongs};
 ghost use Rattle.bits_core.specs.History.{open_access, is_overlapped, held_at_begin};
@@ -13,6 +13,7 @@ use crate::events::{Access, Act, Bit, Event, Side};
 use crate::marks::Marks;
 use crate::oracles::Oracle;
 use crate::shapes::Shape;
+use crate::stores::Store;
 use std::alloc::{AllocError, AllocFailed, Allocator};
 use std::fmt;
 use std::marker::Model;
@@ -54,27 +55,27 @@ impl<T: Drop> From<AllocFailed<T>> for MemoryFault {
 /// Two sides begin and end reads and writes. A read that a write of its bit overlaps answers
 /// whatever an oracle says; any other read answers the value that the bit held where the read
 /// began. Each history that a memory makes is lawful. What a bit holds and every overlap it knows from
-/// marks, which it keeps up event by event.
+/// marks, which it keeps up event by event. The history is kept in a store of the caller's choice.
 #[derive(Drop)]
-pub struct Memory<A: Allocator> {
+pub struct Memory<S: Store<Event>> {
     shape: Shape,
-    events: Vec<Event, A>,
+    events: S,
     marks: Marks,
     flickers: u64,
 }
 
-impl<A: Allocator> Model for Memory<A> {
+impl<S: Store<Event>> Model for Memory<S> {
     ghost use Rattle.bits_core.specs.Marks.{AreMarks};
     ghost use Rattle.bits_core.specs.Memory.{Recorded, IsRecord};
 
     ghost Value = { Recorded };
 
-    ghost view = { λ m. record { shape = m.shape; events = m.events.items; flickers = m.flickers } };
+    ghost view = { λ m. record { shape = m.shape; events = S.items m.events; flickers = m.flickers } };
 
-    ghost invariant = { λ m. IsRecord m.shape m.events.items m.flickers × AreMarks m.shape m.events.items m.marks };
+    ghost invariant = { λ m. IsRecord m.shape (S.items m.events) m.flickers × AreMarks m.shape (S.items m.events) m.marks };
 }
 
-impl<A: Allocator> fmt::Debug for Memory<A> {
+impl<S: Store<Event>> fmt::Debug for Memory<S> {
     /// The shape, the history and the number of flickers.
     fn fmt<W: fmt::Write>(&self, f: &mut fmt::Formatter<W>) -> fmt::Result {
         let shape = self.shape;
@@ -87,14 +88,24 @@ impl<A: Allocator> fmt::Debug for Memory<A> {
     }
 }
 
-impl<A: Allocator> Memory<A> {
+impl<A: Allocator> Memory<Vec<Event, A>> {
     /// A memory with no event yet. It takes memory from this allocator, and none at first.
-    pub fn new(alloc: A, shape: Shape) -> Memory<A>
+    pub fn new(alloc: A, shape: Shape) -> Memory<Vec<Event, A>>
+        ensures { result ≡ unused shape }
+    {
+        Memory::over(Vec::new(alloc), shape)
+    }
+}
+
+impl<S: Store<Event>> Memory<S> {
+    /// A memory with no event yet, whose history grows in this store, which is empty.
+    pub fn over(events: S, shape: Shape) -> Memory<S>
+        requires { S.items events ≡ [] }
         ensures { result ≡ unused shape }
     {
         Memory {
             shape,
-            events: Vec::new(alloc),
+            events,
             marks: Marks::new(),
             flickers: 0,
         }
@@ -117,10 +128,10 @@ impl<A: Allocator> Memory<A> {
     }
 
     /// The history. It takes no memory.
-    pub fn into_events(self) -> Vec<Event, A>
-        ensures events { result.items ≡ self.events }
+    pub fn into_events(self) -> S
+        ensures events { S.items result ≡ self.events }
         ensures lawful { IsLawful self.shape self.events }
-        ensures of_shape { AreOfShape self.shape result.items }
+        ensures of_shape { AreOfShape self.shape (S.items result) }
     {
         let Memory {
             shape: _,
@@ -155,7 +166,8 @@ impl<A: Allocator> Memory<A> {
         ensures err { OnErr result (self.new ≡ self.old) }
     {
         let event = Event { side, bit, act };
-        self.events.push(event)?;
+        self.events.reserve()?;
+        self.events.add(event);
         self.marks.record(event);
         Ok(())
     }
@@ -218,7 +230,7 @@ impl<A: Allocator> Memory<A> {
     {
         match self.pending(side) {
             Some(Access::Read(bit)) => {
-                self.events.reserve(1)?;
+                self.events.reserve()?;
                 let settled = self.marks.settled(side, bit);
                 let answer = read_answer(settled, oracle);
                 let event = Event {
@@ -226,18 +238,22 @@ impl<A: Allocator> Memory<A> {
                     bit,
                     act: Act::ReadEnd(answer),
                 };
-                match self.events.push(event) {
-                    Ok(()) => {
-                        self.marks.record(event);
-                        self.flickers += u64::from(settled.is_none());
-                        Ok(answer)
-                    }
-                    Err(_) => unreachable!(),
-                }
+                self.events.add(event);
+                self.marks.record(event);
+                event_count(&self.events);
+                self.flickers += u64::from(settled.is_none());
+                Ok(answer)
             }
             _ => unreachable!(),
         }
     }
+}
+
+// How many events there are; so they are fewer than a count can tell.
+fn event_count<S: Store<Event>>(events: &S) -> usize
+    ensures { result ≡ length (S.items events.now) }
+{
+    events.as_slice().len()
 }
 
 // What a read answers: what is settled, and without that what the oracle says.

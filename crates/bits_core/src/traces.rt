@@ -1,12 +1,13 @@
 //! Reading the text of a trace.
-ghost use Rattle.std.specs.Prelude.{◌≡◌, ◌⊎◌, List, IfOk, IfErr, MatchOption, MatchResult};
+ghost use Rattle.std.specs.Prelude.{◌≡◌, ◌<◌, ◌≤◌, ◌⊎◌, List, [], IfOk, IfErr, MatchOption, MatchResult, length, take};
 ghost use Rattle.bits_core.specs.declared.events.Event.{Event};
 ghost use Rattle.bits_core.specs.declared.shapes.Shape.{Shape};
-ghost use Rattle.bits_core.specs.Trace.{BeginsWithEvent, BeginsWithShape, HasNoEvent, IsTrace, IsTraceFault};
+ghost use Rattle.bits_core.specs.Trace.{BeginsWithEvent, BeginsWithShape, HasMore, HasNoEvent, IsTrace, IsTraceFault};
 
 use crate::events::Event;
 use crate::reading::{event_at, shape_at};
 use crate::shapes::{Shape, ShapeFault};
+use crate::stores::{Filled, Store};
 use std::alloc::{AllocError, AllocFailed, Allocator};
 use thiserror::Error;
 
@@ -98,24 +99,27 @@ fn read_event<'a>(shape: &Shape, bytes: &'a [u8]) -> Option<(Event, &'a [u8])>
     }
 }
 
-// The shape of the first line and the event of each further line, or the first fault.
-fn read_lines<A: Allocator>(alloc: A, bytes: &[u8]) -> Result<(Shape, Vec<Event, A>), TraceFault>
-    ensures read { IfOk result (λ trace. IsTrace bytes.now trace.0 trace.1.items) }
-    ensures refused { IfErr result (λ e. (e ≡ TraceFault.OutOfMemory) ⊎ IsTraceFault bytes.now e) }
+// The shape of the first line, and the event of each further line in an empty store, or the first fault.
+fn read_lines<S: Store<Event>>(store: &mut S, bytes: &[u8]) -> Result<Shape, TraceFault>
+    requires empty { S.items store.old ≡ [] }
+    ensures read { IfOk result (λ shape. IsTrace bytes.now shape (S.items store.new)) }
+    ensures refused { IfErr result (λ e. ((e ≡ TraceFault.OutOfMemory) × S.refuses store.new × HasMore bytes.now (S.items store.new)) ⊎ IsTraceFault bytes.now e) }
+    ensures slots { (first : S) → S.same_slots first store.old → S.same_slots first store.new }
 {
     let (shape, mut rest) = read_shape(bytes)?;
-    let mut events = Vec::new(alloc);
     while !rest.is_empty() {
-        if events.len() == EVENT_LIMIT {
+        let count = store.as_slice().len();
+        if count == EVENT_LIMIT {
             return Err(TraceFault::TooLong);
         }
         let Some((event, others)) = read_event(&shape, rest) else {
-            return Err(TraceFault::BadLine(events.len() as u64 + 2));
+            return Err(TraceFault::BadLine(count as u64 + 2));
         };
-        events.push(event)?;
+        store.reserve()?;
+        store.add(event);
         rest = others;
     }
-    Ok((shape, events))
+    Ok(shape)
 }
 
 /// Reads a trace: the shape of line 1, and the event of each further line, all of the bytes.
@@ -137,5 +141,40 @@ pub fn read_trace<A: Allocator>(
     // The fault is the first one.
     ensures refused { IfErr result (λ e. (e ≡ TraceFault.OutOfMemory) ⊎ IsTraceFault bytes.now e) }
 {
-    read_lines(alloc, bytes)
+    let mut events = Vec::new(alloc);
+    let shape = read_lines(&mut events, bytes)?;
+    Ok((shape, events))
+}
+
+// The shape of the first line, and the event of each further line in an empty list of slots, or the first fault.
+fn read_filled(filled: &mut Filled<'_, Event>, bytes: &[u8]) -> Result<Shape, TraceFault>
+    requires empty { filled.old.used ≡ 0 }
+    ensures read { IfOk result (λ shape. IsTrace bytes.now shape (take filled.new.used filled.new.slots.now)) }
+    ensures only { (shape : Shape) (all : List Event) → IsTrace bytes.now shape all
+        → MatchResult result (λ s. (s ≡ shape) × (take filled.new.used filled.new.slots.now ≡ all)) (λ e. (e ≡ TraceFault.OutOfMemory) × (length filled.new.slots.now < length all)) }
+    ensures refused { IfErr result (λ e. (e ≡ TraceFault.OutOfMemory) ⊎ IsTraceFault bytes.now e) }
+    ensures slots { filled.new.slots.ghost_name ≡ filled.old.slots.ghost_name }
+{
+    read_lines(filled, bytes)
+}
+
+/// Reads a trace as [`read_trace`] does, into the first slots of a slice of the caller's, and tells
+/// the shape and how many events there are. It takes no memory.
+///
+/// `OutOfMemory` tells that the slice has no slot left for an event whose line is right. Whatever
+/// fault is told, the first slots may hold the events of the lines before it.
+pub fn read_trace_into(bytes: &[u8], events: &mut [Event]) -> Result<(Shape, usize), TraceFault>
+    // What is read is a trace.
+    ensures read { IfOk result (λ trace. IsTrace bytes.now trace.0 (take trace.1 events.new)) }
+    // There are no more events than slots.
+    ensures within { IfOk result (λ trace. trace.1 ≤ length events.new) }
+    // What is a trace is read, unless it has more events than there are slots.
+    ensures only { (shape : Shape) (all : List Event) → IsTrace bytes.now shape all
+        → MatchResult result (λ trace. (trace.0 ≡ shape) × (take trace.1 events.new ≡ all)) (λ e. (e ≡ TraceFault.OutOfMemory) × (length events.new < length all)) }
+    // The fault is the first one.
+    ensures refused { IfErr result (λ e. (e ≡ TraceFault.OutOfMemory) ⊎ IsTraceFault bytes.now e) }
+{
+    let mut filled = Filled::new(events);
+    let shape = read_filled(&mut filled, bytes)?;
+    Ok((shape, filled.len()))
 }

@@ -5,3 +5,5 @@
 mod memories;
 #[cfg(test)]
 mod shapes;
+#[cfg(test)]
+mod stores;

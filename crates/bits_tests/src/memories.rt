@@ -1,15 +1,15 @@
 use bits_core::{
-    Access, Always, Bit, Flip, Memory, MemoryFault, Oracle, Shape, Side, Tape, TraceFault, Verdict,
-    audit_bits, read_trace, write_trace,
+    Access, Always, Bit, Event, Flip, Memory, MemoryFault, Oracle, Shape, Side, Store, Tape,
+    TraceFault, Verdict, audit_bits, read_trace, write_trace,
 };
 use refusing::Refusing;
-use std::alloc::{AllocGlobal, Allocator};
+use std::alloc::AllocGlobal;
 use std::process::Abort;
 use std::test::Fail;
 
 // What a side is to do: to end the access that it has open, or else to begin one of the bit, which
 // writes the value where the side is the bit's writer.
-type Choice = (Side, Bit, bool);
+pub type Choice = (Side, Bit, bool);
 
 // What a side is to do, the answer where that ends a read, and the access that it has open then.
 type Step = (Side, bool, Option<bool>, Option<Access>);
@@ -17,8 +17,8 @@ type Step = (Side, bool, Option<bool>, Option<Access>);
 const S0: Bit = Bit::S(0);
 
 // The choice, and the answer where it ends a read.
-fn make<A: Allocator, O: Oracle>(
-    memory: &mut Memory<A>,
+pub fn make<S: Store<Event>, O: Oracle>(
+    memory: &mut Memory<S>,
     oracle: &mut O,
     choice: Choice,
 ) -> Result<Option<bool>, MemoryFault> {
@@ -35,9 +35,9 @@ fn make<A: Allocator, O: Oracle>(
 }
 
 // So many events and flickers; the history is lawful, and the same once it was written and read again.
-fn expect_history<A: Allocator>(
+fn expect_history<S: Store<Event>>(
     rt: &(impl Abort + AllocGlobal),
-    memory: &Memory<A>,
+    memory: &Memory<S>,
     counts: (usize, u64),
 ) -> Result<(), Fail> {
     let shape = memory.shape();
@@ -52,9 +52,9 @@ fn expect_history<A: Allocator>(
 }
 
 // The text of the history that a memory hands out.
-fn expect_text<A: Allocator>(
+fn expect_text<S: Store<Event>>(
     rt: &(impl Abort + AllocGlobal),
-    memory: Memory<A>,
+    memory: Memory<S>,
     wanted: &str,
 ) -> Result<(), Fail> {
     let shape = memory.shape();
@@ -173,7 +173,7 @@ fn a_read_after_an_overlapped_one_does_not_ask(rt: HostRuntime) -> Result<(), Fa
 }
 
 // One event after the other. The events of a history grow at some of them.
-const CHOICES: [Choice; 18] = [
+pub const CHOICES: [Choice; 18] = [
     (Side::P, S0, false),
     (Side::C, S0, false),
     (Side::C, S0, false),
@@ -194,15 +194,15 @@ const CHOICES: [Choice; 18] = [
     (Side::C, Bit::R(1), true),
 ];
 
-fn expect_true(rt: &impl Abort, holds: bool) {
+pub fn expect_true(rt: &impl Abort, holds: bool) {
     assert!(rt; holds);
 }
 
 // The memory and its oracle are as the others.
-fn expect_same<A: Allocator, B: Allocator>(
+pub fn expect_same<S: Store<Event>, T: Store<Event>>(
     rt: &impl Abort,
-    memory: &Memory<A>,
-    other: &Memory<B>,
+    memory: &Memory<S>,
+    other: &Memory<T>,
     oracles: (Flip, Flip),
 ) {
     assert!(rt; memory.events() == other.events());
@@ -213,7 +213,7 @@ fn expect_same<A: Allocator, B: Allocator>(
 }
 
 // Which of the four calls the choice makes.
-fn call_of<A: Allocator>(memory: &Memory<A>, choice: Choice) -> usize {
+fn call_of<S: Store<Event>>(memory: &Memory<S>, choice: Choice) -> usize {
     match memory.pending(choice.0) {
         Some(Access::Read(_)) => 0,
         Some(Access::Write(_, _)) => 1,
@@ -262,7 +262,7 @@ fn each_refused_growth_changes_nothing(rt: HostRuntime) -> Result<(), Fail> {
 }
 
 // So many choices, each event's number from the one before, over all kinds of bits and both sides.
-fn make_many<A: Allocator>(memory: &mut Memory<A>, events: u64) -> Result<(), MemoryFault> {
+fn make_many<S: Store<Event>>(memory: &mut Memory<S>, events: u64) -> Result<(), MemoryFault> {
     let mut oracle = Flip::new();
     let bits = [
         Bit::S(0),

@@ -1,13 +1,12 @@
 //! For the bench: makes 10,000 events by a memory of safe bits, and prints how many there are.
 #![tactic(auto)]
 
-use bits_core::{Access, Bit, Flip, Memory, MemoryFault, Oracle, Shape, Side};
-use std::alloc::Allocator;
+use bits_core::{Access, Bit, Event, Flip, Memory, MemoryFault, Oracle, Shape, Side, Store};
 use std::process::ExitCode;
 
 /// Makes the side's next event: it ends what it has open, or else begins an access of the bit.
-fn step<A: Allocator, O: Oracle>(
-    memory: &mut Memory<A>,
+fn step<S: Store<Event>, O: Oracle>(
+    memory: &mut Memory<S>,
     side: Side,
     bit: Bit,
     value: bool,
@@ -30,7 +29,7 @@ fn step<A: Allocator, O: Oracle>(
 }
 
 /// The producer writes the bits s in turn, and the consumer reads them under its writes.
-fn work<A: Allocator>(memory: &mut Memory<A>, rounds: u32) -> Result<(), MemoryFault> {
+fn work<S: Store<Event>>(memory: &mut Memory<S>, rounds: u32) -> Result<(), MemoryFault> {
     let mut oracle = Flip::new();
     for round in 0..rounds {
         let bit = Bit::S((round % 3) as u8);

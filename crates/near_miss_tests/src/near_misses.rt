@@ -1,18 +1,17 @@
 // Three rings that are nearly right. Each makes a lawful history of bits, so safe bits are not to blame.
 use bits_core::{
-    Access, Always, Bit, Memory, MemoryFault, Oracle, Shape, Side, Tape, Verdict, audit_bits,
-    write_trace,
+    Access, Always, Bit, Event, Memory, MemoryFault, Oracle, Shape, Side, Store, Tape, Verdict,
+    audit_bits, write_trace,
 };
 use register_core::{UnaryScan, UnaryWriter, WordWriter};
 use ring_core::{Consumer, Producer, PutReply, TakeReply};
 use ring_steps::{Step, next_event};
-use std::alloc::Allocator;
 use std::process::Abort;
 use std::test::Fail;
 
 // The whole of the access that is due, if there is one: its answer.
-fn whole_access<A: Allocator, O: Oracle>(
-    memory: &mut Memory<A>,
+fn whole_access<S: Store<Event>, O: Oracle>(
+    memory: &mut Memory<S>,
     side: Side,
     due: Option<Access>,
     oracle: &mut O,
@@ -25,8 +24,8 @@ fn whole_access<A: Allocator, O: Oracle>(
 }
 
 // A scan by a side, and its value.
-fn scan<A: Allocator>(
-    memory: &mut Memory<A>,
+fn scan<S: Store<Event>>(
+    memory: &mut Memory<S>,
     shape: &Shape,
     side: Side,
 ) -> Result<Option<u64>, MemoryFault> {
@@ -43,8 +42,8 @@ fn scan<A: Allocator>(
 }
 
 // So many bit writes of the producer's count.
-fn write_bits<A: Allocator>(
-    memory: &mut Memory<A>,
+fn write_bits<S: Store<Event>>(
+    memory: &mut Memory<S>,
     count: &mut UnaryWriter,
     writes: u64,
 ) -> Result<(), MemoryFault> {
@@ -59,9 +58,9 @@ fn write_bits<A: Allocator>(
 }
 
 // The word write of an item of one digit.
-fn write_digit<A: Allocator>(
+fn write_digit<S: Store<Event>>(
     rt: &impl Abort,
-    memory: &mut Memory<A>,
+    memory: &mut Memory<S>,
     shape: &Shape,
     cell: u64,
     item: bool,
@@ -80,8 +79,8 @@ fn write_digit<A: Allocator>(
 }
 
 // A whole take, of at most 20 accesses.
-fn take<A: Allocator, O: Oracle>(
-    memory: &mut Memory<A>,
+fn take<S: Store<Event>, O: Oracle>(
+    memory: &mut Memory<S>,
     consumer: &mut Consumer,
     oracle: &mut O,
 ) -> Result<Option<TakeReply>, MemoryFault> {
@@ -104,9 +103,9 @@ fn expect_due(rt: &impl Abort, due: Option<Access>, wanted: Option<Access>) {
 }
 
 // A scan by a side gives this value.
-fn expect_scan<A: Allocator>(
+fn expect_scan<S: Store<Event>>(
     rt: &impl Abort,
-    memory: &mut Memory<A>,
+    memory: &mut Memory<S>,
     shape: &Shape,
     side: Side,
     value: u64,
@@ -116,9 +115,9 @@ fn expect_scan<A: Allocator>(
     Ok(())
 }
 
-fn expect_lawful_trace<A: Allocator>(
+fn expect_lawful_trace<S: Store<Event>>(
     rt: &(impl Abort + AllocGlobal),
-    memory: &Memory<A>,
+    memory: &Memory<S>,
     trace: &str,
 ) -> Result<(), Fail> {
     assert_eq!(rt;

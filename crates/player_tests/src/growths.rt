@@ -1,23 +1,23 @@
 use crate::scripts::{Asked, ONE, Wanted, expect_report, text_of};
-use bits_core::Side;
+use bits_core::{Event, Side, Store};
 use refusing::Refusing;
 use ring_player::{PlayFault, Script, World, play};
-use std::alloc::{AllocGlobal, Allocator, Global};
+use std::alloc::{AllocGlobal, Global};
 use std::process::Abort;
 use std::test::Fail;
 
 // Wrap under an open count write.
-const WRAP: Asked<'static> = ("[1,0,1]", 3, false, "P8C10P10C12P9C14", "01");
+pub const WRAP: Asked<'static> = ("[1,0,1]", 3, false, "P8C10P10C12P9C14", "01");
 
-const WRAPPED: Wanted<'static> = (63, &[1, 0, 1], &[1, 0, 1], false, [0, 1, 2]);
+pub const WRAPPED: Wanted<'static> = (63, &[1, 0, 1], &[1, 0, 1], false, [0, 1, 2]);
 
 // As many allocations as none makes.
 const MANY: u64 = 1_000_000;
 
 // What is seen of a world: its events, items put, items taken; the last one taken; told; full, empty, flickers.
-type Seen = ([usize; 3], Option<u64>, bool, [u64; 3]);
+pub type Seen = ([usize; 3], Option<u64>, bool, [u64; 3]);
 
-fn seen<A: Allocator>(world: &World<A>) -> Seen {
+pub fn seen<E: Store<Event>, T: Store<u64>>(world: &World<E, T>) -> Seen {
     (
         [
             world.history().len(),
@@ -32,10 +32,10 @@ fn seen<A: Allocator>(world: &World<A>) -> Seen {
 
 // A step whose growth is refused leaves the world as it was, and is then made again.
 // Answers whether it was refused.
-fn step_again(
+fn step_again<E: Store<Event>, T: Store<u64>>(
     rt: &impl Abort,
     alloc: &Refusing<Global>,
-    world: &mut World<&Refusing<Global>>,
+    world: &mut World<E, T>,
     side: Side,
 ) -> Result<bool, Fail> {
     let before = seen(world);

@@ -7,3 +7,5 @@ mod growths;
 mod plays;
 #[cfg(test)]
 mod scripts;
+#[cfg(test)]
+mod stores;

@@ -1,7 +1,7 @@
 use crate::scripts::{Asked, Case, ONE, expect_reports, text_of};
-use bits_core::{Act, Bit, Event, Side};
+use bits_core::{Act, Bit, Event, Side, Store};
 use ring_player::{Script, World, play};
-use std::alloc::{AllocGlobal, Global};
+use std::alloc::AllocGlobal;
 use std::process::Abort;
 use std::test::Fail;
 
@@ -213,9 +213,9 @@ fn calls_have_their_events(rt: HostRuntime) -> Result<(), Fail> {
 }
 
 // The next steps of a side: so many that add an event, and then two that add none.
-fn expect_steps(
+fn expect_steps<E: Store<Event>, T: Store<u64>>(
     rt: &(impl Abort + AllocGlobal),
-    world: &mut World<Global>,
+    world: &mut World<E, T>,
     side: Side,
     count: usize,
 ) -> Result<(), Fail> {

@@ -1,5 +1,5 @@
 //! Scripts, and what their reports say.
-use bits_core::{Verdict, audit_bits};
+use bits_core::{Event, Store, Verdict, audit_bits};
 use ring_player::{Report, Script};
 use std::alloc::{AllocGlobal, Allocator, Global};
 use std::process::Abort;
@@ -33,15 +33,15 @@ pub fn text_of(alloc: Global, shape: &Numbers, asked: &Asked) -> Result<String, 
 }
 
 /// The report says what is wanted of it, and its history is lawful.
-pub fn expect_report<A: Allocator>(
+pub fn expect_report<A: Allocator, E: Store<Event>, T: Store<u64>>(
     rt: &impl Abort,
     name: &str,
     script: &Script<A>,
-    report: &Report<A>,
+    report: &Report<E, T>,
     wanted: &Wanted,
 ) {
     let (events, put, taken, told, counts) = *wanted;
-    assert_eq!(rt; report.history.len(), events, "events of {name}");
+    assert_eq!(rt; report.history.as_slice().len(), events, "events of {name}");
     assert!(rt; report.put == put, "items put of {name}");
     assert!(rt; report.taken.as_slice() == taken, "items taken of {name}");
     assert_eq!(rt; report.told, told, "told of {name}");

@@ -1,9 +1,10 @@
 //! One form for all machines, and what tests expect of them.
 ghost use Rattle.std.specs.Prelude.{◌≡◌};
 
-use bits_core::{Access, Memory, MemoryFault, Oracle, Shape, Side, Verdict, audit_bits};
+use bits_core::{
+    Access, Event, Memory, MemoryFault, Oracle, Shape, Side, Store, Verdict, audit_bits,
+};
 use register_core::{BitWriter, UnaryScan, UnaryWriter, WordReader, WordWriter};
-use std::alloc::Allocator;
 use std::process::Abort;
 
 /// A machine of one side: the access that is due, and its answer.
@@ -100,8 +101,8 @@ impl Machine for Count {
 
 /// The side's next event: the end of the access that it has open, or the begin of the one that is due.
 /// True where there was one.
-pub fn step<A: Allocator, M: Machine, O: Oracle>(
-    memory: &mut Memory<A>,
+pub fn step<S: Store<Event>, M: Machine, O: Oracle>(
+    memory: &mut Memory<S>,
     side: Side,
     machine: &mut M,
     oracle: &mut O,
@@ -133,8 +134,8 @@ pub fn step<A: Allocator, M: Machine, O: Oracle>(
 }
 
 /// So many of these steps, or until there is none.
-pub fn steps<A: Allocator, M: Machine, O: Oracle>(
-    memory: &mut Memory<A>,
+pub fn steps<S: Store<Event>, M: Machine, O: Oracle>(
+    memory: &mut Memory<S>,
     side: Side,
     machine: &mut M,
     oracle: &mut O,
@@ -148,9 +149,9 @@ pub fn steps<A: Allocator, M: Machine, O: Oracle>(
     Ok(())
 }
 
-pub fn expect_lawful<A: Allocator>(
+pub fn expect_lawful<S: Store<Event>>(
     rt: &impl Abort,
-    memory: &Memory<A>,
+    memory: &Memory<S>,
     events: usize,
     flickers: u64,
 ) {

@@ -1,9 +1,10 @@
 use crate::driving::{
     Count, Machine, expect_due, expect_lawful, expect_true, expect_value, step, steps,
 };
-use bits_core::{Access, Always, Bit, Flip, Memory, MemoryFault, Oracle, Shape, Side};
+use bits_core::{
+    Access, Always, Bit, Event, Flip, Memory, MemoryFault, Oracle, Shape, Side, Store,
+};
 use register_core::{BitWriter, UnaryScan, WordReader, WordWriter};
-use std::alloc::Allocator;
 use std::process::Abort;
 use std::test::Fail;
 
@@ -81,9 +82,9 @@ fn is_value_of(value: u64, first: usize, last: usize) -> bool {
 
 // A scan while values are written, by a schedule that the seed makes: it gives the value of a write whose
 // number lies from those ended at its begin to those begun at its end.
-fn expect_regular_scans<A: Allocator, O: Oracle>(
+fn expect_regular_scans<S: Store<Event>, O: Oracle>(
     rt: &impl Abort,
-    memory: &mut Memory<A>,
+    memory: &mut Memory<S>,
     oracle: &mut O,
     seed: u64,
 ) -> Result<u64, Fail> {
@@ -150,9 +151,9 @@ fn scans_under_writes_are_regular(rt: HostRuntime) -> Result<(), Fail> {
 }
 
 // A whole scan, with no other step in between, gives the value.
-fn expect_scanned<A: Allocator, O: Oracle>(
+fn expect_scanned<S: Store<Event>, O: Oracle>(
     rt: &impl Abort,
-    memory: &mut Memory<A>,
+    memory: &mut Memory<S>,
     oracle: &mut O,
     value: u64,
 ) -> Result<(), MemoryFault> {

@@ -1,5 +1,5 @@
 -- What a step of one side leaves of the world.
-use Rattle.std.proofs.Common.{◌≡◌, ◌⊎◌, inl, inr, ℕ, ◌+◌, ◌<◌, Bool, true, false, Option, Some, None, Result, Ok, Err, List, [], ◌∷◌, ◌++◌, length, take, append_assoc, append-nil, refl, sym, ap, subst, ◌∙◌, arith}
+use Rattle.std.proofs.Common.{◌≡◌, ◌⊎◌, inl, inr, ℕ, ◌+◌, ◌-◌, ◌<◌, min, Bool, true, false, Option, Some, None, Result, Ok, Err, List, [], ◌∷◌, ◌++◌, length, take, append_assoc, append-nil, refl, sym, ap, subst, ◌∙◌, arith}
 use Rattle.std.specs.Prelude.{if◌then◌else◌, IfOk, OnErr, OnOk, ◌↔◌}
 use Rattle.bits_core.specs.declared.events.Side.{Side}
 use Rattle.bits_core.specs.declared.events.Side.TheVariants.{P, C}
@@ -16,7 +16,9 @@ use Rattle.bits_core.specs.Oracle.{turn}
 use Rattle.ring_player.specs.Actors.{IsAtTurn, IsMove, IsPlaying, so_far}
 use Rattle.ring_player.specs.Plays.{AreInTurn, AreMoves, IsDone, IsPlayed, IsProgram, Plays, sides}
 use Rattle.std.specs.Prelude.{replicate, slice_index_or}
-use Rattle.std.proofs.lemmas.List.{take_more}
+use Rattle.std.proofs.lemmas.Bool.{cases_lt}
+use Rattle.std.proofs.lemmas.List.{length-append, length-replicate, take_all, take_more, take-append-le, take-replicate}
+use Rattle.std.proofs.Math.Seq.{take-append-add}
 use Rattle.ring_script.specs.declared.schedules.Run.{Run}
 use Rattle.ring_script.specs.Schedule.{spelled}
 use Rattle.ring_script.specs.Script.{Content}
@@ -209,6 +211,30 @@ spelled-more xs i d l =
 pub spelled-none : spelled [] ≡ []
 unfolding spelled
 spelled-none = refl
+
+-- of the first so many letters: those of the first runs, and of one more run, where so many are left
+pub take-none : (k : ℕ) → take k (spelled []) ≡ []
+take-none k = ap (λ (l : List Side). take k l) spelled-none ∙ take_all k [] (omega arith)
+
+take_run : (left c : ℕ) (s : Side) → take left (replicate c s) ≡ replicate (min c left) s
+take_run left c s = elim (cases_lt c left) [
+  | inl h ↦ take_all left (replicate c s) (omega (arith, h, length-replicate c s)) ∙ ap (λ (n : ℕ). replicate n s) (omega (arith, h))
+  | inr h ↦ take-replicate left c s h ∙ ap (λ (n : ℕ). replicate n s) (omega (arith, h))
+]
+
+pub take-more : (k : ℕ) (xs : List Side) (c : ℕ) (s : Side) (left count : ℕ) → left ≡ k - length xs → count ≡ min c left → take k (xs ++ replicate c s) ≡ take k xs ++ replicate count s
+take-more k xs c s left count l e = elim (cases_lt (length xs) k) [
+  | inl h ↦
+      let all : take k xs ≡ xs = take_all k xs (omega (arith, h)) in
+      let rest : take left (replicate c s) ≡ replicate count s = take_run left c s ∙ ap (λ (n : ℕ). replicate n s) (sym e) in
+      ap (λ (n : ℕ). take n (xs ++ replicate c s)) (omega (arith, h, l)) ∙ take-append-add xs (replicate c s) left ∙ ap (λ (t : List Side). xs ++ t) rest ∙ ap (λ (t : List Side). t ++ replicate count s) (sym all)
+  | inr h ↦
+      let none : 0 ≡ count = omega (arith, h, l, e) in
+      take-append-le k xs (replicate c s) h ∙ sym (append-nil (take k xs)) ∙ ap (λ (n : ℕ). take k xs ++ replicate n s) none
+]
+
+pub left-more : (k : ℕ) (xs : List Side) (c : ℕ) (s : Side) (left count : ℕ) → left ≡ k - length xs → count ≡ min c left → left - count ≡ k - length (xs ++ replicate c s)
+left-more k xs c s left count l e = omega (arith, length-append xs (replicate c s), length-replicate c s)
 
 pub ok_is : {A E : Type 0} {G : Type 0} (r : Result A E) (a : A) → r ≡ Ok a → OnOk r G → G
 ok_is (Ok b) a e g = g

@@ -9,9 +9,8 @@ ghost use Rattle.ring_player.specs.Plays.{IsProgram};
 
 use crate::faults::PlayFault;
 use bits_core::laws::{open_changes, own_changes};
-use bits_core::{Access, Memory, Oracle, Side};
+use bits_core::{Access, Event, Memory, Oracle, Side, Store};
 use ring_core::laws::last_bit_is_one;
-use std::alloc::Allocator;
 
 /// What makes the calls of one side: its machine, and what the script asks of it.
 pub trait Actor {
@@ -75,7 +74,11 @@ pub trait Actor {
 }
 
 /// Begins the access.
-fn begin<M: Allocator>(memory: &mut Memory<M>, side: Side, access: Access) -> Result<(), PlayFault>
+fn begin<M: Store<Event>>(
+    memory: &mut Memory<M>,
+    side: Side,
+    access: Access,
+) -> Result<(), PlayFault>
     requires right { IsOpenRight memory.old.shape side access }
     requires none_open { open_access side memory.old.events ≡ None }
     ensures shape { memory.new.shape ≡ memory.old.shape }
@@ -90,14 +93,14 @@ fn begin<M: Allocator>(memory: &mut Memory<M>, side: Side, access: Access) -> Re
 }
 
 /// How many events the memory has recorded; so they are fewer than a count can tell.
-fn event_count<M: Allocator>(memory: &Memory<M>) -> usize
+fn event_count<M: Store<Event>>(memory: &Memory<M>) -> usize
     ensures { result ≡ length memory.now.events }
 {
     memory.events().len()
 }
 
 /// Ends the read that the side has open.
-fn end_read<M: Allocator, A: Actor, O: Oracle>(
+fn end_read<M: Store<Event>, A: Actor, O: Oracle>(
     memory: &mut Memory<M>,
     actor: &mut A,
     oracle: &mut O,
@@ -130,7 +133,7 @@ fn end_read<M: Allocator, A: Actor, O: Oracle>(
 }
 
 /// Ends the write that the side has open.
-fn end_write<M: Allocator, A: Actor>(
+fn end_write<M: Store<Event>, A: Actor>(
     memory: &mut Memory<M>,
     actor: &mut A,
     side: Side,
@@ -156,7 +159,7 @@ fn end_write<M: Allocator, A: Actor>(
 }
 
 /// Begins the next access of the side, if it is not done.
-fn go_on<M: Allocator, A: Actor>(
+fn go_on<M: Store<Event>, A: Actor>(
     memory: &mut Memory<M>,
     actor: &mut A,
     side: Side,
@@ -186,7 +189,7 @@ fn go_on<M: Allocator, A: Actor>(
 }
 
 /// One step of the side: it ends the access that it has open, or begins the next one, or is done.
-pub fn advance<M: Allocator, A: Actor, O: Oracle>(
+pub fn advance<M: Store<Event>, A: Actor, O: Oracle>(
     memory: &mut Memory<M>,
     actor: &mut A,
     oracle: &mut O,

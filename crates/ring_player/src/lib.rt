@@ -9,5 +9,5 @@ mod taking;
 mod worlds;
 
 pub use faults::PlayFault;
-pub use ring_script::{Field, ITEM_LIMIT, LETTER_LIMIT, Script, ScriptFault};
-pub use worlds::{Report, World, play};
+pub use ring_script::{Field, ITEM_LIMIT, LETTER_LIMIT, Script, ScriptFault, ScriptRef};
+pub use worlds::{Report, World, play, play_first};

@@ -8,14 +8,14 @@ ghost use Rattle.ring_core.specs.ProducerState.{due_put};
 ghost use Rattle.ring_player.specs.Actors.{HasWritten, IsPutting, digits_by, full_in_reply, put_once, so_far, stored_in_reply};
 ghost use Rattle.ring_player.specs.SoFar.{PutSoFar};
 ghost use Rattle.ring_player.specs.Plays.{IsDoneProducer};
+ghost use Rattle.ring_script.specs.Borrowed.{content_of};
 
 use crate::actors::Actor;
 use crate::faults::PlayFault;
 use bits_core::{Access, Bit};
 use ring_core::laws::{calls_are_first, counts_are_written};
 use ring_core::{BatchReply, Producer};
-use ring_script::Script;
-use std::alloc::Allocator;
+use ring_script::ScriptRef;
 
 /// The next items, at most so many.
 fn next_items(items: &[u64], stored: usize, most: u64) -> &[u64]
@@ -72,22 +72,22 @@ fn put_by(access: Option<Access>, written: u64, put: u64) -> u64
 
 /// Puts the items of a script in order, and then closes where it says so.
 #[derive(Drop)]
-pub struct PutActor<'a, A: Allocator> {
-    script: &'a Script<A>,
+pub struct PutActor<'a> {
+    script: ScriptRef<'a>,
     producer: Producer,
     stored: usize,
     full: u64,
     digits: u64,
     put: u64,
-    pub ghost same_shape: { producer.shape ≡ script.now.shape },
+    pub ghost same_shape: { producer.shape ≡ (content_of script).shape },
 }
 
-impl<'a, A: Allocator> PutActor<'a, A> {
+impl<'a> PutActor<'a> {
     /// An actor that has made no access.
-    pub fn new(script: &'a Script<A>) -> Self
-        ensures script { result.script.now ≡ script.now }
-        ensures stands { IsPutting script.now result.producer (record { stored = result.stored; full = result.full }) [] None }
-        ensures written { HasWritten script.now result.digits result.put [] None }
+    pub fn new(script: ScriptRef<'a>) -> Self
+        ensures script { content_of result.script ≡ content_of script.entry }
+        ensures stands { IsPutting (content_of script.entry) result.producer (record { stored = result.stored; full = result.full }) [] None }
+        ensures written { HasWritten (content_of script.entry) result.digits result.put [] None }
     {
         PutActor {
             script,
@@ -101,7 +101,7 @@ impl<'a, A: Allocator> PutActor<'a, A> {
 
     /// The items put so far: those whose count write has begun.
     pub fn put(&self) -> &'a [u64]
-        ensures { result.now ≡ take self.now.put self.now.script.now.items }
+        ensures { result.now ≡ take self.now.put (content_of self.now.script).items }
     {
         let items = self.script.items();
         if self.put < items.len() as u64 {
@@ -120,7 +120,7 @@ impl<'a, A: Allocator> PutActor<'a, A> {
 
     /// What the accesses so far have put.
     pub fn look(&self)
-        ensures { (list : List Made) (opened : Option Access) → IsPutting self.now.script.now self.now.producer (record { stored = self.now.stored; full = self.now.full }) list opened → HasWritten self.now.script.now self.now.digits self.now.put list opened → ((a : Access) → opened ≡ Some a → due_put self.now.producer ≡ Some a) → PutSoFar self.now.script.now.shape (so_far side_is.P list opened) (take self.now.put self.now.script.now.items) self.now.full }
+        ensures { (list : List Made) (opened : Option Access) → IsPutting (content_of self.now.script) self.now.producer (record { stored = self.now.stored; full = self.now.full }) list opened → HasWritten (content_of self.now.script) self.now.digits self.now.put list opened → ((a : Access) → opened ≡ Some a → due_put self.now.producer ≡ Some a) → PutSoFar (content_of self.now.script).shape (so_far side_is.P list opened) (take self.now.put (content_of self.now.script).items) self.now.full }
     {
         counts_are_written();
         self.producer.next();
@@ -128,10 +128,10 @@ impl<'a, A: Allocator> PutActor<'a, A> {
 
     /// Begins the next call, if none is under way and the script asks for one.
     fn begin_call(&mut self)
-        ensures script { self.new.script.now ≡ self.old.script.now }
+        ensures script { content_of self.new.script ≡ content_of self.old.script }
         ensures counts { (self.new.digits ≡ self.old.digits) × (self.new.put ≡ self.old.put) }
-        ensures stands { (list : List Made) → IsPutting self.old.script.now self.old.producer (record { stored = self.old.stored; full = self.old.full }) list None → IsPutting self.new.script.now self.new.producer (record { stored = self.new.stored; full = self.new.full }) list None }
-        ensures done { call_of self.new.producer ≡ None → (list : List Made) → IsPutting self.old.script.now self.old.producer (record { stored = self.old.stored; full = self.old.full }) list None → IsDoneProducer self.old.script.now (events_of side_is.P list) }
+        ensures stands { (list : List Made) → IsPutting (content_of self.old.script) self.old.producer (record { stored = self.old.stored; full = self.old.full }) list None → IsPutting (content_of self.new.script) self.new.producer (record { stored = self.new.stored; full = self.new.full }) list None }
+        ensures done { call_of self.new.producer ≡ None → (list : List Made) → IsPutting (content_of self.old.script) self.old.producer (record { stored = self.old.stored; full = self.old.full }) list None → IsDoneProducer (content_of self.old.script) (events_of side_is.P list) }
     {
         if self.producer.next().is_some() {
             return;
@@ -146,18 +146,19 @@ impl<'a, A: Allocator> PutActor<'a, A> {
     }
 }
 
-impl<'a, A: Allocator> Actor for PutActor<'a, A> {
+impl<'a> Actor for PutActor<'a> {
     ghost use Rattle.bits_core.specs.declared.events.Side.TheVariants as side_is;
     ghost use Rattle.ring_core.specs.ProducerState.{due_put};
     ghost use Rattle.ring_player.specs.Actors.{HasWritten, IsPutting};
+    ghost use Rattle.ring_script.specs.Borrowed.{content_of};
 
-    ghost script = { λ a. a.script.now };
+    ghost script = { λ a. content_of a.script };
 
     ghost side = { λ a. side_is.P };
 
     ghost due = { λ a. due_put a.producer };
 
-    ghost stands = { λ a list opened. IsPutting a.script.now a.producer (record { stored = a.stored; full = a.full }) list opened × HasWritten a.script.now a.digits a.put list opened };
+    ghost stands = { λ a list opened. IsPutting (content_of a.script) a.producer (record { stored = a.stored; full = a.full }) list opened × HasWritten (content_of a.script) a.digits a.put list opened };
 
     ghost ready = { λ a. Unit {0} };
 

@@ -7,36 +7,37 @@ ghost use Rattle.ring_core.specs.ConsumerState.{due_take, is_taking};
 ghost use Rattle.ring_player.specs.Actors.{IsTaking, so_far};
 ghost use Rattle.ring_player.specs.SoFar.{TakenSoFar};
 ghost use Rattle.ring_player.specs.Plays.{IsDoneConsumer};
+ghost use Rattle.ring_script.specs.Borrowed.{content_of};
 
 use crate::actors::Actor;
 use crate::faults::PlayFault;
-use bits_core::Access;
+use bits_core::{Access, Store};
 use ring_core::laws::calls_are_first;
 use ring_core::{Consumer, TakeReply};
-use ring_script::Script;
-use std::alloc::Allocator;
+use ring_script::ScriptRef;
 
 /// Takes as many items as a script wants, or until it is told that the ring is closed.
 #[derive(Drop)]
-pub struct TakeActor<'a, A: Allocator> {
-    script: &'a Script<A>,
+pub struct TakeActor<'a, T: Store<u64>> {
+    script: ScriptRef<'a>,
     consumer: Consumer,
-    taken: Vec<u64, A>,
+    taken: T,
     told: bool,
     empty: u64,
-    pub ghost same_shape: { consumer.shape ≡ script.now.shape },
+    pub ghost same_shape: { consumer.shape ≡ (content_of script).shape },
 }
 
-impl<'a, A: Allocator> TakeActor<'a, A> {
-    /// An actor that has made no access. It takes memory from this allocator, and none at first.
-    pub fn new(alloc: A, script: &'a Script<A>) -> Self
-        ensures script { result.script.now ≡ script.now }
-        ensures stands { IsTaking script.now result.consumer result.taken.items result.told result.empty [] None }
+impl<'a, T: Store<u64>> TakeActor<'a, T> {
+    /// An actor that has made no access. What it takes grows in this store, which is empty.
+    pub fn new(taken: T, script: ScriptRef<'a>) -> Self
+        requires { T.items taken ≡ [] }
+        ensures script { content_of result.script ≡ content_of script.entry }
+        ensures stands { IsTaking (content_of script.entry) result.consumer (T.items result.taken) result.told result.empty [] None }
     {
         TakeActor {
             script,
             consumer: Consumer::new(script.shape()),
-            taken: Vec::new(alloc),
+            taken,
             told: false,
             empty: 0,
         }
@@ -44,14 +45,14 @@ impl<'a, A: Allocator> TakeActor<'a, A> {
 
     /// The items taken so far.
     pub fn taken(&self) -> &[u64]
-        ensures { result.now ≡ self.now.taken.items }
+        ensures { result.now ≡ T.items self.now.taken }
     {
         self.taken.as_slice()
     }
 
     /// The items taken. It takes no memory.
-    pub fn into_taken(self) -> Vec<u64, A>
-        ensures { result.items ≡ self.entry.taken.items }
+    pub fn into_taken(self) -> T
+        ensures { T.items result ≡ T.items self.entry.taken }
     {
         let TakeActor {
             script: _,
@@ -79,42 +80,41 @@ impl<'a, A: Allocator> TakeActor<'a, A> {
 
     /// What the accesses so far took and told.
     pub fn look(&self)
-        ensures { (list : List Made) (opened : Option Access) → IsTaking self.now.script.now self.now.consumer self.now.taken.items self.now.told self.now.empty list opened → ((a : Access) → opened ≡ Some a → due_take self.now.consumer ≡ Some a) → TakenSoFar self.now.script.now.shape (so_far side_is.C list opened) self.now.taken.items self.now.told self.now.empty }
+        ensures { (list : List Made) (opened : Option Access) → IsTaking (content_of self.now.script) self.now.consumer (T.items self.now.taken) self.now.told self.now.empty list opened → ((a : Access) → opened ≡ Some a → due_take self.now.consumer ≡ Some a) → TakenSoFar (content_of self.now.script).shape (so_far side_is.C list opened) (T.items self.now.taken) self.now.told self.now.empty }
     {
         self.consumer.next();
     }
 
     /// Begins the next take, if none is under way and the script wants one.
     fn begin_take(&mut self)
-        ensures script { self.new.script.now ≡ self.old.script.now }
-        ensures stands { (list : List Made) → IsTaking self.old.script.now self.old.consumer self.old.taken.items self.old.told self.old.empty list None → IsTaking self.new.script.now self.new.consumer self.new.taken.items self.new.told self.new.empty list None }
-        ensures done { is_taking self.new.consumer ≡ false → (list : List Made) → IsTaking self.old.script.now self.old.consumer self.old.taken.items self.old.told self.old.empty list None → IsDoneConsumer self.old.script.now (events_of side_is.C list) }
+        ensures script { content_of self.new.script ≡ content_of self.old.script }
+        ensures stands { (list : List Made) → IsTaking (content_of self.old.script) self.old.consumer (T.items self.old.taken) self.old.told self.old.empty list None → IsTaking (content_of self.new.script) self.new.consumer (T.items self.new.taken) self.new.told self.new.empty list None }
+        ensures done { is_taking self.new.consumer ≡ false → (list : List Made) → IsTaking (content_of self.old.script) self.old.consumer (T.items self.old.taken) self.old.told self.old.empty list None → IsDoneConsumer (content_of self.old.script) (events_of side_is.C list) }
     {
         if self.consumer.next().is_some() {
             return;
         }
-        if !self.told && (self.taken.len() as u64) < self.script.takes() {
+        if !self.told && (self.taken().len() as u64) < self.script.takes() {
             self.consumer.take();
         }
     }
 }
 
-impl<'a, A: Allocator> Actor for TakeActor<'a, A> {
-    ghost use Rattle.std.specs.Prelude.{◌<◌};
-    ghost use Rattle.std.specs.Vec.{vec_len, vec_capacity};
+impl<'a, T: Store<u64>> Actor for TakeActor<'a, T> {
     ghost use Rattle.bits_core.specs.declared.events.Side.TheVariants as side_is;
     ghost use Rattle.ring_core.specs.ConsumerState.{due_take};
     ghost use Rattle.ring_player.specs.Actors.{IsTaking};
+    ghost use Rattle.ring_script.specs.Borrowed.{content_of};
 
-    ghost script = { λ a. a.script.now };
+    ghost script = { λ a. content_of a.script };
 
     ghost side = { λ a. side_is.C };
 
     ghost due = { λ a. due_take a.consumer };
 
-    ghost stands = { λ a list opened. IsTaking a.script.now a.consumer a.taken.items a.told a.empty list opened };
+    ghost stands = { λ a list opened. IsTaking (content_of a.script) a.consumer (T.items a.taken) a.told a.empty list opened };
 
-    ghost ready = { λ a. vec_len a.taken < vec_capacity a.taken };
+    ghost ready = { λ a. T.has_room a.taken };
 
     fn next(&mut self) -> Option<Access> {
         calls_are_first();
@@ -127,7 +127,7 @@ impl<'a, A: Allocator> Actor for TakeActor<'a, A> {
     }
 
     fn reserve(&mut self) -> Result<(), PlayFault> {
-        self.taken.reserve(1)?;
+        self.taken.reserve()?;
         Ok(())
     }
 
@@ -140,10 +140,7 @@ impl<'a, A: Allocator> Actor for TakeActor<'a, A> {
         self.consumer.feed(answer);
         self.consumer.next();
         match self.consumer.reply() {
-            Some(TakeReply::Item(item)) => match self.taken.push(item) {
-                Ok(()) => {}
-                Err(_) => unreachable!(),
-            },
+            Some(TakeReply::Item(item)) => self.taken.add(item),
             Some(TakeReply::Closed) => self.told = true,
             Some(TakeReply::Empty) => self.empty += 1,
             None => {}

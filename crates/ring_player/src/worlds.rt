@@ -1,5 +1,5 @@
 //! The world that plays a script.
-ghost use Rattle.std.specs.Prelude.{◌≡◌, ◌↔◌, ℕ, Bool, true, List, [], ◌∷◌, ◌++◌, IfOk, OnErr, OnOk, replicate};
+ghost use Rattle.std.specs.Prelude.{◌≡◌, ◌↔◌, ℕ, Bool, true, List, [], ◌∷◌, ◌++◌, IfOk, OnErr, OnOk, replicate, take};
 ghost use Rattle.bits_core.specs.declared.events.Side.{Side};
 ghost use Rattle.bits_core.specs.declared.events.Side.TheVariants as side_is;
 ghost use Rattle.bits_core.specs.Memory.{flicker_count};
@@ -10,6 +10,7 @@ ghost use Rattle.ring_core.specs.Takes.{FollowsTakes, Takes};
 ghost use Rattle.ring_player.specs.Actors.{IsMove};
 ghost use Rattle.ring_player.specs.Headline.{FillsRing, HoldsHeadline};
 ghost use Rattle.ring_player.specs.Plays.{Plays, sides};
+ghost use Rattle.ring_script.specs.Borrowed.{content_of};
 
 use crate::actors::advance;
 use crate::faults::PlayFault;
@@ -17,52 +18,64 @@ use crate::laws::{every_play_fills, every_play_holds};
 use crate::putting::PutActor;
 use crate::taking::TakeActor;
 use bits_core::laws::{flicker_is_by_interval, open_changes, overlap_is_by_interval, own_changes};
-use bits_core::{Event, Memory, Side, Tape};
+use bits_core::{Event, Memory, Side, Store, Tape};
 use ring_core::laws::{calls_over_are_read, items_put_are_read, items_taken_are_read};
-use ring_script::Script;
+use ring_script::{Script, ScriptRef};
 use std::alloc::Allocator;
 use std::marker::Model;
 
-/// The two sides of a script at work on one memory.
+/// The two sides of a script at work on one memory. The history and the items taken are kept in stores of the
+/// caller's choice.
 #[derive(Drop)]
-pub struct World<'a, A: Allocator> {
-    script: &'a Script<A>,
-    memory: Memory<A>,
-    producer: PutActor<'a, A>,
-    consumer: TakeActor<'a, A>,
+pub struct World<'a, E: Store<Event>, T: Store<u64>> {
+    script: ScriptRef<'a>,
+    memory: Memory<E>,
+    producer: PutActor<'a>,
+    consumer: TakeActor<'a, T>,
     oracle: Tape<'a>,
 }
 
-impl<'a, A: Allocator> Model for World<'a, A> {
+impl<'a, E: Store<Event>, T: Store<u64>> Model for World<'a, E, T> {
     ghost use Rattle.bits_core.specs.Oracle.{tape_answer};
     ghost use Rattle.ring_core.specs.ConsumerState.{due_take};
     ghost use Rattle.ring_core.specs.ProducerState.{due_put};
     ghost use Rattle.ring_player.specs.Actors.{HasWritten, IsPutting, IsTaking};
     ghost use Rattle.ring_player.specs.Worlds.{Played, IsWorld};
+    ghost use Rattle.ring_script.specs.Borrowed.{content_of};
 
     ghost Value = { Played };
 
-    ghost view = { λ w. record { script = w.script.now; history = w.memory.events } };
+    ghost view = { λ w. record { script = content_of w.script; history = w.memory.events } };
 
-    ghost invariant = { λ w. IsWorld w.script.now w.memory w.producer.script.now w.consumer.script.now (due_put w.producer.producer) (due_take w.consumer.consumer)
-        (λ list opened. IsPutting w.producer.script.now w.producer.producer (record { stored = w.producer.stored; full = w.producer.full }) list opened × HasWritten w.producer.script.now w.producer.digits w.producer.put list opened)
-        (IsTaking w.consumer.script.now w.consumer.consumer w.consumer.taken.items w.consumer.told w.consumer.empty)
+    ghost invariant = { λ w. IsWorld (content_of w.script) w.memory (content_of w.producer.script) (content_of w.consumer.script) (due_put w.producer.producer) (due_take w.consumer.consumer)
+        (λ list opened. IsPutting (content_of w.producer.script) w.producer.producer (record { stored = w.producer.stored; full = w.producer.full }) list opened × HasWritten (content_of w.producer.script) w.producer.digits w.producer.put list opened)
+        (IsTaking (content_of w.consumer.script) w.consumer.consumer (T.items w.consumer.taken) w.consumer.told w.consumer.empty)
         (tape_answer w.oracle) };
 }
 
-impl<'a, A: Allocator> World<'a, A> {
+impl<'a, A: Allocator + Copy> World<'a, Vec<Event, A>, Vec<u64, A>> {
     /// A world that has made no step. It takes memory from this allocator, and none at first.
-    pub fn new(alloc: A, script: &'a Script<A>) -> Self
-    where
-        A: Copy,
+    pub fn new<B: Allocator>(alloc: A, script: &'a Script<B>) -> Self
         ensures script { result.script ≡ script.now }
+        ensures empty { result.history ≡ [] }
+    {
+        World::over(script.as_ref(), Vec::new(alloc), Vec::new(alloc))
+    }
+}
+
+impl<'a, E: Store<Event>, T: Store<u64>> World<'a, E, T> {
+    /// A world that has made no step. Its history and the items taken grow in these stores, which are empty.
+    pub fn over(script: ScriptRef<'a>, events: E, taken: T) -> Self
+        requires no_events { E.items events ≡ [] }
+        requires none_taken { T.items taken ≡ [] }
+        ensures script { result.script ≡ content_of script.entry }
         ensures empty { result.history ≡ [] }
     {
         World {
             script,
-            memory: Memory::new(alloc, script.shape()),
+            memory: Memory::over(events, script.shape()),
             producer: PutActor::new(script),
-            consumer: TakeActor::new(alloc, script),
+            consumer: TakeActor::new(taken, script),
             oracle: Tape::new(script.oracle()),
         }
     }
@@ -134,10 +147,10 @@ impl<'a, A: Allocator> World<'a, A> {
     }
 
     /// What was played. It takes no memory.
-    pub fn report(self) -> Report<'a, A>
-        ensures history { result.history.items ≡ self.entry.history }
+    pub fn report(self) -> Report<'a, E, T>
+        ensures history { E.items result.history ≡ self.entry.history }
         ensures put { (puts : Puts) → FollowsPuts self.entry.script.shape self.entry.history puts → result.put.now ≡ items_put_in self.entry.script.shape self.entry.history puts }
-        ensures taken { (takes : Takes) → FollowsTakes self.entry.script.shape self.entry.history takes → result.taken.items ≡ items_taken_in self.entry.script.shape self.entry.history takes }
+        ensures taken { (takes : Takes) → FollowsTakes self.entry.script.shape self.entry.history takes → T.items result.taken ≡ items_taken_in self.entry.script.shape self.entry.history takes }
         ensures told { (takes : Takes) → FollowsTakes self.entry.script.shape self.entry.history takes → (result.told ≡ true) ↔ ToldIn self.entry.script.shape self.entry.history takes }
         ensures full { (puts : Puts) → FollowsPuts self.entry.script.shape self.entry.history puts → result.full ≡ fulls (puts_over_in self.entry.script.shape self.entry.history puts) }
         ensures empty { (takes : Takes) → FollowsTakes self.entry.script.shape self.entry.history takes → result.empty ≡ empties (takes_over_in self.entry.script.shape self.entry.history takes) }
@@ -169,6 +182,9 @@ impl<'a, A: Allocator> World<'a, A> {
     }
 
     /// One step of a side: true where it made its next event, false where it is done.
+    ///
+    /// `OutOfMemory` leaves all as it was: the history had no room for the event, or the items taken had none for one
+    /// item more, which is wanted wherever an access of the consumer ends.
     pub fn step(&mut self, side: Side) -> Result<bool, PlayFault>
         ensures script { self.new.script ≡ self.old.script }
         ensures ok { IfOk result (λ moved. IsMove self.old.script side moved self.old.history self.new.history) }
@@ -225,7 +241,11 @@ impl<'a, A: Allocator> World<'a, A> {
 }
 
 /// Makes so many steps of one side.
-fn repeat<A: Allocator>(world: &mut World<'_, A>, side: Side, count: u64) -> Result<(), PlayFault>
+fn repeat<E: Store<Event>, T: Store<u64>>(
+    world: &mut World<'_, E, T>,
+    side: Side,
+    count: u64,
+) -> Result<(), PlayFault>
     ensures script { world.new.script ≡ world.old.script }
     ensures plays { OnOk result ((letters : List Side) → Plays world.old.script letters world.old.history → Plays world.old.script (letters ++ replicate count side) world.new.history) }
 {
@@ -235,16 +255,23 @@ fn repeat<A: Allocator>(world: &mut World<'_, A>, side: Side, count: u64) -> Res
     Ok(())
 }
 
-/// Makes one step for each letter of the script's schedule.
-fn run<'a, A: Allocator>(world: &mut World<'a, A>, script: &'a Script<A>) -> Result<(), PlayFault>
-    requires of_script { world.old.script ≡ script.now }
+/// Makes one step for each of the first so many letters of the script's schedule, or for each letter where they are fewer.
+fn run_first<E: Store<Event>, T: Store<u64>>(
+    world: &mut World<'_, E, T>,
+    script: ScriptRef<'_>,
+    letters: u64,
+) -> Result<(), PlayFault>
+    requires of_script { world.old.script ≡ content_of script }
     requires new { world.old.history ≡ [] }
-    ensures script { world.new.script ≡ script.now }
-    ensures plays { OnOk result (Plays script.now script.now.letters world.new.history) }
+    ensures script { world.new.script ≡ content_of script.entry }
+    ensures plays { OnOk result (Plays (content_of script.entry) (take letters (content_of script.entry).letters) world.new.history) }
 {
     world.history();
+    let mut left = letters;
     for run in script.runs() {
-        repeat(world, run.side, run.count)?;
+        let count = run.count.min(left);
+        repeat(world, run.side, count)?;
+        left -= count;
     }
     world.history();
     Ok(())
@@ -254,10 +281,10 @@ fn run<'a, A: Allocator>(world: &mut World<'a, A>, script: &'a Script<A>) -> Res
 /// the ring is closed; how many puts ended that found the ring full, and takes that found it empty; and how many reads
 /// ended that a write overlapped.
 #[derive(Debug, Drop)]
-pub struct Report<'a, A: Allocator> {
-    pub history: Vec<Event, A>,
+pub struct Report<'a, E: Store<Event>, T: Store<u64>> {
+    pub history: E,
     pub put: &'a [u64],
-    pub taken: Vec<u64, A>,
+    pub taken: T,
     pub told: bool,
     pub full: u64,
     pub empty: u64,
@@ -265,10 +292,10 @@ pub struct Report<'a, A: Allocator> {
 }
 
 /// Plays a script: a new world, one step for each letter of its schedule, and its report.
-pub fn play<'a, A: Allocator + Copy>(
+pub fn play<'a, A: Allocator + Copy, B: Allocator>(
     alloc: A,
-    script: &'a Script<A>,
-) -> Result<Report<'a, A>, PlayFault>
+    script: &'a Script<B>,
+) -> Result<Report<'a, Vec<Event, A>, Vec<u64, A>>, PlayFault>
     ensures plays { IfOk result (λ r. Plays script.now script.now.letters r.history.items) }
     ensures headline { IfOk result (λ r. HoldsHeadline script.now r.history.items) }
     ensures batches { IfOk result (λ r. FillsRing script.now r.history.items) }
@@ -279,9 +306,36 @@ pub fn play<'a, A: Allocator + Copy>(
     ensures empty { IfOk result (λ r. (takes : Takes) → FollowsTakes script.now.shape r.history.items takes → r.empty ≡ empties (takes_over_in script.now.shape r.history.items takes)) }
     ensures flicker { IfOk result (λ r. r.flicker ≡ flicker_count r.history.items) }
 {
+    let letters = script.len();
+    play_first(script.as_ref(), letters, Vec::new(alloc), Vec::new(alloc))
+}
+
+/// Plays the first so many letters of a script, or all of them where they are fewer: a new world, one step for each of
+/// these letters, and its report. The history and the items taken grow in these stores, which are empty.
+///
+/// `OutOfMemory` tells that one of the stores had no room: the history for an event, or the items taken for one item
+/// more, which is wanted wherever an access of the consumer ends.
+pub fn play_first<'a, E: Store<Event>, T: Store<u64>>(
+    script: ScriptRef<'a>,
+    letters: u64,
+    events: E,
+    taken: T,
+) -> Result<Report<'a, E, T>, PlayFault>
+    requires no_events { E.items events ≡ [] }
+    requires none_taken { T.items taken ≡ [] }
+    ensures plays { IfOk result (λ r. Plays (content_of script.entry) (take letters (content_of script.entry).letters) (E.items r.history)) }
+    ensures headline { IfOk result (λ r. HoldsHeadline (content_of script.entry) (E.items r.history)) }
+    ensures batches { IfOk result (λ r. FillsRing (content_of script.entry) (E.items r.history)) }
+    ensures put { IfOk result (λ r. (puts : Puts) → FollowsPuts (content_of script.entry).shape (E.items r.history) puts → r.put.now ≡ items_put_in (content_of script.entry).shape (E.items r.history) puts) }
+    ensures taken { IfOk result (λ r. (takes : Takes) → FollowsTakes (content_of script.entry).shape (E.items r.history) takes → T.items r.taken ≡ items_taken_in (content_of script.entry).shape (E.items r.history) takes) }
+    ensures told { IfOk result (λ r. (takes : Takes) → FollowsTakes (content_of script.entry).shape (E.items r.history) takes → (r.told ≡ true) ↔ ToldIn (content_of script.entry).shape (E.items r.history) takes) }
+    ensures full { IfOk result (λ r. (puts : Puts) → FollowsPuts (content_of script.entry).shape (E.items r.history) puts → r.full ≡ fulls (puts_over_in (content_of script.entry).shape (E.items r.history) puts)) }
+    ensures empty { IfOk result (λ r. (takes : Takes) → FollowsTakes (content_of script.entry).shape (E.items r.history) takes → r.empty ≡ empties (takes_over_in (content_of script.entry).shape (E.items r.history) takes)) }
+    ensures flicker { IfOk result (λ r. r.flicker ≡ flicker_count (E.items r.history)) }
+{
     every_play_holds();
     every_play_fills();
-    let mut world = World::new(alloc, script);
-    run(&mut world, script)?;
+    let mut world = World::over(script, events, taken);
+    run_first(&mut world, script, letters)?;
     Ok(world.report())
 }

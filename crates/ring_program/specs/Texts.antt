@@ -1,10 +1,11 @@
 -- The texts of the answers.
-use Rattle.std.specs.Prelude.{ℕ, Bool, true, false, List, [], ◌∷◌, ◌++◌, ◌+◌, codes, decimal, length}
+use Rattle.std.specs.Prelude.{ℕ, Bool, true, false, List, [], ◌∷◌, ◌++◌, ◌+◌, codes, decimal, length, Vec}
 use Rattle.std.specs.List.{flat_map}
 use Rattle.bits_core.specs.Audit.{kind_words}
 use Rattle.bits_core.specs.declared.audits.Verdict.{Verdict}
 use Rattle.bits_core.specs.declared.audits.Verdict.TheVariants as bits
 use Rattle.bits_core.specs.declared.audits.Kind.{Kind}
+use Rattle.bits_core.specs.declared.events.Event.{Event}
 use Rattle.ring_audit.specs.Audit.{Statement, Lawful, Fault}
 use Rattle.ring_player.specs.declared.worlds.Report.{Report}
 
@@ -63,7 +64,7 @@ pub record Summary : Type 0 where
   pub empty : ℕ
   pub flicker : ℕ
 
-abbrev pub summary_of : {A : Type 0} → Report A → Summary
+abbrev pub summary_of : {A : Type 0} → Report (Vec Event A) (Vec ℕ A) → Summary
 summary_of r = record {
   events = length r.history.items;
   put = r.put.now;

@@ -4,6 +4,7 @@ ghost use Rattle.ring_program.specs.Texts.{report_text_of, summary_of};
 
 use crate::faults::AppFault;
 use crate::lines::{push_count, push_list, told_words};
+use bits_core::Event;
 use ring_player::Report;
 use std::alloc::Allocator;
 
@@ -12,7 +13,7 @@ use std::alloc::Allocator;
 /// found it empty, and reads were overlapped by a write.
 pub fn report_text<A: Allocator, B: Allocator>(
     alloc: A,
-    report: &Report<'_, B>,
+    report: &Report<'_, Vec<Event, B>, Vec<u64, B>>,
 ) -> Result<String<A>, AppFault>
     ensures text { IfOk result (λ text. string_bytes text ≡ report_text_of (summary_of report.now)) }
     ensures memory { IfErr result (λ e. e ≡ AppFault.OutOfMemory) }

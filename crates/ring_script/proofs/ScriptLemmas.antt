@@ -19,7 +19,7 @@ use Rattle.ring_script.specs.Results.{result_and_then}
 use Rattle.ring_script.specs.Schedule.{IsSchedule, IsScheduleText}
 use Rattle.ring_script.specs.ScheduleReading.{letters_of, stray_in}
 use Rattle.ring_script.specs.FieldReading.{FieldValues, has_known_names, names_in, typed_of, values_of}
-use Rattle.ring_script.specs.Script.{Held, Content, Fit, Holds, HoldsItems, HoldsLetters, HoldsShape, IsOracle, IsOracleText, IsScript, answer_byte}
+use Rattle.ring_script.specs.Script.{Held, Content, Fit, Holds, HoldsItems, HoldsLetters, HoldsShape, IsContentOf, IsOracle, IsOracleText, IsScript, answer_byte}
 use Rattle.ring_script.specs.ScriptReading.{Given, given_by, given_in, given_of, if_answers, if_fits, if_read, if_stands, is_no_answer, is_too_wide, items_in, json_of, oracle_of, schedule_of, script_of, shape_in}
 use Rattle.ring_script.specs.Fields.{HasKnownNames, IsJson, IsObject, held_as, wholes}
 use Rattle.ring_script.specs.Faults.{IsScriptFault, IsFirstStray}
@@ -442,6 +442,37 @@ script_at bytes ts c g = record {
 pub script_from : (bytes : List ℕ) (c : Content) → script_of bytes ≡ Ok (given_by c) → IsScript bytes c
 script_from bytes c e = let g = given_at bytes (given_by c) e in script_at bytes g.0 c g.1
 
+-- values of fields that are read stand for a script, which is that of the bytes that hold them
+content_from : (ts : Held) (c : Content) → given_of ts ≡ Ok (given_by c) → IsContentOf ts c
+unfolding given_of
+content_from ts c e =
+    let g = given_by c in
+    let p1 = and_then_ok (shape_in ts.capacity ts.modulus ts.width ts.batch) _ g e in
+    let p2 = and_then_ok (items_in ts.width ts.items) _ g p1.2 in
+    let p3 = and_then_ok (schedule_of ts.schedule) _ g p2.2 in
+    let p4 = and_then_ok (oracle_of ts.oracle) _ g p3.2 in
+    let is = sym (ok_is _ g p4.2) in
+    record {
+      shape = record {
+        capacity_is = ap (λ (r : Given). r.capacity) is;
+        modulus_is = ap (λ (r : Given). r.modulus) is;
+        width_is = ap (λ (r : Given). r.width) is;
+        batch_is = ap (λ (r : Given). r.batch) is;
+      };
+      items = ap (λ (r : Given). r.items) is;
+      takes = ap (λ (r : Given). r.takes) is;
+      closes = ap (λ (r : Given). r.closes) is;
+      schedule = subst (IsSchedule ts.schedule) (sym (ap (λ (r : Given). r.letters) is)) (schedule_from ts.schedule p3.0 p3.1).0;
+      oracle = subst (IsOracle ts.oracle) (sym (ap (λ (r : Given). r.oracle) is)) (oracle_from ts.oracle p4.0 p4.1);
+    }
+
+fields_read : (ts : Held) (c : Content) → given_of ts ≡ Ok (given_by c) → (bytes : List ℕ) → Holds bytes ts → IsScript bytes c
+fields_read ts c e bytes h = script_at bytes ts c (given_from bytes ts (given_by c) h e)
+
+-- and values that are refused have the fault of the bytes that hold them
+fields_refused : (ts : Held) (x : ScriptFault) → given_of ts ≡ Err x → (bytes : List ℕ) → Holds bytes ts → IsScriptFault bytes x
+fields_refused ts x e bytes h = given_why bytes ts x h e
+
 pub script_to : (bytes : List ℕ) (c : Content) → IsScript bytes c → script_of bytes ≡ Ok (given_by c)
 unfolding given_of
 script_to bytes c s =
@@ -548,6 +579,24 @@ pub reads_each_script : {A : Type 0} (bytes : List ℕ) (content : A → Content
 reads_each_script bytes content (Ok s) read refused c is = same_content (content s) c (ok_is _ _ (sym read ∙ script_to bytes c is))
 reads_each_script bytes content (Err x) read (inl short) c is = short
 reads_each_script bytes content (Err x) read (inr told) c is = absurd (ok_not_err (given_by c) x (sym (script_to bytes c is) ∙ told))
+
+-- ---- a call that reads the values of fields
+
+pub fields_are_content : {A : Type 0} (ts : Held) (content : A → Content) (r : Result A ScriptFault)
+    → IfOk r (λ s. given_of ts ≡ Ok (given_by (content s))) → IfOk r (λ s. IsContentOf ts (content s))
+fields_are_content ts content (Ok s) e = content_from ts (content s) e
+fields_are_content ts content (Err x) e = tt
+
+pub fields_are_script : {A : Type 0} (ts : Held) (content : A → Content) (r : Result A ScriptFault)
+    → IfOk r (λ s. given_of ts ≡ Ok (given_by (content s))) → IfOk r (λ s. (bytes : List ℕ) → Holds bytes ts → IsScript bytes (content s))
+fields_are_script ts content (Ok s) e = fields_read ts (content s) e
+fields_are_script ts content (Err x) e = tt
+
+pub fields_have_fault : {A : Type 0} (ts : Held) (r : Result A ScriptFault)
+    → IfErr r (λ x. (x ≡ fault.OutOfMemory) ⊎ (given_of ts ≡ Err x)) → IfErr r (λ x. (x ≡ fault.OutOfMemory) ⊎ ((bytes : List ℕ) → Holds bytes ts → IsScriptFault bytes x))
+fields_have_fault ts (Ok s) e = tt
+fields_have_fault ts (Err x) (inl short) = inl short
+fields_have_fault ts (Err x) (inr told) = inr (fields_refused ts x told)
 
 -- ---- the bounds of a script
 

@@ -8,3 +8,4 @@ pub mod FieldReading
 pub mod ScheduleReading
 pub mod ScriptReading
 pub mod Views
+pub mod Borrowed

@@ -84,6 +84,15 @@ pub record HoldsLetters (bytes : List ℕ) (held : Held) (letters : List Side) :
   pub schedule : IsSchedule held.schedule letters
   pub short : length letters ≤ LETTER_LIMIT
 
+-- what the values of the fields stand for
+pub record IsContentOf (held : Held) (content : Content) : Type 0 where
+  pub shape : HasBatch held.capacity held.modulus held.width held.batch content.shape
+  pub items : content.items ≡ held.items
+  pub takes : content.takes ≡ held.takes
+  pub closes : content.closes ≡ held.close
+  pub schedule : IsSchedule held.schedule content.letters
+  pub oracle : IsOracle held.oracle content.oracle
+
 -- the bytes are an object with the fields of a script, which hold this within the limits
 pub record IsScript (bytes : List ℕ) (content : Content) : Type 0 where
   pub held : Held

@@ -1,12 +1,15 @@
 //! Scripts: one interleaving of the ring's two sides, written as a JSON object.
 #![tactic(auto)]
 
+mod borrowed;
 mod faults;
 mod fields;
 pub mod laws;
 mod schedules;
 mod scripts;
+mod stores;
 
+pub use borrowed::{Fields, ScriptRef};
 pub use faults::{Field, ScriptFault};
 pub use schedules::{LETTER_LIMIT, Run};
 pub use scripts::{ITEM_LIMIT, Script};

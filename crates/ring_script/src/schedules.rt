@@ -1,11 +1,11 @@
 //! The text of a schedule: letters, each with a count or without.
-ghost use Rattle.std.specs.Prelude.{◌≡◌, ◌⊎◌, ◌<◌, ◌≤◌, ◌^◌, max, length, slice_get, IfOk, IfErr};
+ghost use Rattle.std.specs.Prelude.{◌≡◌, ◌⊎◌, ◌<◌, ◌≤◌, ◌^◌, max, [], length, slice_get, IfOk, IfErr};
 ghost use Rattle.ring_script.specs.ScheduleReading.{is_letter, is_digit, may_stand, stray_in, side_of, letters_of};
 ghost use Rattle.ring_script.specs.Schedule.{spelled};
 
 use crate::faults::ScriptFault;
-use bits_core::Side;
-use std::alloc::Allocator;
+use crate::stores::push;
+use bits_core::{Side, Store};
 
 /// The most letters that the schedule of a script may stand for.
 pub const LETTER_LIMIT: u64 = 1_000_000;
@@ -66,14 +66,15 @@ fn at_least_one(count: u64) -> u64
     if count == 0 { 1 } else { count }
 }
 
-/// The runs of the letters that a text with no stray byte stands for.
-pub fn runs<A: Allocator + Copy>(alloc: A, text: &[u8]) -> Result<Vec<Run, A>, ScriptFault>
-    ensures spelled { IfOk result (λ runs. spelled runs.items ≡ letters_of text.now) }
+/// The runs of the letters that a text with no stray byte stands for, in an empty store.
+pub fn runs<S: Store<Run>>(store: S, text: &[u8]) -> Result<S, ScriptFault>
+    requires empty { S.items store ≡ [] }
+    ensures spelled { IfOk result (λ runs. spelled (S.items runs) ≡ letters_of text.now) }
     ensures within { IfOk result (λ _. length (letters_of text.now) ≤ LETTER_LIMIT) }
     ensures refused { IfErr result (λ e. (e ≡ ScriptFault.OutOfMemory)
         ⊎ ((e ≡ ScriptFault.ScheduleTooLong) × (LETTER_LIMIT < length (letters_of text.now)))) }
 {
-    let mut runs = Vec::new(alloc);
+    let mut runs = store;
     let Some((first, rest)) = text.split_first() else {
         return Ok(runs);
     };
@@ -92,10 +93,13 @@ pub fn runs<A: Allocator + Copy>(alloc: A, text: &[u8]) -> Result<Vec<Run, A>, S
             if LETTER_LIMIT < total + times {
                 return Err(ScriptFault::ScheduleTooLong);
             }
-            runs.push(Run {
-                side: last,
-                count: times,
-            })?;
+            push(
+                &mut runs,
+                Run {
+                    side: last,
+                    count: times,
+                },
+            )?;
             total += times;
             last = letter_side(*b);
             count = 0;
@@ -105,10 +109,13 @@ pub fn runs<A: Allocator + Copy>(alloc: A, text: &[u8]) -> Result<Vec<Run, A>, S
     if LETTER_LIMIT < total + times {
         return Err(ScriptFault::ScheduleTooLong);
     }
-    runs.push(Run {
-        side: last,
-        count: times,
-    })?;
+    push(
+        &mut runs,
+        Run {
+            side: last,
+            count: times,
+        },
+    )?;
     Ok(runs)
 }
 

@@ -1,17 +1,20 @@
 //! Scripts, and how they are read.
-ghost use Rattle.std.specs.Prelude.{◌≡◌, ◌⊎◌, ◌≤◌, ◌==◌, Ok, Err, IfOk, IfErr, MatchResult, length, map, position, slice_get};
+ghost use Rattle.std.specs.Prelude.{◌≡◌, ◌⊎◌, ◌≤◌, ◌==◌, Ok, Err, IfOk, IfErr, MatchResult, [], length, map, position, slice_get};
 ghost use Rattle.serde_json.specs.View.{view};
 ghost use Rattle.bits_core.specs.Shape.{HasBatch, width_of};
 ghost use Rattle.ring_script.specs.Schedule.{spelled};
+ghost use Rattle.ring_script.specs.Borrowed.{content_of, held_of};
 ghost use Rattle.ring_script.specs.Script.{Content, Fit, IsScript};
 ghost use Rattle.ring_script.specs.ScriptReading.{given_by, given_in, given_of, is_no_answer, is_too_wide, items_in, json_of, oracle_of, schedule_of, script_of, shape_in};
 ghost use Rattle.ring_script.specs.Faults.{IsScriptFault};
 ghost use Rattle.ring_script.specs.Views.{IsKept, typed_view};
 
+use crate::borrowed::{Fields, ScriptRef};
 use crate::faults::ScriptFault;
 use crate::fields::{Typed, check_kinds, check_names, find_values};
 use crate::schedules::{LETTER_LIMIT, Run, first_stray, letter_at, letter_count, runs};
-use bits_core::{Shape, Side};
+use crate::stores::push;
+use bits_core::{Filled, Shape, Side, Store};
 use serde_json::Value;
 use std::alloc::{Allocator, Global};
 use std::marker::Model;
@@ -40,6 +43,21 @@ impl<A: Allocator> Model for Script<A> {
 }
 
 impl<A: Allocator> Script<A> {
+    /// The script, borrowed.
+    pub fn as_ref(&self) -> ScriptRef<'_>
+        ensures { content_of result ≡ self.now }
+    {
+        ScriptRef {
+            shape: self.shape,
+            items: &self.items,
+            takes: self.takes,
+            closes: self.closes,
+            runs: &self.runs,
+            letters: self.letters,
+            oracle: &self.oracle,
+        }
+    }
+
     /// The shape of the ring.
     pub fn shape(&self) -> Shape
         ensures { result ≡ self.now.shape }
@@ -194,14 +212,40 @@ fn read_typed<A: Allocator + Copy>(alloc: A, typed: Typed<'_, A>) -> Result<Scri
 {
     let shape = read_shape(typed.capacity, typed.modulus, typed.width, typed.batch)?;
     check_items(&shape, &typed.items)?;
-    let runs = read_schedule(alloc, typed.schedule.as_bytes())?;
-    let oracle = read_oracle(alloc, typed.oracle.as_bytes())?;
+    let runs = read_schedule(Vec::new(alloc), typed.schedule.as_bytes())?;
+    let oracle = read_oracle(Vec::new(alloc), typed.oracle.as_bytes())?;
     let letters = letter_count(&runs);
     Ok(Script {
         shape,
         items: typed.items,
         takes: typed.takes,
         closes: typed.close,
+        runs,
+        letters,
+        oracle,
+    })
+}
+
+// The script of the values of its fields, with its runs and its answers in these stores, which are empty.
+#[tactic(auto, unfolding(crate::specs::ScriptReading::given_of))]
+pub(crate) fn read_parts<'a>(
+    fields: &Fields<'a>,
+    runs: &'a mut [Run],
+    answers: &'a mut [bool],
+) -> Result<ScriptRef<'a>, ScriptFault>
+    ensures read { IfOk result (λ script. given_of (held_of fields.now) ≡ Ok (given_by (content_of script))) }
+    ensures refused { IfErr result (λ e. (e ≡ ScriptFault.OutOfMemory) ⊎ (given_of (held_of fields.now) ≡ Err e)) }
+{
+    let shape = read_shape(fields.capacity, fields.modulus, fields.width, fields.batch)?;
+    check_items(&shape, fields.items)?;
+    let runs = read_schedule(Filled::new(runs), fields.schedule)?.into_slice();
+    let oracle = read_oracle(Filled::new(answers), fields.oracle)?.into_slice();
+    let letters = letter_count(runs);
+    Ok(ScriptRef {
+        shape,
+        items: fields.items,
+        takes: fields.takes,
+        closes: fields.close,
         runs,
         letters,
         oracle,
@@ -248,16 +292,17 @@ fn check_items(shape: &Shape, items: &[u64]) -> Result<(), ScriptFault>
     }
 }
 
-// The runs of the schedule's letters.
+// The runs of the schedule's letters, in an empty store.
 #[tactic(auto, unfolding(crate::specs::ScriptReading::schedule_of))]
-fn read_schedule<A: Allocator + Copy>(alloc: A, text: &[u8]) -> Result<Vec<Run, A>, ScriptFault>
-    ensures read { IfOk result (λ runs. schedule_of text.now ≡ Ok (spelled runs.items)) }
-    ensures within { IfOk result (λ runs. length (spelled runs.items) ≤ LETTER_LIMIT) }
+fn read_schedule<S: Store<Run>>(store: S, text: &[u8]) -> Result<S, ScriptFault>
+    requires empty { S.items store ≡ [] }
+    ensures read { IfOk result (λ runs. schedule_of text.now ≡ Ok (spelled (S.items runs))) }
+    ensures within { IfOk result (λ runs. length (spelled (S.items runs)) ≤ LETTER_LIMIT) }
     ensures refused { IfErr result (λ e. (e ≡ ScriptFault.OutOfMemory) ⊎ (schedule_of text.now ≡ Err e)) }
 {
     match first_stray(text) {
         Some(place) => Err(ScriptFault::BadSchedule(place as u64)),
-        None => runs(alloc, text),
+        None => runs(store, text),
     }
 }
 
@@ -268,23 +313,28 @@ fn first_no_answer(text: &[u8]) -> Option<usize>
     text.iter().position(|b| !(*b == b'0' || *b == b'1'))
 }
 
-// The answers of a text of `0` and `1`.
-fn answers<A: Allocator + Copy>(alloc: A, text: &[u8]) -> Result<Vec<bool, A>, ScriptFault>
-    ensures read { IfOk result (λ v. v.items ≡ map (λ b. b == 49) text.now) }
+// The answers of a text of `0` and `1`, in an empty store.
+fn answers<S: Store<bool>>(store: S, text: &[u8]) -> Result<S, ScriptFault>
+    requires empty { S.items store ≡ [] }
+    ensures read { IfOk result (λ v. S.items v ≡ map (λ b. b == 49) text.now) }
     ensures refused { IfErr result (λ e. e ≡ ScriptFault.OutOfMemory) }
 {
-    let answers = text.iter().map(|b| *b == b'1').collect(alloc)?;
+    let mut answers = store;
+    for b in text {
+        push(&mut answers, *b == b'1')?;
+    }
     Ok(answers)
 }
 
-// The oracle's answers.
+// The oracle's answers, in an empty store.
 #[tactic(auto, unfolding(crate::specs::ScriptReading::oracle_of))]
-fn read_oracle<A: Allocator + Copy>(alloc: A, text: &[u8]) -> Result<Vec<bool, A>, ScriptFault>
-    ensures read { IfOk result (λ v. oracle_of text.now ≡ Ok v.items) }
+fn read_oracle<S: Store<bool>>(store: S, text: &[u8]) -> Result<S, ScriptFault>
+    requires empty { S.items store ≡ [] }
+    ensures read { IfOk result (λ v. oracle_of text.now ≡ Ok (S.items v)) }
     ensures refused { IfErr result (λ e. (e ≡ ScriptFault.OutOfMemory) ⊎ (oracle_of text.now ≡ Err e)) }
 {
     match first_no_answer(text) {
         Some(place) => Err(ScriptFault::BadOracle(place as u64)),
-        None => answers(alloc, text),
+        None => answers(store, text),
     }
 }

@@ -1,8 +1,7 @@
 //! One event of a side over a memory of safe bits, for tests that let machines and memory meet.
 #![tactic(auto)]
 
-use bits_core::{Access, Memory, MemoryFault, Oracle, Side};
-use std::alloc::Allocator;
+use bits_core::{Access, Event, Memory, MemoryFault, Oracle, Side, Store};
 
 /// What a step of a side was.
 #[derive(Drop)]
@@ -16,8 +15,8 @@ pub enum Step {
 }
 
 /// The side's next event: the end of the access that it has open, or the begin of the one that is due.
-pub fn next_event<A: Allocator, O: Oracle>(
-    memory: &mut Memory<A>,
+pub fn next_event<S: Store<Event>, O: Oracle>(
+    memory: &mut Memory<S>,
     side: Side,
     due: Option<Access>,
     oracle: &mut O,

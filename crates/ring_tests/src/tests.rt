@@ -1,12 +1,11 @@
 ghost use Rattle.std.specs.Prelude.{◌≡◌};
 
 use bits_core::{
-    Access, Act, Always, Bit, Event, Memory, MemoryFault, Oracle, Shape, Side, Tape, Verdict,
-    audit_bits,
+    Access, Act, Always, Bit, Event, Memory, MemoryFault, Oracle, Shape, Side, Store, Tape,
+    Verdict, audit_bits,
 };
 use ring_core::{Consumer, Producer, PutReply, TakeReply};
 use ring_steps::{Step, next_event};
-use std::alloc::Allocator;
 use std::process::Abort;
 use std::test::Fail;
 
@@ -50,9 +49,9 @@ impl<'a> Ring<'a> {
     }
 
     // One event of the producer, which begins its next call where it is idle; nothing once it is done.
-    fn step_producer<A: Allocator, O: Oracle>(
+    fn step_producer<S: Store<Event>, O: Oracle>(
         &mut self,
-        memory: &mut Memory<A>,
+        memory: &mut Memory<S>,
         oracle: &mut O,
     ) -> Result<(), MemoryFault> {
         if self.producer.next().is_none() {
@@ -77,9 +76,9 @@ impl<'a> Ring<'a> {
     }
 
     // One event of the consumer, which begins its next take where it is idle; nothing once it is done.
-    fn step_consumer<A: Allocator, O: Oracle>(
+    fn step_consumer<S: Store<Event>, O: Oracle>(
         &mut self,
-        memory: &mut Memory<A>,
+        memory: &mut Memory<S>,
         oracle: &mut O,
     ) -> Result<(), MemoryFault> {
         if self.consumer.next().is_none() && self.taken < self.takes && !self.told {
@@ -104,9 +103,9 @@ impl<'a> Ring<'a> {
     }
 
     // So many steps of each side in turn.
-    fn run<A: Allocator, O: Oracle>(
+    fn run<S: Store<Event>, O: Oracle>(
         &mut self,
-        memory: &mut Memory<A>,
+        memory: &mut Memory<S>,
         oracle: &mut O,
         schedule: &[(Side, u64)],
     ) -> Result<(), MemoryFault> {
@@ -154,7 +153,12 @@ impl Report {
     }
 }
 
-fn expect_report<A: Allocator>(rt: &impl Abort, ring: &Ring, memory: &Memory<A>, report: Report) {
+fn expect_report<S: Store<Event>>(
+    rt: &impl Abort,
+    ring: &Ring,
+    memory: &Memory<S>,
+    report: Report,
+) {
     let made = Report {
         events: memory.events().len(),
         stored: ring.stored,
@@ -287,9 +291,9 @@ fn count_write(event: &Event) -> Option<(u8, bool)> {
 }
 
 // The events from a place on write these bits of a count.
-fn expect_count_writes<A: Allocator>(
+fn expect_count_writes<S: Store<Event>>(
     rt: &impl Abort,
-    memory: &Memory<A>,
+    memory: &Memory<S>,
     before: usize,
     writes: &[(u8, bool)],
 ) {
@@ -304,10 +308,10 @@ fn expect_count_writes<A: Allocator>(
 }
 
 // One whole call of the side: so many events, and these writes to its count.
-fn expect_call<A: Allocator>(
+fn expect_call<S: Store<Event>>(
     rt: &impl Abort,
     ring: &mut Ring,
-    memory: &mut Memory<A>,
+    memory: &mut Memory<S>,
     side: Side,
     events: usize,
     writes: &[(u8, bool)],

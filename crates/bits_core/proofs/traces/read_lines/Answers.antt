@@ -1,39 +1,64 @@
-use Rattle.std.proofs.Common.{ℕ, ◌+◌, length, inr, ap, sym, ◌∙◌, arith}
+use Rattle.std.proofs.Common.{◌≡◌, ◌++◌, ◌∷◌, [], List, length, inr, ap, subst, sym, ◌∙◌, arith, rules}
+use Rattle.bits_core.specs.declared.events.Event.{Event}
+use Rattle.bits_core.specs.TraceText.{trace_text}
+use Rattle.bits_core.specs.Trace.{AreOfShape, HasMore}
 use Rattle.bits_core.proofs.TraceLemmas.{AreOfShape-push, goes_on_at, length-push, text_more}
 use Rattle.bits_core.proofs.traces.read_lines.Goals as goal
 
-pub returns-then-len-eq-EVENT_LIMIT-clause-refused : goal.returns-then-len-eq-EVENT_LIMIT-clause-refused
-returns-then-len-eq-EVENT_LIMIT-clause-refused g c =
+pub returns-then-count-eq-EVENT_LIMIT-clause-refused : goal.returns-then-count-eq-EVENT_LIMIT-clause-refused
+returns-then-count-eq-EVENT_LIMIT-clause-refused g c =
     let l = c.loop-rest.invariant in
+    let events : List Event = g.S.Store.items c.loop-rest.store in
     inr (record {
       shape = c.in_ok-shape.shape;
-      events = c.loop-rest.events.items;
+      events = events;
       rest = c.loop-rest.rest.now;
-      goes_on = goes_on_at c.args.bytes.now c.in_ok-shape.shape c.loop-rest.events.items c.loop-rest.rest.now l.text l.of_shape (sym c.loop-rest-test.ensures);
-      full = l.len ∙ sym c.len.ensures ∙ c.if-len-eq-EVENT_LIMIT.true;
+      goes_on = goes_on_at c.args.bytes.now c.in_ok-shape.shape events c.loop-rest.rest.now l.text l.of_shape (sym c.loop-rest-test.ensures);
+      full = omega (arith, ap length c.as_slice-count.ensures, c.if-count-eq-EVENT_LIMIT.true);
     })
 
 pub returns-in_default-clause-refused : goal.returns-in_default-clause-refused
 returns-in_default-clause-refused g c =
     let l = c.loop-rest.invariant in
+    let events : List Event = g.S.Store.items c.loop-rest.store in
     inr (inr (record {
       shape = c.in_ok-shape.shape;
-      events = c.loop-rest.events.items;
+      events = events;
       rest = c.loop-rest.rest.now;
-      goes_on = goes_on_at c.args.bytes.now c.in_ok-shape.shape c.loop-rest.events.items c.loop-rest.rest.now l.text l.of_shape (sym c.loop-rest-test.ensures);
-      room = omega (arith, c.if-len-eq-EVENT_LIMIT.false);
+      goes_on = goes_on_at c.args.bytes.now c.in_ok-shape.shape events c.loop-rest.rest.now l.text l.of_shape (sym c.loop-rest-test.ensures);
+      room = omega (arith, l.within, ap length c.as_slice-count.ensures, c.if-count-eq-EVENT_LIMIT.false);
       no_event = c.in_default.ensures;
-      number = ap (λ (n : ℕ). n + 2) (c.len-in_default.ensures ∙ sym l.len);
+      number = omega (arith, ap length c.as_slice-count.ensures);
     }))
+
+pub returns-in_err-reserve-clause-refused : goal.returns-in_err-reserve-clause-refused
+returns-in_err-reserve-clause-refused g c =
+    let l = c.loop-rest.invariant in
+    let before : List Event = g.S.Store.items c.loop-rest.store in
+    let shape = c.in_ok-shape.shape in
+    let e : Event = c.in-Some.event in
+    let same : before ≡ g.S.Store.items c.reserve.new.self = sym c.in_err-reserve.ensures.items in
+    let more : HasMore c.args.bytes.now (g.S.Store.items c.reserve.new.self) = subst (λ (t : List Event). HasMore c.args.bytes.now t) same (record {
+      shape = shape;
+      next = e;
+      rest = c.in-Some.others.now;
+      text = text_more shape before e c.args.bytes.now c.loop-rest.rest.now c.in-Some.others.now l.text c.in-Some.ensures.1;
+      of_shape = AreOfShape-push shape before e l.of_shape c.in-Some.ensures.0;
+    }) in
+    let refuses = c.in_err-reserve.ensures.refused in
+    search rules
 
 pub loop-rest-preserved : goal.loop-rest-preserved
 loop-rest-preserved g c =
     let l = c.loop-rest.invariant in
-    let events = c.loop-rest.events.items in
-    let e = c.in-Some.event in
+    let events : List Event = g.S.Store.items c.loop-rest.store in
+    let shape = c.in_ok-shape.shape in
+    let e : Event = c.in-Some.event in
+    let after : List Event = g.S.Store.items c.add.new.self in
+    let items : events ++ e ∷ [] ≡ after = sym (c.add.ensures.items ∙ ap (λ (t : List Event). t ++ e ∷ []) c.in_ok-reserve.ensures.items) in
     record {
-      text = rw c.in_ok-push.ensures.items (text_more c.in_ok-shape.shape events e c.args.bytes.now c.loop-rest.rest.now c.in-Some.others.now l.text c.in-Some.ensures.1);
-      of_shape = rw c.in_ok-push.ensures.items (AreOfShape-push c.in_ok-shape.shape events e l.of_shape c.in-Some.ensures.0);
-      len = ap length c.in_ok-push.ensures.items ∙ length-push events e ∙ omega (arith, c.in_ok-push.ensures.len);
-      within = omega (arith, c.in_ok-push.ensures.len);
+      text = subst (λ (t : List Event). c.args.bytes.now ≡ trace_text shape t ++ c.in-Some.others.now) items (text_more shape events e c.args.bytes.now c.loop-rest.rest.now c.in-Some.others.now l.text c.in-Some.ensures.1);
+      of_shape = subst (λ (t : List Event). AreOfShape shape t) items (AreOfShape-push shape events e l.of_shape c.in-Some.ensures.0);
+      within = omega (arith, l.within, ap length items, length-push events e, ap length c.as_slice-count.ensures, c.if-count-eq-EVENT_LIMIT.false);
+      slots = λ first s. c.add.ensures.slots first (c.in_ok-reserve.ensures.slots first (l.slots first s));
     }

@@ -1,4 +1,4 @@
-use Rattle.std.proofs.Common.{◌≡◌, ◌≤◌, ◌++◌, length, vec_len}
+use Rattle.std.proofs.Common.{◌≡◌, ◌≤◌, ◌++◌, length}
 use Rattle.bits_core.specs.declared.traces.TheConstants.{EVENT_LIMIT}
 use Rattle.bits_core.specs.Trace.{AreOfShape}
 use Rattle.bits_core.specs.TraceText.{trace_text}
@@ -7,10 +7,10 @@ use Rattle.bits_core.proofs.traces.read_lines.Given as goal
 -- what was read so far is the text of the events so far
 abbrev pub invariant-loop-rest : goal.invariant-loop-rest
 invariant-loop-rest g l = record {
-  text : l.bytes ≡ trace_text l.shape l.events.items ++ l.rest;
-  of_shape : AreOfShape l.shape l.events.items;
-  len : length l.events.items ≡ vec_len l.events;
-  within : vec_len l.events ≤ EVENT_LIMIT;
+  text : l.bytes ≡ trace_text l.shape (g.S.Store.items l.store) ++ l.rest;
+  of_shape : AreOfShape l.shape (g.S.Store.items l.store);
+  within : length (g.S.Store.items l.store) ≤ EVENT_LIMIT;
+  slots : (first : _) → g.S.Store.same_slots first l.initial.store → g.S.Store.same_slots first l.store;
 }
 
 abbrev pub decreases-loop-rest : goal.decreases-loop-rest

@@ -1,55 +1,7 @@
-use Rattle.std.proofs.Common.{◌≡◌, true, List, subst, sym}
-use Rattle.std.specs.Prelude.{◌↔◌}
-use Rattle.ring_core.specs.Items.{items_put_in, items_taken_in, ToldIn}
-use Rattle.ring_core.specs.Over.{empties, fulls, puts_over_in, takes_over_in}
-use Rattle.ring_core.specs.Puts.{FollowsPuts}
-use Rattle.ring_core.specs.Takes.{FollowsTakes}
+use Rattle.std.proofs.Common.{subst, IfOk}
 use Rattle.ring_script.specs.Script.{Content}
-use Rattle.bits_core.specs.declared.events.Event.{Event}
-use Rattle.ring_player.specs.Headline.{FillsRing, HoldsHeadline}
+use Rattle.ring_player.specs.Headline.{FillsRing}
 use Rattle.ring_player.proofs.worlds.play.Goals as goal
 
-pub returns-clause-headline : goal.returns-clause-headline
-returns-clause-headline g c =
-    let script = c.args.script.now in
-    subst (λ (l : List Event). HoldsHeadline script l) (sym c.report.ensures.history) (c.every_play_holds.ensures script script.letters c.run.new.world.history c.in_ok-run.ensures.plays)
-
 pub returns-clause-batches : goal.returns-clause-batches
-returns-clause-batches g c =
-    let script = c.args.script.now in
-    subst (λ (l : List Event). FillsRing script l) (sym c.report.ensures.history) (c.every_play_fills.ensures script script.letters c.run.new.world.history c.in_ok-run.ensures.plays)
-
-pub returns-clause-taken : goal.returns-clause-taken
-returns-clause-taken g c takes =
-    let w = c.run.new.world in
-    let taken = c.report.result.taken.items in
-    subst (λ (l : List Event). FollowsTakes c.args.script.now.shape l takes → taken ≡ items_taken_in c.args.script.now.shape l takes) (sym c.report.ensures.history)
-    (subst (λ (t : Content). FollowsTakes t.shape w.history takes → taken ≡ items_taken_in t.shape w.history takes) c.in_ok-run.ensures.script (c.report.ensures.taken takes))
-
-pub returns-clause-told : goal.returns-clause-told
-returns-clause-told g c takes =
-    let w = c.run.new.world in
-    let told = c.report.result.told in
-    subst (λ (l : List Event). FollowsTakes c.args.script.now.shape l takes → (told ≡ true) ↔ ToldIn c.args.script.now.shape l takes) (sym c.report.ensures.history)
-    (subst (λ (t : Content). FollowsTakes t.shape w.history takes → (told ≡ true) ↔ ToldIn t.shape w.history takes) c.in_ok-run.ensures.script (c.report.ensures.told takes))
-
-pub returns-clause-put : goal.returns-clause-put
-returns-clause-put g c puts =
-    let w = c.run.new.world in
-    let put = c.report.result.put.now in
-    subst (λ (l : List Event). FollowsPuts c.args.script.now.shape l puts → put ≡ items_put_in c.args.script.now.shape l puts) (sym c.report.ensures.history)
-    (subst (λ (t : Content). FollowsPuts t.shape w.history puts → put ≡ items_put_in t.shape w.history puts) c.in_ok-run.ensures.script (c.report.ensures.put puts))
-
-pub returns-clause-full : goal.returns-clause-full
-returns-clause-full g c puts =
-    let w = c.run.new.world in
-    let full = c.report.result.full in
-    subst (λ (l : List Event). FollowsPuts c.args.script.now.shape l puts → full ≡ fulls (puts_over_in c.args.script.now.shape l puts)) (sym c.report.ensures.history)
-    (subst (λ (t : Content). FollowsPuts t.shape w.history puts → full ≡ fulls (puts_over_in t.shape w.history puts)) c.in_ok-run.ensures.script (c.report.ensures.full puts))
-
-pub returns-clause-empty : goal.returns-clause-empty
-returns-clause-empty g c takes =
-    let w = c.run.new.world in
-    let empty = c.report.result.empty in
-    subst (λ (l : List Event). FollowsTakes c.args.script.now.shape l takes → empty ≡ empties (takes_over_in c.args.script.now.shape l takes)) (sym c.report.ensures.history)
-    (subst (λ (t : Content). FollowsTakes t.shape w.history takes → empty ≡ empties (takes_over_in t.shape w.history takes)) c.in_ok-run.ensures.script (c.report.ensures.empty takes))
+returns-clause-batches g c = subst (λ (t : Content). IfOk c.play_first.result (λ r. FillsRing t r.history.items)) c.as_ref.ensures c.play_first.ensures.batches

@@ -5,15 +5,15 @@ use Rattle.ring_script.proofs.schedules.runs.Goals as goal
 use Rattle.ring_script.proofs.schedules.runs.Goals.{then-is_a_digit+else-total-more-gt-LETTER_LIMIT, else-is_a_digit+else-total-times-gt-LETTER_LIMIT+in_ok-push}
 
 pub returns-in_default-clause-spelled : goal.returns-in_default-clause-spelled
-returns-in_default-clause-spelled g c = no_letters _ _ c.in_default.ensures.cases c.new-runs.ensures.items
+returns-in_default-clause-spelled g c = no_letters _ _ c.in_default.ensures.cases c.requires.empty
 
 pub returns-in_default-clause-within : goal.returns-in_default-clause-within
 returns-in_default-clause-within g c = no_length _ _ c.in_default.ensures.cases
 
 pub loop-b-init : goal.loop-b-init
 loop-b-init g c = record {
-  letters = letters_begin _ _ _ _ _ c.in-Some.ensures.cases.0 c.letter_side-last.ensures c.new-runs.ensures.items;
-  total = no_total _ c.new-runs.ensures.items;
+  letters = letters_begin _ _ _ _ _ c.in-Some.ensures.cases.0 c.letter_side-last.ensures c.requires.empty;
+  total = no_total _ c.requires.empty;
   within = omega arith;
 }
 
@@ -21,7 +21,7 @@ pub returns-then-total-more-gt-LETTER_LIMIT-clause-refused : goal.returns-then-t
 returns-then-total-more-gt-LETTER_LIMIT-clause-refused g c =
     inr (
       refl,
-      too_long _ _ _ _ _ _ _ (ap (λ l. spelled c.loop-b.runs.items ++ l) (sym (digit_next _ _ _ _ _ c.loop-b-test.true c.is_a_digit.ensures c.if-is_a_digit.true)) ∙ c.loop-b.invariant.letters)
+      too_long _ _ _ _ _ _ _ (ap (λ l. spelled (g.S.Store.items c.loop-b.runs) ++ l) (sym (digit_next _ _ _ _ _ c.loop-b-test.true c.is_a_digit.ensures c.if-is_a_digit.true)) ∙ c.loop-b.invariant.letters)
           c.loop-b.invariant.total (omega (arith, c.if-total-more-gt-LETTER_LIMIT.true)),
     )
 
@@ -36,7 +36,7 @@ returns-then-total-times-gt-LETTER_LIMIT-clause-refused g c =
 pub loop-b-preserved : goal.loop-b-preserved
 loop-b-preserved g c = elim c.if-is_a_digit.branch [
   | then-is_a_digit+else-total-more-gt-LETTER_LIMIT w ↦ rw (w.runs-is, w.last-is, w.count-is, w.total-is, w.from.ensures) (record {
-    letters = ap (λ l. spelled c.loop-b.runs.items ++ l) (sym (digit_next _ _ _ _ _ c.loop-b-test.true c.is_a_digit.ensures w.if-is_a_digit.true)) ∙ c.loop-b.invariant.letters;
+    letters = ap (λ l. spelled (g.S.Store.items c.loop-b.runs) ++ l) (sym (digit_next _ _ _ _ _ c.loop-b-test.true c.is_a_digit.ensures w.if-is_a_digit.true)) ∙ c.loop-b.invariant.letters;
     total = c.loop-b.invariant.total;
     within = omega (arith, w.if-total-more-gt-LETTER_LIMIT.false, w.from.ensures);
   })

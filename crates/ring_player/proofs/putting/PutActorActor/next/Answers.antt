@@ -6,21 +6,22 @@ use Rattle.ring_player.proofs.Nexts.{put_next}
 use Rattle.ring_player.specs.Plays.{IsDoneProducer}
 use Rattle.ring_script.specs.Script.{Content}
 use Rattle.ring_player.proofs.Puttings.{resting, right, unfinished}
+use Rattle.ring_script.specs.Borrowed.{content_of}
 use Rattle.ring_player.proofs.putting.PutActorActor.next.Goals as goal
 
 pub returns-clause-unfinished : goal.returns-clause-unfinished
-returns-clause-unfinished g c a is list s =
+returns-clause-unfinished c a is list s =
     let y = c.begin_call.new.self in
     subst (λ (t : Content). ¬ IsDoneProducer t (events_of P list)) c.begin_call.ensures.script
-    (unfinished c.calls_are_first.ensures.puts y.script.now y.producer (record { stored = y.stored; full = y.full }) list c.next.result a (c.begin_call.ensures.stands list s.0) (put_next _ _ c.next.ensures.rest c.next.ensures.goes_on) is)
+    (unfinished c.calls_are_first.ensures.puts (content_of y.script) y.producer (record { stored = y.stored; full = y.full }) list c.next.result a (c.begin_call.ensures.stands list s.0) (put_next _ _ c.next.ensures.rest c.next.ensures.goes_on) is)
 
 pub returns-clause-right : goal.returns-clause-right
-returns-clause-right g c a is list s =
+returns-clause-right c a is list s =
     let y = c.begin_call.new.self in
     subst (λ (t : Content). IsOpenRight t.shape P a) c.begin_call.ensures.script
-    (right y.script.now y.producer (record { stored = y.stored; full = y.full }) list c.next.result a (c.begin_call.ensures.stands list s.0) c.next.ensures.right is)
+    (right (content_of y.script) y.producer (record { stored = y.stored; full = y.full }) list c.next.result a (c.begin_call.ensures.stands list s.0) c.next.ensures.right is)
 
 pub returns-clause-done : goal.returns-clause-done
-returns-clause-done g c none list s =
+returns-clause-done c none list s =
     let y = c.begin_call.new.self in
-    c.begin_call.ensures.done (resting y.script.now y.producer (record { stored = y.stored; full = y.full }) list c.next.result (c.begin_call.ensures.stands list s.0) (put_next _ _ c.next.ensures.rest c.next.ensures.goes_on) none) list s.0
+    c.begin_call.ensures.done (resting (content_of y.script) y.producer (record { stored = y.stored; full = y.full }) list c.next.result (c.begin_call.ensures.stands list s.0) (put_next _ _ c.next.ensures.rest c.next.ensures.goes_on) none) list s.0

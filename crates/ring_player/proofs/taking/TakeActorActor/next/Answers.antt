@@ -6,21 +6,22 @@ use Rattle.ring_player.proofs.Nexts.{take_next}
 use Rattle.ring_player.specs.Plays.{IsDoneConsumer}
 use Rattle.ring_script.specs.Script.{Content}
 use Rattle.ring_player.proofs.Takings.{resting, right, unfinished}
+use Rattle.ring_script.specs.Borrowed.{content_of}
 use Rattle.ring_player.proofs.taking.TakeActorActor.next.Goals as goal
 
 pub returns-clause-unfinished : goal.returns-clause-unfinished
 returns-clause-unfinished g c a is list s =
     let y = c.begin_take.new.self in
     subst (λ (t : Content). ¬ IsDoneConsumer t (events_of C list)) c.begin_take.ensures.script
-    (unfinished c.calls_are_first.ensures.takes y.script.now y.consumer y.taken.items y.told y.empty list c.next.result a (c.begin_take.ensures.stands list s) (take_next _ _ c.next.ensures.rest c.next.ensures.goes_on) is)
+    (unfinished c.calls_are_first.ensures.takes (content_of y.script) y.consumer (g.T.Store.items y.taken) y.told y.empty list c.next.result a (c.begin_take.ensures.stands list s) (take_next _ _ c.next.ensures.rest c.next.ensures.goes_on) is)
 
 pub returns-clause-right : goal.returns-clause-right
 returns-clause-right g c a is list s =
     let y = c.begin_take.new.self in
     subst (λ (t : Content). IsOpenRight t.shape C a) c.begin_take.ensures.script
-    (right y.script.now y.consumer y.taken.items y.told y.empty list c.next.result a (c.begin_take.ensures.stands list s) c.next.ensures.right is)
+    (right (content_of y.script) y.consumer (g.T.Store.items y.taken) y.told y.empty list c.next.result a (c.begin_take.ensures.stands list s) c.next.ensures.right is)
 
 pub returns-clause-done : goal.returns-clause-done
 returns-clause-done g c none list s =
     let y = c.begin_take.new.self in
-    c.begin_take.ensures.done (resting y.script.now y.consumer y.taken.items y.told y.empty list c.next.result (c.begin_take.ensures.stands list s) (take_next _ _ c.next.ensures.rest c.next.ensures.goes_on) none) list s
+    c.begin_take.ensures.done (resting (content_of y.script) y.consumer (g.T.Store.items y.taken) y.told y.empty list c.next.result (c.begin_take.ensures.stands list s) (take_next _ _ c.next.ensures.rest c.next.ensures.goes_on) none) list s

@@ -1,6 +1,0 @@
-use Rattle.std.proofs.Common.{refl}
-use Rattle.bits_core.proofs.LawProofs.{empty_is_lawful}
-use Rattle.bits_core.proofs.memory.Memory.new.Goals as goal
-
-pub invariant_of-result : goal.invariant_of-result
-invariant_of-result g c = rw c.new.ensures.items (record { lawful = empty_is_lawful c.args.shape; counted = refl }, c.new-2.ensures c.args.shape)

@@ -1,0 +1,138 @@
+//! Lists that grow at their end, in memory of an allocator or of the caller.
+ghost use Rattle.std.specs.Prelude.{◌≡◌, ◌≤◌, length, take};
+
+use std::alloc::{AllocError, Allocator};
+use std::fmt;
+
+/// A list that grows at its end: a `Vec`, or the front of a slice of the caller's.
+pub trait Store<T>: Drop {
+    ghost use Rattle.std.specs.Prelude.{◌≡◌, List, [], ◌∷◌, ◌++◌, OnErr, OnOk};
+
+    // The list.
+    ghost items: { Self → List T };
+
+    // There is room for one item more.
+    ghost has_room: { Self → Type 0 };
+
+    // What is known where room was refused.
+    ghost refuses: { Self → Type 0 };
+
+    // The second lies where the first did.
+    ghost same_slots: { Self → Self → Type 0 };
+
+    /// Makes room for one item more. The list stays as it was, also where room is refused.
+    fn reserve(&mut self) -> Result<(), AllocError>
+        ensures items { items self.new ≡ items self.old }
+        ensures room { OnOk result (has_room self.new) }
+        ensures refused { OnErr result (refuses self.new) }
+        ensures slots { (first : Self) → same_slots first self.old → same_slots first self.new };
+
+    /// Adds an item at the end, where there is room for it.
+    fn add(&mut self, item: T)
+        requires { has_room self.old }
+        ensures items { items self.new ≡ items self.old ++ item ∷ [] }
+        ensures slots { (first : Self) → same_slots first self.old → same_slots first self.new };
+
+    /// The items, in order.
+    fn as_slice(&self) -> &[T]
+        ensures { result.now ≡ items self.now };
+}
+
+impl<T: Drop, A: Allocator> Store<T> for Vec<T, A> {
+    ghost use Rattle.std.specs.Prelude.{◌<◌};
+    ghost use Rattle.std.specs.Vec.{vec_len, vec_capacity};
+
+    ghost items = { λ v. v.items };
+
+    ghost has_room = { λ v. vec_len v < vec_capacity v };
+
+    ghost refuses = { λ v. Unit {0} };
+
+    ghost same_slots = { λ first v. Unit {0} };
+
+    fn reserve(&mut self) -> Result<(), AllocError> {
+        Vec::reserve(self, 1)
+    }
+
+    fn add(&mut self, item: T) {
+        self.push_reserved(item);
+    }
+
+    fn as_slice(&self) -> &[T] {
+        Vec::as_slice(self)
+    }
+}
+
+/// A list in a slice of the caller's: its first slots hold the items, and it is counted how many.
+///
+/// It takes no memory. There is room as long as a slot is left; `AllocError` tells that none is.
+#[derive(Drop)]
+pub struct Filled<'a, T: Copy> {
+    slots: &'a mut [T],
+    used: usize,
+    pub ghost within: { used ≤ length slots.now },
+}
+
+impl<'a, T: Copy> Filled<'a, T> {
+    /// An empty list with these slots. There may be none.
+    pub fn new(slots: &'a mut [T]) -> Self
+        ensures empty { result.used ≡ 0 }
+        ensures slots { result.slots.now ≡ slots.old }
+        ensures same_slots { result.slots.ghost_name ≡ slots.entry.ghost_name }
+    {
+        Filled { slots, used: 0 }
+    }
+
+    /// The items, for as long as the slots are lent.
+    pub fn into_slice(self) -> &'a [T]
+        ensures { result.now ≡ take self.entry.used self.entry.slots.now }
+    {
+        let Filled { slots, used } = self;
+        &slots[..used]
+    }
+
+    /// How many slots are in use.
+    pub fn len(&self) -> usize
+        ensures value { result ≡ self.now.used }
+        ensures within { result ≤ length self.now.slots.now }
+    {
+        self.used
+    }
+}
+
+impl<'a, T: Copy> Store<T> for Filled<'a, T> {
+    ghost use Rattle.std.specs.Prelude.{◌≡◌, ◌<◌, ◌≤◌, length, take};
+
+    ghost items = { λ f. take f.used f.slots.now };
+
+    ghost has_room = { λ f. f.used < length f.slots.now };
+
+    ghost refuses = { λ f. length f.slots.now ≤ f.used };
+
+    ghost same_slots = { λ first f. f.slots.ghost_name ≡ first.slots.ghost_name };
+
+    fn reserve(&mut self) -> Result<(), AllocError> {
+        if self.used < self.slots.len() {
+            Ok(())
+        } else {
+            Err(AllocError)
+        }
+    }
+
+    fn add(&mut self, item: T) {
+        self.slots[self.used] = item;
+        self.used += 1;
+    }
+
+    fn as_slice(&self) -> &[T] {
+        &self.slots[..self.used]
+    }
+}
+
+impl<'a, T: Copy + fmt::Debug> fmt::Debug for Filled<'a, T> {
+    /// The items.
+    fn fmt<W: fmt::Write>(&self, f: &mut fmt::Formatter<W>) -> fmt::Result {
+        let items = self.as_slice();
+        write!(f, "{items:?}")
+    }
+}

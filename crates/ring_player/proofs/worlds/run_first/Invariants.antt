@@ -1,0 +1,13 @@
+use Rattle.std.proofs.Common.{◌≡◌, ◌-◌, length, take}
+use Rattle.ring_script.specs.Borrowed.{content_of}
+use Rattle.ring_script.specs.Schedule.{spelled}
+use Rattle.ring_player.specs.Plays.{Plays}
+use Rattle.ring_player.proofs.worlds.run_first.Given as goal
+
+abbrev pub invariant-loop-run : goal.invariant-loop-run
+invariant-loop-run g l = record {
+  script : l.world.script ≡ content_of l.fn.script;
+  all : spelled l.run-items ≡ (content_of l.fn.script).letters;
+  plays : Plays (content_of l.fn.script) (take l.fn.letters (spelled (take l.run-index l.run-items))) l.world.history;
+  left : l.left ≡ l.fn.letters - length (spelled (take l.run-index l.run-items));
+}

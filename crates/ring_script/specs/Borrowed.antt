@@ -1,0 +1,30 @@
+-- What a borrowed script is seen as.
+use Rattle.ring_script.specs.Schedule.{spelled}
+use Rattle.ring_script.specs.Script.{Content, Held}
+use Rattle.ring_script.specs.declared.borrowed.Fields.{Fields}
+use Rattle.ring_script.specs.declared.borrowed.ScriptRef.{ScriptRef}
+
+-- its content
+abbrev pub content_of : ScriptRef → Content
+content_of script = record {
+  shape = script.shape;
+  items = script.items.now;
+  takes = script.takes;
+  closes = script.closes;
+  letters = spelled script.runs.now;
+  oracle = script.oracle.now;
+}
+
+-- the values of the fields
+abbrev pub held_of : Fields → Held
+held_of fields = record {
+  capacity = fields.capacity;
+  modulus = fields.modulus;
+  width = fields.width;
+  items = fields.items.now;
+  takes = fields.takes;
+  close = fields.close;
+  schedule = fields.schedule.now;
+  oracle = fields.oracle.now;
+  batch = fields.batch;
+}
