@@ -30,6 +30,7 @@ impl UnaryScan {
     ghost use Rattle.register_core.specs.ScanState.{new_scan, due_scan, scan_read, row_read_by, ScanStands, LastIsDue, IsNextScan, IsValueRead};
 
     /// A scan by a side: side C scans the bits `S`, and side P the bits `R`.
+    #[inline(always)]
     pub fn new(shape: &Shape, side: Side) -> Self
         ensures state { result ≡ new_scan side (modulus_of shape.now) }
         ensures stands { ScanStands result [] }
@@ -43,6 +44,7 @@ impl UnaryScan {
     }
 
     /// The bit read that is due, and none once one answered 1.
+    #[inline(always)]
     pub fn next(&self) -> Option<Access>
         ensures due { result ≡ due_scan self.now }
         ensures stands { (made : List Made) → ScanStands self.now made → IsNextScan (row_read_by self.now.side) self.now.modulus made result }
@@ -58,6 +60,7 @@ impl UnaryScan {
     }
 
     /// The due read was made and answered so. Where [`expects_one`](Self::expects_one), the answer must be 1.
+    #[inline(always)]
     pub fn feed(&mut self, answer: bool)
         requires due { due_scan self.old ≢ None }
         requires one { LastIsDue self.old → answer ≡ true }
@@ -72,6 +75,7 @@ impl UnaryScan {
     }
 
     /// The value, once a bit was read as 1, and none before.
+    #[inline(always)]
     pub fn value(&self) -> Option<u64>
         ensures state { result ≡ (if self.now.found then Some self.now.zeros else None) }
         ensures stands { (made : List Made) → ScanStands self.now made → IsValueRead (row_read_by self.now.side) self.now.modulus made result }
@@ -81,6 +85,7 @@ impl UnaryScan {
 
     /// Whether the last bit of the count is due. Where the count is written by unary writes of values below
     /// the modulus it answers 1, as all others answered 0 (law `unary_has_one`).
+    #[inline(always)]
     pub fn expects_one(&self) -> bool
         ensures { IsTrue result ↔ LastIsDue self.now }
     {

@@ -32,6 +32,7 @@ impl Model for UnaryWriter {
 }
 
 /// The place down to which the bits below `from` are clear.
+#[inline(always)]
 fn clear_down(bits: &[bool; 256], from: usize) -> usize
     requires { from ≤ 256 }
     ensures within { result ≤ from }
@@ -67,6 +68,7 @@ impl UnaryWriter {
     }
 
     /// Begins a unary write of a value below the modulus. No access may be due.
+    #[inline(always)]
     pub fn write(&mut self, value: u64)
         requires below { value < self.old.modulus }
         requires idle { due_unary self.old ≡ None }
@@ -78,6 +80,7 @@ impl UnaryWriter {
     }
 
     /// The bit write that is due, and none once the value is written.
+    #[inline(always)]
     pub fn next(&self) -> Option<Access>
         ensures due { result ≡ due_unary self.now }
         ensures stands { (values : List ℕ) (made : List Made) → UnaryStands self.now values made → IsNext (count_writes self.now.side values) made result }
@@ -92,6 +95,7 @@ impl UnaryWriter {
     }
 
     /// The due write was made. What it was answered is ignored.
+    #[inline(always)]
     pub fn feed(&mut self, answer: bool)
         requires { due_unary self.old ≢ None }
         ensures state { self.new ≡ row_fed self.old }
@@ -110,6 +114,7 @@ impl UnaryWriter {
 }
 
 /// A write of a value to a bit of the side's own count.
+#[inline(always)]
 fn write_to(side: Side, bit: u8, value: bool) -> Access
     ensures { result ≡ Access.Write (row_bit side bit) value }
 {

@@ -32,6 +32,7 @@ impl WordWriter {
     ghost use Rattle.register_core.specs.WordState.{due_write, WriterStands};
 
     /// A word write of an item that fits the shape, to a cell below the capacity.
+    #[inline(always)]
     pub fn new(shape: &Shape, cell: u64, item: u64) -> Self
         requires in_shape { cell < capacity_of shape.now }
         requires fits { item < 2 ^ width_of shape.now }
@@ -47,6 +48,7 @@ impl WordWriter {
     }
 
     /// The digit write that is due, and none once all were made.
+    #[inline(always)]
     pub fn next(&self) -> Option<Access>
         ensures due { result ≡ due_write self.now }
         ensures stands { (made : List Made) → WriterStands self.now made → IsNext (word_write self.now.width self.now.cell self.now.item) made result }
@@ -60,6 +62,7 @@ impl WordWriter {
     }
 
     /// The due write was made. What it was answered is ignored.
+    #[inline(always)]
     pub fn feed(&mut self, answer: bool)
         requires { due_write self.old ≢ None }
         ensures state { self.new ≡ record self.old { written = suc self.old.written } }
@@ -94,6 +97,7 @@ impl WordReader {
     ghost use Rattle.register_core.specs.WordState.{due_read, read_digit, ReaderStands, IsNextRead, IsItemRead};
 
     /// A word read of a cell below the capacity.
+    #[inline(always)]
     pub fn new(shape: &Shape, cell: u64) -> Self
         requires { cell < capacity_of shape.now }
         ensures state { result ≡ record { width = width_of shape.now; cell = cell; read = 0; value = 0 } }
@@ -108,6 +112,7 @@ impl WordReader {
     }
 
     /// The digit read that is due, and none once all were made.
+    #[inline(always)]
     pub fn next(&self) -> Option<Access>
         ensures due { result ≡ due_read self.now }
         ensures stands { (made : List Made) → ReaderStands self.now made → IsNextRead self.now.width self.now.cell made result }
@@ -120,6 +125,7 @@ impl WordReader {
     }
 
     /// The due read was made and answered so.
+    #[inline(always)]
     pub fn feed(&mut self, answer: bool)
         requires { due_read self.old ≢ None }
         ensures state { self.new ≡ read_digit self.old answer }
@@ -132,6 +138,7 @@ impl WordReader {
     }
 
     /// The item, once every digit was read, and none before.
+    #[inline(always)]
     pub fn value(&self) -> Option<u64>
         ensures state { result ≡ (if nat_lt self.now.read self.now.width then None else Some self.now.value) }
         ensures stands { (made : List Made) → ReaderStands self.now made → IsItemRead self.now.width self.now.cell made result }

@@ -4,7 +4,7 @@ ghost use Rattle.bits_core.specs.declared.events.Side.TheVariants.{C};
 ghost use Rattle.bits_core.specs.Made.{Made, answered};
 ghost use Rattle.bits_core.specs.Open.{IsOpenRight};
 
-use crate::counts::has_item;
+use crate::counts::{has_item, past_in};
 use bits_core::{Access, Bit, Shape, Side};
 use register_core::{UnaryScan, UnaryWriter, WordReader};
 use std::marker::Model;
@@ -84,6 +84,7 @@ impl Consumer {
 
     /// Begins a take. No access may be due. The accesses made stay as they were. Once a take was answered
     /// `Closed`, each is answered so at once, with no access, and nothing else changes.
+    #[inline(always)]
     pub fn take(&mut self)
         requires { due_take self.old ≡ None }
         ensures shape { self.new.shape ≡ self.old.shape }
@@ -104,6 +105,7 @@ impl Consumer {
     /// so a memory of that shape takes it. Whatever it is answered, but for a 0 where
     /// [`expects_one`](Self::expects_one), the take goes on with it; a take has at most so many accesses as
     /// [`calls_are_short`](crate::laws::calls_are_short) says.
+    #[inline(always)]
     pub fn next(&self) -> Option<Access>
         ensures due { result ≡ due_take self.now }
         ensures right { IfSome result (IsOpenRight self.now.shape C) }
@@ -123,6 +125,7 @@ impl Consumer {
 
     /// The due access was made and answered so; the answer to a write says nothing. Where
     /// [`expects_one`](Self::expects_one), the answer must be 1.
+    #[inline(always)]
     pub fn feed(&mut self, answer: bool)
         requires due { due_take self.old ≢ None }
         requires one { LastBitIsDue self.old.shape C (due_take self.old) → answer ≡ true }
@@ -139,6 +142,7 @@ impl Consumer {
         }
     }
 
+    #[inline(always)]
     fn feed_scan(&mut self, answer: bool)
         requires stage { self.old.stage ≡ Scanning }
         requires one { LastBitIsDue self.old.shape C (due_take self.old) → answer ≡ true }
@@ -159,6 +163,7 @@ impl Consumer {
         }
     }
 
+    #[inline(always)]
     fn feed_check(&mut self, answer: bool)
         requires stage { self.old.stage ≡ Checking }
         ensures shape { self.new.shape ≡ self.old.shape }
@@ -173,6 +178,7 @@ impl Consumer {
         }
     }
 
+    #[inline(always)]
     fn feed_rescan(&mut self, answer: bool)
         requires stage { self.old.stage ≡ Rescanning }
         requires one { LastBitIsDue self.old.shape C (due_take self.old) → answer ≡ true }
@@ -195,6 +201,7 @@ impl Consumer {
         }
     }
 
+    #[inline(always)]
     fn feed_word(&mut self, answer: bool)
         requires stage { self.old.stage ≡ Loading }
         ensures shape { self.new.shape ≡ self.old.shape }
@@ -202,11 +209,12 @@ impl Consumer {
     {
         self.word.feed(answer);
         if self.word.next().is_none() {
-            self.row.write((self.count + 1) % self.shape.modulus());
+            self.row.write(past_in(self.count, 1, self.shape.modulus()));
             self.stage = Stage::Counting;
         }
     }
 
+    #[inline(always)]
     fn feed_count(&mut self, answer: bool)
         requires stage { self.old.stage ≡ Counting }
         ensures shape { self.new.shape ≡ self.old.shape }
@@ -214,14 +222,15 @@ impl Consumer {
     {
         self.row.feed(answer);
         if self.row.next().is_none() {
-            self.count = (self.count + 1) % self.shape.modulus();
-            self.cell = (self.cell + 1) % self.shape.capacity();
+            self.count = past_in(self.count, 1, self.shape.modulus());
+            self.cell = past_in(self.cell, 1, self.shape.capacity());
             self.reply = self.word.value().map(TakeReply::Item);
             self.stage = Stage::Idle;
         }
     }
 
     /// What the last take was answered: none before the first one and during a take.
+    #[inline(always)]
     pub fn reply(&self) -> Option<TakeReply>
         ensures state { result ≡ self.now.reply }
         ensures stands { (calls : Takes) (made : List Made) → ConsumerStands self.now calls made → IsReply calls (is_taking self.now) result }
@@ -231,6 +240,7 @@ impl Consumer {
 
     /// Whether the last bit of the producer's count is due. Over a lawful history whose producer follows its
     /// program it answers 1.
+    #[inline(always)]
     pub fn expects_one(&self) -> bool
         ensures due { IsTrue result ↔ LastBitIsDue self.now.shape C (due_take self.now) }
         ensures stands { (calls : Takes) (made : List Made) → ConsumerStands self.now calls made → IsTrue result → EndsInZeros self.now.shape C made }

@@ -1,11 +1,12 @@
 //! What the two counts of a ring show, each kept modulo the modulus.
-ghost use Rattle.std.specs.Prelude.{◌≡◌, ◌<◌, ◌↔◌, IsTrue};
+ghost use Rattle.std.specs.Prelude.{◌≡◌, ◌+◌, ◌%◌, ◌<◌, ◌≤◌, ◌↔◌, IsTrue};
 ghost use Rattle.bits_core.specs.Shape.{modulus_of};
 ghost use Rattle.ring_core.specs.Counts as counts;
 
 use bits_core::Shape;
 
 /// How far `a` is ahead of `b` modulo a modulus above both. It is below the modulus.
+#[inline(always)]
 pub fn distance(a: u64, b: u64, modulus: u64) -> u64
     requires a { a < modulus }
     requires b { b < modulus }
@@ -17,6 +18,7 @@ pub fn distance(a: u64, b: u64, modulus: u64) -> u64
 
 /// Whether the producer's count `c` shows an item to a consumer that has taken `k`: `c` is 1 to the
 /// capacity ahead of it. Both are below the modulus.
+#[inline(always)]
 pub fn has_item(shape: &Shape, c: u64, k: u64) -> bool
     requires c { c < modulus_of shape.now }
     requires k { k < modulus_of shape.now }
@@ -28,10 +30,21 @@ pub fn has_item(shape: &Shape, c: u64, k: u64) -> bool
 
 /// Whether the consumer's count `d` leaves room to a producer that has put `n`: it is less than the
 /// capacity ahead of `d`. Both are below the modulus.
+#[inline(always)]
 pub fn has_room(shape: &Shape, n: u64, d: u64) -> bool
     requires n { n < modulus_of shape.now }
     requires d { d < modulus_of shape.now }
     ensures { IsTrue result ↔ counts.LeavesRoom shape.now n d }
 {
     distance(n, d, shape.modulus()) < shape.capacity()
+}
+
+/// The count that is so many past `n`, modulo the modulus. `n` is below it.
+#[inline(always)]
+pub(crate) fn past_in(n: u64, more: u64, modulus: u64) -> u64
+    requires { (n < modulus) × (more ≤ modulus) × (modulus < 1000) }
+    ensures { result ≡ (n + more) % modulus }
+{
+    let sum = n + more;
+    if sum < modulus { sum } else { sum - modulus }
 }

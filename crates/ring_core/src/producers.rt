@@ -6,7 +6,7 @@ ghost use Rattle.bits_core.specs.Made.{Made, answered};
 ghost use Rattle.bits_core.specs.Open.{IsOpenRight};
 ghost use Rattle.ring_core.specs.Counts as counts;
 
-use crate::counts::{distance, has_room};
+use crate::counts::{distance, has_room, past_in};
 use bits_core::{Access, Bit, Shape, Side};
 use register_core::{UnaryScan, UnaryWriter, WordWriter};
 use std::marker::Model;
@@ -34,6 +34,7 @@ pub enum BatchReply {
 }
 
 /// How many of so many items a producer that has put `n` stores, where the consumer's count `d` leaves room.
+#[inline(always)]
 fn fitting(shape: &Shape, n: u64, d: u64, offered: usize) -> usize
     requires n { n < modulus_of shape.now }
     requires d { d < modulus_of shape.now }
@@ -52,14 +53,13 @@ fn fitting(shape: &Shape, n: u64, d: u64, offered: usize) -> usize
     }
 }
 
-/// These items, held in place.
-fn held(items: &[u64]) -> [u64; 64]
+/// Keeps these items in place.
+#[inline(always)]
+fn keep(kept: &mut [u64; 64], items: &[u64])
     requires few { length items.now ≤ 64 }
-    ensures held { take (length items.now) result ≡ items.now }
+    ensures kept { take (length items.now) kept.new ≡ items.now }
 {
-    let mut kept = [0; 64];
     kept[..items.len()].copy_from_slice(items);
-    kept
 }
 
 /// How far the call under way has come.
@@ -152,6 +152,7 @@ impl Producer {
     /// Begins a put of items under one count write: some items that fit the shape, at most its batch. It stores
     /// those for which there is room, from the first on. No access may be due. The accesses made stay as they
     /// were. After a close it is answered `Closed` at once, with no access, and nothing else changes.
+    #[inline(always)]
     pub fn put_all(&mut self, items: &[u64])
         requires idle { due_put self.old ≡ None }
         requires batch { IsBatch self.old.shape items.now }
@@ -165,6 +166,7 @@ impl Producer {
         self.offer(items);
     }
 
+    #[inline(always)]
     fn offer(&mut self, items: &[u64])
         requires idle { due_put self.old ≡ None }
         requires batch { IsBatch self.old.shape items.now }
@@ -180,7 +182,7 @@ impl Producer {
         } else {
             self.scan = UnaryScan::new(&self.shape, Side::P);
             self.word = WordWriter::new(&self.shape, self.cell, items[0]);
-            self.items = held(items);
+            keep(&mut self.items, items);
             self.offered = items.len();
             self.index = 0;
             self.reply = None;
@@ -208,6 +210,7 @@ impl Producer {
     /// so a memory of that shape takes it. Whatever it is answered, but for a 0 where
     /// [`expects_one`](Self::expects_one), the call under way goes on with it; a call has at most so many accesses as
     /// [`calls_are_short`](crate::laws::calls_are_short) says.
+    #[inline(always)]
     pub fn next(&self) -> Option<Access>
         ensures due { result ≡ due_put self.now }
         ensures right { IfSome result (IsOpenRight self.now.shape P) }
@@ -226,6 +229,7 @@ impl Producer {
 
     /// The due access was made and answered so; the answer to a write says nothing. Where
     /// [`expects_one`](Self::expects_one), the answer must be 1.
+    #[inline(always)]
     pub fn feed(&mut self, answer: bool)
         requires due { due_put self.old ≢ None }
         requires one { LastBitIsDue self.old.shape P (due_put self.old) → answer ≡ true }
@@ -242,6 +246,7 @@ impl Producer {
         }
     }
 
+    #[inline(always)]
     fn feed_scan(&mut self, answer: bool)
         requires stage { self.old.stage ≡ Scanning }
         requires one { LastBitIsDue self.old.shape P (due_put self.old) → answer ≡ true }
@@ -264,6 +269,7 @@ impl Producer {
         }
     }
 
+    #[inline(always)]
     fn feed_word(&mut self, answer: bool)
         requires stage { self.old.stage ≡ Storing }
         ensures shape { self.new.shape ≡ self.old.shape }
@@ -274,16 +280,16 @@ impl Producer {
         if self.word.next().is_none() {
             if self.index + 1 < self.most {
                 self.index += 1;
-                let cell = (self.cell + self.index as u64) % self.shape.capacity();
+                let cell = past_in(self.cell, self.index as u64, self.shape.capacity());
                 self.word = WordWriter::new(&self.shape, cell, self.items[self.index]);
             } else {
-                self.row
-                    .write((self.count + self.most as u64) % self.shape.modulus());
+                self.row.write(past_in(self.count, self.most as u64, self.shape.modulus()));
                 self.stage = Stage::Counting;
             }
         }
     }
 
+    #[inline(always)]
     fn feed_count(&mut self, answer: bool)
         requires stage { self.old.stage ≡ Counting }
         ensures shape { self.new.shape ≡ self.old.shape }
@@ -292,8 +298,8 @@ impl Producer {
     {
         self.row.feed(answer);
         if self.row.next().is_none() {
-            self.count = (self.count + self.most as u64) % self.shape.modulus();
-            self.cell = (self.cell + self.most as u64) % self.shape.capacity();
+            self.count = past_in(self.count, self.most as u64, self.shape.modulus());
+            self.cell = past_in(self.cell, self.most as u64, self.shape.capacity());
             self.reply = Some(BatchReply::Stored(self.most as u64));
             self.stage = Stage::Idle;
         }
@@ -301,6 +307,7 @@ impl Producer {
 
     /// What the last call was answered, where it was a put: none before the first one, during a call, after a put
     /// of several items, and after a close.
+    #[inline(always)]
     pub fn reply(&self) -> Option<PutReply>
         ensures state { result ≡ put_reply self.now }
         ensures stands { (calls : Puts) (made : List Made) → ProducerStands self.now calls made → self.now.batched ≡ false → (answer : Option BatchReply) × IsReply calls (call_of self.now) answer × (result ≡ item_reply answer) }
@@ -318,6 +325,7 @@ impl Producer {
 
     /// What the last call was answered, where it was a put of several items: none before the first one, during a
     /// call, after a put of one item, and after a close.
+    #[inline(always)]
     pub fn batch_reply(&self) -> Option<BatchReply>
         ensures state { result ≡ batch_reply self.now }
         ensures stands { (calls : Puts) (made : List Made) → ProducerStands self.now calls made → self.now.batched ≡ true → IsReply calls (call_of self.now) result }
@@ -335,6 +343,7 @@ impl Producer {
 
     /// Whether the last bit of the consumer's count is due. Over a lawful history whose consumer follows its
     /// program it answers 1.
+    #[inline(always)]
     pub fn expects_one(&self) -> bool
         ensures due { IsTrue result ↔ LastBitIsDue self.now.shape P (due_put self.now) }
         ensures stands { (calls : Puts) (made : List Made) → ProducerStands self.now calls made → IsTrue result → EndsInZeros self.now.shape P made }

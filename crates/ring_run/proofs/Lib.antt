@@ -1,3 +1,4 @@
+pub mod Accesses
 pub mod Blocks
 pub mod CounterMoves
 pub mod CounterPuts
@@ -15,6 +16,7 @@ pub mod Moves
 pub mod Places
 pub mod PutterCalls
 pub mod PutterMoves
+pub mod PutterWhole
 pub mod Relayed
 pub mod RelayLemmas
 pub mod Rights
@@ -22,3 +24,4 @@ pub mod Sent
 pub mod Steps
 pub mod TakerCalls
 pub mod TakerMoves
+pub mod TakerWhole

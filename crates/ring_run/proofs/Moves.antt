@@ -63,11 +63,11 @@ ring_empty laws shape = record {
   };
 }
 
-list_of-mine : (x : Side) (e : Event) (got : ℕ) (v : View) → list_of x (and_event x e got v) ≡ list_of x v ++ e ∷ []
+pub list_of-mine : (x : Side) (e : Event) (got : ℕ) (v : View) → list_of x (and_event x e got v) ≡ list_of x v ++ e ∷ []
 list_of-mine P e got v = refl
 list_of-mine C e got v = refl
 
-may_step-more : (x y : Side) (e : Event) (got : ℕ) (v : View) → may_step y (and_event x e got v) ≡ may_step y v
+pub may_step-more : (x y : Side) (e : Event) (got : ℕ) (v : View) → may_step y (and_event x e got v) ≡ may_step y v
 may_step-more x P e got v = refl
 may_step-more x C e got v = refl
 

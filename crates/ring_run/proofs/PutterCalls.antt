@@ -129,7 +129,7 @@ last-snoc first [] x = refl
 last-snoc first (y ∷ puts) x = last-snoc (Some (reply_to y)) puts x
 
 -- the reply of a put that is over
-over_reply : (shape : Shape) (items : List ℕ) (calls more : Puts) (r : Option replies.BatchReply) → (is_more : HasCallMore shape (producer.Put items) calls more) → IsReply more None r → r ≡ Some (reply_to is_more.0)
+pub over_reply : (shape : Shape) (items : List ℕ) (calls more : Puts) (r : Option replies.BatchReply) → (is_more : HasCallMore shape (producer.Put items) calls more) → IsReply more None r → r ≡ Some (reply_to is_more.0)
 over_reply shape items calls more r is_more reply_is =
     let has : IsReply (and_put calls is_more.0) None r = subst (λ (z : Puts). IsReply z None r) is_more.2 reply_is in
     has ∙ last-snoc None calls.puts is_more.0
@@ -159,7 +159,7 @@ module _ (e e' : RingEnd) (m' : ProducerState) (calls : Puts) (items : List ℕ)
   pub none_put : PutOf → IfNone r ((call_of m' ≡ Some (producer.Put items)) × (whole_put (call_of m') e'.list whole ≡ whole) × HasPutPart e'.ring.shape (producer.Put items) (whole_put (call_of m') e'.list whole) e'.list)
   none_put o = none_clause r refl o
 
-  over_adds : (more : Puts) (is_more : HasCallMore e'.ring.shape (producer.Put items) calls more) → HasPuts e'.ring.shape e'.list more → (x : replies.BatchReply) → r ≡ Some x → IsReply more None r → PutAdds calls.closes e'.ring.shape calls items x whole e'.list
+  pub over_adds : (more : Puts) (is_more : HasCallMore e'.ring.shape (producer.Put items) calls more) → HasPuts e'.ring.shape e'.list more → (x : replies.BatchReply) → r ≡ Some x → IsReply more None r → PutAdds calls.closes e'.ring.shape calls items x whole e'.list
   over_adds more is_more has x is replies_so =
       let answer : Some x ≡ Some (reply_to is_more.0) = sym is ∙ over_reply e'.ring.shape items calls more r is_more replies_so in
       subst (λ (t : Bool). PutAdds t e'.ring.shape calls items x whole e'.list) (sym is_more.4)

@@ -16,14 +16,14 @@ use Rattle.ring_core.specs.ProducerState.{ProducerState, Call, Put, Close, due_p
 use Rattle.ring_core.specs.ProducerCalls.{PutGoesOn, HasCallMore, Begins, HasMoved, IsAfter, longest}
 use Rattle.ring_run.specs.Ring.{RingEnd}
 use Rattle.ring_run.specs.Programs.{Follows, IsRing, GoesOn, begin_of, end_of}
-use Rattle.ring_run.specs.Hands.{Grows, StandsAs, CanStep, HasStepped}
+use Rattle.ring_run.specs.Hands.{Grows, StandsAs, CanMake, CanStep, HasStepped}
 use Rattle.ring_run.specs.Ends.{HasPutPart}
 use Rattle.ring_run.specs.Machines.{ListIs, PutterAt, PutterStep}
 use Rattle.ring_run.specs.Below.{LawsBelow}
 use Rattle.ring_run.proofs.Histories.{own-mine, own-theirs}
 use Rattle.ring_run.proofs.Moves.{ring_follows}
 use Rattle.ring_run.proofs.Lists.{events_begin, events_more, begun_open, shorter, no_zero, length-events_of}
-use Rattle.ring_run.proofs.Steps.{list_closed, list_open, CanStepAt, last_false}
+use Rattle.ring_run.proofs.Steps.{list_closed, list_open, CanMakeAt, CanStepAt, last_false}
 
 -- the calls of one call more
 pub call_are : (shape : Shape) (c : Call) (calls more : Puts) → HasCallMore shape c calls more → ArePuts shape 0 more.puts
@@ -63,6 +63,14 @@ module _ (laws : LawsBelow) (shape : Shape) (calls : Puts) (call : Option Call) 
         let theirs : Follows shape C (own C h') = subst (Follows shape C) (sym (own-theirs laws C h (end_of P a v) (Rattle.ring_run.proofs.Steps.not_by_end P a v))) (ring_follows shape h ring C) in
         subst (Follows shape P) (sym whole) (follows v (answers_one h' lawful theirs v own_is))
 
+    pub can_whole : (list : List Event) → list ≡ events_of P made → CanMakeAt shape P list a
+    can_whole list is = (
+      ap (open_access P) is ∙ laws.made_idle P made,
+      subst (λ (l : List Event). Follows shape P (l ++ begin_of P a ∷ [])) (sym is)
+          (let f = follows true (λ _. refl) in (f.0, f.1, shorter (events_of P made ++ begin_of P a ∷ []) (end_of P a true) (events_of P (put_program shape f.0)) (subst (λ (l : List Event). IsBeginning l (events_of P (put_program shape f.0))) (events_more P made a true) f.2))),
+      goes_on (list ++ begin_of P a ∷ []) (ap (λ (l : List Event). l ++ begin_of P a ∷ []) is),
+    )
+
     pub can : (list : List Event) → ListIs P list made (Some a) → CanStepAt shape P list a
     can list (inl is) = inl (
       ap (open_access P) is ∙ laws.made_idle P made,
@@ -91,6 +99,9 @@ module _ (laws : LawsBelow) (e : RingEnd) (m : ProducerState) (calls : Puts) (ma
     pub can_there : CanStep e a
     can_there = subst (λ (z : Shape × Side). CanStepAt z.0 z.1 e.list a) (λ i. (at.shape_is i, sym at.side_is i)) (can laws m.shape calls (call_of m) made a next expects due_is' zeros e.list list_due)
 
+    pub can_make : e.list ≡ events_of P made → CanMake e a
+    can_make is = subst (λ (z : Shape × Side). CanMakeAt z.0 z.1 e.list a) (λ i. (at.shape_is i, sym at.side_is i)) (can_whole laws m.shape calls (call_of m) made a next expects due_is' zeros e.list is)
+
     module _ (b : RingEnd) where
       shape_b : (g : Rattle.ring_run.specs.Hands.IsSameEnd e b) → m.shape ≡ b.ring.shape
       shape_b g = at.shape_is ∙ sym (ap (λ (r : Rattle.ring_run.specs.Ring.Ring). r.shape) g.ring)
@@ -98,7 +109,14 @@ module _ (laws : LawsBelow) (e : RingEnd) (m : ProducerState) (calls : Puts) (ma
       lawful_b : {event : Event} → Grows e b event → StandsAs P b
       lawful_b g = subst (λ (x : Side). StandsAs x b) (g.same.side ∙ at.side_is) g.stands
 
-      -- the begin of the due access
+      -- the begin of the due access, and where the end then stands
+      pub at_begun : HasStepped e b a None → PutterAt b m calls made
+      at_begun s =
+          let g = s.1 in
+          let was : e.list ≡ events_of P made = list_closed laws P e.list made (Some a) list_due (ap (λ (x : Side). open_access x e.list) (sym at.side_is) ∙ s.0) in
+          let list : b.list ≡ events_of P made ++ begin_of P a ∷ [] = g.list ∙ (λ i. was i ++ begin_of (at.side_is i) a ∷ []) in
+          record { side_is = g.same.side ∙ at.side_is; lawful = lawful_b g; shape_is = shape_b g.same; stands = at.stands; list_is = inr (a, due, list) }
+
       pub begun : HasStepped e b a None → call_of m ≢ None → PutterStep e m b m calls
       begun s busy =
           let g = s.1 in
@@ -137,7 +155,7 @@ module _ (laws : LawsBelow) (e : RingEnd) (m : ProducerState) (calls : Puts) (ma
           after_same (Some c) busy = (refl, refl)
 
       module _ (v : Bool) (s : HasStepped e b a (Some v)) where
-        list_ended : b.list ≡ events_of P (made ++ answered a v ∷ [])
+        pub list_ended : b.list ≡ events_of P (made ++ answered a v ∷ [])
         list_ended =
             let was : e.list ≡ events_of P made ++ begin_of P a ∷ [] = list_open laws P e.list made a list_due (ap (λ (x : Side). open_access x e.list) (sym at.side_is) ∙ s.0) in
             s.1.list ∙ (λ i. was i ++ end_of (at.side_is i) a v ∷ []) ∙ sym (events_more P made a v)
@@ -153,7 +171,10 @@ module _ (laws : LawsBelow) (e : RingEnd) (m : ProducerState) (calls : Puts) (ma
         pub one_there : LastBitIsDue m.shape P (due_put m) → v ≡ true
         one_there last = one_due (subst (LastBitIsDue m.shape P) due last)
 
-        -- the end of the due access
+        -- the end of the due access, and where the end then stands
+        pub at_ended : (m' : ProducerState) → m'.shape ≡ m.shape → (moved : HasMoved m m' calls (made ++ answered a v ∷ [])) → PutterAt b m' moved.0 (made ++ answered a v ∷ [])
+        at_ended m' same_shape moved = record { side_is = s.1.same.side ∙ at.side_is; lawful = lawful_b s.1; shape_is = same_shape ∙ shape_b s.1.same; stands = moved.1; list_is = inl list_ended }
+
         pub ended : (m' : ProducerState) → m'.shape ≡ m.shape → HasMoved m m' calls (made ++ answered a v ∷ []) → PutterStep e m b m' calls
         ended m' same_shape moved =
             let f = next.goes v one_due in

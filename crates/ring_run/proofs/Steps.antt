@@ -22,6 +22,10 @@ CanStepAt shape x list a =
     ((open_access x list ≡ None) × Follows shape x (list ++ begin_of x a ∷ []))
     ⊎ ((open_access x list ≡ Some a) × GoesOn shape x a list)
 
+-- the access can be made as a whole
+abbrev pub CanMakeAt : Shape → Side → List Event → Access → Type 0
+CanMakeAt shape x list a = (open_access x list ≡ None) × Follows shape x (list ++ begin_of x a ∷ []) × GoesOn shape x a (list ++ begin_of x a ∷ [])
+
 pub by_end : (x : Side) (a : Access) (v : Bool) → is_by x (end_of x a v) ≡ true
 by_end x (access.Read b) v = same_side-same x
 by_end x (access.Write b w) v = same_side-same x

@@ -119,13 +119,13 @@ pub last-snoc : (first : Option replies.TakeReply) (takes : List Take) (x : Take
 last-snoc first [] x = refl
 last-snoc first (y ∷ takes) x = last-snoc (Some (Rattle.ring_core.specs.ConsumerCalls.reply_to y)) takes x
 
-over_reply : (shape : Shape) (calls more : Takes) → HasTakeMore shape calls more → (x : replies.TakeReply) × (reply_at_end more.end more.takes ≡ Some x)
+pub over_reply : (shape : Shape) (calls more : Takes) → HasTakeMore shape calls more → (x : replies.TakeReply) × (reply_at_end more.end more.takes ≡ Some x)
 over_reply shape calls more is_more = ⊎_elim
     (λ one. (Rattle.ring_core.specs.ConsumerCalls.reply_to one.0, ap (λ (t : Takes). reply_at_end t.end t.takes) one.1 ∙ last-snoc None calls.takes one.0))
     (λ told. (reply.Closed, ap (λ (t : Takes). reply_at_end t.end t.takes) told.2))
     is_more.is_one_more
 
-open_tells : (shape : Shape) (calls more : Takes) → HasTakeMore shape calls more → tells calls.end ≡ false
+pub open_tells : (shape : Shape) (calls more : Takes) → HasTakeMore shape calls more → tells calls.end ≡ false
 open_tells shape calls more is_more = ap tells is_more.not_over
 
 module _ (e e' : RingEnd) (m' : ConsumerState) (calls : Takes) (whole : List Event) (w : whole ≡ events_of C (take_program e'.ring.shape calls)) (before : AreTakes e'.ring.shape 0 calls.takes calls.end)

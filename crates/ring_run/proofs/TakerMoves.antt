@@ -17,14 +17,14 @@ use Rattle.ring_core.specs.ConsumerState.{ConsumerState, due_take, is_taking}
 use Rattle.ring_core.specs.ConsumerCalls.{TakeGoesOn, Begins, HasMoved, IsAfter}
 use Rattle.ring_run.specs.Ring.{RingEnd}
 use Rattle.ring_run.specs.Programs.{Follows, IsRing, GoesOn, begin_of, end_of}
-use Rattle.ring_run.specs.Hands.{Grows, StandsAs, CanStep, HasStepped}
+use Rattle.ring_run.specs.Hands.{Grows, StandsAs, CanMake, CanStep, HasStepped}
 use Rattle.ring_run.specs.Ends.{HasTakePart}
 use Rattle.ring_run.specs.Machines.{ListIs, TakerAt, TakerStep}
 use Rattle.ring_run.specs.Below.{LawsBelow}
 use Rattle.ring_run.proofs.Histories.{own-mine, own-theirs}
 use Rattle.ring_run.proofs.Moves.{ring_follows}
 use Rattle.ring_run.proofs.Lists.{events_begin, events_more, begun_open, shorter, no_zero, length-events_of}
-use Rattle.ring_run.proofs.Steps.{list_closed, list_open, CanStepAt, last_false}
+use Rattle.ring_run.proofs.Steps.{list_closed, list_open, CanMakeAt, CanStepAt, last_false}
 
 -- what goes on
 pub record Next (shape : Shape) (calls : Takes) (taking : Bool) (made : List Made) (a : Access) : Type 0 where
@@ -58,6 +58,14 @@ module _ (laws : LawsBelow) (shape : Shape) (calls : Takes) (taking : Bool) (mad
         let theirs : Follows shape P (own P h') = subst (Follows shape P) (sym (own-theirs laws P h (end_of C a v) (Rattle.ring_run.proofs.Steps.not_by_end C a v))) (ring_follows shape h ring P) in
         subst (Follows shape C) (sym whole) (follows v (answers_one h' lawful theirs v own_is))
 
+    pub can_whole : (list : List Event) → list ≡ events_of C made → CanMakeAt shape C list a
+    can_whole list is = (
+      ap (open_access C) is ∙ laws.made_idle C made,
+      subst (λ (l : List Event). Follows shape C (l ++ begin_of C a ∷ [])) (sym is)
+          (let f = follows true (λ _. refl) in (f.0, f.1, shorter (events_of C made ++ begin_of C a ∷ []) (end_of C a true) (events_of C (take_program shape f.0)) (subst (λ (l : List Event). IsBeginning l (events_of C (take_program shape f.0))) (events_more C made a true) f.2))),
+      goes_on (list ++ begin_of C a ∷ []) (ap (λ (l : List Event). l ++ begin_of C a ∷ []) is),
+    )
+
     pub can : (list : List Event) → ListIs C list made (Some a) → CanStepAt shape C list a
     can list (inl is) = inl (
       ap (open_access C) is ∙ laws.made_idle C made,
@@ -86,6 +94,9 @@ module _ (laws : LawsBelow) (e : RingEnd) (m : ConsumerState) (calls : Takes) (m
     pub can_there : CanStep e a
     can_there = subst (λ (z : Shape × Side). CanStepAt z.0 z.1 e.list a) (λ i. (at.shape_is i, sym at.side_is i)) (can laws m.shape calls (is_taking m) made a next expects due_is' zeros e.list list_due)
 
+    pub can_make : e.list ≡ events_of C made → CanMake e a
+    can_make is = subst (λ (z : Shape × Side). CanMakeAt z.0 z.1 e.list a) (λ i. (at.shape_is i, sym at.side_is i)) (can_whole laws m.shape calls (is_taking m) made a next expects due_is' zeros e.list is)
+
     module _ (b : RingEnd) where
       shape_b : (g : Rattle.ring_run.specs.Hands.IsSameEnd e b) → m.shape ≡ b.ring.shape
       shape_b g = at.shape_is ∙ sym (ap (λ (r : Rattle.ring_run.specs.Ring.Ring). r.shape) g.ring)
@@ -93,7 +104,14 @@ module _ (laws : LawsBelow) (e : RingEnd) (m : ConsumerState) (calls : Takes) (m
       lawful_b : {event : Event} → Grows e b event → StandsAs C b
       lawful_b g = subst (λ (x : Side). StandsAs x b) (g.same.side ∙ at.side_is) g.stands
 
-      -- the begin of the due access
+      -- the begin of the due access, and where the end then stands
+      pub at_begun : HasStepped e b a None → TakerAt b m calls made
+      at_begun s =
+          let g = s.1 in
+          let was : e.list ≡ events_of C made = list_closed laws C e.list made (Some a) list_due (ap (λ (x : Side). open_access x e.list) (sym at.side_is) ∙ s.0) in
+          let list : b.list ≡ events_of C made ++ begin_of C a ∷ [] = g.list ∙ (λ i. was i ++ begin_of (at.side_is i) a ∷ []) in
+          record { side_is = g.same.side ∙ at.side_is; lawful = lawful_b g; shape_is = shape_b g.same; stands = at.stands; list_is = inr (a, due, list) }
+
       pub begun : HasStepped e b a None → is_taking m ≡ true → TakerStep e m b m calls
       begun s busy =
           let g = s.1 in
@@ -125,7 +143,7 @@ module _ (laws : LawsBelow) (e : RingEnd) (m : ConsumerState) (calls : Takes) (m
           after_same true busy = refl
 
       module _ (v : Bool) (s : HasStepped e b a (Some v)) where
-        list_ended : b.list ≡ events_of C (made ++ answered a v ∷ [])
+        pub list_ended : b.list ≡ events_of C (made ++ answered a v ∷ [])
         list_ended =
             let was : e.list ≡ events_of C made ++ begin_of C a ∷ [] = list_open laws C e.list made a list_due (ap (λ (x : Side). open_access x e.list) (sym at.side_is) ∙ s.0) in
             s.1.list ∙ (λ i. was i ++ end_of (at.side_is i) a v ∷ []) ∙ sym (events_more C made a v)
@@ -141,7 +159,10 @@ module _ (laws : LawsBelow) (e : RingEnd) (m : ConsumerState) (calls : Takes) (m
         pub one_there : LastBitIsDue m.shape C (due_take m) → v ≡ true
         one_there last = one_due (subst (LastBitIsDue m.shape C) due last)
 
-        -- the end of the due access
+        -- the end of the due access, and where the end then stands
+        pub at_ended : (m' : ConsumerState) → m'.shape ≡ m.shape → (moved : HasMoved m m' calls (made ++ answered a v ∷ [])) → TakerAt b m' moved.0 (made ++ answered a v ∷ [])
+        at_ended m' same_shape moved = record { side_is = s.1.same.side ∙ at.side_is; lawful = lawful_b s.1; shape_is = same_shape ∙ shape_b s.1.same; stands = moved.1; list_is = inl list_ended }
+
         pub ended : (m' : ConsumerState) → m'.shape ≡ m.shape → HasMoved m m' calls (made ++ answered a v ∷ []) → TakerStep e m b m' calls
         ended m' same_shape moved =
             let f = next.goes v one_due in

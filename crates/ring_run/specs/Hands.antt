@@ -35,6 +35,16 @@ abbrev pub HasStepped : RingEnd → RingEnd → Access → Option Bool → Type 
 HasStepped a b access None = (open_access a.side a.list ≡ None) × Grows a b (begin_of a.side access)
 HasStepped a b access (Some v) = (open_access a.side a.list ≡ Some access) × Grows a b (end_of a.side access v)
 
+-- the access can be made as a whole
+abbrev pub CanMake : RingEnd → Access → Type 0
+CanMake a access =
+    (open_access a.side a.list ≡ None) × Follows a.ring.shape a.side (a.list ++ begin_of a.side access ∷ [])
+    × GoesOn a.ring.shape a.side access (a.list ++ begin_of a.side access ∷ [])
+
+-- the access was made, and had this answer
+abbrev pub HasMade : RingEnd → RingEnd → Access → Bool → Type 0
+HasMade a b access v = (mid : RingEnd) × Grows a mid (begin_of a.side access) × Grows mid b (end_of a.side access v)
+
 -- an oracle, by the answers that it has from now on, was asked nothing, or once
 abbrev pub IsAskedOnce : {O : Type 0} → (O → ℕ → Bool) → O → O → Type 0
 IsAskedOnce answers old new = (new ≡ old) ⊎ ((i : ℕ) → answers new i ≡ answers old (i + 1))

@@ -1,5 +1,6 @@
 -- The machines of the two ends beside their lists.
-use Rattle.std.specs.Prelude.{◌≡◌, ◌⊎◌, ◌+◌, ◌*◌, ◌<◌, true, false, Option, Some, None, List, [], ◌∷◌, ◌++◌, length}
+use Rattle.std.specs.Prelude.{◌≡◌, ◌⊎◌, ℕ, Bool, ◌+◌, ◌*◌, ◌<◌, true, false, Option, Some, None, List, [], ◌∷◌, ◌++◌, length}
+use Rattle.bits_core.specs.declared.shapes.Shape.{Shape}
 use Rattle.bits_core.specs.declared.events.Side.{Side}
 use Rattle.bits_core.specs.declared.events.Side.TheVariants.{P, C}
 use Rattle.bits_core.specs.declared.events.Access.{Access}
@@ -63,6 +64,37 @@ pub record PutterStep (a : RingEnd) (m : ProducerState) (b : RingEnd) (m' : Prod
   pub within : (c : Call) → call_of m ≡ Some c → length b.list < 2 * (length (put_program m.shape calls) + puts.longest m.shape c) + 1
   pub part : (c : Call) → call_of m' ≡ Some c → HasPutPart b.ring.shape c (events_of P (put_program m.shape calls)) b.list
 
+-- the most accesses of a call, if there is one
+abbrev pub longest_at : Shape → Option Call → ℕ
+longest_at shape None = 0
+longest_at shape (Some c) = puts.longest shape c
+
+-- no access of the call under way, if there is one, was made yet
+pub record PutterReady (e : RingEnd) (m : ProducerState) (calls : Puts) : Type 0 where
+  pub at : PutterAt e m calls (put_program m.shape calls)
+  pub list_is : e.list ≡ events_of P (put_program m.shape calls)
+
+-- the call under way goes on, and no access is open
+pub record PutterGoes (e : RingEnd) (m : ProducerState) (calls : Puts) (c : Call) : Type 0 where
+  pub made : List Made
+  pub at : PutterAt e m calls made
+  pub list_is : e.list ≡ events_of P made
+  pub call_is : call_of m ≡ Some c
+
+-- the call is over, and is one of the calls
+pub record PutterOver (e : RingEnd) (m : ProducerState) (calls : Puts) (c : Call) : Type 0 where
+  pub more : Puts
+  pub made : List Made
+  pub at : PutterAt e m more made
+  pub call_is : call_of m ≡ None
+  pub is_more : puts.HasCallMore m.shape c calls more
+  pub no_reply : c ≡ Close → m.reply ≡ None
+
+-- what whole accesses come to, by the call that was under way
+abbrev pub PutterMade : Option Call → RingEnd → ProducerState → RingEnd → ProducerState → Puts → Type 0
+PutterMade None a m b m' calls = (m' ≡ m) × (b ≡ a)
+PutterMade (Some c) a m b m' calls = PutterGoes b m' calls c ⊎ PutterOver b m' calls c
+
 -- ---- the consumer
 
 pub record TakerAt (e : RingEnd) (m : ConsumerState) (calls : Takes) (made : List Made) : Type 0 where
@@ -94,3 +126,28 @@ pub record TakerStep (a : RingEnd) (m : ConsumerState) (b : RingEnd) (m' : Consu
   pub after : takes.IsAfter m.shape (is_taking m) (is_taking m') calls more
   pub within : length b.list < 2 * (length (take_program m.shape calls) + longest_take m.shape) + 1
   pub part : is_taking m' ≡ true → HasTakePart b.ring.shape (events_of C (take_program m.shape calls)) b.list
+
+-- no access of the take under way, if there is one, was made yet
+pub record TakerReady (e : RingEnd) (m : ConsumerState) (calls : Takes) : Type 0 where
+  pub at : TakerAt e m calls (take_program m.shape calls)
+  pub list_is : e.list ≡ events_of C (take_program m.shape calls)
+
+-- the take under way goes on, and no access is open
+pub record TakerGoes (e : RingEnd) (m : ConsumerState) (calls : Takes) : Type 0 where
+  pub made : List Made
+  pub at : TakerAt e m calls made
+  pub list_is : e.list ≡ events_of C made
+  pub taking : is_taking m ≡ true
+
+-- the take is over, and is one of the takes
+pub record TakerOver (e : RingEnd) (m : ConsumerState) (calls : Takes) : Type 0 where
+  pub more : Takes
+  pub made : List Made
+  pub at : TakerAt e m more made
+  pub taking : is_taking m ≡ false
+  pub is_more : takes.HasTakeMore m.shape calls more
+
+-- what whole accesses come to, where a take was under way, and where none was
+abbrev pub TakerMade : Bool → RingEnd → ConsumerState → RingEnd → ConsumerState → Takes → Type 0
+TakerMade false a m b m' calls = (m' ≡ m) × (b ≡ a)
+TakerMade true a m b m' calls = TakerGoes b m' calls ⊎ TakerOver b m' calls

@@ -8,7 +8,7 @@ ghost use Rattle.bits_core.specs.History.{open_access};
 ghost use Rattle.ring_run.specs.Words.{digit, agrees, answer_of};
 ghost use Rattle.ring_run.specs.Programs.{Follows, GoesOn, begin_of, end_of};
 ghost use Rattle.ring_run.specs.Rule.{IsIdle};
-ghost use Rattle.ring_run.specs.Hands.{Grows, CanStep, HasStepped, IsAskedFor};
+ghost use Rattle.ring_run.specs.Hands.{Grows, CanMake, CanStep, HasMade, HasStepped, IsAskedFor};
 
 use crate::below::laws_below;
 use crate::views::View;
@@ -128,6 +128,57 @@ impl<'a> Hand<'a> {
         }
     }
 
+    // The two loads of a read, and the answer by both. The oracle is asked at most once.
+    #[inline(always)]
+    fn read<O: Oracle>(&mut self, bit: Bit, oracle: &mut O) -> bool
+        requires bit { (belongs self.old.ring.shape bit ≡ true) × (self.old.side ≡ reader bit) }
+        requires can { CanMake self.old (Read bit) }
+        ensures made { HasMade self.old self.new (Read bit) result }
+        ensures oracle { IsAskedFor O.answers oracle.old oracle.new result }
+    {
+        laws_below();
+        let side = self.side;
+        let ring = self.ring.again();
+        let word = ring.word_of(bit);
+        let first = ring.load_at::<Brand, ()>(&mut self.seat, word, bit, side, &());
+        let again = ring.load_at::<Brand, O>(&mut self.seat, word, bit, side, oracle);
+        self.first = first;
+        answer(first, again, oracle)
+    }
+
+    // The two stores of a write.
+    #[inline(always)]
+    fn write(&mut self, bit: Bit, value: bool)
+        requires bit { (belongs self.old.ring.shape bit ≡ true) × (self.old.side ≡ writer bit) }
+        requires can { CanMake self.old (Write bit value) }
+        ensures { HasMade self.old self.new (Write bit value) value }
+    {
+        laws_below();
+        let side = self.side;
+        let ring = self.ring.again();
+        let word = ring.word_of(bit);
+        let new = word_of(value);
+        ring.store_at::<Brand, bool>(&mut self.seat, word, bit, side, &value, 2);
+        ring.store_at::<Brand, ()>(&mut self.seat, word, bit, side, &(), new);
+    }
+
+    // The whole access, and the answer.
+    #[inline(always)]
+    pub fn make<O: Oracle>(&mut self, access: Access, oracle: &mut O) -> bool
+        requires right { IsOpenRight self.old.ring.shape self.old.side access }
+        requires can { CanMake self.old access }
+        ensures made { HasMade self.old self.new access result }
+        ensures oracle { IsAskedFor O.answers oracle.old oracle.new result }
+    {
+        match access {
+            Access::Read(bit) => self.read(bit, oracle),
+            Access::Write(bit, value) => {
+                self.write(bit, value);
+                value
+            }
+        }
+    }
+
     // One step: the access begins, or, where it is open, it ends with the answer.
     pub fn step<O: Oracle>(&mut self, access: Access, oracle: &mut O) -> Option<bool>
         requires right { IsOpenRight self.old.ring.shape self.old.side access }
@@ -148,6 +199,7 @@ impl<'a> Hand<'a> {
 
 // The answer of a read by the words that its two loads found: where both are 0, or both 1, it is that, and the oracle is
 // not asked; else the oracle is asked once.
+#[inline(always)]
 fn answer<O: Oracle>(first: u64, found: u64, oracle: &mut O) -> bool
     ensures answer { result ≡ answer_of first found (O.answers oracle.old 0) }
     ensures agree { agrees first found ≡ true → oracle.new ≡ oracle.old }
@@ -160,6 +212,7 @@ fn answer<O: Oracle>(first: u64, found: u64, oracle: &mut O) -> bool
     }
 }
 
+#[inline(always)]
 fn word_of(value: bool) -> u64
     ensures { result ≡ digit value }
 {

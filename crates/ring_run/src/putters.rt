@@ -7,12 +7,12 @@ ghost use Rattle.ring_core.specs.declared.producers.PutReply.TheVariants.{Closed
 ghost use Rattle.ring_core.specs.declared.producers.BatchReply.TheVariants as batch_reply;
 ghost use Rattle.ring_core.specs.Lengths.{longest_put};
 ghost use Rattle.ring_core.specs.Puts.{Puts, IsBatch};
-ghost use Rattle.ring_core.specs.ProducerState.{Put, Close, due_put, call_of};
+ghost use Rattle.ring_core.specs.ProducerState.{Call, Put, Close, due_put, call_of};
 ghost use Rattle.ring_core.specs.ProducerCalls.{ProducerStands, longest_of};
 ghost use Rattle.ring_run.specs.Hands.{Grows, IsAskedOnce, IsSameEnd, StandsAs};
 ghost use Rattle.bits_core.specs.declared.events.Side.TheVariants.{P};
 ghost use Rattle.ring_run.specs.Ends.{HasPut, HasPutAll, HasPutPart, HasClosed, whole_put, puts_whole};
-ghost use Rattle.ring_run.specs.Machines.{PutterAt, PutterStep, CallBegins};
+ghost use Rattle.ring_run.specs.Machines.{PutterAt, PutterOver, PutterReady, PutterStep, CallBegins};
 
 use crate::below::laws_below;
 use crate::hands::Hand;
@@ -80,6 +80,23 @@ fn advance<'a, O: Oracle>(hand: &mut Hand<'a>, machine: &mut Producer, oracle: &
     }
 }
 
+// The accesses of the call under way, to its end.
+#[inline(always)]
+fn finish<'a, O: Oracle>(hand: &mut Hand<'a>, machine: &mut Producer, oracle: &mut O)
+    requires ready { (calls : Puts) × PutterReady hand.old machine.old calls }
+    ensures same { IsSameEnd hand.old hand.new }
+    ensures kind { machine.new.batched ≡ machine.old.batched }
+    ensures rests { call_of machine.old ≡ None → (machine.new ≡ machine.old) × (hand.new ≡ hand.old) }
+    ensures over { (calls : Puts) → PutterReady hand.old machine.old calls → (c : Call) → call_of machine.old ≡ Some c → PutterOver hand.new machine.new calls c }
+{
+    laws_below();
+    'accesses: while let Some(access) = machine.next() {
+        let _expects = machine.expects_one();
+        let answer = hand.make(access, oracle);
+        machine.feed(answer);
+    }
+}
+
 // Keeps the hand where no call is under way.
 fn mark_start<'a>(start: &mut Snapshot<Hand<'a>>, hand: &Hand<'a>, machine: &Producer)
     requires stands { (calls : Puts) × (made : List Made) × ProducerStands machine.now calls made }
@@ -104,6 +121,7 @@ fn begin_put(machine: &mut Producer, item: u64)
 }
 
 // Begins a put of items where no call is under way.
+#[inline(always)]
 fn begin_put_all(machine: &mut Producer, items: &[u64])
     requires stands { (calls : Puts) × (made : List Made) × ProducerStands machine.old calls made }
     requires batch { IsBatch machine.old.shape items.now }
@@ -196,6 +214,54 @@ impl<'a> PutCore<'a> {
     }
 }
 
+impl<'a> PutCore<'a> {
+    // Puts the item, or finds the ring full or closed.
+    fn put<O: Oracle>(&mut self, item: u64, oracle: &mut O) -> PutReply
+        requires fits { item < 2 ^ width_of self.old.end.ring.shape }
+        requires idle { self.old.call ≡ None }
+        ensures same { IsSameEnd self.old.end self.new.end }
+        ensures lawful { StandsAs P self.new.end }
+        ensures idle { self.new.call ≡ None }
+        ensures phrase { HasPut self.new.end.ring.shape item self.old.end.list self.new.end.list result }
+    {
+        begin_put(&mut self.machine, item);
+        finish(&mut self.hand, &mut self.machine, oracle);
+        match self.machine.reply() {
+            Some(reply) => reply,
+            None => unreachable!(),
+        }
+    }
+
+    // Puts the items under one count write, as many as there is room for, or finds the ring full or closed.
+    fn put_all<O: Oracle>(&mut self, items: &[u64], oracle: &mut O) -> BatchReply
+        requires batch { IsBatch self.old.end.ring.shape items.now }
+        requires idle { self.old.call ≡ None }
+        ensures same { IsSameEnd self.old.end self.new.end }
+        ensures lawful { StandsAs P self.new.end }
+        ensures idle { self.new.call ≡ None }
+        ensures phrase { HasPutAll self.new.end.ring.shape items.now self.old.end.list self.new.end.list result }
+    {
+        begin_put_all(&mut self.machine, items);
+        finish(&mut self.hand, &mut self.machine, oracle);
+        match self.machine.batch_reply() {
+            Some(reply) => reply,
+            None => unreachable!(),
+        }
+    }
+
+    // Closes the ring. A second close does nothing.
+    fn close<O: Oracle>(&mut self, oracle: &mut O)
+        requires idle { self.old.call ≡ None }
+        ensures same { IsSameEnd self.old.end self.new.end }
+        ensures lawful { StandsAs P self.new.end }
+        ensures idle { self.new.call ≡ None }
+        ensures phrase { HasClosed self.new.end.ring.shape self.old.end.list self.new.end.list }
+    {
+        begin_close(&mut self.machine);
+        finish(&mut self.hand, &mut self.machine, oracle);
+    }
+}
+
 impl<'a, O: Oracle + Drop> Putter<'a, O> {
     /// One step of a put of the item: one event of its accesses. The put begins where no call is under way, and the
     /// reply comes with its last step. After a close it is answered `Closed` at once, with no step. The item has to fit
@@ -251,11 +317,7 @@ impl<'a, O: Oracle + Drop> Putter<'a, O> {
         ensures idle { self.new.call ≡ None }
         ensures phrase { HasPut self.new.end.ring.shape item self.old.end.list self.new.end.list result }
     {
-        'steps: loop {
-            if let Some(reply) = self.step_put(item) {
-                return reply;
-            }
-        }
+        self.core.put(item, &mut self.oracle)
     }
 
     // Puts the items under one count write, as many as there is room for, or finds the ring full or closed.
@@ -267,11 +329,7 @@ impl<'a, O: Oracle + Drop> Putter<'a, O> {
         ensures idle { self.new.call ≡ None }
         ensures phrase { HasPutAll self.new.end.ring.shape items.now self.old.end.list self.new.end.list result }
     {
-        'steps: loop {
-            if let Some(reply) = self.step_put_all(items) {
-                return reply;
-            }
-        }
+        self.core.put_all(items, &mut self.oracle)
     }
 
     // Closes the ring. A second close does nothing.
@@ -282,10 +340,6 @@ impl<'a, O: Oracle + Drop> Putter<'a, O> {
         ensures idle { self.new.call ≡ None }
         ensures phrase { HasClosed self.new.end.ring.shape self.old.end.list self.new.end.list }
     {
-        'steps: loop {
-            if self.step_close() {
-                return;
-            }
-        }
+        self.core.close(&mut self.oracle);
     }
 }

@@ -10,7 +10,7 @@ ghost use Rattle.ring_core.specs.ConsumerCalls.{ConsumerStands};
 ghost use Rattle.ring_run.specs.Hands.{Grows, IsAskedOnce, IsSameEnd, StandsAs};
 ghost use Rattle.bits_core.specs.declared.events.Side.TheVariants.{C};
 ghost use Rattle.ring_run.specs.Ends.{HasTaken, HasTakePart, whole_take, takes_whole};
-ghost use Rattle.ring_run.specs.Machines.{TakerAt, TakerStep, TakeBegins};
+ghost use Rattle.ring_run.specs.Machines.{TakerAt, TakerOver, TakerReady, TakerStep, TakeBegins};
 
 use crate::below::laws_below;
 use crate::hands::Hand;
@@ -77,6 +77,22 @@ fn advance<'a, O: Oracle>(hand: &mut Hand<'a>, machine: &mut Consumer, oracle: &
     }
 }
 
+// The accesses of the take under way, to its end.
+#[inline(always)]
+fn finish<'a, O: Oracle>(hand: &mut Hand<'a>, machine: &mut Consumer, oracle: &mut O)
+    requires ready { (calls : Takes) × TakerReady hand.old machine.old calls }
+    ensures same { IsSameEnd hand.old hand.new }
+    ensures rests { is_taking machine.old ≡ false → (machine.new ≡ machine.old) × (hand.new ≡ hand.old) }
+    ensures over { (calls : Takes) → TakerReady hand.old machine.old calls → is_taking machine.old ≡ true → TakerOver hand.new machine.new calls }
+{
+    laws_below();
+    'accesses: while let Some(access) = machine.next() {
+        let _expects = machine.expects_one();
+        let answer = hand.make(access, oracle);
+        machine.feed(answer);
+    }
+}
+
 // Keeps the hand where no take is under way.
 fn mark_start<'a>(start: &mut Snapshot<Hand<'a>>, hand: &Hand<'a>, machine: &Consumer)
     requires stands { (calls : Takes) × (made : List Made) × ConsumerStands machine.now calls made }
@@ -88,6 +104,7 @@ fn mark_start<'a>(start: &mut Snapshot<Hand<'a>>, hand: &Hand<'a>, machine: &Con
 }
 
 // Begins a take where none is under way.
+#[inline(always)]
 fn begin_take(machine: &mut Consumer)
     requires stands { (calls : Takes) × (made : List Made) × ConsumerStands machine.old calls made }
     ensures begins { (calls : Takes) (made : List Made) → ConsumerStands machine.old calls made → TakeBegins machine.old machine.new calls made }
@@ -125,6 +142,24 @@ impl<'a> TakeCore<'a> {
     }
 }
 
+impl<'a> TakeCore<'a> {
+    // Takes an item, or finds the ring empty or closed.
+    fn take<O: Oracle>(&mut self, oracle: &mut O) -> TakeReply
+        requires idle { self.old.taking ≡ false }
+        ensures same { IsSameEnd self.old.end self.new.end }
+        ensures lawful { StandsAs C self.new.end }
+        ensures idle { self.new.taking ≡ false }
+        ensures phrase { HasTaken self.new.end.ring.shape self.old.end.list self.new.end.list result }
+    {
+        begin_take(&mut self.machine);
+        finish(&mut self.hand, &mut self.machine, oracle);
+        match self.machine.reply() {
+            Some(reply) => reply,
+            None => unreachable!(),
+        }
+    }
+}
+
 impl<'a, O: Oracle + Drop> Taker<'a, O> {
     /// One step of a take: one event of its accesses. The take begins where none is under way, and the reply comes with
     /// its last step. Once a take was told `Closed`, each is answered so at once, with no step.
@@ -147,10 +182,6 @@ impl<'a, O: Oracle + Drop> Taker<'a, O> {
         ensures idle { self.new.taking ≡ false }
         ensures phrase { HasTaken self.new.end.ring.shape self.old.end.list self.new.end.list result }
     {
-        'steps: loop {
-            if let Some(reply) = self.step_take() {
-                return reply;
-            }
-        }
+        self.core.take(&mut self.oracle)
     }
 }

@@ -42,6 +42,17 @@ impl<'a> Words<'a> {
         Words { shared, shape }
     }
 
+    // The same words, held where an access keeps them at hand.
+    #[inline(always)]
+    pub(crate) fn again(&self) -> Words<'a>
+        ensures { result ≡ self.now }
+    {
+        Words {
+            shared: self.shared,
+            shape: self.shape,
+        }
+    }
+
     // The shape of the ring.
     pub(crate) fn shape(&self) -> Shape
         ensures { result ≡ self.now.shape }
@@ -49,7 +60,9 @@ impl<'a> Words<'a> {
         self.shape
     }
 
-    fn word_of(&self, bit: Bit) -> usize
+    // The place of the bit's word.
+    #[inline(always)]
+    pub(crate) fn word_of(&self, bit: Bit) -> usize
         requires { belongs self.now.shape bit ≡ true }
         ensures { result ≡ word_place self.now.shape bit }
     {
@@ -78,6 +91,25 @@ impl<'a> Words<'a> {
         ensures added { Added N.shape N.event seat.old.me result seat.new.me }
     {
         let word = self.word_of(bit);
+        self.load_at::<N, T>(seat, word, bit, side, about)
+    }
+
+    // The same at the word of the bit.
+    #[inline(always)]
+    pub(crate) fn load_at<N: Note, T>(
+        &self,
+        seat: &mut Seat<(), View>,
+        word: usize,
+        bit: Bit,
+        side: Side,
+        about: &T,
+    ) -> u64
+        requires own { (seat.old.table_id ≡ self.now.id) × (belongs self.now.shape bit ≡ true) }
+        requires place { word ≡ word_place self.now.shape bit }
+        requires rule { (slots : ℕ) → Allows (Kept self.now.shape) slots seat.old.id seat.old.me (word_place self.now.shape bit) (λ n. n) (Added N.shape N.event seat.old.me) }
+        ensures same { (seat.new.table_id ≡ seat.old.table_id) × (seat.new.id ≡ seat.old.id) }
+        ensures added { Added N.shape N.event seat.old.me result seat.new.me }
+    {
         self.shared.load::<Adds<N>>(seat, word)
     }
 
@@ -96,6 +128,26 @@ impl<'a> Words<'a> {
         ensures added { Added N.shape N.event seat.old.me new seat.new.me }
     {
         let word = self.word_of(bit);
+        self.store_at::<N, T>(seat, word, bit, side, about, new);
+    }
+
+    // The same at the word of the bit.
+    #[inline(always)]
+    pub(crate) fn store_at<N: Note, T>(
+        &self,
+        seat: &mut Seat<(), View>,
+        word: usize,
+        bit: Bit,
+        side: Side,
+        about: &T,
+        new: u64,
+    )
+        requires own { (seat.old.table_id ≡ self.now.id) × (belongs self.now.shape bit ≡ true) }
+        requires place { word ≡ word_place self.now.shape bit }
+        requires rule { (slots : ℕ) → Allows (Kept self.now.shape) slots seat.old.id seat.old.me (word_place self.now.shape bit) (λ _. new) (λ _. Added N.shape N.event seat.old.me new) }
+        ensures same { (seat.new.table_id ≡ seat.old.table_id) × (seat.new.id ≡ seat.old.id) }
+        ensures added { Added N.shape N.event seat.old.me new seat.new.me }
+    {
         self.shared.store::<Adds<N>>(seat, word, new);
     }
 

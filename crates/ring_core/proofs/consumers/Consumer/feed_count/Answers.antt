@@ -1,4 +1,4 @@
-use Rattle.std.proofs.Common.{rules, ◌≡◌, Some}
+use Rattle.std.proofs.Common.{rules, ◌≡◌, Some, ◌∙◌}
 use Rattle.bits_core.specs.declared.events.Side.TheVariants.{C}
 use Rattle.bits_core.specs.Shape.{capacity_of, modulus_of}
 use Rattle.ring_core.specs.declared.consumers.Stage.TheVariants.{Counting}
@@ -17,8 +17,8 @@ returns-then-is_none-clause-stands c =
     let answered : c.map-self-inside.result ≡ Some (replies.Item p.word.value) = search rules in
     rw (← c.self.view_is)
     (count_over p c.feed.new.self c.args.answer c.map-self-inside.result _ _ (rw (← c.self.view_is) at c.requires.stage) c.feed.ensures.stands answered
-    (next_count p.count c.modulus.result (modulus_of p.shape) c.modulus.ensures.value)
-    (next_count p.cell c.capacity.result (capacity_of p.shape) c.capacity.ensures.value)
+    (c.past_in-self-inside.ensures ∙ next_count p.count c.modulus.result (modulus_of p.shape) c.modulus.ensures.value)
+    (c.past_in-self-inside-then-is_none.ensures ∙ next_count p.cell c.capacity.result (capacity_of p.shape) c.capacity.ensures.value)
     (row_whole C p.row c.feed.new.self c.next.result c.self.invariant.row_side c.feed.ensures.kept.side
     (none_next c.next.result c.is_none.result c.is_none.ensures c.if-is_none.true) c.next.ensures.stands))
 

@@ -17,8 +17,8 @@ invariant_of-self c =
     let p : ConsumerState = the_view c.self.inside in
     let stage : p.stage ≡ Loading = rw (← c.self.view_is) at c.requires.stage in
     let (counted, taking, loads, more) = at_stage p Loading c.self.invariant stage in
-    let value : (p.count + 1) % c.modulus.result ≡ suc p.count % modulus_of p.shape =
-    next_count p.count c.modulus.result (modulus_of p.shape) c.modulus.ensures.value in
+    let value : c.past_in.result ≡ suc p.count % modulus_of p.shape =
+    c.past_in.ensures ∙ next_count p.count c.modulus.result (modulus_of p.shape) c.modulus.ensures.value in
     word_keeps p c.feed.new.self c.write.new.self c.args.answer c.self.invariant stage c.feed.ensures.state
     (word_read_all p c.feed.new.self c.args.answer c.next.result more c.feed.ensures.state c.next.ensures.due
     (none_next c.next.result c.is_none.result c.is_none.ensures c.if-is_none.true))
@@ -29,8 +29,8 @@ returns-then-is_none-clause-stands c =
     let p : ConsumerState = the_view c.self.inside in
     let stage : p.stage ≡ Loading = rw (← c.self.view_is) at c.requires.stage in
     let (counted, taking, loads, more) = at_stage p Loading c.self.invariant stage in
-    let value : (p.count + 1) % c.modulus.result ≡ suc p.count % modulus_of p.shape =
-    next_count p.count c.modulus.result (modulus_of p.shape) c.modulus.ensures.value in
+    let value : c.past_in.result ≡ suc p.count % modulus_of p.shape =
+    c.past_in.ensures ∙ next_count p.count c.modulus.result (modulus_of p.shape) c.modulus.ensures.value in
     rw (← c.self.view_is)
     (word_over p c.feed.new.self c.write.new.self c.args.answer stage c.feed.ensures.stands
     (word_whole p c.feed.new.self c.args.answer loads c.feed.ensures.state

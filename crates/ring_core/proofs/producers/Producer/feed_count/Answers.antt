@@ -1,4 +1,4 @@
-use Rattle.std.proofs.Common.{◌+◌, ◌%◌, ap, arith}
+use Rattle.std.proofs.Common.{◌+◌, ◌%◌, ap, arith, ◌∙◌}
 use Rattle.bits_core.specs.declared.events.Side.TheVariants.{P}
 use Rattle.ring_core.specs.declared.producers.Stage.TheVariants.{Counting}
 use Rattle.ring_core.specs.contracts.producers.Producer.{the_view}
@@ -15,7 +15,8 @@ returns-then-is_none-clause-stands c =
     rw (← c.self.view_is)
     (count_over p c.feed.new.self c.args.answer _ _ (rw (← c.self.view_is) at c.requires.stage) c.feed.ensures.stands putting.offers
     (omega (arith, keeping.0)) keeping.1
-    (ap (λ k. (p.count + p.most) % k) c.modulus.ensures.value) (ap (λ k. (p.cell + p.most) % k) c.capacity.ensures.value)
+    (c.past_in-self-inside.ensures ∙ ap (λ k. (p.count + p.most) % k) c.modulus.ensures.value)
+    (c.past_in-self-inside-then-is_none.ensures ∙ ap (λ k. (p.cell + p.most) % k) c.capacity.ensures.value)
     (row_whole P p.row c.feed.new.self c.next.result c.self.invariant.0.row_side c.feed.ensures.kept.side (none_next c.next.result c.is_none.result c.is_none.ensures c.if-is_none.true) c.next.ensures.stands))
 
 pub returns-else-is_none-clause-stands : goal.returns-else-is_none-clause-stands

@@ -28,8 +28,8 @@ invariant_of-self c =
     let stage : p.stage ≡ Storing = rw (← c.self.view_is) at c.requires.stage in
     let (counted, putting, keeping, more) = at_stage p Storing c.self.invariant.0 stage in
     let next : ℕ = p.index + 1 in (
-      next_so p c.new-self-inside.result ((p.cell + next) % c.capacity.result) (slice_index_or c.self.inside.items next 0) next (omega arith) c.self.invariant.0 stage
-          c.if-self.true (ap (λ k. (p.cell + next) % k) c.capacity.ensures.value)
+      next_so p c.new-self-inside.result c.past_in-cell.result (slice_index_or c.self.inside.items next 0) next (omega arith) c.self.invariant.0 stage
+          c.if-self.true (c.past_in-cell.ensures ∙ ap (λ k. (p.cell + next) % k) c.capacity.ensures.value)
           (taken_at c.self.inside.items c.self.inside.offered next (omega (arith, c.if-self.true, keeping.1))) c.new-self-inside.ensures.state,
       c.self.invariant.1,
       c.self.invariant.2,
@@ -40,7 +40,7 @@ pub invariant_of-self-else-self : goal.invariant_of-self-else-self
 invariant_of-self-else-self c =
     let p : ProducerState = the_view c.self.inside in (
       word_keeps p c.feed.new.self c.write.new.self c.self.invariant.0 (rw (← c.self.view_is) at c.requires.stage) c.feed.ensures.state
-          (c.write.ensures.state ∙ ap (λ k. with_value p.row ((p.count + p.most) % k)) c.modulus.ensures.value),
+          (c.write.ensures.state ∙ ap (with_value p.row) (c.past_in.ensures ∙ ap (λ k. (p.count + p.most) % k) c.modulus.ensures.value)),
       c.self.invariant.1,
       c.self.invariant.2,
       c.self.invariant.3,
@@ -61,7 +61,7 @@ returns-else-self-clause-stands c =
     let p : ProducerState = the_view c.self.inside in
     let stage : p.stage ≡ Storing = rw (← c.self.view_is) at c.requires.stage in
     let (counted, putting, keeping, more) = at_stage p Storing c.self.invariant.0 stage in
-    let value : (p.count + p.most) % c.modulus.result ≡ (p.count + p.most) % modulus_of p.shape = ap (λ k. (p.count + p.most) % k) c.modulus.ensures.value in
+    let value : c.past_in.result ≡ (p.count + p.most) % modulus_of p.shape = c.past_in.ensures ∙ ap (λ k. (p.count + p.most) % k) c.modulus.ensures.value in
     rw (← c.self.view_is)
     (word_over p c.feed.new.self c.write.new.self c.args.answer stage c.feed.ensures.stands
     (word_whole p c.feed.new.self c.next.result putting.writes c.feed.ensures.state (none_next c.next.result c.is_none.result c.is_none.ensures c.if-is_none.true) c.next.ensures.stands)

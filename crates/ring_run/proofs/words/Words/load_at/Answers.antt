@@ -5,7 +5,7 @@ use Rattle.ring_run.specs.Ring.{Ring}
 use Rattle.ring_run.specs.Rule.{Kept, Added}
 use Rattle.ring_run.specs.Words.{word_count}
 use Rattle.ring_run.proofs.Places.{place_below}
-use Rattle.ring_run.proofs.words.Words.load_noted.Goals as goal
+use Rattle.ring_run.proofs.words.Words.load_at.Goals as goal
 
 pub load-requires : goal.load-requires
 load-requires g c =
@@ -13,7 +13,7 @@ load-requires g c =
     let now = c.args.self.now in
     let shape : c.self.inside.shape ≡ now.shape = ap (λ (r : Ring). r.shape) c.self.view_is in
     let key : now.shape ≡ t.key = sym (c.self.invariant.0 ∙ shape) in
-    let word = sym c.word_of-word.ensures in
+    let word = sym c.requires.place in
     let words = sym (c.self.invariant.1 ∙ ap word_count shape) in (
       c.requires.own.0 ∙ sym (ap (λ (r : Ring). r.id) c.self.view_is),
       subst (λ (z : ℕ × ℕ). z.0 < z.1) (λ i. (word i, words i)) (place_below now.shape c.args.bit c.requires.own.1),

@@ -1,0 +1,77 @@
+use Rattle.std.proofs.Common.{◌≡◌, ℕ, true, false, List, refl, ap, sym, subst, ◌∙◌}
+use Rattle.atomic_table.specs.Table.{Allows}
+use Rattle.bits_core.specs.declared.events.Act.TheVariants.{ReadBegin, ReadEnd}
+use Rattle.bits_core.specs.declared.events.Access.TheVariants.{Read}
+use Rattle.bits_core.specs.declared.events.Event.{Event}
+use Rattle.bits_core.specs.Bits.{other, reader}
+use Rattle.bits_core.specs.Shape.{belongs}
+use Rattle.ring_run.specs.Hands.{CanMake, HasMade}
+use Rattle.ring_run.specs.Programs.{GoesOn}
+use Rattle.ring_run.specs.Ring.{Ring, RingEnd}
+use Rattle.ring_run.specs.declared.views.View.{View}
+use Rattle.ring_run.specs.Rule.{Added, Kept, event}
+use Rattle.ring_run.specs.Words.{answer_of, word_place}
+use Rattle.ring_run.proofs.Accesses.{end_at, list_more, made_read, may_still, none_open}
+use Rattle.ring_run.proofs.Moves.{begins_read, ends_read, opened_by}
+use Rattle.ring_run.proofs.hands.Hand.read.Goals as goal
+
+pub load_at-first-requires-clause-rule : goal.load_at-first-requires-clause-rule
+load_at-first-requires-clause-rule g c =
+    let h = c.self.inside in
+    let is = sym c.self.view_is in
+    let b = c.args.bit in
+    let can = subst (λ (e : RingEnd). CanMake e (Read b)) is c.requires.can in
+    subst (λ (r : Ring). (slots : ℕ) → Allows (Kept r.shape) slots h.seat.id h.seat.me (word_place r.shape b) (λ n. n) (Added r.shape (λ _. event h.side b ReadBegin) h.seat.me)) (sym c.again-ring.ensures)
+    (λ slots. begins_read c.laws_below.ensures h.ring.shape h.side b slots h.seat.id h.seat.me c.self.invariant.2 c.self.invariant.3
+    (subst (λ (e : RingEnd). belongs e.ring.shape b ≡ true) is c.requires.bit.0)
+    (subst (λ (e : RingEnd). e.side ≡ reader b) is c.requires.bit.1)
+    can.0 can.1)
+
+pub load_at-again-requires-clause-rule : goal.load_at-again-requires-clause-rule
+load_at-again-requires-clause-rule g c =
+    let h = c.self.inside in
+    let is = sym c.self.view_is in
+    let b = c.args.bit in
+    let can = subst (λ (e : RingEnd). CanMake e (Read b)) is c.requires.can in
+    let first = c.load_at-first.result in
+    let seat = c.load_at-first.new.seat in
+    let view = c.load_at-first.ensures.added.view in
+    let said = g.O.Oracle.answers c.args.oracle.now 0 in
+    subst (λ (r : Ring). (slots : ℕ) → Allows (Kept r.shape) slots seat.id seat.me (word_place r.shape b) (λ n. n) (Added r.shape (λ n. event h.side b (ReadEnd (answer_of seat.me.0.first n said))) seat.me)) (sym c.again-ring.ensures)
+    (λ slots. ends_read c.laws_below.ensures h.ring.shape h.side b slots seat.id seat.me
+    (may_still h.side b ReadBegin first h.seat.me.0 seat.me.0 view h.side true c.self.invariant.2)
+    (may_still h.side b ReadBegin first h.seat.me.0 seat.me.0 view (other h.side) false c.self.invariant.3)
+    (subst (λ (e : RingEnd). belongs e.ring.shape b ≡ true) is c.requires.bit.0)
+    (subst (λ (e : RingEnd). e.side ≡ reader b) is c.requires.bit.1)
+    (opened_by c.laws_below.ensures h.side b ReadBegin first h.seat.me.0 seat.me.0 view)
+    (subst (λ (l : List Event). GoesOn h.ring.shape h.side (Read b) l) (sym (list_more h.side b ReadBegin first h.seat.me.0 seat.me.0 view)) can.2)
+    said)
+
+pub invariant_of-self : goal.invariant_of-self
+invariant_of-self g c =
+    let h = c.self.inside in
+    let is = sym c.self.view_is in
+    let b = c.args.bit in
+    let can = subst (λ (e : RingEnd). CanMake e (Read b)) is c.requires.can in
+    let one = c.load_at-first in
+    let two = c.load_at-again in
+    let v1 = one.new.seat.me.0 in
+    let a = ReadEnd (answer_of v1.first two.result (g.O.Oracle.answers c.args.oracle.now 0)) in (
+      two.ensures.same.0 ∙ one.ensures.same.0 ∙ c.self.invariant.0,
+      two.ensures.added.carried ∙ one.ensures.added.carried ∙ c.self.invariant.1,
+      may_still h.side b a two.result v1 two.new.seat.me.0 two.ensures.added.view h.side true (may_still h.side b ReadBegin one.result h.seat.me.0 v1 one.ensures.added.view h.side true c.self.invariant.2),
+      may_still h.side b a two.result v1 two.new.seat.me.0 two.ensures.added.view (other h.side) false (may_still h.side b ReadBegin one.result h.seat.me.0 v1 one.ensures.added.view (other h.side) false c.self.invariant.3),
+      ap (λ (u : View). u.first) two.ensures.added.view ∙ ap (λ (u : View). u.first) one.ensures.added.view,
+      none_open c.laws_below.ensures h.side b a two.result v1 two.new.seat.me.0 two.ensures.added.view refl h.opened _ c.self.invariant.5 can.0,
+    )
+
+pub returns-clause-made : goal.returns-clause-made
+returns-clause-made g c =
+    let h = c.self.inside in
+    let one = c.load_at-first in
+    let two = c.load_at-again in
+    let said = g.O.Oracle.answers c.args.oracle.now 0 in
+    let added_one = subst (λ (r : Ring). Added r.shape (λ _. event h.side c.args.bit ReadBegin) h.seat.me one.result one.new.seat.me) c.again-ring.ensures one.ensures.added in
+    let added_two = subst (λ (r : Ring). Added r.shape (λ n. event h.side c.args.bit (ReadEnd (answer_of one.new.seat.me.0.first n said))) one.new.seat.me two.result two.new.seat.me) c.again-ring.ensures two.ensures.added in
+    subst (λ (e : RingEnd). HasMade e (end_at h.ring h.side two.new.seat.me.0) (Read c.args.bit) c.answer.result) c.self.view_is
+    (made_read h.ring h.side c.args.bit h.seat.me one.new.seat.me two.new.seat.me one.result two.result said c.answer.result added_one added_two c.answer.ensures.answer)

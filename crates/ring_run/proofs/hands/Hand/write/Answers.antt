@@ -1,0 +1,80 @@
+use Rattle.std.proofs.Common.{◌≡◌, ℕ, true, false, List, refl, ap, sym, subst, ◌∙◌}
+use Rattle.atomic_table.specs.Table.{Allows}
+use Rattle.bits_core.specs.declared.events.Act.TheVariants.{WriteBegin, WriteEnd}
+use Rattle.bits_core.specs.declared.events.Access.TheVariants.{Write}
+use Rattle.bits_core.specs.declared.events.Event.{Event}
+use Rattle.bits_core.specs.Bits.{other, writer}
+use Rattle.bits_core.specs.Shape.{belongs}
+use Rattle.ring_run.specs.Hands.{CanMake, HasMade}
+use Rattle.ring_run.specs.Programs.{GoesOn}
+use Rattle.ring_run.specs.Ring.{Ring, RingEnd}
+use Rattle.ring_run.specs.declared.views.View.{View}
+use Rattle.ring_run.specs.Rule.{Added, Kept, event}
+use Rattle.ring_run.specs.Words.{word_place}
+use Rattle.ring_run.proofs.Accesses.{end_at, list_more, made_write, may_still, none_open}
+use Rattle.ring_run.proofs.Moves.{begins_write, ends_write, opened_by}
+use Rattle.ring_run.proofs.hands.Hand.write.Goals as goal
+
+pub store_at-requires-clause-rule : goal.store_at-requires-clause-rule
+store_at-requires-clause-rule c =
+    let h = c.self.inside in
+    let is = sym c.self.view_is in
+    let b = c.args.bit in
+    let v = c.args.value in
+    let can = subst (λ (e : RingEnd). CanMake e (Write b v)) is c.requires.can in
+    subst (λ (r : Ring). (slots : ℕ) → Allows (Kept r.shape) slots h.seat.id h.seat.me (word_place r.shape b) (λ _. 2) (λ _. Added r.shape (λ _. event h.side b (WriteBegin v)) h.seat.me 2)) (sym c.again-ring.ensures)
+    (λ slots. begins_write c.laws_below.ensures h.ring.shape h.side b slots h.seat.id h.seat.me c.self.invariant.2 c.self.invariant.3
+    (subst (λ (e : RingEnd). belongs e.ring.shape b ≡ true) is c.requires.bit.0)
+    (subst (λ (e : RingEnd). e.side ≡ writer b) is c.requires.bit.1)
+    can.0 v can.1)
+
+pub store_at-requires-2-clause-rule : goal.store_at-requires-2-clause-rule
+store_at-requires-2-clause-rule c =
+    let h = c.self.inside in
+    let is = sym c.self.view_is in
+    let b = c.args.bit in
+    let v = c.args.value in
+    let shape = h.ring.shape in
+    let can = subst (λ (e : RingEnd). CanMake e (Write b v)) is c.requires.can in
+    let seat = c.store_at.new.seat in
+    let view = c.store_at.ensures.added.view in
+    let new = c.word_of-new.result in
+    subst (λ (r : Ring). (slots : ℕ) → Allows (Kept r.shape) slots seat.id seat.me (word_place r.shape b) (λ _. new) (λ _. Added r.shape (λ _. event h.side b WriteEnd) seat.me new)) (sym c.again-ring.ensures)
+    (λ slots. subst (λ (n : ℕ). Allows (Kept shape) slots seat.id seat.me (word_place shape b) (λ _. n) (λ _. Added shape (λ _. event h.side b WriteEnd) seat.me n)) (sym c.word_of-new.ensures)
+    (ends_write c.laws_below.ensures shape h.side b slots seat.id seat.me
+    (may_still h.side b (WriteBegin v) 2 h.seat.me.0 seat.me.0 view h.side true c.self.invariant.2)
+    (may_still h.side b (WriteBegin v) 2 h.seat.me.0 seat.me.0 view (other h.side) false c.self.invariant.3)
+    (subst (λ (e : RingEnd). belongs e.ring.shape b ≡ true) is c.requires.bit.0)
+    (subst (λ (e : RingEnd). e.side ≡ writer b) is c.requires.bit.1)
+    v
+    (opened_by c.laws_below.ensures h.side b (WriteBegin v) 2 h.seat.me.0 seat.me.0 view)
+    (subst (λ (l : List Event). GoesOn shape h.side (Write b v) l) (sym (list_more h.side b (WriteBegin v) 2 h.seat.me.0 seat.me.0 view)) can.2)))
+
+pub invariant_of-self : goal.invariant_of-self
+invariant_of-self c =
+    let h = c.self.inside in
+    let is = sym c.self.view_is in
+    let b = c.args.bit in
+    let v = c.args.value in
+    let can = subst (λ (e : RingEnd). CanMake e (Write b v)) is c.requires.can in
+    let one = c.store_at in
+    let two = c.store_at-2 in
+    let new = c.word_of-new.result in
+    let v1 = one.new.seat.me.0 in (
+      two.ensures.same.0 ∙ one.ensures.same.0 ∙ c.self.invariant.0,
+      two.ensures.added.carried ∙ one.ensures.added.carried ∙ c.self.invariant.1,
+      may_still h.side b WriteEnd new v1 two.new.seat.me.0 two.ensures.added.view h.side true (may_still h.side b (WriteBegin v) 2 h.seat.me.0 v1 one.ensures.added.view h.side true c.self.invariant.2),
+      may_still h.side b WriteEnd new v1 two.new.seat.me.0 two.ensures.added.view (other h.side) false (may_still h.side b (WriteBegin v) 2 h.seat.me.0 v1 one.ensures.added.view (other h.side) false c.self.invariant.3),
+      ap (λ (u : View). u.first) two.ensures.added.view ∙ ap (λ (u : View). u.first) one.ensures.added.view ∙ c.self.invariant.4,
+      none_open c.laws_below.ensures h.side b WriteEnd new v1 two.new.seat.me.0 two.ensures.added.view refl h.opened _ c.self.invariant.5 can.0,
+    )
+
+pub returns : goal.returns
+returns c =
+    let h = c.self.inside in
+    let one = c.store_at in
+    let two = c.store_at-2 in
+    let added_one = subst (λ (r : Ring). Added r.shape (λ _. event h.side c.args.bit (WriteBegin c.args.value)) h.seat.me 2 one.new.seat.me) c.again-ring.ensures one.ensures.added in
+    let added_two = subst (λ (r : Ring). Added r.shape (λ _. event h.side c.args.bit WriteEnd) one.new.seat.me c.word_of-new.result two.new.seat.me) c.again-ring.ensures two.ensures.added in
+    subst (λ (e : RingEnd). HasMade e (end_at h.ring h.side two.new.seat.me.0) (Write c.args.bit c.args.value) c.args.value) c.self.view_is
+    (made_write h.ring h.side c.args.bit h.seat.me one.new.seat.me two.new.seat.me c.args.value 2 c.word_of-new.result added_one added_two)

@@ -1,0 +1,65 @@
+use Rattle.std.proofs.Common.{◌≡◌, false, ap, sym, subst, ◌∙◌}
+use Rattle.ring_core.specs.ConsumerState.{is_taking}
+use Rattle.ring_run.specs.Ends.{TakerState, HasTaken}
+use Rattle.ring_run.specs.Hands.{IsSameEnd}
+use Rattle.ring_run.proofs.PutterWhole.{told_so}
+use Rattle.ring_run.proofs.TakerWhole.{ready, idle_after, is_taker, lawful_after, some_reply, take_ended}
+use Rattle.ring_run.proofs.takers.TakeCore.take.Goals as goal
+
+pub finish-requires : goal.finish-requires
+finish-requires g c =
+    let p = c.self.inside in
+    let i = c.self.invariant in
+    let idle : is_taking p.machine ≡ false = ap (λ (s : TakerState). s.taking) c.self.view_is ∙ c.requires.idle in
+    let begins = c.begin_take.ensures.begins i.calls i.made i.at.stands in
+    record { ready = (i.calls, ready p.hand p.machine i.calls i.made i.at idle c.begin_take.new.machine begins) }
+
+pub invariant_of-self : goal.invariant_of-self
+invariant_of-self g c =
+    let p = c.self.inside in
+    let i = c.self.invariant in
+    let idle : is_taking p.machine ≡ false = ap (λ (s : TakerState). s.taking) c.self.view_is ∙ c.requires.idle in
+    let begins = c.begin_take.ensures.begins i.calls i.made i.at.stands in
+    is_taker p.hand p.machine i.calls i.made i.at idle c.begin_take.new.machine begins c.finish.new.hand c.finish.new.machine c.finish.ensures.same c.finish.ensures.rests (c.finish.ensures.over i.calls) p.start.value.list
+
+pub unreachable-requires : goal.unreachable-requires
+unreachable-requires g c =
+    let p = c.self.inside in
+    let i = c.self.invariant in
+    let idle : is_taking p.machine ≡ false = ap (λ (s : TakerState). s.taking) c.self.view_is ∙ c.requires.idle in
+    let begins = c.begin_take.ensures.begins i.calls i.made i.at.stands in
+    let (x, is, has) = take_ended p.hand p.machine i.calls i.made i.at idle c.begin_take.new.machine begins c.finish.new.hand c.finish.new.machine c.finish.ensures.same c.finish.ensures.rests (c.finish.ensures.over i.calls) in
+    some_reply x (sym is ∙ sym c.reply.ensures.state ∙ c.in-None.is)
+
+pub returns-clause-same : goal.returns-clause-same
+returns-clause-same g c =
+    let p = c.self.inside in
+    let i = c.self.invariant in
+    let idle : is_taking p.machine ≡ false = ap (λ (s : TakerState). s.taking) c.self.view_is ∙ c.requires.idle in
+    let begins = c.begin_take.ensures.begins i.calls i.made i.at.stands in
+    subst (λ (s : TakerState). IsSameEnd s.end c.finish.new.hand) c.self.view_is c.finish.ensures.same
+
+pub returns-clause-lawful : goal.returns-clause-lawful
+returns-clause-lawful g c =
+    let p = c.self.inside in
+    let i = c.self.invariant in
+    let idle : is_taking p.machine ≡ false = ap (λ (s : TakerState). s.taking) c.self.view_is ∙ c.requires.idle in
+    let begins = c.begin_take.ensures.begins i.calls i.made i.at.stands in
+    lawful_after p.hand p.machine i.calls i.made i.at idle c.begin_take.new.machine begins c.finish.new.hand c.finish.new.machine c.finish.ensures.same c.finish.ensures.rests (c.finish.ensures.over i.calls)
+
+pub returns-clause-idle : goal.returns-clause-idle
+returns-clause-idle g c =
+    let p = c.self.inside in
+    let i = c.self.invariant in
+    let idle : is_taking p.machine ≡ false = ap (λ (s : TakerState). s.taking) c.self.view_is ∙ c.requires.idle in
+    let begins = c.begin_take.ensures.begins i.calls i.made i.at.stands in
+    idle_after p.hand p.machine i.calls i.made i.at idle c.begin_take.new.machine begins c.finish.new.hand c.finish.new.machine c.finish.ensures.same c.finish.ensures.rests (c.finish.ensures.over i.calls)
+
+pub returns-clause-phrase : goal.returns-clause-phrase
+returns-clause-phrase g c =
+    let p = c.self.inside in
+    let i = c.self.invariant in
+    let idle : is_taking p.machine ≡ false = ap (λ (s : TakerState). s.taking) c.self.view_is ∙ c.requires.idle in
+    let begins = c.begin_take.ensures.begins i.calls i.made i.at.stands in
+    subst (λ (s : TakerState). HasTaken c.finish.new.hand.ring.shape s.end.list c.finish.new.hand.list c.in-Some.reply) c.self.view_is
+    (told_so (HasTaken c.finish.new.hand.ring.shape p.hand.list c.finish.new.hand.list) c.finish.new.machine.reply (take_ended p.hand p.machine i.calls i.made i.at idle c.begin_take.new.machine begins c.finish.new.hand c.finish.new.machine c.finish.ensures.same c.finish.ensures.rests (c.finish.ensures.over i.calls)) c.in-Some.reply (sym c.reply.ensures.state ∙ c.in-Some.is))
