@@ -1,0 +1,24 @@
+use Rattle.std.proofs.Common.{◌≤◌, ◌∙◌, sym, inl, take, length, arith}
+use Rattle.std.proofs.lemmas.List.{length-take-le}
+use Rattle.ring_page.proofs.Shown.{AreMarks-audited}
+use Rattle.ring_page.proofs.audits.audited.Goals as goal
+
+pub returns-in-Ok : goal.returns-in-Ok
+returns-in-Ok c =
+    let shape = c.in-Ok.shape in
+    let events = take c.in-Ok.count c.read_trace_into.new.events in
+    let verdict = c.audit_bits_into-verdict.result in
+    let count = length-take-le c.in-Ok.count c.read_trace_into.new.events c.in-Ok.ensures.within in
+    let few : length events ≤ length c.audit_bits_into-verdict.new.seen = omega (arith, count, c.in-Ok.ensures.within, c.read_trace_into.auto.events, c.requires.room, c.audit_bits_into-verdict.auto.seen, c.requires.seen.0) in
+    inl (record {
+      shape = shape;
+      events = events;
+      verdict = verdict;
+      is_trace = c.in-Ok.ensures.read;
+      is_verdict = c.audit_bits_into-verdict.ensures.verdict;
+      tells = c.told_verdict.ensures.verdict;
+      tells_shape = c.told_verdict.ensures.shape;
+      count = c.told_verdict.ensures.count ∙ sym count;
+      are_marks = AreMarks-audited c.fault_breaks.ensures c.flicker_is_by_interval.ensures shape events verdict c.args.seen.now c.audit_bits_into-verdict.new.seen c.put_marks.new.marks
+          c.audit_bits_into-verdict.ensures.verdict c.requires.seen.1 c.audit_bits_into-verdict.ensures.seen few c.put_marks.ensures;
+    })

@@ -1,0 +1,107 @@
+-- What the page is told of a text.
+use Rattle.std.specs.Prelude.{◌≡◌, ◌⊎◌, ◌↔◌, ◌<◌, ◌≤◌, true, false, ℕ, suc, List, length, take, Some, slice_get, slice_index_or}
+use Rattle.bits_core.specs.Audit.{IsVerdict, kind_number}
+use Rattle.bits_core.specs.History.{held}
+use Rattle.bits_core.specs.Memory.{EndsOverlappedRead}
+use Rattle.bits_core.specs.Seen.{clashes, sound_count}
+use Rattle.bits_core.specs.Shape.{batch_of, capacity_of, modulus_of, shape_fault_number, width_of}
+use Rattle.bits_core.specs.Trace.{IsTrace, IsTraceFault, trace_fault_number}
+use Rattle.bits_core.specs.declared.audits.Seen.{Seen}
+use Rattle.bits_core.specs.declared.audits.Verdict.{Verdict}
+use Rattle.bits_core.specs.declared.audits.Verdict.TheVariants.{Lawful, Fault}
+use Rattle.bits_core.specs.declared.events.Event.{Event}
+use Rattle.bits_core.specs.declared.shapes.Shape.{Shape}
+use Rattle.bits_core.specs.declared.traces.TraceFault.{TraceFault}
+use Rattle.bits_core.specs.declared.traces.TraceFault.TheVariants.{BadShape, BadLine, TooLong, OutOfMemory}
+use Rattle.ring_page.specs.Marks.{act_number, digit_of, index_of, row_of, side_number, value_of}
+use Rattle.ring_page.specs.declared.audits.TheConstants.{EVENT_ROOM}
+use Rattle.ring_page.specs.declared.audits.Told.{Told}
+use Rattle.ring_page.specs.declared.marks.Mark.{Mark}
+
+-- ---- marks
+
+-- the numbers of an event
+pub record Names (e : Event) (m : Mark) : Type 0 where
+  pub side : m.side ≡ side_number e.side
+  pub row : m.row ≡ row_of e.bit
+  pub index : m.index ≡ index_of e.bit
+  pub digit : m.digit ≡ digit_of e.bit
+  pub act : m.act ≡ act_number e.act
+  pub value : m.value ≡ value_of e.act
+
+-- What the lawful history shows at the place: what the event's bit holds just after it; whether a read ends there that a write
+-- overlapped, by intervals; whether just after it a read and a write of one bit are open.
+pub record Shows (lawful : List Event) (place : ℕ) (e : Event) (m : Mark) : Type 0 where
+  pub held_is : m.held ≡ held e.bit (take (suc place) lawful)
+  pub overlapped_is : (m.overlapped ≡ true) ↔ EndsOverlappedRead lawful place
+  pub clashes_is : m.clashes ≡ clashes (take (suc place) lawful)
+
+pub record ShowsNothing (m : Mark) : Type 0 where
+  pub held_is : m.held ≡ false
+  pub overlapped_is : m.overlapped ≡ false
+  pub clashes_is : m.clashes ≡ false
+
+-- Each mark names its event, for as many as there is room. Those of the first n events, which are lawful, show what is seen there, and
+-- the others nothing.
+pub record AreMarks (events : List Event) (n : ℕ) (marks : List Mark) : Type 0 where
+  pub names : (place : ℕ) (e : Event) (m : Mark) → slice_get events place ≡ Some e → slice_get marks place ≡ Some m → Names e m
+  pub shows : (place : ℕ) (e : Event) (m : Mark) → slice_get events place ≡ Some e → slice_get marks place ≡ Some m → place < n → Shows (take n events) place e m
+  pub rest : (place : ℕ) (e : Event) (m : Mark) → slice_get events place ≡ Some e → slice_get marks place ≡ Some m → n ≤ place → ShowsNothing m
+
+-- nothing is seen
+abbrev pub nothing : Seen
+nothing = record { held = false; overlapped = false; clashes = false }
+
+abbrev pub IsNothingSeen : List Seen → Type 0
+IsNothingSeen seen = (place : ℕ) → place < length seen → slice_index_or seen place nothing ≡ nothing
+
+-- ---- a trace
+
+-- the verdict, as numbers
+abbrev pub TellsVerdict : Verdict → Told → Type 0
+TellsVerdict Lawful told = told.outcome ≡ 0
+TellsVerdict (Fault place kind) told = (told.outcome ≡ 1) × (told.number ≡ kind_number kind) × (told.place ≡ place)
+
+-- the numbers of the shape
+pub record TellsShape (shape : Shape) (told : Told) : Type 0 where
+  pub capacity : told.capacity ≡ capacity_of shape
+  pub modulus : told.modulus ≡ modulus_of shape
+  pub width : told.width ≡ width_of shape
+  pub batch : told.batch ≡ batch_of shape
+
+-- the text is a trace, this is the verdict on it, and these are the marks of its events
+pub record TellsAudit (text : List ℕ) (marks : List Mark) (told : Told) : Type 0 where
+  pub shape : Shape
+  pub events : List Event
+  pub verdict : Verdict
+  pub is_trace : IsTrace text shape events
+  pub is_verdict : IsVerdict shape events verdict
+  pub tells : TellsVerdict verdict told
+  pub tells_shape : TellsShape shape told
+  pub count : told.count ≡ length events
+  pub are_marks : AreMarks events (sound_count events verdict) marks
+
+-- ---- no trace
+
+-- where the fault is
+abbrev pub TellsPlace : TraceFault → Told → Type 0
+TellsPlace (BadShape fault) told = told.shape_fault ≡ shape_fault_number fault
+TellsPlace (BadLine line) told = told.place ≡ line
+TellsPlace TooLong told = Unit {0}
+TellsPlace OutOfMemory told = Unit {0}
+
+-- the fault, as numbers
+pub record TellsFault (fault : TraceFault) (told : Told) : Type 0 where
+  pub outcome : told.outcome ≡ 2
+  pub number : told.number ≡ trace_fault_number fault
+  pub place : TellsPlace fault told
+
+-- the text is no trace, for this fault; or no trace of so few events as the page has room for
+pub record TellsRefusal (text : List ℕ) (told : Told) : Type 0 where
+  pub fault : TraceFault
+  pub cause : IsTraceFault text fault ⊎ ((fault ≡ OutOfMemory) × ((shape : Shape) (events : List Event) → IsTrace text shape events → EVENT_ROOM < length events))
+  pub tells : TellsFault fault told
+
+-- what is told of a text
+abbrev pub Tells : List ℕ → List Mark → Told → Type 0
+Tells text marks told = TellsAudit text marks told ⊎ TellsRefusal text told

@@ -1,0 +1,92 @@
+-- What the page is told of a play.
+use Rattle.std.specs.Prelude.{◌≡◌, ◌⊎◌, ◌↔◌, Bool, true, false, not, nat_eq, ℕ, List, length, take}
+use Rattle.bits_core.specs.Memory.{flicker_count}
+use Rattle.bits_core.specs.Shape.{shape_fault_number}
+use Rattle.bits_core.specs.declared.events.Event.{Event}
+use Rattle.ring_core.specs.Items.{ToldIn, items_put_in, items_taken_in}
+use Rattle.ring_core.specs.Over.{empties, fulls, puts_over_in, takes_over_in}
+use Rattle.ring_core.specs.Puts.{FollowsPuts, Puts}
+use Rattle.ring_core.specs.Takes.{FollowsTakes, Takes}
+use Rattle.ring_player.specs.Headline.{HoldsHeadline}
+use Rattle.ring_player.specs.Plays.{Plays}
+use Rattle.ring_script.specs.Faults.{IsScriptFault, script_fault_number}
+use Rattle.ring_script.specs.Script.{Content, Held, Holds, IsContentOf, IsScript}
+use Rattle.ring_script.specs.declared.faults.ScriptFault.{ScriptFault}
+use Rattle.ring_script.specs.declared.faults.ScriptFault.TheVariants as fault
+use Rattle.ring_page.specs.Audit.{AreMarks}
+use Rattle.ring_page.specs.declared.marks.Mark.{Mark}
+use Rattle.ring_page.specs.declared.plays.Asked.{Asked}
+use Rattle.ring_page.specs.declared.plays.Played.{Played}
+
+-- the values of a script's fields that the page asks for
+abbrev pub fields_of : Asked → List ℕ → List ℕ → List ℕ → Held
+fields_of asked items schedule oracle = record {
+  capacity = asked.capacity;
+  modulus = asked.modulus;
+  width = asked.width;
+  items = items;
+  takes = asked.takes;
+  close = not (nat_eq asked.closes 0);
+  schedule = schedule;
+  oracle = oracle;
+  batch = asked.batch;
+}
+
+abbrev pub bit_number : Bool → ℕ
+bit_number true = 1
+bit_number false = 0
+
+-- the list stands at the front of the room, as much of it as there is room for
+abbrev pub Fills : List ℕ → List ℕ → Type 0
+Fills list room = take (length list) room ≡ take (length room) list
+
+-- the numbers of the report of a history
+pub record Reports (script : Content) (history : List Event) (put taken : List ℕ) (told : Played) : Type 0 where
+  pub count : told.count ≡ length history
+  pub put_is : (puts : Puts) → FollowsPuts script.shape history puts → Fills (items_put_in script.shape history puts) put × (told.put ≡ length (items_put_in script.shape history puts))
+  pub taken_is : (takes : Takes) → FollowsTakes script.shape history takes → Fills (items_taken_in script.shape history takes) taken × (told.taken ≡ length (items_taken_in script.shape history takes))
+  pub told_is : (takes : Takes) → FollowsTakes script.shape history takes → (told.told ≡ 1) ↔ ToldIn script.shape history takes
+  pub full_is : (puts : Puts) → FollowsPuts script.shape history puts → told.full ≡ fulls (puts_over_in script.shape history puts)
+  pub empty_is : (takes : Takes) → FollowsTakes script.shape history takes → told.empty ≡ empties (takes_over_in script.shape history takes)
+  pub flickers_is : told.flickers ≡ flicker_count history
+  pub all_letters_is : told.all_letters ≡ length script.letters
+
+-- this is told of the play of the script's first letters
+pub record IsPlayOf (script : Content) (letters : ℕ) (marks : List Mark) (put taken : List ℕ) (told : Played) : Type 0 where
+  pub history : List Event
+  pub outcome : told.outcome ≡ 0
+  pub plays : Plays script (take letters script.letters) history
+  pub headline : HoldsHeadline script history
+  pub are_marks : AreMarks history (length history) marks
+  pub reports : Reports script history put taken told
+
+-- the place of a fault
+abbrev pub TellsFaultPlace : ScriptFault → Played → Type 0
+TellsFaultPlace (fault.Shape refusal) told = told.shape_fault ≡ shape_fault_number refusal
+TellsFaultPlace (fault.ItemTooWide place) told = told.place ≡ place
+TellsFaultPlace (fault.BadSchedule place) told = told.place ≡ place
+TellsFaultPlace (fault.BadOracle place) told = told.place ≡ place
+TellsFaultPlace _ told = Unit {0}
+
+-- the fault, as numbers
+pub record TellsPlayFault (x : ScriptFault) (told : Played) : Type 0 where
+  pub outcome : told.outcome ≡ 2
+  pub number : told.number ≡ script_fault_number x
+  pub place : TellsFaultPlace x told
+
+-- the values stand for a script, which is that of any bytes whose fields hold them, and this is told of its play
+pub record TellsPlayed (held : Held) (letters : ℕ) (marks : List Mark) (put taken : List ℕ) (told : Played) : Type 0 where
+  pub script : Content
+  pub is_content : IsContentOf held script
+  pub is_script : (bytes : List ℕ) → Holds bytes held → IsScript bytes script
+  pub is_play : IsPlayOf script letters marks put taken told
+
+-- the values have this fault, that of any bytes whose fields hold them; or the page has no room
+pub record TellsRefused (held : Held) (told : Played) : Type 0 where
+  pub why : ScriptFault
+  pub cause : (why ≡ fault.OutOfMemory) ⊎ ((bytes : List ℕ) → Holds bytes held → IsScriptFault bytes why)
+  pub tells : TellsPlayFault why told
+
+-- what is told of the values of a script's fields
+abbrev pub TellsPlay : Held → ℕ → List Mark → List ℕ → List ℕ → Played → Type 0
+TellsPlay held letters marks put taken told = TellsPlayed held letters marks put taken told ⊎ TellsRefused held told

@@ -1,0 +1,133 @@
+//! The audit of a trace.
+ghost use Rattle.std.specs.Prelude.{◌≡◌, ◌≤◌, ◌⊎◌, ℕ, length};
+ghost use Rattle.bits_core.specs.Shape.{batch_of, capacity_of, modulus_of, width_of};
+ghost use Rattle.bits_core.specs.Trace.{IsTraceFault};
+ghost use Rattle.ring_page.specs.Audit.{IsNothingSeen, Tells, TellsFault, TellsShape, TellsVerdict};
+
+use crate::marks::{Mark, put_marks};
+use bits_core::laws::{fault_breaks, flicker_is_by_interval};
+use bits_core::{
+    Act, Bit, Event, Seen, Shape, Side, TraceFault, Verdict, audit_bits_into, read_trace_into,
+};
+
+/// The most events that a page reads or plays.
+pub const EVENT_ROOM: usize = 10_000;
+
+/// What is told of a text, as numbers.
+#[repr(C)]
+#[derive(Clone, Copy, PartialEq, Eq, Debug)]
+pub struct Told {
+    /// 0 lawful, 1 a fault of the history, 2 no trace.
+    pub outcome: u64,
+    /// The number of the kind of the fault, or of the trace's fault.
+    pub number: u64,
+    /// The place of the event at fault, from 0; of a bad line its number, from 1.
+    pub place: u64,
+    /// The number of the shape's fault, where line 1 is no shape.
+    pub shape_fault: u64,
+    /// How many events the trace has.
+    pub count: u64,
+    /// The numbers of the shape.
+    pub capacity: u64,
+    pub modulus: u64,
+    pub width: u64,
+    pub batch: u64,
+}
+
+fn told_verdict(verdict: Verdict, shape: &Shape, count: usize) -> Told
+    ensures verdict { TellsVerdict verdict result }
+    ensures shape { TellsShape shape.now result }
+    ensures count { result.count ≡ count }
+{
+    let (outcome, number, place) = match verdict {
+        Verdict::Lawful => (0, 0, 0),
+        Verdict::Fault { place, kind } => (1, u64::from(kind.number()), place as u64),
+    };
+    Told {
+        outcome,
+        number,
+        place,
+        shape_fault: 0,
+        count: count as u64,
+        capacity: shape.capacity(),
+        modulus: shape.modulus(),
+        width: shape.width(),
+        batch: shape.batch(),
+    }
+}
+
+fn told_fault(fault: TraceFault) -> Told
+    ensures { TellsFault fault result }
+{
+    let (place, shape_fault) = match fault {
+        TraceFault::BadLine(line) => (line, 0),
+        TraceFault::BadShape(shape_fault) => (0, u64::from(shape_fault.number())),
+        TraceFault::TooLong | TraceFault::OutOfMemory => (0, 0),
+    };
+    Told {
+        outcome: 2,
+        number: u64::from(fault.number()),
+        place,
+        shape_fault,
+        count: 0,
+        capacity: 0,
+        modulus: 0,
+        width: 0,
+        batch: 0,
+    }
+}
+
+// What is told of the text, with the marks of its events.
+fn audited(text: &[u8], events: &mut [Event], seen: &mut [Seen], marks: &mut [Mark]) -> Told
+    requires room { length events.old ≡ EVENT_ROOM }
+    requires seen { (length seen.old ≡ EVENT_ROOM) × IsNothingSeen seen.old }
+    ensures { Tells text.now marks.new result }
+{
+    fault_breaks();
+    flicker_is_by_interval();
+    match read_trace_into(text, events) {
+        Ok((shape, count)) => {
+            let read = &events[..count];
+            let verdict = audit_bits_into(&shape, read, seen);
+            put_marks(read, seen, marks);
+            told_verdict(verdict, &shape, count)
+        }
+        Err(fault) => told_fault(fault),
+    }
+}
+
+/// Room for the events.
+pub fn no_events() -> [Event; EVENT_ROOM]
+    ensures { length result ≡ EVENT_ROOM }
+{
+    let blank = Event {
+        side: Side::P,
+        bit: Bit::X,
+        act: Act::ReadBegin,
+    };
+    [blank; EVENT_ROOM]
+}
+
+/// Room for what is seen at them, where nothing is.
+pub fn nothing_seen() -> [Seen; EVENT_ROOM]
+    ensures size { length result ≡ EVENT_ROOM }
+    ensures nothing { IsNothingSeen result }
+{
+    let nothing = Seen {
+        held: false,
+        overlapped: false,
+        clashes: false,
+    };
+    [nothing; EVENT_ROOM]
+}
+
+/// Tells the verdict on the trace that the text is, with the marks of its events, as many as there is room
+/// for; or why it is no trace, or that it has more events than `EVENT_ROOM`. It takes no memory.
+#[unsafe(no_mangle)]
+pub extern "C" fn page_audit(text: &[u8], marks: &mut [Mark], told: &mut Told)
+    ensures { Tells text.now marks.new told.new }
+{
+    let mut events = no_events();
+    let mut seen = nothing_seen();
+    *told = audited(text, &mut events, &mut seen, marks);
+}

@@ -1,0 +1,13 @@
+//! What the web page calls: the proved reader, audit and player over bytes and numbers, in room that the caller gives.
+#![tactic(auto)]
+
+mod audits;
+mod marks;
+mod plays;
+
+pub use audits::{EVENT_ROOM, Told, page_audit};
+pub use marks::Mark;
+pub use plays::{ANSWER_ROOM, Asked, Played, RUN_ROOM, page_play};
+
+#[cfg(test)]
+mod tests;

@@ -1,0 +1,347 @@
+use crate::{ANSWER_ROOM, Asked, EVENT_ROOM, Mark, Played, RUN_ROOM, Told, page_audit, page_play};
+use std::alloc::AllocGlobal;
+use std::process::Abort;
+use std::test::Fail;
+
+const NO_MARK: Mark = Mark {
+    side: 9,
+    row: 9,
+    index: 9,
+    digit: 9,
+    act: 9,
+    value: true,
+    held: true,
+    overlapped: true,
+    clashes: true,
+};
+
+// What is told before anything is told.
+const NOTHING_TOLD: Told = Told {
+    outcome: 9,
+    number: 9,
+    place: 9,
+    shape_fault: 9,
+    count: 9,
+    capacity: 9,
+    modulus: 9,
+    width: 9,
+    batch: 9,
+};
+
+fn audit(text: &str, marks: &mut [Mark]) -> Told {
+    let mut told = NOTHING_TOLD;
+    page_audit(text.as_bytes(), marks, &mut told);
+    told
+}
+
+// The numbers of a mark, and what it shows: held, overlapped, clashes.
+type Row = ([u8; 5], bool, [bool; 3]);
+
+fn row_of(mark: Mark) -> Row {
+    (
+        [mark.side, mark.row, mark.index, mark.digit, mark.act],
+        mark.value,
+        [mark.held, mark.overlapped, mark.clashes],
+    )
+}
+
+fn expect_rows(rt: &impl Abort, marks: &[Mark], rows: &[Row]) {
+    for (place, row) in rows.iter().enumerate() {
+        if place < marks.len() {
+            assert_eq!(rt; row_of(marks[place]), *row, "mark {place}");
+        }
+    }
+}
+
+const INVERSION: &str =
+    "shape 1 3 1\nP write s0 0\nC read s0\nC got s0 0\nC read s0\nC got s0 1\nP wrote s0\nC read s0\nC got s0 0\n";
+
+const INVERSION_ROWS: [Row; 8] = [
+    ([0, 0, 0, 0, 2], false, [true, false, false]),
+    ([1, 0, 0, 0, 0], false, [true, false, true]),
+    ([1, 0, 0, 0, 1], false, [true, true, false]),
+    ([1, 0, 0, 0, 0], false, [true, false, true]),
+    ([1, 0, 0, 0, 1], true, [true, true, false]),
+    ([0, 0, 0, 0, 3], false, [false, false, false]),
+    ([1, 0, 0, 0, 0], false, [false, false, false]),
+    ([1, 0, 0, 0, 1], false, [false, false, false]),
+];
+
+#[test]
+fn a_lawful_trace_is_told_with_its_marks(rt: HostRuntime) -> Result<(), Fail> {
+    let mut marks = [NO_MARK; 9];
+    assert_eq!(rt;
+        audit(INVERSION, &mut marks),
+        Told {
+            outcome: 0,
+            number: 0,
+            place: 0,
+            shape_fault: 0,
+            count: 8,
+            capacity: 1,
+            modulus: 3,
+            width: 1,
+            batch: 1,
+        }
+    );
+    expect_rows(&rt, &marks, &INVERSION_ROWS);
+    assert_eq!(rt; marks[8], NO_MARK);
+    Ok(())
+}
+
+#[test]
+fn as_many_marks_are_told_as_there_is_room_for(rt: HostRuntime) -> Result<(), Fail> {
+    let mut marks = [NO_MARK; 3];
+    assert_eq!(rt; audit(INVERSION, &mut marks).count, 8);
+    expect_rows(&rt, &marks, &INVERSION_ROWS);
+    Ok(())
+}
+
+#[test]
+fn marks_show_nothing_from_the_fault_on(rt: HostRuntime) -> Result<(), Fail> {
+    let mut marks = [NO_MARK; 4];
+    let told = audit(
+        "shape 2 7 3 2\nP write c1.2 1\nC read c1.2\nP wrote c1.2\nP wrote c1.2\n",
+        &mut marks,
+    );
+    assert_eq!(rt;
+        told,
+        Told {
+            outcome: 1,
+            number: 2,
+            place: 3,
+            shape_fault: 0,
+            count: 4,
+            capacity: 2,
+            modulus: 7,
+            width: 3,
+            batch: 2,
+        }
+    );
+    expect_rows(
+        &rt,
+        &marks,
+        &[
+            ([0, 3, 1, 2, 2], true, [false, false, false]),
+            ([1, 3, 1, 2, 0], false, [false, false, true]),
+            ([0, 3, 1, 2, 3], false, [true, false, false]),
+            ([0, 3, 1, 2, 3], false, [false, false, false]),
+        ],
+    );
+    Ok(())
+}
+
+// A text that is no trace, with the number of its fault, its place and that of the shape's fault.
+type Refusal<'a> = (&'a str, [u64; 3]);
+
+const REFUSALS: [Refusal<'static>; 5] = [
+    ("", [2, 1, 0]),
+    ("shape 1 3 1\nP write s3 0\n", [2, 2, 0]),
+    ("shape 0 3 1\n", [1, 0, 1]),
+    ("shape 1 2 1\n", [1, 0, 2]),
+    ("shape 1 3 65\n", [1, 0, 3]),
+];
+
+#[test]
+fn a_text_that_is_no_trace_is_refused(rt: HostRuntime) -> Result<(), Fail> {
+    for (text, numbers) in REFUSALS.iter() {
+        let mut marks = [NO_MARK; 1];
+        let told = audit(text, &mut marks);
+        assert_eq!(rt;
+            [told.number, told.place, told.shape_fault],
+            *numbers,
+            "in {text}"
+        );
+        assert_eq!(rt;
+            (told.outcome, told.count, told.batch),
+            (2, 0, 0),
+            "in {text}"
+        );
+    }
+    Ok(())
+}
+
+// The consumer reads r2 in a row, so many times begun.
+fn reads(rt: &impl AllocGlobal, begun: usize) -> Result<String, Fail> {
+    let mut text = String::from_str(rt.alloc(), "shape 1 3 1\n")?;
+    for place in 0..begun {
+        text.push_str(if place % 2 == 0 {
+            "P read r2\n"
+        } else {
+            "P got r2 0\n"
+        })?;
+    }
+    Ok(text)
+}
+
+#[test]
+fn a_trace_of_more_events_than_there_is_room_for_is_refused(rt: HostRuntime) -> Result<(), Fail> {
+    let mut marks = [NO_MARK; 1];
+    let most = reads(&rt, EVENT_ROOM)?;
+    let told = audit(most.as_str(), &mut marks);
+    assert_eq!(rt; (told.outcome, told.count), (0, 10_000));
+    let more = reads(&rt, EVENT_ROOM + 1)?;
+    let told = audit(more.as_str(), &mut marks);
+    assert_eq!(rt; (told.outcome, told.number, told.count), (2, 4, 0));
+    Ok(())
+}
+
+// Two items of three digits through two cells, one put after the other, and a close; three takes.
+const ASKED: Asked = Asked {
+    capacity: 2,
+    modulus: 4,
+    width: 3,
+    batch: 1,
+    takes: 3,
+    closes: 1,
+    letters: 1_000,
+};
+
+const NOTHING_PLAYED: Played = Played {
+    outcome: 9,
+    number: 9,
+    place: 9,
+    shape_fault: 9,
+    count: 9,
+    put: 9,
+    taken: 9,
+    told: 9,
+    full: 9,
+    empty: 9,
+    flickers: 9,
+    all_letters: 9,
+};
+
+// The play of the script with these items and this schedule, in room for three items of each list.
+fn play(
+    asked: &Asked,
+    items: &[u64],
+    schedule: &str,
+    oracle: &str,
+) -> (Played, [u64; 3], [u64; 3]) {
+    let mut played = NOTHING_PLAYED;
+    let mut marks = [NO_MARK; 2];
+    let mut put = [7; 3];
+    let mut taken = [7; 3];
+    page_play(
+        asked,
+        items,
+        schedule.as_bytes(),
+        oracle.as_bytes(),
+        &mut marks,
+        &mut put,
+        &mut taken,
+        &mut played,
+    );
+    (played, put, taken)
+}
+
+#[test]
+fn a_play_is_told(rt: HostRuntime) -> Result<(), Fail> {
+    let (played, put, taken) = play(&ASKED, &[5, 2], "P100C100", "");
+    assert_eq!(rt; (put, taken), ([5, 2, 7], [5, 2, 7]));
+    assert_eq!(rt;
+        [played.outcome, played.put, played.taken, played.told],
+        [0, 2, 2, 1]
+    );
+    assert_eq!(rt; [played.full, played.empty, played.flickers], [0, 0, 0]);
+    assert_eq!(rt; played.all_letters, 200);
+    Ok(())
+}
+
+#[test]
+fn the_first_letters_are_played(rt: HostRuntime) -> Result<(), Fail> {
+    let none = Asked {
+        letters: 0,
+        ..ASKED
+    };
+    let (played, put, taken) = play(&none, &[5, 2], "P100C100", "");
+    assert_eq!(rt; (played.count, played.put, played.taken), (0, 0, 0));
+    assert_eq!(rt; (put, taken), ([7; 3], [7; 3]));
+    let eleven = Asked {
+        letters: 11,
+        ..ASKED
+    };
+    let (played, put, _) = play(&eleven, &[5, 2], "P100C100", "");
+    assert_eq!(rt; (played.count, played.put, put), (11, 1, [5, 7, 7]));
+    assert_eq!(rt; (played.told, played.all_letters), (0, 200));
+    Ok(())
+}
+
+#[test]
+fn an_empty_ring_and_a_full_one_are_told(rt: HostRuntime) -> Result<(), Fail> {
+    let narrow = Asked {
+        capacity: 1,
+        modulus: 3,
+        ..ASKED
+    };
+    let (played, _, taken) = play(&narrow, &[5, 2], "C4P20P4C200P200C200", "");
+    assert_eq!(rt;
+        (played.full > 0, played.empty > 0, played.told),
+        (true, true, 1)
+    );
+    assert_eq!(rt; (taken, played.taken), ([5, 2, 7], 2));
+    Ok(())
+}
+
+#[test]
+fn an_overlapped_read_has_the_oracles_answer(rt: HostRuntime) -> Result<(), Fail> {
+    // s0 is being written while the consumer reads it twice: by its answers 0 and 1 the first scan goes on to s1.
+    let (played, _, taken) = play(&ASKED, &[5, 2], "P11C2P1C20", "0");
+    assert_eq!(rt; (played.flickers, played.taken, taken), (1, 1, [5, 7, 7]));
+    let (played, _, taken) = play(&ASKED, &[5, 2], "P11C2P1C20", "1");
+    assert_eq!(rt; (played.flickers, played.empty, taken), (1, 1, [5, 7, 7]));
+    Ok(())
+}
+
+// What is no script: the items, the schedule, the oracle; the numbers of the fault and of its place.
+type Stray<'a> = (&'a [u64], &'a str, &'a str, [u64; 2]);
+
+#[test]
+fn what_is_no_script_is_refused(rt: HostRuntime) -> Result<(), Fail> {
+    let strays: [Stray; 4] = [
+        (&[1, 8], "PC", "", [8, 1]),
+        (&[1], "PCx", "", [9, 2]),
+        (&[1], "P1000001", "", [10, 0]),
+        (&[1], "PC", "012", [11, 2]),
+    ];
+    for (items, schedule, oracle, numbers) in strays.iter() {
+        let (played, put, taken) = play(&ASKED, items, schedule, oracle);
+        assert_eq!(rt; [played.number, played.place], *numbers, "in {schedule}");
+        assert_eq!(rt;
+            (played.outcome, played.count, put, taken),
+            (2, 0, [7; 3], [7; 3]),
+            "in {schedule}"
+        );
+    }
+    let flat = Asked { width: 0, ..ASKED };
+    let (played, _, _) = play(&flat, &[1], "PC", "");
+    assert_eq!(rt;
+        [played.outcome, played.number, played.shape_fault],
+        [2, 6, 3]
+    );
+    Ok(())
+}
+
+// A text of so many parts.
+fn repeated(rt: &impl AllocGlobal, part: &str, count: usize) -> Result<String, Fail> {
+    let mut text = String::from_str(rt.alloc(), "")?;
+    for _ in 0..count {
+        text.push_str(part)?;
+    }
+    Ok(text)
+}
+
+#[test]
+fn a_script_of_more_than_there_is_room_for_is_refused(rt: HostRuntime) -> Result<(), Fail> {
+    let runs = repeated(&rt, "P", RUN_ROOM)?;
+    let (played, _, _) = play(&ASKED, &[1], runs.as_str(), "");
+    assert_eq!(rt; (played.outcome, played.all_letters), (0, 1_000));
+    let runs = repeated(&rt, "P", RUN_ROOM + 1)?;
+    let (played, _, _) = play(&ASKED, &[1], runs.as_str(), "");
+    assert_eq!(rt; (played.outcome, played.number), (2, 12));
+    let answers = repeated(&rt, "0", ANSWER_ROOM + 1)?;
+    let (played, _, _) = play(&ASKED, &[1], "PC", answers.as_str());
+    assert_eq!(rt; (played.outcome, played.number), (2, 12));
+    Ok(())
+}
