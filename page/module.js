@@ -1,0 +1,133 @@
+// The calls of the proved module ring_page.wasm. A text or a script goes in as bytes; what the module tells comes out as
+// objects with names and words. Nothing is decided here. The words are those of docs/FORMATS.md.
+
+const EVENTS = 10000; // marks that there is room for: as many events as the module reads or plays
+const MARK = 9; // bytes of a mark
+const PAGE = 65536; // bytes by which memory grows
+
+const SIDES = ["P", "C"];
+const ACTS = ["read", "got", "write", "wrote"];
+const FAMILIES = ["s", "r", "x", "c"];
+const KINDS = ["", "wrong side", "out of turn", "not permitted"];
+const WHYS = ["", "the bit is not of the shape, or this side may not do this to it",
+  "a side has one access open at a time, and ends the one it began",
+  "no write overlaps the read, so it has to answer what the bit held"];
+const SHAPE_FAULTS = ["", "capacity must be from 1 to 64", "modulus must be from capacity + batch + 1 to 256",
+  "width must be from 1 to 64", "batch must be from 1 to capacity"];
+
+function traceFault({number, place, shapeFault}) {
+  return ["", SHAPE_FAULTS[shapeFault], `trace line ${place} is not a line of the format`, "trace has too many events",
+    `trace has more than the ${EVENTS} events that this page has room for`][number];
+}
+
+function scriptFault({number, place, shapeFault}) {
+  return {6: SHAPE_FAULTS[shapeFault], 7: "script has too many items", 8: `item ${place} does not fit the width`,
+    9: `schedule is wrong at byte ${place}`, 10: "schedule is too long", 11: `oracle is wrong at byte ${place}`,
+    12: `script has more than this page has room for: ${EVENTS} events, 1000 runs of letters, 10000 answers`}[number];
+}
+
+// An event, with what the module tells of the moment just after it: what its bit holds, whether a write overlapped
+// the read that it ends, and whether a read and a write of one bit are open.
+function eventOf([side, row, index, digit, act, value, held, overlapped, clashes]) {
+  const family = FAMILIES[row];
+  const bit = family === "x" ? "x" : family === "c" ? `c${index}.${digit}` : family + index;
+  return {side: SIDES[side], bit, family, rank: (row * 256 + index) * 256 + digit, act: ACTS[act],
+    value: act === 1 || act === 2 ? value : undefined, held, overlapped: overlapped === 1, clashes: clashes === 1};
+}
+
+// The text of a trace, as docs/FORMATS.md has it.
+export function traceOf({capacity, modulus, width, batch}, events) {
+  const shape = ["shape", capacity, modulus, width, ...(batch > 1 ? [batch] : [])].join(" ");
+  const lines = events.map(it => [it.side, it.act, it.bit, ...(it.value === undefined ? [] : [it.value])].join(" "));
+  return [shape, ...lines, ""].join("\n");
+}
+
+// Compiles the module. The answer has `audit` and `play`.
+export async function openModule(bytes) {
+  const compiled = await WebAssembly.compile(bytes);
+  let exports = (await WebAssembly.instantiate(compiled)).exports;
+
+  // Engines of older drafts of 64-bit memory take a number of pages, where today's take a BigInt.
+  const grow = pages => {
+    try {
+      exports.memory.grow(BigInt(pages));
+    } catch (error) {
+      if (!(error instanceof TypeError)) throw error;
+      exports.memory.grow(pages);
+    }
+  };
+
+  // The addresses of zeroed pieces of these lengths, behind the module's own data, each at a multiple of 16.
+  const lay = lengths => {
+    const base = Number(exports.__heap_base.value);
+    let past = base;
+    const places = lengths.map(length => {
+      const place = Math.ceil(past / 16) * 16;
+      past = place + length;
+      return place;
+    });
+    const more = past - exports.memory.buffer.byteLength;
+    if (more > 0) grow(Math.ceil(more / PAGE));
+    new Uint8Array(exports.memory.buffer, base, past - base).fill(0);
+    return places;
+  };
+
+  const setBytes = (place, bytes) => new Uint8Array(exports.memory.buffer, place, bytes.length).set(bytes);
+  const setNumbers = (place, numbers) => new BigUint64Array(exports.memory.buffer, place, numbers.length).set(numbers.map(BigInt));
+  const getNumbers = (place, count) => [...new BigUint64Array(exports.memory.buffer, place, count)].map(Number);
+  const getEvents = (place, count) => {
+    const marks = new Uint8Array(exports.memory.buffer, place, count * MARK);
+    return Array.from({length: count}, (_, i) => eventOf(marks.subarray(i * MARK, (i + 1) * MARK)));
+  };
+
+  // A call that stops midway leaves its instance unfit for another; the next call has a new one.
+  const call = (name, ...numbers) => {
+    try {
+      exports[name](...numbers.map(BigInt));
+    } catch (error) {
+      exports = new WebAssembly.Instance(compiled).exports;
+      throw error;
+    }
+  };
+
+  // The verdict of the audit of bits on this text: {refused, line} or {words, kind, why, place, shape, events}, where
+  // `place` is that of the event at fault, or null.
+  const audit = text => {
+    const bytes = new TextEncoder().encode(text);
+    const [told, marks, at] = lay([9 * 8, EVENTS * MARK, bytes.length]);
+    setBytes(at, bytes);
+    call("page_audit", at, bytes.length, marks, EVENTS, told);
+    const [outcome, number, place, shapeFault, count, capacity, modulus, width, batch] = getNumbers(told, 9);
+    if (outcome === 2) {
+      const line = number === 2 ? place : number === 1 ? 1 : 0;
+      return {refused: traceFault({number, place, shapeFault}), line};
+    }
+    const shape = {capacity, modulus, width, batch}, events = getEvents(marks, count);
+    if (outcome === 0) return {words: "lawful", kind: "", why: "", place: null, shape, events};
+    const kind = KINDS[number];
+    return {words: `fault: line ${place + 2}: ${kind}`, kind, why: WHYS[number], place, shape, events};
+  };
+
+  // The play of the first letters of a script: {refused} or {shape, events, report, letters}, where `letters` is how
+  // many the schedule stands for. The events are told where they are wanted.
+  const play = (script, letters, isDrawn = true) => {
+    const {capacity, modulus, width, batch, items, takes, close} = script;
+    const schedule = new TextEncoder().encode(script.schedule), oracle = new TextEncoder().encode(script.oracle);
+    const room = isDrawn ? EVENTS : 0;
+    const [asked, told, itemsAt, put, taken, marks, scheduleAt, oracleAt] = lay([7 * 8, 12 * 8, items.length * 8, items.length * 8,
+      items.length * 8, room * MARK, schedule.length, oracle.length]);
+    setNumbers(asked, [capacity, modulus, width, batch, takes, close ? 1 : 0, letters]);
+    setNumbers(itemsAt, items);
+    setBytes(scheduleAt, schedule);
+    setBytes(oracleAt, oracle);
+    call("page_play", asked, itemsAt, items.length, scheduleAt, schedule.length, oracleAt, oracle.length, marks, room,
+      put, items.length, taken, items.length, told);
+    const [outcome, number, place, shapeFault, count, putCount, takenCount, isTold, full, empty, flicker, all] = getNumbers(told, 12);
+    if (outcome === 2) return {refused: scriptFault({number, place, shapeFault})};
+    const report = {events: count, put: getNumbers(put, putCount), taken: getNumbers(taken, takenCount), told: isTold === 1,
+      full, empty, flicker};
+    return {shape: {capacity, modulus, width, batch}, events: getEvents(marks, Math.min(count, room)), report, letters: all};
+  };
+
+  return {audit, play};
+}
