@@ -1,5 +1,5 @@
 //! Scans of a unary register.
-ghost use Rattle.std.specs.Prelude.{◌≡◌, ◌≢◌, ℕ, true, Some, None, List, [], ◌∷◌, ◌++◌, ◌↔◌, IsTrue, if◌then◌else◌};
+ghost use Rattle.std.specs.Prelude.{◌≡◌, ◌≢◌, ℕ, ◌<◌, true, false, Some, None, List, [], ◌∷◌, ◌++◌, ◌↔◌, IsTrue, if◌then◌else◌};
 ghost use Rattle.bits_core.specs.Shape.{modulus_of};
 ghost use Rattle.bits_core.specs.Made.{Made, answered};
 
@@ -7,7 +7,7 @@ use bits_core::{Access, Bit, Shape, Side};
 use std::marker::Model;
 
 /// Reads the bits of the other side's count from number 0 upwards, until one answers 1.
-#[derive(Clone, Debug, Drop)]
+#[derive(Clone, Copy, Debug)]
 pub struct UnaryScan {
     side: Side,
     modulus: u64,
@@ -22,6 +22,8 @@ impl Model for UnaryScan {
     ghost Value = { ScanState };
 
     ghost view = { λ s. record { side = s.side; modulus = s.modulus; zeros = s.zeros; found = s.found } };
+
+    ghost inverse = { λ d. record { side = d.side; modulus = d.modulus; zeros = d.zeros; found = d.found } };
 
     ghost invariant = { λ s. (s.zeros < s.modulus) × (s.modulus ≤ 256) };
 }
@@ -41,6 +43,28 @@ impl UnaryScan {
             zeros: 0,
             found: false,
         }
+    }
+
+    /// A scan by a side, so many of whose bits were read as 0; these are fewer than the modulus.
+    #[inline(always)]
+    pub fn at(shape: &Shape, side: Side, zeros: u64) -> Self
+        requires { zeros < modulus_of shape.now }
+        ensures { result ≡ record { side = side; modulus = modulus_of shape.now; zeros = zeros; found = false } }
+    {
+        UnaryScan {
+            side,
+            modulus: shape.modulus(),
+            zeros,
+            found: false,
+        }
+    }
+
+    /// How many bits were read as 0.
+    #[inline(always)]
+    pub fn zeros(&self) -> u64
+        ensures { result ≡ self.now.zeros }
+    {
+        self.zeros
     }
 
     /// The bit read that is due, and none once one answered 1.

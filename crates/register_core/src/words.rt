@@ -1,5 +1,5 @@
 //! Words: items that are written to a cell, or read from it, digit by digit.
-ghost use Rattle.std.specs.Prelude.{◌≡◌, ◌≢◌, ℕ, suc, ◌+◌, ◌^◌, ◌<◌, ◌≤◌, Some, None, List, [], ◌∷◌, ◌++◌, nat_lt, if◌then◌else◌};
+ghost use Rattle.std.specs.Prelude.{◌≡◌, ◌≢◌, ℕ, suc, ◌+◌, ◌^◌, ◌<◌, ◌≤◌, Some, None, List, [], ◌∷◌, ◌++◌, nat_lt, ◌↔◌, IsTrue, if◌then◌else◌};
 ghost use Rattle.bits_core.specs.Shape.{capacity_of, width_of};
 ghost use Rattle.bits_core.specs.Made.{Made, answered};
 ghost use Rattle.register_core.specs.Machine.{IsNext};
@@ -9,7 +9,7 @@ use bits_core::{Access, Bit, Shape};
 use std::marker::Model;
 
 /// Writes an item to a cell, every digit from number 0 upwards, whether it changes or not.
-#[derive(Clone, Debug, Drop)]
+#[derive(Clone, Copy, Debug)]
 pub struct WordWriter {
     width: u64,
     cell: u64,
@@ -24,6 +24,8 @@ impl Model for WordWriter {
     ghost Value = { WriterState };
 
     ghost view = { λ w. record { width = w.width; cell = w.cell; item = w.item; written = w.written } };
+
+    ghost inverse = { λ d. record { width = d.width; cell = d.cell; item = d.item; written = d.written } };
 
     ghost invariant = { λ w. (w.cell < 64) × (w.width ≤ 64) × (w.written ≤ w.width) };
 }
@@ -61,6 +63,14 @@ impl WordWriter {
         }
     }
 
+    /// Whether the digit write that is due is the last.
+    #[inline(always)]
+    pub fn is_last(&self) -> bool
+        ensures { IsTrue result ↔ (suc self.now.written ≡ self.now.width) }
+    {
+        self.written + 1 == self.width
+    }
+
     /// The due write was made. What it was answered is ignored.
     #[inline(always)]
     pub fn feed(&mut self, answer: bool)
@@ -74,7 +84,7 @@ impl WordWriter {
 }
 
 /// Reads an item from a cell, every digit from number 0 upwards.
-#[derive(Clone, Debug, Drop)]
+#[derive(Clone, Copy, Debug)]
 pub struct WordReader {
     width: u64,
     cell: u64,
@@ -89,6 +99,8 @@ impl Model for WordReader {
     ghost Value = { ReaderState };
 
     ghost view = { λ r. record { width = r.width; cell = r.cell; read = r.read; value = r.value } };
+
+    ghost inverse = { λ d. record { width = d.width; cell = d.cell; read = d.read; value = d.value } };
 
     ghost invariant = { λ r. (r.cell < 64) × (r.width ≤ 64) × (r.read ≤ r.width) × (r.value < 2 ^ r.read) };
 }
@@ -122,6 +134,14 @@ impl WordReader {
         } else {
             None
         }
+    }
+
+    /// Whether the digit read that is due is the last.
+    #[inline(always)]
+    pub fn is_last(&self) -> bool
+        ensures { IsTrue result ↔ (suc self.now.read ≡ self.now.width) }
+    {
+        self.read + 1 == self.width
     }
 
     /// The due read was made and answered so.

@@ -21,6 +21,7 @@ pub mod ProducerInvariant
 pub mod ProducerMoves
 pub mod ProducerNext
 pub mod TakeCalls
+mod TakeScans
 pub mod ConsumerInvariant
 pub mod ConsumerMoves
 pub mod ConsumerNext

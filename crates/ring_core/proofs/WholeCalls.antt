@@ -1,5 +1,5 @@
 -- Whole calls: all their items are put or taken, and are counted by count writes that have begun.
-use Rattle.std.proofs.Common.{◌≡◌, ℕ, zero, suc, ◌+◌, ◌-◌, ◌*◌, ◌%◌, ◌<◌, ◌≤◌, Bool, true, false, nat_lt, nat_le, if◌then◌else◌, List, [], ◌∷◌, ◌++◌, length, refl, sym, ap, ◌∙◌, arith, append-nil, append_assoc, length-append}
+use Rattle.std.proofs.Common.{◌≡◌, ℕ, zero, suc, ◌-◌, ◌%◌, ◌<◌, ◌≤◌, Bool, true, false, nat_lt, nat_le, if◌then◌else◌, List, [], ◌∷◌, ◌++◌, length, refl, ap, ◌∙◌, arith, length-append}
 use Rattle.std.proofs.lemmas.Bool.Decides.{nat_tests}
 use Rattle.bits_core.specs.declared.events.Side.TheVariants.{P, C}
 use Rattle.bits_core.specs.declared.shapes.Shape.{Shape}
@@ -8,8 +8,8 @@ use Rattle.bits_core.specs.Made.{Made, own}
 use Rattle.register_core.specs.Word.{word_read}
 use Rattle.ring_core.specs.Counts.{first_count, count_phrase}
 use Rattle.ring_core.specs.Puts.{put_phrases, close_phrase, put_program}
-use Rattle.ring_core.specs.Takes.{Take, Item, ItemAfterClose, Empty, Takes, taken_after, accesses_before_word, take_phrase, take_phrases, end_phrase, take_program}
-use Rattle.ring_core.specs.Items.{events_in, all_put, items_taken, all_taken}
+use Rattle.ring_core.specs.Takes.{Take, Item, ItemAfterClose, Empty, accesses_before_word, take_phrase, take_phrases, end_phrase, take_program}
+use Rattle.ring_core.specs.Items.{events_in, items_taken, all_taken}
 use Rattle.ring_core.specs.CallsAt.{take_before_count, taken_begun}
 use Rattle.ring_core.specs.Whole.{WholePutsCount, WholeTakesCount}
 use Rattle.ring_core.proofs.CountRow.{first_is_count, count_long}

@@ -39,6 +39,13 @@ due_at Counting p = due_unary p.row
 abbrev pub due_take : ConsumerState → Option Access
 due_take p = due_at p.stage p
 
+-- the second is the first but for its scan, and but for its word
+abbrev pub IsSameButScan : ConsumerState → ConsumerState → Type 0
+IsSameButScan p q = q ≡ record p { scan = q.scan }
+
+abbrev pub IsSameButWord : ConsumerState → ConsumerState → Type 0
+IsSameButWord p q = q ≡ record p { word = q.word }
+
 -- whether a take is under way
 abbrev pub takes_at : Stage → Bool
 takes_at Idle = false

@@ -47,6 +47,13 @@ due_at Closing p = Some (begins.Write X true)
 abbrev pub due_put : ProducerState → Option Access
 due_put p = due_at p.stage p
 
+-- the second is the first but for its scan, and but for its word
+abbrev pub IsSameButScan : ProducerState → ProducerState → Type 0
+IsSameButScan p q = q ≡ record p { scan = q.scan }
+
+abbrev pub IsSameButWord : ProducerState → ProducerState → Type 0
+IsSameButWord p q = q ≡ record p { word = q.word }
+
 -- the call under way: a put of these items, or the close
 pub data Call : Type 0 where
   Put : (items : List ℕ) → Call

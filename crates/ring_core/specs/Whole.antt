@@ -1,5 +1,5 @@
 -- What the calls of a history come to where they are whole.
-use Rattle.std.specs.Prelude.{◌≡◌, ℕ, List, length}
+use Rattle.std.specs.Prelude.{◌≡◌, List, length}
 use Rattle.bits_core.specs.declared.events.Side.TheVariants.{P, C}
 use Rattle.bits_core.specs.declared.events.Event.{Event}
 use Rattle.bits_core.specs.declared.shapes.Shape.{Shape}

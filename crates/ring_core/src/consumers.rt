@@ -1,5 +1,5 @@
 //! The consumer's machine.
-ghost use Rattle.std.specs.Prelude.{◌≡◌, ◌≢◌, ℕ, ◌+◌, ◌<◌, true, false, Some, None, List, [], ◌∷◌, ◌++◌, ◌↔◌, IsTrue, IfSome, length};
+ghost use Rattle.std.specs.Prelude.{◌≡◌, ◌≢◌, ℕ, ◌+◌, ◌<◌, true, false, Some, None, List, [], ◌∷◌, ◌++◌, ◌↔◌, IsTrue, IfSome, IfNone, length, suc};
 ghost use Rattle.bits_core.specs.declared.events.Side.TheVariants.{C};
 ghost use Rattle.bits_core.specs.Made.{Made, answered};
 ghost use Rattle.bits_core.specs.Open.{IsOpenRight};
@@ -8,6 +8,7 @@ use crate::counts::{has_item, past_in};
 use bits_core::{Access, Bit, Shape, Side};
 use register_core::{UnaryScan, UnaryWriter, WordReader};
 use std::marker::Model;
+use std::snapshot::Snapshot;
 
 /// What a take was answered.
 #[derive(Clone, Copy, PartialEq, Eq, Debug)]
@@ -56,12 +57,14 @@ impl Model for Consumer {
 }
 
 impl Consumer {
+    ghost use Rattle.register_core.specs.Row.{RowWrite};
+    ghost use Rattle.register_core.specs.UnaryState.{due_writes};
     ghost use Rattle.ring_core.specs.declared.consumers.Stage.TheVariants.{Scanning, Checking, Rescanning, Loading, Counting};
     ghost use Rattle.ring_core.specs.declared.consumers.TakeReply.TheVariants.{Closed};
     ghost use Rattle.ring_core.specs.Calls.{LastBitIsDue, EndsInZeros};
     ghost use Rattle.ring_core.specs.Takes.{Takes, take_program};
     ghost use Rattle.ring_core.specs.Lengths.{longest_take};
-    ghost use Rattle.ring_core.specs.ConsumerState.{due_take, is_taking};
+    ghost use Rattle.ring_core.specs.ConsumerState.{IsSameButScan, IsSameButWord, due_take, is_taking};
     ghost use Rattle.ring_core.specs.ConsumerCalls.{new_consumer, no_takes, ConsumerStands, TakeGoesOn, HasMoved, IsReply};
 
     /// The consumer of a ring of this shape that has made no access.
@@ -201,8 +204,9 @@ impl Consumer {
         }
     }
 
+    /// The same as [`feed`](Self::feed), where a word read is under way.
     #[inline(always)]
-    fn feed_word(&mut self, answer: bool)
+    pub fn feed_word(&mut self, answer: bool)
         requires stage { self.old.stage ≡ Loading }
         ensures shape { self.new.shape ≡ self.old.shape }
         ensures stands { (calls : Takes) (made : List Made) (access : Access) → ConsumerStands self.old calls made → due_take self.old ≡ Some access → HasMoved self.old self.new calls (made ++ answered access answer ∷ []) }
@@ -214,10 +218,12 @@ impl Consumer {
         }
     }
 
+    /// The same as [`feed`](Self::feed), where the write of the count is under way.
     #[inline(always)]
-    fn feed_count(&mut self, answer: bool)
+    pub fn feed_count(&mut self, answer: bool)
         requires stage { self.old.stage ≡ Counting }
         ensures shape { self.new.shape ≡ self.old.shape }
+        ensures left { (x : RowWrite) (rest : List RowWrite) → due_writes self.old.row ≡ x ∷ rest → due_writes self.new.row ≡ rest }
         ensures stands { (calls : Takes) (made : List Made) (access : Access) → ConsumerStands self.old calls made → due_take self.old ≡ Some access → HasMoved self.old self.new calls (made ++ answered access answer ∷ []) }
     {
         self.row.feed(answer);
@@ -227,6 +233,69 @@ impl Consumer {
             self.reply = self.word.value().map(TakeReply::Item);
             self.stage = Stage::Idle;
         }
+    }
+
+    /// The scan of the take under way by itself, the first or the second, where one is: it goes on apart from the
+    /// consumer, which [`go_on_with_scan`](Self::go_on_with_scan) brings to where it then is.
+    #[inline(always)]
+    pub fn scan(&self) -> Option<TakeScan>
+        ensures some { IfSome result (λ s. (s ≡ self.now) × (is_taking self.now ≡ true)) }
+        ensures none { IfNone result ((self.now.stage ≢ Scanning) × (self.now.stage ≢ Rescanning)) }
+    {
+        match self.stage {
+            Stage::Scanning | Stage::Rescanning => Some(TakeScan {
+                scan: UnaryScan::at(&self.shape, Side::C, self.scan.zeros()),
+                of: Snapshot::of(self),
+            }),
+            _ => None,
+        }
+    }
+
+    /// The word read under way by itself, where one is: it goes on apart from the consumer, which
+    /// [`go_on_with_word`](Self::go_on_with_word) brings to where it then is.
+    #[inline(always)]
+    pub fn word(&self) -> Option<TakeWord>
+        ensures some { IfSome result (λ w. (w ≡ self.now) × (self.now.stage ≡ Loading)) }
+        ensures none { IfNone result (self.now.stage ≢ Loading) }
+    {
+        match self.stage {
+            Stage::Loading => Some(TakeWord {
+                word: self.word,
+                of: Snapshot::of(self),
+            }),
+            _ => None,
+        }
+    }
+
+    /// Whether the write of the count is under way.
+    #[inline(always)]
+    pub fn is_counting(&self) -> bool
+        ensures { IsTrue result ↔ (self.now.stage ≡ Counting) }
+    {
+        match self.stage {
+            Stage::Counting => true,
+            _ => false,
+        }
+    }
+
+    /// The consumer comes to where its scan is.
+    #[inline(always)]
+    pub fn go_on_with_scan(&mut self, scan: TakeScan)
+        requires same { IsSameButScan self.old scan }
+        ensures state { self.new ≡ scan }
+    {
+        let TakeScan { scan, of: _ } = scan;
+        self.scan = scan;
+    }
+
+    /// The consumer comes to where its word read is.
+    #[inline(always)]
+    pub fn go_on_with_word(&mut self, word: TakeWord)
+        requires same { IsSameButWord self.old word }
+        ensures state { self.new ≡ word }
+    {
+        let TakeWord { word, of: _ } = word;
+        self.word = word;
     }
 
     /// What the last take was answered: none before the first one and during a take.
@@ -250,5 +319,138 @@ impl Consumer {
             Stage::Rescanning => self.scan.expects_one(),
             _ => false,
         }
+    }
+}
+
+/// A scan of a take under way, apart from its consumer. To a contract it is that consumer with this scan.
+///
+/// Its reads stand one behind the other, so a caller makes them in a loop of its own, with no look at how far the
+/// take has come.
+#[derive(Drop)]
+pub struct TakeScan {
+    scan: UnaryScan,
+    of: Snapshot<Consumer>,
+}
+
+impl Model for TakeScan {
+    ghost use Rattle.std.specs.Prelude.{◌≡◌, ◌⊎◌};
+    ghost use Rattle.ring_core.specs.declared.consumers.Stage.TheVariants.{Scanning, Rescanning};
+    ghost use Rattle.ring_core.specs.ConsumerState.{ConsumerState, IsConsumer};
+
+    ghost Value = { ConsumerState };
+
+    ghost view = { λ s. record s.of.value { scan = s.scan } };
+
+    ghost invariant = { λ s. ((s.of.value.stage ≡ Scanning) ⊎ (s.of.value.stage ≡ Rescanning)) × IsConsumer (record s.of.value { scan = s.scan }) };
+}
+
+impl TakeScan {
+    ghost use Rattle.ring_core.specs.Calls.{LastBitIsDue, EndsInZeros};
+    ghost use Rattle.ring_core.specs.Takes.{Takes, take_program};
+    ghost use Rattle.ring_core.specs.Lengths.{longest_take};
+    ghost use Rattle.ring_core.specs.ConsumerState.{due_take, is_taking};
+    ghost use Rattle.register_core.specs.ScanState.{scan_read};
+    ghost use Rattle.bits_core.specs.Shape.{modulus_of};
+    ghost use Rattle.ring_core.specs.ConsumerCalls.{ConsumerStands, TakeGoesOn, HasMoved};
+
+    /// The read that is due, as [`Consumer::next`] tells it.
+    #[inline(always)]
+    pub fn next(&self) -> Access
+        ensures due { due_take self.now ≡ Some result }
+        ensures below { self.now.scan.zeros < modulus_of self.now.shape }
+        ensures right { IsOpenRight self.now.shape C result }
+        ensures goes_on { (calls : Takes) (made : List Made) → ConsumerStands self.now calls made → (is_taking self.now ≡ true) × TakeGoesOn self.now.shape calls made result }
+        ensures bounded { (calls : Takes) (made : List Made) → ConsumerStands self.now calls made → is_taking self.now ≡ true → length made < length (take_program self.now.shape calls) + longest_take self.now.shape }
+    {
+        match self.scan.next() {
+            Some(access) => access,
+            None => unreachable!(),
+        }
+    }
+
+    /// Whether the last bit of the producer's count is due, as [`Consumer::expects_one`] tells it.
+    #[inline(always)]
+    pub fn expects_one(&self) -> bool
+        ensures due { IsTrue result ↔ LastBitIsDue self.now.shape C (due_take self.now) }
+        ensures stands { (calls : Takes) (made : List Made) → ConsumerStands self.now calls made → IsTrue result → EndsInZeros self.now.shape C made }
+    {
+        self.scan.expects_one()
+    }
+
+    /// The due read was made and answered 0. It must not be of the last bit. A 1 is told to the consumer, once it has
+    /// come to where the scan is.
+    #[inline(always)]
+    pub fn zero(&mut self)
+        requires not_last { LastBitIsDue self.old.shape C (due_take self.old) → false ≡ true }
+        ensures state { self.new ≡ record self.old { scan = scan_read self.old.scan false } }
+        ensures stands { (calls : Takes) (made : List Made) (access : Access) → ConsumerStands self.old calls made → due_take self.old ≡ Some access → HasMoved self.old self.new calls (made ++ answered access false ∷ []) }
+    {
+        self.scan.feed(false);
+    }
+}
+
+/// The word read of a take under way, apart from its consumer. To a contract it is that consumer with this word read.
+///
+/// Its reads stand one behind the other, so a caller makes them in a loop of its own, with no look at how far the
+/// take has come.
+#[derive(Drop)]
+pub struct TakeWord {
+    word: WordReader,
+    of: Snapshot<Consumer>,
+}
+
+impl Model for TakeWord {
+    ghost use Rattle.std.specs.Prelude.{◌≡◌};
+    ghost use Rattle.ring_core.specs.declared.consumers.Stage.TheVariants.{Loading};
+    ghost use Rattle.ring_core.specs.ConsumerState.{ConsumerState, IsConsumer};
+
+    ghost Value = { ConsumerState };
+
+    ghost view = { λ w. record w.of.value { word = w.word } };
+
+    ghost invariant = { λ w. (w.of.value.stage ≡ Loading) × IsConsumer (record w.of.value { word = w.word }) };
+}
+
+impl TakeWord {
+    ghost use Rattle.ring_core.specs.Calls.{LastBitIsDue};
+    ghost use Rattle.ring_core.specs.Takes.{Takes, take_program};
+    ghost use Rattle.ring_core.specs.Lengths.{longest_take};
+    ghost use Rattle.ring_core.specs.ConsumerState.{due_take, is_taking};
+    ghost use Rattle.register_core.specs.WordState.{read_digit};
+    ghost use Rattle.ring_core.specs.ConsumerCalls.{ConsumerStands, TakeGoesOn, HasMoved};
+
+    /// The read that is due, as [`Consumer::next`] tells it.
+    #[inline(always)]
+    pub fn next(&self) -> Access
+        ensures due { due_take self.now ≡ Some result }
+        ensures below { self.now.word.read < self.now.word.width }
+        ensures right { IsOpenRight self.now.shape C result }
+        ensures not_last { LastBitIsDue self.now.shape C (due_take self.now) → false ≡ true }
+        ensures goes_on { (calls : Takes) (made : List Made) → ConsumerStands self.now calls made → (is_taking self.now ≡ true) × TakeGoesOn self.now.shape calls made result }
+        ensures bounded { (calls : Takes) (made : List Made) → ConsumerStands self.now calls made → is_taking self.now ≡ true → length made < length (take_program self.now.shape calls) + longest_take self.now.shape }
+    {
+        match self.word.next() {
+            Some(access) => access,
+            None => unreachable!(),
+        }
+    }
+
+    /// Whether the read that is due is the word's last.
+    #[inline(always)]
+    pub fn is_last(&self) -> bool
+        ensures { IsTrue result ↔ (suc self.now.word.read ≡ self.now.word.width) }
+    {
+        self.word.is_last()
+    }
+
+    /// The due read was made and answered so. It must not be the word's last, which is told to the consumer, once it has
+    /// come to where the word read is.
+    #[inline(always)]
+    pub fn feed(&mut self, answer: bool)
+        requires not_last { suc self.old.word.read ≢ self.old.word.width }
+        ensures state { self.new ≡ record self.old { word = read_digit self.old.word answer } }
+        ensures stands { (calls : Takes) (made : List Made) (access : Access) → ConsumerStands self.old calls made → due_take self.old ≡ Some access → HasMoved self.old self.new calls (made ++ answered access answer ∷ []) }
+    {
+        self.word.feed(answer);
     }
 }

@@ -7,6 +7,6 @@ mod counts;
 pub mod laws;
 mod producers;
 
-pub use consumers::{Consumer, TakeReply};
+pub use consumers::{Consumer, TakeReply, TakeScan, TakeWord};
 pub use counts::{distance, has_item, has_room};
-pub use producers::{BatchReply, Producer, PutReply};
+pub use producers::{BatchReply, Producer, PutReply, PutScan, PutWord};

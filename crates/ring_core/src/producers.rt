@@ -1,5 +1,5 @@
 //! The producer's machine.
-ghost use Rattle.std.specs.Prelude.{◌≡◌, ◌≢◌, ◌⊎◌, ℕ, ◌+◌, ◌^◌, ◌<◌, ◌≤◌, true, false, Option, Some, None, List, [], ◌∷◌, ◌++◌, ◌↔◌, IsTrue, IfSome, length, take};
+ghost use Rattle.std.specs.Prelude.{◌≡◌, ◌≢◌, ◌⊎◌, ℕ, ◌+◌, ◌^◌, ◌<◌, ◌≤◌, true, false, Option, Some, None, List, [], ◌∷◌, ◌++◌, ◌↔◌, IsTrue, IfSome, IfNone, length, suc, take};
 ghost use Rattle.bits_core.specs.declared.events.Side.TheVariants.{P};
 ghost use Rattle.bits_core.specs.Shape.{capacity_of, modulus_of, width_of};
 ghost use Rattle.bits_core.specs.Made.{Made, answered};
@@ -10,6 +10,7 @@ use crate::counts::{distance, has_room, past_in};
 use bits_core::{Access, Bit, Shape, Side};
 use register_core::{UnaryScan, UnaryWriter, WordWriter};
 use std::marker::Model;
+use std::snapshot::Snapshot;
 
 /// What a put was answered.
 #[derive(Clone, Copy, PartialEq, Eq, Debug)]
@@ -103,13 +104,15 @@ impl Model for Producer {
 }
 
 impl Producer {
+    ghost use Rattle.register_core.specs.Row.{RowWrite};
+    ghost use Rattle.register_core.specs.UnaryState.{due_writes};
     ghost use Rattle.ring_core.specs.Calls.{LastBitIsDue, EndsInZeros};
     ghost use Rattle.ring_core.specs.declared.producers.Stage.TheVariants.{Scanning, Storing, Counting};
     ghost use Rattle.ring_core.specs.declared.producers.BatchReply.{BatchReply};
     ghost use Rattle.ring_core.specs.declared.producers.BatchReply.TheVariants.{Closed};
     ghost use Rattle.ring_core.specs.Puts.{IsBatch, Puts, put_program};
     ghost use Rattle.ring_core.specs.ProducerCalls.{new_producer, no_puts, ProducerStands, PutGoesOn, HasMoved, IsReply, longest, closes_with};
-    ghost use Rattle.ring_core.specs.ProducerState.{Call, Put, Close, due_put, call_of, item_reply, put_reply, batch_reply};
+    ghost use Rattle.ring_core.specs.ProducerState.{Call, Put, Close, IsSameButScan, IsSameButWord, due_put, call_of, item_reply, put_reply, batch_reply};
 
     /// The producer of a ring of this shape that has made no access.
     pub fn new(shape: Shape) -> Self
@@ -246,8 +249,9 @@ impl Producer {
         }
     }
 
+    /// The same as [`feed`](Self::feed), where a scan is under way.
     #[inline(always)]
-    fn feed_scan(&mut self, answer: bool)
+    pub fn feed_scan(&mut self, answer: bool)
         requires stage { self.old.stage ≡ Scanning }
         requires one { LastBitIsDue self.old.shape P (due_put self.old) → answer ≡ true }
         ensures shape { self.new.shape ≡ self.old.shape }
@@ -269,8 +273,9 @@ impl Producer {
         }
     }
 
+    /// The same as [`feed`](Self::feed), where a word write is under way.
     #[inline(always)]
-    fn feed_word(&mut self, answer: bool)
+    pub fn feed_word(&mut self, answer: bool)
         requires stage { self.old.stage ≡ Storing }
         ensures shape { self.new.shape ≡ self.old.shape }
         ensures kind { self.new.batched ≡ self.old.batched }
@@ -289,11 +294,13 @@ impl Producer {
         }
     }
 
+    /// The same as [`feed`](Self::feed), where the write of the count is under way.
     #[inline(always)]
-    fn feed_count(&mut self, answer: bool)
+    pub fn feed_count(&mut self, answer: bool)
         requires stage { self.old.stage ≡ Counting }
         ensures shape { self.new.shape ≡ self.old.shape }
         ensures kind { self.new.batched ≡ self.old.batched }
+        ensures left { (x : RowWrite) (rest : List RowWrite) → due_writes self.old.row ≡ x ∷ rest → due_writes self.new.row ≡ rest }
         ensures stands { (calls : Puts) (made : List Made) (access : Access) → ProducerStands self.old calls made → due_put self.old ≡ Some access → HasMoved self.old self.new calls (made ++ answered access answer ∷ []) }
     {
         self.row.feed(answer);
@@ -303,6 +310,69 @@ impl Producer {
             self.reply = Some(BatchReply::Stored(self.most as u64));
             self.stage = Stage::Idle;
         }
+    }
+
+    /// The scan of the call under way by itself, where one is: it goes on apart from the producer, which
+    /// [`go_on_with_scan`](Self::go_on_with_scan) brings to where it then is.
+    #[inline(always)]
+    pub fn scan(&self) -> Option<PutScan>
+        ensures some { IfSome result (λ s. (s ≡ self.now) × (self.now.stage ≡ Scanning)) }
+        ensures none { IfNone result (self.now.stage ≢ Scanning) }
+    {
+        match self.stage {
+            Stage::Scanning => Some(PutScan {
+                scan: UnaryScan::at(&self.shape, Side::P, self.scan.zeros()),
+                of: Snapshot::of(self),
+            }),
+            _ => None,
+        }
+    }
+
+    /// The word write under way by itself, where one is: it goes on apart from the producer, which
+    /// [`go_on_with_word`](Self::go_on_with_word) brings to where it then is.
+    #[inline(always)]
+    pub fn word(&self) -> Option<PutWord>
+        ensures some { IfSome result (λ w. (w ≡ self.now) × (self.now.stage ≡ Storing)) }
+        ensures none { IfNone result (self.now.stage ≢ Storing) }
+    {
+        match self.stage {
+            Stage::Storing => Some(PutWord {
+                word: self.word,
+                of: Snapshot::of(self),
+            }),
+            _ => None,
+        }
+    }
+
+    /// Whether the write of the count is under way.
+    #[inline(always)]
+    pub fn is_counting(&self) -> bool
+        ensures { IsTrue result ↔ (self.now.stage ≡ Counting) }
+    {
+        match self.stage {
+            Stage::Counting => true,
+            _ => false,
+        }
+    }
+
+    /// The producer comes to where its scan is.
+    #[inline(always)]
+    pub fn go_on_with_scan(&mut self, scan: PutScan)
+        requires same { IsSameButScan self.old scan }
+        ensures state { self.new ≡ scan }
+    {
+        let PutScan { scan, of: _ } = scan;
+        self.scan = scan;
+    }
+
+    /// The producer comes to where its word write is.
+    #[inline(always)]
+    pub fn go_on_with_word(&mut self, word: PutWord)
+        requires same { IsSameButWord self.old word }
+        ensures state { self.new ≡ word }
+    {
+        let PutWord { word, of: _ } = word;
+        self.word = word;
     }
 
     /// What the last call was answered, where it was a put: none before the first one, during a call, after a put
@@ -352,5 +422,134 @@ impl Producer {
             Stage::Scanning => self.scan.expects_one(),
             _ => false,
         }
+    }
+}
+
+/// The scan of a put under way, apart from its producer. To a contract it is that producer with this scan.
+///
+/// Its reads stand one behind the other, so a caller makes them in a loop of its own, with no look at how far the
+/// call has come.
+#[derive(Drop)]
+pub struct PutScan {
+    scan: UnaryScan,
+    of: Snapshot<Producer>,
+}
+
+impl Model for PutScan {
+    ghost use Rattle.std.specs.Prelude.{◌≡◌};
+    ghost use Rattle.ring_core.specs.declared.producers.Stage.TheVariants.{Scanning};
+    ghost use Rattle.ring_core.specs.ProducerState.{ProducerState, IsProducer};
+
+    ghost Value = { ProducerState };
+
+    ghost view = { λ s. record s.of.value { scan = s.scan } };
+
+    ghost invariant = { λ s. (s.of.value.stage ≡ Scanning) × IsProducer (record s.of.value { scan = s.scan }) };
+}
+
+impl PutScan {
+    ghost use Rattle.ring_core.specs.Calls.{LastBitIsDue, EndsInZeros};
+    ghost use Rattle.ring_core.specs.Puts.{Puts, put_program};
+    ghost use Rattle.ring_core.specs.ProducerCalls.{ProducerStands, PutGoesOn, HasMoved, longest};
+    ghost use Rattle.ring_core.specs.ProducerState.{Call, due_put, call_of};
+    ghost use Rattle.register_core.specs.ScanState.{scan_read};
+
+    /// The read that is due, as [`Producer::next`] tells it.
+    #[inline(always)]
+    pub fn next(&self) -> Access
+        ensures due { due_put self.now ≡ Some result }
+        ensures below { self.now.scan.zeros < modulus_of self.now.shape }
+        ensures right { IsOpenRight self.now.shape P result }
+        ensures goes_on { (calls : Puts) (made : List Made) → ProducerStands self.now calls made → (c : Call) × (call_of self.now ≡ Some c) × PutGoesOn self.now.shape calls c made result }
+        ensures bounded { (calls : Puts) (made : List Made) (c : Call) → ProducerStands self.now calls made → call_of self.now ≡ Some c → length made < length (put_program self.now.shape calls) + longest self.now.shape c }
+    {
+        match self.scan.next() {
+            Some(access) => access,
+            None => unreachable!(),
+        }
+    }
+
+    /// Whether the last bit of the consumer's count is due, as [`Producer::expects_one`] tells it.
+    #[inline(always)]
+    pub fn expects_one(&self) -> bool
+        ensures due { IsTrue result ↔ LastBitIsDue self.now.shape P (due_put self.now) }
+        ensures stands { (calls : Puts) (made : List Made) → ProducerStands self.now calls made → IsTrue result → EndsInZeros self.now.shape P made }
+    {
+        self.scan.expects_one()
+    }
+
+    /// The due read was made and answered 0. It must not be of the last bit. A 1 is told to the producer, once it has
+    /// come to where the scan is.
+    #[inline(always)]
+    pub fn zero(&mut self)
+        requires not_last { LastBitIsDue self.old.shape P (due_put self.old) → false ≡ true }
+        ensures state { self.new ≡ record self.old { scan = scan_read self.old.scan false } }
+        ensures stands { (calls : Puts) (made : List Made) (access : Access) → ProducerStands self.old calls made → due_put self.old ≡ Some access → HasMoved self.old self.new calls (made ++ answered access false ∷ []) }
+    {
+        self.scan.feed(false);
+    }
+}
+
+/// The word write of a put under way, apart from its producer. To a contract it is that producer with this word write.
+///
+/// Its writes stand one behind the other, so a caller makes them in a loop of its own, with no look at how far the
+/// call has come.
+#[derive(Drop)]
+pub struct PutWord {
+    word: WordWriter,
+    of: Snapshot<Producer>,
+}
+
+impl Model for PutWord {
+    ghost use Rattle.std.specs.Prelude.{◌≡◌};
+    ghost use Rattle.ring_core.specs.declared.producers.Stage.TheVariants.{Storing};
+    ghost use Rattle.ring_core.specs.ProducerState.{ProducerState, IsProducer};
+
+    ghost Value = { ProducerState };
+
+    ghost view = { λ w. record w.of.value { word = w.word } };
+
+    ghost invariant = { λ w. (w.of.value.stage ≡ Storing) × IsProducer (record w.of.value { word = w.word }) };
+}
+
+impl PutWord {
+    ghost use Rattle.ring_core.specs.Calls.{LastBitIsDue};
+    ghost use Rattle.ring_core.specs.Puts.{Puts, put_program};
+    ghost use Rattle.ring_core.specs.ProducerCalls.{ProducerStands, PutGoesOn, HasMoved, longest};
+    ghost use Rattle.ring_core.specs.ProducerState.{Call, due_put, call_of};
+
+    /// The write that is due, as [`Producer::next`] tells it.
+    #[inline(always)]
+    pub fn next(&self) -> Access
+        ensures due { due_put self.now ≡ Some result }
+        ensures below { self.now.word.written < self.now.word.width }
+        ensures right { IsOpenRight self.now.shape P result }
+        ensures not_last { LastBitIsDue self.now.shape P (due_put self.now) → false ≡ true }
+        ensures goes_on { (calls : Puts) (made : List Made) → ProducerStands self.now calls made → (c : Call) × (call_of self.now ≡ Some c) × PutGoesOn self.now.shape calls c made result }
+        ensures bounded { (calls : Puts) (made : List Made) (c : Call) → ProducerStands self.now calls made → call_of self.now ≡ Some c → length made < length (put_program self.now.shape calls) + longest self.now.shape c }
+    {
+        match self.word.next() {
+            Some(access) => access,
+            None => unreachable!(),
+        }
+    }
+
+    /// Whether the write that is due is the word's last.
+    #[inline(always)]
+    pub fn is_last(&self) -> bool
+        ensures { IsTrue result ↔ (suc self.now.word.written ≡ self.now.word.width) }
+    {
+        self.word.is_last()
+    }
+
+    /// The due write was made. It must not be the word's last, which is told to the producer, once it has come to where
+    /// the word write is. What the write was answered is ignored.
+    #[inline(always)]
+    pub fn feed(&mut self, answer: bool)
+        requires not_last { suc self.old.word.written ≢ self.old.word.width }
+        ensures state { self.new ≡ record self.old { word = record self.old.word { written = suc self.old.word.written } } }
+        ensures stands { (calls : Puts) (made : List Made) (access : Access) → ProducerStands self.old calls made → due_put self.old ≡ Some access → HasMoved self.old self.new calls (made ++ answered access answer ∷ []) }
+    {
+        self.word.feed(answer);
     }
 }

@@ -1,5 +1,5 @@
 -- A whole call of the producer's end, access by access.
-use Rattle.std.proofs.Common.{◌≡◌, cond, ◌⊎◌, inl, inr, ⊎_elim, ℕ, ◌+◌, ◌*◌, ◌<◌, ◌↔◌, Bool, true, false, Option, Some, None, IsTrue, List, [], ◌∷◌, ◌++◌, length, refl, ap, sym, subst, ◌∙◌, arith}
+use Rattle.std.proofs.Common.{◌≡◌, ◌≢◌, cond, ◌⊎◌, inl, inr, ⊎_elim, ℕ, ◌+◌, ◌*◌, ◌<◌, ◌↔◌, Bool, true, false, Option, Some, None, IsTrue, List, [], ◌∷◌, ◌++◌, length, refl, ap, sym, subst, ◌∙◌, arith}
 use Rattle.bits_core.specs.declared.events.Side.{Side}
 use Rattle.bits_core.specs.declared.events.Side.TheVariants.{P}
 use Rattle.bits_core.specs.declared.events.Access.{Access}
@@ -7,22 +7,28 @@ use Rattle.bits_core.specs.declared.events.Event.{Event}
 use Rattle.bits_core.specs.declared.shapes.Shape.{Shape}
 use Rattle.bits_core.specs.History.{open_access}
 use Rattle.bits_core.specs.Made.{Made, answered, events_of}
+use Rattle.register_core.specs.Row.{RowWrite, row_bit}
+use Rattle.register_core.specs.ScanState.{ScanState}
+use Rattle.register_core.specs.UnaryState.{due_unary, due_writes, first_access}
+use Rattle.register_core.specs.WordState.{WriterState}
 use Rattle.ring_core.specs.declared.producers.PutReply as items_replies
 use Rattle.ring_core.specs.declared.producers.BatchReply as replies
 use Rattle.ring_core.specs.declared.producers.BatchReply.TheVariants as reply
 use Rattle.ring_core.specs.Calls.{LastBitIsDue, EndsInZeros}
 use Rattle.ring_core.specs.Puts.{Puts, put_program, ArePuts}
 use Rattle.ring_core.specs.ProducerState as producer
-use Rattle.ring_core.specs.ProducerState.{ProducerState, Call, Close, due_put, call_of}
-use Rattle.ring_core.specs.ProducerCalls.{HasCallMore, HasMoved, IsAfter, IsReply, longest, reply_to}
+use Rattle.ring_core.specs.declared.producers.Stage.{Stage}
+use Rattle.ring_core.specs.declared.producers.Stage.TheVariants.{Counting}
+use Rattle.ring_core.specs.ProducerState.{ProducerState, Call, Close, IsSameButScan, IsSameButWord, call_at, due_at, due_put, call_of}
+use Rattle.ring_core.specs.ProducerCalls.{HasCallMore, HasMoved, IsAfter, IsReply, ProducerStands, PutGoesOn, longest, reply_to}
 use Rattle.ring_run.specs.Ring.{Ring, RingEnd}
 use Rattle.ring_run.specs.Programs.{begin_of, end_of}
-use Rattle.ring_run.specs.Hands.{Grows, HasMade, HasStepped, IsSameEnd, StandsAs}
+use Rattle.ring_run.specs.Hands.{CanMake, Grows, HasMade, HasStepped, IsSameEnd, StandsAs}
 use Rattle.ring_run.specs.Ends.{HasPuts, HasPutAll, HasClosed, PutAdds, CloseAdds, whole_put}
-use Rattle.ring_run.specs.Machines.{PutterAt, PutterReady, PutterGoes, PutterOver, PutterMade, IsPutter, IsRefused, CallBegins, longest_at}
+use Rattle.ring_run.specs.Machines.{PutterAt, PutterReady, PutterGoes, PutterOver, PutterIn, PutterMade, IsPutter, IsRefused, CallBegins, longest_at}
 use Rattle.ring_run.specs.Below.{LawsBelow}
 use Rattle.ring_run.proofs.Lists.{begun_open, length-events_of}
-use Rattle.ring_run.proofs.PutterMoves.{Next, at_begun, at_ended, call_are, list_ended, one_there}
+use Rattle.ring_run.proofs.PutterMoves.{Next, at_begun, at_ended, call_are, can_make, list_ended, next_of, one_there}
 use Rattle.ring_run.proofs.PutterCalls.{list_rests, over_adds, over_reply, rest, rest_list}
 
 none-some : {A : Type 0} (a : A) → None ≡ Some a → ⊥
@@ -66,6 +72,60 @@ module _ (laws : LawsBelow) (e : RingEnd) (m : ProducerState) (calls : Puts) (ma
     pub goes : PutterGoes b m' calls c ⊎ PutterOver b m' calls c
     goes = after (call_of m') refl
 
+-- the same where the call goes on, by what a machine tells of its due access
+module _ (laws : LawsBelow) (e : RingEnd) (m : ProducerState) (calls : Puts) (c : Call) (g : PutterGoes e m calls c) (a : Access) (due : due_put m ≡ Some a)
+    (goes_on : (calls : Puts) (made : List Made) → ProducerStands m calls made → (d : Call) × (call_of m ≡ Some d) × PutGoesOn m.shape calls d made a)
+    (bounded : (calls : Puts) (made : List Made) (d : Call) → ProducerStands m calls made → call_of m ≡ Some d → length made < length (put_program m.shape calls) + longest m.shape d)
+    (expects : Bool) (due_is : IsTrue expects ↔ LastBitIsDue m.shape P (due_put m)) (zeros : (calls : Puts) (made : List Made) → ProducerStands m calls made → IsTrue expects → EndsInZeros m.shape P made) where
+  next : Next m.shape calls (call_of m) g.made a
+  next = next_of m.shape calls (call_of m) g.made a (goes_on calls g.made g.at.stands) (λ d is. bounded calls g.made d g.at.stands is)
+
+  pub can_go : CanMake e a
+  can_go = can_make laws e m calls g.made g.at a due next expects due_is (zeros calls g.made g.at.stands) g.list_is
+
+  module _ (b : RingEnd) (v : Bool) (h : HasMade e b a v) where
+    pub may_feed : LastBitIsDue m.shape P (due_put m) → v ≡ true
+    may_feed = feeds laws e m calls g.made g.at a due next expects due_is (zeros calls g.made g.at.stands) g.list_is b v h
+
+    pub went : (m' : ProducerState) → m'.shape ≡ m.shape → HasMoved m m' calls (g.made ++ answered a v ∷ []) → PutterIn b m' calls c
+    went m' same_shape moved = goes laws e m calls g.made g.at a due next expects due_is (zeros calls g.made g.at.stands) g.list_is b v h m' same_shape moved c g.call_is
+
+-- while a call is under way, it goes on
+pub goes_in : (e : RingEnd) (m : ProducerState) (calls : Puts) (c d : Call) → PutterIn e m calls c → call_of m ≡ Some d → PutterGoes e m calls c
+goes_in e m calls c d (inl g) is = g
+goes_in e m calls c d (inr o) is = absurd (none-some d (sym o.call_is ∙ is))
+
+-- the call under way at a stage
+pub at_call : (m : ProducerState) (st : Stage) (c : Call) → m.stage ≡ st → call_at st m.items ≡ Some c → call_of m ≡ Some c
+at_call m st c e is = ap (λ (x : Stage). call_at x m.items) e ∙ is
+
+pub busy_at : (m : ProducerState) (c : Call) → call_of m ≡ Some c → call_of m ≢ None
+busy_at m c is none = none-some c (sym none ∙ is)
+
+-- while the count is written there is a write of it that is due
+pub count_due : (m : ProducerState) (a : Access) → m.stage ≡ Counting → due_put m ≡ Some a → (x : RowWrite) × (rest : List RowWrite) × (due_writes m.row ≡ x ∷ rest)
+count_due m a e due = by (due_writes m.row) refl
+  where
+    due_there : due_unary m.row ≡ Some a
+    due_there = sym (ap (λ (st : Stage). due_at st m) e) ∙ due
+
+    by : (l : List RowWrite) → due_writes m.row ≡ l → (x : RowWrite) × (rest : List RowWrite) × (due_writes m.row ≡ x ∷ rest)
+    by [] is = absurd (none-some a (sym (ap (first_access (row_bit m.row.side)) is) ∙ due_there))
+    by (x ∷ rest) is = (x, rest, is)
+
+-- a state with another scan, or another word, and no more
+pub scan_is : (p q : ProducerState) (s : ScanState) → q ≡ record p { scan = s } → IsSameButScan p q
+scan_is p q s e = e ∙ ap (λ (x : ScanState). record p { scan = x }) (sym (ap (λ (x : ProducerState). x.scan) e))
+
+pub word_is : (p q : ProducerState) (w : WriterState) → q ≡ record p { word = w } → IsSameButWord p q
+word_is p q w e = e ∙ ap (λ (x : WriterState). record p { word = x }) (sym (ap (λ (x : ProducerState). x.word) e))
+
+pub same_scan : (p q r : ProducerState) → IsSameButScan p q → IsSameButScan q r → IsSameButScan p r
+same_scan p q r e f = f ∙ ap (λ (x : ProducerState). record x { scan = r.scan }) e
+
+pub same_word : (p q r : ProducerState) → IsSameButWord p q → IsSameButWord q r → IsSameButWord p r
+same_word p q r e f = f ∙ ap (λ (x : ProducerState). record x { word = r.word }) e
+
 -- ---- the loop over accesses
 
 -- while an access is due, the call under way goes on
@@ -90,6 +150,16 @@ below e m b m' calls ready same c is g few =
     let few' : length g.made < length (put_program m.shape calls) + longest m.shape c = subst (λ (z : Shape). length g.made < length (put_program z calls) + longest z c) shape few in
     let most : longest_at m.shape (call_of m) ≡ longest m.shape c = ap (longest_at m.shape) is in
     omega (arith, few', most, ap length g.list_is, length-events_of P g.made, ap length ready.list_is, length-events_of P (put_program m.shape calls))
+
+-- what was made goes on, where a call is under way, and stays as it is, where none is
+pub in_there : (o : Option Call) (e : RingEnd) (m : ProducerState) (b : RingEnd) (n : ProducerState) (calls : Puts) → call_of m ≡ o → PutterMade o e m b n calls → call_of n ≢ None → (c : Call) × PutterIn b n calls c
+in_there None e m b n calls is (same, _) busy = absurd (busy (ap call_of same ∙ is))
+in_there (Some c) e m b n calls is there busy = (c, there)
+
+pub made_on : (o : Option Call) (e : RingEnd) (m : ProducerState) (b : RingEnd) (n : ProducerState) (b' : RingEnd) (n' : ProducerState) (calls : Puts) → call_of m ≡ o → PutterMade o e m b n calls
+    → (call_of n ≡ None → (n' ≡ n) × (b' ≡ b)) → ((c : Call) → PutterIn b n calls c → PutterIn b' n' calls c) → PutterMade o e m b' n' calls
+made_on None e m b n b' n' calls is (same, end) rests goes = let (s, t) = rests (ap call_of same ∙ is) in (s ∙ same, t ∙ end)
+made_on (Some c) e m b n b' n' calls is there rests goes = goes c there
 
 -- where no access is due, the call is over
 pub over : (e : RingEnd) (m : ProducerState) (b : RingEnd) (m' : ProducerState) (calls : Puts) (c : Call) → call_of m ≡ Some c → PutterMade (call_of m) e m b m' calls → ((made : List Made) → (k : Puts) → PutterAt b m' k made → call_of m' ≡ None) → PutterOver b m' calls c

@@ -31,8 +31,8 @@ take_send a = view_send (take_inside.the_row a) _ _ _ _
 
 pub putter_send : (a : NamedLft) (T : RattleType) (g : oracle.Ghosts T.Denot) → IsSend T → IsSend (putter.the_row a T g)
 putter_send a T g s = view_send (putter_inside.the_row a T g) _ _ _ _
-    (recorded_send (putter_inside.the_field a T g).row _ _ (putter_inside.the_type a T g).to_one (struct_send (shape (putter_inside.the_type a T g)) (put_send a, (s, tt))))
+    (recorded_send (putter_inside.the_field a T g).row _ _ (putter_inside.the_type a T g).to_one (struct_send (shape (putter_inside.the_type a T g)) (search sendable, (put_send a, (s, (search sendable, tt))))))
 
 pub taker_send : (a : NamedLft) (T : RattleType) (g : oracle.Ghosts T.Denot) → IsSend T → IsSend (taker.the_row a T g)
 taker_send a T g s = view_send (taker_inside.the_row a T g) _ _ _ _
-    (recorded_send (taker_inside.the_field a T g).row _ _ (taker_inside.the_type a T g).to_one (struct_send (shape (taker_inside.the_type a T g)) (take_send a, (s, tt))))
+    (recorded_send (taker_inside.the_field a T g).row _ _ (taker_inside.the_type a T g).to_one (struct_send (shape (taker_inside.the_type a T g)) (search sendable, (take_send a, (s, (search sendable, tt))))))

@@ -7,22 +7,28 @@ use Rattle.bits_core.specs.declared.events.Event.{Event}
 use Rattle.bits_core.specs.declared.shapes.Shape.{Shape}
 use Rattle.bits_core.specs.History.{open_access}
 use Rattle.bits_core.specs.Made.{Made, answered, events_of}
+use Rattle.register_core.specs.Row.{RowWrite, row_bit}
+use Rattle.register_core.specs.ScanState.{ScanState}
+use Rattle.register_core.specs.UnaryState.{due_unary, due_writes, first_access}
+use Rattle.register_core.specs.WordState.{ReaderState}
 use Rattle.ring_core.specs.declared.consumers.TakeReply as replies
 use Rattle.ring_core.specs.declared.consumers.TakeReply.TheVariants as reply
 use Rattle.ring_core.specs.Calls.{LastBitIsDue, EndsInZeros}
 use Rattle.ring_core.specs.Lengths.{longest_take}
 use Rattle.ring_core.specs.Takes.{Takes, take_program, AreTakes}
-use Rattle.ring_core.specs.ConsumerState.{ConsumerState, due_take, is_taking}
-use Rattle.ring_core.specs.ConsumerCalls.{HasMoved, HasTakeMore, IsAfter, IsReply, reply_at_end, tells}
+use Rattle.ring_core.specs.declared.consumers.Stage.{Stage}
+use Rattle.ring_core.specs.declared.consumers.Stage.TheVariants.{Counting}
+use Rattle.ring_core.specs.ConsumerState.{ConsumerState, IsSameButScan, IsSameButWord, due_at, due_take, is_taking, takes_at}
+use Rattle.ring_core.specs.ConsumerCalls.{ConsumerStands, HasMoved, TakeGoesOn, HasTakeMore, IsAfter, IsReply, reply_at_end, tells}
 use Rattle.ring_run.specs.Ring.{Ring, RingEnd}
 use Rattle.ring_run.specs.Programs.{begin_of, end_of}
-use Rattle.ring_run.specs.Hands.{Grows, HasMade, HasStepped, IsSameEnd, StandsAs}
+use Rattle.ring_run.specs.Hands.{CanMake, Grows, HasMade, HasStepped, IsSameEnd, StandsAs}
 use Rattle.ring_run.specs.Ends.{HasTaken, TakeAdds, whole_take}
-use Rattle.ring_run.specs.Machines.{TakerAt, TakerReady, TakerGoes, TakerOver, TakerMade, IsTaker, TakeBegins}
+use Rattle.ring_run.specs.Machines.{TakerAt, TakerReady, TakerGoes, TakerOver, TakerIn, TakerMade, IsTaker, TakeBegins}
 use Rattle.ring_run.specs.Below.{LawsBelow}
 use Rattle.ring_run.proofs.Lists.{begun_open, length-events_of}
 use Rattle.ring_run.proofs.PutterCalls.{list_rests}
-use Rattle.ring_run.proofs.TakerMoves.{Next, at_begun, at_ended, list_ended, one_there}
+use Rattle.ring_run.proofs.TakerMoves.{Next, at_begun, at_ended, can_make, list_ended, next_of, one_there}
 use Rattle.ring_run.proofs.TakerCalls.{open_tells, over_reply, rest, rest_list}
 
 none-some : {A : Type 0} (a : A) → None ≡ Some a → ⊥
@@ -66,6 +72,57 @@ module _ (laws : LawsBelow) (e : RingEnd) (m : ConsumerState) (calls : Takes) (m
     pub goes : TakerGoes b m' calls ⊎ TakerOver b m' calls
     goes = after (is_taking m') refl
 
+-- the same where the take goes on, by what a machine tells of its due access
+module _ (laws : LawsBelow) (e : RingEnd) (m : ConsumerState) (calls : Takes) (g : TakerGoes e m calls) (a : Access) (due : due_take m ≡ Some a)
+    (goes_on : (calls : Takes) (made : List Made) → ConsumerStands m calls made → (is_taking m ≡ true) × TakeGoesOn m.shape calls made a)
+    (bounded : (calls : Takes) (made : List Made) → ConsumerStands m calls made → is_taking m ≡ true → length made < length (take_program m.shape calls) + longest_take m.shape)
+    (expects : Bool) (due_is : IsTrue expects ↔ LastBitIsDue m.shape C (due_take m)) (zeros : (calls : Takes) (made : List Made) → ConsumerStands m calls made → IsTrue expects → EndsInZeros m.shape C made) where
+  next : Next m.shape calls (is_taking m) g.made a
+  next = next_of m.shape calls (is_taking m) g.made a (goes_on calls g.made g.at.stands) (bounded calls g.made g.at.stands)
+
+  pub can_go : CanMake e a
+  can_go = can_make laws e m calls g.made g.at a due next expects due_is (zeros calls g.made g.at.stands) g.list_is
+
+  module _ (b : RingEnd) (v : Bool) (h : HasMade e b a v) where
+    pub may_feed : LastBitIsDue m.shape C (due_take m) → v ≡ true
+    may_feed = feeds laws e m calls g.made g.at a due next expects due_is (zeros calls g.made g.at.stands) g.list_is b v h
+
+    pub went : (m' : ConsumerState) → m'.shape ≡ m.shape → HasMoved m m' calls (g.made ++ answered a v ∷ []) → TakerIn b m' calls
+    went m' same_shape moved = goes laws e m calls g.made g.at a due next expects due_is (zeros calls g.made g.at.stands) g.list_is b v h m' same_shape moved g.taking
+
+-- while a take is under way, it goes on
+pub goes_in : (e : RingEnd) (m : ConsumerState) (calls : Takes) → TakerIn e m calls → is_taking m ≡ true → TakerGoes e m calls
+goes_in e m calls (inl g) is = g
+goes_in e m calls (inr o) is = absurd (true≢false (sym is ∙ o.taking))
+
+-- a take is under way at a stage
+pub taking_at : (m : ConsumerState) (st : Stage) → m.stage ≡ st → takes_at st ≡ true → is_taking m ≡ true
+taking_at m st e is = ap takes_at e ∙ is
+
+-- while the count is written there is a write of it that is due
+pub count_due : (m : ConsumerState) (a : Access) → m.stage ≡ Counting → due_take m ≡ Some a → (x : RowWrite) × (rest : List RowWrite) × (due_writes m.row ≡ x ∷ rest)
+count_due m a e due = by (due_writes m.row) refl
+  where
+    due_there : due_unary m.row ≡ Some a
+    due_there = sym (ap (λ (st : Stage). due_at st m) e) ∙ due
+
+    by : (l : List RowWrite) → due_writes m.row ≡ l → (x : RowWrite) × (rest : List RowWrite) × (due_writes m.row ≡ x ∷ rest)
+    by [] is = absurd (none-some a (sym (ap (first_access (row_bit m.row.side)) is) ∙ due_there))
+    by (x ∷ rest) is = (x, rest, is)
+
+-- a state with another scan, or another word, and no more
+pub scan_is : (p q : ConsumerState) (s : ScanState) → q ≡ record p { scan = s } → IsSameButScan p q
+scan_is p q s e = e ∙ ap (λ (x : ScanState). record p { scan = x }) (sym (ap (λ (x : ConsumerState). x.scan) e))
+
+pub word_is : (p q : ConsumerState) (w : ReaderState) → q ≡ record p { word = w } → IsSameButWord p q
+word_is p q w e = e ∙ ap (λ (x : ReaderState). record p { word = x }) (sym (ap (λ (x : ConsumerState). x.word) e))
+
+pub same_scan : (p q r : ConsumerState) → IsSameButScan p q → IsSameButScan q r → IsSameButScan p r
+same_scan p q r e f = f ∙ ap (λ (x : ConsumerState). record x { scan = r.scan }) e
+
+pub same_word : (p q r : ConsumerState) → IsSameButWord p q → IsSameButWord q r → IsSameButWord p r
+same_word p q r e f = f ∙ ap (λ (x : ConsumerState). record x { word = r.word }) e
+
 -- ---- the loop over accesses
 
 -- while an access is due, the take under way goes on
@@ -89,6 +146,16 @@ below e m b m' calls ready same g few =
     let shape : m'.shape ≡ m.shape = g.at.shape_is ∙ ap (λ (r : Ring). r.shape) same.ring ∙ sym ready.at.shape_is in
     let few' : length g.made < length (take_program m.shape calls) + longest_take m.shape = subst (λ (z : Shape). length g.made < length (take_program z calls) + longest_take z) shape few in
     omega (arith, few', ap length g.list_is, length-events_of C g.made, ap length ready.list_is, length-events_of C (take_program m.shape calls))
+
+-- what was made goes on, where a take is under way, and stays as it is, where none is
+pub in_there : (t : Bool) (e : RingEnd) (m : ConsumerState) (b : RingEnd) (n : ConsumerState) (calls : Takes) → is_taking m ≡ t → TakerMade t e m b n calls → is_taking n ≡ true → TakerIn b n calls
+in_there false e m b n calls is (same, _) busy = absurd (true≢false (sym busy ∙ ap is_taking same ∙ is))
+in_there true e m b n calls is there busy = there
+
+pub made_on : (t : Bool) (e : RingEnd) (m : ConsumerState) (b : RingEnd) (n : ConsumerState) (b' : RingEnd) (n' : ConsumerState) (calls : Takes) → is_taking m ≡ t → TakerMade t e m b n calls
+    → (is_taking n ≡ false → (n' ≡ n) × (b' ≡ b)) → (TakerIn b n calls → TakerIn b' n' calls) → TakerMade t e m b' n' calls
+made_on false e m b n b' n' calls is (same, end) rests goes = let (s, t) = rests (ap is_taking same ∙ is) in (s ∙ same, t ∙ end)
+made_on true e m b n b' n' calls is there rests goes = goes there
 
 -- where no access is due, the take is over
 pub over : (e : RingEnd) (m : ConsumerState) (b : RingEnd) (m' : ConsumerState) (calls : Takes) → is_taking m ≡ true → TakerMade (is_taking m) e m b m' calls → ((made : List Made) → (k : Takes) → TakerAt b m' k made → is_taking m' ≡ false) → TakerOver b m' calls

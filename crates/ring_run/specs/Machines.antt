@@ -90,10 +90,14 @@ pub record PutterOver (e : RingEnd) (m : ProducerState) (calls : Puts) (c : Call
   pub is_more : puts.HasCallMore m.shape c calls more
   pub no_reply : c ≡ Close → m.reply ≡ None
 
+-- the call goes on, and no access is open, or it is over
+abbrev pub PutterIn : RingEnd → ProducerState → Puts → Call → Type 0
+PutterIn e m calls c = PutterGoes e m calls c ⊎ PutterOver e m calls c
+
 -- what whole accesses come to, by the call that was under way
 abbrev pub PutterMade : Option Call → RingEnd → ProducerState → RingEnd → ProducerState → Puts → Type 0
 PutterMade None a m b m' calls = (m' ≡ m) × (b ≡ a)
-PutterMade (Some c) a m b m' calls = PutterGoes b m' calls c ⊎ PutterOver b m' calls c
+PutterMade (Some c) a m b m' calls = PutterIn b m' calls c
 
 -- ---- the consumer
 
@@ -147,7 +151,11 @@ pub record TakerOver (e : RingEnd) (m : ConsumerState) (calls : Takes) : Type 0 
   pub taking : is_taking m ≡ false
   pub is_more : takes.HasTakeMore m.shape calls more
 
+-- the take goes on, and no access is open, or it is over
+abbrev pub TakerIn : RingEnd → ConsumerState → Takes → Type 0
+TakerIn e m calls = TakerGoes e m calls ⊎ TakerOver e m calls
+
 -- what whole accesses come to, where a take was under way, and where none was
 abbrev pub TakerMade : Bool → RingEnd → ConsumerState → RingEnd → ConsumerState → Takes → Type 0
 TakerMade false a m b m' calls = (m' ≡ m) × (b ≡ a)
-TakerMade true a m b m' calls = TakerGoes b m' calls ⊎ TakerOver b m' calls
+TakerMade true a m b m' calls = TakerIn b m' calls

@@ -34,16 +34,20 @@ impl<A: Allocator> CounterRing<A> {
         let (p, c) = first_hands(self.words(), self.words(), start);
         (
             CounterPutter {
+                before: [0; 8],
                 hand: p,
                 count: 0,
                 cell: 0,
                 closed: false,
+                after: [0; 8],
             },
             CounterTaker {
+                before: [0; 8],
                 hand: c,
                 count: 0,
                 cell: 0,
                 told: false,
+                after: [0; 8],
             },
         )
     }
@@ -67,30 +71,38 @@ impl CounterRing<Global> {
     {
         laws_below();
         let CounterPutter {
+            before: _,
             hand: p,
             count: put,
             cell: last,
             closed,
+            after: _,
         } = putter;
         let CounterTaker {
+            before: _,
             hand: c,
             count: taken,
             cell: first,
             told,
+            after: _,
         } = taker;
         let (p, c) = meet_hands(p, c);
         (
             CounterPutter {
+                before: [0; 8],
                 hand: p,
                 count: put,
                 cell: last,
                 closed,
+                after: [0; 8],
             },
             CounterTaker {
+                before: [0; 8],
                 hand: c,
                 count: taken,
                 cell: first,
                 told,
+                after: [0; 8],
             },
         )
     }
@@ -105,16 +117,20 @@ impl CounterRing<Global> {
     {
         laws_below();
         let CounterPutter {
+            before: _,
             hand: p,
             count: _,
             cell: _,
             closed,
+            after: _,
         } = putter;
         let CounterTaker {
+            before: _,
             hand: c,
             count: _,
             cell: _,
             told,
+            after: _,
         } = taker;
         let seat = join_hands(p, c);
         Finished { seat, closed, told }

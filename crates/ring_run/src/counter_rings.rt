@@ -24,9 +24,13 @@ use std::marker::Model;
 ///
 /// To a contract a ring is its shape, and which ring it is.
 #[derive(Drop)]
+#[repr(C)]
 pub struct CounterRing<A: Allocator> {
+    // unused, as `after` is: they keep other values off the cache lines of this one
+    before: [u64; 8],
     table: Table<(), View, Shape, WordLaw, A>,
     shape: Shape,
+    after: [u64; 8],
 }
 
 impl<A: Allocator> Model for CounterRing<A> {
@@ -53,7 +57,13 @@ impl<A: Allocator + Copy> CounterRing<A> {
         laws_below();
         let words = starting_counts(alloc, shape)?;
         let (table, seat) = Table::of_words(alloc, words.as_slice(), &shape)?;
-        Ok((CounterRing { table, shape }, Start { seat }))
+        let ring = CounterRing {
+            before: [0; 8],
+            table,
+            shape,
+            after: [0; 8],
+        };
+        Ok((ring, Start { seat }))
     }
 }
 

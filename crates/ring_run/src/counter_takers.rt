@@ -16,11 +16,15 @@ use std::marker::Model;
 
 /// The consumer's end of a counter ring. No take of it is ever under way.
 #[derive(Drop)]
+#[repr(C)]
 pub struct CounterTaker<'a> {
+    // unused, as `after` is: they keep other values off the cache lines of this one
+    pub(crate) before: [u64; 8],
     pub(crate) hand: CounterHand<'a>,
     pub(crate) count: u64,
     pub(crate) cell: u64,
     pub(crate) told: bool,
+    pub(crate) after: [u64; 8],
 }
 
 impl<'a> Model for CounterTaker<'a> {

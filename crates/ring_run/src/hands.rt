@@ -128,9 +128,11 @@ impl<'a> Hand<'a> {
         }
     }
 
-    // The two loads of a read, and the answer by both. The oracle is asked at most once.
+    // The two loads of a read, and the answer by both. The oracle is asked at most once. The words are the hand's own,
+    // held by the caller, so that they lie at hand from one access to the next.
     #[inline(always)]
-    fn read<O: Oracle>(&mut self, bit: Bit, oracle: &mut O) -> bool
+    fn read<O: Oracle>(&mut self, ring: &Words<'a>, bit: Bit, oracle: &mut O) -> bool
+        requires ring { ring.now ≡ self.old.ring }
         requires bit { (belongs self.old.ring.shape bit ≡ true) × (self.old.side ≡ reader bit) }
         requires can { CanMake self.old (Read bit) }
         ensures made { HasMade self.old self.new (Read bit) result }
@@ -138,7 +140,6 @@ impl<'a> Hand<'a> {
     {
         laws_below();
         let side = self.side;
-        let ring = self.ring.again();
         let word = ring.word_of(bit);
         let first = ring.load_at::<Brand, ()>(&mut self.seat, word, bit, side, &());
         let again = ring.load_at::<Brand, O>(&mut self.seat, word, bit, side, oracle);
@@ -148,32 +149,33 @@ impl<'a> Hand<'a> {
 
     // The two stores of a write.
     #[inline(always)]
-    fn write(&mut self, bit: Bit, value: bool)
+    fn write(&mut self, ring: &Words<'a>, bit: Bit, value: bool)
+        requires ring { ring.now ≡ self.old.ring }
         requires bit { (belongs self.old.ring.shape bit ≡ true) × (self.old.side ≡ writer bit) }
         requires can { CanMake self.old (Write bit value) }
         ensures { HasMade self.old self.new (Write bit value) value }
     {
         laws_below();
         let side = self.side;
-        let ring = self.ring.again();
         let word = ring.word_of(bit);
         let new = word_of(value);
         ring.store_at::<Brand, bool>(&mut self.seat, word, bit, side, &value, 2);
         ring.store_at::<Brand, ()>(&mut self.seat, word, bit, side, &(), new);
     }
 
-    // The whole access, and the answer.
+    // The whole access, and the answer. The words are the hand's own.
     #[inline(always)]
-    pub fn make<O: Oracle>(&mut self, access: Access, oracle: &mut O) -> bool
+    pub fn make<O: Oracle>(&mut self, ring: &Words<'a>, access: Access, oracle: &mut O) -> bool
+        requires ring { ring.now ≡ self.old.ring }
         requires right { IsOpenRight self.old.ring.shape self.old.side access }
         requires can { CanMake self.old access }
         ensures made { HasMade self.old self.new access result }
         ensures oracle { IsAskedFor O.answers oracle.old oracle.new result }
     {
         match access {
-            Access::Read(bit) => self.read(bit, oracle),
+            Access::Read(bit) => self.read(ring, bit, oracle),
             Access::Write(bit, value) => {
-                self.write(bit, value);
+                self.write(ring, bit, value);
                 value
             }
         }

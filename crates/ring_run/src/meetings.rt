@@ -70,12 +70,16 @@ impl<A: Allocator> FlickerRing<A> {
         let (p, c) = first_cores(self.words(), self.words(), start);
         (
             Putter {
+                before: [0; 8],
                 core: p,
                 oracle: oracle_p,
+                after: [0; 8],
             },
             Taker {
+                before: [0; 8],
                 core: c,
                 oracle: oracle_c,
+                after: [0; 8],
             },
         )
     }
@@ -99,22 +103,30 @@ impl FlickerRing<Global> {
         ensures lawful { StandsAs P result.0.end × StandsAs C result.1.end }
     {
         let Putter {
+            before: _,
             core: p,
             oracle: oracle_p,
+            after: _,
         } = putter;
         let Taker {
+            before: _,
             core: c,
             oracle: oracle_c,
+            after: _,
         } = taker;
         let (p, c) = meet_cores(p, c);
         (
             Putter {
+                before: [0; 8],
                 core: p,
                 oracle: oracle_p,
+                after: [0; 8],
             },
             Taker {
+                before: [0; 8],
                 core: c,
                 oracle: oracle_c,
+                after: [0; 8],
             },
         )
     }
@@ -132,8 +144,18 @@ impl FlickerRing<Global> {
         ensures closed { ClosesAre putter.entry.end.ring.shape putter.entry.end.list result.closed }
         ensures told { TellsAre taker.entry.end.ring.shape taker.entry.end.list result.told }
     {
-        let Putter { core: p, oracle: _ } = putter;
-        let Taker { core: c, oracle: _ } = taker;
+        let Putter {
+            before: _,
+            core: p,
+            oracle: _,
+            after: _,
+        } = putter;
+        let Taker {
+            before: _,
+            core: c,
+            oracle: _,
+            after: _,
+        } = taker;
         finish_cores(p, c)
     }
 }

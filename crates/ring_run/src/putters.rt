@@ -12,7 +12,7 @@ ghost use Rattle.ring_core.specs.ProducerCalls.{ProducerStands, longest_of};
 ghost use Rattle.ring_run.specs.Hands.{Grows, IsAskedOnce, IsSameEnd, StandsAs};
 ghost use Rattle.bits_core.specs.declared.events.Side.TheVariants.{P};
 ghost use Rattle.ring_run.specs.Ends.{HasPut, HasPutAll, HasPutPart, HasClosed, whole_put, puts_whole};
-ghost use Rattle.ring_run.specs.Machines.{PutterAt, PutterOver, PutterReady, PutterStep, CallBegins};
+ghost use Rattle.ring_run.specs.Machines.{PutterAt, PutterIn, PutterOver, PutterReady, PutterStep, CallBegins};
 
 use crate::below::laws_below;
 use crate::hands::Hand;
@@ -48,9 +48,13 @@ impl<'a> Model for PutCore<'a> {
 /// To a contract it is its list of events, what it knows, and the call under way with the list where that began. They
 /// take no memory and wait for nobody.
 #[derive(Drop)]
+#[repr(C)]
 pub struct Putter<'a, O: Oracle + Drop> {
+    // unused, as `after` is: they keep other values off the cache lines of this one
+    pub(crate) before: [u64; 8],
     pub(crate) core: PutCore<'a>,
     pub(crate) oracle: O,
+    pub(crate) after: [u64; 8],
 }
 
 impl<'a, O: Oracle + Drop> Model for Putter<'a, O> {
@@ -80,6 +84,84 @@ fn advance<'a, O: Oracle>(hand: &mut Hand<'a>, machine: &mut Producer, oracle: &
     }
 }
 
+// The rest of the scan of the call under way, where one is.
+#[inline(always)]
+fn finish_scan<'a, O: Oracle>(hand: &mut Hand<'a>, machine: &mut Producer, oracle: &mut O)
+    requires goes { call_of machine.old ≢ None → (calls : Puts) × (c : Call) × PutterIn hand.old machine.old calls c }
+    ensures same { IsSameEnd hand.old hand.new }
+    ensures kind { machine.new.batched ≡ machine.old.batched }
+    ensures longer { length hand.old.list ≤ length hand.new.list }
+    ensures rests { call_of machine.old ≡ None → (machine.new ≡ machine.old) × (hand.new ≡ hand.old) }
+    ensures goes { (calls : Puts) (c : Call) → PutterIn hand.old machine.old calls c → PutterIn hand.new machine.new calls c }
+{
+    laws_below();
+    let Some(mut scan) = machine.scan() else {
+        return;
+    };
+    let ring = hand.ring.again();
+    'reads: loop {
+        let _expects = scan.expects_one();
+        let access = scan.next();
+        let answer = hand.make(&ring, access, oracle);
+        if answer {
+            machine.go_on_with_scan(scan);
+            machine.feed_scan(true);
+            return;
+        }
+        scan.zero();
+    }
+}
+
+// The rest of the word of the call under way, where one is written.
+#[inline(always)]
+fn write_word<'a, O: Oracle>(hand: &mut Hand<'a>, machine: &mut Producer, oracle: &mut O)
+    requires goes { call_of machine.old ≢ None → (calls : Puts) × (c : Call) × PutterIn hand.old machine.old calls c }
+    ensures same { IsSameEnd hand.old hand.new }
+    ensures kind { machine.new.batched ≡ machine.old.batched }
+    ensures longer { length hand.old.list ≤ length hand.new.list }
+    ensures rests { call_of machine.old ≡ None → (machine.new ≡ machine.old) × (hand.new ≡ hand.old) }
+    ensures goes { (calls : Puts) (c : Call) → PutterIn hand.old machine.old calls c → PutterIn hand.new machine.new calls c }
+{
+    laws_below();
+    let Some(mut word) = machine.word() else {
+        return;
+    };
+    let ring = hand.ring.again();
+    'writes: loop {
+        let last = word.is_last();
+        let access = word.next();
+        let answer = hand.make(&ring, access, oracle);
+        if last {
+            machine.go_on_with_word(word);
+            machine.feed_word(answer);
+            return;
+        }
+        word.feed(answer);
+    }
+}
+
+// The rest of the count of the call under way, where it is written.
+#[inline(always)]
+fn write_count<'a, O: Oracle>(hand: &mut Hand<'a>, machine: &mut Producer, oracle: &mut O)
+    requires goes { call_of machine.old ≢ None → (calls : Puts) × (c : Call) × PutterIn hand.old machine.old calls c }
+    ensures same { IsSameEnd hand.old hand.new }
+    ensures kind { machine.new.batched ≡ machine.old.batched }
+    ensures longer { length hand.old.list ≤ length hand.new.list }
+    ensures rests { call_of machine.old ≡ None → (machine.new ≡ machine.old) × (hand.new ≡ hand.old) }
+    ensures goes { (calls : Puts) (c : Call) → PutterIn hand.old machine.old calls c → PutterIn hand.new machine.new calls c }
+{
+    laws_below();
+    let ring = hand.ring.again();
+    'writes: while machine.is_counting() {
+        let Some(access) = machine.next() else {
+            return;
+        };
+        let _expects = machine.expects_one();
+        let answer = hand.make(&ring, access, oracle);
+        machine.feed_count(answer);
+    }
+}
+
 // The accesses of the call under way, to its end.
 #[inline(always)]
 fn finish<'a, O: Oracle>(hand: &mut Hand<'a>, machine: &mut Producer, oracle: &mut O)
@@ -90,9 +172,16 @@ fn finish<'a, O: Oracle>(hand: &mut Hand<'a>, machine: &mut Producer, oracle: &m
     ensures over { (calls : Puts) → PutterReady hand.old machine.old calls → (c : Call) → call_of machine.old ≡ Some c → PutterOver hand.new machine.new calls c }
 {
     laws_below();
-    'accesses: while let Some(access) = machine.next() {
+    'accesses: loop {
+        finish_scan(hand, machine, oracle);
+        write_word(hand, machine, oracle);
+        write_count(hand, machine, oracle);
+        let Some(access) = machine.next() else {
+            return;
+        };
         let _expects = machine.expects_one();
-        let answer = hand.make(access, oracle);
+        let ring = hand.ring.again();
+        let answer = hand.make(&ring, access, oracle);
         machine.feed(answer);
     }
 }

@@ -21,9 +21,13 @@ use std::marker::Model;
 ///
 /// To a contract a ring is its shape, and which ring it is.
 #[derive(Drop)]
+#[repr(C)]
 pub struct FlickerRing<A: Allocator> {
+    // unused, as `after` is: they keep other values off the cache lines of this one
+    before: [u64; 8],
     table: Table<(), View, Shape, Law, A>,
     shape: Shape,
+    after: [u64; 8],
 }
 
 impl<A: Allocator> Model for FlickerRing<A> {
@@ -67,7 +71,13 @@ impl<A: Allocator + Copy> FlickerRing<A> {
         laws_below();
         let words = starting_words(alloc, shape)?;
         let (table, seat) = Table::of_words(alloc, words.as_slice(), &shape)?;
-        Ok((FlickerRing { table, shape }, Start { seat }))
+        let ring = FlickerRing {
+            before: [0; 8],
+            table,
+            shape,
+            after: [0; 8],
+        };
+        Ok((ring, Start { seat }))
     }
 }
 

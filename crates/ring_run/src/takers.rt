@@ -10,7 +10,7 @@ ghost use Rattle.ring_core.specs.ConsumerCalls.{ConsumerStands};
 ghost use Rattle.ring_run.specs.Hands.{Grows, IsAskedOnce, IsSameEnd, StandsAs};
 ghost use Rattle.bits_core.specs.declared.events.Side.TheVariants.{C};
 ghost use Rattle.ring_run.specs.Ends.{HasTaken, HasTakePart, whole_take, takes_whole};
-ghost use Rattle.ring_run.specs.Machines.{TakerAt, TakerOver, TakerReady, TakerStep, TakeBegins};
+ghost use Rattle.ring_run.specs.Machines.{TakerAt, TakerIn, TakerOver, TakerReady, TakerStep, TakeBegins};
 
 use crate::below::laws_below;
 use crate::hands::Hand;
@@ -46,9 +46,13 @@ impl<'a> Model for TakeCore<'a> {
 /// To a contract it is its list of events, what it knows, and whether a take is under way with the list where that
 /// began. It takes no memory and waits for nobody.
 #[derive(Drop)]
+#[repr(C)]
 pub struct Taker<'a, O: Oracle + Drop> {
+    // unused, as `after` is: they keep other values off the cache lines of this one
+    pub(crate) before: [u64; 8],
     pub(crate) core: TakeCore<'a>,
     pub(crate) oracle: O,
+    pub(crate) after: [u64; 8],
 }
 
 impl<'a, O: Oracle + Drop> Model for Taker<'a, O> {
@@ -77,6 +81,81 @@ fn advance<'a, O: Oracle>(hand: &mut Hand<'a>, machine: &mut Consumer, oracle: &
     }
 }
 
+// The rest of a scan of the take under way, where one is.
+#[inline(always)]
+fn finish_scan<'a, O: Oracle>(hand: &mut Hand<'a>, machine: &mut Consumer, oracle: &mut O)
+    requires goes { is_taking machine.old ≡ true → (calls : Takes) × TakerIn hand.old machine.old calls }
+    ensures same { IsSameEnd hand.old hand.new }
+    ensures longer { length hand.old.list ≤ length hand.new.list }
+    ensures rests { is_taking machine.old ≡ false → (machine.new ≡ machine.old) × (hand.new ≡ hand.old) }
+    ensures goes { (calls : Takes) → TakerIn hand.old machine.old calls → TakerIn hand.new machine.new calls }
+{
+    laws_below();
+    let Some(mut scan) = machine.scan() else {
+        return;
+    };
+    let ring = hand.ring.again();
+    'reads: loop {
+        let _expects = scan.expects_one();
+        let access = scan.next();
+        let answer = hand.make(&ring, access, oracle);
+        if answer {
+            machine.go_on_with_scan(scan);
+            machine.feed(true);
+            return;
+        }
+        scan.zero();
+    }
+}
+
+// The rest of the word of the take under way, where one is read.
+#[inline(always)]
+fn read_word<'a, O: Oracle>(hand: &mut Hand<'a>, machine: &mut Consumer, oracle: &mut O)
+    requires goes { is_taking machine.old ≡ true → (calls : Takes) × TakerIn hand.old machine.old calls }
+    ensures same { IsSameEnd hand.old hand.new }
+    ensures longer { length hand.old.list ≤ length hand.new.list }
+    ensures rests { is_taking machine.old ≡ false → (machine.new ≡ machine.old) × (hand.new ≡ hand.old) }
+    ensures goes { (calls : Takes) → TakerIn hand.old machine.old calls → TakerIn hand.new machine.new calls }
+{
+    laws_below();
+    let Some(mut word) = machine.word() else {
+        return;
+    };
+    let ring = hand.ring.again();
+    'reads: loop {
+        let last = word.is_last();
+        let access = word.next();
+        let answer = hand.make(&ring, access, oracle);
+        if last {
+            machine.go_on_with_word(word);
+            machine.feed_word(answer);
+            return;
+        }
+        word.feed(answer);
+    }
+}
+
+// The rest of the count of the take under way, where it is written.
+#[inline(always)]
+fn write_count<'a, O: Oracle>(hand: &mut Hand<'a>, machine: &mut Consumer, oracle: &mut O)
+    requires goes { is_taking machine.old ≡ true → (calls : Takes) × TakerIn hand.old machine.old calls }
+    ensures same { IsSameEnd hand.old hand.new }
+    ensures longer { length hand.old.list ≤ length hand.new.list }
+    ensures rests { is_taking machine.old ≡ false → (machine.new ≡ machine.old) × (hand.new ≡ hand.old) }
+    ensures goes { (calls : Takes) → TakerIn hand.old machine.old calls → TakerIn hand.new machine.new calls }
+{
+    laws_below();
+    let ring = hand.ring.again();
+    'writes: while machine.is_counting() {
+        let Some(access) = machine.next() else {
+            return;
+        };
+        let _expects = machine.expects_one();
+        let answer = hand.make(&ring, access, oracle);
+        machine.feed_count(answer);
+    }
+}
+
 // The accesses of the take under way, to its end.
 #[inline(always)]
 fn finish<'a, O: Oracle>(hand: &mut Hand<'a>, machine: &mut Consumer, oracle: &mut O)
@@ -86,9 +165,16 @@ fn finish<'a, O: Oracle>(hand: &mut Hand<'a>, machine: &mut Consumer, oracle: &m
     ensures over { (calls : Takes) → TakerReady hand.old machine.old calls → is_taking machine.old ≡ true → TakerOver hand.new machine.new calls }
 {
     laws_below();
-    'accesses: while let Some(access) = machine.next() {
+    'accesses: loop {
+        finish_scan(hand, machine, oracle);
+        read_word(hand, machine, oracle);
+        write_count(hand, machine, oracle);
+        let Some(access) = machine.next() else {
+            return;
+        };
         let _expects = machine.expects_one();
-        let answer = hand.make(access, oracle);
+        let ring = hand.ring.again();
+        let answer = hand.make(&ring, access, oracle);
         machine.feed(answer);
     }
 }

@@ -1,4 +1,4 @@
-use Rattle.std.proofs.Common.{◌≡◌, ℕ, suc, ◌+◌, ◌%◌, [], ◌∷◌, ◌++◌, ap, ◌∙◌, subst}
+use Rattle.std.proofs.Common.{◌≡◌, ℕ, suc, ◌%◌, [], ◌∷◌, ◌++◌, ap, ◌∙◌, subst}
 use Rattle.bits_core.specs.Shape.{modulus_of}
 use Rattle.register_core.specs.UnaryState.{UnaryState, UnaryStands}
 use Rattle.ring_core.specs.declared.consumers.Stage.TheVariants.{Loading}

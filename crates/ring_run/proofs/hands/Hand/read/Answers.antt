@@ -18,10 +18,11 @@ use Rattle.ring_run.proofs.hands.Hand.read.Goals as goal
 pub load_at-first-requires-clause-rule : goal.load_at-first-requires-clause-rule
 load_at-first-requires-clause-rule g c =
     let h = c.self.inside in
+    let ring_is = subst (λ (e : RingEnd). c.args.ring.now ≡ e.ring) (sym c.self.view_is) c.requires.ring in
     let is = sym c.self.view_is in
     let b = c.args.bit in
     let can = subst (λ (e : RingEnd). CanMake e (Read b)) is c.requires.can in
-    subst (λ (r : Ring). (slots : ℕ) → Allows (Kept r.shape) slots h.seat.id h.seat.me (word_place r.shape b) (λ n. n) (Added r.shape (λ _. event h.side b ReadBegin) h.seat.me)) (sym c.again-ring.ensures)
+    subst (λ (r : Ring). (slots : ℕ) → Allows (Kept r.shape) slots h.seat.id h.seat.me (word_place r.shape b) (λ n. n) (Added r.shape (λ _. event h.side b ReadBegin) h.seat.me)) (sym ring_is)
     (λ slots. begins_read c.laws_below.ensures h.ring.shape h.side b slots h.seat.id h.seat.me c.self.invariant.2 c.self.invariant.3
     (subst (λ (e : RingEnd). belongs e.ring.shape b ≡ true) is c.requires.bit.0)
     (subst (λ (e : RingEnd). e.side ≡ reader b) is c.requires.bit.1)
@@ -30,6 +31,7 @@ load_at-first-requires-clause-rule g c =
 pub load_at-again-requires-clause-rule : goal.load_at-again-requires-clause-rule
 load_at-again-requires-clause-rule g c =
     let h = c.self.inside in
+    let ring_is = subst (λ (e : RingEnd). c.args.ring.now ≡ e.ring) (sym c.self.view_is) c.requires.ring in
     let is = sym c.self.view_is in
     let b = c.args.bit in
     let can = subst (λ (e : RingEnd). CanMake e (Read b)) is c.requires.can in
@@ -37,7 +39,7 @@ load_at-again-requires-clause-rule g c =
     let seat = c.load_at-first.new.seat in
     let view = c.load_at-first.ensures.added.view in
     let said = g.O.Oracle.answers c.args.oracle.now 0 in
-    subst (λ (r : Ring). (slots : ℕ) → Allows (Kept r.shape) slots seat.id seat.me (word_place r.shape b) (λ n. n) (Added r.shape (λ n. event h.side b (ReadEnd (answer_of seat.me.0.first n said))) seat.me)) (sym c.again-ring.ensures)
+    subst (λ (r : Ring). (slots : ℕ) → Allows (Kept r.shape) slots seat.id seat.me (word_place r.shape b) (λ n. n) (Added r.shape (λ n. event h.side b (ReadEnd (answer_of seat.me.0.first n said))) seat.me)) (sym ring_is)
     (λ slots. ends_read c.laws_below.ensures h.ring.shape h.side b slots seat.id seat.me
     (may_still h.side b ReadBegin first h.seat.me.0 seat.me.0 view h.side true c.self.invariant.2)
     (may_still h.side b ReadBegin first h.seat.me.0 seat.me.0 view (other h.side) false c.self.invariant.3)
@@ -68,10 +70,11 @@ invariant_of-self g c =
 pub returns-clause-made : goal.returns-clause-made
 returns-clause-made g c =
     let h = c.self.inside in
+    let ring_is = subst (λ (e : RingEnd). c.args.ring.now ≡ e.ring) (sym c.self.view_is) c.requires.ring in
     let one = c.load_at-first in
     let two = c.load_at-again in
     let said = g.O.Oracle.answers c.args.oracle.now 0 in
-    let added_one = subst (λ (r : Ring). Added r.shape (λ _. event h.side c.args.bit ReadBegin) h.seat.me one.result one.new.seat.me) c.again-ring.ensures one.ensures.added in
-    let added_two = subst (λ (r : Ring). Added r.shape (λ n. event h.side c.args.bit (ReadEnd (answer_of one.new.seat.me.0.first n said))) one.new.seat.me two.result two.new.seat.me) c.again-ring.ensures two.ensures.added in
+    let added_one = subst (λ (r : Ring). Added r.shape (λ _. event h.side c.args.bit ReadBegin) h.seat.me one.result one.new.seat.me) ring_is one.ensures.added in
+    let added_two = subst (λ (r : Ring). Added r.shape (λ n. event h.side c.args.bit (ReadEnd (answer_of one.new.seat.me.0.first n said))) one.new.seat.me two.result two.new.seat.me) ring_is two.ensures.added in
     subst (λ (e : RingEnd). HasMade e (end_at h.ring h.side two.new.seat.me.0) (Read c.args.bit) c.answer.result) c.self.view_is
     (made_read h.ring h.side c.args.bit h.seat.me one.new.seat.me two.new.seat.me one.result two.result said c.answer.result added_one added_two c.answer.ensures.answer)

@@ -18,11 +18,12 @@ use Rattle.ring_run.proofs.hands.Hand.write.Goals as goal
 pub store_at-requires-clause-rule : goal.store_at-requires-clause-rule
 store_at-requires-clause-rule c =
     let h = c.self.inside in
+    let ring_is = subst (λ (e : RingEnd). c.args.ring.now ≡ e.ring) (sym c.self.view_is) c.requires.ring in
     let is = sym c.self.view_is in
     let b = c.args.bit in
     let v = c.args.value in
     let can = subst (λ (e : RingEnd). CanMake e (Write b v)) is c.requires.can in
-    subst (λ (r : Ring). (slots : ℕ) → Allows (Kept r.shape) slots h.seat.id h.seat.me (word_place r.shape b) (λ _. 2) (λ _. Added r.shape (λ _. event h.side b (WriteBegin v)) h.seat.me 2)) (sym c.again-ring.ensures)
+    subst (λ (r : Ring). (slots : ℕ) → Allows (Kept r.shape) slots h.seat.id h.seat.me (word_place r.shape b) (λ _. 2) (λ _. Added r.shape (λ _. event h.side b (WriteBegin v)) h.seat.me 2)) (sym ring_is)
     (λ slots. begins_write c.laws_below.ensures h.ring.shape h.side b slots h.seat.id h.seat.me c.self.invariant.2 c.self.invariant.3
     (subst (λ (e : RingEnd). belongs e.ring.shape b ≡ true) is c.requires.bit.0)
     (subst (λ (e : RingEnd). e.side ≡ writer b) is c.requires.bit.1)
@@ -31,6 +32,7 @@ store_at-requires-clause-rule c =
 pub store_at-requires-2-clause-rule : goal.store_at-requires-2-clause-rule
 store_at-requires-2-clause-rule c =
     let h = c.self.inside in
+    let ring_is = subst (λ (e : RingEnd). c.args.ring.now ≡ e.ring) (sym c.self.view_is) c.requires.ring in
     let is = sym c.self.view_is in
     let b = c.args.bit in
     let v = c.args.value in
@@ -39,7 +41,7 @@ store_at-requires-2-clause-rule c =
     let seat = c.store_at.new.seat in
     let view = c.store_at.ensures.added.view in
     let new = c.word_of-new.result in
-    subst (λ (r : Ring). (slots : ℕ) → Allows (Kept r.shape) slots seat.id seat.me (word_place r.shape b) (λ _. new) (λ _. Added r.shape (λ _. event h.side b WriteEnd) seat.me new)) (sym c.again-ring.ensures)
+    subst (λ (r : Ring). (slots : ℕ) → Allows (Kept r.shape) slots seat.id seat.me (word_place r.shape b) (λ _. new) (λ _. Added r.shape (λ _. event h.side b WriteEnd) seat.me new)) (sym ring_is)
     (λ slots. subst (λ (n : ℕ). Allows (Kept shape) slots seat.id seat.me (word_place shape b) (λ _. n) (λ _. Added shape (λ _. event h.side b WriteEnd) seat.me n)) (sym c.word_of-new.ensures)
     (ends_write c.laws_below.ensures shape h.side b slots seat.id seat.me
     (may_still h.side b (WriteBegin v) 2 h.seat.me.0 seat.me.0 view h.side true c.self.invariant.2)
@@ -72,9 +74,10 @@ invariant_of-self c =
 pub returns : goal.returns
 returns c =
     let h = c.self.inside in
+    let ring_is = subst (λ (e : RingEnd). c.args.ring.now ≡ e.ring) (sym c.self.view_is) c.requires.ring in
     let one = c.store_at in
     let two = c.store_at-2 in
-    let added_one = subst (λ (r : Ring). Added r.shape (λ _. event h.side c.args.bit (WriteBegin c.args.value)) h.seat.me 2 one.new.seat.me) c.again-ring.ensures one.ensures.added in
-    let added_two = subst (λ (r : Ring). Added r.shape (λ _. event h.side c.args.bit WriteEnd) one.new.seat.me c.word_of-new.result two.new.seat.me) c.again-ring.ensures two.ensures.added in
+    let added_one = subst (λ (r : Ring). Added r.shape (λ _. event h.side c.args.bit (WriteBegin c.args.value)) h.seat.me 2 one.new.seat.me) ring_is one.ensures.added in
+    let added_two = subst (λ (r : Ring). Added r.shape (λ _. event h.side c.args.bit WriteEnd) one.new.seat.me c.word_of-new.result two.new.seat.me) ring_is two.ensures.added in
     subst (λ (e : RingEnd). HasMade e (end_at h.ring h.side two.new.seat.me.0) (Write c.args.bit c.args.value) c.args.value) c.self.view_is
     (made_write h.ring h.side c.args.bit h.seat.me one.new.seat.me two.new.seat.me c.args.value 2 c.word_of-new.result added_one added_two)
