@@ -1,5 +1,5 @@
 -- Each step keeps the rule of the ring.
-use Rattle.std.proofs.Common.{◌≡◌, ◌≢◌, ℕ, zero, suc, ◌+◌, ◌<◌, Bool, true, false, true≢false, ◌⊎◌, List, [], ◌∷◌, ◌++◌, replicate, length, get_or, set, slice_index, Some, None, sym, refl, ap, ◌∙◌, subst, inl, inr, ⊎_elim, append_assoc, append-nil, length-set, get_or-set_same, get_or-set_other}
+use Rattle.std.proofs.Common.{◌≡◌, ◌≢◌, ℕ, zero, suc, ◌<◌, Bool, true, false, true≢false, ◌⊎◌, List, [], ◌∷◌, ◌++◌, replicate, length, get_or, set, slice_index, Some, None, sym, refl, ap, ◌∙◌, subst, inl, inr, ⊎_elim, append_assoc, append-nil, length-set, get_or-set_same, get_or-set_other}
 use Rattle.std.specs.Prelude.{if◌then◌else◌}
 use Rattle.std.proofs.lemmas.List.{length-replicate}
 use mathlib.Core.Option.{some, some-injective, some-ne-none}
@@ -23,7 +23,8 @@ use Rattle.bits_core.specs.Steps.{MayFollow}
 use Rattle.bits_core.specs.Made.{own, IsBeginning}
 use Rattle.ring_core.specs.Takes.{Takes, FollowsTakes}
 use Rattle.ring_run.specs.declared.views.View.{View}
-use Rattle.ring_run.specs.Words.{digit, shown, answer_of, word_place, word_count, first_words, Shows}
+use Rattle.ring_run.specs.declared.layout.TheConstants.{FIRST_S}
+use Rattle.ring_run.specs.Words.{digit, shown, answer_of, first_r, word_place, word_count, first_words, Shows}
 use Rattle.ring_run.specs.Programs.{Follows, IsRing, GoesOn}
 use Rattle.ring_run.specs.Rule.{event, joint, spent, putter_of, taker_of, joined, may_step, list_of, kept_load, and_event, IsIdle, FirstLoad, Fits, FitsAll, KeptBy, Kept, Added, Learned}
 use Rattle.ring_run.specs.Below.{LawsBelow}
@@ -426,7 +427,7 @@ opens laws shape = record {
   known = [];
   owner = λ _. 0;
   ring = ring_empty laws shape;
-  wide = length-set (set (replicate (word_count shape) 0) 1 1) (1 + Rattle.bits_core.specs.Shape.modulus_of shape) 1 ∙ (length-set (replicate (word_count shape) 0) 1 1 ∙ length-replicate (word_count shape) 0);
+  wide = length-set (set (replicate (word_count shape) 0) FIRST_S 1) (first_r shape) 1 ∙ (length-set (replicate (word_count shape) 0) FIRST_S 1 ∙ length-replicate (word_count shape) 0);
   shows = shows_first shape;
   begins = ([], refl);
   seats = first_seat;

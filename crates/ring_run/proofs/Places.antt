@@ -10,7 +10,8 @@ use Rattle.bits_core.specs.declared.events.Bit.TheVariants.{S, R, X, Cell}
 use Rattle.bits_core.specs.declared.shapes.Shape.{Shape}
 use Rattle.bits_core.specs.Shape.{belongs, capacity_of, modulus_of, width_of}
 use Rattle.bits_core.specs.Bits.{same_bit}
-use Rattle.ring_run.specs.Words.{word_place, word_count, first_words, Shows, shown, digit}
+use Rattle.ring_run.specs.declared.layout.TheConstants.{FIRST_S}
+use Rattle.ring_run.specs.Words.{word_place, word_count, cell_words, first_r, first_words, Shows, shown, digit}
 
 below : (a b : ℕ) → nat_lt a b ≡ true → a < b
 below a b e = grind (arith, nat_tests)
@@ -30,6 +31,10 @@ one_cell w j k i l h h' e = go (dec_lt j k) (dec_lt k j)
     go (yes a) b = let up = higher w j k i l h a in absurd (omega arith)
     go (no a) (yes b) = let up = higher w k j l i h' b in absurd (omega arith)
     go (no a) (no b) = let same : j ≡ k = omega arith in let rows : j * w ≡ k * w = ap (λ (n : ℕ). n * w) same in (same, omega arith)
+
+-- a cell's digits lie before the next cell
+in_cell : (shape : Shape) (i : ℕ) → nat_lt i (width_of shape) ≡ true → i < cell_words shape
+in_cell shape i h = let lt = below i (width_of shape) h in omega arith
 
 -- two bits of the shape are one bit, or have two words
 abbrev OneOrApart : Shape → Bit → Bit → Type 0
@@ -61,8 +66,8 @@ one_or_apart shape X X hb hc = inl refl
 one_or_apart shape (Cell j i) (Cell k l) hb hc =
     let b = and_parts (nat_lt j (capacity_of shape)) (nat_lt i (width_of shape)) hb in
     let c = and_parts (nat_lt k (capacity_of shape)) (nat_lt l (width_of shape)) hc in
-    ⊎_elim (λ same. inl same) (λ (t : (((k == j) && (l == i)) ≡ false) × (k * width_of shape + l ≢ j * width_of shape + i)). inr (t.0, λ e. t.1 (let e' : word_place shape (Cell k l) ≡ word_place shape (Cell j i) = e in omega arith)))
-    (cells_apart (width_of shape) j k i l (below i (width_of shape) b.1) (below l (width_of shape) c.1) (k == j) (l == i) refl refl)
+    ⊎_elim (λ same. inl same) (λ (t : (((k == j) && (l == i)) ≡ false) × (k * cell_words shape + l ≢ j * cell_words shape + i)). inr (t.0, λ e. t.1 (let e' : word_place shape (Cell k l) ≡ word_place shape (Cell j i) = e in omega arith)))
+    (cells_apart (cell_words shape) j k i l (in_cell shape i b.1) (in_cell shape l c.1) (k == j) (l == i) refl refl)
 one_or_apart shape (Cell j i) (S k) hb hc = let lt = below k (modulus_of shape) hc in inr (refl, λ same. omega arith)
 one_or_apart shape (Cell j i) (R k) hb hc = let lt = below k (modulus_of shape) hc in inr (refl, λ same. omega arith)
 one_or_apart shape (Cell j i) X hb hc = inr (refl, λ same. omega arith)
@@ -76,7 +81,7 @@ place_below shape (R i) h = let lt = below i (modulus_of shape) h in omega arith
 place_below shape X h = omega arith
 place_below shape (Cell j i) h =
     let both = and_parts (nat_lt j (capacity_of shape)) (nat_lt i (width_of shape)) h in
-    omega (arith, higher (width_of shape) j (capacity_of shape) i 0 (below i (width_of shape) both.1) (below j (capacity_of shape) both.0))
+    omega (arith, higher (cell_words shape) j (capacity_of shape) i 0 (in_cell shape i both.1) (below j (capacity_of shape) both.0))
 
 -- the words before any step
 pub shows_first : (shape : Shape) → Shows shape (first_words shape) []
@@ -88,29 +93,32 @@ shows_first shape b has = go b has
     count : ℕ
     count = word_count shape
 
+    r : ℕ
+    r = first_r shape
+
     zeros : List ℕ
     zeros = replicate count 0
 
     ones : List ℕ
-    ones = set zeros 1 1
+    ones = set zeros FIRST_S 1
 
     two : 2 < modulus_of shape
     two = omega (arith, shape.has_cells, shape.room_to_count)
 
-    untouched : (j : ℕ) → j < count → j ≢ 1 → j ≢ 1 + m → get_or (set ones (1 + m) 1) j 0 ≡ 0
-    untouched j lt a c = get_or-set_other ones (1 + m) j 1 0 c ∙ (get_or-set_other zeros 1 j 1 0 a ∙ get_or-replicate count j 0 0 lt)
+    untouched : (j : ℕ) → j < count → j ≢ FIRST_S → j ≢ r → get_or (set ones r 1) j 0 ≡ 0
+    untouched j lt a c = get_or-set_other ones r j 1 0 c ∙ (get_or-set_other zeros FIRST_S j 1 0 a ∙ get_or-replicate count j 0 0 lt)
 
-    s_word : (i : ℕ) → i < m → (t : Bool) → (i == 0) ≡ t → get_or (set ones (1 + m) 1) (1 + i) 0 ≡ digit t
+    s_word : (i : ℕ) → i < m → (t : Bool) → (i == 0) ≡ t → get_or (set ones r 1) (FIRST_S + i) 0 ≡ digit t
     s_word i lt true e = let z : i ≡ 0 = eqb-true i 0 e in
-        get_or-set_other ones (1 + m) (1 + i) 1 0 (λ same. omega arith) ∙ get_or-set_at zeros 1 (1 + i) 1 0 (omega arith) (subst (λ (k : ℕ). 1 < k) (sym (length-replicate count 0)) (omega arith))
-    s_word i lt false e = let z : i ≢ 0 = λ is. true≢false (sym (eq-eqb i 0 is) ∙ e) in untouched (1 + i) (omega arith) (λ same. z (omega arith)) (λ same. omega arith)
+        get_or-set_other ones r (FIRST_S + i) 1 0 (λ same. omega arith) ∙ get_or-set_at zeros FIRST_S (FIRST_S + i) 1 0 (omega arith) (subst (λ (k : ℕ). FIRST_S < k) (sym (length-replicate count 0)) (omega arith))
+    s_word i lt false e = let z : i ≢ 0 = λ is. true≢false (sym (eq-eqb i 0 is) ∙ e) in untouched (FIRST_S + i) (omega arith) (λ same. z (omega arith)) (λ same. omega arith)
 
-    r_word : (i : ℕ) → i < m → (t : Bool) → (i == 0) ≡ t → get_or (set ones (1 + m) 1) (1 + m + i) 0 ≡ digit t
+    r_word : (i : ℕ) → i < m → (t : Bool) → (i == 0) ≡ t → get_or (set ones r 1) (r + i) 0 ≡ digit t
     r_word i lt true e = let z : i ≡ 0 = eqb-true i 0 e in
-        get_or-set_at ones (1 + m) (1 + m + i) 1 0 (omega arith) (subst (λ (k : ℕ). 1 + m < k) (sym (length-set zeros 1 1 ∙ length-replicate count 0)) (omega arith))
-    r_word i lt false e = let z : i ≢ 0 = λ is. true≢false (sym (eq-eqb i 0 is) ∙ e) in untouched (1 + m + i) (omega arith) (λ same. omega arith) (λ same. z (omega arith))
+        get_or-set_at ones r (r + i) 1 0 (omega arith) (subst (λ (k : ℕ). r < k) (sym (length-set zeros FIRST_S 1 ∙ length-replicate count 0)) (omega arith))
+    r_word i lt false e = let z : i ≢ 0 = λ is. true≢false (sym (eq-eqb i 0 is) ∙ e) in untouched (r + i) (omega arith) (λ same. omega arith) (λ same. z (omega arith))
 
-    go : (b : Bit) → belongs shape b ≡ true → get_or (set ones (1 + m) 1) (word_place shape b) 0 ≡ shown b []
+    go : (b : Bit) → belongs shape b ≡ true → get_or (set ones r 1) (word_place shape b) 0 ≡ shown b []
     go (S i) has = s_word i (below i m has) (i == 0) refl
     go (R i) has = r_word i (below i m has) (i == 0) refl
     go X has = untouched 0 (omega arith) (λ same. omega arith) (λ same. omega arith)

@@ -7,6 +7,7 @@ use Rattle.bits_core.specs.declared.events.Bit.TheVariants.{S, R, X, Cell}
 use Rattle.bits_core.specs.declared.events.Event.{Event}
 use Rattle.bits_core.specs.Shape.{belongs, capacity_of, modulus_of, width_of}
 use Rattle.bits_core.specs.History.{open_write, held}
+use Rattle.ring_run.specs.declared.layout.TheConstants.{APART, FIRST_S}
 
 abbrev pub no_shape : Shape
 no_shape = record {
@@ -38,19 +39,31 @@ word_shown (Some w) v = 2
 abbrev pub shown : Bit → List Event → ℕ
 shown b h = word_shown (open_write b h) (held b h)
 
+-- Where the words of each count begin, and those of the cells; and from where a cell's words begin to where those of the next
+-- one do. So many words that no bit has lie between them that no two of the close bit, the counts and the cells share a cache
+-- line, or a pair of lines that a processor fetches together.
+abbrev pub first_r : Shape → ℕ
+first_r shape = FIRST_S + modulus_of shape + APART
+
+abbrev pub first_cell : Shape → ℕ
+first_cell shape = first_r shape + modulus_of shape + APART
+
+abbrev pub cell_words : Shape → ℕ
+cell_words shape = width_of shape + APART
+
 -- the place of a bit's word
 abbrev pub word_place : Shape → Bit → ℕ
 word_place shape X = 0
-word_place shape (S i) = 1 + i
-word_place shape (R i) = 1 + modulus_of shape + i
-word_place shape (Cell j i) = 1 + modulus_of shape + modulus_of shape + (j * width_of shape + i)
+word_place shape (S i) = FIRST_S + i
+word_place shape (R i) = first_r shape + i
+word_place shape (Cell j i) = first_cell shape + (j * cell_words shape + i)
 
 abbrev pub word_count : Shape → ℕ
-word_count shape = 1 + modulus_of shape + modulus_of shape + capacity_of shape * width_of shape
+word_count shape = first_cell shape + capacity_of shape * cell_words shape
 
 -- the words before any step
 abbrev pub first_words : Shape → List ℕ
-first_words shape = slice_set (slice_set (replicate (word_count shape) 0) 1 1) (1 + modulus_of shape) 1
+first_words shape = slice_set (slice_set (replicate (word_count shape) 0) FIRST_S 1) (first_r shape) 1
 
 -- the words show the history
 abbrev pub Shows : Shape → List ℕ → List Event → Type 0

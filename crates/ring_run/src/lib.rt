@@ -17,6 +17,7 @@ mod faults;
 mod gates;
 mod hands;
 pub mod laws;
+mod layout;
 mod meetings;
 mod putters;
 mod relays;

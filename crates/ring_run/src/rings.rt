@@ -5,6 +5,7 @@ ghost use Rattle.ring_run.specs.Words.{first_words};
 
 use crate::below::laws_below;
 use crate::faults::RunFault;
+use crate::layout::{FIRST_S, first_r, word_count};
 use crate::views::{Law, View};
 use crate::words::Words;
 use atomic_table::{Seat, Table};
@@ -64,7 +65,8 @@ impl Model for Start {
 
 impl<A: Allocator + Copy> FlickerRing<A> {
     /// A ring of this shape with nothing put, and the right to make its ends. It takes memory for one word for each
-    /// bit. `OutOfMemory` is answered only where the allocator refused that.
+    /// bit, and for 16 words behind the close bit, each count and each cell, which keep these apart. `OutOfMemory` is
+    /// answered only where the allocator refused that.
     pub fn new(alloc: A, shape: Shape) -> Result<(FlickerRing<A>, Start), RunFault>
         ensures { IfOk result (λ r. (r.0.shape ≡ shape) × (r.1 ≡ r.0.id)) }
     {
@@ -101,10 +103,8 @@ impl<A: Allocator> FlickerRing<A> {
 fn starting_words<A: Allocator>(alloc: A, shape: Shape) -> Result<Vec<u64, A>, AllocError>
     ensures { IfOk result (λ v. v.items ≡ first_words shape) }
 {
-    let m = shape.modulus() as usize;
-    let cells = shape.capacity() as usize * shape.width() as usize;
-    let mut words = vec![in alloc; 0u64; 1 + m + m + cells]?;
-    words[1] = 1;
-    words[1 + m] = 1;
+    let mut words = vec![in alloc; 0u64; word_count(&shape)]?;
+    words[FIRST_S] = 1;
+    words[first_r(&shape)] = 1;
     Ok(words)
 }

@@ -7,6 +7,7 @@ ghost use Rattle.ring_run.specs.Rule.{Kept, Added, Learned, Holds, IsIdle, joint
 ghost use Rattle.ring_run.specs.Words.{word_place};
 
 use crate::below::laws_below;
+use crate::layout::place_of;
 use crate::views::{Adds, Both, Cut, Law, Learns, Note, View};
 use atomic_table::{Seat, Shared};
 use bits_core::{Bit, Shape, Side};
@@ -66,15 +67,7 @@ impl<'a> Words<'a> {
         requires { belongs self.now.shape bit ≡ true }
         ensures { result ≡ word_place self.now.shape bit }
     {
-        match bit {
-            Bit::X => 0,
-            Bit::S(i) => 1 + i as usize,
-            Bit::R(i) => 1 + self.shape.modulus() as usize + i as usize,
-            Bit::Cell(j, i) => {
-                let m = self.shape.modulus() as usize;
-                1 + m + m + (j as usize * self.shape.width() as usize + i as usize)
-            }
-        }
+        place_of(&self.shape, bit)
     }
 
     // A load. `side` and `about` are for the proof.
