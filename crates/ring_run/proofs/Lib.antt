@@ -20,7 +20,6 @@ pub mod PutterWhole
 pub mod Relayed
 pub mod RelayLemmas
 pub mod Rights
-pub mod Sent
 pub mod Steps
 pub mod TakerCalls
 pub mod TakerMoves

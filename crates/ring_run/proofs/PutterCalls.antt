@@ -1,26 +1,28 @@
 -- A step call of the producer's end.
-use Rattle.std.proofs.Common.{◌≡◌, cond, ◌≢◌, ◌⊎◌, inl, inr, ⊎_elim, ℕ, ◌+◌, ◌*◌, ◌≤◌, Bool, true, false, true≢false, Option, Some, None, List, [], ◌∷◌, ◌++◌, length, refl, ap, sym, subst, ◌∙◌, arith}
+use Rattle.std.proofs.Common.{◌≡◌, cond, ◌≢◌, ◌⊎◌, inl, inr, ⊎_elim, ℕ, ◌+◌, ◌-◌, ◌*◌, ◌<◌, ◌≤◌, Bool, true, false, true≢false, Option, Some, None, List, [], ◌∷◌, ◌++◌, length, take, refl, ap, sym, subst, ◌∙◌, arith, mul-le-mul_right}
 use Rattle.std.specs.Prelude.{IfSome, IfNone, is_some, not}
+use Rattle.std.proofs.lemmas.List.{length-append, length-take-le, take-append-le, take_all}
 use Rattle.bits_core.specs.declared.events.Side.{Side}
 use Rattle.bits_core.specs.declared.events.Side.TheVariants.{P}
 use Rattle.bits_core.specs.declared.events.Access.{Access}
 use Rattle.bits_core.specs.declared.events.Event.{Event}
 use Rattle.bits_core.specs.declared.shapes.Shape.{Shape}
 use Rattle.bits_core.specs.Made.{Made, events_of}
+use Rattle.bits_core.specs.Shape.{width_of}
 use Rattle.ring_core.specs.declared.producers.Stage.{Stage}
 use Rattle.ring_core.specs.declared.producers.Stage.TheVariants.{Idle, Scanning, Storing, Counting, Closing}
 use Rattle.ring_core.specs.declared.producers.PutReply as items_replies
 use Rattle.ring_core.specs.declared.producers.PutReply.TheVariants as item_reply_is
 use Rattle.ring_core.specs.declared.producers.BatchReply as replies
 use Rattle.ring_core.specs.declared.producers.BatchReply.TheVariants as reply
-use Rattle.ring_core.specs.Puts.{Put, Puts, put_program}
+use Rattle.ring_core.specs.Puts.{IsBatch, Put, Puts, put_program}
 use Rattle.ring_core.specs.ProducerState as producer
 use Rattle.ring_core.specs.ProducerState.{ProducerState, Call, Close, due_put, call_of, call_at, due_at}
-use Rattle.ring_core.specs.ProducerCalls.{ProducerStands, MadeAt, HasCallMore, IsAfter, IsReply, longest, reply_to, last_reply, and_put}
+use Rattle.ring_core.specs.ProducerCalls.{ProducerStands, longest_of, MadeAt, HasCallMore, IsAfter, IsReply, longest, reply_to, last_reply, and_put}
 use Rattle.ring_run.specs.Ring.{RingEnd}
 use Rattle.ring_run.specs.Hands.{Grows, IsSameEnd}
 use Rattle.ring_run.specs.Ends.{HasPuts, HasPut, HasPutAll, HasPutPart, HasClosed, PutAdds, CloseAdds, PutterState, whole_put, puts_whole}
-use Rattle.ring_run.specs.Machines.{ListIs, PutterAt, PutterStep, IsPutter, CallBegins, IsRefused}
+use Rattle.ring_run.specs.Machines.{ListIs, IsMarked, PutterAt, PutterStep, IsPutter, CallBegins, IsRefused, before_last, longest_at}
 use Rattle.ring_run.proofs.PutterMoves.{call_are}
 
 -- ---- at rest
@@ -49,6 +51,44 @@ pub rest_list : (e : RingEnd) (m : ProducerState) (calls : Puts) (made : List Ma
 rest_list e m calls made at none =
     let r = rest m calls made at.stands none in
     list_rests P e.list made (due_put m) at.list_is r.1 ∙ ap (events_of P) r.0 ∙ ap (λ (s : Shape). events_of P (put_program s calls)) at.shape_is
+
+-- ---- how many events of a call there are
+
+-- the list without its last events, and how many it has
+pub before_more : (n : ℕ) (list : List Event) (x : Event) → n ≤ length list → before_last (n + 1) (list ++ x ∷ []) ≡ before_last n list
+before_more n list x few =
+    let size : length (list ++ x ∷ []) - (n + 1) ≡ length list - n = omega (arith, length-append list (x ∷ []), few) in
+    ap (λ (k : ℕ). take k (list ++ x ∷ [])) size ∙ take-append-le (length list - n) list (x ∷ []) (omega arith)
+
+pub before_none : (n : ℕ) (list : List Event) → n ≡ 0 → list ≡ before_last n list
+before_none n list none = sym (take_all (length list - n) list (omega (arith, none)))
+
+pub before_size : (n : ℕ) (list : List Event) → n ≤ length list → length (before_last n list) + n ≡ length list
+before_size n list few = omega (arith, length-take-le (length list - n) list (omega arith), few)
+
+pub whole_marked : (o : Option Call) (shape : Shape) (n : ℕ) (list : List Event) → IsMarked n list (longest_at shape o) → before_last n list ≡ whole_put o list (before_last n list)
+whole_marked (Some c) shape n list marked = refl
+whole_marked None shape n list marked = sym (before_none n list (omega (arith, marked.1)))
+
+-- no call has many
+pub few_accesses : (shape : Shape) (items : List ℕ) → IsBatch shape items → longest_of shape items ≤ 4608
+few_accesses shape [] batch = omega (arith, shape.small_modulus, shape.few_digits)
+few_accesses shape (item ∷ []) batch = omega (arith, shape.small_modulus, shape.few_digits)
+few_accesses shape (item ∷ next ∷ items) batch =
+    let few : length (item ∷ next ∷ items) ≤ 64 = omega (arith, batch.few, shape.small_batch, shape.few_cells) in
+    omega (arith, shape.small_modulus, shape.few_digits, mul-le-mul_right (width_of shape) few)
+
+pub few_marked : (shape : Shape) (o : Option Call) (c : Call) (n : ℕ) (list : List Event) → IsMarked n list (longest_at shape o) → (o ≡ None) ⊎ (o ≡ Some c) → longest shape c ≤ 4608 → n < 10000
+few_marked shape o c n list marked here few = ⊎_elim
+    (λ none. let most : longest_at shape o ≡ 0 = ap (longest_at shape) none in omega (arith, marked.1, most))
+    (λ is. let most : longest_at shape o ≡ longest shape c = ap (longest_at shape) is in omega (arith, marked.1, most, few))
+    here
+
+-- where no call is under way none is marked, whatever the list
+pub rest_marked : (l l' : List Event) (shape shape' : Shape) (n : ℕ) (o o' : Option Call) → o ≡ None → IsMarked n l (longest_at shape o) → IsMarked n l' (longest_at shape' o')
+rest_marked l l' shape shape' n o o' none marked =
+    let z : n ≡ 0 = (let most : longest_at shape o ≡ 0 = ap (longest_at shape) none in omega (arith, marked.1, most)) in
+    (omega (arith, z), omega (arith, z))
 
 -- ---- what a step call comes to
 
@@ -252,6 +292,32 @@ module _ (s : PutterState) (m : ProducerState) (start : List Event) (calls : Put
 
   pub step_few : length e'.list ≤ length (puts_whole s) + 2 * longest e'.ring.shape c
   step_few = subst (λ (l : List Event). length e'.list ≤ length l + 2 * longest e'.ring.shape c) w (few s.end m calls made at c m1 begins e' m' rests steps start start_is)
+
+  -- the events of the call that goes on are one more
+  module _ (n n' : ℕ) (n_is : start ≡ before_last n s.end.list) (marked : n ≤ length s.end.list) (over : call_of m' ≡ None → n' ≡ 0) (on : call_of m' ≢ None → n' ≡ n + 1) where
+    abbrev Moves : Type 0
+    Moves = (whole_put (call_of m') e'.list start ≡ whole_put (call_of m') e'.list (before_last n' e'.list)) × IsMarked n' e'.list (longest_at m'.shape (call_of m'))
+
+    at_rest : call_of m' ≡ None → Moves
+    at_rest none = let z : n' ≡ 0 = over none in
+        (ap (λ (o : Option Call). whole_put o e'.list start) none ∙ sym (ap (λ (o : Option Call). whole_put o e'.list (before_last n' e'.list)) none), (omega (arith, z), omega (arith, z)))
+
+    moves : Outcome s.end e' m' calls c → Moves
+    moves (Refused same none closes refused list) = at_rest none
+    moves (Over event grows none more is_more has made stands) = at_rest none
+    moves (Goes event grows goes part _ _ stands) =
+        let more_is : n' ≡ n + 1 = on (λ none. none-some c (sym none ∙ goes)) in
+        let mark : start ≡ before_last n' e'.list = n_is ∙ (sym (before_more n s.end.list event marked) ∙ (λ i. before_last (sym more_is i) (sym grows.list i))) in
+        let most : longest_at m'.shape (call_of m') ≡ longest e'.ring.shape c = (λ i. longest_at (step_putter.at.shape_is i) (goes i)) in
+        let size : length start + n ≡ length s.end.list = ap (λ (l : List Event). length l + n) n_is ∙ before_size n s.end.list marked in
+        let size' : length e'.list ≡ length s.end.list + 1 = ap length grows.list ∙ length-append s.end.list (event ∷ []) in
+        let few' : length e'.list ≤ length start + 2 * longest e'.ring.shape c = few s.end m calls made at c m1 begins e' m' rests steps start start_is in (
+          ap (λ (o : Option Call). whole_put o e'.list start) goes ∙ mark ∙ sym (ap (λ (o : Option Call). whole_put o e'.list (before_last n' e'.list)) goes),
+          (omega (arith, more_is, size', marked), omega (arith, more_is, size', size, few', most)),
+        )
+
+    pub step_marked : Moves
+    step_marked = moves out
 
   replied : (more : Puts) (made : List Made) → ProducerStands m' more made → IsReply more (call_of m') m'.reply
   replied more made st = st.reply_is

@@ -1,6 +1,7 @@
 -- A step call of the consumer's end.
 use Rattle.std.proofs.Common.{◌≡◌, ◌⊎◌, inl, inr, ⊎_elim, ℕ, ◌+◌, ◌*◌, ◌≤◌, Bool, true, false, true≢false, Option, Some, None, List, [], ◌∷◌, ◌++◌, length, refl, ap, sym, subst, ◌∙◌, arith}
 use Rattle.std.specs.Prelude.{IfSome, IfNone}
+use Rattle.std.proofs.lemmas.List.{length-append}
 use Rattle.bits_core.specs.declared.events.Side.TheVariants.{C}
 use Rattle.bits_core.specs.declared.events.Event.{Event}
 use Rattle.bits_core.specs.declared.shapes.Shape.{Shape}
@@ -16,8 +17,8 @@ use Rattle.ring_core.specs.ConsumerCalls.{ConsumerStands, MadeAt, HasTakeMore, I
 use Rattle.ring_run.specs.Ring.{RingEnd}
 use Rattle.ring_run.specs.Hands.{Grows, IsSameEnd}
 use Rattle.ring_run.specs.Ends.{HasTakes, HasTaken, HasTakePart, TakeAdds, TakerState, whole_take, takes_whole}
-use Rattle.ring_run.proofs.PutterCalls.{list_rests}
-use Rattle.ring_run.specs.Machines.{ListIs, TakerAt, TakerStep, IsTaker, TakeBegins}
+use Rattle.ring_run.proofs.PutterCalls.{list_rests, before_more, before_none, before_size}
+use Rattle.ring_run.specs.Machines.{ListIs, IsMarked, TakerAt, TakerStep, IsTaker, TakeBegins, before_last, longest_taking}
 
 -- ---- at rest
 
@@ -40,6 +41,16 @@ pub rest_list : (e : RingEnd) (m : ConsumerState) (calls : Takes) (made : List M
 rest_list e m calls made at none =
     let r = rest m calls made at.stands none in
     list_rests C e.list made (due_take m) at.list_is r.1 ∙ ap (events_of C) r.0 ∙ ap (λ (s : Shape). events_of C (take_program s calls)) at.shape_is
+
+pub whole_marked : (o : Bool) (shape : Shape) (n : ℕ) (list : List Event) → IsMarked n list (longest_taking shape o) → before_last n list ≡ whole_take o list (before_last n list)
+whole_marked true shape n list marked = refl
+whole_marked false shape n list marked = sym (before_none n list (omega (arith, marked.1)))
+
+-- where no take is under way none is marked, whatever the list
+pub rest_marked : (l l' : List Event) (shape shape' : Shape) (n : ℕ) (o o' : Bool) → o ≡ false → IsMarked n l (longest_taking shape o) → IsMarked n l' (longest_taking shape' o')
+rest_marked l l' shape shape' n o o' none marked =
+    let z : n ≡ 0 = (let most : longest_taking shape o ≡ 0 = ap (longest_taking shape) none in omega (arith, marked.1, most)) in
+    (omega (arith, z), omega (arith, z))
 
 -- ---- what a step call comes to
 
@@ -194,6 +205,32 @@ module _ (s : TakerState) (m : ConsumerState) (start : List Event) (calls : Take
 
   pub step_few : length e'.list ≤ length (takes_whole s) + 2 * longest_take e'.ring.shape
   step_few = subst (λ (l : List Event). length e'.list ≤ length l + 2 * longest_take e'.ring.shape) w (few s.end m calls made at m1 begins e' m' rests steps start start_is)
+
+  -- the events of the take that goes on are one more
+  module _ (n n' : ℕ) (n_is : start ≡ before_last n s.end.list) (marked : n ≤ length s.end.list) (over : is_taking m' ≡ false → n' ≡ 0) (on : is_taking m' ≡ true → n' ≡ n + 1) where
+    abbrev Moves : Type 0
+    Moves = (whole_take (is_taking m') e'.list start ≡ whole_take (is_taking m') e'.list (before_last n' e'.list)) × IsMarked n' e'.list (longest_taking m'.shape (is_taking m'))
+
+    at_rest : is_taking m' ≡ false → Moves
+    at_rest none = let z : n' ≡ 0 = over none in
+        (ap (λ (o : Bool). whole_take o e'.list start) none ∙ sym (ap (λ (o : Bool). whole_take o e'.list (before_last n' e'.list)) none), (omega (arith, z), omega (arith, z)))
+
+    moves : Outcome s.end e' m' calls → Moves
+    moves (Refused same none closes refused list) = at_rest none
+    moves (Over event grows none more is_more has made stands) = at_rest none
+    moves (Goes event grows goes part _ _ stands) =
+        let more_is : n' ≡ n + 1 = on goes in
+        let mark : start ≡ before_last n' e'.list = n_is ∙ (sym (before_more n s.end.list event marked) ∙ (λ i. before_last (sym more_is i) (sym grows.list i))) in
+        let most : longest_taking m'.shape (is_taking m') ≡ longest_take e'.ring.shape = (λ i. longest_taking (step_taker.at.shape_is i) (goes i)) in
+        let size : length start + n ≡ length s.end.list = ap (λ (l : List Event). length l + n) n_is ∙ before_size n s.end.list marked in
+        let size' : length e'.list ≡ length s.end.list + 1 = ap length grows.list ∙ length-append s.end.list (event ∷ []) in
+        let few' : length e'.list ≤ length start + 2 * longest_take e'.ring.shape = few s.end m calls made at m1 begins e' m' rests steps start start_is in (
+          ap (λ (o : Bool). whole_take o e'.list start) goes ∙ mark ∙ sym (ap (λ (o : Bool). whole_take o e'.list (before_last n' e'.list)) goes),
+          (omega (arith, more_is, size', marked), omega (arith, more_is, size', size, few', most)),
+        )
+
+    pub step_marked : Moves
+    step_marked = moves out
 
   module _ (r : Option replies.TakeReply) (r_is : r ≡ m'.reply) (replied : (more : Takes) (made : List Made) → ConsumerStands m' more made → IsReply more (is_taking m') r) where
     pub take_one : ((r ≡ Some reply.Closed) × (e' ≡ s.end)) ⊎ ((x : Event) × Grows s.end e' x)

@@ -1,5 +1,5 @@
 -- The machines of the two ends beside their lists.
-use Rattle.std.specs.Prelude.{◌≡◌, ◌⊎◌, ℕ, Bool, ◌+◌, ◌*◌, ◌<◌, true, false, Option, Some, None, List, [], ◌∷◌, ◌++◌, length}
+use Rattle.std.specs.Prelude.{◌≡◌, ◌⊎◌, ℕ, Bool, ◌+◌, ◌-◌, ◌*◌, ◌<◌, ◌≤◌, true, false, Option, Some, None, List, [], ◌∷◌, ◌++◌, length, take}
 use Rattle.bits_core.specs.declared.shapes.Shape.{Shape}
 use Rattle.bits_core.specs.declared.events.Side.{Side}
 use Rattle.bits_core.specs.declared.events.Side.TheVariants.{P, C}
@@ -24,6 +24,14 @@ use Rattle.ring_run.specs.Ends.{HasPutPart, HasTakePart}
 -- the events of accesses, and perhaps the begin of the one that is due
 abbrev pub ListIs : Side → List Event → List Made → Option Access → Type 0
 ListIs x list made due = (list ≡ events_of x made) ⊎ ((access : Access) × (due ≡ Some access) × (list ≡ events_of x made ++ begin_of x access ∷ []))
+
+-- the list without its last n events
+abbrev pub before_last : ℕ → List Event → List Event
+before_last n list = take (length list - n) list
+
+-- the last n events of the list are of a call that has so many accesses at most
+abbrev pub IsMarked : ℕ → List Event → ℕ → Type 0
+IsMarked n list most = (n ≤ length list) × (n ≤ 2 * most)
 
 -- ---- the producer
 
@@ -130,6 +138,11 @@ pub record TakerStep (a : RingEnd) (m : ConsumerState) (b : RingEnd) (m' : Consu
   pub after : takes.IsAfter m.shape (is_taking m) (is_taking m') calls more
   pub within : length b.list < 2 * (length (take_program m.shape calls) + longest_take m.shape) + 1
   pub part : is_taking m' ≡ true → HasTakePart b.ring.shape (events_of C (take_program m.shape calls)) b.list
+
+-- the most accesses of the take under way, if one is
+abbrev pub longest_taking : Shape → Bool → ℕ
+longest_taking shape false = 0
+longest_taking shape true = longest_take shape
 
 -- no access of the take under way, if there is one, was made yet
 pub record TakerReady (e : RingEnd) (m : ConsumerState) (calls : Takes) : Type 0 where

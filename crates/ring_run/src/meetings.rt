@@ -17,7 +17,6 @@ use bits_core::{Oracle, Side};
 use ring_core::{Consumer, Producer, TakeReply};
 use std::alloc::{Allocator, Global};
 use std::marker::Model;
-use std::snapshot::Snapshot;
 
 /// A ring whose run is over: its ends are gone. To a contract it is one lawful history, whether a close stands in it,
 /// and whether a take was told that the ring is closed.
@@ -168,18 +167,16 @@ fn first_cores<'a>(ring: Words<'a>, same: Words<'a>, start: Start) -> (PutCore<'
 {
     let shape = ring.shape();
     let (p, c) = first_hands(ring, same, start);
-    let start_p = Snapshot::of(&p);
-    let start_c = Snapshot::of(&c);
     (
         PutCore {
             hand: p,
             machine: Producer::new(shape),
-            start: start_p,
+            steps: 0,
         },
         TakeCore {
             hand: c,
             machine: Consumer::new(shape),
-            start: start_c,
+            steps: 0,
         },
     )
 }
@@ -197,24 +194,24 @@ fn meet_cores<'a>(putter: PutCore<'a>, taker: TakeCore<'a>) -> (PutCore<'a>, Tak
     let PutCore {
         hand: p,
         machine: producer,
-        start: start_p,
+        steps: steps_p,
     } = putter;
     let TakeCore {
         hand: c,
         machine: consumer,
-        start: start_c,
+        steps: steps_c,
     } = taker;
     let (p, c) = meet_hands(p, c);
     (
         PutCore {
             hand: p,
             machine: producer,
-            start: start_p,
+            steps: steps_p,
         },
         TakeCore {
             hand: c,
             machine: consumer,
-            start: start_c,
+            steps: steps_c,
         },
     )
 }
@@ -230,12 +227,12 @@ fn finish_cores<'a>(putter: PutCore<'a>, taker: TakeCore<'a>) -> Finished
     let PutCore {
         hand: p,
         machine: producer,
-        start: _,
+        steps: _,
     } = putter;
     let TakeCore {
         hand: c,
         machine: consumer,
-        start: _,
+        steps: _,
     } = taker;
     let closed = producer.is_closed();
     let told = is_closed_reply(consumer.reply());

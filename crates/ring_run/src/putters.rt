@@ -19,27 +19,26 @@ use crate::hands::Hand;
 use bits_core::{Oracle, Shape};
 use ring_core::{BatchReply, Producer, PutReply};
 use std::marker::Model;
-use std::snapshot::Snapshot;
 
 // The producer's end but for its oracle.
 #[derive(Drop)]
 pub struct PutCore<'a> {
     pub(crate) hand: Hand<'a>,
     pub(crate) machine: Producer,
-    // the hand as the call under way began
-    pub(crate) start: Snapshot<Hand<'a>>,
+    // how many events of the call under way the list has, and 0 where none is under way
+    pub(crate) steps: u64,
 }
 
 impl<'a> Model for PutCore<'a> {
     ghost use Rattle.ring_core.specs.ProducerState.{call_of};
     ghost use Rattle.ring_run.specs.Ends.{PutterState, whole_put};
-    ghost use Rattle.ring_run.specs.Machines.{IsPutter};
+    ghost use Rattle.ring_run.specs.Machines.{IsMarked, IsPutter, before_last, longest_at};
 
     ghost Value = { PutterState };
 
-    ghost view = { λ p. record { end = p.hand; call = call_of p.machine; batched = p.machine.batched; start = p.start.value.list } };
+    ghost view = { λ p. record { end = p.hand; call = call_of p.machine; batched = p.machine.batched; start = before_last p.steps p.hand.list } };
 
-    ghost invariant = { λ p. IsPutter p.hand p.machine (whole_put (call_of p.machine) p.hand.list p.start.value.list) };
+    ghost invariant = { λ p. IsPutter p.hand p.machine (whole_put (call_of p.machine) p.hand.list (before_last p.steps p.hand.list)) × IsMarked p.steps p.hand.list (longest_at p.machine.shape (call_of p.machine)) };
 }
 
 /// The producer's end of a ring. Its calls `put`, `put_all` and `close` are those of [`PutEnd`](crate::PutEnd); the step
@@ -186,13 +185,17 @@ fn finish<'a, O: Oracle>(hand: &mut Hand<'a>, machine: &mut Producer, oracle: &m
     }
 }
 
-// Keeps the hand where no call is under way.
-fn mark_start<'a>(start: &mut Snapshot<Hand<'a>>, hand: &Hand<'a>, machine: &Producer)
+// How many events of the call under way the list has behind one step more.
+fn steps_behind(steps: u64, machine: &Producer) -> u64
     requires stands { (calls : Puts) × (made : List Made) × ProducerStands machine.now calls made }
-    ensures { start.new.value.list ≡ whole_put (call_of machine.now) hand.now.list start.old.value.list }
+    requires few { steps < 10000 }
+    ensures rests { call_of machine.now ≡ None → result ≡ 0 }
+    ensures goes { call_of machine.now ≢ None → result ≡ steps + 1 }
 {
     if machine.next().is_none() {
-        *start = Snapshot::of(hand);
+        0
+    } else {
+        steps + 1
     }
 }
 
@@ -257,9 +260,9 @@ impl<'a> PutCore<'a> {
         ensures oracle { IsAskedOnce O.answers oracle.old oracle.new }
     {
         laws_below();
-        mark_start(&mut self.start, &self.hand, &self.machine);
         begin_put(&mut self.machine, item);
         advance(&mut self.hand, &mut self.machine, oracle);
+        self.steps = steps_behind(self.steps, &self.machine);
         self.machine.reply()
     }
 
@@ -277,9 +280,9 @@ impl<'a> PutCore<'a> {
         ensures oracle { IsAskedOnce O.answers oracle.old oracle.new }
     {
         laws_below();
-        mark_start(&mut self.start, &self.hand, &self.machine);
         begin_put_all(&mut self.machine, items);
         advance(&mut self.hand, &mut self.machine, oracle);
+        self.steps = steps_behind(self.steps, &self.machine);
         self.machine.batch_reply()
     }
 
@@ -296,9 +299,9 @@ impl<'a> PutCore<'a> {
         ensures oracle { IsAskedOnce O.answers oracle.old oracle.new }
     {
         laws_below();
-        mark_start(&mut self.start, &self.hand, &self.machine);
         begin_close(&mut self.machine);
         advance(&mut self.hand, &mut self.machine, oracle);
+        self.steps = steps_behind(self.steps, &self.machine);
         self.machine.next().is_none()
     }
 }

@@ -17,27 +17,26 @@ use crate::hands::Hand;
 use bits_core::{Oracle, Shape};
 use ring_core::{Consumer, TakeReply};
 use std::marker::Model;
-use std::snapshot::Snapshot;
 
 // The consumer's end but for its oracle.
 #[derive(Drop)]
 pub struct TakeCore<'a> {
     pub(crate) hand: Hand<'a>,
     pub(crate) machine: Consumer,
-    // the hand as the take under way began
-    pub(crate) start: Snapshot<Hand<'a>>,
+    // how many events of the take under way the list has, and 0 where none is under way
+    pub(crate) steps: u64,
 }
 
 impl<'a> Model for TakeCore<'a> {
     ghost use Rattle.ring_core.specs.ConsumerState.{is_taking};
     ghost use Rattle.ring_run.specs.Ends.{TakerState, whole_take};
-    ghost use Rattle.ring_run.specs.Machines.{IsTaker};
+    ghost use Rattle.ring_run.specs.Machines.{IsMarked, IsTaker, before_last, longest_taking};
 
     ghost Value = { TakerState };
 
-    ghost view = { λ p. record { end = p.hand; taking = is_taking p.machine; start = p.start.value.list } };
+    ghost view = { λ p. record { end = p.hand; taking = is_taking p.machine; start = before_last p.steps p.hand.list } };
 
-    ghost invariant = { λ p. IsTaker p.hand p.machine (whole_take (is_taking p.machine) p.hand.list p.start.value.list) };
+    ghost invariant = { λ p. IsTaker p.hand p.machine (whole_take (is_taking p.machine) p.hand.list (before_last p.steps p.hand.list)) × IsMarked p.steps p.hand.list (longest_taking p.machine.shape (is_taking p.machine)) };
 }
 
 /// The consumer's end of a ring. Its call `take` is that of [`TakeEnd`](crate::TakeEnd); the step call here makes one
@@ -179,13 +178,17 @@ fn finish<'a, O: Oracle>(hand: &mut Hand<'a>, machine: &mut Consumer, oracle: &m
     }
 }
 
-// Keeps the hand where no take is under way.
-fn mark_start<'a>(start: &mut Snapshot<Hand<'a>>, hand: &Hand<'a>, machine: &Consumer)
+// How many events of the take under way the list has behind one step more.
+fn steps_behind(steps: u64, machine: &Consumer) -> u64
     requires stands { (calls : Takes) × (made : List Made) × ConsumerStands machine.now calls made }
-    ensures { start.new.value.list ≡ whole_take (is_taking machine.now) hand.now.list start.old.value.list }
+    requires few { steps < 10000 }
+    ensures rests { is_taking machine.now ≡ false → result ≡ 0 }
+    ensures goes { is_taking machine.now ≡ true → result ≡ steps + 1 }
 {
     if machine.next().is_none() {
-        *start = Snapshot::of(hand);
+        0
+    } else {
+        steps + 1
     }
 }
 
@@ -221,9 +224,9 @@ impl<'a> TakeCore<'a> {
         ensures oracle { IsAskedOnce O.answers oracle.old oracle.new }
     {
         laws_below();
-        mark_start(&mut self.start, &self.hand, &self.machine);
         begin_take(&mut self.machine);
         advance(&mut self.hand, &mut self.machine, oracle);
+        self.steps = steps_behind(self.steps, &self.machine);
         self.machine.reply()
     }
 }

@@ -1,18 +1,7 @@
-use mir.Syntax.{named}
-use denote.Exit as exit
-use denote.Param.{param}
-use denote.Param.Send.{param_send, arg_send}
 use Rattle.std.proofs.Common.{◌≡◌, ap, ◌∙◌, sym}
 use Rattle.ring_run.specs.Ring.{Ring}
-use Rattle.ring_run.proofs.Sent.{putter_send, taker_send}
 use Rattle.ring_run.proofs.Relayed.{relayed, none_past}
 use Rattle.ring_run.proofs.relays.relay_ends.Goals as goal
-
-pub relay_into-outcome-requires-send-E : goal.relay_into-outcome-requires-send-E
-relay_into-outcome-requires-send-E g c κs within = param_send 2 _ (arg_send _ exit.no _ (putter_send (record { mir = named 0; lft = _ }) (param 2 g.row.O1) g.O1.Oracle c.type_bounds.send-O1))
-
-pub relay_into-outcome-requires-send-F : goal.relay_into-outcome-requires-send-F
-relay_into-outcome-requires-send-F g c κs within = param_send 3 _ (arg_send _ exit.no _ (taker_send (record { mir = named 0; lft = _ }) (param 3 g.row.O2) g.O2.Oracle c.type_bounds.send-O2))
 
 pub unreachable-requires : goal.unreachable-requires
 unreachable-requires g c =

@@ -2,13 +2,15 @@ use Rattle.std.proofs.Common.{◌≡◌, None, [], ◌∷◌, refl, ap, sym, sub
 use Rattle.ring_core.specs.ProducerState.{Put, call_of}
 use Rattle.ring_run.specs.Ends.{PutterState, HasPut, HasPutAll}
 use Rattle.ring_run.specs.Hands.{IsSameEnd}
+use Rattle.ring_run.specs.Machines.{before_last}
+use Rattle.ring_run.proofs.PutterCalls.{rest_marked}
 use Rattle.ring_run.proofs.PutterWhole.{ready, idle_after, is_putter, lawful_after, item_told, put_ended, some_item}
 use Rattle.ring_run.proofs.putters.PutCore.put.Goals as goal
 
 pub finish-requires : goal.finish-requires
 finish-requires g c =
     let p = c.self.inside in
-    let i = c.self.invariant in
+    let i = c.self.invariant.0 in
     let idle : call_of p.machine ≡ None = ap (λ (s : PutterState). s.call) c.self.view_is ∙ c.requires.idle in
     let begins = c.begin_put.ensures.begins i.calls i.made i.at.stands in
     record { ready = (i.calls, ready p.hand p.machine i.calls i.made i.at idle (Put (c.args.item ∷ [])) c.begin_put.new.machine begins) }
@@ -16,15 +18,16 @@ finish-requires g c =
 pub invariant_of-self : goal.invariant_of-self
 invariant_of-self g c =
     let p = c.self.inside in
-    let i = c.self.invariant in
+    let i = c.self.invariant.0 in
     let idle : call_of p.machine ≡ None = ap (λ (s : PutterState). s.call) c.self.view_is ∙ c.requires.idle in
     let begins = c.begin_put.ensures.begins i.calls i.made i.at.stands in
-    is_putter p.hand p.machine i.calls i.made i.at idle (Put (c.args.item ∷ [])) c.begin_put.new.machine begins c.finish.new.hand c.finish.new.machine c.finish.ensures.same c.finish.ensures.rests (c.finish.ensures.over i.calls) p.start.value.list
+    let e = c.finish.new.hand in
+    (is_putter p.hand p.machine i.calls i.made i.at idle (Put (c.args.item ∷ [])) c.begin_put.new.machine begins c.finish.new.hand c.finish.new.machine c.finish.ensures.same c.finish.ensures.rests (c.finish.ensures.over i.calls) (before_last p.steps e.list), rest_marked p.hand.list e.list p.machine.shape c.finish.new.machine.shape p.steps (call_of p.machine) (call_of c.finish.new.machine) idle c.self.invariant.1)
 
 pub unreachable-requires : goal.unreachable-requires
 unreachable-requires g c =
     let p = c.self.inside in
-    let i = c.self.invariant in
+    let i = c.self.invariant.0 in
     let idle : call_of p.machine ≡ None = ap (λ (s : PutterState). s.call) c.self.view_is ∙ c.requires.idle in
     let begins = c.begin_put.ensures.begins i.calls i.made i.at.stands in
     let (x, is, has) = item_told c.finish.new.machine (HasPutAll c.finish.new.hand.ring.shape (c.args.item ∷ []) p.hand.list c.finish.new.hand.list) (put_ended p.hand p.machine i.calls i.made i.at idle (Put (c.args.item ∷ [])) c.begin_put.new.machine begins c.finish.new.hand c.finish.new.machine c.finish.ensures.same c.finish.ensures.rests (c.finish.ensures.over i.calls) (c.args.item ∷ []) refl) (c.finish.ensures.kind ∙ c.begin_put.ensures.kind) c.reply.result c.reply.ensures.state in
@@ -33,7 +36,7 @@ unreachable-requires g c =
 pub returns-clause-same : goal.returns-clause-same
 returns-clause-same g c =
     let p = c.self.inside in
-    let i = c.self.invariant in
+    let i = c.self.invariant.0 in
     let idle : call_of p.machine ≡ None = ap (λ (s : PutterState). s.call) c.self.view_is ∙ c.requires.idle in
     let begins = c.begin_put.ensures.begins i.calls i.made i.at.stands in
     subst (λ (s : PutterState). IsSameEnd s.end c.finish.new.hand) c.self.view_is c.finish.ensures.same
@@ -41,7 +44,7 @@ returns-clause-same g c =
 pub returns-clause-lawful : goal.returns-clause-lawful
 returns-clause-lawful g c =
     let p = c.self.inside in
-    let i = c.self.invariant in
+    let i = c.self.invariant.0 in
     let idle : call_of p.machine ≡ None = ap (λ (s : PutterState). s.call) c.self.view_is ∙ c.requires.idle in
     let begins = c.begin_put.ensures.begins i.calls i.made i.at.stands in
     lawful_after p.hand p.machine i.calls i.made i.at idle (Put (c.args.item ∷ [])) c.begin_put.new.machine begins c.finish.new.hand c.finish.new.machine c.finish.ensures.same c.finish.ensures.rests (c.finish.ensures.over i.calls)
@@ -49,7 +52,7 @@ returns-clause-lawful g c =
 pub returns-clause-idle : goal.returns-clause-idle
 returns-clause-idle g c =
     let p = c.self.inside in
-    let i = c.self.invariant in
+    let i = c.self.invariant.0 in
     let idle : call_of p.machine ≡ None = ap (λ (s : PutterState). s.call) c.self.view_is ∙ c.requires.idle in
     let begins = c.begin_put.ensures.begins i.calls i.made i.at.stands in
     idle_after p.hand p.machine i.calls i.made i.at idle (Put (c.args.item ∷ [])) c.begin_put.new.machine begins c.finish.new.hand c.finish.new.machine c.finish.ensures.same c.finish.ensures.rests (c.finish.ensures.over i.calls)
@@ -57,7 +60,7 @@ returns-clause-idle g c =
 pub returns-clause-phrase : goal.returns-clause-phrase
 returns-clause-phrase g c =
     let p = c.self.inside in
-    let i = c.self.invariant in
+    let i = c.self.invariant.0 in
     let idle : call_of p.machine ≡ None = ap (λ (s : PutterState). s.call) c.self.view_is ∙ c.requires.idle in
     let begins = c.begin_put.ensures.begins i.calls i.made i.at.stands in
     let (x, is, has) = item_told c.finish.new.machine (HasPutAll c.finish.new.hand.ring.shape (c.args.item ∷ []) p.hand.list c.finish.new.hand.list) (put_ended p.hand p.machine i.calls i.made i.at idle (Put (c.args.item ∷ [])) c.begin_put.new.machine begins c.finish.new.hand c.finish.new.machine c.finish.ensures.same c.finish.ensures.rests (c.finish.ensures.over i.calls) (c.args.item ∷ []) refl) (c.finish.ensures.kind ∙ c.begin_put.ensures.kind) c.reply.result c.reply.ensures.state in

@@ -3,13 +3,15 @@ use Rattle.ring_core.specs.ConsumerState.{is_taking}
 use Rattle.ring_run.specs.Ends.{TakerState, HasTaken}
 use Rattle.ring_run.specs.Hands.{IsSameEnd}
 use Rattle.ring_run.proofs.PutterWhole.{told_so}
+use Rattle.ring_run.specs.Machines.{before_last}
+use Rattle.ring_run.proofs.TakerCalls.{rest_marked}
 use Rattle.ring_run.proofs.TakerWhole.{ready, idle_after, is_taker, lawful_after, some_reply, take_ended}
 use Rattle.ring_run.proofs.takers.TakeCore.take.Goals as goal
 
 pub finish-requires : goal.finish-requires
 finish-requires g c =
     let p = c.self.inside in
-    let i = c.self.invariant in
+    let i = c.self.invariant.0 in
     let idle : is_taking p.machine ≡ false = ap (λ (s : TakerState). s.taking) c.self.view_is ∙ c.requires.idle in
     let begins = c.begin_take.ensures.begins i.calls i.made i.at.stands in
     record { ready = (i.calls, ready p.hand p.machine i.calls i.made i.at idle c.begin_take.new.machine begins) }
@@ -17,15 +19,16 @@ finish-requires g c =
 pub invariant_of-self : goal.invariant_of-self
 invariant_of-self g c =
     let p = c.self.inside in
-    let i = c.self.invariant in
+    let i = c.self.invariant.0 in
     let idle : is_taking p.machine ≡ false = ap (λ (s : TakerState). s.taking) c.self.view_is ∙ c.requires.idle in
     let begins = c.begin_take.ensures.begins i.calls i.made i.at.stands in
-    is_taker p.hand p.machine i.calls i.made i.at idle c.begin_take.new.machine begins c.finish.new.hand c.finish.new.machine c.finish.ensures.same c.finish.ensures.rests (c.finish.ensures.over i.calls) p.start.value.list
+    let e = c.finish.new.hand in
+    (is_taker p.hand p.machine i.calls i.made i.at idle c.begin_take.new.machine begins c.finish.new.hand c.finish.new.machine c.finish.ensures.same c.finish.ensures.rests (c.finish.ensures.over i.calls) (before_last p.steps e.list), rest_marked p.hand.list e.list p.machine.shape c.finish.new.machine.shape p.steps (is_taking p.machine) (is_taking c.finish.new.machine) idle c.self.invariant.1)
 
 pub unreachable-requires : goal.unreachable-requires
 unreachable-requires g c =
     let p = c.self.inside in
-    let i = c.self.invariant in
+    let i = c.self.invariant.0 in
     let idle : is_taking p.machine ≡ false = ap (λ (s : TakerState). s.taking) c.self.view_is ∙ c.requires.idle in
     let begins = c.begin_take.ensures.begins i.calls i.made i.at.stands in
     let (x, is, has) = take_ended p.hand p.machine i.calls i.made i.at idle c.begin_take.new.machine begins c.finish.new.hand c.finish.new.machine c.finish.ensures.same c.finish.ensures.rests (c.finish.ensures.over i.calls) in
@@ -34,7 +37,7 @@ unreachable-requires g c =
 pub returns-clause-same : goal.returns-clause-same
 returns-clause-same g c =
     let p = c.self.inside in
-    let i = c.self.invariant in
+    let i = c.self.invariant.0 in
     let idle : is_taking p.machine ≡ false = ap (λ (s : TakerState). s.taking) c.self.view_is ∙ c.requires.idle in
     let begins = c.begin_take.ensures.begins i.calls i.made i.at.stands in
     subst (λ (s : TakerState). IsSameEnd s.end c.finish.new.hand) c.self.view_is c.finish.ensures.same
@@ -42,7 +45,7 @@ returns-clause-same g c =
 pub returns-clause-lawful : goal.returns-clause-lawful
 returns-clause-lawful g c =
     let p = c.self.inside in
-    let i = c.self.invariant in
+    let i = c.self.invariant.0 in
     let idle : is_taking p.machine ≡ false = ap (λ (s : TakerState). s.taking) c.self.view_is ∙ c.requires.idle in
     let begins = c.begin_take.ensures.begins i.calls i.made i.at.stands in
     lawful_after p.hand p.machine i.calls i.made i.at idle c.begin_take.new.machine begins c.finish.new.hand c.finish.new.machine c.finish.ensures.same c.finish.ensures.rests (c.finish.ensures.over i.calls)
@@ -50,7 +53,7 @@ returns-clause-lawful g c =
 pub returns-clause-idle : goal.returns-clause-idle
 returns-clause-idle g c =
     let p = c.self.inside in
-    let i = c.self.invariant in
+    let i = c.self.invariant.0 in
     let idle : is_taking p.machine ≡ false = ap (λ (s : TakerState). s.taking) c.self.view_is ∙ c.requires.idle in
     let begins = c.begin_take.ensures.begins i.calls i.made i.at.stands in
     idle_after p.hand p.machine i.calls i.made i.at idle c.begin_take.new.machine begins c.finish.new.hand c.finish.new.machine c.finish.ensures.same c.finish.ensures.rests (c.finish.ensures.over i.calls)
@@ -58,7 +61,7 @@ returns-clause-idle g c =
 pub returns-clause-phrase : goal.returns-clause-phrase
 returns-clause-phrase g c =
     let p = c.self.inside in
-    let i = c.self.invariant in
+    let i = c.self.invariant.0 in
     let idle : is_taking p.machine ≡ false = ap (λ (s : TakerState). s.taking) c.self.view_is ∙ c.requires.idle in
     let begins = c.begin_take.ensures.begins i.calls i.made i.at.stands in
     subst (λ (s : TakerState). HasTaken c.finish.new.hand.ring.shape s.end.list c.finish.new.hand.list c.in-Some.reply) c.self.view_is
