@@ -9,9 +9,10 @@ use std::marker::Model;
 /// Reads the bits of the other side's count from number 0 upwards, until one answers 1.
 #[derive(Clone, Copy, Debug)]
 pub struct UnaryScan {
-    side: Side,
     modulus: u64,
     zeros: u64,
+    // beside one another, for a scan is copied in each call, and the gaps between its fields with it
+    side: Side,
     found: bool,
 }
 
