@@ -3,10 +3,10 @@
 
 For some shapes and each of three rings it prints how long an item takes from the one thread to the other, in nanoseconds:
 the wall clock of the process that moves many items less that of the process that moves one, by their number. So what a
-process takes to begin and to end is left out. It is told as the difference of the shortest times and of the median times
-of some runs. The program's command `run` and a twin in plain Rust (ring_twin.rs, built with rustc -O) have their runs
-turn by turn; the ratio is that of the shortest. Where the program is not built, or has no `run`, or not this ring, the
-twin stands alone.
+process takes to begin and to end is left out. It is told as the difference of the median times of some runs, and of the
+shortest. The program's command `run` and a twin in plain Rust (ring_twin.rs, built with rustc -O) have their runs turn by
+turn; the ratio is that of the medians, since now and then a run is twice as fast where both threads share a core. Where
+the program is not built, or has no `run`, or not this ring, the twin stands alone.
 """
 import os
 import statistics
@@ -15,8 +15,8 @@ import tempfile
 
 from bench import PROGRAM, build_twin, seconds
 
-RUNS = 10
-COUNT = 1_000_000
+RUNS = 15
+COUNT = 500_000
 SHAPES = [(1, 3, 1), (8, 10, 16), (64, 256, 64)]
 # The rings of the twin, and the words by which `run` runs the same algorithm, where it does.
 RINGS = [("flicker", []), ("counter", ["--ring", "counter"]), ("usual", None)]
@@ -39,15 +39,15 @@ def twin_seconds(twin, name, shape, count):
 
 
 def nanoseconds(runs):
-    """What an item takes, shortest and median, by the times of runs with many items and with one."""
+    """What an item takes, median and shortest, by the times of runs with many items and with one."""
     many, one = runs[COUNT], runs[1]
-    return [(take(many) - take(one)) / (COUNT - 1) * 1e9 for take in (min, statistics.median)]
+    return [(take(many) - take(one)) / (COUNT - 1) * 1e9 for take in (statistics.median, min)]
 
 
 def rings(twin):
     """The table of rings."""
     ours = has_run()
-    print("| Ring | Capacity, modulus, width | `run`, ns an item | Median | Twin, ns an item | Median | Ratio |")
+    print("| Ring | Capacity, modulus, width | `run`, ns an item | Shortest | Twin, ns an item | Shortest | Ratio |")
     print("|---|---|---|---|---|---|---|")
     for shape in SHAPES:
         for name, words in RINGS:
@@ -57,12 +57,12 @@ def rings(twin):
                     if ours and words is not None:
                         runs["run"][count].append(program_seconds(words, shape, count))
                     runs["twin"][count].append(twin_seconds(twin, name, shape, count))
-            shortest, median = nanoseconds(runs["twin"])
+            median, shortest = nanoseconds(runs["twin"])
             left, ratio = "| |", ""
             if runs["run"][1]:
-                our_shortest, our_median = nanoseconds(runs["run"])
-                left, ratio = f"{our_shortest:.0f} | {our_median:.0f} |", f"{our_shortest / shortest:.2f}"
-            print(f"| {name} | {', '.join(map(str, shape))} | {left} {shortest:.0f} | {median:.0f} | {ratio} |", flush=True)
+                our_median, our_shortest = nanoseconds(runs["run"])
+                left, ratio = f"{our_median:.0f} | {our_shortest:.0f} |", f"{our_median / median:.2f}"
+            print(f"| {name} | {', '.join(map(str, shape))} | {left} {median:.0f} | {shortest:.0f} | {ratio} |", flush=True)
 
 
 def main():
