@@ -185,8 +185,7 @@ fn finish<'a, O: Oracle>(hand: &mut Hand<'a>, machine: &mut Producer, oracle: &m
     }
 }
 
-// How many events of the call under way the list has behind one step more. A call has fewer than 10,000: two for each of at
-// most 2 * 256 + 64 * 64 accesses.
+// How many events of the call under way the list has behind one step more.
 fn steps_behind(steps: u64, machine: &Producer) -> u64
     requires stands { (calls : Puts) × (made : List Made) × ProducerStands machine.now calls made }
     requires few { steps < 10000 }

@@ -178,8 +178,7 @@ fn finish<'a, O: Oracle>(hand: &mut Hand<'a>, machine: &mut Consumer, oracle: &m
     }
 }
 
-// How many events of the take under way the list has behind one step more. A take has fewer than 10,000: two for each of at
-// most 2 * 256 + 64 + 3 accesses.
+// How many events of the take under way the list has behind one step more.
 fn steps_behind(steps: u64, machine: &Consumer) -> u64
     requires stands { (calls : Takes) × (made : List Made) × ConsumerStands machine.now calls made }
     requires few { steps < 10000 }
