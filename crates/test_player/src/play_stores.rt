@@ -1,5 +1,5 @@
-use crate::growths::{WRAP, WRAPPED, seen};
-use crate::scripts::{Asked, Numbers, ONE, Wanted, expect_report, text_of};
+use crate::play_growths::{WRAP, WRAPPED, seen};
+use crate::play_scripts::{Asked, Numbers, ONE, Wanted, expect_report, text_of};
 use bits_core::{Act, Bit, Event, Filled, Side, Store};
 use ring_player::{PlayFault, Script, World, play, play_first};
 use std::alloc::{AllocGlobal, Allocator};

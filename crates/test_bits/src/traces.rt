@@ -1,7 +1,4 @@
-use bits_core::{
-    Act, Bit, EVENT_LIMIT, Shape, ShapeFault, Side, TraceFault, Verdict, audit_bits, read_trace,
-    write_trace,
-};
+use bits_core::{Act, Bit, Shape, ShapeFault, Side, TraceFault, read_trace, write_trace};
 use std::alloc::AllocGlobal;
 use std::process::Abort;
 use std::test::Fail;
@@ -166,35 +163,4 @@ fn the_faulty_line_is_named(rt: HostRuntime) {
         b"shape 1 3 1\nP read r0\nP got r0 1\nP wrote\n",
         TraceFault::BadLine(4),
     );
-}
-
-// A trace of a million events: it is read, lawful, and written as it was.
-fn expect_longest(rt: &(impl Abort + AllocGlobal), text: &[u8]) -> Result<(), Fail> {
-    let (shape, events) = read_trace(rt.alloc(), text)?;
-    assert_eq!(rt; (events.len(), EVENT_LIMIT), (1_000_000, 1_000_000));
-    assert_eq!(rt; audit_bits(&shape, events.as_slice()), Verdict::Lawful);
-    let again = write_trace(rt.alloc(), &shape, events.as_slice())?;
-    assert!(rt; again.as_bytes() == text);
-    Ok(())
-}
-
-// The same trace with something behind it.
-fn expect_too_long(rt: &(impl Abort + AllocGlobal), text: &[u8], line: &[u8]) -> Result<(), Fail> {
-    let mut longer = text.to_vec(rt.alloc())?;
-    longer.extend_from_slice(line)?;
-    expect_fault(rt, longer.as_slice(), TraceFault::TooLong);
-    Ok(())
-}
-
-#[test]
-fn a_trace_has_at_most_a_million_events(rt: HostRuntime) -> Result<(), Fail> {
-    let mut text = b"shape 1 3 1\n".to_vec(rt.alloc())?;
-    for _ in 0..500_000 {
-        text.extend_from_slice(b"C read s0\nC got s0 1\n")?;
-    }
-    expect_longest(&rt, text.as_slice())?;
-    // The limit is looked at before the line.
-    expect_too_long(&rt, text.as_slice(), b"C read s0\n")?;
-    expect_too_long(&rt, text.as_slice(), b"nonsense\n")?;
-    expect_too_long(&rt, text.as_slice(), b"C")
 }

@@ -1,4 +1,4 @@
-use crate::scripts::{Asked, ONE, Wanted, expect_report, text_of};
+use crate::play_scripts::{Asked, ONE, Wanted, expect_report, text_of};
 use bits_core::{Event, Side, Store};
 use refusing::Refusing;
 use ring_player::{PlayFault, Script, World, play};

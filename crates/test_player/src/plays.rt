@@ -1,4 +1,4 @@
-use crate::scripts::{Asked, Case, ONE, expect_reports, text_of};
+use crate::play_scripts::{Asked, Case, ONE, expect_reports, text_of};
 use bits_core::{Act, Bit, Event, Side, Store};
 use ring_player::{Script, World, play};
 use std::alloc::AllocGlobal;

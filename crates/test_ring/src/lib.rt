@@ -1,0 +1,13 @@
+//! Tests of the ring's two machines over a memory of safe bits: calls, puts of several items, what two counts show, and rings that are nearly right.
+#![tactic(auto)]
+
+#[cfg(test)]
+mod batches;
+#[cfg(test)]
+mod calls;
+#[cfg(test)]
+mod counts;
+#[cfg(test)]
+mod handing;
+#[cfg(test)]
+mod near_misses;

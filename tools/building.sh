@@ -1,0 +1,86 @@
+# For the scripts that build: what a crate is built from, and a build that tells how far it is and that ends with its script.
+# The script that reads this file has set `name`, by which it speaks, and `top`, the folder of the repository.
+
+say() {
+    echo "$name: $*" >&2
+}
+
+# crates_below CRATE: it and the crates of the repository that it stands on, each after those that it stands on itself.
+crates_below() {
+    awk -v last="$1" '
+        /^[a-z]/ { crate = $1; sub(/:$/, "", crate); line = $0; sub(/^[^:]*:/, "", line); uses[crate] = line }
+        function walk(crate, below, count, i) {
+            if (!(crate in uses) || crate in seen) return
+            seen[crate] = 1
+            count = split(uses[crate], below, " ")
+            for (i = 1; i <= count; i++) walk(below[i])
+            print crate
+        }
+        END { walk(last) }' "$top/crates.txt"
+}
+
+# sources_sum CRATE..: a checksum of what these crates are built from.
+sources_sum() {
+    (
+        cd "$top" || exit
+        for crate in "$@"; do
+            grep "^$crate[: ]" crates.txt
+            find "crates/$crate/src" "crates/$crate/specs" "crates/$crate/proofs" -type f -exec cksum {} + 2>/dev/null
+        done | sort | cksum
+    )
+}
+
+# has_room FOLDER MEGABYTES: whether so much is free where the folder lies; if not, it says so.
+has_room() {
+    free=$(df -Pk "$1" | awk 'NR == 2 { print int($4 / 1024) }')
+    [ "${free:-0}" -lt "$2" ] || return 0
+    say "not built: it needs $2 MB of disk at $1, and $free MB are free"
+    return 1
+}
+
+# how_far LOG COUNT: how far a build of so many crates is, by what rt has said so far.
+how_far() {
+    awk -v count="$2" '
+        /^rt: chose --jobs/ { crate = $NF; at++; now = "" }
+        /^so far: / { now = " " $3 "/" $5 }
+        /^logic=proved/ { now = ", proved" }
+        END {
+            if (!at) print "reading the sources"
+            else if (at == count && now == ", proved") print "[" at " of " count "] " crate " proved; compiling and linking"
+            else print "[" at " of " count "] " crate now
+        }' "$1"
+}
+
+# build FOLDER LOG COUNT COMMAND..: runs the command in the folder, in a process group of its own, so that an end of this
+# script ends it too, and tells how far it is, of so many crates. Files in $unfinished are removed where it is ended.
+build() {
+    folder=$1
+    log=$2
+    count=$3
+    shift 3
+    began=$(date +%s)
+    (cd "$folder" && exec setsid "$@") </dev/null >"$log" 2>&1 &
+    building=$!
+    # (a shell's own kill takes no `-TERM --` in front of a group everywhere)
+    trap 'kill -s TERM -- "-$building" 2>/dev/null; rm -f $unfinished; exit 143' TERM
+    trap 'kill -s TERM -- "-$building" 2>/dev/null; rm -f $unfinished; exit 130' INT
+    trap 'kill -s TERM -- "-$building" 2>/dev/null; rm -f $unfinished; exit 129' HUP
+    told=
+    told_at=0
+    while kill -0 "$building" 2>/dev/null; do
+        sleep 1
+        far=$(how_far "$log" "$count")
+        took=$(($(date +%s) - began))
+        # a line in ten seconds where something moved, in thirty where nothing did
+        waited=$((took - told_at))
+        if [ -z "$told" ] || { [ "$far" != "$told" ] && [ "$waited" -ge 10 ]; } || [ "$waited" -ge 30 ]; then
+            say "$far, $((took / 60))m$(printf %02d $((took % 60)))s"
+            told=$far
+            told_at=$took
+        fi
+    done
+    built=0
+    wait "$building" || built=$?
+    trap - TERM INT HUP
+    return "$built"
+}
