@@ -2,7 +2,7 @@
 ghost use Rattle.std.specs.Prelude.{◌≡◌, ◌^◌, ◌<◌};
 ghost use Rattle.bits_core.specs.Shape.{width_of};
 ghost use Rattle.ring_core.specs.Puts.{IsBatch};
-ghost use Rattle.run_step_tests.specs.declared.steps.Duty.TheVariants.{Put, PutAll};
+ghost use Rattle.test_run.specs.declared.steps.Duty.TheVariants.{Put, PutAll};
 
 use bits_core::{Shape, Tape};
 use ring_core::{BatchReply, PutReply, TakeReply};
@@ -45,7 +45,7 @@ impl<'a> Model for Producing<'a> {
     ghost use Rattle.bits_core.specs.Shape.{width_of};
     ghost use Rattle.ring_core.specs.Puts.{IsBatch};
     ghost use Rattle.ring_core.specs.ProducerState as producer;
-    ghost use Rattle.run_step_tests.specs.declared.steps.Duty.TheVariants.{Put, PutAll, Close, Rest};
+    ghost use Rattle.test_run.specs.declared.steps.Duty.TheVariants.{Put, PutAll, Close, Rest};
 
     ghost Value = { Unit {0} };
 

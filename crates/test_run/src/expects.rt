@@ -115,24 +115,6 @@ pub fn relay_between<A: Allocator + Copy, O: Oracle + Drop + Send>(
     relay(rt, alloc, putter, taker, items, limits, &FreeGate)
 }
 
-/// The same between a counter ring's putter and a flickering ring's taker.
-pub fn relay_across<A: Allocator + Copy, O: Oracle + Drop + Send>(
-    rt: &impl Threads,
-    alloc: A,
-    putter: &mut CounterPutter<'_>,
-    taker: &mut Taker<'_, O>,
-    items: &[u64],
-    limits: Limits,
-) -> Result<Outcome<A>, RunFault>
-    requires idle { taker.old.taking ≡ false }
-    requires fresh { (putter.old.list ≡ []) × (taker.old.end.list ≡ []) }
-    requires fit { AllFit putter.old.ring.shape items.now }
-    ensures idle { taker.new.taking ≡ false }
-    ensures same { IsSameEnd putter.old putter.new × IsSameEnd taker.old.end taker.new.end }
-{
-    relay(rt, alloc, putter, taker, items, limits, &FreeGate)
-}
-
 /// The same between the two ends of counter rings.
 pub fn relay_counted<A: Allocator + Copy>(
     rt: &impl Threads,

@@ -1,7 +1,11 @@
-use crate::expects::{ITEMS, Kind, Numbers, ONE, expect_relay, relay_across, relay_between};
+ghost use Rattle.std.specs.Prelude.{◌≡◌, ◌∷◌, [], IfOk};
+ghost use Rattle.bits_core.specs.Shape.{AllFit};
+ghost use Rattle.ring_run.specs.Hands.{IsSameEnd};
+
+use crate::expects::{ITEMS, Kind, Numbers, ONE, expect_relay};
 use bits_core::{Flip, Shape};
-use ring_run::{CounterRing, FlickerRing, FreeGate, Limits, PutEnd};
-use std::alloc::AllocGlobal;
+use ring_run::{CounterRing, FlickerRing, FreeGate, Limits, Outcome, PutEnd, relay};
+use std::alloc::{AllocGlobal, Allocator};
 use std::process::Abort;
 use std::test::Fail;
 use std::thread::Threads;
@@ -94,46 +98,60 @@ fn all_items_go_through_one_cell(rt: HostRuntime) -> Result<(), Fail> {
     expect_all(&rt, Kind::Counter)
 }
 
-// The putter of one ring and the taker of another that was closed before.
-#[test]
-fn ends_of_two_rings_are_worked_alike(rt: HostRuntime) -> Result<(), Fail> {
-    let items = [0, 1];
-    let shape = Shape::new(2, 4, 1)?;
-    assert!(rt; shape.fits_all(&items));
-    let (ring, start) = FlickerRing::new(rt.alloc(), shape)?;
-    let (mut putter, taker) = ring.ends(start, Flip::new(), Flip::new());
-    let (other, other_start) = FlickerRing::new(rt.alloc(), Shape::new(1, 3, 1)?)?;
-    let (mut closer, mut told) = other.ends(other_start, Flip::new(), Flip::new());
-    closer.close();
-    let limits = Limits::both(5);
-    let outcome = relay_between(&rt, rt.alloc(), &mut putter, &mut told, &items, limits)?;
+// What came of two items put by the end of one ring while an end of another, closed and empty, takes.
+fn expect_apart<A: Allocator>(rt: &impl Abort, outcome: &Outcome<A>) {
     assert!(rt; outcome.put == 2 && outcome.calls == 2 && outcome.full == 0);
     assert!(rt; outcome.taken.is_empty() && outcome.empty == 0 && outcome.closed);
-    let ended = FlickerRing::finish(putter, taker);
-    let other_ended = FlickerRing::finish(closer, told);
-    assert!(rt; ended.closed() && !ended.told());
-    assert!(rt; other_ended.closed() && other_ended.told());
+}
+
+// Puts two items by this end, with the taker of another ring, which was closed before.
+fn relay_apart<E: PutEnd + Send>(
+    rt: &(impl Abort + AllocGlobal + Threads),
+    putter: &mut E,
+) -> Result<(), Fail>
+    requires idle { E.idle putter.old }
+    requires fresh { (E.end putter.old).list ≡ [] }
+    requires wide { AllFit (E.end putter.old).ring.shape (0 ∷ 1 ∷ []) }
+    ensures idle { E.idle putter.new }
+    ensures same { IsSameEnd (E.end putter.old) (E.end putter.new) }
+{
+    let (other, start) = FlickerRing::new(rt.alloc(), Shape::new(1, 3, 1)?)?;
+    let (mut closer, mut told) = other.ends(start, Flip::new(), Flip::new());
+    closer.close();
+    let limits = Limits::both(5);
+    let outcome = relay(rt, rt.alloc(), putter, &mut told, &[0, 1], limits, &FreeGate)?;
+    expect_apart(rt, &outcome);
+    let ended = FlickerRing::finish(closer, told);
+    assert!(rt; ended.closed() && ended.told());
     Ok(())
 }
 
-// The putter of a counter ring and the taker of a flickering ring that was closed before.
+// Two cells of one bit.
+fn two_cells() -> Result<Shape, Fail>
+    ensures { IfOk result (λ shape. AllFit shape (0 ∷ 1 ∷ [])) }
+{
+    let shape = Shape::new(2, 4, 1)?;
+    Ok(shape)
+}
+
+// The putter of one ring and the taker of another.
+#[test]
+fn ends_of_two_rings_are_worked_alike(rt: HostRuntime) -> Result<(), Fail> {
+    let (ring, start) = FlickerRing::new(rt.alloc(), two_cells()?)?;
+    let (mut putter, taker) = ring.ends(start, Flip::new(), Flip::new());
+    relay_apart(&rt, &mut putter)?;
+    let ended = FlickerRing::finish(putter, taker);
+    assert!(rt; ended.closed() && !ended.told());
+    Ok(())
+}
+
+// The putter of a counter ring and the taker of a flickering ring.
 #[test]
 fn ends_of_rings_of_both_kinds_are_worked_alike(rt: HostRuntime) -> Result<(), Fail> {
-    let items = [0, 1];
-    let shape = Shape::new(2, 4, 1)?;
-    assert!(rt; shape.fits_all(&items));
-    let (ring, start) = CounterRing::new(rt.alloc(), shape)?;
+    let (ring, start) = CounterRing::new(rt.alloc(), two_cells()?)?;
     let (mut putter, taker) = ring.ends(start);
-    let (other, other_start) = FlickerRing::new(rt.alloc(), Shape::new(1, 3, 1)?)?;
-    let (mut closer, mut told) = other.ends(other_start, Flip::new(), Flip::new());
-    closer.close();
-    let limits = Limits::both(5);
-    let outcome = relay_across(&rt, rt.alloc(), &mut putter, &mut told, &items, limits)?;
-    assert!(rt; outcome.put == 2 && outcome.calls == 2 && outcome.full == 0);
-    assert!(rt; outcome.taken.is_empty() && outcome.empty == 0 && outcome.closed);
+    relay_apart(&rt, &mut putter)?;
     let ended = CounterRing::finish(putter, taker);
-    let other_ended = FlickerRing::finish(closer, told);
     assert!(rt; ended.closed() && !ended.told());
-    assert!(rt; other_ended.closed() && other_ended.told());
     Ok(())
 }
