@@ -33,7 +33,7 @@ pub use counter_rings::{CounterRing, CounterStart};
 pub use counter_takers::CounterTaker;
 pub use ends::{PutEnd, TakeEnd};
 pub use faults::RunFault;
-pub use gates::{FreeGate, Gate};
+pub use gates::{FreeGate, Gate, YieldGate};
 pub use meetings::Finished;
 pub use putters::Putter;
 pub use relays::{Limits, Outcome, relay, relay_flicker};
