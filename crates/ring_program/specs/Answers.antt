@@ -29,7 +29,7 @@ use Rattle.ring_program.specs.Reports.{Reports}
 use Rattle.ring_run.specs.Relays.{IsRelayed}
 use Rattle.ring_run.specs.declared.faults.RunFault.TheVariants as run
 use Rattle.ring_program.specs.Runs.{run_items}
-use Rattle.ring_program.specs.Texts.{Summary, audit_text_of, relay_text_of, report_text_of, verdict_text_of}
+use Rattle.ring_program.specs.Texts.{Summary, audit_text_of, report_text_of, run_text_of, verdict_text_of}
 use Rattle.ring_program.specs.declared.inputs.TheConstants.{INPUT_LIMIT}
 use Rattle.ring_program.specs.declared.answers.Ending.{Ending}
 use Rattle.ring_program.specs.declared.answers.Ending.TheVariants.{Done, FaultFound, LimitReached}
@@ -112,7 +112,8 @@ pub record TracesScript (input text : List ℕ) (ending : Ending) : Type 0 where
   pub ends : ending ≡ Done
 
 -- what came of a run, in a ring of the shape of its numbers: it is counted in one lawful history whose two sides follow their
--- programs; the items taken are the first ones, in order, and all of them once the taker was told that the ring is closed
+-- programs; the items taken are the first ones, in order, and all of them once the taker was told that the ring is closed.
+-- The text has what the history counts, and some time that a clock told, or none
 pub record AnswersRun (run : Run) (text : List ℕ) (ending : Ending) : Type 0 where
   pub shape : Shape
   pub put : ℕ
@@ -121,12 +122,13 @@ pub record AnswersRun (run : Run) (text : List ℕ) (ending : Ending) : Type 0 w
   pub taken : List ℕ
   pub empty : ℕ
   pub closed : Bool
+  pub time : Option ℕ
   pub of_numbers : HasBatch run.capacity run.modulus run.width run.batch shape
   pub relayed : IsRelayed shape (run_items run) run.limits.puts run.limits.takes put calls full taken empty closed
   pub prefix : IsBeginning taken (take put (run_items run))
   pub all : closed ≡ true → taken ≡ run_items run
   pub within : put ≤ length taken + run.capacity
-  pub words : text ≡ relay_text_of put (length taken) closed
+  pub words : text ≡ run_text_of run.report put calls full (length taken) empty closed time
   pub ends : ending ≡ relay_ending_of closed
 
 -- memory ran out, in the program, the trace, the audit, the script, the play or the run

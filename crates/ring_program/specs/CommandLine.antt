@@ -53,12 +53,17 @@ batch_rule = record (number_rule (codes "batch") largest) { defaults = codes "1"
 abbrev pub ring_rule : Rule
 ring_rule = record (new_rule (codes "ring")) { long = Some (codes "ring"); action = Some Set; value_names = 1; defaults = codes "flicker" ∷ [] }
 
--- `run`, with the five options that have to be given, and three that may be left out
+-- `--report`
+abbrev pub report_rule : Rule
+report_rule = record (new_rule (codes "report")) { long = Some (codes "report"); action = Some SetTrue }
+
+-- `run`, with the five options that have to be given, three that may be left out, and a flag
 abbrev pub run_application : App
 run_application =
-    with_rule (with_rule (with_rule (with_rule (with_rule (with_rule (with_rule (with_rule (new_app (codes "run"))
+    with_rule (with_rule (with_rule (with_rule (with_rule (with_rule (with_rule (with_rule (with_rule (new_app (codes "run"))
     (required_rule (codes "capacity") largest)) (required_rule (codes "modulus") largest)) (required_rule (codes "width") largest))
-    (required_rule (codes "count") ITEM_LIMIT)) (required_rule (codes "limit") largest)) (number_rule (codes "takes") largest)) batch_rule) ring_rule
+    (required_rule (codes "count") ITEM_LIMIT)) (required_rule (codes "limit") largest)) (number_rule (codes "takes") largest)) batch_rule) ring_rule)
+    report_rule
 
 -- the program, which has a version, and of which one command has to be named
 unfoldable pub application : App
@@ -93,15 +98,23 @@ ring_in name = if bytes_eq name (codes "flicker") then Some Flicker else (if byt
 abbrev pub ring_given : List Row → Option RingKind
 ring_given rows = option_and_then ring_in (first_of (codes "ring") rows)
 
-abbrev pub run_of_numbers : RingKind → ℕ → ℕ → ℕ → ℕ → ℕ → ℕ → ℕ → Run
-run_of_numbers ring capacity modulus width batch count puts takes =
-    record { ring = ring; capacity = capacity; modulus = modulus; width = width; batch = batch; count = count; limits = record { puts = puts; takes = takes } }
+abbrev pub run_of_numbers : RingKind → ℕ → ℕ → ℕ → ℕ → ℕ → ℕ → ℕ → Bool → Run
+run_of_numbers ring capacity modulus width batch count puts takes report = record {
+  ring = ring;
+  capacity = capacity;
+  modulus = modulus;
+  width = width;
+  batch = batch;
+  count = count;
+  limits = record { puts = puts; takes = takes };
+  report = report;
+}
 
--- what the options of `run` ask for: as many takes as puts, where nothing else is said
+-- what the options of `run` ask for: as many takes as puts, where nothing else is said, and a report where its flag was given
 abbrev pub run_in : List Row → Option Run
 run_in rows =
     option_and_then (λ ring. option_and_then (λ capacity. option_and_then (λ modulus. option_and_then (λ width. option_and_then (λ batch. option_and_then (λ count.
-    option_map (λ puts. run_of_numbers ring capacity modulus width batch count puts (unwrap_or (number_given (codes "takes") rows) puts))
+    option_map (λ puts. run_of_numbers ring capacity modulus width batch count puts (unwrap_or (number_given (codes "takes") rows) puts) (is_flag_given (codes "report") rows))
     (number_given (codes "limit") rows)) (number_given (codes "count") rows)) (number_given (codes "batch") rows))
     (number_given (codes "width") rows)) (number_given (codes "modulus") rows)) (number_given (codes "capacity") rows)) (ring_given rows)
 
@@ -131,6 +144,9 @@ run_words count more =
 
 abbrev pub short_run : List Text
 short_run = run_words (codes "64") []
+
+abbrev pub report_run : List Text
+report_run = run_words (codes "64") (codes "--report" ∷ [])
 
 abbrev pub big_run : List Text
 big_run = run_words (codes "1000001") []

@@ -1,5 +1,5 @@
 -- The texts of the answers.
-use Rattle.std.specs.Prelude.{ℕ, Bool, true, false, List, [], ◌∷◌, ◌++◌, ◌+◌, codes, decimal, length, Vec}
+use Rattle.std.specs.Prelude.{ℕ, ◌+◌, ◌*◌, ◌/◌, ◌^◌, Bool, true, false, ◌&&◌, List, [], ◌∷◌, ◌++◌, Option, Some, None, codes, decimal, length, Vec, nat_lt, if◌then◌else◌, option_and_then}
 use Rattle.std.specs.List.{flat_map}
 use Rattle.bits_core.specs.Audit.{kind_words}
 use Rattle.bits_core.specs.declared.audits.Verdict.{Verdict}
@@ -90,3 +90,27 @@ closed_line false = codes "closed no\n"
 -- how many items were put and taken, and whether the taker was told that the ring is closed
 abbrev pub relay_text_of : ℕ → ℕ → Bool → List ℕ
 relay_text_of put taken closed = count_line (codes "put") put ++ (count_line (codes "taken") taken ++ closed_line closed)
+
+-- ---- the report of a relay
+
+-- how many items a second, where so many were taken in so many nanoseconds: a whole number of 64 bits, where some time passed
+abbrev pub pace_of : ℕ → ℕ → Option ℕ
+pace_of taken nanos =
+    let pace = taken * 1000000000 / nanos in
+    if nat_lt 0 nanos && nat_lt pace (2 ^ 64) then Some pace else None
+
+abbrev pub pace_line : Option ℕ → List ℕ
+pace_line (Some pace) = count_line (codes "items a second") pace
+pace_line None = codes "items a second unknown\n"
+
+-- the text of a relay, and then how many puts were made, how many of them found the ring full, how many takes found it empty,
+-- and how many items a second were taken, where a clock told the time
+abbrev pub relay_report_of : ℕ → ℕ → ℕ → ℕ → ℕ → Bool → Option ℕ → List ℕ
+relay_report_of put calls full taken empty closed time =
+    relay_text_of put taken closed ++ (count_line (codes "calls") calls ++ (count_line (codes "full") full
+    ++ (count_line (codes "empty") empty ++ pace_line (option_and_then (pace_of taken) time))))
+
+-- the text of a run: with a report, where one was asked for
+abbrev pub run_text_of : Bool → ℕ → ℕ → ℕ → ℕ → ℕ → Bool → Option ℕ → List ℕ
+run_text_of true put calls full taken empty closed time = relay_report_of put calls full taken empty closed time
+run_text_of false put calls full taken empty closed time = relay_text_of put taken closed

@@ -1,10 +1,11 @@
 //! The command line.
-ghost use Rattle.std.specs.Prelude.{◌≡◌, ◌⊎◌, ◌∷◌, ℕ, List, Some, codes, false, [], IfOk, IfErr, OnOk, None, map, option_map};
+ghost use Rattle.std.specs.Prelude.{◌≡◌, ◌⊎◌, ◌∷◌, ℕ, List, Some, codes, true, false, [], IfOk, IfErr, OnOk, None, map, option_map};
 ghost use Rattle.clap.specs.Words.{HasKind, app_of, fault_of, found_of, kind_of, rows_of, subcommand_of, subcommand_rows_of};
 ghost use Rattle.clap.specs.declared.builder.command.Command.TheViews.{out-Command};
 ghost use Rattle.ring_program.specs.declared.run_line.RingKind.TheVariants as kind;
-ghost use Rattle.ring_program.specs.CommandLine.{application, audit_command, audit_question_of, is_flag_given, big_run, long_run, play_command, play_question_of, request_in, request_of, run_of_numbers, short_run, torus_run};
+ghost use Rattle.ring_program.specs.CommandLine.{application, audit_command, audit_question_of, big_run, long_run, play_command, play_question_of, report_run, request_in, request_of, run_of_numbers, short_run, torus_run};
 
+use crate::options::is_given;
 use crate::run_line::{Run, run_command, run_found};
 use clap::error::ErrorKind;
 use clap::{Arg, ArgAction, ArgMatches, Command, Error};
@@ -73,7 +74,8 @@ Examples:
   lamport_ring play < examples/plain_path.json
   lamport_ring audit < examples/plain_path.trace
   lamport_ring audit --bits < examples/new_old_inversion.trace
-  lamport_ring run --capacity 1 --modulus 3 --width 6 --count 64 --limit 1000000000
+  lamport_ring run --capacity 1 --modulus 3 --width 6 --count 64 \\
+    --limit 1000000000
 
 Exit status:
   0  done: a play, a lawful history, a whole relay, or help or the version that
@@ -139,19 +141,19 @@ fn play<'a>(alloc: Global) -> Result<Command<'a>, AllocError>
 fn program<'a>(alloc: Global) -> Result<Command<'a>, AllocError>
     ensures { IfOk result (λ command. app_of command ≡ application) }
 {
-    let audit = audit(alloc)?;
-    let play = play(alloc)?;
-    let run = run_command(alloc)?;
     let command = Command::new(alloc, "lamport_ring")
         .about(
             "A producer-consumer ring from safe bits: plays of scripts, audits of recorded histories, two threads",
         )
         .version(VERSION)
         .after_help(PROGRAM_HELP)
-        .subcommand_required(true)
-        .subcommand(audit)?
-        .subcommand(play)?
-        .subcommand(run)?;
+        .subcommand_required(true);
+    let audit = audit(alloc)?;
+    let command = command.subcommand(audit)?;
+    let play = play(alloc)?;
+    let command = command.subcommand(play)?;
+    let run = run_command(alloc)?;
+    let command = command.subcommand(run)?;
     Ok(command)
 }
 
@@ -170,16 +172,6 @@ fn named<'m, 'a>(matches: &'m ArgMatches<'a>) -> Option<(&'a str, &'m ArgMatches
     ensures { option_map (λ found. (found.0.now, rows_of (found_of found.1.now))) result ≡ subcommand_rows_of matches.now }
 {
     matches.subcommand()
-}
-
-// The flag was given.
-fn is_given(matches: &ArgMatches<'_>, id: &str) -> bool
-    ensures { result ≡ is_flag_given id.now (rows_of (found_of matches.now)) }
-{
-    match matches.get_str(id) {
-        Some(value) => value == "true",
-        None => false,
-    }
 }
 
 fn audit_question(matches: &ArgMatches<'_>) -> Question
@@ -238,8 +230,9 @@ pub fn command_lines()
     ensures twice { (name : List ℕ) → request_of (name ∷ codes "audit" ∷ codes "--bits" ∷ codes "--bits" ∷ []) ≡ None }
     ensures play { (name : List ℕ) → request_of (name ∷ codes "play" ∷ []) ≡ Some (Request.OnInput Question.Play) }
     ensures play_trace { (name : List ℕ) → request_of (name ∷ codes "play" ∷ codes "--trace" ∷ []) ≡ Some (Request.OnInput Question.PlayTrace) }
-    ensures run { (name : List ℕ) → request_of (name ∷ short_run) ≡ Some (Request.Run (run_of_numbers kind.Flicker 1 3 6 1 64 9 9)) }
-    ensures run_with_all { (name : List ℕ) → request_of (name ∷ long_run) ≡ Some (Request.Run (run_of_numbers kind.Counter 3 7 6 3 64 9 8)) }
+    ensures run { (name : List ℕ) → request_of (name ∷ short_run) ≡ Some (Request.Run (run_of_numbers kind.Flicker 1 3 6 1 64 9 9 false)) }
+    ensures run_with_all { (name : List ℕ) → request_of (name ∷ long_run) ≡ Some (Request.Run (run_of_numbers kind.Counter 3 7 6 3 64 9 8 false)) }
+    ensures run_with_report { (name : List ℕ) → request_of (name ∷ report_run) ≡ Some (Request.Run (run_of_numbers kind.Flicker 1 3 6 1 64 9 9 true)) }
     ensures lacking { (name : List ℕ) → request_of (name ∷ codes "run" ∷ []) ≡ None }
     ensures too_many { (name : List ℕ) → request_of (name ∷ big_run) ≡ None }
     ensures torus { (name : List ℕ) → request_of (name ∷ torus_run) ≡ None }

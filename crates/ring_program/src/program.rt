@@ -7,10 +7,11 @@ ghost use Rattle.ring_audit.specs.Audit.{statement};
 ghost use Rattle.ring_program.specs.declared.inputs.TheConstants.{INPUT_LIMIT};
 ghost use Rattle.ring_program.specs.CommandLine.{application, request_of};
 
-use crate::answers::{Answer, Ending, complain, conclude, refuse, write_whole};
+use crate::answers::{Answer, Ending, conclude, refuse, write_whole};
 use crate::command_line::{Question, Request, read_words};
 use crate::faults::{AppFault, Refusal};
 use crate::inputs::load;
+use crate::mistakes::{tell_mistake, unnamed};
 use crate::reports::report_text;
 use crate::runs::answer_run;
 use crate::texts::{audit_text, verdict_text};
@@ -22,6 +23,7 @@ use ring_player::{Script, play};
 use std::alloc::{AllocGlobal, Allocator, Global};
 use std::io::{Read, Write};
 use std::thread::Threads;
+use std::time::Clock;
 
 // How an audit with this verdict ends.
 fn verdict_ending(verdict: Verdict) -> Ending
@@ -189,20 +191,10 @@ fn answer_question<A: Allocator + Copy, I: Read, O: Write, E: Write>(
     conclude(ended, err)
 }
 
-// The words were taken, and name no command or no ring.
-fn unnamed<E: Write>(err: &mut E) -> u8
-    ensures { result ≡ 2 }
-{
-    complain(
-        err,
-        "error: no such command, or no such ring: a ring is flicker or counter\n\nFor more information, try '--help'.\n",
-    );
-    2
-}
-
 // Help that was asked for goes to the output, and a fault of the command line to the standard error.
 fn explain<A: Allocator, O: Write, E: Write>(
     alloc: A,
+    words: &[&str],
     error: &Error,
     out: &mut O,
     err: &mut E,
@@ -214,7 +206,7 @@ fn explain<A: Allocator, O: Write, E: Write>(
         return refuse(Refusal::App(AppFault::OutOfMemory), err);
     }
     if error.use_stderr() {
-        complain(err, error);
+        tell_mistake(words, error, err);
         return 2;
     }
     let Ok(text) = error.to_string(alloc) else {
@@ -234,14 +226,14 @@ fn explain<A: Allocator, O: Write, E: Write>(
 /// `out`, unless a write failed, or a run reached a limit, whose text is written all the same. With status 2
 /// the command line is wrong. Where the words ask for help or the version, that is written on `out`, and
 /// nothing is read. A fault of `err` itself is ignored.
-pub fn execute<'a, R: AllocGlobal + Threads, A: Allocator + Copy, I: Read, O: Write, E: Write>(
-    rt: &R,
-    alloc: A,
-    words: &'a [&'a str],
-    input: &mut I,
-    out: &mut O,
-    err: &mut E,
-) -> u8
+pub fn execute<
+    'a,
+    R: AllocGlobal + Threads + Clock,
+    A: Allocator + Copy,
+    I: Read,
+    O: Write,
+    E: Write,
+>(rt: &R, alloc: A, words: &'a [&'a str], input: &mut I, out: &mut O, err: &mut E) -> u8
     ensures asked { IfSome (request_of (map (λ w. w.now) words.entry.now)) (λ request.
         Ends request (I.remaining input.old) (O.contents out.old) (O.contents out.new) result) }
     ensures unasked { IfNone (request_of (map (λ w. w.now) words.entry.now))
@@ -255,8 +247,8 @@ pub fn execute<'a, R: AllocGlobal + Threads, A: Allocator + Copy, I: Read, O: Wr
 {
     let request = match read_words(rt.alloc(), words) {
         Ok(Some(request)) => request,
-        Ok(None) => return unnamed(err),
-        Err(error) => return explain(alloc, &error, out, err),
+        Ok(None) => return unnamed(words, err),
+        Err(error) => return explain(alloc, words, &error, out, err),
     };
     match request {
         Request::OnInput(question) => {

@@ -2,8 +2,9 @@
 ghost use Rattle.std.specs.Prelude.{◌≡◌, IfOk, Some, false, option_map};
 ghost use Rattle.clap.specs.Words.{app_of, first_of, found_of, rows_of, rule_of};
 ghost use Rattle.clap.specs.declared.builder.command.Command.TheViews.{out-Command};
-ghost use Rattle.ring_program.specs.CommandLine.{batch_rule, ring_given, ring_in, ring_rule, number_given, number_in, number_rule, required_rule, run_application, run_in};
+ghost use Rattle.ring_program.specs.CommandLine.{batch_rule, number_rule, report_rule, required_rule, ring_given, ring_in, ring_rule, run_application, run_in};
 
+use crate::options::{is_given, number_found};
 use clap::builder::ValueParser;
 use clap::{Arg, ArgAction, ArgMatches, Command};
 use ring_run::Limits;
@@ -12,22 +13,44 @@ use std::alloc::{AllocError, Global};
 /// The most items that a run may put.
 pub const ITEM_LIMIT: u64 = 1_000_000;
 
-const RUN_USAGE: &str =
-    "lamport_ring run --capacity B --modulus M --width W --count N --limit L [--takes T] [--batch G] [--ring RING]";
+// The usage, in two lines under one another.
+const RUN_USAGE: &str = "\
+lamport_ring run --capacity B --modulus M --width W --count N --limit L
+       [--takes T] [--batch G] [--ring RING] [--report]";
 
 const RUN_HELP: &str = "\
 Two threads share a ring with no lock. One puts N items, the numbers 0, 1, ..
 modulo 2^W, each again while the ring is full, and closes behind the last; the
-other takes until it is told that the ring is closed. They make at most L puts
-and T takes. The answer says how many items were put and taken, and whether the
-taker was told that the ring is closed. The flickering ring has a word for each
-bit, which shows that it is being written; the counter ring has a word for each
-counter and each cell, and is faster. What they promise is the same.
+other takes until it is told that the ring is closed. The answer says how many
+items were put and taken, and whether the taker was told that the ring is
+closed. The flickering ring has a word for each bit, which shows that it is
+being written; the counter ring has a word for each counter and each cell, and
+is faster. What they promise is the same.
+
+The numbers are whole, in decimal digits with no minus sign:
+  B  how many cells the ring has, from 1 to 64
+  M  what its counts run modulo, from B + G + 1 to 256
+  W  how many binary digits an item has, from 1 to 64
+  N  how many items to put, from 0 to 1000000
+  L  the most calls of put, and of take, from 0 to 2^64 - 1
+  T  the most calls of take, from 0 to 2^64 - 1; L where it is left out
+  G  how many items a put has at most, from 1 to B; 1 where it is left out
+
+A limit counts every call of put or take, also one that finds the ring full or
+empty; the close is not counted. A side that has made so many makes no more.
+Where the taker was not told then that the ring is closed, the text is printed
+all the same, standard error says `refused: limit reached`, and the status is 1.
+
+With --report four lines follow: `calls`, how many puts were made; `full`, how
+many of them found the ring full; `empty`, how many takes found it empty; and
+`items a second`, how many were taken, by the clock from just before the relay
+to just behind it, or `unknown` where the clock told no time.
 
 Examples:
   lamport_ring run --ring counter --capacity 8 --modulus 10 --width 16 \\
     --count 1000 --limit 1000000000
-  lamport_ring run --capacity 1 --modulus 3 --width 6 --count 64 --limit 1000000000
+  lamport_ring run --capacity 1 --modulus 3 --width 6 --count 64 \\
+    --limit 1000000000
 
 Exit status:
   0  the taker was told that the ring is closed: all items were put and taken
@@ -57,6 +80,8 @@ pub struct Run {
     pub count: u64,
     /// The most puts and takes.
     pub limits: Limits,
+    /// Whether the text has what was counted and timed.
+    pub report: bool,
 }
 
 // An option whose value is a number up to the most.
@@ -105,7 +130,18 @@ fn ring_option<'a>(alloc: Global) -> Arg<'a>
         .value_name("RING")
         .action(ArgAction::Set)
         .default_value("flicker")
-        .help("flicker: a word for each bit; counter: whole words")
+        .help("flicker or counter")
+}
+
+// The flag of the report.
+fn report_option<'a>(alloc: Global) -> Arg<'a>
+    ensures rule { rule_of result ≡ report_rule }
+    ensures local { result.global ≡ false }
+{
+    Arg::new(alloc, "report")
+        .long("report")
+        .action(ArgAction::SetTrue)
+        .help("Tell the calls, and the items a second")
 }
 
 /// The command.
@@ -113,47 +149,29 @@ pub fn run_command<'a>(alloc: Global) -> Result<Command<'a>, AllocError>
     ensures made { IfOk result (λ command. app_of command ≡ run_application) }
     ensures local { IfOk result (λ command. (out-Command command).has_globals ≡ false) }
 {
-    let capacity = required_option(alloc, "capacity", "B", u64::MAX, "How many cells");
-    let modulus = required_option(alloc, "modulus", "M", u64::MAX, "Modulus of the counts");
-    let width = required_option(alloc, "width", "W", u64::MAX, "Binary digits of an item");
-    let count = required_option(alloc, "count", "N", ITEM_LIMIT, "How many items to put");
-    let limit = required_option(alloc, "limit", "L", u64::MAX, "The most puts, and takes");
-    let takes = number_option(alloc, "takes", "T", u64::MAX, "The most takes, where not L");
-    let batch = batch_option(alloc);
-    let ring = ring_option(alloc);
     let command = Command::new(alloc, "run")
         .about("Relay items through a ring, in two threads")
         .override_usage(RUN_USAGE)
         .after_help(RUN_HELP);
+    let capacity = required_option(alloc, "capacity", "B", u64::MAX, "How many cells");
     let command = command.arg(capacity)?;
+    let modulus = required_option(alloc, "modulus", "M", u64::MAX, "Modulus of the counts");
     let command = command.arg(modulus)?;
+    let width = required_option(alloc, "width", "W", u64::MAX, "Binary digits of an item");
     let command = command.arg(width)?;
+    let count = required_option(alloc, "count", "N", ITEM_LIMIT, "How many items to put");
     let command = command.arg(count)?;
+    let limit = required_option(alloc, "limit", "L", u64::MAX, "The most puts, and takes");
     let command = command.arg(limit)?;
+    let takes = number_option(alloc, "takes", "T", u64::MAX, "The most takes, where not L");
     let command = command.arg(takes)?;
+    let batch = batch_option(alloc);
     let command = command.arg(batch)?;
+    let ring = ring_option(alloc);
     let command = command.arg(ring)?;
+    let report = report_option(alloc);
+    let command = command.arg(report)?;
     Ok(command)
-}
-
-// The number that a text writes in decimal.
-fn number_of(text: &str) -> Option<u64>
-    ensures { result ≡ number_in text.now }
-{
-    match text.parse::<u64>() {
-        Ok(number) => Some(number),
-        Err(_) => None,
-    }
-}
-
-// The number that the option of this id was given.
-fn number_found(matches: &ArgMatches<'_>, id: &str) -> Option<u64>
-    ensures { result ≡ number_given id.now (rows_of (found_of matches.now)) }
-{
-    match matches.get_str(id) {
-        Some(text) => number_of(text),
-        None => None,
-    }
 }
 
 // The ring of this name.
@@ -194,6 +212,7 @@ pub fn run_found(matches: &ArgMatches<'_>) -> Option<Run>
         Some(takes) => takes,
         None => puts,
     };
+    let report = is_given(matches, "report");
     Some(Run {
         ring,
         capacity,
@@ -202,5 +221,6 @@ pub fn run_found(matches: &ArgMatches<'_>) -> Option<Run>
         batch,
         count,
         limits: Limits { puts, takes },
+        report,
     })
 }

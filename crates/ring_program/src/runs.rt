@@ -1,12 +1,13 @@
 //! The answer of `run`: items relayed through a ring by two threads.
-ghost use Rattle.std.specs.Prelude.{◌≡◌, ◌≢◌, ◌⊎◌, ◌+◌, ◌≤◌, IfErr, IfOk, List, ℕ, length, string_bytes, take, true};
+ghost use Rattle.std.specs.Prelude.{◌≡◌, ◌≢◌, ◌⊎◌, ◌+◌, ◌++◌, ◌≤◌, IfErr, IfOk, OnOk, List, ℕ, length, option_and_then, option_map, string_bytes, take, true};
+ghost use Rattle.std.specs.Duration.{as_nanos};
 ghost use Rattle.std.specs.Io.KnownBytes.{Appends};
 ghost use Rattle.bits_core.specs.Made.{IsBeginning};
 ghost use Rattle.bits_core.specs.Shape.{AllFit, capacity_of};
 ghost use Rattle.ring_run.specs.Relays.{IsRelayed};
 ghost use Rattle.ring_program.specs.Answers.{AnswersRun, EndsRun, IsOutOfMemory, IsRunCause, RefusedRun, relay_ending_of};
 ghost use Rattle.ring_program.specs.Runs.{run_item, run_items};
-ghost use Rattle.ring_program.specs.Texts.{closed_line, relay_text_of};
+ghost use Rattle.ring_program.specs.Texts.{closed_line, pace_line, pace_of, relay_report_of, relay_text_of, run_text_of};
 ghost use Rattle.ring_program.specs.declared.run_line.TheConstants.{ITEM_LIMIT};
 
 use crate::answers::{Answer, Ending, conclude, write_whole};
@@ -14,10 +15,12 @@ use crate::faults::{AppFault, Refusal};
 use crate::lines::push_count;
 use crate::run_line::{RingKind, Run};
 use bits_core::{Flip, Shape};
-use ring_run::{FreeGate, Limits, Outcome, RunFault, relay_counter, relay_flicker};
+use ring_run::{Limits, Outcome, RunFault, YieldGate, relay_counter, relay_flicker};
 use std::alloc::Allocator;
+use std::io;
 use std::io::Write;
 use std::thread::Threads;
+use std::time::{Clock, Duration, Instant};
 
 // An item of so many binary digits.
 fn run_item(width: u64, number: u64) -> u64
@@ -71,6 +74,77 @@ pub fn relay_text<A: Allocator, B: Allocator>(
     Ok(text)
 }
 
+// How many items a second, where so many were taken in this time.
+fn pace_of(taken: u64, time: Duration) -> Option<u64>
+    ensures { result ≡ pace_of taken (as_nanos time) }
+{
+    let nanos = time.as_nanos();
+    if nanos == 0 {
+        return None;
+    }
+    let pace = taken as u128 * 1_000_000_000 / nanos;
+    u64::try_from(pace).ok()
+}
+
+// The line of how many items a second were taken.
+fn push_pace<A: Allocator>(text: &mut String<A>, pace: Option<u64>) -> Result<(), AppFault>
+    ensures ok { OnOk result (string_bytes text.new ≡ string_bytes text.old ++ pace_line pace) }
+    ensures err { IfErr result (λ e. e ≡ AppFault.OutOfMemory) }
+{
+    match pace {
+        Some(pace) => push_count(text, "items a second", pace),
+        None => Ok(text.push_str("items a second unknown\n")?),
+    }
+}
+
+/// The text of a relay and, behind it, a line each of how many puts were made, how many of them found the ring full, how many
+/// takes found it empty, and how many items a second were taken. The last is `unknown` where there is no time, or none passed,
+/// or the number takes more than 64 bits.
+pub fn relay_report<A: Allocator, B: Allocator>(
+    alloc: A,
+    outcome: &Outcome<B>,
+    time: Option<Duration>,
+) -> Result<String<A>, AppFault>
+    ensures text { IfOk result (λ text. string_bytes text ≡ relay_report_of outcome.now.put outcome.now.calls outcome.now.full
+        (length outcome.now.taken.items) outcome.now.empty outcome.now.closed (option_map as_nanos time)) }
+    ensures memory { IfErr result (λ e. e ≡ AppFault.OutOfMemory) }
+{
+    let taken = outcome.taken.len() as u64;
+    let pace = time.and_then(|time| pace_of(taken, time));
+    let mut text = relay_text(alloc, outcome)?;
+    push_count(&mut text, "calls", outcome.calls)?;
+    push_count(&mut text, "full", outcome.full)?;
+    push_count(&mut text, "empty", outcome.empty)?;
+    push_pace(&mut text, pace)?;
+    Ok(text)
+}
+
+// The text of a run: with a report, where one was asked for.
+fn run_text<A: Allocator, B: Allocator>(
+    alloc: A,
+    report: bool,
+    outcome: &Outcome<B>,
+    time: Option<Duration>,
+) -> Result<String<A>, AppFault>
+    ensures text { IfOk result (λ text. string_bytes text ≡ run_text_of report outcome.now.put outcome.now.calls outcome.now.full
+        (length outcome.now.taken.items) outcome.now.empty outcome.now.closed (option_map as_nanos time)) }
+    ensures memory { IfErr result (λ e. e ≡ AppFault.OutOfMemory) }
+{
+    if report {
+        relay_report(alloc, outcome, time)
+    } else {
+        relay_text(alloc, outcome)
+    }
+}
+
+// The time since the start, where the clock told both.
+fn time_since<C: Clock>(clock: &C, start: io::Result<Instant>) -> Option<Duration> {
+    match start {
+        Ok(start) => start.elapsed(clock).ok(),
+        Err(_) => None,
+    }
+}
+
 // How a run ends.
 fn relay_ending(closed: bool) -> Ending
     ensures { result ≡ relay_ending_of closed }
@@ -107,15 +181,15 @@ fn relay_through<R: Threads, A: Allocator + Copy>(
             Flip::new(),
             items,
             limits,
-            &FreeGate,
+            &YieldGate,
         ),
-        RingKind::Counter => relay_counter(rt, alloc, shape, items, limits, &FreeGate),
+        RingKind::Counter => relay_counter(rt, alloc, shape, items, limits, &YieldGate),
     }
 }
 
 // The answer of a run.
 #[tactic(auto, unfolding(crate::specs::Answers::IsOutOfMemory))]
-fn run_answer<R: Threads, A: Allocator + Copy>(
+fn run_answer<R: Threads + Clock, A: Allocator + Copy>(
     rt: &R,
     alloc: A,
     run: Run,
@@ -126,14 +200,16 @@ fn run_answer<R: Threads, A: Allocator + Copy>(
 {
     let shape = Shape::with_batch(run.capacity, run.modulus, run.width, run.batch)?;
     let items = items_of(alloc, &run)?;
+    let start = Instant::now(rt);
     let outcome = relay_through(rt, alloc, run.ring, shape, items.as_slice(), run.limits)?;
-    let text = relay_text(alloc, &outcome)?;
+    let time = time_since(rt, start);
+    let text = run_text(alloc, run.report, &outcome, time)?;
     let ending = relay_ending(outcome.closed);
     Ok(Answer { text, ending })
 }
 
 // Runs, and writes the answer after it is complete.
-fn run_out<R: Threads, A: Allocator + Copy, O: Write>(
+fn run_out<R: Threads + Clock, A: Allocator + Copy, O: Write>(
     rt: &R,
     alloc: A,
     run: Run,
@@ -148,7 +224,7 @@ fn run_out<R: Threads, A: Allocator + Copy, O: Write>(
 }
 
 /// The program on a run.
-pub fn answer_run<R: Threads, A: Allocator + Copy, O: Write, E: Write>(
+pub fn answer_run<R: Threads + Clock, A: Allocator + Copy, O: Write, E: Write>(
     rt: &R,
     alloc: A,
     run: Run,

@@ -46,3 +46,7 @@ returns-clause-too_many c name = refl
 pub returns-clause-torus : goal.returns-clause-torus
 unfolding clap_on_literals application request_of
 returns-clause-torus c name = refl
+
+pub returns-clause-run_with_report : goal.returns-clause-run_with_report
+unfolding clap_on_literals application request_of
+returns-clause-run_with_report c name = refl

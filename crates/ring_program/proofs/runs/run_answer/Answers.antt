@@ -1,4 +1,6 @@
 use Rattle.std.proofs.Common.{◌≡◌, ◌∙◌, ℕ, List, take, sym, subst, arith}
+use Rattle.std.specs.Prelude.{option_map}
+use Rattle.std.specs.Duration.{as_nanos}
 use Rattle.bits_core.specs.Made.{IsBeginning}
 use Rattle.bits_core.specs.Shape.{AllFit}
 use Rattle.ring_run.specs.Relays.{IsRelayed}
@@ -25,6 +27,7 @@ returns-clause-answered g c =
       taken = o.taken.items;
       empty = o.empty;
       closed = o.closed;
+      time = option_map as_nanos c.time_since-time.result;
       of_numbers = c.in_ok-shape.ensures;
       relayed = subst (λ (items : List ℕ). IsRelayed c.in_ok-shape.shape items run.limits.puts run.limits.takes o.put o.calls o.full o.taken.items o.empty o.closed) is told.counted;
       prefix = subst (λ (items : List ℕ). IsBeginning o.taken.items (take o.put items)) is told.prefix;

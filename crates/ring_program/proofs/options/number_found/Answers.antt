@@ -3,7 +3,7 @@ use Rattle.std.specs.Prelude.{option_and_then}
 use Rattle.clap.proofs.WalkLemmas.{first_value-rows}
 use Rattle.clap.specs.Words.{found_of}
 use Rattle.ring_program.specs.CommandLine.{number_in}
-use Rattle.ring_program.proofs.run_line.number_found.Goals as goal
+use Rattle.ring_program.proofs.options.number_found.Goals as goal
 
 pub returns-in-Some : goal.returns-in-Some
 returns-in-Some c =

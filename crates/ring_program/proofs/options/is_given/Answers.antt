@@ -3,7 +3,7 @@ use Rattle.std.specs.Option.{option_map_or}
 use Rattle.std.specs.Str.{bytes_eq}
 use Rattle.clap.proofs.WalkLemmas.{first_value-rows}
 use Rattle.clap.specs.Words.{Text, found_of}
-use Rattle.ring_program.proofs.command_line.is_given.Goals as goal
+use Rattle.ring_program.proofs.options.is_given.Goals as goal
 
 abbrev given : Option Text → Bool
 given value = option_map_or (λ t. bytes_eq t (codes "true")) value false

@@ -4,7 +4,7 @@ use Rattle.clap.proofs.ValueTestLemmas.{Accepts-accepts, accepts-Accepts}
 use Rattle.clap.specs.ValueTests.{is_unsigned_in}
 use Rattle.clap.specs.declared.builder.value_parser.ValueParser.TheVariants.{Unsigned}
 use Rattle.ring_program.specs.CommandLine.{largest, number_in}
-use Rattle.ring_program.proofs.run_line.number_of.Goals as goal
+use Rattle.ring_program.proofs.options.number_of.Goals as goal
 
 abbrev IsWritten : List ℕ → Type 0
 IsWritten text = IsNumeral 10 (without_leading_plus text) × (digits_value 10 (without_leading_plus text) < 2 ^ 64)

@@ -1,0 +1,134 @@
+//! What is told of words that name no ring, or that give a number with a minus sign.
+ghost use Rattle.std.specs.Prelude.{◌≡◌};
+
+use crate::answers::complain;
+use clap::Error;
+use std::fmt;
+use std::fmt::{Display, Formatter};
+use std::io::Write;
+
+/// The most characters of a word that are told.
+const TOLD: usize = 80;
+
+/// The number options of `run`, as its help names them.
+const NUMBERS: [(&str, &str); 7] = [
+    ("--capacity", "--capacity <B>"),
+    ("--modulus", "--modulus <M>"),
+    ("--width", "--width <W>"),
+    ("--count", "--count <N>"),
+    ("--limit", "--limit <L>"),
+    ("--takes", "--takes <T>"),
+    ("--batch", "--batch <G>"),
+];
+
+// A word that was given, as it is told: as it is, where it is short and has only printable ASCII; else with escapes, and `..`
+// in place of what goes beyond the most characters.
+#[derive(Clone, Copy, Drop)]
+struct Told<'a>(&'a str);
+
+impl Told<'_> {
+    fn is_plain(&self) -> bool {
+        self.0.len() <= TOLD && self.0.bytes().all(|byte| (b' '..=b'~').contains(&byte))
+    }
+}
+
+impl Display for Told<'_> {
+    fn fmt<W: fmt::Write>(&self, f: &mut Formatter<W>) -> fmt::Result {
+        if self.is_plain() {
+            return f.write_str(self.0);
+        }
+        let mut room = TOLD;
+        for letter in self.0.chars() {
+            let escaped = letter.escape_default();
+            let length = escaped.len();
+            if room < length {
+                return f.write_str("..");
+            }
+            room -= length;
+            write!(f, "{escaped}")?;
+        }
+        Ok(())
+    }
+}
+
+// The name of the ring that the words ask for.
+fn ring_named<'a>(words: &[&'a str]) -> Option<&'a str> {
+    let (_program, words) = words.split_first()?;
+    if let Some(name) = words.iter().find_map(|word| word.strip_prefix("--ring=")) {
+        return Some(name);
+    }
+    let place = words.iter().position(|word| *word == "--ring")?;
+    words.get(place + 1).copied()
+}
+
+/// The words were taken, and name no command or no ring. Tells it, and gives the exit status.
+pub fn unnamed<E: Write>(words: &[&str], err: &mut E) -> u8
+    ensures { result ≡ 2 }
+{
+    match ring_named(words) {
+        Some(name) => {
+            let name = Told(name);
+            complain(
+                err,
+                format_args!(
+                    "error: no ring is called '{name}': a ring is flicker or counter\n\nFor more information, try '--help'.\n"
+                ),
+            );
+        }
+        None => complain(
+            err,
+            "error: no such command, or no such ring: a ring is flicker or counter\n\nFor more information, try '--help'.\n",
+        ),
+    }
+    2
+}
+
+// The help's name of the option of numbers that has this name.
+fn number_option(name: &str) -> Option<&'static str> {
+    for (option, told) in NUMBERS {
+        if option == name {
+            return Some(told);
+        }
+    }
+    None
+}
+
+// A minus sign and a digit begin the word.
+fn is_signed(word: &str) -> bool {
+    match word.as_bytes() {
+        [b'-', digit, ..] => digit.is_ascii_digit(),
+        _ => false,
+    }
+}
+
+// The first number with a minus sign behind an option of `run`, with the option that it stands behind.
+fn signed_number<'a>(words: &[&'a str]) -> Option<(&'static str, &'a str)> {
+    if words.get(1) != Some(&"run") {
+        return None;
+    }
+    for pair in words.windows(2) {
+        if is_signed(pair[1]) {
+            if let Some(option) = number_option(pair[0]) {
+                return Some((option, pair[1]));
+            }
+        }
+    }
+    None
+}
+
+/// Tells a fault of the command line. A number with a minus sign is told in words of our own, since the parser takes it for
+/// an option.
+pub fn tell_mistake<E: Write>(words: &[&str], error: &Error, err: &mut E) {
+    match signed_number(words) {
+        Some((option, number)) => {
+            let number = Told(number);
+            complain(
+                err,
+                format_args!(
+                    "error: invalid value '{number}' for '{option}': a number has no minus sign\n\nFor more information, try '--help'.\n"
+                ),
+            );
+        }
+        None => complain(err, error),
+    }
+}
