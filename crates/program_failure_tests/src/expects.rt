@@ -105,15 +105,16 @@ pub fn expect_failed_writes(
     expect_written(rt, words, bytes, HaltingWriter::unflushed(), 1, length);
 }
 
-/// A standard error that takes nothing changes no status.
+/// A standard error that fails after so many writes changes no status.
 pub fn expect_unheard(
     rt: &(impl Abort + AllocGlobal + Threads),
+    writes_before: u64,
     rows: &[(&'static [&'static str], &'static str, u8)],
 ) {
     for (words, input, status) in rows {
         let mut bytes = input.as_bytes();
         let mut output = Vec::new(rt.alloc());
-        let mut errors = HaltingWriter::after(0);
+        let mut errors = HaltingWriter::after(writes_before);
         let ended = execute(rt, rt.alloc(), words, &mut bytes, &mut output, &mut errors);
         assert_eq!(rt; ended, *status, "status of {words:?}");
     }
@@ -204,6 +205,40 @@ pub fn expect_refused_or_right(
         refused = refused.saturating_add(u64::from(is_refused));
     }
     assert!(rt; false, "a growth was refused each time");
+}
+
+/// A command line, an input that is refused, and what the standard error is told.
+pub type Told = (&'static [&'static str], &'static str, &'static str);
+
+// A run without the growth that comes after so many: whether there was one to refuse. The standard error is told that
+// memory ran out, or why the input is refused.
+fn expect_told(rt: &(impl Abort + AllocGlobal + Threads), row: &Told, allocations: u64) -> bool {
+    let (words, input, err) = row;
+    let alloc = Refusing::after(rt.alloc(), allocations);
+    let mut bytes = input.as_bytes();
+    let mut output = Vec::new(rt.alloc());
+    let mut errors = Vec::new(rt.alloc());
+    let ended = execute(rt, &alloc, words, &mut bytes, &mut output, &mut errors);
+    assert_eq!(rt; ended, 1, "growth {allocations}");
+    assert!(rt; output.is_empty());
+    let is_short = errors.as_slice() == b"refused: out of memory\n".as_slice();
+    assert!(rt; is_short || errors.as_slice() == err.as_bytes());
+    assert!(rt; !is_short || alloc.has_refused());
+    alloc.has_refused()
+}
+
+/// Each growth of each run refused in turn, and none.
+pub fn expect_told_at_each_growth(rt: &(impl Abort + AllocGlobal + Threads), rows: &[Told]) {
+    for row in rows {
+        let mut is_whole = false;
+        for allocations in 0..100 {
+            if !expect_told(rt, row, allocations) {
+                is_whole = true;
+                break;
+            }
+        }
+        assert!(rt; is_whole);
+    }
 }
 
 /// `load`, each growth refused in turn, and none.

@@ -1,8 +1,8 @@
 use crate::expects::{
-    AUDIT, BITS, Growing, PLAY, TRACE, expect_failed_reads, expect_failed_writes, expect_read,
-    expect_refused_finding, expect_refused_growths, expect_refused_load, expect_refused_or_right,
-    expect_refused_report, expect_refused_text, expect_refused_trace, expect_unheard,
-    expect_written,
+    AUDIT, BITS, Growing, PLAY, TRACE, Told, expect_failed_reads, expect_failed_writes,
+    expect_read, expect_refused_finding, expect_refused_growths, expect_refused_load,
+    expect_refused_or_right, expect_refused_report, expect_refused_text, expect_refused_trace,
+    expect_told_at_each_growth, expect_unheard, expect_written,
 };
 use crate::fakes::{HaltingReader, HaltingWriter};
 use bits_core::{Kind, Verdict};
@@ -117,7 +117,33 @@ const UNHEARD: [(&[&str], &str, u8); 6] = [
 
 #[test]
 fn ignores_a_failed_standard_error(rt: HostRuntime) {
-    expect_unheard(&rt, &UNHEARD);
+    // at the first byte, at the first of the line that tells the cause, and within it
+    expect_unheard(&rt, 0, &UNHEARD);
+    expect_unheard(&rt, 50, &UNHEARD);
+    expect_unheard(&rt, 60, &UNHEARD);
+}
+
+const TOLD: [Told; 3] = [
+    (
+        AUDIT,
+        "shape 1 3 1\nP read r0\nP got r0\n",
+        "refused: trace line 3 is not a line of the format\n  line 3 is none of: S read BIT, S got BIT V, S write BIT V, S wrote BIT: \"P got r0\"\n",
+    ),
+    (
+        PLAY,
+        "{",
+        "refused: script is not JSON\n  EOF while parsing at line 1 column 1\n",
+    ),
+    (
+        TRACE,
+        "{\"capacity\":1,\"modulus\":3,\"width\":1,\"items\":[1],\"takes\":1,\"close\":false,\"schedule\":\"P8C10\",\"oracle\":\"1x\"}",
+        "refused: oracle is wrong at byte 1\n  byte 1 of oracle is \"x\"\n",
+    ),
+];
+
+#[test]
+fn a_cause_takes_no_status_away(rt: HostRuntime) {
+    expect_told_at_each_growth(&rt, &TOLD);
 }
 
 const GROWING: [Growing; 5] = [

@@ -87,16 +87,17 @@ pub fn expect_verdicts(
     }
 }
 
-/// Each input is refused, with these words.
+/// Each input is refused by these commands, with these words.
 pub fn expect_refusals(
     rt: &(impl Abort + AllocGlobal + Threads),
-    rows: &[(&'static str, &'static str)],
+    commands: &[&[&str]],
+    rows: &[(&'static [u8], &'static str)],
 ) {
     for (input, err) in rows {
-        let mut bytes = input.as_bytes();
-        expect_run_on(rt, BITS, &mut bytes, 1, "", err);
-        let mut bytes = input.as_bytes();
-        expect_run_on(rt, AUDIT, &mut bytes, 1, "", err);
+        for words in commands {
+            let mut bytes = *input;
+            expect_run_on(rt, words, &mut bytes, 1, "", err);
+        }
     }
 }
 
@@ -128,19 +129,6 @@ pub fn expect_lawful_plays(
         assert_eq!(rt; ended, 0);
         expect_run_on(rt, BITS, &mut trace.as_slice(), 0, "lawful\n", "");
         expect_run_on(rt, AUDIT, &mut trace.as_slice(), 0, found, "");
-    }
-}
-
-/// Each input is refused by the player, with these words.
-pub fn expect_refused_scripts(
-    rt: &(impl Abort + AllocGlobal + Threads),
-    rows: &[(&'static str, &'static str)],
-) {
-    for (input, err) in rows {
-        let mut bytes = input.as_bytes();
-        expect_run_on(rt, PLAY, &mut bytes, 1, "", err);
-        let mut bytes = input.as_bytes();
-        expect_run_on(rt, TRACE, &mut bytes, 1, "", err);
     }
 }
 

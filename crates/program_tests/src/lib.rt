@@ -8,6 +8,8 @@ mod expects;
 #[cfg(test)]
 mod plays;
 #[cfg(test)]
+mod refusals;
+#[cfg(test)]
 mod runs;
 #[cfg(test)]
 mod tests;

@@ -1,6 +1,4 @@
-use crate::expects::{
-    expect_lawful_plays, expect_plays, expect_refusal_words, expect_refused_scripts, expect_report,
-};
+use crate::expects::{expect_lawful_plays, expect_plays, expect_refusal_words, expect_report};
 use bits_core::ShapeFault;
 use ring_audit::AuditFault;
 use ring_player::{PlayFault, ScriptFault};
@@ -135,54 +133,6 @@ const FOUND: [(&str, &str); 4] = [
 #[test]
 fn the_trace_of_a_play_is_lawful(rt: HostRuntime) {
     expect_lawful_plays(&rt, &FOUND);
-}
-
-const REFUSALS: [(&str, &str); 13] = [
-    ("", "refused: script is not JSON\n"),
-    ("{", "refused: script is not JSON\n"),
-    ("[]", "refused: script is not an object\n"),
-    (
-        "{\"capacity\":1,\"modulus\":3,\"width\":1,\"items\":[1],\"takes\":1,\"close\":false,\"schedule\":\"P8C10\",\"oracle\":\"\",\"note\":1}",
-        "refused: script has an unknown field\n",
-    ),
-    ("{}", "refused: field capacity is missing\n"),
-    (
-        "{\"capacity\":\"1\",\"modulus\":3,\"width\":1,\"items\":[1],\"takes\":1,\"close\":false,\"schedule\":\"P8C10\",\"oracle\":\"\"}",
-        "refused: field capacity has the wrong kind\n",
-    ),
-    (
-        "{\"capacity\":1,\"modulus\":3,\"width\":1,\"items\":[1],\"takes\":1,\"close\":false,\"schedule\":\"P8C10\",\"oracle\":\"\",\"batch\":\"1\"}",
-        "refused: field batch has the wrong kind\n",
-    ),
-    (
-        "{\"capacity\":1,\"modulus\":2,\"width\":1,\"items\":[1],\"takes\":1,\"close\":false,\"schedule\":\"P8C10\",\"oracle\":\"\"}",
-        "refused: modulus must be from capacity + batch + 1 to 256\n",
-    ),
-    (
-        "{\"capacity\":1,\"modulus\":3,\"width\":1,\"items\":[1],\"takes\":1,\"close\":false,\"schedule\":\"P8C10\",\"oracle\":\"\",\"batch\":0}",
-        "refused: batch must be from 1 to capacity\n",
-    ),
-    (
-        "{\"capacity\":1,\"modulus\":3,\"width\":1,\"items\":[2],\"takes\":1,\"close\":false,\"schedule\":\"P8C10\",\"oracle\":\"\"}",
-        "refused: item 0 does not fit the width\n",
-    ),
-    (
-        "{\"capacity\":1,\"modulus\":3,\"width\":1,\"items\":[1],\"takes\":1,\"close\":false,\"schedule\":\"P0C\",\"oracle\":\"\"}",
-        "refused: schedule is wrong at byte 1\n",
-    ),
-    (
-        "{\"capacity\":1,\"modulus\":3,\"width\":1,\"items\":[1],\"takes\":1,\"close\":false,\"schedule\":\"P1000001\",\"oracle\":\"\"}",
-        "refused: schedule is too long\n",
-    ),
-    (
-        "{\"capacity\":1,\"modulus\":3,\"width\":1,\"items\":[1],\"takes\":1,\"close\":false,\"schedule\":\"P8C10\",\"oracle\":\"01x\"}",
-        "refused: oracle is wrong at byte 2\n",
-    ),
-];
-
-#[test]
-fn refuses_what_is_no_script(rt: HostRuntime) {
-    expect_refused_scripts(&rt, &REFUSALS);
 }
 
 #[test]

@@ -1,6 +1,6 @@
 use crate::expects::{
-    BITS, expect_faults, expect_load, expect_refusals, expect_run_on, expect_statuses,
-    expect_texts, expect_verdicts, expect_words,
+    BITS, expect_faults, expect_load, expect_run_on, expect_statuses, expect_texts,
+    expect_verdicts, expect_words,
 };
 use bits_core::Kind;
 use ring_program::{AppFault, INPUT_LIMIT};
@@ -61,33 +61,6 @@ const VERDICTS: [(&str, u8, &str); 11] = [
 #[test]
 fn tells_the_verdict(rt: HostRuntime) {
     expect_verdicts(&rt, BITS, &VERDICTS);
-}
-
-const REFUSALS: [(&str, &str); 7] = [
-    (
-        "shape 1 3 1\nP read r",
-        "refused: trace line 2 is not a line of the format\n",
-    ),
-    ("", "refused: trace line 1 is not a line of the format\n"),
-    (
-        "shape 1 2 1\n",
-        "refused: modulus must be from capacity + batch + 1 to 256\n",
-    ),
-    ("shape 65 2 1\n", "refused: capacity must be from 1 to 64\n"),
-    ("shape 1 3 0\n", "refused: width must be from 1 to 64\n"),
-    (
-        "shape 1 3 1\nP read r0",
-        "refused: trace line 2 is not a line of the format\n",
-    ),
-    (
-        "shape 1 3 1\nP read r3\n",
-        "refused: trace line 2 is not a line of the format\n",
-    ),
-];
-
-#[test]
-fn refuses_what_is_no_trace(rt: HostRuntime) {
-    expect_refusals(&rt, &REFUSALS);
 }
 
 #[test]

@@ -3,6 +3,7 @@
 #![tactic(auto)]
 
 mod answers;
+mod causes;
 mod command_line;
 mod faults;
 mod inputs;
@@ -14,6 +15,7 @@ mod reports;
 mod run_line;
 mod runs;
 mod texts;
+mod trace_lines;
 
 pub use answers::{complain, refuse};
 pub use faults::{AppFault, Refusal};

@@ -2,12 +2,13 @@
 ghost use Rattle.std.specs.Prelude.{◌≡◌, ◌≢◌, ◌≤◌, ◌⊎◌, List, ℕ, None, IfOk, IfErr, IfSome, IfNone, OnOk, OnErr, length, map, string_bytes, take};
 ghost use Rattle.std.specs.Io.KnownBytes.{Appends, Keeps};
 ghost use Rattle.clap.specs.Words.{fault_of, kind_of};
-ghost use Rattle.ring_program.specs.Answers.{Answers, AnswersWithin, AuditsBits, AuditsPrograms, Ends, EndsOn, EndsUnasked, Explains, IsCause, IsOutOfMemory, IsShortage, IsStatus, IsStatusOn, MayEnd, PlaysScript, RefusedOn, Refuses, RefusesScript, RefusesTrace, TracesScript, finding_ending_of, question_in, verdict_ending_of};
+ghost use Rattle.ring_program.specs.Answers.{Answers, AnswersWithin, AuditsBits, AuditsPrograms, Ends, EndsOn, EndsUnasked, Explains, IsCause, IsOutOfMemory, IsShortage, IsStatus, IsStatusOn, MayEnd, PlaysScript, RefusedOn, Refuses, RefusesScript, RefusesTrace, TracesScript, finding_ending_of, question_in, status_of, verdict_ending_of};
 ghost use Rattle.ring_audit.specs.Audit.{statement};
 ghost use Rattle.ring_program.specs.declared.inputs.TheConstants.{INPUT_LIMIT};
 ghost use Rattle.ring_program.specs.CommandLine.{application, request_of};
 
-use crate::answers::{Answer, Ending, conclude, refuse, write_whole};
+use crate::answers::{Answer, Ending, complain, conclude, refuse, write_whole};
+use crate::causes::cause_of;
 use crate::command_line::{Question, Request, read_words};
 use crate::faults::{AppFault, Refusal};
 use crate::inputs::load;
@@ -135,43 +136,70 @@ fn answer_to<A: Allocator + Copy>(
     }
 }
 
-// The answer to a question on the whole input.
-#[tactic(auto, unfolding(crate::specs::Answers::IsShortage, crate::specs::Answers::IsOutOfMemory))]
-fn work<A: Allocator + Copy, I: Read>(
+/// Answers the question on the whole input, and writes the answer after it is complete.
+#[tactic(auto, unfolding(crate::specs::Answers::IsShortage))]
+pub fn respond<A: Allocator + Copy, O: Write>(
     alloc: A,
     json: Global,
     question: Question,
-    input: &mut I,
-) -> Result<Answer<A>, Refusal>
-    ensures answered { IfOk result (λ answer. IfSome (I.remaining input.old) (λ bytes.
-        AnswersWithin question bytes (string_bytes answer.text) answer.ending)) }
-    ensures ends { IfOk result (λ answer. MayEnd question answer.ending) }
-    ensures refused { IfErr result (λ e. IfSome (I.remaining input.old) (λ bytes. IsCause question bytes e)) }
-    ensures unwritten { IfErr result (λ e. e ≢ Refusal.App AppFault.WriteFailed) }
-{
-    let bytes = load(alloc, input)?;
-    answer_to(alloc, json, question, bytes.as_slice())
-}
-
-/// Answers the question, and writes the answer after it is complete.
-pub fn respond<A: Allocator + Copy, I: Read, O: Write>(
-    alloc: A,
-    json: Global,
-    question: Question,
-    input: &mut I,
+    input: &[u8],
     out: &mut O,
 ) -> Result<Ending, Refusal>
-    ensures answered { IfOk result (λ ending. IfSome (I.remaining input.old) (λ bytes.
-        (text : List ℕ) × AnswersWithin question bytes text ending × Appends (O.contents out.old) (O.contents out.new) text)) }
+    requires within { length input.now ≤ INPUT_LIMIT }
+    ensures answered { IfOk result (λ ending. (text : List ℕ) × AnswersWithin question input.now text ending × Appends (O.contents out.old) (O.contents out.new) text) }
     ensures ends { IfOk result (MayEnd question) }
     // The cause is true, and a refusal leaves the output as it was, unless a write failed.
-    ensures refused { IfErr result (λ e. IfSome (I.remaining input.old) (λ bytes.
-        RefusedOn question bytes (O.contents out.old) (O.contents out.new) e)) }
+    ensures refused { IfErr result (RefusedOn question input.now (O.contents out.old) (O.contents out.new)) }
     ensures silent { IfErr result (λ e. e ≢ Refusal.App AppFault.WriteFailed → Keeps (O.contents out.old) (O.contents out.new)) }
 {
-    let answer = work(alloc, json, question, input)?;
+    let answer = answer_to(alloc, json, question, input)?;
     write_whole(out, answer.text.as_bytes())?;
     Ok(answer.ending)
+}
+
+// Says what is wrong in a text that was refused, where there is something to say.
+fn tell_cause<E: Write>(json: Global, input: &[u8], refusal: Refusal, err: &mut E) {
+    match cause_of(json, input, refusal) {
+        Some(cause) => complain(err, format_args!("  {cause}\n")),
+        None => {}
+    }
+}
+
+// The exit status of a question on this input, with what the standard error is told.
+fn conclude_on<E: Write>(
+    json: Global,
+    input: &[u8],
+    ended: Result<Ending, Refusal>,
+    err: &mut E,
+) -> u8
+    ensures ok { IfOk ended (λ ending. result ≡ status_of ending) }
+    ensures err { OnErr ended (result ≡ 1) }
+    ensures quiet { (result ≡ 1) ⊎ (err.new ≡ err.old) }
+{
+    let status = conclude(ended, err);
+    match ended {
+        Ok(_) => {}
+        Err(refusal) => tell_cause(json, input, refusal, err),
+    }
+    status
+}
+
+// The program on a question of the whole input.
+fn answer_input<A: Allocator + Copy, O: Write, E: Write>(
+    alloc: A,
+    json: Global,
+    question: Question,
+    input: &[u8],
+    out: &mut O,
+    err: &mut E,
+) -> u8
+    requires within { length input.now ≤ INPUT_LIMIT }
+    ensures asked { EndsOn question input.now (O.contents out.old) (O.contents out.new) result }
+    ensures quiet { (result ≡ 1) ⊎ ((result ≡ 2) ⊎ (err.new ≡ err.old)) }
+    ensures statuses { IsStatusOn question result }
+{
+    let ended = respond(alloc, json, question, input, out);
+    conclude_on(json, input, ended, err)
 }
 
 // The program on a question.
@@ -187,8 +215,10 @@ fn answer_question<A: Allocator + Copy, I: Read, O: Write, E: Write>(
     ensures quiet { (result ≡ 1) ⊎ ((result ≡ 2) ⊎ (err.new ≡ err.old)) }
     ensures statuses { IsStatusOn question result }
 {
-    let ended = respond(alloc, json, question, input, out);
-    conclude(ended, err)
+    match load(alloc, input) {
+        Ok(bytes) => answer_input(alloc, json, question, bytes.as_slice(), out, err),
+        Err(fault) => refuse(Refusal::App(fault), err),
+    }
 }
 
 // Help that was asked for goes to the output, and a fault of the command line to the standard error.

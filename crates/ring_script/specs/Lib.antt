@@ -9,3 +9,4 @@ pub mod ScheduleReading
 pub mod ScriptReading
 pub mod Views
 pub mod Borrowed
+pub mod Stops

@@ -7,9 +7,11 @@ mod fields;
 pub mod laws;
 mod schedules;
 mod scripts;
+mod stops;
 mod stores;
 
 pub use borrowed::{Fields, ScriptRef};
 pub use faults::{Field, ScriptFault};
 pub use schedules::{LETTER_LIMIT, Run};
 pub use scripts::{ITEM_LIMIT, Script};
+pub use stops::{JsonFault, byte_of_text, json_fault};
