@@ -1,4 +1,4 @@
-use crate::expects::{
+use crate::failure_expects::{
     AUDIT, BITS, Growing, PLAY, TRACE, Told, expect_failed_reads, expect_failed_writes,
     expect_read, expect_refused_finding, expect_refused_growths, expect_refused_load,
     expect_refused_or_right, expect_refused_report, expect_refused_text, expect_refused_trace,

@@ -1,0 +1,21 @@
+//! Tests of the program: what it writes and how it ends; also with readers, writers and an allocator that fail at a chosen call.
+#![tactic(auto)]
+
+#[cfg(test)]
+mod audits;
+#[cfg(test)]
+mod expects;
+#[cfg(test)]
+mod failure_expects;
+#[cfg(test)]
+mod failures;
+#[cfg(test)]
+mod fakes;
+#[cfg(test)]
+mod plays;
+#[cfg(test)]
+mod refusals;
+#[cfg(test)]
+mod runs;
+#[cfg(test)]
+mod words;
