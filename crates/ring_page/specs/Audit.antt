@@ -57,17 +57,18 @@ IsNothingSeen seen = (place : ℕ) → place < length seen → slice_index_or se
 
 -- ---- a trace
 
--- the verdict, as numbers
+-- the verdict, as numbers; those that it does not use are 0
 abbrev pub TellsVerdict : Verdict → Told → Type 0
-TellsVerdict Lawful told = told.outcome ≡ 0
+TellsVerdict Lawful told = (told.outcome ≡ 0) × (told.number ≡ 0) × (told.place ≡ 0)
 TellsVerdict (Fault place kind) told = (told.outcome ≡ 1) × (told.number ≡ kind_number kind) × (told.place ≡ place)
 
--- the numbers of the shape
+-- the numbers of the shape, which has no fault
 pub record TellsShape (shape : Shape) (told : Told) : Type 0 where
   pub capacity : told.capacity ≡ capacity_of shape
   pub modulus : told.modulus ≡ modulus_of shape
   pub width : told.width ≡ width_of shape
   pub batch : told.batch ≡ batch_of shape
+  pub no_fault : told.shape_fault ≡ 0
 
 -- the text is a trace, this is the verdict on it, and these are the marks of its events
 pub record TellsAudit (text : List ℕ) (marks : List Mark) (told : Told) : Type 0 where
@@ -83,18 +84,27 @@ pub record TellsAudit (text : List ℕ) (marks : List Mark) (told : Told) : Type
 
 -- ---- no trace
 
--- where the fault is
+-- where the fault is; a number that it does not use is 0
 abbrev pub TellsPlace : TraceFault → Told → Type 0
-TellsPlace (BadShape fault) told = told.shape_fault ≡ shape_fault_number fault
-TellsPlace (BadLine line) told = told.place ≡ line
-TellsPlace TooLong told = Unit {0}
-TellsPlace OutOfMemory told = Unit {0}
+TellsPlace (BadShape fault) told = (told.shape_fault ≡ shape_fault_number fault) × (told.place ≡ 0)
+TellsPlace (BadLine line) told = (told.shape_fault ≡ 0) × (told.place ≡ line)
+TellsPlace TooLong told = (told.shape_fault ≡ 0) × (told.place ≡ 0)
+TellsPlace OutOfMemory told = (told.shape_fault ≡ 0) × (told.place ≡ 0)
+
+-- there are no events, and no shape
+pub record TellsNoTrace (told : Told) : Type 0 where
+  pub count : told.count ≡ 0
+  pub capacity : told.capacity ≡ 0
+  pub modulus : told.modulus ≡ 0
+  pub width : told.width ≡ 0
+  pub batch : told.batch ≡ 0
 
 -- the fault, as numbers
 pub record TellsFault (fault : TraceFault) (told : Told) : Type 0 where
   pub outcome : told.outcome ≡ 2
   pub number : told.number ≡ trace_fault_number fault
   pub place : TellsPlace fault told
+  pub nothing : TellsNoTrace told
 
 -- the text is no trace, for this fault; or no trace of so few events as the page has room for
 pub record TellsRefusal (text : List ℕ) (told : Told) : Type 0 where

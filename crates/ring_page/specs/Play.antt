@@ -51,28 +51,47 @@ pub record Reports (script : Content) (history : List Event) (put taken : List �
   pub flickers_is : told.flickers ≡ flicker_count history
   pub all_letters_is : told.all_letters ≡ length script.letters
 
+-- no fault is told
+pub record TellsNoFault (told : Played) : Type 0 where
+  pub outcome : told.outcome ≡ 0
+  pub number : told.number ≡ 0
+  pub place : told.place ≡ 0
+  pub shape_fault : told.shape_fault ≡ 0
+
 -- this is told of the play of the script's first letters
 pub record IsPlayOf (script : Content) (letters : ℕ) (marks : List Mark) (put taken : List ℕ) (told : Played) : Type 0 where
   pub history : List Event
-  pub outcome : told.outcome ≡ 0
+  pub no_fault : TellsNoFault told
   pub plays : Plays script (take letters script.letters) history
   pub headline : HoldsHeadline script history
   pub are_marks : AreMarks history (length history) marks
   pub reports : Reports script history put taken told
 
--- the place of a fault
+-- the place of a fault; a number that it does not use is 0
 abbrev pub TellsFaultPlace : ScriptFault → Played → Type 0
-TellsFaultPlace (fault.Shape refusal) told = told.shape_fault ≡ shape_fault_number refusal
-TellsFaultPlace (fault.ItemTooWide place) told = told.place ≡ place
-TellsFaultPlace (fault.BadSchedule place) told = told.place ≡ place
-TellsFaultPlace (fault.BadOracle place) told = told.place ≡ place
-TellsFaultPlace _ told = Unit {0}
+TellsFaultPlace (fault.Shape refusal) told = (told.shape_fault ≡ shape_fault_number refusal) × (told.place ≡ 0)
+TellsFaultPlace (fault.ItemTooWide place) told = (told.shape_fault ≡ 0) × (told.place ≡ place)
+TellsFaultPlace (fault.BadSchedule place) told = (told.shape_fault ≡ 0) × (told.place ≡ place)
+TellsFaultPlace (fault.BadOracle place) told = (told.shape_fault ≡ 0) × (told.place ≡ place)
+TellsFaultPlace _ told = (told.shape_fault ≡ 0) × (told.place ≡ 0)
+
+-- nothing is reported
+pub record ReportsNothing (told : Played) : Type 0 where
+  pub no_count : told.count ≡ 0
+  pub no_put : told.put ≡ 0
+  pub no_taken : told.taken ≡ 0
+  pub no_told : told.told ≡ 0
+  pub no_full : told.full ≡ 0
+  pub no_empty : told.empty ≡ 0
+  pub no_flickers : told.flickers ≡ 0
+  pub no_all_letters : told.all_letters ≡ 0
 
 -- the fault, as numbers
 pub record TellsPlayFault (x : ScriptFault) (told : Played) : Type 0 where
   pub outcome : told.outcome ≡ 2
   pub number : told.number ≡ script_fault_number x
   pub place : TellsFaultPlace x told
+  pub nothing : ReportsNothing told
 
 -- the values stand for a script, which is that of any bytes whose fields hold them, and this is told of its play
 pub record TellsPlayed (held : Held) (letters : ℕ) (marks : List Mark) (put taken : List ℕ) (told : Played) : Type 0 where

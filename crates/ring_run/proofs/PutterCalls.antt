@@ -265,7 +265,7 @@ some_item (Some reply.Closed) N F h = (h.0, (reply.Closed, refl, h.1))
 
 -- ---- the clauses, from what the calls of a step say
 
-module _ (s : PutterState) (m : ProducerState) (start : List Event) (calls : Puts) (made : List Made) (c : Call) (at : PutterAt s.end m calls made) (is_call : call_of m ≡ s.call)
+module _ (s : PutterState (Unit {0})) (m : ProducerState) (start : List Event) (calls : Puts) (made : List Made) (c : Call) (at : PutterAt s.end m calls made) (is_call : call_of m ≡ s.call)
     (w : start ≡ puts_whole s) (before : puts_whole s ≡ events_of P (put_program s.end.ring.shape calls))
     (m1 : ProducerState) (begins : CallBegins m m1 calls made c)
     (e' : RingEnd) (m' : ProducerState) (rests : call_of m1 ≡ None → (m' ≡ m1) × (e' ≡ s.end)) (steps : PutterAt s.end m1 calls made → call_of m1 ≢ None → PutterStep s.end m1 e' m' calls) where

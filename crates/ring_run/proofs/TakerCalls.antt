@@ -178,7 +178,7 @@ module _ (e e' : RingEnd) (m' : ConsumerState) (calls : Takes) (whole : List Eve
 
 -- ---- the clauses, from what the calls of a step say
 
-module _ (s : TakerState) (m : ConsumerState) (start : List Event) (calls : Takes) (made : List Made) (at : TakerAt s.end m calls made)
+module _ (s : TakerState (Unit {0})) (m : ConsumerState) (start : List Event) (calls : Takes) (made : List Made) (at : TakerAt s.end m calls made)
     (w : start ≡ takes_whole s) (before : takes_whole s ≡ events_of C (take_program s.end.ring.shape calls))
     (m1 : ConsumerState) (begins : TakeBegins m m1 calls made)
     (e' : RingEnd) (m' : ConsumerState) (rests : is_taking m1 ≡ false → (m' ≡ m1) × (e' ≡ s.end)) (steps : TakerAt s.end m1 calls made → is_taking m1 ≡ true → TakerStep s.end m1 e' m' calls) where

@@ -18,20 +18,21 @@ use Rattle.ring_run.specs.Ring.{RingEnd}
 
 -- ---- the producer's end
 
--- a putter: its end, the call under way, whether the last put was begun as one of several items, and what the list was where
--- the call under way began
-pub record PutterState : Type 0 where
+-- a putter: its end, the call under way, whether the last put was begun as one of several items, what the list was where
+-- the call under way began, and its oracle
+pub record PutterState (O : Type 0) : Type 0 where
   pub end : RingEnd
   pub call : Option producer.Call
   pub batched : Bool
   pub start : List Event
+  pub oracle : O
 
 -- the list without what was made of the call under way
 abbrev pub whole_put : Option producer.Call → List Event → List Event → List Event
 whole_put None list start = list
 whole_put (Some c) list start = start
 
-abbrev pub puts_whole : PutterState → List Event
+abbrev pub puts_whole : {O : Type 0} → PutterState O → List Event
 puts_whole p = whole_put p.call p.end.list p.start
 
 -- the list is that of these whole calls
@@ -75,17 +76,18 @@ pub record HasClosed (shape : Shape) (before after : List Event) : Type 0 where
 
 -- ---- the consumer's end
 
--- a taker: its end, whether a take is under way, and what its list was where that began
-pub record TakerState : Type 0 where
+-- a taker: its end, whether a take is under way, what its list was where that began, and its oracle
+pub record TakerState (O : Type 0) : Type 0 where
   pub end : RingEnd
   pub taking : Bool
   pub start : List Event
+  pub oracle : O
 
 abbrev pub whole_take : Bool → List Event → List Event → List Event
 whole_take false list start = list
 whole_take true list start = start
 
-abbrev pub takes_whole : TakerState → List Event
+abbrev pub takes_whole : {O : Type 0} → TakerState O → List Event
 takes_whole t = whole_take t.taking t.end.list t.start
 
 pub record HasTakes (shape : Shape) (list : List Event) (calls : Takes) : Type 0 where

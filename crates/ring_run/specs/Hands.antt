@@ -1,12 +1,16 @@
--- What one step of an end adds to its list.
-use Rattle.std.specs.Prelude.{◌≡◌, ◌⊎◌, ℕ, ◌+◌, Bool, [], ◌∷◌, ◌++◌, Option, Some, None}
+-- What one step of an end adds to its list, and what its reads answer.
+use Rattle.std.specs.Prelude.{◌≡◌, ◌⊎◌, ℕ, ◌+◌, Bool, List, [], ◌∷◌, ◌++◌, Option, Some, None, if◌then◌else◌}
 use Rattle.bits_core.specs.declared.events.Side.{Side}
 use Rattle.bits_core.specs.declared.events.Access.{Access}
+use Rattle.bits_core.specs.declared.events.Act.{Act}
+use Rattle.bits_core.specs.declared.events.Act.TheVariants.{ReadBegin, ReadEnd, WriteBegin, WriteEnd}
 use Rattle.bits_core.specs.declared.events.Event.{Event}
 use Rattle.bits_core.specs.History.{open_access}
 use Rattle.ring_run.specs.Ring.{RingEnd}
 use Rattle.ring_run.specs.Programs.{Follows, GoesOn, begin_of, end_of}
 use Rattle.ring_run.specs.Rule.{Stands}
+use Rattle.ring_run.specs.Words.{agrees, answer_of}
+use Rattle.ring_run.specs.declared.views.Loads.{Loads}
 
 -- the same end but for its list
 pub record IsSameEnd (a b : RingEnd) : Type 0 where
@@ -49,6 +53,37 @@ HasMade a b access v = (mid : RingEnd) × Grows a mid (begin_of a.side access) �
 abbrev pub IsAskedOnce : {O : Type 0} → (O → ℕ → Bool) → O → O → Type 0
 IsAskedOnce answers old new = (new ≡ old) ⊎ ((i : ℕ) → answers new i ≡ answers old (i + 1))
 
--- and where it was asked, this is what it said
-abbrev pub IsAskedFor : {O : Type 0} → (O → ℕ → Bool) → O → O → Bool → Type 0
-IsAskedFor answers old new v = (new ≡ old) ⊎ ((v ≡ answers old 0) × ((i : ℕ) → answers new i ≡ answers old (i + 1)))
+-- ---- what reads answer
+
+-- how often a read with these loads asks its oracle: not where they agree, and else once
+abbrev pub asks_of : Loads → ℕ
+asks_of l = if agrees l.first l.found then 0 else 1
+
+-- the same of reads one after another
+abbrev pub asked_by : List Loads → ℕ
+asked_by [] = 0
+asked_by (l ∷ rest) = asks_of l + asked_by rest
+
+-- what these reads answer, by the answers that their oracle has from now on
+abbrev pub answers_by : List Loads → (ℕ → Bool) → List Bool
+answers_by [] said = []
+answers_by (l ∷ rest) said = answer_of l.first l.found (said 0) ∷ answers_by rest (λ i. said (i + asks_of l))
+
+-- the answers of the reads that end in a list
+abbrev pub and_answer : Act → List Bool → List Bool
+and_answer ReadBegin rest = rest
+and_answer (ReadEnd v) rest = v ∷ rest
+and_answer (WriteBegin v) rest = rest
+and_answer WriteEnd rest = rest
+
+abbrev pub answers_in : List Event → List Bool
+answers_in [] = []
+answers_in (e ∷ rest) = and_answer e.act (answers_in rest)
+
+-- From a to b each read that ended was answered by its two loads where these agree, and else by its oracle, which was asked then,
+-- once, and for nothing else. The oracle is known by the answers that it has from now on, before and after.
+pub record AreAnswered (a b : RingEnd) (old new : ℕ → Bool) : Type 0 where
+  pub loads : List Loads
+  pub loads_are : b.loads ≡ a.loads ++ loads
+  pub answers_are : answers_in b.list ≡ answers_in a.list ++ answers_by loads old
+  pub asked : (i : ℕ) → new i ≡ old (i + asked_by loads)

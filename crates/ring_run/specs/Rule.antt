@@ -15,6 +15,7 @@ use Rattle.bits_core.specs.declared.events.Access.TheVariants.{Read}
 use Rattle.bits_core.specs.Bits.{same_side}
 use Rattle.bits_core.specs.History.{open_access, before_last}
 use Rattle.bits_core.specs.Made.{own, IsBeginning}
+use Rattle.ring_run.specs.declared.views.Loads.{Loads}
 use Rattle.ring_run.specs.declared.views.View.{View}
 use Rattle.ring_run.specs.Words.{shown, word_count, Shows}
 use Rattle.ring_run.specs.Programs.{IsRing}
@@ -28,16 +29,16 @@ no_event = event P X WriteEnd
 -- the views
 
 abbrev pub joint : List Event → List Event → List Event → List Event → View
-joint put taken known also = record { puts = true; takes = true; put = put; taken = taken; known = known; also = also; first = 0 }
+joint put taken known also = record { puts = true; takes = true; put = put; taken = taken; known = known; also = also; first = 0; loads = [] }
 
 abbrev pub spent : View
-spent = record { puts = false; takes = false; put = []; taken = []; known = []; also = []; first = 0 }
+spent = record { puts = false; takes = false; put = []; taken = []; known = []; also = []; first = 0; loads = [] }
 
 abbrev pub putter_of : View → View
-putter_of v = record { puts = true; takes = false; put = v.put; taken = []; known = v.known; also = v.also; first = v.first }
+putter_of v = record { puts = true; takes = false; put = v.put; taken = []; known = v.known; also = v.also; first = v.first; loads = v.loads }
 
 abbrev pub taker_of : View → View
-taker_of v = record { puts = false; takes = true; put = []; taken = v.taken; known = v.known; also = v.also; first = v.first }
+taker_of v = record { puts = false; takes = true; put = []; taken = v.taken; known = v.known; also = v.also; first = v.first; loads = v.loads }
 
 abbrev pub joined : View → View → View
 joined v w = joint v.put w.taken v.known w.known
@@ -58,13 +59,20 @@ kept_load (ReadEnd a) found n = n
 kept_load (WriteBegin v) found n = n
 kept_load WriteEnd found n = n
 
+-- the loads of the reads that have ended, by the first load of the read that may end here
+abbrev pub kept_loads : Act → ℕ → ℕ → List Loads → List Loads
+kept_loads ReadBegin first found loads = loads
+kept_loads (ReadEnd a) first found loads = loads ++ record { first = first; found = found } ∷ []
+kept_loads (WriteBegin v) first found loads = loads
+kept_loads WriteEnd first found loads = loads
+
 abbrev pub grown : Bool → Event → List Event → List Event
 grown true e list = list ++ e ∷ []
 grown false e list = list
 
 -- the view after a step of its seat that adds e, which found or wrote a number
 abbrev pub and_event : Side → Event → ℕ → View → View
-and_event x e found v = record { puts = v.puts; takes = v.takes; put = grown (same_side x P) e v.put; taken = grown (same_side x C) e v.taken; known = v.known; also = v.also; first = kept_load e.act found v.first }
+and_event x e found v = record { puts = v.puts; takes = v.takes; put = grown (same_side x P) e v.put; taken = grown (same_side x C) e v.taken; known = v.known; also = v.also; first = kept_load e.act found v.first; loads = kept_loads e.act v.first found v.loads }
 
 -- the rule
 

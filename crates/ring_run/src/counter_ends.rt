@@ -12,6 +12,8 @@ impl<'a> PutEnd for CounterPutter<'a> {
 
     ghost idle = { λ _. Unit {0} };
 
+    ghost answered = { λ _ _. Unit {0} };
+
     fn shape(&self) -> Shape {
         self.hand.ring.shape()
     }
@@ -33,6 +35,8 @@ impl<'a> TakeEnd for CounterTaker<'a> {
     ghost end = { λ t. t };
 
     ghost idle = { λ _. Unit {0} };
+
+    ghost answered = { λ _ _. Unit {0} };
 
     fn shape(&self) -> Shape {
         self.hand.ring.shape()

@@ -34,7 +34,7 @@ impl<'a> Model for CounterHand<'a> {
 
     ghost Value = { RingEnd };
 
-    ghost view = { λ h. record { ring = h.ring; side = h.side; list = list_of h.side h.seat.me.0; known = h.seat.me.0.known } };
+    ghost view = { λ h. record { ring = h.ring; side = h.side; list = list_of h.side h.seat.me.0; known = h.seat.me.0.known; loads = [] } };
 
     ghost invariant = { λ h. (h.seat.table_id ≡ h.ring.id) × (h.seat.me.1 ≡ []) × (may_step h.side h.seat.me.0 ≡ true) × (may_step (other h.side) h.seat.me.0 ≡ false) };
 }

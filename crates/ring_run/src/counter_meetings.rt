@@ -27,8 +27,8 @@ impl<A: Allocator> CounterRing<A> {
     /// no memory.
     pub fn ends<'a>(&'a self, start: CounterStart) -> (CounterPutter<'a>, CounterTaker<'a>)
         requires { start ≡ self.now.id }
-        ensures putter { result.0 ≡ record { ring = self.now; side = P; list = []; known = [] } }
-        ensures taker { result.1 ≡ record { ring = self.now; side = C; list = []; known = [] } }
+        ensures putter { result.0 ≡ record { ring = self.now; side = P; list = []; known = []; loads = [] } }
+        ensures taker { result.1 ≡ record { ring = self.now; side = C; list = []; known = []; loads = [] } }
         ensures lawful { StandsAs P result.0 × StandsAs C result.1 }
     {
         let (p, c) = first_hands(self.words(), self.words(), start);
@@ -143,8 +143,8 @@ fn first_hands<'a>(
     start: CounterStart,
 ) -> (CounterHand<'a>, CounterHand<'a>)
     requires { (same ≡ ring) × (start ≡ ring.id) }
-    ensures putter { result.0 ≡ record { ring = ring.entry; side = P; list = []; known = [] } }
-    ensures taker { result.1 ≡ record { ring = ring.entry; side = C; list = []; known = [] } }
+    ensures putter { result.0 ≡ record { ring = ring.entry; side = P; list = []; known = []; loads = [] } }
+    ensures taker { result.1 ≡ record { ring = ring.entry; side = C; list = []; known = []; loads = [] } }
     ensures lawful { StandsAs P result.0 × StandsAs C result.1 }
 {
     laws_below();

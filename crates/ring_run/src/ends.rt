@@ -21,6 +21,9 @@ pub trait PutEnd {
     /// No call is under way.
     ghost idle: { Self → Type 0 };
 
+    /// From the first to the second each read was answered as the end's reads are.
+    ghost answered: { Self → Self → Type 0 };
+
     /// The shape of the ring. At all times the end's list is one side of a lawful history whose two sides follow their
     /// programs, and which begins with what the end knows.
     fn shape(&self) -> Shape
@@ -35,7 +38,8 @@ pub trait PutEnd {
         ensures idle { idle self.new }
         ensures same { IsSameEnd (end self.old) (end self.new) }
         ensures lawful { StandsAs P (end self.new) }
-        ensures phrase { HasPut (end self.new).ring.shape item (end self.old).list (end self.new).list result };
+        ensures phrase { HasPut (end self.new).ring.shape item (end self.old).list (end self.new).list result }
+        ensures answered { answered self.old self.new };
 
     /// Puts the items under one count write, from the first on as many as there is room for: `Stored` with that
     /// number, `Full` where there is room for none. After a close the answer is `Closed`, with no access. There are 1 to
@@ -46,7 +50,8 @@ pub trait PutEnd {
         ensures idle { idle self.new }
         ensures same { IsSameEnd (end self.old) (end self.new) }
         ensures lawful { StandsAs P (end self.new) }
-        ensures phrase { HasPutAll (end self.new).ring.shape items.now (end self.old).list (end self.new).list result };
+        ensures phrase { HasPutAll (end self.new).ring.shape items.now (end self.old).list (end self.new).list result }
+        ensures answered { answered self.old self.new };
 
     /// Closes the ring: one write of the close bit. A second close makes no access.
     fn close(&mut self)
@@ -54,7 +59,8 @@ pub trait PutEnd {
         ensures idle { idle self.new }
         ensures same { IsSameEnd (end self.old) (end self.new) }
         ensures lawful { StandsAs P (end self.new) }
-        ensures phrase { HasClosed (end self.new).ring.shape (end self.old).list (end self.new).list };
+        ensures phrase { HasClosed (end self.new).ring.shape (end self.old).list (end self.new).list }
+        ensures answered { answered self.old self.new };
 }
 
 /// An end that takes. Its meaning is the list of its events, as for an end that puts.
@@ -70,6 +76,9 @@ pub trait TakeEnd {
     /// No take is under way.
     ghost idle: { Self → Type 0 };
 
+    /// From the first to the second each read was answered as the end's reads are.
+    ghost answered: { Self → Self → Type 0 };
+
     /// The shape of the ring. At all times the end's list is one side of a lawful history whose two sides follow their
     /// programs, and which begins with what the end knows.
     fn shape(&self) -> Shape
@@ -84,15 +93,19 @@ pub trait TakeEnd {
         ensures idle { idle self.new }
         ensures same { IsSameEnd (end self.old) (end self.new) }
         ensures lawful { StandsAs C (end self.new) }
-        ensures phrase { HasTaken (end self.new).ring.shape (end self.old).list (end self.new).list result };
+        ensures phrase { HasTaken (end self.new).ring.shape (end self.old).list (end self.new).list result }
+        ensures answered { answered self.old self.new };
 }
 
 impl<'a, O: Oracle + Drop> PutEnd for Putter<'a, O> {
     ghost use Rattle.std.specs.Prelude.{◌≡◌, None};
+    ghost use Rattle.ring_run.specs.Hands.{AreAnswered};
 
     ghost end = { λ p. p.end };
 
     ghost idle = { λ p. p.call ≡ None };
+
+    ghost answered = { λ p q. AreAnswered p.end q.end (O.answers p.oracle) (O.answers q.oracle) };
 
     fn shape(&self) -> Shape {
         self.core.shape()
@@ -113,10 +126,13 @@ impl<'a, O: Oracle + Drop> PutEnd for Putter<'a, O> {
 
 impl<'a, O: Oracle + Drop> TakeEnd for Taker<'a, O> {
     ghost use Rattle.std.specs.Prelude.{◌≡◌, false};
+    ghost use Rattle.ring_run.specs.Hands.{AreAnswered};
 
     ghost end = { λ p. p.end };
 
     ghost idle = { λ p. p.taking ≡ false };
+
+    ghost answered = { λ p q. AreAnswered p.end q.end (O.answers p.oracle) (O.answers q.oracle) };
 
     fn shape(&self) -> Shape {
         self.core.shape()

@@ -1,5 +1,5 @@
 //! The four steps of an end, for either side.
-ghost use Rattle.std.specs.Prelude.{◌≡◌, ℕ, ◌+◌, ◌⊎◌, true, false, [], ◌∷◌, ◌++◌, Some, IfSome, IfNone};
+ghost use Rattle.std.specs.Prelude.{◌≡◌, ℕ, ◌+◌, ◌⊎◌, Bool, true, false, [], ◌∷◌, ◌++◌, Some, IfSome, IfNone};
 ghost use Rattle.bits_core.specs.declared.events.Access.TheVariants.{Read, Write};
 ghost use Rattle.bits_core.specs.Shape.{belongs};
 ghost use Rattle.bits_core.specs.Bits.{reader, writer};
@@ -8,7 +8,7 @@ ghost use Rattle.bits_core.specs.History.{open_access};
 ghost use Rattle.ring_run.specs.Words.{digit, agrees, answer_of};
 ghost use Rattle.ring_run.specs.Programs.{Follows, GoesOn, begin_of, end_of};
 ghost use Rattle.ring_run.specs.Rule.{IsIdle};
-ghost use Rattle.ring_run.specs.Hands.{Grows, CanMake, CanStep, HasMade, HasStepped, IsAskedFor};
+ghost use Rattle.ring_run.specs.Hands.{AreAnswered, Grows, CanMake, CanStep, HasMade, HasStepped, IsAskedOnce};
 
 use crate::below::laws_below;
 use crate::views::View;
@@ -36,7 +36,7 @@ impl<'a> Model for Hand<'a> {
 
     ghost Value = { RingEnd };
 
-    ghost view = { λ h. record { ring = h.ring; side = h.side; list = list_of h.side h.seat.me.0; known = h.seat.me.0.known } };
+    ghost view = { λ h. record { ring = h.ring; side = h.side; list = list_of h.side h.seat.me.0; known = h.seat.me.0.known; loads = h.seat.me.0.loads } };
 
     ghost invariant = { λ h. (h.seat.table_id ≡ h.ring.id) × (h.seat.me.1 ≡ []) × (may_step h.side h.seat.me.0 ≡ true) × (may_step (other h.side) h.seat.me.0 ≡ false) × (h.seat.me.0.first ≡ h.first) × (h.opened ≡ open_access h.side (list_of h.side h.seat.me.0)) };
 }
@@ -46,7 +46,8 @@ impl<'a> Hand<'a> {
         requires bit { (belongs self.old.ring.shape bit ≡ true) × (self.old.side ≡ reader bit) }
         requires idle { IsIdle self.old.side self.old.list }
         requires program { Follows self.old.ring.shape self.old.side (self.old.list ++ begin_of self.old.side (Read bit) ∷ []) }
-        ensures { Grows self.old self.new (begin_of self.old.side (Read bit)) }
+        ensures grows { Grows self.old self.new (begin_of self.old.side (Read bit)) }
+        ensures quiet { (said : ℕ → Bool) → AreAnswered self.old self.new said said }
     {
         laws_below();
         let side = self.side;
@@ -62,7 +63,8 @@ impl<'a> Hand<'a> {
         requires at { open_access self.old.side self.old.list ≡ Some (Read bit) }
         requires program { GoesOn self.old.ring.shape self.old.side (Read bit) self.old.list }
         ensures grows { Grows self.old self.new (end_of self.old.side (Read bit) result) }
-        ensures oracle { IsAskedFor O.answers oracle.old oracle.new result }
+        ensures oracle { IsAskedOnce O.answers oracle.old oracle.new }
+        ensures answered { AreAnswered self.old self.new (O.answers oracle.old) (O.answers oracle.new) }
     {
         laws_below();
         let side = self.side;
@@ -77,7 +79,8 @@ impl<'a> Hand<'a> {
         requires bit { (belongs self.old.ring.shape bit ≡ true) × (self.old.side ≡ writer bit) }
         requires idle { IsIdle self.old.side self.old.list }
         requires program { Follows self.old.ring.shape self.old.side (self.old.list ++ begin_of self.old.side (Write bit value) ∷ []) }
-        ensures { Grows self.old self.new (begin_of self.old.side (Write bit value)) }
+        ensures grows { Grows self.old self.new (begin_of self.old.side (Write bit value)) }
+        ensures quiet { (said : ℕ → Bool) → AreAnswered self.old self.new said said }
     {
         laws_below();
         let side = self.side;
@@ -90,7 +93,8 @@ impl<'a> Hand<'a> {
         requires bit { (belongs self.old.ring.shape bit ≡ true) × (self.old.side ≡ writer bit) }
         requires at { open_access self.old.side self.old.list ≡ Some (Write bit value) }
         requires program { GoesOn self.old.ring.shape self.old.side (Write bit value) self.old.list }
-        ensures { Grows self.old self.new (end_of self.old.side (Write bit value) value) }
+        ensures grows { Grows self.old self.new (end_of self.old.side (Write bit value) value) }
+        ensures quiet { (said : ℕ → Bool) → AreAnswered self.old self.new said said }
     {
         laws_below();
         let side = self.side;
@@ -104,7 +108,8 @@ impl<'a> Hand<'a> {
         requires right { IsOpenRight self.old.ring.shape self.old.side access }
         requires idle { IsIdle self.old.side self.old.list }
         requires program { Follows self.old.ring.shape self.old.side (self.old.list ++ begin_of self.old.side access ∷ []) }
-        ensures { Grows self.old self.new (begin_of self.old.side access) }
+        ensures grows { Grows self.old self.new (begin_of self.old.side access) }
+        ensures quiet { (said : ℕ → Bool) → AreAnswered self.old self.new said said }
     {
         match access {
             Access::Read(bit) => self.begin_read(bit),
@@ -117,7 +122,8 @@ impl<'a> Hand<'a> {
         requires at { open_access self.old.side self.old.list ≡ Some access }
         requires program { GoesOn self.old.ring.shape self.old.side access self.old.list }
         ensures grows { Grows self.old self.new (end_of self.old.side access result) }
-        ensures oracle { IsAskedFor O.answers oracle.old oracle.new result }
+        ensures oracle { IsAskedOnce O.answers oracle.old oracle.new }
+        ensures answered { AreAnswered self.old self.new (O.answers oracle.old) (O.answers oracle.new) }
     {
         match access {
             Access::Read(bit) => self.end_read(bit, oracle),
@@ -136,7 +142,8 @@ impl<'a> Hand<'a> {
         requires bit { (belongs self.old.ring.shape bit ≡ true) × (self.old.side ≡ reader bit) }
         requires can { CanMake self.old (Read bit) }
         ensures made { HasMade self.old self.new (Read bit) result }
-        ensures oracle { IsAskedFor O.answers oracle.old oracle.new result }
+        ensures oracle { IsAskedOnce O.answers oracle.old oracle.new }
+        ensures answered { AreAnswered self.old self.new (O.answers oracle.old) (O.answers oracle.new) }
     {
         laws_below();
         let side = self.side;
@@ -153,7 +160,8 @@ impl<'a> Hand<'a> {
         requires ring { ring.now ≡ self.old.ring }
         requires bit { (belongs self.old.ring.shape bit ≡ true) × (self.old.side ≡ writer bit) }
         requires can { CanMake self.old (Write bit value) }
-        ensures { HasMade self.old self.new (Write bit value) value }
+        ensures made { HasMade self.old self.new (Write bit value) value }
+        ensures quiet { (said : ℕ → Bool) → AreAnswered self.old self.new said said }
     {
         laws_below();
         let side = self.side;
@@ -170,7 +178,8 @@ impl<'a> Hand<'a> {
         requires right { IsOpenRight self.old.ring.shape self.old.side access }
         requires can { CanMake self.old access }
         ensures made { HasMade self.old self.new access result }
-        ensures oracle { IsAskedFor O.answers oracle.old oracle.new result }
+        ensures oracle { IsAskedOnce O.answers oracle.old oracle.new }
+        ensures answered { AreAnswered self.old self.new (O.answers oracle.old) (O.answers oracle.new) }
     {
         match access {
             Access::Read(bit) => self.read(ring, bit, oracle),
@@ -186,8 +195,8 @@ impl<'a> Hand<'a> {
         requires right { IsOpenRight self.old.ring.shape self.old.side access }
         requires can { CanStep self.old access }
         ensures stepped { HasStepped self.old self.new access result }
-        ensures none { IfNone result (oracle.new ≡ oracle.old) }
-        ensures some { IfSome result (IsAskedFor O.answers oracle.old oracle.new) }
+        ensures oracle { IsAskedOnce O.answers oracle.old oracle.new }
+        ensures answered { AreAnswered self.old self.new (O.answers oracle.old) (O.answers oracle.new) }
     {
         match self.opened {
             None => {

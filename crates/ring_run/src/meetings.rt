@@ -62,9 +62,10 @@ impl<A: Allocator> FlickerRing<A> {
         oracle_c: O2,
     ) -> (Putter<'a, O1>, Taker<'a, O2>)
         requires { start ≡ self.now.id }
-        ensures putter { (result.0.end ≡ record { ring = self.now; side = P; list = []; known = [] }) × (result.0.call ≡ None) }
-        ensures taker { (result.1.end ≡ record { ring = self.now; side = C; list = []; known = [] }) × (result.1.taking ≡ false) }
+        ensures putter { (result.0.end ≡ record { ring = self.now; side = P; list = []; known = []; loads = [] }) × (result.0.call ≡ None) }
+        ensures taker { (result.1.end ≡ record { ring = self.now; side = C; list = []; known = []; loads = [] }) × (result.1.taking ≡ false) }
         ensures lawful { StandsAs P result.0.end × StandsAs C result.1.end }
+        ensures oracles { (result.0.oracle ≡ oracle_p) × (result.1.oracle ≡ oracle_c) }
     {
         let (p, c) = first_cores(self.words(), self.words(), start);
         (
@@ -88,7 +89,7 @@ impl<A: Allocator> FlickerRing<A> {
 impl FlickerRing<Global> {
     /// Both ends learn one lawful history, whose sides are their two lists and which begins with what each knew. All
     /// later calls of both stand behind it. The ends are those of one ring, with no call under way; they come back with
-    /// the same lists. It makes no access and takes no memory.
+    /// the same lists and the same oracles, which are asked nothing. It makes no access and takes no memory.
     pub fn meet<'a, O1: Oracle + Drop, O2: Oracle + Drop>(
         putter: Putter<'a, O1>,
         taker: Taker<'a, O2>,
@@ -100,6 +101,7 @@ impl FlickerRing<Global> {
         ensures one { result.1.end.known ≡ result.0.end.known }
         ensures meets { Meets putter.entry.end taker.entry.end result.0.end.known }
         ensures lawful { StandsAs P result.0.end × StandsAs C result.1.end }
+        ensures oracles { (result.0.oracle ≡ putter.entry.oracle) × (result.1.oracle ≡ taker.entry.oracle) }
     {
         let Putter {
             before: _,
@@ -131,8 +133,8 @@ impl FlickerRing<Global> {
     }
 
     /// Ends the ring's run, of which one lawful history is left, whose sides are the two lists and which begins with
-    /// what each end knew. The ends are those of one ring, with no call under way. It makes no access and takes no
-    /// memory.
+    /// what each end knew. The ends are those of one ring, with no call under way; they are gone, and their oracles with
+    /// them. It makes no access and takes no memory.
     pub fn finish<'a, O1: Oracle + Drop, O2: Oracle + Drop>(
         putter: Putter<'a, O1>,
         taker: Taker<'a, O2>,
@@ -161,8 +163,8 @@ impl FlickerRing<Global> {
 
 fn first_cores<'a>(ring: Words<'a>, same: Words<'a>, start: Start) -> (PutCore<'a>, TakeCore<'a>)
     requires { (same ≡ ring) × (start ≡ ring.id) }
-    ensures putter { (result.0.end ≡ record { ring = ring.entry; side = P; list = []; known = [] }) × (result.0.call ≡ None) }
-    ensures taker { (result.1.end ≡ record { ring = ring.entry; side = C; list = []; known = [] }) × (result.1.taking ≡ false) }
+    ensures putter { (result.0.end ≡ record { ring = ring.entry; side = P; list = []; known = []; loads = [] }) × (result.0.call ≡ None) }
+    ensures taker { (result.1.end ≡ record { ring = ring.entry; side = C; list = []; known = []; loads = [] }) × (result.1.taking ≡ false) }
     ensures lawful { StandsAs P result.0.end × StandsAs C result.1.end }
 {
     let shape = ring.shape();
@@ -253,8 +255,8 @@ pub(crate) fn is_closed_reply(reply: Option<TakeReply>) -> bool
 
 fn first_hands<'a>(ring: Words<'a>, same: Words<'a>, start: Start) -> (Hand<'a>, Hand<'a>)
     requires { (same ≡ ring) × (start ≡ ring.id) }
-    ensures putter { result.0 ≡ record { ring = ring.entry; side = P; list = []; known = [] } }
-    ensures taker { result.1 ≡ record { ring = ring.entry; side = C; list = []; known = [] } }
+    ensures putter { result.0 ≡ record { ring = ring.entry; side = P; list = []; known = []; loads = [] } }
+    ensures taker { result.1 ≡ record { ring = ring.entry; side = C; list = []; known = []; loads = [] } }
     ensures lawful { StandsAs P result.0 × StandsAs C result.1 }
 {
     laws_below();

@@ -9,7 +9,7 @@ ghost use Rattle.ring_core.specs.Lengths.{longest_put};
 ghost use Rattle.ring_core.specs.Puts.{Puts, IsBatch};
 ghost use Rattle.ring_core.specs.ProducerState.{Call, Put, Close, due_put, call_of};
 ghost use Rattle.ring_core.specs.ProducerCalls.{ProducerStands, longest_of};
-ghost use Rattle.ring_run.specs.Hands.{Grows, IsAskedOnce, IsSameEnd, StandsAs};
+ghost use Rattle.ring_run.specs.Hands.{AreAnswered, Grows, IsAskedOnce, IsSameEnd, StandsAs};
 ghost use Rattle.bits_core.specs.declared.events.Side.TheVariants.{P};
 ghost use Rattle.ring_run.specs.Ends.{HasPut, HasPutAll, HasPutPart, HasClosed, whole_put, puts_whole};
 ghost use Rattle.ring_run.specs.Machines.{PutterAt, PutterIn, PutterOver, PutterReady, PutterStep, CallBegins};
@@ -34,9 +34,9 @@ impl<'a> Model for PutCore<'a> {
     ghost use Rattle.ring_run.specs.Ends.{PutterState, whole_put};
     ghost use Rattle.ring_run.specs.Machines.{IsMarked, IsPutter, before_last, longest_at};
 
-    ghost Value = { PutterState };
+    ghost Value = { PutterState (Unit {0}) };
 
-    ghost view = { λ p. record { end = p.hand; call = call_of p.machine; batched = p.machine.batched; start = before_last p.steps p.hand.list } };
+    ghost view = { λ p. record { end = p.hand; call = call_of p.machine; batched = p.machine.batched; start = before_last p.steps p.hand.list; oracle = tt } };
 
     ghost invariant = { λ p. IsPutter p.hand p.machine (whole_put (call_of p.machine) p.hand.list (before_last p.steps p.hand.list)) × IsMarked p.steps p.hand.list (longest_at p.machine.shape (call_of p.machine)) };
 }
@@ -59,9 +59,9 @@ pub struct Putter<'a, O: Oracle + Drop> {
 impl<'a, O: Oracle + Drop> Model for Putter<'a, O> {
     ghost use Rattle.ring_run.specs.Ends.{PutterState};
 
-    ghost Value = { PutterState };
+    ghost Value = { PutterState O };
 
-    ghost view = { λ p. p.core };
+    ghost view = { λ p. record { end = p.core.end; call = p.core.call; batched = p.core.batched; start = p.core.start; oracle = p.oracle } };
 }
 
 // One step of the call under way.
@@ -71,6 +71,7 @@ fn advance<'a, O: Oracle>(hand: &mut Hand<'a>, machine: &mut Producer, oracle: &
     ensures kind { machine.new.batched ≡ machine.old.batched }
     ensures steps { (calls : Puts) (made : List Made) → PutterAt hand.old machine.old calls made → call_of machine.old ≢ None → PutterStep hand.old machine.old hand.new machine.new calls }
     ensures oracle { IsAskedOnce O.answers oracle.old oracle.new }
+    ensures answered { AreAnswered hand.old hand.new (O.answers oracle.old) (O.answers oracle.new) }
 {
     laws_below();
     let _expects = machine.expects_one();
@@ -92,6 +93,7 @@ fn finish_scan<'a, O: Oracle>(hand: &mut Hand<'a>, machine: &mut Producer, oracl
     ensures longer { length hand.old.list ≤ length hand.new.list }
     ensures rests { call_of machine.old ≡ None → (machine.new ≡ machine.old) × (hand.new ≡ hand.old) }
     ensures goes { (calls : Puts) (c : Call) → PutterIn hand.old machine.old calls c → PutterIn hand.new machine.new calls c }
+    ensures answered { AreAnswered hand.old hand.new (O.answers oracle.old) (O.answers oracle.new) }
 {
     laws_below();
     let Some(mut scan) = machine.scan() else {
@@ -120,6 +122,7 @@ fn write_word<'a, O: Oracle>(hand: &mut Hand<'a>, machine: &mut Producer, oracle
     ensures longer { length hand.old.list ≤ length hand.new.list }
     ensures rests { call_of machine.old ≡ None → (machine.new ≡ machine.old) × (hand.new ≡ hand.old) }
     ensures goes { (calls : Puts) (c : Call) → PutterIn hand.old machine.old calls c → PutterIn hand.new machine.new calls c }
+    ensures answered { AreAnswered hand.old hand.new (O.answers oracle.old) (O.answers oracle.new) }
 {
     laws_below();
     let Some(mut word) = machine.word() else {
@@ -148,6 +151,7 @@ fn write_count<'a, O: Oracle>(hand: &mut Hand<'a>, machine: &mut Producer, oracl
     ensures longer { length hand.old.list ≤ length hand.new.list }
     ensures rests { call_of machine.old ≡ None → (machine.new ≡ machine.old) × (hand.new ≡ hand.old) }
     ensures goes { (calls : Puts) (c : Call) → PutterIn hand.old machine.old calls c → PutterIn hand.new machine.new calls c }
+    ensures answered { AreAnswered hand.old hand.new (O.answers oracle.old) (O.answers oracle.new) }
 {
     laws_below();
     let ring = hand.ring.again();
@@ -169,6 +173,7 @@ fn finish<'a, O: Oracle>(hand: &mut Hand<'a>, machine: &mut Producer, oracle: &m
     ensures kind { machine.new.batched ≡ machine.old.batched }
     ensures rests { call_of machine.old ≡ None → (machine.new ≡ machine.old) × (hand.new ≡ hand.old) }
     ensures over { (calls : Puts) → PutterReady hand.old machine.old calls → (c : Call) → call_of machine.old ≡ Some c → PutterOver hand.new machine.new calls c }
+    ensures answered { AreAnswered hand.old hand.new (O.answers oracle.old) (O.answers oracle.new) }
 {
     laws_below();
     'accesses: loop {
@@ -258,6 +263,7 @@ impl<'a> PutCore<'a> {
         ensures some { IfSome result (λ r. (self.new.call ≡ None) × HasPut self.new.end.ring.shape item (puts_whole self.old) self.new.end.list r) }
         ensures few { length self.new.end.list ≤ length (puts_whole self.old) + 2 * longest_put self.new.end.ring.shape }
         ensures oracle { IsAskedOnce O.answers oracle.old oracle.new }
+        ensures answered { AreAnswered self.old.end self.new.end (O.answers oracle.old) (O.answers oracle.new) }
     {
         laws_below();
         begin_put(&mut self.machine, item);
@@ -278,6 +284,7 @@ impl<'a> PutCore<'a> {
         ensures some { IfSome result (λ r. (self.new.call ≡ None) × HasPutAll self.new.end.ring.shape items.now (puts_whole self.old) self.new.end.list r) }
         ensures few { length self.new.end.list ≤ length (puts_whole self.old) + 2 * longest_of self.new.end.ring.shape items.now }
         ensures oracle { IsAskedOnce O.answers oracle.old oracle.new }
+        ensures answered { AreAnswered self.old.end self.new.end (O.answers oracle.old) (O.answers oracle.new) }
     {
         laws_below();
         begin_put_all(&mut self.machine, items);
@@ -297,6 +304,7 @@ impl<'a> PutCore<'a> {
         ensures over { result ≡ true → (self.new.call ≡ None) × HasClosed self.new.end.ring.shape (puts_whole self.old) self.new.end.list }
         ensures few { length self.new.end.list ≤ length (puts_whole self.old) + 2 }
         ensures oracle { IsAskedOnce O.answers oracle.old oracle.new }
+        ensures answered { AreAnswered self.old.end self.new.end (O.answers oracle.old) (O.answers oracle.new) }
     {
         laws_below();
         begin_close(&mut self.machine);
@@ -315,6 +323,7 @@ impl<'a> PutCore<'a> {
         ensures lawful { StandsAs P self.new.end }
         ensures idle { self.new.call ≡ None }
         ensures phrase { HasPut self.new.end.ring.shape item self.old.end.list self.new.end.list result }
+        ensures answered { AreAnswered self.old.end self.new.end (O.answers oracle.old) (O.answers oracle.new) }
     {
         begin_put(&mut self.machine, item);
         finish(&mut self.hand, &mut self.machine, oracle);
@@ -332,6 +341,7 @@ impl<'a> PutCore<'a> {
         ensures lawful { StandsAs P self.new.end }
         ensures idle { self.new.call ≡ None }
         ensures phrase { HasPutAll self.new.end.ring.shape items.now self.old.end.list self.new.end.list result }
+        ensures answered { AreAnswered self.old.end self.new.end (O.answers oracle.old) (O.answers oracle.new) }
     {
         begin_put_all(&mut self.machine, items);
         finish(&mut self.hand, &mut self.machine, oracle);
@@ -348,6 +358,7 @@ impl<'a> PutCore<'a> {
         ensures lawful { StandsAs P self.new.end }
         ensures idle { self.new.call ≡ None }
         ensures phrase { HasClosed self.new.end.ring.shape self.old.end.list self.new.end.list }
+        ensures answered { AreAnswered self.old.end self.new.end (O.answers oracle.old) (O.answers oracle.new) }
     {
         begin_close(&mut self.machine);
         finish(&mut self.hand, &mut self.machine, oracle);
@@ -367,6 +378,8 @@ impl<'a, O: Oracle + Drop> Putter<'a, O> {
         ensures none { IfNone result ((self.new.call ≡ Some (Put (item ∷ []))) × (self.new.batched ≡ false) × (puts_whole self.new ≡ puts_whole self.old) × HasPutPart self.new.end.ring.shape (Put (item ∷ [])) (puts_whole self.new) self.new.end.list) }
         ensures some { IfSome result (λ r. (self.new.call ≡ None) × HasPut self.new.end.ring.shape item (puts_whole self.old) self.new.end.list r) }
         ensures few { length self.new.end.list ≤ length (puts_whole self.old) + 2 * longest_put self.new.end.ring.shape }
+        ensures oracle { IsAskedOnce O.answers self.old.oracle self.new.oracle }
+        ensures answered { AreAnswered self.old.end self.new.end (O.answers self.old.oracle) (O.answers self.new.oracle) }
     {
         self.core.step_put(item, &mut self.oracle)
     }
@@ -382,6 +395,8 @@ impl<'a, O: Oracle + Drop> Putter<'a, O> {
         ensures none { IfNone result ((self.new.call ≡ Some (Put items.now)) × (self.new.batched ≡ true) × (puts_whole self.new ≡ puts_whole self.old) × HasPutPart self.new.end.ring.shape (Put items.now) (puts_whole self.new) self.new.end.list) }
         ensures some { IfSome result (λ r. (self.new.call ≡ None) × HasPutAll self.new.end.ring.shape items.now (puts_whole self.old) self.new.end.list r) }
         ensures few { length self.new.end.list ≤ length (puts_whole self.old) + 2 * longest_of self.new.end.ring.shape items.now }
+        ensures oracle { IsAskedOnce O.answers self.old.oracle self.new.oracle }
+        ensures answered { AreAnswered self.old.end self.new.end (O.answers self.old.oracle) (O.answers self.new.oracle) }
     {
         self.core.step_put_all(items, &mut self.oracle)
     }
@@ -396,6 +411,8 @@ impl<'a, O: Oracle + Drop> Putter<'a, O> {
         ensures goes_on { result ≡ false → (self.new.call ≡ Some Close) × (puts_whole self.new ≡ puts_whole self.old) × HasPutPart self.new.end.ring.shape Close (puts_whole self.new) self.new.end.list }
         ensures over { result ≡ true → (self.new.call ≡ None) × HasClosed self.new.end.ring.shape (puts_whole self.old) self.new.end.list }
         ensures few { length self.new.end.list ≤ length (puts_whole self.old) + 2 }
+        ensures oracle { IsAskedOnce O.answers self.old.oracle self.new.oracle }
+        ensures answered { AreAnswered self.old.end self.new.end (O.answers self.old.oracle) (O.answers self.new.oracle) }
     {
         self.core.step_close(&mut self.oracle)
     }
@@ -408,6 +425,7 @@ impl<'a, O: Oracle + Drop> Putter<'a, O> {
         ensures lawful { StandsAs P self.new.end }
         ensures idle { self.new.call ≡ None }
         ensures phrase { HasPut self.new.end.ring.shape item self.old.end.list self.new.end.list result }
+        ensures answered { AreAnswered self.old.end self.new.end (O.answers self.old.oracle) (O.answers self.new.oracle) }
     {
         self.core.put(item, &mut self.oracle)
     }
@@ -420,6 +438,7 @@ impl<'a, O: Oracle + Drop> Putter<'a, O> {
         ensures lawful { StandsAs P self.new.end }
         ensures idle { self.new.call ≡ None }
         ensures phrase { HasPutAll self.new.end.ring.shape items.now self.old.end.list self.new.end.list result }
+        ensures answered { AreAnswered self.old.end self.new.end (O.answers self.old.oracle) (O.answers self.new.oracle) }
     {
         self.core.put_all(items, &mut self.oracle)
     }
@@ -431,6 +450,7 @@ impl<'a, O: Oracle + Drop> Putter<'a, O> {
         ensures lawful { StandsAs P self.new.end }
         ensures idle { self.new.call ≡ None }
         ensures phrase { HasClosed self.new.end.ring.shape self.old.end.list self.new.end.list }
+        ensures answered { AreAnswered self.old.end self.new.end (O.answers self.old.oracle) (O.answers self.new.oracle) }
     {
         self.core.close(&mut self.oracle);
     }

@@ -7,7 +7,7 @@ ghost use Rattle.ring_core.specs.Lengths.{longest_take};
 ghost use Rattle.ring_core.specs.Takes.{Takes};
 ghost use Rattle.ring_core.specs.ConsumerState.{due_take, is_taking};
 ghost use Rattle.ring_core.specs.ConsumerCalls.{ConsumerStands};
-ghost use Rattle.ring_run.specs.Hands.{Grows, IsAskedOnce, IsSameEnd, StandsAs};
+ghost use Rattle.ring_run.specs.Hands.{AreAnswered, Grows, IsAskedOnce, IsSameEnd, StandsAs};
 ghost use Rattle.bits_core.specs.declared.events.Side.TheVariants.{C};
 ghost use Rattle.ring_run.specs.Ends.{HasTaken, HasTakePart, whole_take, takes_whole};
 ghost use Rattle.ring_run.specs.Machines.{TakerAt, TakerIn, TakerOver, TakerReady, TakerStep, TakeBegins};
@@ -32,9 +32,9 @@ impl<'a> Model for TakeCore<'a> {
     ghost use Rattle.ring_run.specs.Ends.{TakerState, whole_take};
     ghost use Rattle.ring_run.specs.Machines.{IsMarked, IsTaker, before_last, longest_taking};
 
-    ghost Value = { TakerState };
+    ghost Value = { TakerState (Unit {0}) };
 
-    ghost view = { λ p. record { end = p.hand; taking = is_taking p.machine; start = before_last p.steps p.hand.list } };
+    ghost view = { λ p. record { end = p.hand; taking = is_taking p.machine; start = before_last p.steps p.hand.list; oracle = tt } };
 
     ghost invariant = { λ p. IsTaker p.hand p.machine (whole_take (is_taking p.machine) p.hand.list (before_last p.steps p.hand.list)) × IsMarked p.steps p.hand.list (longest_taking p.machine.shape (is_taking p.machine)) };
 }
@@ -57,9 +57,9 @@ pub struct Taker<'a, O: Oracle + Drop> {
 impl<'a, O: Oracle + Drop> Model for Taker<'a, O> {
     ghost use Rattle.ring_run.specs.Ends.{TakerState};
 
-    ghost Value = { TakerState };
+    ghost Value = { TakerState O };
 
-    ghost view = { λ p. p.core };
+    ghost view = { λ p. record { end = p.core.end; taking = p.core.taking; start = p.core.start; oracle = p.oracle } };
 }
 
 // One step of the take under way.
@@ -68,6 +68,7 @@ fn advance<'a, O: Oracle>(hand: &mut Hand<'a>, machine: &mut Consumer, oracle: &
     ensures rests { is_taking machine.old ≡ false → (machine.new ≡ machine.old) × (hand.new ≡ hand.old) }
     ensures steps { (calls : Takes) (made : List Made) → TakerAt hand.old machine.old calls made → is_taking machine.old ≡ true → TakerStep hand.old machine.old hand.new machine.new calls }
     ensures oracle { IsAskedOnce O.answers oracle.old oracle.new }
+    ensures answered { AreAnswered hand.old hand.new (O.answers oracle.old) (O.answers oracle.new) }
 {
     laws_below();
     let _expects = machine.expects_one();
@@ -88,6 +89,7 @@ fn finish_scan<'a, O: Oracle>(hand: &mut Hand<'a>, machine: &mut Consumer, oracl
     ensures longer { length hand.old.list ≤ length hand.new.list }
     ensures rests { is_taking machine.old ≡ false → (machine.new ≡ machine.old) × (hand.new ≡ hand.old) }
     ensures goes { (calls : Takes) → TakerIn hand.old machine.old calls → TakerIn hand.new machine.new calls }
+    ensures answered { AreAnswered hand.old hand.new (O.answers oracle.old) (O.answers oracle.new) }
 {
     laws_below();
     let Some(mut scan) = machine.scan() else {
@@ -115,6 +117,7 @@ fn read_word<'a, O: Oracle>(hand: &mut Hand<'a>, machine: &mut Consumer, oracle:
     ensures longer { length hand.old.list ≤ length hand.new.list }
     ensures rests { is_taking machine.old ≡ false → (machine.new ≡ machine.old) × (hand.new ≡ hand.old) }
     ensures goes { (calls : Takes) → TakerIn hand.old machine.old calls → TakerIn hand.new machine.new calls }
+    ensures answered { AreAnswered hand.old hand.new (O.answers oracle.old) (O.answers oracle.new) }
 {
     laws_below();
     let Some(mut word) = machine.word() else {
@@ -142,6 +145,7 @@ fn write_count<'a, O: Oracle>(hand: &mut Hand<'a>, machine: &mut Consumer, oracl
     ensures longer { length hand.old.list ≤ length hand.new.list }
     ensures rests { is_taking machine.old ≡ false → (machine.new ≡ machine.old) × (hand.new ≡ hand.old) }
     ensures goes { (calls : Takes) → TakerIn hand.old machine.old calls → TakerIn hand.new machine.new calls }
+    ensures answered { AreAnswered hand.old hand.new (O.answers oracle.old) (O.answers oracle.new) }
 {
     laws_below();
     let ring = hand.ring.again();
@@ -162,6 +166,7 @@ fn finish<'a, O: Oracle>(hand: &mut Hand<'a>, machine: &mut Consumer, oracle: &m
     ensures same { IsSameEnd hand.old hand.new }
     ensures rests { is_taking machine.old ≡ false → (machine.new ≡ machine.old) × (hand.new ≡ hand.old) }
     ensures over { (calls : Takes) → TakerReady hand.old machine.old calls → is_taking machine.old ≡ true → TakerOver hand.new machine.new calls }
+    ensures answered { AreAnswered hand.old hand.new (O.answers oracle.old) (O.answers oracle.new) }
 {
     laws_below();
     'accesses: loop {
@@ -222,6 +227,7 @@ impl<'a> TakeCore<'a> {
         ensures some { IfSome result (λ r. (self.new.taking ≡ false) × HasTaken self.new.end.ring.shape (takes_whole self.old) self.new.end.list r) }
         ensures few { length self.new.end.list ≤ length (takes_whole self.old) + 2 * longest_take self.new.end.ring.shape }
         ensures oracle { IsAskedOnce O.answers oracle.old oracle.new }
+        ensures answered { AreAnswered self.old.end self.new.end (O.answers oracle.old) (O.answers oracle.new) }
     {
         laws_below();
         begin_take(&mut self.machine);
@@ -239,6 +245,7 @@ impl<'a> TakeCore<'a> {
         ensures lawful { StandsAs C self.new.end }
         ensures idle { self.new.taking ≡ false }
         ensures phrase { HasTaken self.new.end.ring.shape self.old.end.list self.new.end.list result }
+        ensures answered { AreAnswered self.old.end self.new.end (O.answers oracle.old) (O.answers oracle.new) }
     {
         begin_take(&mut self.machine);
         finish(&mut self.hand, &mut self.machine, oracle);
@@ -259,6 +266,8 @@ impl<'a, O: Oracle + Drop> Taker<'a, O> {
         ensures none { IfNone result ((self.new.taking ≡ true) × (takes_whole self.new ≡ takes_whole self.old) × HasTakePart self.new.end.ring.shape (takes_whole self.new) self.new.end.list) }
         ensures some { IfSome result (λ r. (self.new.taking ≡ false) × HasTaken self.new.end.ring.shape (takes_whole self.old) self.new.end.list r) }
         ensures few { length self.new.end.list ≤ length (takes_whole self.old) + 2 * longest_take self.new.end.ring.shape }
+        ensures oracle { IsAskedOnce O.answers self.old.oracle self.new.oracle }
+        ensures answered { AreAnswered self.old.end self.new.end (O.answers self.old.oracle) (O.answers self.new.oracle) }
     {
         self.core.step_take(&mut self.oracle)
     }
@@ -270,6 +279,7 @@ impl<'a, O: Oracle + Drop> Taker<'a, O> {
         ensures lawful { StandsAs C self.new.end }
         ensures idle { self.new.taking ≡ false }
         ensures phrase { HasTaken self.new.end.ring.shape self.old.end.list self.new.end.list result }
+        ensures answered { AreAnswered self.old.end self.new.end (O.answers self.old.oracle) (O.answers self.new.oracle) }
     {
         self.core.take(&mut self.oracle)
     }

@@ -6,6 +6,12 @@ use bits_core::{Event, Shape};
 use std::collections::LinkedList;
 use std::marker::{Brand, PhantomData};
 
+// What the two loads of a read found. No value of it is made.
+pub struct Loads {
+    pub first: u64,
+    pub found: u64,
+}
+
 // What a seat knows. No value of it is made.
 pub struct View {
     // It may step as the putter, and as the taker.
@@ -18,6 +24,8 @@ pub struct View {
     pub also: LinkedList<Event>,
     // The first load of the open read.
     pub first: u64,
+    // What the loads of each read found that has ended since the ends were made or last met.
+    pub loads: LinkedList<Loads>,
 }
 
 // Between any two steps there is one lawful history.

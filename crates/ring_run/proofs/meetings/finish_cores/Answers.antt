@@ -8,20 +8,20 @@ pub join_hands-seat-requires-clause-idle : goal.join_hands-seat-requires-clause-
 join_hands-seat-requires-clause-idle c =
     let p = c.putter.inside in
     let t = c.taker.inside in (
-      putter_idle c.laws_below.ensures p.hand p.machine _ c.putter.invariant.0 (ap (λ (s : PutterState). s.call) c.putter.view_is ∙ c.requires.idle.0),
-      taker_idle c.laws_below.ensures t.hand t.machine _ c.taker.invariant.0 (ap (λ (s : TakerState). s.taking) c.taker.view_is ∙ c.requires.idle.1),
+      putter_idle c.laws_below.ensures p.hand p.machine _ c.putter.invariant.0 (ap (λ (s : PutterState (Unit {0})). s.call) c.putter.view_is ∙ c.requires.idle.0),
+      taker_idle c.laws_below.ensures t.hand t.machine _ c.taker.invariant.0 (ap (λ (s : TakerState (Unit {0})). s.taking) c.taker.view_is ∙ c.requires.idle.1),
     )
 
 pub returns-clause-told : goal.returns-clause-told
 returns-clause-told c =
     let t = c.taker.inside in
     let i = c.taker.invariant.0 in
-    subst (λ (s : TakerState). TellsAre s.end.ring.shape s.end.list c.is_closed_reply-told.result) c.taker.view_is
-    (tells_are t.hand t.machine _ i (ap (λ (s : TakerState). s.taking) c.taker.view_is ∙ c.requires.idle.1) c.reply.result (c.reply.ensures.stands i.calls i.made i.at.stands) c.is_closed_reply-told.result c.is_closed_reply-told.ensures)
+    subst (λ (s : TakerState (Unit {0})). TellsAre s.end.ring.shape s.end.list c.is_closed_reply-told.result) c.taker.view_is
+    (tells_are t.hand t.machine _ i (ap (λ (s : TakerState (Unit {0})). s.taking) c.taker.view_is ∙ c.requires.idle.1) c.reply.result (c.reply.ensures.stands i.calls i.made i.at.stands) c.is_closed_reply-told.result c.is_closed_reply-told.ensures)
 
 pub returns-clause-closed : goal.returns-clause-closed
 returns-clause-closed c =
     let p = c.putter.inside in
     let i = c.putter.invariant.0 in
-    subst (λ (s : PutterState). ClosesAre s.end.ring.shape s.end.list c.is_closed-closed.result) c.putter.view_is
-    (closes_are p.hand p.machine _ i (ap (λ (s : PutterState). s.call) c.putter.view_is ∙ c.requires.idle.0) c.is_closed-closed.result (c.is_closed-closed.ensures.stands i.calls i.made i.at.stands))
+    subst (λ (s : PutterState (Unit {0})). ClosesAre s.end.ring.shape s.end.list c.is_closed-closed.result) c.putter.view_is
+    (closes_are p.hand p.machine _ i (ap (λ (s : PutterState (Unit {0})). s.call) c.putter.view_is ∙ c.requires.idle.0) c.is_closed-closed.result (c.is_closed-closed.ensures.stands i.calls i.made i.at.stands))

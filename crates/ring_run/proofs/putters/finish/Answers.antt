@@ -4,6 +4,7 @@ use Rattle.ring_run.specs.Hands.{IsSameEnd}
 use Rattle.ring_run.proofs.PutterMoves.{right_there}
 use Rattle.ring_run.proofs.Accesses.{longer, same}
 use Rattle.ring_run.proofs.PutterWhole.{below, can_go, going, in_there, made_on, made_so, may_feed, over, went}
+use Rattle.ring_run.proofs.Answered.{answered_then}
 use Rattle.ring_run.proofs.putters.finish.Goals as goal
 
 pub finish_scan-requires : goal.finish_scan-requires
@@ -106,6 +107,7 @@ accesses-preserved g c =
           made_so (call_of m) e m b' c.feed.new.self calls call is
           (went c.laws_below.ensures b n calls call on a (sym i.due) (λ calls made stands. i.goes_on calls made a stands refl) i.bounded x.result x.ensures.due x.ensures.stands b' c.make-answer.result c.make-answer.ensures.made
           c.feed.new.self c.feed.ensures.shape (c.feed.ensures.stands calls on.made a on.at.stands (sym i.due))),
+      answered_then _ _ _ _ _ _ (answered_then _ _ _ _ _ _ (answered_then _ _ _ _ _ _ (answered_then _ _ _ _ _ _ c.accesses.invariant.3 c.finish_scan.ensures.answered) c.write_word.ensures.answered) c.write_count.ensures.answered) c.make-answer.ensures.answered,
     )
 
 pub returns-in_default-clause-over : goal.returns-in_default-clause-over
@@ -113,3 +115,6 @@ returns-in_default-clause-over g c calls ready call is =
     let e = c.args.hand.now in
     let m = c.args.machine.now in
     over e m c.write_count.new.hand c.write_count.new.machine calls call is (made_on (call_of m) e m c.write_word.new.hand c.write_word.new.machine c.write_count.new.hand c.write_count.new.machine calls refl (made_on (call_of m) e m c.finish_scan.new.hand c.finish_scan.new.machine c.write_word.new.hand c.write_word.new.machine calls refl (made_on (call_of m) e m c.accesses.hand c.accesses.machine c.finish_scan.new.hand c.finish_scan.new.machine calls refl (c.accesses.invariant.2 calls ready) c.finish_scan.ensures.rests (c.finish_scan.ensures.goes calls)) c.write_word.ensures.rests (c.write_word.ensures.goes calls)) c.write_count.ensures.rests (c.write_count.ensures.goes calls)) (λ made k at. (c.in_default.ensures.rest k made at.stands refl).0)
+
+pub returns-in_default-clause-answered : goal.returns-in_default-clause-answered
+returns-in_default-clause-answered g c = answered_then _ _ _ _ _ _ (answered_then _ _ _ _ _ _ (answered_then _ _ _ _ _ _ c.accesses.invariant.3 c.finish_scan.ensures.answered) c.write_word.ensures.answered) c.write_count.ensures.answered

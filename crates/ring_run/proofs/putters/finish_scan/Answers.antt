@@ -6,6 +6,9 @@ use Rattle.ring_core.specs.ProducerCalls.{ProducerStands, HasMoved}
 use Rattle.ring_run.proofs.Accesses.{longer, same}
 use Rattle.ring_run.proofs.PutterMoves.{right_there}
 use Rattle.ring_run.proofs.PutterWhole.{at_call, busy_at, can_go, goes_in, may_feed, same_scan, scan_is, went}
+use Rattle.ring_run.proofs.Answered.{answered_then, answered_same}
+use Rattle.ring_run.specs.Machines.{PutterGoes}
+use Rattle.ring_run.specs.Ring.{RingEnd}
 use Rattle.ring_run.proofs.putters.finish_scan.Goals as goal
 
 pub make-answer-requires-clause-right : goal.make-answer-requires-clause-right
@@ -81,4 +84,22 @@ reads-preserved g c =
           (ap (λ (p : ProducerState). p.shape) state)
           (subst (λ (v : Bool). HasMoved scan next calls (on.made ++ answered n.result v ∷ [])) (sym c.if-answer.false) (c.zero.ensures.stands calls on.made n.result on.at.stands n.ensures.due)) in
           goes_in b next calls one one goes (ap call_of state ∙ on.call_is),
+      answered_then _ _ _ _ _ _ was.6 m.ensures.answered,
+    )
+
+pub returns-then-answer-clause-answered : goal.returns-then-answer-clause-answered
+returns-then-answer-clause-answered g c = answered_then _ _ _ _ _ _ c.reads.invariant.6 c.make-answer.ensures.answered
+
+pub reads-init : goal.reads-init
+reads-init g c =
+    let e = c.args.hand.now in
+    let m = c.args.machine.now in
+    let some = c.in-Some.ensures.some in (
+      c.again-ring.ensures ∙ ap (λ (x : RingEnd). x.ring) c.hand.view_is,
+      record { ring = refl; side = refl; known = refl },
+      refl,
+      some.0 ∙ ap (λ (x : ProducerState). record m { scan = x.scan }) (sym some.0),
+      omega arith,
+      λ calls one was. subst (λ (x : ProducerState). PutterGoes e x calls one) (sym some.0) (goes_in e m calls one (Put m.items) was (at_call m Scanning (Put m.items) some.1 refl)),
+      answered_same e (g.O.Oracle.answers c.args.oracle.now),
     )

@@ -4,6 +4,7 @@ use Rattle.ring_core.specs.ProducerState.{Put, call_of}
 use Rattle.ring_run.proofs.Accesses.{longer, same}
 use Rattle.ring_run.proofs.PutterMoves.{right_there}
 use Rattle.ring_run.proofs.PutterWhole.{at_call, busy_at, can_go, count_due, goes_in, went}
+use Rattle.ring_run.proofs.Answered.{answered_then}
 use Rattle.ring_run.proofs.putters.write_count.Goals as goal
 
 pub make-answer-requires-clause-right : goal.make-answer-requires-clause-right
@@ -56,4 +57,5 @@ writes-preserved g c =
           let on = goes_in e n calls one (Put n.items) (c.writes.invariant.5 calls one at) (at_call n Counting (Put n.items) (c.is_counting.ensures.0 c.writes-test.true) refl) in
           went c.laws_below.ensures e n calls one on a (sym i.due) (λ calls made stands. i.goes_on calls made a stands refl) i.bounded x.result x.ensures.due x.ensures.stands b m.result m.ensures.made
           c.feed_count.new.self c.feed_count.ensures.shape (c.feed_count.ensures.stands calls on.made a on.at.stands (sym i.due)),
+      answered_then _ _ _ _ _ _ was.6 m.ensures.answered,
     )

@@ -6,6 +6,9 @@ use Rattle.ring_core.specs.ProducerCalls.{ProducerStands, HasMoved}
 use Rattle.ring_run.proofs.Accesses.{longer, same}
 use Rattle.ring_run.proofs.PutterMoves.{right_there}
 use Rattle.ring_run.proofs.PutterWhole.{at_call, busy_at, can_go, goes_in, same_word, went, word_is}
+use Rattle.ring_run.proofs.Answered.{answered_then, answered_same}
+use Rattle.ring_run.specs.Machines.{PutterGoes}
+use Rattle.ring_run.specs.Ring.{RingEnd}
 use Rattle.ring_run.proofs.putters.write_word.Goals as goal
 
 pub make-answer-requires-clause-right : goal.make-answer-requires-clause-right
@@ -69,4 +72,22 @@ writes-preserved g c =
           (λ k made stands t. absurd (true≢false (sym t))) b m.result m.ensures.made next
           (ap (λ (p : ProducerState). p.shape) state) (c.feed.ensures.stands calls on.made n.result on.at.stands n.ensures.due) in
           goes_in b next calls one one goes (ap call_of state ∙ on.call_is),
+      answered_then _ _ _ _ _ _ was.6 m.ensures.answered,
+    )
+
+pub returns-then-last-clause-answered : goal.returns-then-last-clause-answered
+returns-then-last-clause-answered g c = answered_then _ _ _ _ _ _ c.writes.invariant.6 c.make-answer.ensures.answered
+
+pub writes-init : goal.writes-init
+writes-init g c =
+    let e = c.args.hand.now in
+    let m = c.args.machine.now in
+    let some = c.in-Some.ensures.some in (
+      c.again-ring.ensures ∙ ap (λ (x : RingEnd). x.ring) c.hand.view_is,
+      record { ring = refl; side = refl; known = refl },
+      refl,
+      some.0 ∙ ap (λ (x : ProducerState). record m { word = x.word }) (sym some.0),
+      omega arith,
+      λ calls one was. subst (λ (x : ProducerState). PutterGoes e x calls one) (sym some.0) (goes_in e m calls one (Put m.items) was (at_call m Storing (Put m.items) some.1 refl)),
+      answered_same e (g.O.Oracle.answers c.args.oracle.now),
     )

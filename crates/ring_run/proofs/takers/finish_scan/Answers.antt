@@ -1,10 +1,13 @@
-use Rattle.std.proofs.Common.{Bool, true, ◌∷◌, [], ◌++◌, ap, sym, subst, ◌∙◌, arith}
+use Rattle.std.proofs.Common.{Bool, true, ◌∷◌, [], ◌++◌, ap, sym, subst, ◌∙◌, arith, refl}
 use Rattle.bits_core.specs.Made.{answered}
 use Rattle.ring_core.specs.ConsumerState.{ConsumerState, due_take, is_taking}
 use Rattle.ring_core.specs.ConsumerCalls.{ConsumerStands, HasMoved}
 use Rattle.ring_run.proofs.Accesses.{longer, same}
 use Rattle.ring_run.proofs.TakerMoves.{right_there}
 use Rattle.ring_run.proofs.TakerWhole.{can_go, goes_in, may_feed, same_scan, scan_is, went}
+use Rattle.ring_run.proofs.Answered.{answered_then, answered_same}
+use Rattle.ring_run.specs.Machines.{TakerGoes}
+use Rattle.ring_run.specs.Ring.{RingEnd}
 use Rattle.ring_run.proofs.takers.finish_scan.Goals as goal
 
 pub make-answer-requires-clause-right : goal.make-answer-requires-clause-right
@@ -72,4 +75,22 @@ reads-preserved g c =
           (ap (λ (p : ConsumerState). p.shape) state)
           (subst (λ (v : Bool). HasMoved scan next calls (on.made ++ answered n.result v ∷ [])) (sym c.if-answer.false) (c.zero.ensures.stands calls on.made n.result on.at.stands n.ensures.due)) in
           goes_in b next calls goes (ap is_taking state ∙ on.taking),
+      answered_then _ _ _ _ _ _ was.6 m.ensures.answered,
+    )
+
+pub returns-then-answer-clause-answered : goal.returns-then-answer-clause-answered
+returns-then-answer-clause-answered g c = answered_then _ _ _ _ _ _ c.reads.invariant.6 c.make-answer.ensures.answered
+
+pub reads-init : goal.reads-init
+reads-init g c =
+    let e = c.args.hand.now in
+    let m = c.args.machine.now in
+    let some = c.in-Some.ensures.some in (
+      c.again-ring.ensures ∙ ap (λ (x : RingEnd). x.ring) c.hand.view_is,
+      record { ring = refl; side = refl; known = refl },
+      refl,
+      some.0 ∙ ap (λ (x : ConsumerState). record m { scan = x.scan }) (sym some.0),
+      omega arith,
+      λ calls was. subst (λ (x : ConsumerState). TakerGoes e x calls) (sym some.0) (goes_in e m calls was some.1),
+      answered_same e (g.O.Oracle.answers c.args.oracle.now),
     )

@@ -6,6 +6,9 @@ use Rattle.ring_core.specs.ConsumerCalls.{ConsumerStands, HasMoved}
 use Rattle.ring_run.proofs.Accesses.{longer, same}
 use Rattle.ring_run.proofs.TakerMoves.{right_there}
 use Rattle.ring_run.proofs.TakerWhole.{taking_at, can_go, goes_in, same_word, went, word_is}
+use Rattle.ring_run.proofs.Answered.{answered_then, answered_same}
+use Rattle.ring_run.specs.Machines.{TakerGoes}
+use Rattle.ring_run.specs.Ring.{RingEnd}
 use Rattle.ring_run.proofs.takers.read_word.Goals as goal
 
 pub make-answer-requires-clause-right : goal.make-answer-requires-clause-right
@@ -64,4 +67,22 @@ reads-preserved g c =
           (λ k made stands t. absurd (true≢false (sym t))) b m.result m.ensures.made next
           (ap (λ (p : ConsumerState). p.shape) state) (c.feed.ensures.stands calls on.made n.result on.at.stands n.ensures.due) in
           goes_in b next calls goes (ap is_taking state ∙ on.taking),
+      answered_then _ _ _ _ _ _ was.6 m.ensures.answered,
+    )
+
+pub returns-then-last-clause-answered : goal.returns-then-last-clause-answered
+returns-then-last-clause-answered g c = answered_then _ _ _ _ _ _ c.reads.invariant.6 c.make-answer.ensures.answered
+
+pub reads-init : goal.reads-init
+reads-init g c =
+    let e = c.args.hand.now in
+    let m = c.args.machine.now in
+    let some = c.in-Some.ensures.some in (
+      c.again-ring.ensures ∙ ap (λ (x : RingEnd). x.ring) c.hand.view_is,
+      record { ring = refl; side = refl; known = refl },
+      refl,
+      some.0 ∙ ap (λ (x : ConsumerState). record m { word = x.word }) (sym some.0),
+      omega arith,
+      λ calls was. subst (λ (x : ConsumerState). TakerGoes e x calls) (sym some.0) (goes_in e m calls was (taking_at m Loading some.1 refl)),
+      answered_same e (g.O.Oracle.answers c.args.oracle.now),
     )

@@ -4,6 +4,7 @@ use Rattle.ring_core.specs.ConsumerState.{is_taking}
 use Rattle.ring_run.proofs.Accesses.{longer, same}
 use Rattle.ring_run.proofs.TakerMoves.{right_there}
 use Rattle.ring_run.proofs.TakerWhole.{taking_at, can_go, count_due, goes_in, went}
+use Rattle.ring_run.proofs.Answered.{answered_then}
 use Rattle.ring_run.proofs.takers.write_count.Goals as goal
 
 not_false : (b : Bool) → (b ≡ false → ⊥) → b ≡ true
@@ -59,4 +60,5 @@ writes-preserved g c =
           let on = goes_in e n calls (c.writes.invariant.4 calls at) (taking_at n Counting (c.is_counting.ensures.0 c.writes-test.true) refl) in
           went c.laws_below.ensures e n calls on a (sym i.due) (λ calls made stands. i.goes_on calls made a stands refl) i.bounded x.result x.ensures.due x.ensures.stands b m.result m.ensures.made
           c.feed_count.new.self c.feed_count.ensures.shape (c.feed_count.ensures.stands calls on.made a on.at.stands (sym i.due)),
+      answered_then _ _ _ _ _ _ was.5 m.ensures.answered,
     )

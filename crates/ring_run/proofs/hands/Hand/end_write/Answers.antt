@@ -1,4 +1,4 @@
-use Rattle.std.proofs.Common.{◌≡◌, ℕ, true, Some, sym, subst}
+use Rattle.std.proofs.Common.{◌≡◌, ℕ, true, Some, sym, subst, refl}
 use Rattle.atomic_table.specs.Table.{Allows}
 use Rattle.bits_core.specs.declared.events.Act.TheVariants.{WriteEnd}
 use Rattle.bits_core.specs.declared.events.Access.TheVariants.{Write}
@@ -10,6 +10,9 @@ use Rattle.ring_run.specs.Ring.{RingEnd}
 use Rattle.ring_run.specs.Rule.{Kept, Added, event}
 use Rattle.ring_run.specs.Words.{word_place}
 use Rattle.ring_run.proofs.Moves.{ends_write}
+use Rattle.ring_run.specs.Hands.{AreAnswered}
+use Rattle.ring_run.proofs.Answered.{quiet_step}
+use Rattle.ring_run.proofs.Accesses.{end_at}
 use Rattle.ring_run.proofs.hands.Hand.end_write.Goals as goal
 
 pub store_noted-requires-clause-rule : goal.store_noted-requires-clause-rule
@@ -26,3 +29,10 @@ store_noted-requires-clause-rule c =
     v
     (subst (λ (e : RingEnd). open_access e.side e.list ≡ Some (Write b v)) is c.requires.at)
     (subst (λ (e : RingEnd). GoesOn e.ring.shape e.side (Write b v) e.list) is c.requires.program))
+
+pub returns-clause-quiet : goal.returns-clause-quiet
+returns-clause-quiet c said =
+    let h = c.self.inside in
+    let l = c.store_noted in
+    subst (λ (e : RingEnd). AreAnswered e (end_at h.ring h.side l.new.seat.me.0) said said) c.self.view_is
+    (quiet_step h.ring h.side c.args.bit WriteEnd c.word_of-new.result h.seat.me.0 l.new.seat.me.0 l.ensures.added.view refl refl said)

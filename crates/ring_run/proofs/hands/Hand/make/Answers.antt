@@ -13,4 +13,4 @@ pub returns-in-Read-clause-made : goal.returns-in-Read-clause-made
 returns-in-Read-clause-made g c = subst (λ (a : Access). HasMade c.args.self.now c.read.new.self a c.read.result) (sym c.in-Read.is) c.read.ensures.made
 
 pub returns-in-Write-clause-made : goal.returns-in-Write-clause-made
-returns-in-Write-clause-made g c = subst (λ (a : Access). HasMade c.args.self.now c.write.new.self a c.in-Write.value) (sym c.in-Write.is) c.write.ensures
+returns-in-Write-clause-made g c = subst (λ (a : Access). HasMade c.args.self.now c.write.new.self a c.in-Write.value) (sym c.in-Write.is) c.write.ensures.made

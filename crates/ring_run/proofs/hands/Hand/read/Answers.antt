@@ -5,14 +5,15 @@ use Rattle.bits_core.specs.declared.events.Access.TheVariants.{Read}
 use Rattle.bits_core.specs.declared.events.Event.{Event}
 use Rattle.bits_core.specs.Bits.{other, reader}
 use Rattle.bits_core.specs.Shape.{belongs}
-use Rattle.ring_run.specs.Hands.{CanMake, HasMade}
+use Rattle.ring_run.specs.Hands.{CanMake, HasMade, AreAnswered}
 use Rattle.ring_run.specs.Programs.{GoesOn}
 use Rattle.ring_run.specs.Ring.{Ring, RingEnd}
 use Rattle.ring_run.specs.declared.views.View.{View}
 use Rattle.ring_run.specs.Rule.{Added, Kept, event}
-use Rattle.ring_run.specs.Words.{answer_of, word_place}
+use Rattle.ring_run.specs.Words.{answer_of, word_place, agrees}
 use Rattle.ring_run.proofs.Accesses.{end_at, list_more, made_read, may_still, none_open}
 use Rattle.ring_run.proofs.Moves.{begins_read, ends_read, opened_by}
+use Rattle.ring_run.proofs.Answered.{answered_then, asked_so, quiet_step, read_step}
 use Rattle.ring_run.proofs.hands.Hand.read.Goals as goal
 
 pub load_at-first-requires-clause-rule : goal.load_at-first-requires-clause-rule
@@ -78,3 +79,20 @@ returns-clause-made g c =
     let added_two = subst (λ (r : Ring). Added r.shape (λ n. event h.side c.args.bit (ReadEnd (answer_of one.new.seat.me.0.first n said))) one.new.seat.me two.result two.new.seat.me) ring_is two.ensures.added in
     subst (λ (e : RingEnd). HasMade e (end_at h.ring h.side two.new.seat.me.0) (Read c.args.bit) c.answer.result) c.self.view_is
     (made_read h.ring h.side c.args.bit h.seat.me one.new.seat.me two.new.seat.me one.result two.result said c.answer.result added_one added_two c.answer.ensures.answer)
+
+pub returns-clause-answered : goal.returns-clause-answered
+returns-clause-answered g c =
+    let h = c.self.inside in
+    let b = c.args.bit in
+    let one = c.load_at-first in
+    let two = c.load_at-again in
+    let before = g.O.Oracle.answers c.args.oracle.now in
+    let after = g.O.Oracle.answers c.answer.new.oracle in
+    let v1 = one.new.seat.me.0 in
+    let v2 = two.new.seat.me.0 in
+    let first_is : v1.first ≡ one.result = ap (λ (u : View). u.first) one.ensures.added.view in
+    let asked = asked_so g.O.Oracle.answers c.args.oracle.now c.answer.new.oracle (agrees v1.first two.result) (λ t. c.answer.ensures.agree (ap (λ (n : ℕ). agrees n two.result) (sym first_is) ∙ t)) (λ t. c.answer.ensures.asks (ap (λ (n : ℕ). agrees n two.result) (sym first_is) ∙ t)) in
+    subst (λ (e : RingEnd). AreAnswered e (end_at h.ring h.side v2) before after) c.self.view_is
+    (answered_then (end_at h.ring h.side h.seat.me.0) (end_at h.ring h.side v1) (end_at h.ring h.side v2) before before after
+    (quiet_step h.ring h.side b ReadBegin one.result h.seat.me.0 v1 one.ensures.added.view refl refl before)
+    (read_step h.ring h.side b two.result v1 v2 before after two.ensures.added.view asked))

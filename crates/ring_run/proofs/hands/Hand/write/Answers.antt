@@ -5,7 +5,7 @@ use Rattle.bits_core.specs.declared.events.Access.TheVariants.{Write}
 use Rattle.bits_core.specs.declared.events.Event.{Event}
 use Rattle.bits_core.specs.Bits.{other, writer}
 use Rattle.bits_core.specs.Shape.{belongs}
-use Rattle.ring_run.specs.Hands.{CanMake, HasMade}
+use Rattle.ring_run.specs.Hands.{CanMake, HasMade, AreAnswered}
 use Rattle.ring_run.specs.Programs.{GoesOn}
 use Rattle.ring_run.specs.Ring.{Ring, RingEnd}
 use Rattle.ring_run.specs.declared.views.View.{View}
@@ -13,6 +13,7 @@ use Rattle.ring_run.specs.Rule.{Added, Kept, event}
 use Rattle.ring_run.specs.Words.{word_place}
 use Rattle.ring_run.proofs.Accesses.{end_at, list_more, made_write, may_still, none_open}
 use Rattle.ring_run.proofs.Moves.{begins_write, ends_write, opened_by}
+use Rattle.ring_run.proofs.Answered.{answered_then, quiet_step}
 use Rattle.ring_run.proofs.hands.Hand.write.Goals as goal
 
 pub store_at-requires-clause-rule : goal.store_at-requires-clause-rule
@@ -71,8 +72,8 @@ invariant_of-self c =
       none_open c.laws_below.ensures h.side b WriteEnd new v1 two.new.seat.me.0 two.ensures.added.view refl h.opened _ c.self.invariant.5 can.0,
     )
 
-pub returns : goal.returns
-returns c =
+pub returns-clause-made : goal.returns-clause-made
+returns-clause-made c =
     let h = c.self.inside in
     let ring_is = subst (λ (e : RingEnd). c.args.ring.now ≡ e.ring) (sym c.self.view_is) c.requires.ring in
     let one = c.store_at in
@@ -81,3 +82,16 @@ returns c =
     let added_two = subst (λ (r : Ring). Added r.shape (λ _. event h.side c.args.bit WriteEnd) one.new.seat.me c.word_of-new.result two.new.seat.me) ring_is two.ensures.added in
     subst (λ (e : RingEnd). HasMade e (end_at h.ring h.side two.new.seat.me.0) (Write c.args.bit c.args.value) c.args.value) c.self.view_is
     (made_write h.ring h.side c.args.bit h.seat.me one.new.seat.me two.new.seat.me c.args.value 2 c.word_of-new.result added_one added_two)
+
+pub returns-clause-quiet : goal.returns-clause-quiet
+returns-clause-quiet c said =
+    let h = c.self.inside in
+    let b = c.args.bit in
+    let one = c.store_at in
+    let two = c.store_at-2 in
+    let v1 = one.new.seat.me.0 in
+    let v2 = two.new.seat.me.0 in
+    subst (λ (e : RingEnd). AreAnswered e (end_at h.ring h.side v2) said said) c.self.view_is
+    (answered_then (end_at h.ring h.side h.seat.me.0) (end_at h.ring h.side v1) (end_at h.ring h.side v2) said said said
+    (quiet_step h.ring h.side b (WriteBegin c.args.value) 2 h.seat.me.0 v1 one.ensures.added.view refl refl said)
+    (quiet_step h.ring h.side b WriteEnd c.word_of-new.result v1 v2 two.ensures.added.view refl refl said))

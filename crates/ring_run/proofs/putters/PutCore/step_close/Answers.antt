@@ -1,7 +1,7 @@
 use Rattle.std.proofs.Common.{◌≡◌, ◌≤◌, ◌+◌, ◌⊎◌, true, false, List, length, Some, None, refl, subst}
 use Rattle.bits_core.specs.declared.events.Event.{Event}
 use Rattle.ring_core.specs.ProducerState.{Close, call_of}
-use Rattle.ring_run.specs.Hands.{Grows, IsSameEnd}
+use Rattle.ring_run.specs.Hands.{Grows, IsSameEnd, AreAnswered}
 use Rattle.ring_run.specs.Ends.{PutterState, puts_whole, whole_put, HasClosed, HasPutPart}
 use Rattle.ring_run.specs.Machines.{IsPutter, before_last}
 use Rattle.ring_run.proofs.PutterCalls.{same_step, step_marked, step_putter, step_few, whole_marked, close_one, close_goes, close_over, is_over}
@@ -12,7 +12,7 @@ steps_behind-self-inside-requires-clause-stands g c =
     let p = c.self.inside in
     let i = c.self.invariant.0 in
     let st = before_last p.steps p.hand.list in
-    let s : PutterState = record { end = p.hand; call = call_of p.machine; batched = p.machine.batched; start = st } in
+    let s : PutterState (Unit {0}) = record { end = p.hand; call = call_of p.machine; batched = p.machine.batched; start = st; oracle = tt } in
     let w = whole_marked s.call p.machine.shape p.steps p.hand.list c.self.invariant.1 in
     let there = step_putter s p.machine st i.calls i.made Close i.at refl w i.whole_is
     c.begin_close.new.machine (c.begin_close.ensures.begins i.calls i.made i.at.stands) c.advance.new.hand c.advance.new.machine c.advance.ensures.rests (c.advance.ensures.steps i.calls i.made) in
@@ -23,7 +23,7 @@ invariant_of-self g c =
     let p = c.self.inside in
     let i = c.self.invariant.0 in
     let st = before_last p.steps p.hand.list in
-    let s : PutterState = record { end = p.hand; call = call_of p.machine; batched = p.machine.batched; start = st } in
+    let s : PutterState (Unit {0}) = record { end = p.hand; call = call_of p.machine; batched = p.machine.batched; start = st; oracle = tt } in
     let w = whole_marked s.call p.machine.shape p.steps p.hand.list c.self.invariant.1 in
     let e = c.advance.new.hand in
     let m = c.advance.new.machine in
@@ -40,9 +40,9 @@ returns-clause-same g c =
     let p = c.self.inside in
     let i = c.self.invariant.0 in
     let st = before_last p.steps p.hand.list in
-    let s : PutterState = record { end = p.hand; call = call_of p.machine; batched = p.machine.batched; start = st } in
+    let s : PutterState (Unit {0}) = record { end = p.hand; call = call_of p.machine; batched = p.machine.batched; start = st; oracle = tt } in
     let w = whole_marked s.call p.machine.shape p.steps p.hand.list c.self.invariant.1 in
-    subst (λ (z : PutterState). IsSameEnd z.end c.advance.new.hand) c.self.view_is
+    subst (λ (z : PutterState (Unit {0})). IsSameEnd z.end c.advance.new.hand) c.self.view_is
     (same_step s p.machine st i.calls i.made Close i.at refl w i.whole_is
     c.begin_close.new.machine (c.begin_close.ensures.begins i.calls i.made i.at.stands) c.advance.new.hand c.advance.new.machine c.advance.ensures.rests (c.advance.ensures.steps i.calls i.made))
 
@@ -51,7 +51,7 @@ returns-clause-lawful g c =
     let p = c.self.inside in
     let i = c.self.invariant.0 in
     let st = before_last p.steps p.hand.list in
-    let s : PutterState = record { end = p.hand; call = call_of p.machine; batched = p.machine.batched; start = st } in
+    let s : PutterState (Unit {0}) = record { end = p.hand; call = call_of p.machine; batched = p.machine.batched; start = st; oracle = tt } in
     let w = whole_marked s.call p.machine.shape p.steps p.hand.list c.self.invariant.1 in
     (step_putter s p.machine st i.calls i.made Close i.at refl w i.whole_is
     c.begin_close.new.machine (c.begin_close.ensures.begins i.calls i.made i.at.stands) c.advance.new.hand c.advance.new.machine c.advance.ensures.rests (c.advance.ensures.steps i.calls i.made)).at.lawful
@@ -61,13 +61,13 @@ returns-clause-one g c =
     let p = c.self.inside in
     let i = c.self.invariant.0 in
     let st = before_last p.steps p.hand.list in
-    let s : PutterState = record { end = p.hand; call = call_of p.machine; batched = p.machine.batched; start = st } in
+    let s : PutterState (Unit {0}) = record { end = p.hand; call = call_of p.machine; batched = p.machine.batched; start = st; oracle = tt } in
     let w = whole_marked s.call p.machine.shape p.steps p.hand.list c.self.invariant.1 in
     let m = c.advance.new.machine in
     let begins = c.begin_close.ensures.begins i.calls i.made i.at.stands in
     let there = step_putter s p.machine st i.calls i.made Close i.at refl w i.whole_is c.begin_close.new.machine begins c.advance.new.hand m c.advance.ensures.rests (c.advance.ensures.steps i.calls i.made) in
     let at_there = there.at.stands in
-    subst (λ (z : PutterState). ((c.is_none.result ≡ true) × (c.advance.new.hand ≡ z.end)) ⊎ ((e : Event) × Grows z.end c.advance.new.hand e)) c.self.view_is
+    subst (λ (z : PutterState (Unit {0})). ((c.is_none.result ≡ true) × (c.advance.new.hand ≡ z.end)) ⊎ ((e : Event) × Grows z.end c.advance.new.hand e)) c.self.view_is
     (close_one s p.machine st i.calls i.made Close i.at refl w i.whole_is
     c.begin_close.new.machine begins c.advance.new.hand m c.advance.ensures.rests (c.advance.ensures.steps i.calls i.made) refl c.is_none.result
     (is_over m there.calls there.made at_there c.next.result c.next.ensures.due (λ none. (c.next.ensures.rest there.calls there.made at_there none).0) c.is_none.result c.is_none.ensures))
@@ -77,7 +77,7 @@ returns-clause-goes_on g c =
     let p = c.self.inside in
     let i = c.self.invariant.0 in
     let st = before_last p.steps p.hand.list in
-    let s : PutterState = record { end = p.hand; call = call_of p.machine; batched = p.machine.batched; start = st } in
+    let s : PutterState (Unit {0}) = record { end = p.hand; call = call_of p.machine; batched = p.machine.batched; start = st; oracle = tt } in
     let w = whole_marked s.call p.machine.shape p.steps p.hand.list c.self.invariant.1 in
     let m = c.advance.new.machine in
     let begins = c.begin_close.ensures.begins i.calls i.made i.at.stands in
@@ -87,7 +87,7 @@ returns-clause-goes_on g c =
     c.begin_close.new.machine (c.begin_close.ensures.begins i.calls i.made i.at.stands) c.advance.new.hand c.advance.new.machine c.advance.ensures.rests (c.advance.ensures.steps i.calls i.made)
     p.steps c.steps_behind-self-inside.result refl c.self.invariant.1.0 c.steps_behind-self-inside.ensures.rests c.steps_behind-self-inside.ensures.goes in
     subst (λ (l : List Event). c.is_none.result ≡ false → (call_of m ≡ Some Close) × (l ≡ puts_whole c.args.self.now) × HasPutPart c.advance.new.hand.ring.shape Close l c.advance.new.hand.list) moved.0
-    (subst (λ (z : PutterState). c.is_none.result ≡ false → (call_of m ≡ Some Close) × (whole_put (call_of m) c.advance.new.hand.list st ≡ puts_whole z) × HasPutPart c.advance.new.hand.ring.shape Close (whole_put (call_of m) c.advance.new.hand.list st) c.advance.new.hand.list) c.self.view_is
+    (subst (λ (z : PutterState (Unit {0})). c.is_none.result ≡ false → (call_of m ≡ Some Close) × (whole_put (call_of m) c.advance.new.hand.list st ≡ puts_whole z) × HasPutPart c.advance.new.hand.ring.shape Close (whole_put (call_of m) c.advance.new.hand.list st) c.advance.new.hand.list) c.self.view_is
     (close_goes s p.machine st i.calls i.made Close i.at refl w i.whole_is
     c.begin_close.new.machine begins c.advance.new.hand m c.advance.ensures.rests (c.advance.ensures.steps i.calls i.made) refl c.is_none.result
     (is_over m there.calls there.made at_there c.next.result c.next.ensures.due (λ none. (c.next.ensures.rest there.calls there.made at_there none).0) c.is_none.result c.is_none.ensures)))
@@ -97,13 +97,13 @@ returns-clause-over g c =
     let p = c.self.inside in
     let i = c.self.invariant.0 in
     let st = before_last p.steps p.hand.list in
-    let s : PutterState = record { end = p.hand; call = call_of p.machine; batched = p.machine.batched; start = st } in
+    let s : PutterState (Unit {0}) = record { end = p.hand; call = call_of p.machine; batched = p.machine.batched; start = st; oracle = tt } in
     let w = whole_marked s.call p.machine.shape p.steps p.hand.list c.self.invariant.1 in
     let m = c.advance.new.machine in
     let begins = c.begin_close.ensures.begins i.calls i.made i.at.stands in
     let there = step_putter s p.machine st i.calls i.made Close i.at refl w i.whole_is c.begin_close.new.machine begins c.advance.new.hand m c.advance.ensures.rests (c.advance.ensures.steps i.calls i.made) in
     let at_there = there.at.stands in
-    subst (λ (z : PutterState). c.is_none.result ≡ true → (call_of m ≡ None) × HasClosed c.advance.new.hand.ring.shape (puts_whole z) c.advance.new.hand.list) c.self.view_is
+    subst (λ (z : PutterState (Unit {0})). c.is_none.result ≡ true → (call_of m ≡ None) × HasClosed c.advance.new.hand.ring.shape (puts_whole z) c.advance.new.hand.list) c.self.view_is
     (close_over s p.machine st i.calls i.made Close i.at refl w i.whole_is
     c.begin_close.new.machine begins c.advance.new.hand m c.advance.ensures.rests (c.advance.ensures.steps i.calls i.made) refl c.is_none.result
     (is_over m there.calls there.made at_there c.next.result c.next.ensures.due (λ none. (c.next.ensures.rest there.calls there.made at_there none).0) c.is_none.result c.is_none.ensures))
@@ -113,8 +113,11 @@ returns-clause-few g c =
     let p = c.self.inside in
     let i = c.self.invariant.0 in
     let st = before_last p.steps p.hand.list in
-    let s : PutterState = record { end = p.hand; call = call_of p.machine; batched = p.machine.batched; start = st } in
+    let s : PutterState (Unit {0}) = record { end = p.hand; call = call_of p.machine; batched = p.machine.batched; start = st; oracle = tt } in
     let w = whole_marked s.call p.machine.shape p.steps p.hand.list c.self.invariant.1 in
-    subst (λ (z : PutterState). length c.advance.new.hand.list ≤ length (puts_whole z) + 2) c.self.view_is
+    subst (λ (z : PutterState (Unit {0})). length c.advance.new.hand.list ≤ length (puts_whole z) + 2) c.self.view_is
     (step_few s p.machine st i.calls i.made Close i.at refl w i.whole_is
     c.begin_close.new.machine (c.begin_close.ensures.begins i.calls i.made i.at.stands) c.advance.new.hand c.advance.new.machine c.advance.ensures.rests (c.advance.ensures.steps i.calls i.made))
+
+pub returns-clause-answered : goal.returns-clause-answered
+returns-clause-answered g c = subst (λ (z : PutterState (Unit {0})). AreAnswered z.end c.advance.new.hand (g.O.Oracle.answers c.args.oracle.now) (g.O.Oracle.answers c.advance.new.oracle)) c.self.view_is c.advance.ensures.answered
