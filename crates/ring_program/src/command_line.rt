@@ -56,6 +56,9 @@ A script is a JSON object:
   oracle    what overlapped reads answer in turn, as 01
   batch     the most items under one count write; 1 where it is left out
 
+  {\"capacity\":1, \"modulus\":3, \"width\":1, \"items\":[1], \"takes\":1,
+   \"close\":false, \"schedule\":\"P8C10\", \"oracle\":\"\"}
+
 The answer says how many events there were, the items put and taken, whether
 the consumer was told that the ring is closed, how many puts found the ring
 full, how many takes found it empty, and how many reads a write overlapped.
