@@ -19,9 +19,9 @@ impl Gate for FreeGate {
 }
 
 /// How many puts or takes a side makes between two that yield.
-const TURN: u64 = 64;
+const TURN: u64 = 256;
 
-/// A gate at which each side lets another thread run, at each 64th of its puts or takes. It is for a machine with
+/// A gate at which each side lets another thread run, at each 256th of its puts or takes. It is for a machine with
 /// fewer free processors than threads, where a side that finds the ring full, or empty, would else call in vain until
 /// its share of time is used up. It is a hint to the scheduler: no progress of either side is promised.
 #[derive(Clone, Copy, PartialEq, Eq, Debug)]

@@ -3,7 +3,8 @@ use bits_core::{Kind, Verdict};
 use ring_audit::Finding;
 use ring_player::Report;
 use ring_program::{
-    AppFault, Refusal, audit_text, execute, load, relay_text, report_text, verdict_text,
+    AppFault, Refusal, audit_text, execute, load, relay_report, relay_text, report_text,
+    verdict_text,
 };
 use ring_run::Outcome;
 use std::alloc::{AllocGlobal, Global};
@@ -12,6 +13,7 @@ use std::io::Read;
 use std::process::Abort;
 use std::test::Fail;
 use std::thread::Threads;
+use std::time::{Clock, Duration};
 
 pub const BITS: &[&str] = &["lamport_ring", "audit", "--bits"];
 
@@ -23,7 +25,7 @@ pub const TRACE: &[&str] = &["lamport_ring", "play", "--trace"];
 
 /// A run on the reader ends with this status, and has written these texts.
 pub fn expect_run_on<R: Read>(
-    rt: &(impl Abort + AllocGlobal + Threads),
+    rt: &(impl Abort + AllocGlobal + Threads + Clock),
     words: &[&str],
     input: &mut R,
     status: u8,
@@ -40,7 +42,7 @@ pub fn expect_run_on<R: Read>(
 
 /// Each run with these words and more has this status and these texts. It reads nothing.
 pub fn expect_runs(
-    rt: &(impl Abort + AllocGlobal + Threads),
+    rt: &(impl Abort + AllocGlobal + Threads + Clock),
     front: &[&'static str],
     rows: &[(&'static [&'static str], u8, &'static str, &'static str)],
 ) -> Result<(), Fail> {
@@ -75,9 +77,91 @@ pub fn expect_relay_text(
     Ok(())
 }
 
+/// A relay that came to some numbers, with the time that it took, and the text of its report.
+pub struct Reported {
+    pub put: u64,
+    pub calls: u64,
+    pub full: u64,
+    pub taken: &'static [u64],
+    pub empty: u64,
+    pub closed: bool,
+    pub nanos: Option<u64>,
+    pub text: &'static str,
+}
+
+/// The report of each of these relays has its text.
+pub fn expect_relay_reports(
+    rt: &(impl Abort + AllocGlobal),
+    rows: &[Reported],
+) -> Result<(), Fail> {
+    for row in rows {
+        let outcome = Outcome {
+            put: row.put,
+            calls: row.calls,
+            taken: row.taken.to_vec(rt.alloc())?,
+            closed: row.closed,
+            full: row.full,
+            empty: row.empty,
+        };
+        let told = relay_report(rt.alloc(), &outcome, row.nanos.map(Duration::from_nanos))?;
+        assert!(rt; told.as_bytes() == row.text.as_bytes());
+    }
+    Ok(())
+}
+
+// Behind the word there is a space and a number, or `unknown` where it may be.
+fn tells_number(line: &str, word: &str, may_be_unknown: bool) -> bool {
+    match line.strip_prefix(word) {
+        Some(" unknown") => may_be_unknown,
+        Some(rest) => rest
+            .strip_prefix(" ")
+            .is_some_and(|digits| digits.parse::<u64>().is_ok()),
+        None => false,
+    }
+}
+
+/// The run has this status and this text in front, and behind it a line with a number for each of these words.
+pub fn expect_reported_runs(
+    rt: &(impl Abort + AllocGlobal + Threads + Clock),
+    rows: &[(
+        &'static [&'static str],
+        u8,
+        &'static str,
+        &'static [&'static str],
+    )],
+) -> Result<(), Fail> {
+    for (words, status, front, counts) in rows {
+        let mut input = b"".as_slice();
+        let mut output = Vec::new(rt.alloc());
+        let mut errors = Vec::new(rt.alloc());
+        let ended = execute(rt, rt.alloc(), words, &mut input, &mut output, &mut errors);
+        assert_eq!(rt; ended, *status, "status of {words:?}");
+        let text = std::str::from_utf8(output.as_slice())?;
+        let Some(rest) = text.strip_prefix(*front) else {
+            return Err(Fail::new("the text begins otherwise"));
+        };
+        expect_counts(rt, rest, counts);
+    }
+    Ok(())
+}
+
+// Each line has its word and a number.
+fn expect_counts(rt: &(impl Abort + AllocGlobal), text: &str, counts: &[&str]) {
+    let mut lines = text.lines();
+    for word in counts {
+        let line = lines.next().unwrap_or("");
+        let may_be_unknown = *word == "items a second";
+        assert!(rt;
+            tells_number(line, word, may_be_unknown),
+            "no {word:?} in {line:?}"
+        );
+    }
+    assert!(rt; lines.next().is_none());
+}
+
 /// Each input has this status and this text on the output, by this command.
 pub fn expect_verdicts(
-    rt: &(impl Abort + AllocGlobal + Threads),
+    rt: &(impl Abort + AllocGlobal + Threads + Clock),
     words: &[&str],
     rows: &[(&'static str, u8, &'static str)],
 ) {
@@ -89,7 +173,7 @@ pub fn expect_verdicts(
 
 /// Each input is refused by these commands, with these words.
 pub fn expect_refusals(
-    rt: &(impl Abort + AllocGlobal + Threads),
+    rt: &(impl Abort + AllocGlobal + Threads + Clock),
     commands: &[&[&str]],
     rows: &[(&'static [u8], &'static str)],
 ) {
@@ -103,7 +187,7 @@ pub fn expect_refusals(
 
 /// Each script has this report and, where one stands there, this trace.
 pub fn expect_plays(
-    rt: &(impl Abort + AllocGlobal + Threads),
+    rt: &(impl Abort + AllocGlobal + Threads + Clock),
     rows: &[(&'static str, &'static str, Option<&'static str>)],
 ) {
     for (script, report, trace) in rows {
@@ -118,7 +202,7 @@ pub fn expect_plays(
 
 /// The trace of each script is lawful, and the audit of programs finds this of it.
 pub fn expect_lawful_plays(
-    rt: &(impl Abort + AllocGlobal + Threads),
+    rt: &(impl Abort + AllocGlobal + Threads + Clock),
     rows: &[(&'static str, &'static str)],
 ) {
     for (script, found) in rows {
@@ -168,7 +252,7 @@ pub fn expect_refusal_words(
 /// Each command line has this status: with 0 there is a text on the output alone, with 2 on the
 /// standard error alone.
 pub fn expect_statuses(
-    rt: &(impl Abort + AllocGlobal + Threads),
+    rt: &(impl Abort + AllocGlobal + Threads + Clock),
     rows: &[(&'static [&'static str], u8)],
 ) {
     for (words, status) in rows {
@@ -184,7 +268,7 @@ pub fn expect_statuses(
 
 /// Each command line ends with the status, and its one text has this piece.
 pub fn expect_words(
-    rt: &(impl Abort + AllocGlobal + Threads),
+    rt: &(impl Abort + AllocGlobal + Threads + Clock),
     rows: &[(&'static [&'static str], u8, &'static str)],
 ) -> Result<(), Fail> {
     for (words, status, piece) in rows {

@@ -1,4 +1,7 @@
-use crate::expects::{expect_relay_text, expect_runs, expect_statuses, expect_words};
+use crate::expects::{
+    Reported, expect_relay_reports, expect_relay_text, expect_reported_runs, expect_runs,
+    expect_statuses, expect_words,
+};
 use std::test::Fail;
 
 const SMALL: [&str; 8] = [
@@ -301,29 +304,25 @@ fn reads_the_options_of_run(rt: HostRuntime) {
 const RUN_HELP: &[&str] = &["lamport_ring", RUN, "--help"];
 
 const EXAMPLE: &str =
-    "  lamport_ring run --capacity 1 --modulus 3 --width 6 --count 64 --limit 1000000000\n";
+    "  lamport_ring run --capacity 1 --modulus 3 --width 6 --count 64 \\\n    --limit 1000000000\n";
 
-// A ring that there is not.
-const TORUS: &[&str] = &[
-    "lamport_ring",
-    RUN,
-    "--capacity=1",
-    "--modulus=3",
-    "--width=1",
-    "--count=1",
-    "--limit=1",
-    "--ring",
-    "torus",
-];
-
-const WORDS: [(&[&str], u8, &str); 7] = [
-    (TORUS, 2, "a ring is flicker or counter\n"),
+const WORDS: [(&[&str], u8, &str); 8] = [
     (&["lamport_ring", "--help"], 0, EXAMPLE),
     (RUN_HELP, 0, EXAMPLE),
     (
         RUN_HELP,
         0,
-        "Usage: lamport_ring run --capacity B --modulus M --width W --count N --limit L [--takes T] [--batch G] [--ring RING]\n",
+        "Usage: lamport_ring run --capacity B --modulus M --width W --count N --limit L\n       [--takes T] [--batch G] [--ring RING] [--report]\n",
+    ),
+    (
+        RUN_HELP,
+        0,
+        "  M  what its counts run modulo, from B + G + 1 to 256\n",
+    ),
+    (
+        RUN_HELP,
+        0,
+        "A limit counts every call of put or take, also one that finds the ring full or\nempty; the close is not counted.",
     ),
     (
         RUN_HELP,
@@ -353,4 +352,260 @@ fn relays_have_their_text(rt: HostRuntime) -> Result<(), Fail> {
         "put 18446744073709551615\ntaken 0\nclosed no\n",
     )?;
     expect_relay_text(&rt, 2, &[5, 6], true, "put 2\ntaken 2\nclosed yes\n")
+}
+
+// What lacks the capacity and the ring.
+const FRONT: [&str; 6] = [
+    "lamport_ring",
+    "run",
+    "--modulus=3",
+    "--width=1",
+    "--count=1",
+    "--limit=1",
+];
+
+const NO_RINGS: [(&[&str], u8, &str, &str); 8] = [
+    (
+        &["--capacity=1", "--ring", "torus"],
+        2,
+        "",
+        "error: no ring is called 'torus': a ring is flicker or counter\n\nFor more information, try '--help'.\n",
+    ),
+    (
+        &["--ring=Flicker", "--capacity=1"],
+        2,
+        "",
+        "error: no ring is called 'Flicker': a ring is flicker or counter\n\nFor more information, try '--help'.\n",
+    ),
+    (
+        &["--ring", "", "--capacity=1"],
+        2,
+        "",
+        "error: no ring is called '': a ring is flicker or counter\n\nFor more information, try '--help'.\n",
+    ),
+    // printable ASCII as it is
+    (
+        &["--ring", "it's a \\ ring", "--capacity=1"],
+        2,
+        "",
+        "error: no ring is called 'it's a \\ ring': a ring is flicker or counter\n\nFor more information, try '--help'.\n",
+    ),
+    // and what is not, with escapes
+    (
+        &["--ring", "a\tring\u{e9}\u{1f40c}\u{1b}[31m", "--capacity=1"],
+        2,
+        "",
+        "error: no ring is called 'a\\tring\\u{e9}\\u{1f40c}\\u{1b}[31m': a ring is flicker or counter\n\nFor more information, try '--help'.\n",
+    ),
+    // 80 characters, and one more
+    (
+        &[
+            "--ring",
+            "01234567890123456789012345678901234567890123456789012345678901234567890123456789",
+            "--capacity=1",
+        ],
+        2,
+        "",
+        "error: no ring is called '01234567890123456789012345678901234567890123456789012345678901234567890123456789': a ring is flicker or counter\n\nFor more information, try '--help'.\n",
+    ),
+    (
+        &[
+            "--ring",
+            "012345678901234567890123456789012345678901234567890123456789012345678901234567890",
+            "--capacity=1",
+        ],
+        2,
+        "",
+        "error: no ring is called '01234567890123456789012345678901234567890123456789012345678901234567890123456789..': a ring is flicker or counter\n\nFor more information, try '--help'.\n",
+    ),
+    // an escape is not cut
+    (
+        &[
+            "--ring",
+            "0123456789012345678901234567890123456789012345678901234567890123456789012345678\n",
+            "--capacity=1",
+        ],
+        2,
+        "",
+        "error: no ring is called '0123456789012345678901234567890123456789012345678901234567890123456789012345678..': a ring is flicker or counter\n\nFor more information, try '--help'.\n",
+    ),
+];
+
+#[test]
+fn names_a_ring_that_there_is_not(rt: HostRuntime) -> Result<(), Fail> {
+    expect_runs(&rt, &FRONT, &NO_RINGS)
+}
+
+const SIGNED: [(&[&str], u8, &str, &str); 6] = [
+    (
+        &["--capacity", "-1"],
+        2,
+        "",
+        "error: invalid value '-1' for '--capacity <B>': a number has no minus sign\n\nFor more information, try '--help'.\n",
+    ),
+    (
+        &["--capacity=1", "--takes", "-18446744073709551616"],
+        2,
+        "",
+        "error: invalid value '-18446744073709551616' for '--takes <T>': a number has no minus sign\n\nFor more information, try '--help'.\n",
+    ),
+    (
+        &["--capacity=1", "--batch", "-0\u{7}"],
+        2,
+        "",
+        "error: invalid value '-0\\u{7}' for '--batch <G>': a number has no minus sign\n\nFor more information, try '--help'.\n",
+    ),
+    // the parser's own words
+    (
+        &["--capacity=-1"],
+        2,
+        "",
+        "error: invalid value '-1' for '--capacity <B>': invalid digit found in string\n\nFor more information, try '--help'.\n",
+    ),
+    (
+        &["--capacity", "18446744073709551616"],
+        2,
+        "",
+        "error: invalid value '18446744073709551616' for '--capacity <B>': number too large to fit in target type\n\nFor more information, try '--help'.\n",
+    ),
+    (
+        &["--capacity", "x"],
+        2,
+        "",
+        "error: invalid value 'x' for '--capacity <B>': invalid digit found in string\n\nFor more information, try '--help'.\n",
+    ),
+];
+
+#[test]
+fn names_a_number_that_is_none(rt: HostRuntime) -> Result<(), Fail> {
+    expect_runs(&rt, &FRONT, &SIGNED)
+}
+
+const REPORTS: [Reported; 6] = [
+    Reported {
+        put: 3,
+        calls: 10,
+        full: 7,
+        taken: &[5, 6, 5],
+        empty: 4,
+        closed: true,
+        nanos: Some(2_000_000_000),
+        text: "put 3\ntaken 3\nclosed yes\ncalls 10\nfull 7\nempty 4\nitems a second 1\n",
+    },
+    Reported {
+        put: 2,
+        calls: 1,
+        full: 0,
+        taken: &[5],
+        empty: 0,
+        closed: false,
+        nanos: Some(1),
+        text: "put 2\ntaken 1\nclosed no\ncalls 1\nfull 0\nempty 0\nitems a second 1000000000\n",
+    },
+    Reported {
+        put: 2,
+        calls: 2,
+        full: 0,
+        taken: &[5, 6],
+        empty: 9,
+        closed: true,
+        nanos: Some(3),
+        text: "put 2\ntaken 2\nclosed yes\ncalls 2\nfull 0\nempty 9\nitems a second 666666666\n",
+    },
+    Reported {
+        put: 18446744073709551615,
+        calls: 18446744073709551614,
+        full: 18446744073709551613,
+        taken: &[],
+        empty: 18446744073709551612,
+        closed: false,
+        nanos: Some(18446744073709551615),
+        text: "put 18446744073709551615\ntaken 0\nclosed no\ncalls 18446744073709551614\nfull 18446744073709551613\nempty 18446744073709551612\nitems a second 0\n",
+    },
+    // no time passed
+    Reported {
+        put: 1,
+        calls: 1,
+        full: 0,
+        taken: &[1],
+        empty: 0,
+        closed: true,
+        nanos: Some(0),
+        text: "put 1\ntaken 1\nclosed yes\ncalls 1\nfull 0\nempty 0\nitems a second unknown\n",
+    },
+    // the clock told none
+    Reported {
+        put: 1,
+        calls: 1,
+        full: 0,
+        taken: &[1],
+        empty: 0,
+        closed: true,
+        nanos: None,
+        text: "put 1\ntaken 1\nclosed yes\ncalls 1\nfull 0\nempty 0\nitems a second unknown\n",
+    },
+];
+
+#[test]
+fn reports_of_relays_have_their_text(rt: HostRuntime) -> Result<(), Fail> {
+    expect_relay_reports(&rt, &REPORTS)
+}
+
+const COUNTS: &[&str] = &["calls", "full", "empty", "items a second"];
+
+const REPORTED: [(&[&str], u8, &str, &[&str]); 3] = [
+    (
+        &[
+            "lamport_ring",
+            RUN,
+            "--capacity=3",
+            "--modulus=7",
+            "--width=6",
+            "--batch=3",
+            "--count=64",
+            "--limit=1000000000",
+            "--report",
+        ],
+        0,
+        "put 64\ntaken 64\nclosed yes\n",
+        COUNTS,
+    ),
+    (
+        &[
+            "lamport_ring",
+            RUN,
+            "--report",
+            "--ring=counter",
+            "--capacity=3",
+            "--modulus=5",
+            "--width=6",
+            "--count=64",
+            "--limit=1000000000",
+        ],
+        0,
+        "put 64\ntaken 64\nclosed yes\n",
+        COUNTS,
+    ),
+    // one item is put, the other four puts find the ring full, and no take is made
+    (
+        &[
+            "lamport_ring",
+            RUN,
+            "--report",
+            "--capacity=1",
+            "--modulus=3",
+            "--width=6",
+            "--count=2",
+            "--limit=5",
+            "--takes=0",
+        ],
+        1,
+        "put 1\ntaken 0\nclosed no\ncalls 5\nfull 4\nempty 0\n",
+        &["items a second"],
+    ),
+];
+
+#[test]
+fn runs_tell_their_report(rt: HostRuntime) -> Result<(), Fail> {
+    expect_reported_runs(&rt, &REPORTED)
 }

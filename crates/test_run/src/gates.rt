@@ -1,7 +1,7 @@
 //! Gates that make one side of a relay wait for the other, so many looks at most.
 use crate::expects::{ITEMS, Kind, Numbers, ONE, SHAPES, TAPE, expect_flicker, expect_relay};
 use bits_core::{Always, Flip, Oracle, Side, Tape};
-use ring_run::{Gate, Limits, Outcome};
+use ring_run::{Gate, Limits, Outcome, YieldGate};
 use std::alloc::{AllocGlobal, Allocator};
 use std::hint::spin_loop;
 use std::process::Abort;
@@ -152,4 +152,24 @@ fn a_taker_that_is_held_leaves_the_ring_full(rt: HostRuntime) -> Result<(), Fail
         expect_held_counter(&rt, numbers)?;
     }
     Ok(())
+}
+
+// All but the first of 1,000 puts find the ring full where nothing is taken. With no such limit the whole relay ends.
+fn expect_yields(rt: &(impl Abort + AllocGlobal + Threads), kind: Kind) -> Result<(), Fail> {
+    let limits = Limits {
+        puts: 1000,
+        takes: 0,
+    };
+    let outcome = expect_relay(rt, kind, &ONE, &[1, 0], limits, &YieldGate)?;
+    assert!(rt; outcome.put == 1 && outcome.calls == 1000 && outcome.full == 999);
+    let limits = Limits::both(u64::MAX);
+    let outcome = expect_relay(rt, kind, &SHAPES[0], &ITEMS, limits, &YieldGate)?;
+    assert!(rt; outcome.closed);
+    Ok(())
+}
+
+#[test]
+fn a_gate_that_yields_changes_nothing(rt: HostRuntime) -> Result<(), Fail> {
+    expect_yields(&rt, Kind::Flicker)?;
+    expect_yields(&rt, Kind::Counter)
 }
