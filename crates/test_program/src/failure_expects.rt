@@ -9,6 +9,7 @@ use std::alloc::AllocGlobal;
 use std::io::ErrorKind;
 use std::process::Abort;
 use std::thread::Threads;
+use std::time::Clock;
 
 pub const BITS: &[&str] = &["lamport_ring", "audit", "--bits"];
 
@@ -20,7 +21,7 @@ pub const TRACE: &[&str] = &["lamport_ring", "play", "--trace"];
 
 /// A run on a reader that fails after so many reads ends with this status and these texts.
 pub fn expect_read(
-    rt: &(impl Abort + AllocGlobal + Threads),
+    rt: &(impl Abort + AllocGlobal + Threads + Clock),
     words: &[&str],
     mut input: HaltingReader<'_>,
     status: u8,
@@ -37,7 +38,7 @@ pub fn expect_read(
 
 /// Each read of the input failing in turn, and none.
 pub fn expect_failed_reads(
-    rt: &(impl Abort + AllocGlobal + Threads),
+    rt: &(impl Abort + AllocGlobal + Threads + Clock),
     words: &[&str],
     bytes: &[u8],
     kind: ErrorKind,
@@ -62,7 +63,7 @@ pub fn expect_failed_reads(
 
 /// A run with this writer ends with the status, and has written so many bytes.
 pub fn expect_written(
-    rt: &(impl Abort + AllocGlobal + Threads),
+    rt: &(impl Abort + AllocGlobal + Threads + Clock),
     words: &[&str],
     bytes: &[u8],
     mut output: HaltingWriter,
@@ -84,7 +85,7 @@ pub fn expect_written(
 
 /// Each write of the output failing in turn, then none, and then the flush.
 pub fn expect_failed_writes(
-    rt: &(impl Abort + AllocGlobal + Threads),
+    rt: &(impl Abort + AllocGlobal + Threads + Clock),
     words: &[&str],
     bytes: &[u8],
     status: u8,
@@ -107,7 +108,7 @@ pub fn expect_failed_writes(
 
 /// A standard error that fails after so many writes changes no status.
 pub fn expect_unheard(
-    rt: &(impl Abort + AllocGlobal + Threads),
+    rt: &(impl Abort + AllocGlobal + Threads + Clock),
     writes_before: u64,
     rows: &[(&'static [&'static str], &'static str, u8)],
 ) {
@@ -125,7 +126,7 @@ pub type Growing = (&'static [&'static str], &'static str, u8, u64);
 
 // A run without the growth that comes after so many: whether there was one to refuse.
 fn expect_growth(
-    rt: &(impl Abort + AllocGlobal + Threads),
+    rt: &(impl Abort + AllocGlobal + Threads + Clock),
     row: &Growing,
     allocations: u64,
 ) -> bool {
@@ -147,7 +148,7 @@ fn expect_growth(
 }
 
 /// Each growth of each run refused in turn, and none.
-pub fn expect_refused_growths(rt: &(impl Abort + AllocGlobal + Threads), rows: &[Growing]) {
+pub fn expect_refused_growths(rt: &(impl Abort + AllocGlobal + Threads + Clock), rows: &[Growing]) {
     for row in rows {
         let mut is_whole = false;
         for allocations in 0..100 {
@@ -162,7 +163,7 @@ pub fn expect_refused_growths(rt: &(impl Abort + AllocGlobal + Threads), rows: &
 
 // A run without the growth that comes after so many: whether it was refused, and whether there was one to refuse.
 fn expect_ended(
-    rt: &(impl Abort + AllocGlobal + Threads),
+    rt: &(impl Abort + AllocGlobal + Threads + Clock),
     words: &[&str],
     script: &[u8],
     out: &str,
@@ -188,7 +189,7 @@ fn expect_ended(
 /// Each growth of a run refused in turn, and none: it is refused, or a vector makes do with a
 /// smaller growth and the output is the right one. At least so many are refused.
 pub fn expect_refused_or_right(
-    rt: &(impl Abort + AllocGlobal + Threads),
+    rt: &(impl Abort + AllocGlobal + Threads + Clock),
     words: &[&str],
     script: &[u8],
     out: &str,
@@ -212,7 +213,11 @@ pub type Told = (&'static [&'static str], &'static str, &'static str);
 
 // A run without the growth that comes after so many: whether there was one to refuse. The standard error is told that
 // memory ran out, or why the input is refused.
-fn expect_told(rt: &(impl Abort + AllocGlobal + Threads), row: &Told, allocations: u64) -> bool {
+fn expect_told(
+    rt: &(impl Abort + AllocGlobal + Threads + Clock),
+    row: &Told,
+    allocations: u64,
+) -> bool {
     let (words, input, err) = row;
     let alloc = Refusing::after(rt.alloc(), allocations);
     let mut bytes = input.as_bytes();
@@ -228,7 +233,10 @@ fn expect_told(rt: &(impl Abort + AllocGlobal + Threads), row: &Told, allocation
 }
 
 /// Each growth of each run refused in turn, and none.
-pub fn expect_told_at_each_growth(rt: &(impl Abort + AllocGlobal + Threads), rows: &[Told]) {
+pub fn expect_told_at_each_growth(
+    rt: &(impl Abort + AllocGlobal + Threads + Clock),
+    rows: &[Told],
+) {
     for row in rows {
         let mut is_whole = false;
         for allocations in 0..100 {
