@@ -63,22 +63,6 @@ fn tells_the_verdict(rt: HostRuntime) {
     expect_verdicts(&rt, BITS, &VERDICTS);
 }
 
-#[test]
-fn bounds_the_events(rt: HostRuntime) -> Result<(), Fail> {
-    let mut text = b"shape 1 3 1\n".to_vec(rt.alloc())?;
-    for _ in 0..500_000 {
-        text.extend_from_slice(b"C read s0\nC got s0 1\n")?;
-    }
-    expect_run_on(&rt, BITS, &mut text.as_slice(), 0, "lawful\n", "");
-    for line in [b"C read s0\n".as_slice(), b"nonsense"] {
-        let mut longer = text.as_slice().to_vec(rt.alloc())?;
-        longer.extend_from_slice(line)?;
-        let err = "refused: trace has too many events\n";
-        expect_run_on(&rt, BITS, &mut longer.as_slice(), 1, "", err);
-    }
-    Ok(())
-}
-
 // What the words ask for decides the status.
 const STATUSES: [(&[&str], u8); 21] = [
     (&["lamport_ring", "audit", "--bits", "--bits"], 2),
