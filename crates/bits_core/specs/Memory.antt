@@ -12,15 +12,17 @@ use Rattle.bits_core.specs.Intervals.{HasOverlap, IsRead}
 use Rattle.bits_core.specs.Lawful.{IsLawful}
 use Rattle.bits_core.specs.Open.{bit_of}
 
--- a memory: its shape, the history of the accesses to it, and how many of its answers were asked of an oracle
+-- a memory: its shape, the history of the accesses to it, how many of its answers were asked of an oracle, and for how many events
+-- in all there is room at least
 pub record Recorded : Type 0 where
   pub shape : Shape
   pub events : List Event
   pub flickers : ℕ
+  pub room : ℕ
 
 -- nothing has happened
-abbrev pub unused : Shape → Recorded
-unused shape = record { shape = shape; events = []; flickers = 0 }
+abbrev pub unused : Shape → ℕ → Recorded
+unused shape room = record { shape = shape; events = []; flickers = 0; room = room }
 
 -- one event more
 abbrev pub with_event : Recorded → Side → Bit → Act → Recorded
@@ -46,6 +48,7 @@ with_answer m s v = record {
   shape = m.shape;
   events = m.events ++ record { side = s; bit = open_bit s m.events; act = ReadEnd v } ∷ [];
   flickers = m.flickers + (if is_read_overlapped s m.events then 1 else 0);
+  room = m.room;
 }
 
 -- ---- overlapped reads

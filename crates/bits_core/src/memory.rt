@@ -1,5 +1,5 @@
 //! A memory of safe bits.
-ghost use Rattle.std.specs.Prelude.{◌≡◌, ◌↔◌, ℕ, ◌+◌, Bool, true, false, if◌then◌else◌, OnOk, OnErr, IfOk, IfSome, IsSome, None, [], length, unwrap_or};
+ghost use Rattle.std.specs.Prelude.{◌≡◌, ◌≤◌, ◌↔◌, ℕ, ◌+◌, Bool, true, false, if◌then◌else◌, OnOk, OnErr, IfOk, IfSome, IsSome, None, [], length, unwrap_or};
 ghost use Rattle.bits_core.specs.Bits.{reader, writer};
 ghost use Rattle.bits_core.specs.Shape.{belongs};
 ghost use Rattle.bits_core.specs.History.{open_access, is_overlapped, held_at_begin};
@@ -70,7 +70,7 @@ impl<S: Store<Event>> Model for Memory<S> {
 
     ghost Value = { Recorded };
 
-    ghost view = { λ m. record { shape = m.shape; events = S.items m.events; flickers = m.flickers } };
+    ghost view = { λ m. record { shape = m.shape; events = S.items m.events; flickers = m.flickers; room = S.room m.events } };
 
     ghost invariant = { λ m. IsRecord m.shape (S.items m.events) m.flickers × AreMarks m.shape (S.items m.events) m.marks };
 }
@@ -91,7 +91,7 @@ impl<S: Store<Event>> fmt::Debug for Memory<S> {
 impl<A: Allocator> Memory<Vec<Event, A>> {
     /// A memory with no event yet. It takes memory from this allocator, and none at first.
     pub fn new(alloc: A, shape: Shape) -> Memory<Vec<Event, A>>
-        ensures { result ≡ unused shape }
+        ensures { result ≡ unused shape 0 }
     {
         Memory::over(Vec::new(alloc), shape)
     }
@@ -101,7 +101,7 @@ impl<S: Store<Event>> Memory<S> {
     /// A memory with no event yet, whose history grows in this store, which is empty.
     pub fn over(events: S, shape: Shape) -> Memory<S>
         requires { S.items events ≡ [] }
-        ensures { result ≡ unused shape }
+        ensures { result ≡ unused shape (S.room events) }
     {
         Memory {
             shape,
@@ -164,6 +164,7 @@ impl<S: Store<Event>> Memory<S> {
         requires quiet { ends_read act ≡ false }
         ensures ok { OnOk result (self.new ≡ with_event self.old side bit act) }
         ensures err { OnErr result (self.new ≡ self.old) }
+        ensures full { OnErr result (self.old.room ≤ length self.old.events) }
     {
         let event = Event { side, bit, act };
         self.events.reserve()?;
@@ -181,6 +182,7 @@ impl<S: Store<Event>> Memory<S> {
         requires none_open { open_access side self.old.events ≡ None }
         ensures ok { OnOk result (self.new ≡ with_event self.old side bit Act.ReadBegin) }
         ensures err { OnErr result (self.new ≡ self.old) }
+        ensures full { OnErr result (self.old.room ≤ length self.old.events) }
     {
         self.record(side, bit, Act::ReadBegin)
     }
@@ -195,6 +197,7 @@ impl<S: Store<Event>> Memory<S> {
         requires none_open { open_access side self.old.events ≡ None }
         ensures ok { OnOk result (self.new ≡ with_event self.old side bit (Act.WriteBegin value)) }
         ensures err { OnErr result (self.new ≡ self.old) }
+        ensures full { OnErr result (self.old.room ≤ length self.old.events) }
     {
         self.record(side, bit, Act::WriteBegin(value))
     }
@@ -206,6 +209,7 @@ impl<S: Store<Event>> Memory<S> {
         requires open { IsWriting (open_access side self.old.events) }
         ensures ok { OnOk result (self.new ≡ with_event self.old side (open_bit side self.old.events) Act.WriteEnd) }
         ensures err { OnErr result (self.new ≡ self.old) }
+        ensures full { OnErr result (self.old.room ≤ length self.old.events) }
     {
         match self.pending(side) {
             Some(Access::Write(bit, _)) => self.record(side, bit, Act::WriteEnd),
@@ -227,6 +231,7 @@ impl<S: Store<Event>> Memory<S> {
         // It was overlapped where the read that ends here is, by the intervals of the history.
         ensures overlap { OnOk result ((is_read_overlapped side self.old.events ≡ true) ↔ EndsOverlappedRead self.new.events (length self.old.events)) }
         ensures err { OnErr result ((self.new ≡ self.old) × (oracle.new ≡ oracle.old)) }
+        ensures full { OnErr result (self.old.room ≤ length self.old.events) }
     {
         match self.pending(side) {
             Some(Access::Read(bit)) => {

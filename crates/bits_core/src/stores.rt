@@ -6,13 +6,16 @@ use std::fmt;
 
 /// A list that grows at its end: a `Vec`, or the front of a slice of the caller's.
 pub trait Store<T>: Drop {
-    ghost use Rattle.std.specs.Prelude.{◌≡◌, List, [], ◌∷◌, ◌++◌, OnErr, OnOk};
+    ghost use Rattle.std.specs.Prelude.{◌≡◌, ◌≤◌, ℕ, List, [], ◌∷◌, ◌++◌, OnErr, OnOk, length};
 
     // The list.
     ghost items: { Self → List T };
 
     // There is room for one item more.
     ghost has_room: { Self → Type 0 };
+
+    // It has room for so many items in all, or for more.
+    ghost room: { Self → ℕ };
 
     // What is known where room was refused.
     ghost refuses: { Self → Type 0 };
@@ -25,12 +28,15 @@ pub trait Store<T>: Drop {
         ensures items { items self.new ≡ items self.old }
         ensures room { OnOk result (has_room self.new) }
         ensures refused { OnErr result (refuses self.new) }
+        ensures full { OnErr result (room self.old ≤ length (items self.old)) }
+        ensures kept { room self.new ≡ room self.old }
         ensures slots { (first : Self) → same_slots first self.old → same_slots first self.new };
 
     /// Adds an item at the end, where there is room for it.
     fn add(&mut self, item: T)
         requires { has_room self.old }
         ensures items { items self.new ≡ items self.old ++ item ∷ [] }
+        ensures kept { room self.new ≡ room self.old }
         ensures slots { (first : Self) → same_slots first self.old → same_slots first self.new };
 
     /// The items, in order.
@@ -45,6 +51,8 @@ impl<T: Drop, A: Allocator> Store<T> for Vec<T, A> {
     ghost items = { λ v. v.items };
 
     ghost has_room = { λ v. vec_len v < vec_capacity v };
+
+    ghost room = { λ _. 0 };
 
     ghost refuses = { λ v. Unit {0} };
 
@@ -106,6 +114,8 @@ impl<'a, T: Copy> Store<T> for Filled<'a, T> {
     ghost items = { λ f. take f.used f.slots.now };
 
     ghost has_room = { λ f. f.used < length f.slots.now };
+
+    ghost room = { λ f. length f.slots.now };
 
     ghost refuses = { λ f. length f.slots.now ≤ f.used };
 

@@ -1,5 +1,5 @@
 -- What the page is told of a play.
-use Rattle.std.specs.Prelude.{◌≡◌, ◌⊎◌, ◌↔◌, Bool, true, false, not, nat_eq, ℕ, List, length, take}
+use Rattle.std.specs.Prelude.{◌≡◌, ◌⊎◌, ◌↔◌, ◌<◌, min, Bool, true, false, not, nat_eq, ℕ, List, length, take}
 use Rattle.bits_core.specs.Memory.{flicker_count}
 use Rattle.bits_core.specs.Shape.{shape_fault_number}
 use Rattle.bits_core.specs.declared.events.Event.{Event}
@@ -13,7 +13,10 @@ use Rattle.ring_script.specs.Faults.{IsScriptFault, script_fault_number}
 use Rattle.ring_script.specs.Script.{Content, Held, Holds, IsContentOf, IsScript}
 use Rattle.ring_script.specs.declared.faults.ScriptFault.{ScriptFault}
 use Rattle.ring_script.specs.declared.faults.ScriptFault.TheVariants as fault
+use Rattle.ring_script.specs.Schedule.{run_count}
 use Rattle.ring_page.specs.Audit.{AreMarks}
+use Rattle.ring_page.specs.declared.audits.TheConstants.{EVENT_ROOM}
+use Rattle.ring_page.specs.declared.plays.TheConstants.{ANSWER_ROOM, RUN_ROOM}
 use Rattle.ring_page.specs.declared.marks.Mark.{Mark}
 use Rattle.ring_page.specs.declared.plays.Asked.{Asked}
 use Rattle.ring_page.specs.declared.plays.Played.{Played}
@@ -100,12 +103,17 @@ pub record TellsPlayed (held : Held) (letters : ℕ) (marks : List Mark) (put ta
   pub is_script : (bytes : List ℕ) → Holds bytes held → IsScript bytes script
   pub is_play : IsPlayOf script letters marks put taken told
 
+-- the page has no room: for the runs of the schedule, for the answers of the oracle, or for an event of each letter that is played
+abbrev pub HasNoRoom : Held → ℕ → Type 0
+HasNoRoom held letters =
+    (RUN_ROOM < run_count held.schedule) ⊎ (ANSWER_ROOM < length held.oracle) ⊎ ((script : Content) × IsContentOf held script × (EVENT_ROOM < min letters (length script.letters)))
+
 -- the values have this fault, that of any bytes whose fields hold them; or the page has no room
-pub record TellsRefused (held : Held) (told : Played) : Type 0 where
+pub record TellsRefused (held : Held) (letters : ℕ) (told : Played) : Type 0 where
   pub why : ScriptFault
-  pub cause : (why ≡ fault.OutOfMemory) ⊎ ((bytes : List ℕ) → Holds bytes held → IsScriptFault bytes why)
+  pub cause : ((why ≡ fault.OutOfMemory) × HasNoRoom held letters) ⊎ ((bytes : List ℕ) → Holds bytes held → IsScriptFault bytes why)
   pub tells : TellsPlayFault why told
 
 -- what is told of the values of a script's fields
 abbrev pub TellsPlay : Held → ℕ → List Mark → List ℕ → List ℕ → Played → Type 0
-TellsPlay held letters marks put taken told = TellsPlayed held letters marks put taken told ⊎ TellsRefused held told
+TellsPlay held letters marks put taken told = TellsPlayed held letters marks put taken told ⊎ TellsRefused held letters told

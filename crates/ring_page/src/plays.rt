@@ -1,5 +1,5 @@
 //! The play of a script.
-ghost use Rattle.std.specs.Prelude.{◌≡◌, ◌≤◌, ◌⊎◌, ℕ, List, length, take, IfOk};
+ghost use Rattle.std.specs.Prelude.{◌≡◌, ◌<◌, ◌≤◌, ◌⊎◌, ℕ, List, length, min, take, IfOk, OnErr};
 ghost use Rattle.bits_core.specs.declared.events.Event.{Event};
 ghost use Rattle.bits_core.specs.declared.shapes.Shape.{Shape};
 ghost use Rattle.bits_core.specs.Lawful.{IsLawful};
@@ -124,10 +124,13 @@ fn tell_play(
     put: &mut [u64],
     taken: &mut [u64],
 ) -> Result<Played, PlayFault>
-    ensures { IfOk result (IsPlayOf (content_of script.entry) letters marks.new put.new taken.new) }
+    ensures played { IfOk result (IsPlayOf (content_of script.entry) letters marks.new put.new taken.new) }
+    ensures refused { OnErr result (EVENT_ROOM < min letters (length (content_of script.entry).letters)) }
 {
     let mut events = no_events();
-    let mut taken_room = [0; ITEM_LIMIT];
+    // One slot more than items can be taken, since a world asks for one wherever an access of the consumer ends.
+    let mut taken_room = [0; ITEM_LIMIT + 1];
+    script.items();
     let report = play_first(
         script,
         letters,
@@ -162,7 +165,7 @@ fn tell_play(
 /// Plays the first letters of the script whose fields have these values, from nothing, and tells what was played:
 /// the marks of the history's events, the items put and the items taken, as many as there is room for, and the
 /// numbers of the report; or why it is no script, or that it has more runs than `RUN_ROOM`, more answers than
-/// `ANSWER_ROOM`, or a play of more events than `EVENT_ROOM`. It takes no memory.
+/// `ANSWER_ROOM`, or a play of more letters than `EVENT_ROOM`. It takes no memory.
 #[unsafe(no_mangle)]
 pub extern "C" fn page_play(
     asked: &Asked,

@@ -1,5 +1,5 @@
 -- What a step of one side leaves of the world.
-use Rattle.std.proofs.Common.{◌≡◌, ◌⊎◌, inl, inr, ℕ, ◌+◌, ◌-◌, ◌<◌, min, Bool, true, false, Option, Some, None, Result, Ok, Err, List, [], ◌∷◌, ◌++◌, length, take, append_assoc, append-nil, refl, sym, ap, subst, ◌∙◌, arith}
+use Rattle.std.proofs.Common.{◌≡◌, ◌⊎◌, inl, inr, ℕ, ◌+◌, ◌-◌, ◌<◌, ◌≤◌, zero, suc, get_or, min, Bool, true, false, Option, Some, None, Result, Ok, Err, List, [], ◌∷◌, ◌++◌, length, take, append_assoc, append-nil, refl, sym, ap, subst, ◌∙◌, arith}
 use Rattle.std.specs.Prelude.{if◌then◌else◌, IfOk, OnErr, OnOk, ◌↔◌}
 use Rattle.bits_core.specs.declared.events.Side.{Side}
 use Rattle.bits_core.specs.declared.events.Side.TheVariants.{P, C}
@@ -10,7 +10,7 @@ use Rattle.bits_core.specs.Bits.{begun_by, other}
 use Rattle.bits_core.specs.History.{open_access}
 use Rattle.bits_core.specs.Lawful.{IsLawful}
 use Rattle.bits_core.specs.Laws.{FlickerIsByInterval, OpenChanges, OverlapIsByInterval, OwnChanges}
-use Rattle.bits_core.specs.Made.{own}
+use Rattle.bits_core.specs.Made.{clock, own}
 use Rattle.bits_core.specs.Memory.{EndsOverlappedRead, Recorded}
 use Rattle.bits_core.specs.Oracle.{turn}
 use Rattle.ring_player.specs.Actors.{IsAtTurn, IsMove, IsPlaying, so_far}
@@ -18,14 +18,16 @@ use Rattle.ring_player.specs.Plays.{AreInTurn, AreMoves, IsDone, IsPlayed, IsPro
 use Rattle.std.specs.Prelude.{replicate, slice_index_or}
 use Rattle.std.proofs.lemmas.Bool.{cases_lt}
 use Rattle.std.proofs.lemmas.List.{length-append, length-replicate, take_all, take_more, take-append-le, take-replicate}
-use Rattle.std.proofs.Math.Seq.{take-append-add}
+use Rattle.std.proofs.Math.Seq.{take-append-add, take-length}
 use Rattle.ring_script.specs.declared.schedules.Run.{Run}
 use Rattle.ring_script.specs.Schedule.{spelled}
 use Rattle.ring_script.specs.Script.{Content}
-use Rattle.ring_core.specs.Items.{ItemsAreRead, items_put_in, items_taken_in, TakenAreRead, ToldIn}
+use Rattle.ring_core.specs.Counts.{first_count}
+use Rattle.ring_core.specs.Items.{ItemsAreRead, items_put, items_put_in, items_taken, items_taken_in, TakenAreRead, ToldIn}
 use Rattle.ring_core.specs.Over.{empties, fulls, PutsOverAreRead, puts_over_in, TakesOverAreRead, takes_over_in}
 use Rattle.ring_core.specs.Puts.{FollowsPuts, Puts}
 use Rattle.ring_core.specs.Takes.{FollowsTakes, Takes}
+use Rattle.ring_player.specs.Headline.{HoldsHeadline}
 use Rattle.ring_player.specs.SoFar.{PutSoFar, TakenSoFar}
 use Rattle.ring_player.specs.Worlds.{IsWorld}
 use Rattle.ring_player.proofs.Moves.{moves-more, moves_step, not_by, own_other, sides-more}
@@ -191,6 +193,24 @@ full_of read script ps h due stands put full same p t puts follows =
     let mine : FollowsPuts script.shape h u.puts = record { are = u.are; events = u.begins } in
     sym u.over ∙ ap fulls (read script.shape h u.puts puts mine follows)
 
+-- ---- no more items were taken than put
+
+clock_end : (s : Side) (h : List Event) → clock s h (length h) ≡ length (own s h)
+clock_end s h = ap (λ l. length (own s l)) (take-length h)
+
+pub few_of :
+    (script ps cs : Content) (h : List Event) (pd cd : Option Access) (pt ct : Stands) (put taken : List ℕ) (full : ℕ) (told : Bool) (empty : ℕ) → ps ≡ script → cs ≡ script →
+    (p : IsPlaying P h pd pt) → (t : IsPlaying C h cd ct) → PutSoFar ps.shape (so_far P p.list (open_access P h)) put full →
+    TakenSoFar cs.shape (so_far C t.list (open_access C h)) taken told empty → HoldsHeadline script h → length taken ≤ length put
+few_of script ps cs h pd cd pt ct put taken full told empty same_p same_c p t puts takes holds =
+    let u : PutSoFar script.shape (own P h) put full = subst (λ (x : Content). PutSoFar x.shape (own P h) put full) same_p (subst (λ l. PutSoFar ps.shape l put full) (sym p.own_is) puts) in
+    let v : TakenSoFar script.shape (own C h) taken told empty =
+    subst (λ (x : Content). TakenSoFar x.shape (own C h) taken told empty) same_c (subst (λ l. TakenSoFar cs.shape l taken told empty) (sym t.own_is) takes) in
+    let (rest, is) = (holds u.puts v.takes (record { are = u.are; events = u.begins }) (record { are = v.are; events = v.begins })).prefix (length h) in
+    let put_so : items_put script.shape first_count u.puts.puts (clock P h (length h)) ≡ put = ap (items_put script.shape first_count u.puts.puts) (clock_end P h) ∙ u.items in
+    let taken_so : items_taken script.shape 0 v.takes.takes (clock C h (length h)) ≡ taken = ap (items_taken script.shape 0 v.takes.takes) (clock_end C h) ∙ v.items in
+    omega (arith, ap length is, length-append (items_taken script.shape 0 v.takes.takes (clock C h (length h))) rest, ap length put_so, ap length taken_so)
+
 -- ---- the schedule
 
 -- the letters of the first runs, and of one more
@@ -207,6 +227,14 @@ pub spelled-more :
     (xs : List Run) (i : ℕ) (d : Run) → i < length xs → spelled (take (i + 1) xs) ≡ spelled (take i xs) ++ replicate (slice_index_or xs i d).count (slice_index_or xs i d).side
 spelled-more xs i d l =
     ap spelled (take_more xs i d l) ∙ spelled-append (take i xs) (slice_index_or xs i d ∷ []) ∙ ap (λ t. spelled (take i xs) ++ t) (spelled-one (slice_index_or xs i d))
+
+-- the letters of the first runs and of one more are some of all
+pub within_all : (xs : List Run) (i : ℕ) (d : Run) → i < length xs → length (spelled (take i xs)) + (get_or xs i d).count ≤ length (spelled xs)
+unfolding spelled
+within_all [] i d h = absurd (omega (arith, h))
+within_all (x ∷ xs) zero d h = omega (arith, length-append (replicate x.count x.side) (spelled xs), length-replicate x.count x.side)
+within_all (x ∷ xs) (suc i) d h =
+    omega (arith, length-append (replicate x.count x.side) (spelled xs), length-append (replicate x.count x.side) (spelled (take i xs)), within_all xs i d (omega (arith, h)))
 
 pub spelled-none : spelled [] ≡ []
 unfolding spelled
@@ -239,3 +267,7 @@ left-more k xs c s left count l e = omega (arith, length-append xs (replicate c 
 pub ok_is : {A E : Type 0} {G : Type 0} (r : Result A E) (a : A) → r ≡ Ok a → OnOk r G → G
 ok_is (Ok b) a e g = g
 ok_is (Err x) a e g = absurd (cc)
+
+pub on_err : {A E : Type 0} {G : Type 0} (r : Result A E) → G → OnErr r G
+on_err (Ok a) g = tt
+on_err (Err x) g = g

@@ -10,10 +10,14 @@ use Rattle.ring_player.specs.Actors.{IsPlaying, IsAtTurn}
 use Rattle.ring_player.specs.Plays.{AreMoves, sides}
 use Rattle.ring_script.specs.Script.{Content}
 
--- a world is seen as its script and its history
+-- a world is seen as its script and its history, by how many items were taken, and for how many events and items in all there is
+-- room at least
 pub record Played : Type 0 where
   pub script : Content
   pub history : List Event
+  pub taken : ℕ
+  pub event_room : ℕ
+  pub item_room : ℕ
 
 -- its parts stand together
 pub record IsWorld (script : Content) (memory : Recorded) (put_script take_script : Content) (put_due take_due : Option Access) (put_stands take_stands : List Made → Option Access → Type 0) (answers : ℕ → Bool) : Type 0 where

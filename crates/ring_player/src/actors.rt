@@ -1,5 +1,5 @@
 //! One side of the world at work.
-ghost use Rattle.std.specs.Prelude.{◌≡◌, ◌≢◌, ℕ, Bool, true, false, Some, None, List, [], ◌∷◌, ◌++◌, OnErr, OnOk, IfOk, length};
+ghost use Rattle.std.specs.Prelude.{◌≡◌, ◌≢◌, ◌≤◌, ◌⊎◌, ℕ, Bool, true, false, Some, None, List, [], ◌∷◌, ◌++◌, OnErr, OnOk, IfOk, length};
 ghost use Rattle.bits_core.specs.Bits.{other};
 ghost use Rattle.bits_core.specs.History.{open_access};
 ghost use Rattle.bits_core.specs.Made.{own};
@@ -14,7 +14,7 @@ use ring_core::laws::last_bit_is_one;
 
 /// What makes the calls of one side: its machine, and what the script asks of it.
 pub trait Actor {
-    ghost use Rattle.std.specs.Prelude.{◌≡◌, ◌≢◌, ◌<◌, ◌^◌, true, Option, Some, None, List, [], ◌∷◌, ◌++◌, OnOk, length};
+    ghost use Rattle.std.specs.Prelude.{◌≡◌, ◌≢◌, ℕ, ◌<◌, ◌≤◌, ◌^◌, true, Option, Some, None, List, [], ◌∷◌, ◌++◌, OnErr, OnOk, length};
     ghost use Rattle.bits_core.specs.declared.events.Access.{Access};
     ghost use Rattle.bits_core.specs.declared.events.Side.{Side};
     ghost use Rattle.bits_core.specs.Made.{Made, answered, events_of};
@@ -33,11 +33,18 @@ pub trait Actor {
 
     ghost ready: { Self → Type 0 };
 
+    // How many items it keeps, and for how many in all it has room at least.
+    ghost kept: { Self → ℕ };
+
+    ghost room: { Self → ℕ };
+
     /// Begins the next call where none is under way, and answers the access that is due, if any.
     fn next(&mut self) -> Option<Access>
         ensures due { result ≡ due self.new }
         ensures script { script self.new ≡ script self.old }
         ensures side { side self.new ≡ side self.old }
+        ensures room { room self.new ≡ room self.old }
+        ensures kept { kept self.new ≡ kept self.old }
         ensures stands { (list : List Made) → stands self.old list None → stands self.new list None }
         ensures done { result ≡ None → (list : List Made) → stands self.old list None → IsDoneAfter (script self.old) (side self.old) (events_of (side self.old) list) }
         ensures unfinished { (access : Access) → result ≡ Some access → (list : List Made) → stands self.old list None → ¬ IsDoneAfter (script self.old) (side self.old) (events_of (side self.old) list) }
@@ -49,6 +56,8 @@ pub trait Actor {
         ensures due { due self.new ≡ due self.old }
         ensures script { script self.new ≡ script self.old }
         ensures side { side self.new ≡ side self.old }
+        ensures room { room self.new ≡ room self.old }
+        ensures kept { kept self.new ≡ kept self.old }
         ensures stands { (list : List Made) (access : Access) → due self.old ≡ Some access → stands self.old list None → stands self.new list (Some access) };
 
     /// Makes room for what the end of an access gives.
@@ -56,8 +65,11 @@ pub trait Actor {
         ensures due { due self.new ≡ due self.old }
         ensures script { script self.new ≡ script self.old }
         ensures side { side self.new ≡ side self.old }
+        ensures room { room self.new ≡ room self.old }
+        ensures kept { kept self.new ≡ kept self.old }
         ensures stands { (list : List Made) (opened : Option Access) → stands self.old list opened → stands self.new list opened }
-        ensures ready { OnOk result (ready self.new) };
+        ensures ready { OnOk result (ready self.new) }
+        ensures full { OnErr result (room self.old ≤ kept self.old) };
 
     /// What is known where the last bit of a count is due.
     fn last_bit(&self)
@@ -70,6 +82,7 @@ pub trait Actor {
         requires ready { ready self.old }
         ensures script { script self.new ≡ script self.old }
         ensures side { side self.new ≡ side self.old }
+        ensures room { room self.new ≡ room self.old }
         ensures stands { (list : List Made) (access : Access) → due self.old ≡ Some access → stands self.old list (Some access) → stands self.new (list ++ answered access answer ∷ []) None };
 }
 
@@ -84,6 +97,8 @@ fn begin<M: Store<Event>>(
     ensures shape { memory.new.shape ≡ memory.old.shape }
     ensures ok { OnOk result (memory.new.events ≡ memory.old.events ++ begun side access ∷ []) }
     ensures err { OnErr result (memory.new ≡ memory.old) }
+    ensures room { memory.new.room ≡ memory.old.room }
+    ensures full { OnErr result (memory.old.room ≤ length memory.old.events) }
 {
     match access {
         Access::Read(bit) => memory.begin_read(side, bit)?,
@@ -117,6 +132,9 @@ fn end_read<M: Store<Event>, A: Actor, O: Oracle>(
     ensures playing { IsPlaying side memory.new.events (A.due actor.new) (A.stands actor.new) }
     ensures ok { OnOk result (IsMove (A.script actor.old) side true memory.old.events memory.new.events) }
     ensures err { OnErr result (memory.new.events ≡ memory.old.events) }
+    ensures rooms { (memory.new.room ≡ memory.old.room) × (A.room actor.new ≡ A.room actor.old) }
+    ensures full { OnErr result ((memory.old.room ≤ length memory.old.events) ⊎ (A.room actor.old ≤ A.kept actor.old)) }
+    ensures kept { OnErr result (A.kept actor.new ≡ A.kept actor.old) }
     ensures err_oracle { OnErr result (oracle.new ≡ oracle.old) }
     ensures turns { (turns : ℕ → Bool) → IsAtTurn turns memory.old.events (O.answers oracle.old) → IsAtTurn turns memory.new.events (O.answers oracle.new) }
 {
@@ -147,6 +165,9 @@ fn end_write<M: Store<Event>, A: Actor>(
     ensures playing { IsPlaying side memory.new.events (A.due actor.new) (A.stands actor.new) }
     ensures ok { OnOk result (IsMove (A.script actor.old) side true memory.old.events memory.new.events) }
     ensures err { OnErr result (memory.new.events ≡ memory.old.events) }
+    ensures rooms { (memory.new.room ≡ memory.old.room) × (A.room actor.new ≡ A.room actor.old) }
+    ensures full { OnErr result ((memory.old.room ≤ length memory.old.events) ⊎ (A.room actor.old ≤ A.kept actor.old)) }
+    ensures kept { OnErr result (A.kept actor.new ≡ A.kept actor.old) }
     ensures turns { (turns answers : ℕ → Bool) → IsAtTurn turns memory.old.events answers → IsAtTurn turns memory.new.events answers }
 {
     open_changes();
@@ -174,6 +195,9 @@ fn go_on<M: Store<Event>, A: Actor>(
     ensures playing { IsPlaying side memory.new.events (A.due actor.new) (A.stands actor.new) }
     ensures ok { IfOk result (λ moved. IsMove (A.script actor.old) side moved memory.old.events memory.new.events) }
     ensures err { OnErr result (memory.new.events ≡ memory.old.events) }
+    ensures rooms { (memory.new.room ≡ memory.old.room) × (A.room actor.new ≡ A.room actor.old) }
+    ensures full { OnErr result ((memory.old.room ≤ length memory.old.events) ⊎ (A.room actor.old ≤ A.kept actor.old)) }
+    ensures kept { OnErr result (A.kept actor.new ≡ A.kept actor.old) }
     ensures turns { (turns answers : ℕ → Bool) → IsAtTurn turns memory.old.events answers → IsAtTurn turns memory.new.events answers }
 {
     open_changes();
@@ -205,6 +229,9 @@ pub fn advance<M: Store<Event>, A: Actor, O: Oracle>(
     ensures playing { IsPlaying side memory.new.events (A.due actor.new) (A.stands actor.new) }
     ensures ok { IfOk result (λ moved. IsMove (A.script actor.old) side moved memory.old.events memory.new.events) }
     ensures err { OnErr result (memory.new.events ≡ memory.old.events) }
+    ensures rooms { (memory.new.room ≡ memory.old.room) × (A.room actor.new ≡ A.room actor.old) }
+    ensures full { OnErr result ((memory.old.room ≤ length memory.old.events) ⊎ (A.room actor.old ≤ A.kept actor.old)) }
+    ensures kept { OnErr result (A.kept actor.new ≡ A.kept actor.old) }
     ensures turns { (turns : ℕ → Bool) → IsAtTurn turns memory.old.events (O.answers oracle.old) → IsAtTurn turns memory.new.events (O.answers oracle.new) }
 {
     match memory.pending(side) {

@@ -162,6 +162,10 @@ impl<'a> Actor for PutActor<'a> {
 
     ghost ready = { λ a. Unit {0} };
 
+    ghost kept = { λ a. 0 };
+
+    ghost room = { λ a. 1 };
+
     fn next(&mut self) -> Option<Access> {
         calls_are_first();
         self.begin_call();

@@ -32,6 +32,7 @@ impl<'a, T: Store<u64>> TakeActor<'a, T> {
     pub fn new(taken: T, script: ScriptRef<'a>) -> Self
         requires { T.items taken ≡ [] }
         ensures script { content_of result.script ≡ content_of script.entry }
+        ensures room { T.room result.taken ≡ T.room taken }
         ensures stands { IsTaking (content_of script.entry) result.consumer (T.items result.taken) result.told result.empty [] None }
     {
         TakeActor {
@@ -88,6 +89,7 @@ impl<'a, T: Store<u64>> TakeActor<'a, T> {
     /// Begins the next take, if none is under way and the script wants one.
     fn begin_take(&mut self)
         ensures script { content_of self.new.script ≡ content_of self.old.script }
+        ensures taken { (T.items self.new.taken ≡ T.items self.old.taken) × (T.room self.new.taken ≡ T.room self.old.taken) }
         ensures stands { (list : List Made) → IsTaking (content_of self.old.script) self.old.consumer (T.items self.old.taken) self.old.told self.old.empty list None → IsTaking (content_of self.new.script) self.new.consumer (T.items self.new.taken) self.new.told self.new.empty list None }
         ensures done { is_taking self.new.consumer ≡ false → (list : List Made) → IsTaking (content_of self.old.script) self.old.consumer (T.items self.old.taken) self.old.told self.old.empty list None → IsDoneConsumer (content_of self.old.script) (events_of side_is.C list) }
     {
@@ -105,6 +107,7 @@ impl<'a, T: Store<u64>> Actor for TakeActor<'a, T> {
     ghost use Rattle.ring_core.specs.ConsumerState.{due_take};
     ghost use Rattle.ring_player.specs.Actors.{IsTaking};
     ghost use Rattle.ring_script.specs.Borrowed.{content_of};
+    ghost use Rattle.std.specs.Prelude.{length};
 
     ghost script = { λ a. content_of a.script };
 
@@ -115,6 +118,10 @@ impl<'a, T: Store<u64>> Actor for TakeActor<'a, T> {
     ghost stands = { λ a list opened. IsTaking (content_of a.script) a.consumer (T.items a.taken) a.told a.empty list opened };
 
     ghost ready = { λ a. T.has_room a.taken };
+
+    ghost kept = { λ a. length (T.items a.taken) };
+
+    ghost room = { λ a. T.room a.taken };
 
     fn next(&mut self) -> Option<Access> {
         calls_are_first();

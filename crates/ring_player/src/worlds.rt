@@ -1,5 +1,5 @@
 //! The world that plays a script.
-ghost use Rattle.std.specs.Prelude.{◌≡◌, ◌↔◌, ℕ, Bool, true, List, [], ◌∷◌, ◌++◌, IfOk, OnErr, OnOk, replicate, take};
+ghost use Rattle.std.specs.Prelude.{◌≡◌, ◌↔◌, ◌⊎◌, ◌<◌, ◌≤◌, ℕ, ◌+◌, Bool, true, List, [], ◌∷◌, ◌++◌, IfOk, OnErr, OnOk, length, min, replicate, take};
 ghost use Rattle.bits_core.specs.declared.events.Side.{Side};
 ghost use Rattle.bits_core.specs.declared.events.Side.TheVariants as side_is;
 ghost use Rattle.bits_core.specs.Memory.{flicker_count};
@@ -42,10 +42,11 @@ impl<'a, E: Store<Event>, T: Store<u64>> Model for World<'a, E, T> {
     ghost use Rattle.ring_player.specs.Actors.{HasWritten, IsPutting, IsTaking};
     ghost use Rattle.ring_player.specs.Worlds.{Played, IsWorld};
     ghost use Rattle.ring_script.specs.Borrowed.{content_of};
+    ghost use Rattle.std.specs.Prelude.{length};
 
     ghost Value = { Played };
 
-    ghost view = { λ w. record { script = content_of w.script; history = w.memory.events } };
+    ghost view = { λ w. record { script = content_of w.script; history = w.memory.events; taken = length (T.items w.consumer.taken); event_room = w.memory.room; item_room = T.room w.consumer.taken } };
 
     ghost invariant = { λ w. IsWorld (content_of w.script) w.memory (content_of w.producer.script) (content_of w.consumer.script) (due_put w.producer.producer) (due_take w.consumer.consumer)
         (λ list opened. IsPutting (content_of w.producer.script) w.producer.producer (record { stored = w.producer.stored; full = w.producer.full }) list opened × HasWritten (content_of w.producer.script) w.producer.digits w.producer.put list opened)
@@ -70,6 +71,7 @@ impl<'a, E: Store<Event>, T: Store<u64>> World<'a, E, T> {
         requires none_taken { T.items taken ≡ [] }
         ensures script { result.script ≡ content_of script.entry }
         ensures empty { result.history ≡ [] }
+        ensures rooms { (result.event_room ≡ E.room events) × (result.item_room ≡ T.room taken) }
     {
         World {
             script,
@@ -146,6 +148,17 @@ impl<'a, E: Store<Event>, T: Store<u64>> World<'a, E, T> {
         self.consumer.empty()
     }
 
+    // No more items were taken than the script has.
+    fn few_taken(&self)
+        ensures { self.now.taken ≤ length self.now.script.items }
+    {
+        items_put_are_read();
+        items_taken_are_read();
+        self.history();
+        self.producer.look();
+        self.consumer.look();
+    }
+
     /// What was played. It takes no memory.
     pub fn report(self) -> Report<'a, E, T>
         ensures history { E.items result.history ≡ self.entry.history }
@@ -189,6 +202,9 @@ impl<'a, E: Store<Event>, T: Store<u64>> World<'a, E, T> {
         ensures script { self.new.script ≡ self.old.script }
         ensures ok { IfOk result (λ moved. IsMove self.old.script side moved self.old.history self.new.history) }
         ensures err { OnErr result (self.new ≡ self.old) }
+        ensures rooms { (self.new.event_room ≡ self.old.event_room) × (self.new.item_room ≡ self.old.item_room) }
+        ensures full { OnErr result ((self.old.event_room ≤ length self.old.history) ⊎ (self.old.item_room ≤ self.old.taken)) }
+        ensures few { length self.new.history ≤ length self.old.history + 1 }
         ensures letters { OnOk result ((letters : List Side) → Plays self.old.script letters self.old.history → Plays self.new.script (letters ++ side ∷ []) self.new.history) }
         ensures headline { HoldsHeadline self.new.script self.new.history }
         ensures batches { FillsRing self.new.script self.new.history }
@@ -202,6 +218,8 @@ impl<'a, E: Store<Event>, T: Store<u64>> World<'a, E, T> {
         ensures script { self.new.script ≡ self.old.script }
         ensures ok { IfOk result (λ moved. IsMove self.old.script side moved self.old.history self.new.history) }
         ensures err { OnErr result (self.new ≡ self.old) }
+        ensures rooms { (self.new.event_room ≡ self.old.event_room) × (self.new.item_room ≡ self.old.item_room) }
+        ensures full { OnErr result ((self.old.event_room ≤ length self.old.history) ⊎ (self.old.item_room ≤ self.old.taken)) }
     {
         match side {
             Side::P => self.step_producer(),
@@ -213,6 +231,8 @@ impl<'a, E: Store<Event>, T: Store<u64>> World<'a, E, T> {
         ensures script { self.new.script ≡ self.old.script }
         ensures ok { IfOk result (λ moved. IsMove self.old.script side_is.P moved self.old.history self.new.history) }
         ensures err { OnErr result (self.new ≡ self.old) }
+        ensures rooms { (self.new.event_room ≡ self.old.event_room) × (self.new.item_room ≡ self.old.item_room) }
+        ensures full { OnErr result ((self.old.event_room ≤ length self.old.history) ⊎ (self.old.item_room ≤ self.old.taken)) }
     {
         open_changes();
         own_changes();
@@ -228,6 +248,8 @@ impl<'a, E: Store<Event>, T: Store<u64>> World<'a, E, T> {
         ensures script { self.new.script ≡ self.old.script }
         ensures ok { IfOk result (λ moved. IsMove self.old.script side_is.C moved self.old.history self.new.history) }
         ensures err { OnErr result (self.new ≡ self.old) }
+        ensures rooms { (self.new.event_room ≡ self.old.event_room) × (self.new.item_room ≡ self.old.item_room) }
+        ensures full { OnErr result ((self.old.event_room ≤ length self.old.history) ⊎ (self.old.item_room ≤ self.old.taken)) }
     {
         open_changes();
         own_changes();
@@ -248,6 +270,9 @@ fn repeat<E: Store<Event>, T: Store<u64>>(
 ) -> Result<(), PlayFault>
     ensures script { world.new.script ≡ world.old.script }
     ensures plays { OnOk result ((letters : List Side) → Plays world.old.script letters world.old.history → Plays world.old.script (letters ++ replicate count side) world.new.history) }
+    ensures rooms { (world.new.event_room ≡ world.old.event_room) × (world.new.item_room ≡ world.old.item_room) }
+    ensures few { OnOk result (length world.new.history ≤ length world.old.history + count) }
+    ensures full { OnErr result (((world.new.event_room ≤ length world.new.history) ⊎ (world.new.item_room ≤ world.new.taken)) × (length world.new.history < length world.old.history + count)) }
 {
     for made in 0..count {
         world.step(side)?;
@@ -265,6 +290,9 @@ fn run_first<E: Store<Event>, T: Store<u64>>(
     requires new { world.old.history ≡ [] }
     ensures script { world.new.script ≡ content_of script.entry }
     ensures plays { OnOk result (Plays (content_of script.entry) (take letters (content_of script.entry).letters) world.new.history) }
+    ensures rooms { (world.new.event_room ≡ world.old.event_room) × (world.new.item_room ≡ world.old.item_room) }
+    ensures few { OnOk result (length world.new.history ≤ min letters (length (content_of script.entry).letters)) }
+    ensures full { OnErr result (((world.new.event_room ≤ length world.new.history) ⊎ (world.new.item_room ≤ world.new.taken)) × (length world.new.history < min letters (length (content_of script.entry).letters))) }
 {
     world.history();
     let mut left = letters;
@@ -332,10 +360,17 @@ pub fn play_first<'a, E: Store<Event>, T: Store<u64>>(
     ensures full { IfOk result (λ r. (puts : Puts) → FollowsPuts (content_of script.entry).shape (E.items r.history) puts → r.full ≡ fulls (puts_over_in (content_of script.entry).shape (E.items r.history) puts)) }
     ensures empty { IfOk result (λ r. (takes : Takes) → FollowsTakes (content_of script.entry).shape (E.items r.history) takes → r.empty ≡ empties (takes_over_in (content_of script.entry).shape (E.items r.history) takes)) }
     ensures flicker { IfOk result (λ r. r.flicker ≡ flicker_count (E.items r.history)) }
+    // A letter gives one event at most.
+    ensures few { IfOk result (λ r. length (E.items r.history) ≤ min letters (length (content_of script.entry).letters)) }
+    // A refusal comes only where the history has no room for as many events as letters are played, or the items taken have none for
+    // one more than the script has.
+    ensures refused { OnErr result ((E.room events < min letters (length (content_of script.entry).letters)) ⊎ (T.room taken ≤ length (content_of script.entry).items)) }
 {
     every_play_holds();
     every_play_fills();
     let mut world = World::over(script, events, taken);
-    run_first(&mut world, script, letters)?;
+    let played = run_first(&mut world, script, letters);
+    world.few_taken();
+    played?;
     Ok(world.report())
 }

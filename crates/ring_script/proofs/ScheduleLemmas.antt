@@ -5,7 +5,7 @@ use Rattle.std.proofs.lemmas.List.{at_drop_more, at_drop_all, length-append, len
 use Rattle.bits_core.specs.declared.events.Side.{Side}
 use Rattle.ring_script.specs.declared.schedules.Run.{Run}
 use Rattle.ring_script.specs.ScheduleReading.{is_digit, may_stand, stray_from, side_of, times, letters_after, letters_of}
-use Rattle.ring_script.specs.Schedule.{spelled}
+use Rattle.ring_script.specs.Schedule.{runs_in, spelled}
 
 -- ---- the first stray byte
 
@@ -149,3 +149,24 @@ count_next runs k d h =
 pub count_end : (runs : List Run) (k : ℕ) → length runs ≤ k → length (spelled (drop k runs)) ≡ 0
 unfolding spelled
 count_end runs k h = at_drop_all (λ rs. length (spelled rs)) runs k h
+
+-- ---- how many runs there are
+
+pub run_goes_on : (rest : List ℕ) (i : ℕ) (d : Bool) → i < length rest → d ≡ is_digit (get_or rest i 0) → d ≡ true → runs_in (drop i rest) ≡ runs_in (drop (i + 1) rest)
+unfolding runs_in
+run_goes_on rest i d h is passed =
+    let e : is_digit (get_or rest i 0) ≡ true = sym is ∙ passed in
+    at_drop_more runs_in rest i 0 h ∙ rw e
+
+pub run_begins : (rest : List ℕ) (i : ℕ) (d : Bool) → i < length rest → d ≡ is_digit (get_or rest i 0) → d ≡ false → runs_in (drop i rest) ≡ suc (runs_in (drop (i + 1) rest))
+unfolding runs_in
+run_begins rest i d h is failed =
+    let e : is_digit (get_or rest i 0) ≡ false = sym is ∙ failed in
+    at_drop_more runs_in rest i 0 h ∙ rw e
+
+pub runs_begin : (rs : List Run) (rest : List ℕ) → rs ≡ [] → length rs + runs_in rest ≡ runs_in rest
+runs_begin rs rest none = omega (arith, ap length none)
+
+pub run_made : (rs rs' : List Run) (r : Run) (rest : List ℕ) (i : ℕ) (d : Bool) → i < length rest → d ≡ is_digit (get_or rest i 0) → d ≡ false → rs' ≡ rs ++ r ∷ []
+    → length rs + runs_in (drop i rest) ≡ runs_in rest → length rs' + runs_in (drop (i + 1) rest) ≡ runs_in rest
+run_made rs rs' r rest i d h is failed pushed made = omega (arith, ap length pushed, length-append rs (r ∷ []), run_begins rest i d h is failed, made)

@@ -592,11 +592,11 @@ pub fields_are_script : {A : Type 0} (ts : Held) (content : A → Content) (r : 
 fields_are_script ts content (Ok s) e = fields_read ts (content s) e
 fields_are_script ts content (Err x) e = tt
 
-pub fields_have_fault : {A : Type 0} (ts : Held) (r : Result A ScriptFault)
-    → IfErr r (λ x. (x ≡ fault.OutOfMemory) ⊎ (given_of ts ≡ Err x)) → IfErr r (λ x. (x ≡ fault.OutOfMemory) ⊎ ((bytes : List ℕ) → Holds bytes ts → IsScriptFault bytes x))
-fields_have_fault ts (Ok s) e = tt
-fields_have_fault ts (Err x) (inl short) = inl short
-fields_have_fault ts (Err x) (inr told) = inr (fields_refused ts x told)
+pub fields_have_fault : {A : Type 0} (ts : Held) (Short : Type 0) (r : Result A ScriptFault)
+    → IfErr r (λ x. ((x ≡ fault.OutOfMemory) × Short) ⊎ (given_of ts ≡ Err x)) → IfErr r (λ x. ((x ≡ fault.OutOfMemory) × Short) ⊎ ((bytes : List ℕ) → Holds bytes ts → IsScriptFault bytes x))
+fields_have_fault ts Short (Ok s) e = tt
+fields_have_fault ts Short (Err x) (inl short) = inl short
+fields_have_fault ts Short (Err x) (inr told) = inr (fields_refused ts x told)
 
 -- ---- the bounds of a script
 

@@ -1,9 +1,10 @@
 -- The text of a schedule: a row of parts, each a letter with a count or without.
-use Rattle.std.specs.Prelude.{◌≡◌, ℕ, ◌<◌, ◌≤◌, List, [], ◌∷◌, ◌++◌, replicate, ⊤}
+use Rattle.std.specs.Prelude.{◌≡◌, ℕ, suc, ◌<◌, ◌≤◌, List, [], ◌∷◌, ◌++◌, replicate, if◌then◌else◌, ⊤}
 use Rattle.std.specs.List.{flat_map}
 use Rattle.std.specs.Str.Parse.{AllDigits, digits_value}
 use Rattle.bits_core.specs.declared.events.Side.{Side}
 use Rattle.bits_core.specs.declared.events.Side.TheVariants.{P, C}
+use Rattle.ring_script.specs.ScheduleReading.{is_digit}
 use Rattle.ring_script.specs.declared.schedules.Run.{Run}
 
 -- the letter of each side: P and C
@@ -49,3 +50,12 @@ IsScheduleText text = (letters : List Side) × IsSchedule text letters
 unfoldable pub spelled : List Run → List Side
 spelled [] = []
 spelled (run ∷ runs) = replicate run.count run.side ++ spelled runs
+
+-- how many runs a text has: one begins at its first byte, and one at each further byte that is no digit
+unfoldable pub runs_in : List ℕ → ℕ
+runs_in [] = 0
+runs_in (b ∷ rest) = if is_digit b then runs_in rest else suc (runs_in rest)
+
+abbrev pub run_count : List ℕ → ℕ
+run_count [] = 0
+run_count (b ∷ rest) = suc (runs_in rest)

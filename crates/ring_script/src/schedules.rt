@@ -1,7 +1,7 @@
 //! The text of a schedule: letters, each with a count or without.
 ghost use Rattle.std.specs.Prelude.{◌≡◌, ◌⊎◌, ◌<◌, ◌≤◌, ◌^◌, max, [], length, slice_get, IfOk, IfErr};
 ghost use Rattle.ring_script.specs.ScheduleReading.{is_letter, is_digit, may_stand, stray_in, side_of, letters_of};
-ghost use Rattle.ring_script.specs.Schedule.{spelled};
+ghost use Rattle.ring_script.specs.Schedule.{run_count, spelled};
 
 use crate::faults::ScriptFault;
 use crate::stores::push;
@@ -71,7 +71,7 @@ pub fn runs<S: Store<Run>>(store: S, text: &[u8]) -> Result<S, ScriptFault>
     requires empty { S.items store ≡ [] }
     ensures spelled { IfOk result (λ runs. spelled (S.items runs) ≡ letters_of text.now) }
     ensures within { IfOk result (λ _. length (letters_of text.now) ≤ LETTER_LIMIT) }
-    ensures refused { IfErr result (λ e. (e ≡ ScriptFault.OutOfMemory)
+    ensures refused { IfErr result (λ e. ((e ≡ ScriptFault.OutOfMemory) × (S.room store < run_count text.now))
         ⊎ ((e ≡ ScriptFault.ScheduleTooLong) × (LETTER_LIMIT < length (letters_of text.now)))) }
 {
     let mut runs = store;

@@ -1,8 +1,8 @@
 //! Scripts, and how they are read.
-ghost use Rattle.std.specs.Prelude.{◌≡◌, ◌⊎◌, ◌≤◌, ◌==◌, Ok, Err, IfOk, IfErr, MatchResult, [], length, map, position, slice_get};
+ghost use Rattle.std.specs.Prelude.{◌≡◌, ◌⊎◌, ◌<◌, ◌≤◌, ◌==◌, Ok, Err, IfOk, IfErr, MatchResult, [], length, map, position, slice_get};
 ghost use Rattle.serde_json.specs.View.{view};
 ghost use Rattle.bits_core.specs.Shape.{HasBatch, width_of};
-ghost use Rattle.ring_script.specs.Schedule.{spelled};
+ghost use Rattle.ring_script.specs.Schedule.{run_count, spelled};
 ghost use Rattle.ring_script.specs.Borrowed.{content_of, held_of};
 ghost use Rattle.ring_script.specs.Script.{Content, Fit, IsScript};
 ghost use Rattle.ring_script.specs.ScriptReading.{given_by, given_in, given_of, is_no_answer, is_too_wide, items_in, json_of, oracle_of, schedule_of, script_of, shape_in};
@@ -234,7 +234,7 @@ pub(crate) fn read_parts<'a>(
     answers: &'a mut [bool],
 ) -> Result<ScriptRef<'a>, ScriptFault>
     ensures read { IfOk result (λ script. given_of (held_of fields.now) ≡ Ok (given_by (content_of script))) }
-    ensures refused { IfErr result (λ e. (e ≡ ScriptFault.OutOfMemory) ⊎ (given_of (held_of fields.now) ≡ Err e)) }
+    ensures refused { IfErr result (λ e. ((e ≡ ScriptFault.OutOfMemory) × ((length runs.old < run_count fields.now.schedule.now) ⊎ (length answers.old < length fields.now.oracle.now))) ⊎ (given_of (held_of fields.now) ≡ Err e)) }
 {
     let shape = read_shape(fields.capacity, fields.modulus, fields.width, fields.batch)?;
     check_items(&shape, fields.items)?;
@@ -298,7 +298,7 @@ fn read_schedule<S: Store<Run>>(store: S, text: &[u8]) -> Result<S, ScriptFault>
     requires empty { S.items store ≡ [] }
     ensures read { IfOk result (λ runs. schedule_of text.now ≡ Ok (spelled (S.items runs))) }
     ensures within { IfOk result (λ runs. length (spelled (S.items runs)) ≤ LETTER_LIMIT) }
-    ensures refused { IfErr result (λ e. (e ≡ ScriptFault.OutOfMemory) ⊎ (schedule_of text.now ≡ Err e)) }
+    ensures refused { IfErr result (λ e. ((e ≡ ScriptFault.OutOfMemory) × (S.room store < run_count text.now)) ⊎ (schedule_of text.now ≡ Err e)) }
 {
     match first_stray(text) {
         Some(place) => Err(ScriptFault::BadSchedule(place as u64)),
@@ -317,7 +317,7 @@ fn first_no_answer(text: &[u8]) -> Option<usize>
 fn answers<S: Store<bool>>(store: S, text: &[u8]) -> Result<S, ScriptFault>
     requires empty { S.items store ≡ [] }
     ensures read { IfOk result (λ v. S.items v ≡ map (λ b. b == 49) text.now) }
-    ensures refused { IfErr result (λ e. e ≡ ScriptFault.OutOfMemory) }
+    ensures refused { IfErr result (λ e. (e ≡ ScriptFault.OutOfMemory) × (S.room store < length text.now)) }
 {
     let mut answers = store;
     for b in text {
@@ -331,7 +331,7 @@ fn answers<S: Store<bool>>(store: S, text: &[u8]) -> Result<S, ScriptFault>
 fn read_oracle<S: Store<bool>>(store: S, text: &[u8]) -> Result<S, ScriptFault>
     requires empty { S.items store ≡ [] }
     ensures read { IfOk result (λ v. oracle_of text.now ≡ Ok (S.items v)) }
-    ensures refused { IfErr result (λ e. (e ≡ ScriptFault.OutOfMemory) ⊎ (oracle_of text.now ≡ Err e)) }
+    ensures refused { IfErr result (λ e. ((e ≡ ScriptFault.OutOfMemory) × (S.room store < length text.now)) ⊎ (oracle_of text.now ≡ Err e)) }
 {
     match first_no_answer(text) {
         Some(place) => Err(ScriptFault::BadOracle(place as u64)),

@@ -13,44 +13,44 @@ use Rattle.ring_player.proofs.worlds.play_first.Goals as goal
 pub returns-clause-headline : goal.returns-clause-headline
 returns-clause-headline g c =
     let script = content_of c.args.script in
-    subst (λ (l : List Event). HoldsHeadline script l) (sym c.report.ensures.history) (c.every_play_holds.ensures script (take c.args.letters script.letters) c.run_first.new.world.history c.in_ok-run_first.ensures.plays)
+    subst (λ (l : List Event). HoldsHeadline script l) (sym c.report.ensures.history) (c.every_play_holds.ensures script (take c.args.letters script.letters) c.run_first-played.new.world.history c.in_ok-played.ensures.plays)
 
 pub returns-clause-batches : goal.returns-clause-batches
 returns-clause-batches g c =
     let script = content_of c.args.script in
-    subst (λ (l : List Event). FillsRing script l) (sym c.report.ensures.history) (c.every_play_fills.ensures script (take c.args.letters script.letters) c.run_first.new.world.history c.in_ok-run_first.ensures.plays)
+    subst (λ (l : List Event). FillsRing script l) (sym c.report.ensures.history) (c.every_play_fills.ensures script (take c.args.letters script.letters) c.run_first-played.new.world.history c.in_ok-played.ensures.plays)
 
 pub returns-clause-taken : goal.returns-clause-taken
 returns-clause-taken g c takes =
-    let w = c.run_first.new.world in
+    let w = c.run_first-played.new.world in
     let taken = g.T.Store.items c.report.result.taken in
     subst (λ (l : List Event). FollowsTakes (content_of c.args.script).shape l takes → taken ≡ items_taken_in (content_of c.args.script).shape l takes) (sym c.report.ensures.history)
-    (subst (λ (t : Content). FollowsTakes t.shape w.history takes → taken ≡ items_taken_in t.shape w.history takes) c.in_ok-run_first.ensures.script (c.report.ensures.taken takes))
+    (subst (λ (t : Content). FollowsTakes t.shape w.history takes → taken ≡ items_taken_in t.shape w.history takes) c.in_ok-played.ensures.script (c.report.ensures.taken takes))
 
 pub returns-clause-told : goal.returns-clause-told
 returns-clause-told g c takes =
-    let w = c.run_first.new.world in
+    let w = c.run_first-played.new.world in
     let told = c.report.result.told in
     subst (λ (l : List Event). FollowsTakes (content_of c.args.script).shape l takes → (told ≡ true) ↔ ToldIn (content_of c.args.script).shape l takes) (sym c.report.ensures.history)
-    (subst (λ (t : Content). FollowsTakes t.shape w.history takes → (told ≡ true) ↔ ToldIn t.shape w.history takes) c.in_ok-run_first.ensures.script (c.report.ensures.told takes))
+    (subst (λ (t : Content). FollowsTakes t.shape w.history takes → (told ≡ true) ↔ ToldIn t.shape w.history takes) c.in_ok-played.ensures.script (c.report.ensures.told takes))
 
 pub returns-clause-put : goal.returns-clause-put
 returns-clause-put g c puts =
-    let w = c.run_first.new.world in
+    let w = c.run_first-played.new.world in
     let put = c.report.result.put.now in
     subst (λ (l : List Event). FollowsPuts (content_of c.args.script).shape l puts → put ≡ items_put_in (content_of c.args.script).shape l puts) (sym c.report.ensures.history)
-    (subst (λ (t : Content). FollowsPuts t.shape w.history puts → put ≡ items_put_in t.shape w.history puts) c.in_ok-run_first.ensures.script (c.report.ensures.put puts))
+    (subst (λ (t : Content). FollowsPuts t.shape w.history puts → put ≡ items_put_in t.shape w.history puts) c.in_ok-played.ensures.script (c.report.ensures.put puts))
 
 pub returns-clause-full : goal.returns-clause-full
 returns-clause-full g c puts =
-    let w = c.run_first.new.world in
+    let w = c.run_first-played.new.world in
     let full = c.report.result.full in
     subst (λ (l : List Event). FollowsPuts (content_of c.args.script).shape l puts → full ≡ fulls (puts_over_in (content_of c.args.script).shape l puts)) (sym c.report.ensures.history)
-    (subst (λ (t : Content). FollowsPuts t.shape w.history puts → full ≡ fulls (puts_over_in t.shape w.history puts)) c.in_ok-run_first.ensures.script (c.report.ensures.full puts))
+    (subst (λ (t : Content). FollowsPuts t.shape w.history puts → full ≡ fulls (puts_over_in t.shape w.history puts)) c.in_ok-played.ensures.script (c.report.ensures.full puts))
 
 pub returns-clause-empty : goal.returns-clause-empty
 returns-clause-empty g c takes =
-    let w = c.run_first.new.world in
+    let w = c.run_first-played.new.world in
     let empty = c.report.result.empty in
     subst (λ (l : List Event). FollowsTakes (content_of c.args.script).shape l takes → empty ≡ empties (takes_over_in (content_of c.args.script).shape l takes)) (sym c.report.ensures.history)
-    (subst (λ (t : Content). FollowsTakes t.shape w.history takes → empty ≡ empties (takes_over_in t.shape w.history takes)) c.in_ok-run_first.ensures.script (c.report.ensures.empty takes))
+    (subst (λ (t : Content). FollowsTakes t.shape w.history takes → empty ≡ empties (takes_over_in t.shape w.history takes)) c.in_ok-played.ensures.script (c.report.ensures.empty takes))

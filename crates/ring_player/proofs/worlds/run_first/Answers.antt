@@ -1,5 +1,6 @@
-use Rattle.std.proofs.Common.{◌≡◌, ℕ, ◌+◌, ◌-◌, min, List, length, ◌++◌, [], take, sym, ap, subst, ◌∙◌, arith}
+use Rattle.std.proofs.Common.{◌≡◌, ℕ, ◌+◌, ◌-◌, min, List, length, ◌++◌, [], take, refl, sym, ap, subst, ◌∙◌, arith}
 use Rattle.std.specs.Prelude.{replicate, slice_index_or}
+use Rattle.std.proofs.lemmas.List.{length-append, length-replicate}
 use Rattle.bits_core.specs.declared.events.Event.{Event}
 use Rattle.bits_core.specs.declared.events.Side.{Side}
 use Rattle.bits_core.specs.declared.events.Side.TheVariants.{P}
@@ -8,7 +9,7 @@ use Rattle.ring_script.specs.Borrowed.{content_of}
 use Rattle.ring_script.specs.Schedule.{spelled}
 use Rattle.ring_script.specs.Script.{Content}
 use Rattle.ring_player.specs.Plays.{Plays, sides}
-use Rattle.ring_player.proofs.WorldParts.{left-more, spelled-more, spelled-none, take-more, take-none}
+use Rattle.ring_player.proofs.WorldParts.{left-more, spelled-more, spelled-none, take-more, take-none, on_err, within_all}
 use Rattle.ring_player.proofs.worlds.run_first.Goals as goal
 
 pub loop-run-init : goal.loop-run-init
@@ -22,6 +23,10 @@ loop-run-init g c =
       all = c.runs-run-items.ensures;
       plays = subst (λ (s : Content). Plays s (take k (spelled [])) w.history) c.requires.of_script (subst (λ (h : List Event). Plays w.script (take k (spelled [])) h) (sym c.requires.new) nothing);
       left = omega (arith, ap length spelled-none);
+      event_room = refl;
+      item_room = refl;
+      few = omega (arith, ap length c.requires.new);
+      within = omega (arith, ap length c.requires.new);
     }
 
 pub loop-run-preserved : goal.loop-run-preserved
@@ -45,4 +50,16 @@ loop-run-preserved g c =
       all = l.all;
       plays = subst (λ (t : List Side). Plays (content_of c.args.script) (take k t) c.repeat.new.world.history) (sym after) (subst (λ (t : List Side). Plays (content_of c.args.script) t c.repeat.new.world.history) (sym more) played);
       left = left-more k before one.count one.side c.loop-run.left count l.left least ∙ ap (λ (t : List Side). k - length t) (sym after);
+      event_room = c.repeat.ensures.rooms.0 ∙ l.event_room;
+      item_room = c.repeat.ensures.rooms.1 ∙ l.item_room;
+      few = omega (arith, c.in_ok-repeat.ensures.few, l.few, least);
+      within = omega (arith, c.in_ok-repeat.ensures.few, l.within, least, ap length after, length-append before (replicate one.count one.side), length-replicate one.count one.side);
     }
+
+pub returns-in_err-repeat-clause-full : goal.returns-in_err-repeat-clause-full
+returns-in_err-repeat-clause-full g c =
+    let runs : List Run = c.runs-run-items.result.now in
+    let none : Run = record { side = P; count = 0 } in
+    let l = c.loop-run.invariant in
+    let e = c.in_err-repeat.ensures.full in
+    on_err c.from_residual.result (e.0, omega (arith, e.1, l.few, l.within, c.min-count.ensures, within_all runs c.loop-run.run-index none c.loop-run-test.true, ap length c.runs-run-items.ensures))

@@ -1,6 +1,6 @@
-use Rattle.std.proofs.Common.{◌∙◌, ◌++◌, sym, ap, inr, refl, arith}
+use Rattle.std.proofs.Common.{◌∙◌, ◌+◌, ◌++◌, length, sym, ap, inr, refl, arith}
 use Rattle.ring_script.specs.Schedule.{spelled}
-use Rattle.ring_script.proofs.ScheduleLemmas.{no_letters, no_length, letters_begin, no_total, too_long, letters_pushed, total_pushed, letters_done, within_done, digit_next}
+use Rattle.ring_script.proofs.ScheduleLemmas.{no_letters, no_length, letters_begin, no_total, too_long, letters_pushed, total_pushed, letters_done, within_done, digit_next, runs_begin, run_goes_on, run_made}
 use Rattle.ring_script.proofs.schedules.runs.Goals as goal
 use Rattle.ring_script.proofs.schedules.runs.Goals.{then-is_a_digit+else-total-more-gt-LETTER_LIMIT, else-is_a_digit+else-total-times-gt-LETTER_LIMIT+in_ok-push}
 
@@ -15,6 +15,8 @@ loop-b-init g c = record {
   letters = letters_begin _ _ _ _ _ c.in-Some.ensures.cases.0 c.letter_side-last.ensures c.requires.empty;
   total = no_total _ c.requires.empty;
   within = omega arith;
+  made = runs_begin _ _ c.requires.empty;
+  room = refl;
 }
 
 pub returns-then-total-more-gt-LETTER_LIMIT-clause-refused : goal.returns-then-total-more-gt-LETTER_LIMIT-clause-refused
@@ -39,12 +41,16 @@ loop-b-preserved g c = elim c.if-is_a_digit.branch [
     letters = ap (λ l. spelled (g.S.Store.items c.loop-b.runs) ++ l) (sym (digit_next _ _ _ _ _ c.loop-b-test.true c.is_a_digit.ensures w.if-is_a_digit.true)) ∙ c.loop-b.invariant.letters;
     total = c.loop-b.invariant.total;
     within = omega (arith, w.if-total-more-gt-LETTER_LIMIT.false, w.from.ensures);
+    made = ap (λ n. length (g.S.Store.items c.loop-b.runs) + n) (sym (run_goes_on _ _ _ c.loop-b-test.true c.is_a_digit.ensures w.if-is_a_digit.true)) ∙ c.loop-b.invariant.made;
+    room = c.loop-b.invariant.room;
   })
   | else-is_a_digit+else-total-times-gt-LETTER_LIMIT+in_ok-push w ↦ rw (w.runs-is, w.last-is, w.count-is, w.total-is) (record {
     letters = letters_pushed _ _ _ _ _ _ _ _ _ _ c.loop-b-test.true c.is_a_digit.ensures w.if-is_a_digit.false c.loop-b.invariant.letters w.in_ok-push.ensures.items
         w.at_least_one-times.ensures refl w.letter_side-last-else-is_a_digit.ensures;
     total = total_pushed _ _ _ _ _ c.loop-b.invariant.total w.in_ok-push.ensures.items refl;
     within = omega (arith, w.if-total-times-gt-LETTER_LIMIT.false);
+    made = run_made _ _ _ _ _ _ c.loop-b-test.true c.is_a_digit.ensures w.if-is_a_digit.false w.in_ok-push.ensures.items c.loop-b.invariant.made;
+    room = w.push.ensures.kept ∙ c.loop-b.invariant.room;
   })
 ]
 

@@ -8,4 +8,4 @@ pub returns-clause-read : goal.returns-clause-read
 returns-clause-read c = fields_are_script _ _ _ c.read_parts.ensures.read
 
 pub returns-clause-refused : goal.returns-clause-refused
-returns-clause-refused c = fields_have_fault _ _ c.read_parts.ensures.refused
+returns-clause-refused c = fields_have_fault _ _ _ c.read_parts.ensures.refused
