@@ -284,6 +284,25 @@ fn an_empty_ring_and_a_full_one_are_told(rt: HostRuntime) -> Result<(), Fail> {
     Ok(())
 }
 
+// Puts into a full ring, as many events as there is room for, and one more.
+#[test]
+fn a_play_fills_the_room_for_events(rt: HostRuntime) {
+    let most = Asked {
+        capacity: 1,
+        modulus: 3,
+        letters: 10_000,
+        ..ASKED
+    };
+    let (played, _, _) = play(&most, &[5, 2], "P10001", "");
+    assert_eq!(rt; [played.outcome, played.count, played.put], [0, 10_000, 1]);
+    let more = Asked {
+        letters: 10_001,
+        ..most
+    };
+    let (played, _, _) = play(&more, &[5, 2], "P10001", "");
+    assert_eq!(rt; [played.outcome, played.number, played.count], [2, 12, 0]);
+}
+
 #[test]
 fn an_overlapped_read_has_the_oracles_answer(rt: HostRuntime) -> Result<(), Fail> {
     // s0 is being written while the consumer reads it twice: by its answers 0 and 1 the first scan goes on to s1.
