@@ -3,32 +3,49 @@
 # launcher; and each #[test], with no proof of its own. ./gate has the whole: every proof from nothing, the tests' too, and the
 # wrong bodies. The last line is `N passed, M failed`.
 set -u
-cd -- "$(dirname -- "$0")"
+name=test.sh
+top=$(CDPATH='' cd -- "$(dirname -- "$0")" && pwd)
+cd -- "$top"
+. tools/building.sh
 
-log=$(mktemp) || exit 1
-trap 'rm -f "$log"' EXIT
-# (a test that is cut counts as one that failed)
+room=$(mktemp -d) || exit 1
 passed=0
 failed=0
 
-# part WORDS..: runs a script of tests, whose last line counts.
-part() {
-    "$@" >"$log" || true
-    cat "$log"
-    count=$(tail -n 1 "$log" | sed -n 's/.*: \([0-9]*\) passed, \([0-9]*\) failed$/\1 \2/p')
+# count FILE: adds what the last line of the file counts; a part without such a line has failed.
+count() {
+    cat "$1"
+    numbers=$(tail -n 1 "$1" | sed -n 's/.*: \([0-9]*\) passed, \([0-9]*\) failed$/\1 \2/p')
     # shellcheck disable=SC2086
-    set -- ${count:-0 1}
+    set -- ${numbers:-0 1}
     passed=$((passed + $1))
     failed=$((failed + $2))
 }
 
-# The program is built before it is tested.
+# The tests need no proof. They run beside the build of the program, which leaves processors idle, in a process group of their
+# own, so that an end of this script ends them too.
+setsid tests/unproved >"$room/unproved" 2>&1 </dev/null &
+testing=$!
+end() {
+    kill -s TERM -- "-$testing" 2>/dev/null
+    rm -rf "$room"
+}
+trap end EXIT
+trap 'exit 143' TERM
+trap 'exit 130' INT
+trap 'exit 129' HUP
+
+# The program is built before it is tried.
 if ./lamport_ring --version; then
-    part tests/examples
-    part tests/launcher
-    part tests/unproved
+    for part in tests/examples tests/launcher; do
+        "$part" >"$room/part"
+        count "$room/part"
+    done
 else
     failed=1
 fi
+say "the tests with no proof"
+wait "$testing"
+count "$room/unproved"
 echo "$passed passed, $failed failed"
 [ "$failed" -eq 0 ]
