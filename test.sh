@@ -4,6 +4,7 @@
 # wrong bodies. The last line is `N passed, M failed`.
 set -u
 name=test.sh
+started=$(date +%s)
 top=$(CDPATH='' cd -- "$(dirname -- "$0")" && pwd)
 cd -- "$top"
 . tools/building.sh
@@ -47,5 +48,6 @@ fi
 say "the tests with no proof"
 wait "$testing"
 count "$room/unproved"
+took
 echo "$passed passed, $failed failed"
 [ "$failed" -eq 0 ]

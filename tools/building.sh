@@ -5,6 +5,13 @@ say() {
     echo "$name: $*" >&2
 }
 
+# took: how long the script has run, which set `started`, and the processor time that it and what it ran took.
+took() {
+    took=$(($(date +%s) - started))
+    say "took $((took / 60))m$(printf %02d $((took % 60)))s; processor time, user and system, of it and of what it ran:"
+    times >&2
+}
+
 # crates_below CRATE: it and the crates of the repository that it stands on, each after those that it stands on itself.
 crates_below() {
     awk -v last="$1" '
