@@ -119,7 +119,15 @@ fn relay_apart<E: PutEnd + Send>(
     let (mut closer, mut told) = other.ends(start, Flip::new(), Flip::new());
     closer.close();
     let limits = Limits::both(5);
-    let outcome = relay(rt, rt.alloc(), putter, &mut told, &[0, 1], limits, &FreeGate)?;
+    let outcome = relay(
+        rt,
+        rt.alloc(),
+        putter,
+        &mut told,
+        &[0, 1],
+        limits,
+        &FreeGate,
+    )?;
     expect_apart(rt, &outcome);
     let ended = FlickerRing::finish(closer, told);
     assert!(rt; ended.closed() && ended.told());
