@@ -208,7 +208,7 @@ taken_later shape k x takes t i j item e r =
       some = omega (arith, length-append phrase rest, r.some);
     }
 
-phrase_some : (shape : Shape) (k : ℕ) (x : Take) → 1 ≤ events_in (take_phrase shape k x)
+pub phrase_some : (shape : Shape) (k : ℕ) (x : Take) → 1 ≤ events_in (take_phrase shape k x)
 phrase_some shape k (Item seen item) = omega (arith, take_phrase-item shape k seen item, length-scan (row_read_by C) seen)
 phrase_some shape k (ItemAfterClose seen again item) = omega (arith, take_phrase-after shape k seen again item, length-scan (row_read_by C) seen)
 phrase_some shape k (Empty seen) = omega (arith, take_phrase-empty shape k seen, length-scan (row_read_by C) seen)

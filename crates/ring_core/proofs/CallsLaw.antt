@@ -19,14 +19,13 @@ use Rattle.ring_core.specs.Items.{events_in, items_put, items_taken}
 use Rattle.ring_core.proofs.Spans.{Span, Outcome, Passes, Stops, Asks, counts, before_count, whole, counts_begun, counts_ended, IsSpanAt, sizes, tally}
 use Rattle.ring_core.proofs.Spans as spans
 use Rattle.ring_core.specs.CallsAt as taken
-use Rattle.ring_core.proofs.LookSpans.{put_looks, take_looks, put_spans, take_spans}
+use Rattle.ring_core.proofs.LookSpans.{take_looks, put_spans, take_spans}
 use Rattle.ring_core.specs.CallsAt.{IsPutAt, IsTakeAt, IsEndAt, scan_events, put_seen, take_seen, PutScans, second_scan, TakeScans, word_events, StoresItem, TakesItem, puts_begun, puts_ended, takes_begun, takes_ended, IsPutNumber, IsTakeNumber}
 use Rattle.ring_core.specs.RingLaw.{IsRun, ReadsCount, IsInterval, IsWithin, PutsAreInRange, TakesAreInRange, WordsAreQuiet, TakenArePrefix, TakesMatchPuts, EmptyIsFresh, FullIsFresh, FillIsFresh, ClosedIsTrue}
 use Rattle.ring_core.proofs.RingOfSpans as by_span
-use Rattle.ring_core.proofs.Timeline.{AllProper, length-begun_items, length-ended_items}
-use Rattle.ring_core.proofs.Looks.{all_proper, puts_pass, takes_pass, puts_items, takes_items, word_is, asks_word}
+use Rattle.ring_core.proofs.Timeline.{length-begun_items, length-ended_items}
+use Rattle.ring_core.proofs.Looks.{proper_puts, puts_items, takes_items, word_is, asks_word}
 use Rattle.ring_core.proofs.Lengths.{length-scan}
-use Rattle.ring_core.proofs.CountRow.{first_is_count, has_batch}
 use Rattle.ring_core.proofs.CellPlaces.{slice_get-before}
 use Rattle.ring_core.proofs.CloseReads.{OwnFacts}
 use Rattle.ring_core.proofs.CloseEnds.{place_within, not_ended}
@@ -83,13 +82,6 @@ has_word shape calls k item word stop r = by_take r.take r.is_take r.has r.reads
 
 module _ (facts : OwnFacts) (shape : Shape) (h : List Event) (puts : Puts) (takes : Takes) (run : IsRun shape h puts takes)
     (law : by_span.LawOfSpans shape h puts takes) where
-  proper_puts : AllProper (batch_of shape) (put_spans shape puts)
-  proper_puts =
-      all_proper (batch_of shape) P shape first_count (put_looks puts.puts) (omega arith) (first_is_count shape) (puts_pass shape 0 puts.puts run.puts_follow.are)
-
-  proper_takes : AllProper 1 (take_spans shape takes)
-  proper_takes = all_proper 1 C shape first_count (take_looks takes.takes takes.end) (has_batch shape) (first_is_count shape) (takes_pass 1 (omega arith) takes.takes takes.end)
-
   -- ---- the counts
 
   puts_begun_are : (t : ℕ) → counts_begun (put_spans shape puts) t ≡ puts_begun shape puts t
@@ -252,7 +244,7 @@ module _ (facts : OwnFacts) (shape : Shape) (h : List Event) (puts : Puts) (take
           let listed = ap (λ o. slice_get (spans.items_of o) a.index) x.outcome_is ∙ a.listed in
           let stored_at : slice_get (items_put shape first_count puts.puts p) j ≡ Some item =
           ap (λ l. slice_get l j) (puts_items shape first_count puts.puts p) ∙ ap (slice_get _) a.number ∙
-          ended_listed (batch_of shape) (put_spans shape puts) proper_puts a.start a.n x.span p a.index item x.stands ended_there listed in
+          ended_listed (batch_of shape) (put_spans shape puts) (proper_puts shape puts run.puts_follow.are) a.start a.n x.span p a.index item x.stands ended_there listed in
           let both : Some got ≡ Some item = sym put_at ∙ stored_at in
           let same : got ≡ item = cc in
           let r = taken_there shape 0 takes.takes c j item (taken_at ∙ ap Some same) in (

@@ -25,9 +25,7 @@ use Rattle.ring_core.specs.Items.{events_in}
 use Rattle.ring_core.specs.CallsAt.{scan_events, word_events, StoresItem, item_of, TakesItem}
 use Rattle.ring_core.specs.RingLaw.{IsRun, IsInterval, bit_of, WordsAreQuiet, CellsAreQuiet}
 use Rattle.ring_core.proofs.Cuts.{at_most_or_above}
-use Rattle.ring_core.proofs.Gates.{clock_up, clock_p, clock_c}
-use Rattle.ring_core.proofs.HistoryClocks.{clocks_of}
-use Rattle.ring_core.proofs.OwnEvents.{clock_within}
+use Rattle.ring_core.proofs.OwnEvents.{clock_within, clock_rises}
 use Rattle.ring_core.proofs.Lengths.{length-words}
 use Rattle.ring_core.proofs.CloseReads.{OwnFacts}
 
@@ -318,13 +316,9 @@ none-end (Closed seen again) = none-twice seen again
 
 -- ---- places
 
-up : (s : Side) (h : List Event) (t u : ℕ) → t ≤ u → clock s h t ≤ clock s h u
-up P h = clock_up (clock P h) (clock_p (clock P h) (clock C h) (clocks_of h))
-up C h = clock_up (clock C h) (clock_c (clock P h) (clock C h) (clocks_of h))
-
 -- an own event stands no later than a later one
 in_order : (s : Side) (h : List Event) (i e a b : ℕ) → i ≤ e → IsPlaceOf s h i a → IsPlaceOf s h e b → a ≤ b
-in_order s h i e a b l p q = elim (at_most_or_above a b) [ inl m ↦ m | inr m ↦ absurd (omega (arith, up s h (suc b) a m, p.before, q.past, l)) ]
+in_order s h i e a b l p q = elim (at_most_or_above a b) [ inl m ↦ m | inr m ↦ absurd (omega (arith, clock_rises s h (suc b) a m, p.before, q.past, l)) ]
 
 if_within : (b : Bool) (n m : ℕ) → n ≤ m → (if b then 0 else suc n) ≤ suc m
 if_within true n m l = omega arith

@@ -124,7 +124,7 @@ three_cells = record {
   small_batch = omega arith;
 }
 
-abbrev three_at_once : Puts
+abbrev pub three_at_once : Puts
 three_at_once = record { puts = Stored 0 (1 ∷ 0 ∷ 1 ∷ []) ∷ []; closes = false }
 
 three_at_once-is :

@@ -56,3 +56,11 @@ pub mod LastBits
 pub mod PutParts
 pub mod WholeCalls
 pub mod OneCallMore
+pub mod Turns
+pub mod OneOrder
+pub mod PutTurns
+pub mod PutTurnFacts
+pub mod TakeTurns
+pub mod TakeTurnFacts
+pub mod LinearRuns
+mod LinearExamples

@@ -11,16 +11,16 @@ use Rattle.bits_core.specs.Made.{Made, Read}
 use Rattle.register_core.specs.Word.{word_read}
 use Rattle.register_core.specs.ScanState.{scan_phrase, row_read_by}
 use Rattle.ring_core.specs.Counts.{distance, count_phrase, past, Count, first_count, batch_phrase, IsCount}
-use Rattle.ring_core.specs.Puts.{Put, Stored, Full, stored_after, words_phrase, put_phrases, close_phrase, ArePuts}
-use Rattle.ring_core.specs.Takes.{Take, Item, ItemAfterClose, Empty, End, Open, Closed, item_phrase, take_phrases, end_phrase, AreTakes}
+use Rattle.ring_core.specs.Puts.{Put, Stored, Full, Puts, stored_after, words_phrase, put_phrases, close_phrase, ArePuts}
+use Rattle.ring_core.specs.Takes.{Take, Item, ItemAfterClose, Empty, End, Open, Closed, Takes, item_phrase, take_phrases, end_phrase, AreTakes}
 use Rattle.ring_core.specs.Items.{items_put, items_taken}
 use Rattle.ring_core.proofs.Spans.{Outcome, Passes, Stops, Asks, Span, counts, items_of, whole, total, begun_items, ended_items, IsSpanAt}
 use Rattle.ring_core.proofs.Clocks as clocks
-use Rattle.ring_core.proofs.LookSpans.{steps, Look, look, put_looks, take_looks, words_read, word_part, count_part, look_number, after_look, look_accesses, span_of, spans, LookAt}
+use Rattle.ring_core.proofs.LookSpans.{steps, Look, look, put_looks, take_looks, put_spans, take_spans, words_read, word_part, count_part, look_number, after_look, look_accesses, span_of, spans, LookAt}
 use Rattle.ring_core.proofs.Timeline.{AllProper}
 use Rattle.ring_core.proofs.Cuts.{at_most_or_above}
 use Rattle.ring_core.proofs.SpanLaw.{LastTwo, two_last, two_after}
-use Rattle.ring_core.proofs.CountRow.{past_is, counted_is_count, batch_long}
+use Rattle.ring_core.proofs.CountRow.{past_is, first_is_count, counted_is_count, has_batch, batch_long}
 use Rattle.ring_core.proofs.Lengths.{length-scan, length-words, length-word_read}
 use Rattle.ring_core.proofs.PutsRead.{puts_stored, puts_full}
 use Rattle.ring_core.proofs.TakesRead.{item_first, after_first, empty_first, closed_first}
@@ -116,6 +116,13 @@ all_proper most s shape c (l ∷ looks) fits h p =
       record { scan = omega (arith, length-scan (row_read_by s) l.seen); few = r.0; count = r.1 },
       all_proper most s shape (after_look shape c l.outcome) looks fits (look_is_count shape c l.outcome h) p.1,
     )
+
+-- the spans of calls that follow one another are proper
+pub proper_puts : (shape : Shape) (puts : Puts) → ArePuts shape 0 puts.puts → AllProper (batch_of shape) (put_spans shape puts)
+proper_puts shape puts are = all_proper (batch_of shape) P shape first_count (put_looks puts.puts) (omega arith) (first_is_count shape) (puts_pass shape 0 puts.puts are)
+
+pub proper_takes : (shape : Shape) (takes : Takes) → AllProper 1 (take_spans shape takes)
+proper_takes shape takes = all_proper 1 C shape first_count (take_looks takes.takes takes.end) (has_batch shape) (first_is_count shape) (takes_pass 1 (omega arith) takes.takes takes.end)
 
 -- the parts of a look, and what follows them, in length
 length_parts : (a b d after : List Made) → length (a ++ (b ++ (d ++ after))) ≡ length a + length b + length d + length after

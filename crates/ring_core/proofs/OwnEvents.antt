@@ -1,7 +1,7 @@
 -- The own events of a side before a place of a history, and the writes of its count among them.
 use Rattle.std.proofs.Common.{◌≡◌, inl, inr, ℕ, zero, suc, ◌-◌, ◌≤◌, Bool, true, false, Some, None, List, [], ◌∷◌, ◌++◌, length, take, drop, slice_get, if◌then◌else◌, refl, sym, ap, ◌∙◌, take-append-drop, length-append, arith}
 use Rattle.std.specs.List.{cons_option}
-use Rattle.std.proofs.Math.Seq.{take-append_seam}
+use Rattle.std.proofs.Math.Seq.{take-append_seam, take-length}
 use Rattle.std.proofs.lemmas.List.Elements.{filter-append}
 use Rattle.bits_core.specs.declared.events.Side.{Side}
 use Rattle.bits_core.specs.declared.events.Side.TheVariants.{P, C}
@@ -49,8 +49,12 @@ pub clock_within : (s : Side) (h : List Event) (place : ℕ) → clock s h place
 clock_within s h place =
     omega (arith, ap length (own_parts s h place), length-append (own s (take place h)) (own s (drop place h)))
 
+-- at the end it says how many there are
+pub clock_end : (s : Side) (h : List Event) → clock s h (length h) ≡ length (own s h)
+clock_end s h = ap (λ l. length (own s l)) (take-length h)
+
 -- a clock goes up
-clock_rises : (s : Side) (h : List Event) (a b : ℕ) → a ≤ b → clock s h a ≤ clock s h b
+pub clock_rises : (s : Side) (h : List Event) (a b : ℕ) → a ≤ b → clock s h a ≤ clock s h b
 clock_rises P h a b l = clock_up (clock P h) (clock_p (clock P h) (clock C h) (clocks_of h)) a b l
 clock_rises C h a b l = clock_up (clock C h) (clock_c (clock P h) (clock C h) (clocks_of h)) a b l
 

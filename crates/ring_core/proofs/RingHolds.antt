@@ -2,7 +2,6 @@
 -- off that of the spans.
 use Rattle.std.proofs.Common.{◌≡◌, ◌⊎◌, inl, inr, ℕ, suc, ◌+◌, ◌-◌, ◌*◌, ◌<◌, ◌≤◌, Bool, true, false, Some, List, [], ◌∷◌, ◌++◌, length, refl, sym, ap, subst, ◌∙◌, arith, append_assoc, append-nil, length-append}
 use Rattle.std.specs.Prelude.{slice_get}
-use Rattle.std.proofs.Math.Seq.{take-length}
 use Rattle.std.proofs.Math.Nat.{suc-mul}
 use Rattle.bits_core.specs.declared.events.Side.{Side}
 use Rattle.bits_core.specs.declared.events.Side.TheVariants.{P, C}
@@ -28,13 +27,12 @@ use Rattle.ring_core.proofs.LookSpans.{put_looks, take_looks, word_part, count_p
 use Rattle.ring_core.specs.RingLaw.{IsRun}
 use Rattle.ring_core.proofs.RingOfSpans.{LawOfSpans, PutsAreInRange, TakesAreInRange, CellsAreQuiet, TakenArePrefix, TakesMatchPuts, EmptyIsFresh, FullIsFresh, FillIsFresh, ClosedIsTrue}
 use Rattle.ring_core.proofs.Cuts.{at_most_or_above}
-use Rattle.ring_core.proofs.Gates.{clock_up, clock_p, clock_c}
 use Rattle.ring_core.proofs.SpanLaw.{SpanLaw, span_law, IsToldAt, LastTwo}
 use Rattle.ring_core.proofs.HistoryClocks.{clocks_of}
-use Rattle.ring_core.proofs.OwnEvents.{clock_within, one_place}
+use Rattle.ring_core.proofs.OwnEvents.{clock_within, clock_end, clock_rises, one_place}
 use Rattle.ring_core.proofs.Following.{length-events}
 use Rattle.ring_core.proofs.LookSpans.{LookAt}
-use Rattle.ring_core.proofs.Looks.{puts_as_looks, takes_as_looks, all_proper, puts_pass, takes_pass, total_is, look_from_first, words_are, word_is, word_some, asks_word, puts_items, takes_items, put_rules, take_rules, put_fits, take_fits, last_two}
+use Rattle.ring_core.proofs.Looks.{puts_as_looks, takes_as_looks, puts_pass, takes_pass, proper_puts, proper_takes, total_is, look_from_first, words_are, word_is, word_some, asks_word, puts_items, takes_items, put_rules, take_rules, put_fits, take_fits, last_two}
 use Rattle.ring_core.proofs.CountRow.{first_is_count, batch_fits, has_batch}
 use Rattle.ring_core.proofs.CellPlaces.{multiple_up}
 use Rattle.ring_core.proofs.RegularScans.{put_events, take_events, puts_regular, takes_regular}
@@ -112,7 +110,7 @@ module _ (facts : OwnFacts) (regular : UnaryIsRegular) (scans_made : ScansAreMad
       let order : first ≤ last =
       elim (at_most_or_above first last) [
         | inl m ↦ m
-        | inr m ↦ absurd (omega (arith, clock_up (clock C h) (clock_c (clock P h) (clock C h) (clocks_of h)) (suc last) first m, is_first, is_last, e_is, start_is))
+        | inr m ↦ absurd (omega (arith, clock_rises C h (suc last) first m, is_first, is_last, e_is, start_is))
       ] in
       let (on_zero, on_one) = read_of_close facts shape h run.lawful puts.puts puts.closes run.puts_follow.events first last answer read order in
       ((λ f. omega (arith, on_zero f, put_total shape puts)), (λ t. omega (arith, on_one t, put_total shape puts)))
@@ -138,23 +136,19 @@ module _ (facts : OwnFacts) (regular : UnaryIsRegular) (scans_made : ScansAreMad
 
   pub law : SpanLaw (modulus_of shape) (capacity_of shape) (batch_of shape) (clock P h) (clock C h) (put_spans shape puts) (take_spans shape takes)
   law = span_law (modulus_of shape) (capacity_of shape) (batch_of shape) (clock P h) (clock C h) (put_spans shape puts) (take_spans shape takes)
-      (all_proper (batch_of shape) P shape first_count (put_looks puts.puts) (omega arith) (first_is_count shape) (puts_pass shape 0 puts.puts run.puts_follow.are))
-      (all_proper 1 C shape first_count (take_looks takes.takes takes.end) (has_batch shape) (first_is_count shape) (takes_pass 1 (omega arith) takes.takes takes.end))
+      (proper_puts shape puts run.puts_follow.are) (proper_takes shape takes)
       ring
 
   -- ---- the law, in the words of calls
-
-  clock_end : (s : Side) → clock s h (length h) ≡ length (own s h)
-  clock_end s = ap (λ l. length (own s l)) (take-length h)
 
   is_place : (s : Side) (i place : ℕ) → IsPlaceOf s h i place → IsPlace (clock s h) i place
   is_place s i place q = (q.before, q.past)
 
   put_range : PutsAreInRange shape h puts takes
-  put_range s n x st l = law.put_range (length h) s n x st (omega (arith, l, clock_end P))
+  put_range s n x st l = law.put_range (length h) s n x st (omega (arith, l, clock_end P h))
 
   take_range : TakesAreInRange shape h puts takes
-  take_range s k x st l = law.take_range (length h) s k x st (omega (arith, l, clock_end C))
+  take_range s k x st l = law.take_range (length h) s k x st (omega (arith, l, clock_end C h))
 
   prefix : TakenArePrefix shape h puts takes
   prefix t =
@@ -166,14 +160,14 @@ module _ (facts : OwnFacts) (regular : UnaryIsRegular) (scans_made : ScansAreMad
 
   empty : EmptyIsFresh shape h puts takes
   empty s k x st o l first q =
-      let (all, not_closed) = law.empty (length h) s k x st o (omega (arith, l, clock_end C)) first (is_place C s first q) in
+      let (all, not_closed) = law.empty (length h) s k x st o (omega (arith, l, clock_end C h)) first (is_place C s first q) in
       (all, omega (arith, not_closed, put_total shape puts))
 
   full : FullIsFresh shape h puts takes
-  full s n x st o l first q = law.full (length h) s n x st o (omega (arith, l, clock_end P)) first (is_place P s first q)
+  full s n x st o l first q = law.full (length h) s n x st o (omega (arith, l, clock_end P h)) first (is_place P s first q)
 
   fill : FillIsFresh shape h puts takes
-  fill s n x st fills l first q = law.fill (length h) s n x st fills (omega (arith, l, clock_end P)) first (is_place P s first q)
+  fill s n x st fills l first q = law.fill (length h) s n x st fills (omega (arith, l, clock_end P h)) first (is_place P s first q)
 
   closed : ClosedIsTrue shape h puts takes
   closed t u (tells, ended) l =
@@ -195,10 +189,6 @@ module _ (facts : OwnFacts) (regular : UnaryIsRegular) (scans_made : ScansAreMad
       is_closed false (rest, e) more =
           absurd (omega (arith, more, length-append (own P h) rest, ap length e, length-events P (put_phrases shape first_count puts.puts ++ []), length-append (put_phrases shape first_count puts.puts) []))
 
-  up : (s : Side) (t u : ℕ) → t ≤ u → clock s h t ≤ clock s h u
-  up P = clock_up (clock P h) (clock_p (clock P h) (clock C h) (clocks_of h))
-  up C = clock_up (clock C h) (clock_c (clock P h) (clock C h) (clocks_of h))
-
   -- the clock where an interval ends
   at_end : (s : Side) (stop e : ℕ) → IsPlaceOf s h e stop ⊎ ((length (own s h) ≤ e) × (stop ≡ length h)) → clock s h stop ≤ e
   at_end s stop e (inl q) = omega (arith, q.before)
@@ -206,9 +196,9 @@ module _ (facts : OwnFacts) (regular : UnaryIsRegular) (scans_made : ScansAreMad
 
   -- an own event stands before the end of an interval that ends with a later one
   by_end : (s : Side) (start stop i e : ℕ) → IsPlaceOf s h i start → IsPlaceOf s h e stop ⊎ ((length (own s h) ≤ e) × (stop ≡ length h)) → stop < start → i ≤ e → ⊥
-  by_end s start stop i e q (inl r) l m = absurd (omega (arith, up s (suc stop) start l, r.past, q.before, m))
+  by_end s start stop i e q (inl r) l m = absurd (omega (arith, clock_rises s h (suc stop) start l, r.past, q.before, m))
   by_end s start stop i e q (inr (few, past)) l m =
-      absurd (omega (arith, up s stop start (omega arith), ap (clock s h) past, clock_end s, q.before, q.past, clock_within s h (suc start)))
+      absurd (omega (arith, clock_rises s h stop start (omega arith), ap (clock s h) past, clock_end s h, q.before, q.past, clock_within s h (suc start)))
 
   -- an event of the producer is none of the consumer, and none past the end
   apart : (start stop i e : ℕ) → IsPlaceOf P h i start → IsPlaceOf C h e stop ⊎ ((length (own C h) ≤ e) × (stop ≡ length h)) → start ≡ stop → ⊥
@@ -225,7 +215,7 @@ module _ (facts : OwnFacts) (regular : UnaryIsRegular) (scans_made : ScansAreMad
       one_at_once (inr (inl (p, c))) p' c' = omega (arith, p, p')
       one_at_once (inr (inr (p, c))) p' c' = omega (arith, p, p')
   apart start stop i e q (inr (few, past)) same =
-      absurd (omega (arith, ap (clock P h) same, ap (clock P h) past, clock_end P, q.before, q.past, clock_within P h (suc start)))
+      absurd (omega (arith, ap (clock P h) same, ap (clock P h) past, clock_end P h, q.before, q.past, clock_within P h (suc start)))
 
   quiet : CellsAreQuiet shape h puts takes
   quiet s n i x st stores s' k y st' takes_one cell start stop start' stop' a b (not_after, not_before) =
@@ -238,7 +228,7 @@ module _ (facts : OwnFacts) (regular : UnaryIsRegular) (scans_made : ScansAreMad
       let one : 1 * w ≡ w = omega arith in
       let none_before : 0 * w ≡ 0 = omega arith in
       let ended : (place : ℕ) → place ≤ stop → clock P h place < s + before_count x =
-      (λ place l. omega (arith, up P place stop l, at_end P stop (s + x.scan + 2 * (suc i * w) - 1) a.ends, words, within, size, digits)) in
+      (λ place l. omega (arith, clock_rises P h place stop l, at_end P stop (s + x.scan + 2 * (suc i * w) - 1) a.ends, words, within, size, digits)) in
       let ended' : clock C h stop' ≤ s' + before_count y = omega (arith, at_end C stop' (s' + y.scan + 2 * (1 * w) - 1) b.ends, word', one) in
       let order : start' ≤ stop' =
       elim (at_most_or_above start' stop') [
@@ -259,7 +249,7 @@ module _ (facts : OwnFacts) (regular : UnaryIsRegular) (scans_made : ScansAreMad
         stands = st;
         stored = stores;
         same_cell = cell;
-        begun_before = omega (arith, up P (suc start) stop' begun, a.begins.past);
+        begun_before = omega (arith, clock_rises P h (suc start) stop' begun, a.begins.past);
         not_ended = ended start' (at_most start' stop not_after);
       })
     where

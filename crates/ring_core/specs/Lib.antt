@@ -18,3 +18,4 @@ pub mod ConsumerState
 pub mod ConsumerCalls
 pub mod GoingOn
 pub mod RingLaw
+pub mod Linear

@@ -4,6 +4,7 @@ ghost use Rattle.ring_core.specs.Following.{PutsAreFollowed, TakesAreFollowed};
 ghost use Rattle.ring_core.specs.GoingOn.{LastPutsReadOne, LastTakesReadOne, PutsGoOnByOne, TakesGoOnAlike, TakesGoOnByOne};
 ghost use Rattle.ring_core.specs.Items.{ItemsAreRead, TakenAreRead};
 ghost use Rattle.ring_core.specs.Lengths.{ItemPutsAreShort, FullPutsAreShort, PutsAreShort, TakesAreShort, EndsAreShort};
+ghost use Rattle.ring_core.specs.Linear.{IsLinearizable};
 ghost use Rattle.ring_core.specs.OneCallMore.{ClosesByOneMore, EndsByOneMore, PutsByOneMore, TakesByOneMore};
 ghost use Rattle.ring_core.specs.Over.{PutsOverAreRead, TakesOverAreRead};
 ghost use Rattle.ring_core.specs.PutParts.{CountsOn, ScansOn, ScansOrCloses, StoresOn, StoresOrCounts};
@@ -201,6 +202,27 @@ pub fn ring_law()
     ensures full { InEveryRun FullIsFresh }
     ensures fill { InEveryRun FillIsFresh }
     ensures closed { InEveryRun ClosedIsTrue }
+{
+    own_has_place();
+    own_has_one_place();
+    clock_counts_places();
+    made_is_access();
+    access_is_made();
+    unary_is_regular();
+    word_is_safe();
+    reads_are_made();
+    writes_are_made();
+}
+
+/// Every run of the ring is linearizable: in every lawful history of safe bits whose two sides follow their programs, the
+/// operations of both sides that took effect have one order in which each side's stand in its own order, which a bounded
+/// FIFO queue with close allows one after the other, and in which an operation whose call had ended before another's
+/// began stands before it. A put of `m` items is `m` operations within its call. Of the calls that are cut, a put of
+/// items, a take of an item and a close count where their count write, or the write of the close bit, has begun.
+///
+/// Herlihy and Wing 1990.
+pub fn ring_is_linearizable()
+    ensures { InEveryRun IsLinearizable }
 {
     own_has_place();
     own_has_one_place();

@@ -1,0 +1,102 @@
+-- Linearizability (Herlihy and Wing, 1990): the calls of the two sides, which overlap, answer as the operations of a queue do
+-- that come one after the other, in an order that keeps the time of the calls.
+use Rattle.std.specs.Prelude.{◌≡◌, ℕ, suc, ◌+◌, ◌<◌, ◌≤◌, Bool, true, false, List, [], ◌∷◌, ◌++◌, length, filter, map, nat_le, if◌then◌else◌}
+use Rattle.queue_calls.specs.Queue.{Does, Enqueue, FindFull, Close, Dequeue, FindEmpty, FindClosed, queue, IsLegal}
+use Rattle.bits_core.specs.declared.events.Side.{Side}
+use Rattle.bits_core.specs.declared.events.Side.TheVariants.{P, C}
+use Rattle.bits_core.specs.declared.events.Event.{Event}
+use Rattle.bits_core.specs.declared.shapes.Shape.{Shape}
+use Rattle.bits_core.specs.Shape.{capacity_of}
+use Rattle.bits_core.specs.Bits.{same_side}
+use Rattle.bits_core.specs.Made.{own, clock}
+use Rattle.ring_core.specs.Counts.{Count, first_count}
+use Rattle.ring_core.specs.Puts.{Put, Stored, Full, Puts, stored_after, accesses_before_count, put_phrase, close_phrase}
+use Rattle.ring_core.specs.Takes.{Take, Item, ItemAfterClose, Empty, End, Open, Closed, Takes, taken_after, take_phrase, end_phrase}
+use Rattle.ring_core.specs.Items.{events_in}
+use Rattle.ring_core.specs.CallsAt.{take_before_count}
+
+-- ---- the operations of the calls
+
+-- an operation of a side, and its call: the side's own events from start up to stop
+pub record Operation : Type 0 where
+  pub side : Side
+  pub does : Does
+  pub start : ℕ
+  pub stop : ℕ
+
+-- the operations of one call
+abbrev pub operations : Side → ℕ → ℕ → List Does → List Operation
+operations side start stop does = map (λ d. record { side = side; does = d; start = start; stop = stop }) does
+
+-- those of a call that has so many own events from start on, where it has taken effect within the side's first t events; it takes
+-- effect with its event number effect, counted from 1
+abbrev pub call_operations : Side → (start long effect t : ℕ) → List Does → List Operation
+call_operations side start long effect t ds = (if nat_le (start + effect) t then operations side start (start + long) ds else [])
+
+-- what a put does, several items one by one, and what a take does
+abbrev pub put_does : Put → List Does
+put_does (Stored seen items) = map Enqueue items
+put_does (Full seen) = FindFull ∷ []
+
+abbrev pub take_does : Take → List Does
+take_does (Item seen item) = Dequeue item ∷ []
+take_does (ItemAfterClose seen again item) = Dequeue item ∷ []
+take_does (Empty seen) = FindEmpty ∷ []
+
+-- a call that passes items takes effect with the first event of its count write, any other with its last event
+abbrev pub put_effect : Shape → Count → Put → ℕ
+put_effect shape c (Stored seen items) = suc (events_in (accesses_before_count shape c.number seen items))
+put_effect shape c (Full seen) = events_in (put_phrase shape c (Full seen))
+
+abbrev pub take_effect : Shape → ℕ → Take → ℕ
+take_effect shape k (Item seen item) = suc (events_in (take_before_count shape k (Item seen item)))
+take_effect shape k (ItemAfterClose seen again item) = suc (events_in (take_before_count shape k (ItemAfterClose seen again item)))
+take_effect shape k (Empty seen) = events_in (take_phrase shape k (Empty seen))
+
+-- the operations of puts and of the close behind them, from own event start on, behind the producer's count; a close takes effect
+-- with its first event
+abbrev pub put_operations : Shape → Count → ℕ → List Put → Bool → ℕ → List Operation
+put_operations shape c start [] false t = []
+put_operations shape c start [] true t = call_operations P start (events_in (close_phrase true)) 1 t (Close ∷ [])
+put_operations shape c start (x ∷ puts) closes t =
+    call_operations P start (events_in (put_phrase shape c x)) (put_effect shape c x) t (put_does x) ++
+    put_operations shape (stored_after shape c x) (start + events_in (put_phrase shape c x)) puts closes t
+
+-- the operations of takes and of their end, behind k taken items
+abbrev pub take_operations : Shape → ℕ → ℕ → List Take → End → ℕ → List Operation
+take_operations shape k start [] Open t = []
+take_operations shape k start [] (Closed seen again) t =
+    call_operations C start (events_in (end_phrase (Closed seen again))) (events_in (end_phrase (Closed seen again))) t (FindClosed ∷ [])
+take_operations shape k start (x ∷ takes) end t =
+    call_operations C start (events_in (take_phrase shape k x)) (take_effect shape k x) t (take_does x) ++
+    take_operations shape (taken_after k x) (start + events_in (take_phrase shape k x)) takes end t
+
+-- ---- linearizability
+
+-- the operations of one side
+abbrev pub of_side : Side → List Operation → List Operation
+of_side s order = filter (λ o. same_side s o.side) order
+
+-- what operations do
+abbrev pub done_by : List Operation → List Does
+done_by order = map (λ o. o.does) order
+
+-- a had ended before b began: at some moment all events of the call of a have come, and none of that of b
+abbrev pub EndsBefore : List Event → Operation → Operation → Type 0
+EndsBefore h a b = (t : ℕ) × (a.stop ≤ clock a.side h t) × (clock b.side h t ≤ b.start)
+
+-- no operation stands behind one that began after it had ended
+abbrev pub KeepsTime : List Event → List Operation → Type 0
+KeepsTime h order = (a b : Operation) (front between rest : List Operation) → order ≡ front ++ a ∷ between ++ b ∷ rest → ¬ EndsBefore h b a
+
+-- an order of the operations of both sides: each side's are those of its calls, in their order; they are those of a queue that is
+-- empty and open at first; and they keep the time of the calls
+pub record IsLinearization (shape : Shape) (h : List Event) (puts : Puts) (takes : Takes) (order : List Operation) : Type 0 where
+  pub producer : of_side P order ≡ put_operations shape first_count 0 puts.puts puts.closes (length (own P h))
+  pub consumer : of_side C order ≡ take_operations shape 0 0 takes.takes takes.end (length (own C h))
+  pub legal : IsLegal (capacity_of shape) (queue [] false) (done_by order)
+  pub keeps_time : KeepsTime h order
+
+-- there is one
+abbrev pub IsLinearizable : Shape → List Event → Puts → Takes → Type 0
+IsLinearizable shape h puts takes = (order : List Operation) × IsLinearization shape h puts takes order
