@@ -8,8 +8,9 @@ use Rattle.bits_core.specs.declared.shapes.Shape.{Shape}
 use Rattle.bits_core.specs.Made.{clock, own, IsBeginning}
 use Rattle.ring_core.specs.Counts.{first_count}
 use Rattle.ring_core.specs.Items.{items_put, items_taken, IsTold}
+use Rattle.ring_core.specs.Linear.{IsLinearizable}
 use Rattle.ring_core.specs.RingLaw.{InEveryRun, ClosedStays, RingLaw}
-use Rattle.ring_audit.specs.Audit.{IsFound, MeetsSentence, Statement, Lawful, Fault, IsFinding, SaysSentence}
+use Rattle.ring_audit.specs.Audit.{IsFound, MeetsSentence, Statement, Lawful, Fault, IsFinding, SaysLinearizable, SaysSentence}
 
 clock_end : (s : Side) (h : List Event) → clock s h (length h) ≡ length (own s h)
 clock_end s h = ap (λ l. length (own s l)) (take-length h)
@@ -34,3 +35,7 @@ sentence holds stays shape h put taken told f =
 pub says_sentence : InEveryRun RingLaw → ClosedStays → (shape : Shape) (h : List Event) (f : Statement) → IsFinding shape h f → SaysSentence shape h f
 says_sentence holds stays shape h (Lawful put taken told) found = sentence holds stays shape h put taken told found
 says_sentence holds stays shape h (Fault place kind) found = record {}
+
+pub says_linearizable : InEveryRun IsLinearizable → (shape : Shape) (h : List Event) (f : Statement) → SaysLinearizable shape h f
+says_linearizable holds shape h (Lawful put taken told) = holds shape h
+says_linearizable holds shape h (Fault place kind) = record {}

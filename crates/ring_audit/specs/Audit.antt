@@ -14,6 +14,7 @@ use Rattle.ring_audit.specs.declared.audits.Finding.TheVariants as findings
 use Rattle.ring_core.specs.Puts.{Puts}
 use Rattle.ring_core.specs.Takes.{Takes}
 use Rattle.ring_core.specs.Items.{items_put_in, items_taken_in, ToldIn}
+use Rattle.ring_core.specs.Linear.{EachReadingIsLinearizable}
 use Rattle.ring_core.specs.RingLaw.{IsRun, RingLaw}
 
 -- the history is lawful and both sides follow their programs
@@ -80,6 +81,11 @@ pub record MeetsSentence (shape : Shape) (h : List Event) (put taken : List ℕ)
 abbrev pub SaysSentence : Shape → List Event → Statement → Type 0
 SaysSentence shape h (Lawful put taken told) = MeetsSentence shape h put taken told
 SaysSentence shape h (Fault place kind) = Unit {0}
+
+-- whichever calls a history is read as of which lists are told, they are linearizable
+abbrev pub SaysLinearizable : Shape → List Event → Statement → Type 0
+SaysLinearizable shape h (Lawful put taken told) = EachReadingIsLinearizable shape h
+SaysLinearizable shape h (Fault place kind) = Unit {0}
 
 -- how many events there are before the first fault of the bits
 abbrev pub lawful_until : ℕ → Verdict → ℕ

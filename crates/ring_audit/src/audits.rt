@@ -2,7 +2,7 @@
 ghost use Rattle.std.specs.Prelude.{◌≡◌, ◌↔◌, ◌++◌, ◌∷◌, [], ℕ, List, Bool, true, false, IfOk, IsTrue, ◌≤◌, length};
 ghost use Rattle.bits_core.specs.declared.events.Event.{Event as AnEvent};
 ghost use Rattle.bits_core.specs.Lawful.{IsLawful};
-ghost use Rattle.ring_audit.specs.Audit.{IsFinding, IsOfPrograms, SaysSentence, lawful_until, statement, tells_lawful};
+ghost use Rattle.ring_audit.specs.Audit.{IsFinding, IsOfPrograms, SaysLinearizable, SaysSentence, lawful_until, statement, tells_lawful};
 ghost use Rattle.bits_core.specs.Audit.{IsVerdict};
 ghost use Rattle.ring_audit.specs.Reading.{Stands, BothFollow};
 
@@ -11,7 +11,7 @@ use crate::puts::{PutReader, PutStep};
 use crate::takes::{TakeReader, TakeStep};
 use bits_core::laws::{beginning_is_lawful, fault_breaks, own_changes};
 use bits_core::{Event, Kind, Shape, Side, Verdict, audit_bits};
-use ring_core::laws::{closed_stays, ring_law};
+use ring_core::laws::{closed_stays, ring_is_linearizable, ring_law};
 use std::alloc::Allocator;
 use std::marker::Model;
 
@@ -149,7 +149,8 @@ fn lawful_length(shape: &Shape, events: &[Event], verdict: Verdict) -> usize
 /// and with it are lawful, else the kind that [`audit_bits`] tells.
 ///
 /// A history has one finding ([`one_finding`](crate::laws::one_finding)). Lists that are told meet the sentence of the ring:
-/// the items taken are a prefix of the items put, and once the end was told they are all of them.
+/// the items taken are a prefix of the items put, and once the end was told they are all of them; and its calls are
+/// linearizable.
 ///
 /// It goes over the events once, takes memory for the two lists alone, and tells `OutOfMemory` where a growth was refused.
 pub fn audit<A: Allocator + Copy>(
@@ -160,10 +161,12 @@ pub fn audit<A: Allocator + Copy>(
     ensures found { IfOk result (λ found. IsFinding shape.now events.now (statement found)) }
     ensures exact { IfOk result (λ found. IsTrue (tells_lawful (statement found)) ↔ IsOfPrograms shape.now events.now) }
     ensures sentence { IfOk result (λ found. SaysSentence shape.now events.now (statement found)) }
+    ensures linearizable { IfOk result (λ found. SaysLinearizable shape.now events.now (statement found)) }
 {
     beginning_is_lawful();
     ring_law();
     closed_stays();
+    ring_is_linearizable();
     let found = find(alloc, shape, events)?;
     Ok(found)
 }

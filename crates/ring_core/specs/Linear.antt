@@ -14,6 +14,7 @@ use Rattle.ring_core.specs.Puts.{Put, Stored, Full, Puts, stored_after, accesses
 use Rattle.ring_core.specs.Takes.{Take, Item, ItemAfterClose, Empty, End, Open, Closed, Takes, taken_after, take_phrase, end_phrase}
 use Rattle.ring_core.specs.Items.{events_in}
 use Rattle.ring_core.specs.CallsAt.{take_before_count}
+use Rattle.ring_core.specs.RingLaw.{IsRun}
 
 -- ---- the operations of the calls
 
@@ -100,3 +101,7 @@ pub record IsLinearization (shape : Shape) (h : List Event) (puts : Puts) (takes
 -- there is one
 abbrev pub IsLinearizable : Shape → List Event → Puts → Takes → Type 0
 IsLinearizable shape h puts takes = (order : List Operation) × IsLinearization shape h puts takes order
+
+-- whichever calls the events of the two sides are read as, they are linearizable
+abbrev pub EachReadingIsLinearizable : Shape → List Event → Type 0
+EachReadingIsLinearizable shape h = (puts : Puts) (takes : Takes) → IsRun shape h puts takes → IsLinearizable shape h puts takes

@@ -1,7 +1,7 @@
 use Rattle.ring_core.specs.RingLaw.{InEveryRun, RingLaw}
 use Rattle.ring_audit.specs.Audit.{statement}
 use Rattle.ring_audit.proofs.Breaks.{exact_finding}
-use Rattle.ring_audit.proofs.Sentences.{says_sentence}
+use Rattle.ring_audit.proofs.Sentences.{says_linearizable, says_sentence}
 use Rattle.ring_audit.proofs.audits.audit.Goals as goal
 
 pub returns-clause-exact : goal.returns-clause-exact
@@ -24,3 +24,6 @@ returns-clause-sentence g c =
       closed = law.closed shape h puts takes run;
     } in
     says_sentence holds c.closed_stays.ensures c.args.shape.now c.args.events.now (statement c.in_ok-found.found) c.in_ok-found.ensures
+
+pub returns-clause-linearizable : goal.returns-clause-linearizable
+returns-clause-linearizable g c = says_linearizable c.ring_is_linearizable.ensures c.args.shape.now c.args.events.now (statement c.in_ok-found.found)
