@@ -23,9 +23,9 @@ count() {
     failed=$((failed + $2))
 }
 
-# The tests need no proof. They run beside the build of the program, which leaves processors idle, in a process group of their
-# own, so that an end of this script ends them too.
-setsid tests/unproved >"$room/unproved" 2>&1 </dev/null &
+# The tests need no proof. They run beside the build of the program, which leaves processors idle, after it in rank and in a process
+# group of their own, so that an end of this script ends them too.
+setsid nice -n 19 tests/unproved >"$room/unproved" 2>&1 </dev/null &
 testing=$!
 end() {
     kill -s TERM -- "-$testing" 2>/dev/null
