@@ -35,7 +35,7 @@ last_of [] = inl refl
 last_of (x ∷ []) = inr (0, x, refl, refl)
 last_of (x ∷ y ∷ items) = ⊎_elim (λ none. absurd (omega (arith, none))) (λ r. inr (suc r.0, r.1, r.2, ap suc r.3)) (last_of (y ∷ items))
 
-past_is : (n : ℕ) (items : List ℕ) → past n items ≡ n + length items
+pub past_is : (n : ℕ) (items : List ℕ) → past n items ≡ n + length items
 past_is n [] = omega arith
 past_is n (x ∷ items) = omega (arith, past_is (suc n) items)
 
@@ -143,14 +143,14 @@ own_mine s e h by = rw by refl
 own_theirs : (s : Side) (e : Event) (h : List Event) → is_by s e ≡ false → own s (e ∷ h) ≡ own s h
 own_theirs s e h by = rw by refl
 
-own_append : (s : Side) (h more : List Event) → own s (h ++ more) ≡ own s h ++ own s more
+pub own_append : (s : Side) (h more : List Event) → own s (h ++ more) ≡ own s h ++ own s more
 own_append s [] more = refl
 own_append s (e ∷ h) more = by_case (is_by s e)
     (λ by. own_mine s e (h ++ more) by ∙ ap (λ l. e ∷ l) (own_append s h more) ∙ sym (ap (λ l. l ++ own s more) (own_mine s e h by)))
     (λ by. own_theirs s e (h ++ more) by ∙ own_append s h more ∙ sym (ap (λ l. l ++ own s more) (own_theirs s e h by)))
 
 -- before a place of a beginning of the history a side has no more events than in that, and behind it no fewer
-inside : (s : Side) (known more : List Event) (place : ℕ) → place ≤ length known → clock s (known ++ more) place ≤ length (own s known)
+pub inside : (s : Side) (known more : List Event) (place : ℕ) → place ≤ length known → clock s (known ++ more) place ≤ length (own s known)
 inside s known more zero l = omega arith
 inside s [] more (suc n) l = absurd (omega (arith, l))
 inside s (e ∷ known) more (suc n) l =
@@ -159,7 +159,7 @@ inside s (e ∷ known) more (suc n) l =
     (λ by. omega (arith, rest, ap length (own_mine s e (take n (known ++ more)) by), ap length (own_mine s e known by)))
     (λ by. omega (arith, rest, ap length (own_theirs s e (take n (known ++ more)) by), ap length (own_theirs s e known by)))
 
-behind : (s : Side) (known more : List Event) (place : ℕ) → length known ≤ place → length (own s known) ≤ clock s (known ++ more) place
+pub behind : (s : Side) (known more : List Event) (place : ℕ) → length known ≤ place → length (own s known) ≤ clock s (known ++ more) place
 behind s [] more place l = omega arith
 behind s (e ∷ known) more zero l = absurd (omega (arith, l))
 behind s (e ∷ known) more (suc n) l =
@@ -167,6 +167,16 @@ behind s (e ∷ known) more (suc n) l =
     by_case (is_by s e)
     (λ by. omega (arith, rest, ap length (own_mine s e (take n (known ++ more)) by), ap length (own_mine s e known by)))
     (λ by. omega (arith, rest, ap length (own_theirs s e (take n (known ++ more)) by), ap length (own_theirs s e known by)))
+
+-- an own event of a side that is not among those of the known history stands behind it
+pub later_than : (s : Side) (known more h : List Event) (start place : ℕ) → known ++ more ≡ h → clock s h (suc place) ≡ suc start → length (own s known) ≤ start → length known ≤ place
+later_than s known more h start place is past long = go (dec_lt place (length known))
+  where
+    go : Dec (place < length known) → length known ≤ place
+    go (yes l) =
+        let few : clock s (known ++ more) (suc place) ≤ length (own s known) = inside s known more (suc place) (omega (arith, l)) in
+        absurd (omega (arith, few, ap (λ l. clock s l (suc place)) is, past, long))
+    go (no l) = omega (arith, l)
 
 there : (xs : List Made) (x : Made) (ys : List Made) → slice_get (xs ++ x ∷ ys) (length xs) ≡ Some x
 there [] x ys = refl
@@ -222,14 +232,7 @@ module _ (law : InEveryRun EmptyIsFresh) (first : PutsAreFirst) (made : MadeIsAc
 
   -- it began behind what is known
   later : length known ≤ place
-  later = go (dec_lt place (length known))
-    where
-      go : Dec (place < length known) → length known ≤ place
-      go (yes l) =
-          let few : clock C (known ++ rest) (suc place) ≤ length (own C known) = inside C known rest (suc place) (omega (arith, l)) in
-          let past : clock C h (suc place) ≡ suc start = fresh.1.past in
-          absurd (omega (arith, few, ap (λ l. clock C l (suc place)) h_is, past, before_long, ap length begins.1, length-append (own C known) begins.0))
-      go (no l) = omega (arith, l)
+  later = later_than C known rest h start place h_is fresh.1.past (omega (arith, before_long, ap length begins.1, length-append (own C known) begins.0))
 
   own_known : IsBeginning (own P known) (own P h)
   own_known = (own P rest, sym (own_append P known rest) ∙ ap (own P) h_is)
