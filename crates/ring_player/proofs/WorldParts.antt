@@ -27,7 +27,7 @@ use Rattle.ring_core.specs.Items.{ItemsAreRead, items_put, items_put_in, items_t
 use Rattle.ring_core.specs.Over.{empties, fulls, PutsOverAreRead, puts_over_in, TakesOverAreRead, takes_over_in}
 use Rattle.ring_core.specs.Puts.{FollowsPuts, Puts}
 use Rattle.ring_core.specs.Takes.{FollowsTakes, Takes}
-use Rattle.ring_player.specs.Headline.{HoldsHeadline}
+use Rattle.ring_player.specs.Headline.{EveryPlayFills, EveryPlayHolds, HoldsHeadline, IsPlayOf}
 use Rattle.ring_player.specs.SoFar.{PutSoFar, TakenSoFar}
 use Rattle.ring_player.specs.Worlds.{IsWorld}
 use Rattle.ring_player.proofs.Moves.{moves-more, moves_step, not_by, own_other, sides-more}
@@ -119,6 +119,10 @@ plays_of overlap flicker script m ps cs pd cd pt ct a w lawful puts takes =
       };
       moves = w.moves;
     }
+
+-- the laws of every play hold of it
+pub is_play : EveryPlayHolds → EveryPlayFills → (script : Content) (letters : List Side) (h : List Event) → Plays script letters h → IsPlayOf script letters h
+is_play holds fills script letters h plays = record { plays = plays; headline = holds script letters h plays; batches = fills script letters h plays }
 
 pub letters_of :
     {E : Type 0} (script script' : Content) (s : Side) (h h' : List Event) (r : Result Bool E) → script' ≡ script → IfOk r (λ moved. IsMove script s moved h h') → IsPlayed script' h' →

@@ -47,3 +47,9 @@ FillsRing script h =
 
 abbrev pub EveryPlayFills : Type 0
 EveryPlayFills = (script : Content) (letters : List Side) (h : List Event) → Plays script letters h → FillsRing script h
+
+-- the history is the play of the script by these letters; the sentence of the ring holds of it, and its puts fill the ring
+pub record IsPlayOf (script : Content) (letters : List Side) (h : List Event) : Type 0 where
+  pub plays : Plays script letters h
+  pub headline : HoldsHeadline script h
+  pub batches : FillsRing script h
