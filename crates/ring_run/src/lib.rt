@@ -32,7 +32,7 @@ pub use counter_relays::relay_counter;
 pub use counter_rings::{CounterRing, CounterStart};
 pub use counter_takers::CounterTaker;
 pub use counter_words::CounterRule;
-pub use ends::{PutEnd, TakeEnd};
+pub use ends::{PutEnd, RingOf, TakeEnd};
 pub use faults::RunFault;
 pub use gates::{FreeGate, Gate, YieldGate};
 pub use meetings::Finished;
