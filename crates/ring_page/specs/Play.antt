@@ -1,6 +1,5 @@
 -- What the page is told of a play.
 use Rattle.std.specs.Prelude.{◌≡◌, ◌⊎◌, ◌↔◌, ◌<◌, min, Bool, true, false, not, nat_eq, ℕ, List, length, take}
-use Rattle.bits_core.specs.Memory.{flicker_count}
 use Rattle.bits_core.specs.Shape.{shape_fault_number}
 use Rattle.bits_core.specs.declared.events.Event.{Event}
 use Rattle.ring_core.specs.Items.{ToldIn, items_put_in, items_taken_in}
@@ -8,6 +7,7 @@ use Rattle.ring_core.specs.Over.{empties, fulls, puts_over_in, takes_over_in}
 use Rattle.ring_core.specs.Puts.{FollowsPuts, Puts}
 use Rattle.ring_core.specs.Takes.{FollowsTakes, Takes}
 use Rattle.ring_player.specs.Headline.{IsPlayOf}
+use Rattle.ring_player.specs.Plays.{HasFlickers}
 use Rattle.ring_script.specs.Faults.{IsScriptFault, script_fault_number}
 use Rattle.ring_script.specs.Script.{Content, Held, Holds, IsContentOf, IsScript}
 use Rattle.ring_script.specs.declared.faults.ScriptFault.{ScriptFault}
@@ -50,7 +50,7 @@ pub record Reports (script : Content) (history : List Event) (put taken : List �
   pub told_is : (takes : Takes) → FollowsTakes script.shape history takes → (told.told ≡ 1) ↔ ToldIn script.shape history takes
   pub full_is : (puts : Puts) → FollowsPuts script.shape history puts → told.full ≡ fulls (puts_over_in script.shape history puts)
   pub empty_is : (takes : Takes) → FollowsTakes script.shape history takes → told.empty ≡ empties (takes_over_in script.shape history takes)
-  pub flickers_is : told.flickers ≡ flicker_count history
+  pub flickers_is : HasFlickers history told.flickers
   pub all_letters_is : told.all_letters ≡ length script.letters
 
 -- no fault is told

@@ -3,7 +3,6 @@ ghost use Rattle.std.specs.Prelude.{◌≡◌, ◌<◌, ◌≤◌, ◌⊎◌, �
 ghost use Rattle.bits_core.specs.declared.events.Event.{Event};
 ghost use Rattle.bits_core.specs.declared.shapes.Shape.{Shape};
 ghost use Rattle.bits_core.specs.Lawful.{IsLawful};
-ghost use Rattle.bits_core.specs.Memory.{flicker_count};
 ghost use Rattle.ring_script.specs.Borrowed.{content_of, held_of};
 ghost use Rattle.ring_page.specs.Audit.{AreMarks, IsNothingSeen};
 ghost use Rattle.ring_page.specs.Play.{Fills, TellsFirstLetters, TellsPlay, TellsPlayFault, bit_number, fields_of};

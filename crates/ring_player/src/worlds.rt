@@ -9,7 +9,7 @@ ghost use Rattle.ring_core.specs.Puts.{FollowsPuts, Puts};
 ghost use Rattle.ring_core.specs.Takes.{FollowsTakes, Takes};
 ghost use Rattle.ring_player.specs.Actors.{IsMove};
 ghost use Rattle.ring_player.specs.Headline.{IsPlayOf};
-ghost use Rattle.ring_player.specs.Plays.{Plays, sides};
+ghost use Rattle.ring_player.specs.Plays.{HasFlickers, Plays, sides};
 ghost use Rattle.ring_script.specs.Borrowed.{content_of};
 
 use crate::actors::advance;
@@ -17,7 +17,7 @@ use crate::faults::PlayFault;
 use crate::laws::{every_play_fills, every_play_holds};
 use crate::putting::PutActor;
 use crate::taking::TakeActor;
-use bits_core::laws::{flicker_is_by_interval, open_changes, overlap_is_by_interval, own_changes};
+use bits_core::laws::{flicker_is_by_interval, open_changes, own_changes};
 use bits_core::{Event, Memory, Side, Store, Tape};
 use ring_core::laws::{calls_over_are_read, items_put_are_read, items_taken_are_read};
 use ring_script::{Script, ScriptRef};
@@ -89,7 +89,6 @@ impl<'a, E: Store<Event>, T: Store<u64>> World<'a, E, T> {
     {
         every_play_holds();
         every_play_fills();
-        overlap_is_by_interval();
         flicker_is_by_interval();
         self.memory.events()
     }
@@ -329,7 +328,7 @@ pub fn play<'a, A: Allocator + Copy, B: Allocator>(
     ensures told { IfOk result (λ r. (takes : Takes) → FollowsTakes script.now.shape r.history.items takes → (r.told ≡ true) ↔ ToldIn script.now.shape r.history.items takes) }
     ensures full { IfOk result (λ r. (puts : Puts) → FollowsPuts script.now.shape r.history.items puts → r.full ≡ fulls (puts_over_in script.now.shape r.history.items puts)) }
     ensures empty { IfOk result (λ r. (takes : Takes) → FollowsTakes script.now.shape r.history.items takes → r.empty ≡ empties (takes_over_in script.now.shape r.history.items takes)) }
-    ensures flicker { IfOk result (λ r. r.flicker ≡ flicker_count r.history.items) }
+    ensures flicker { IfOk result (λ r. HasFlickers r.history.items r.flicker) }
 {
     let letters = script.len();
     play_first(script.as_ref(), letters, Vec::new(alloc), Vec::new(alloc))
@@ -354,7 +353,7 @@ pub fn play_first<'a, E: Store<Event>, T: Store<u64>>(
     ensures told { IfOk result (λ r. (takes : Takes) → FollowsTakes (content_of script.entry).shape (E.items r.history) takes → (r.told ≡ true) ↔ ToldIn (content_of script.entry).shape (E.items r.history) takes) }
     ensures full { IfOk result (λ r. (puts : Puts) → FollowsPuts (content_of script.entry).shape (E.items r.history) puts → r.full ≡ fulls (puts_over_in (content_of script.entry).shape (E.items r.history) puts)) }
     ensures empty { IfOk result (λ r. (takes : Takes) → FollowsTakes (content_of script.entry).shape (E.items r.history) takes → r.empty ≡ empties (takes_over_in (content_of script.entry).shape (E.items r.history) takes)) }
-    ensures flicker { IfOk result (λ r. r.flicker ≡ flicker_count (E.items r.history)) }
+    ensures flicker { IfOk result (λ r. HasFlickers (E.items r.history) r.flicker) }
     // A letter gives one event at most.
     ensures few { IfOk result (λ r. length (E.items r.history) ≤ min letters (length (content_of script.entry).letters)) }
     // A refusal comes only where the history has no room for as many events as letters are played, or the items taken have none for
@@ -363,6 +362,7 @@ pub fn play_first<'a, E: Store<Event>, T: Store<u64>>(
 {
     every_play_holds();
     every_play_fills();
+    flicker_is_by_interval();
     let mut world = World::over(script, events, taken);
     let played = run_first(&mut world, script, letters);
     world.few_taken();
