@@ -23,9 +23,10 @@ count() {
     failed=$((failed + $2))
 }
 
-# The tests need no proof. They run beside the build of the program, which leaves processors idle, in a process group of their
-# own, so that an end of this script ends them too.
-setsid tests/unproved >"$room/unproved" 2>&1 </dev/null &
+# The tests need no proof. They run beside the build of the program, which leaves processors idle, and after it in rank (Linux ranks
+# sessions, where it groups by them); in a process group of their own, so that an end of this script ends them too.
+# shellcheck disable=SC2016
+setsid nice -n 19 sh -c '{ echo 19 >/proc/self/autogroup; } 2>/dev/null; exec tests/unproved' >"$room/unproved" 2>&1 </dev/null &
 testing=$!
 end() {
     kill -s TERM -- "-$testing" 2>/dev/null

@@ -45,16 +45,19 @@ has_room() {
     return 1
 }
 
-# how_far LOG COUNT: how far a build of so many crates is, by what rt has said so far.
+# how_far LOG COUNT: how far a build of so many crates is, by what rt has said so far; lines with `beside: ` in front are of a
+# second run.
 how_far() {
     awk -v count="$2" '
-        /^rt: chose --jobs/ { crate = $NF; at++; now = "" }
-        /^so far: / { now = " " $3 "/" $5 }
-        /^logic=proved/ { now = ", proved" }
+        { run = sub(/^beside: /, "") }
+        /^rt: chose --jobs/ { crate[run] = $NF; at++; now[run] = " 0" }
+        /^so far: / { now[run] = " " $3 "/" $5 }
+        /^logic=proved/ { now[run] = ", proved" }
         END {
             if (!at) print "reading the sources"
-            else if (at == count && now == ", proved") print "[" at " of " count "] " crate " proved; compiling and linking"
-            else print "[" at " of " count "] " crate now
+            else if (at == count && now[0] == ", proved") print "[" at " of " count "] " crate[0] " proved; compiling and linking"
+            else if (now[1] != "" && now[1] != ", proved") print "[" at " of " count "] " crate[0] now[0] "; beside it " crate[1] now[1]
+            else print "[" at " of " count "] " crate[0] now[0]
         }' "$1"
 }
 

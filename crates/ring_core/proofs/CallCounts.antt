@@ -15,7 +15,8 @@ use Rattle.ring_core.specs.Takes.{Take, Item, ItemAfterClose, Empty, End, Open, 
 use Rattle.ring_core.specs.Items.{events_in, items_taken}
 use Rattle.ring_core.proofs.Spans.{Span, Passes, Stops, Asks, counts, items_of, whole, before_count, IsSpanAt, counts_begun, counts_ended, begun_items, sizes, tally}
 use Rattle.ring_core.proofs.LookSpans.{steps, look, put_looks, take_looks, span_of, spans}
-use Rattle.ring_core.specs.CallsAt.{item_of, stored_ended, taken_begun, take_before_count}
+use Rattle.ring_core.specs.CallsAt.{item_of}
+use Rattle.ring_core.proofs.EndedCounts.{stored_ended, taken_begun, take_before_count}
 use Rattle.ring_core.proofs.CountRow.{past_is}
 use Rattle.ring_core.proofs.Cuts.{at_most_or_above}
 use Rattle.ring_core.proofs.CellPlaces.{slice_get-before}
@@ -133,136 +134,8 @@ ended_counts (y ∷ ys) s n x i (inl st) l =
 ended_counts (y ∷ ys) s n x i (inr st) l =
     omega (arith, ended_counts ys st.0 st.1 x (i - whole y) st.4 (omega (arith, l, st.2)), st.3, ended_past y ys i (i - whole y) (omega (arith, l, st.2)))
 
--- and its items are among those whose count write has begun
-pub ended_listed :
-    (most : ℕ) (xs : List Span) → AllProper most xs → (s n : ℕ) (x : Span) (i index item : ℕ) → IsSpanAt xs s n x → s + whole x ≤ i →
-    slice_get (items_of x.outcome) index ≡ Some item → slice_get (begun_items xs i) (n + index) ≡ Some item
-ended_listed most [] h s n x i index item st l e = elim st [ ]
-ended_listed most (y ∷ ys) h s n x i index item (inl st) l e =
-    let long : whole y ≤ i = omega (arith, ap (λ (z : Span). whole z) st.2, l) in
-    let at : slice_get (items_of y.outcome) index ≡ Some item = ap (λ (z : Span). slice_get (items_of z.outcome) index) (sym st.2) ∙ e in
-    let same : n + index ≡ index = omega (arith, st.1) in
-    ap (λ l. slice_get l (n + index)) (begun_items_past most y ys i h.0 long) ∙ ap (slice_get (items_of y.outcome ++ begun_items ys (i - whole y))) same ∙
-    slice_get-before (items_of y.outcome) (begun_items ys (i - whole y)) index item at
-ended_listed most (y ∷ ys) h s n x i index item (inr st) l e =
-    let long : whole y ≤ i = omega (arith, st.2, l) in
-    ap (λ l. slice_get l (n + index)) (begun_items_past most y ys i h.0 long) ∙
-    slice_get-behind (items_of y.outcome) (begun_items ys (i - whole y)) (n + index) (st.1 + index) (omega (arith, st.3, counts-items y.outcome)) ∙
-    ended_listed most ys h.1 st.0 st.1 x (i - whole y) index item st.4 (omega (arith, l, st.2)) e
-
--- ---- the take of an item
-
--- the take that took item j of those taken within t events
-pub record TakenBy (shape : Shape) (k : ℕ) (takes : List Take) (t j item : ℕ) : Type 0 where
-  pub before : List Take
-  pub take : Take
-  pub after : List Take
-  pub among : takes ≡ before ++ take ∷ after
-  pub has : item_of take ≡ Some item
-  pub number : k + j ≡ taken_in k before
-  pub done : events_in (take_phrases shape k (before ++ take ∷ [])) ≤ t
-  pub some : 1 ≤ events_in (take_phrases shape k (before ++ take ∷ []))
-
-if_yes : (t : Bool) (xs ys : List ℕ) → t ≡ true → (if t then xs else []) ++ ys ≡ xs ++ ys
-if_yes t xs ys e = rw e refl
-
-if_not : (t : Bool) (xs ys : List ℕ) → t ≡ false → (if t then xs else []) ++ ys ≡ ys
-if_not t xs ys e = rw e refl
-
-le_yes : (a b : ℕ) → a ≤ b → nat_le a b ≡ true
-le_yes a b l = grind (arith, nat_tests)
-
-le_not : (a b : ℕ) → b < a → nat_le a b ≡ false
-le_not a b l = grind (arith, nat_tests)
-
--- the first take has it
-taken_here :
-    (shape : Shape) (k : ℕ) (x : Take) (takes : List Take) (t item : ℕ) → item_of x ≡ Some item → events_in (take_phrase shape k x) ≤ t →
-    1 ≤ events_in (take_phrase shape k x) → TakenBy shape k (x ∷ takes) t 0 item
-taken_here shape k x takes t item e l m = record {
-  before = [];
-  take = x;
-  after = takes;
-  among = refl;
-  has = e;
-  number = omega arith;
-  done = omega (arith, length-append (take_phrase shape k x) [], l);
-  some = omega (arith, length-append (take_phrase shape k x) [], m);
-}
-
--- or a later one, behind so many
-taken_later :
-    (shape : Shape) (k : ℕ) (x : Take) (takes : List Take) (t i j item : ℕ) → k + j ≡ taken_after k x + i →
-    TakenBy shape (taken_after k x) takes (t - events_in (take_phrase shape k x)) i item → TakenBy shape k (x ∷ takes) t j item
-taken_later shape k x takes t i j item e r =
-    let phrase : List Made = take_phrase shape k x in
-    let rest : List Made = take_phrases shape (taken_after k x) (r.before ++ r.take ∷ []) in
-    record {
-      before = x ∷ r.before;
-      take = r.take;
-      after = r.after;
-      among = ap (λ l. x ∷ l) r.among;
-      has = r.has;
-      number = omega (arith, e, r.number);
-      done = omega (arith, length-append phrase rest, r.done, r.some);
-      some = omega (arith, length-append phrase rest, r.some);
-    }
-
+-- a take has events
 pub phrase_some : (shape : Shape) (k : ℕ) (x : Take) → 1 ≤ events_in (take_phrase shape k x)
 phrase_some shape k (Item seen item) = omega (arith, take_phrase-item shape k seen item, length-scan (row_read_by C) seen)
 phrase_some shape k (ItemAfterClose seen again item) = omega (arith, take_phrase-after shape k seen again item, length-scan (row_read_by C) seen)
 phrase_some shape k (Empty seen) = omega (arith, take_phrase-empty shape k seen, length-scan (row_read_by C) seen)
-
-pub taken_there :
-    (shape : Shape) (k : ℕ) (takes : List Take) (t j item : ℕ) → slice_get (items_taken shape k takes t) j ≡ Some item → TakenBy shape k takes t j item
-taken_there shape k [] t j item e = absurd (cc)
-taken_there shape k (Empty seen ∷ takes) t j item e =
-    taken_later shape k (Empty seen) takes t j j item refl (taken_there shape k takes (t - events_in (take_phrase shape k (Empty seen))) j item e)
-taken_there shape k (Item seen x ∷ takes) t zero item e =
-    let phrase : ℕ = events_in (take_phrase shape k (Item seen x)) in
-    let rest : List ℕ = items_taken shape (suc k) takes (t - phrase) in
-    elim (at_most_or_above phrase t) [
-      | inl l ↦ (
-          let f : Some x ≡ Some item = sym (ap (λ l. slice_get l 0) (if_yes (nat_le phrase t) (x ∷ []) rest (le_yes phrase t l))) ∙ e in
-          taken_here shape k (Item seen x) takes t item f l (phrase_some shape k (Item seen x)))
-      | inr l ↦ absurd (
-          let f : slice_get rest 0 ≡ Some item = sym (ap (λ l. slice_get l 0) (if_not (nat_le phrase t) (x ∷ []) rest (le_not phrase t l))) ∙ e in
-          let r = taken_there shape (suc k) takes (t - phrase) 0 item f in
-          omega (arith, r.done, r.some, l))
-    ]
-taken_there shape k (Item seen x ∷ takes) t (suc j) item e =
-    let phrase : ℕ = events_in (take_phrase shape k (Item seen x)) in
-    let rest : List ℕ = items_taken shape (suc k) takes (t - phrase) in
-    elim (at_most_or_above phrase t) [
-      | inl l ↦ (
-          let f : slice_get rest j ≡ Some item = sym (ap (λ l. slice_get l (suc j)) (if_yes (nat_le phrase t) (x ∷ []) rest (le_yes phrase t l))) ∙ e in
-          taken_later shape k (Item seen x) takes t j (suc j) item (omega arith) (taken_there shape (suc k) takes (t - phrase) j item f))
-      | inr l ↦ absurd (
-          let f : slice_get rest (suc j) ≡ Some item = sym (ap (λ l. slice_get l (suc j)) (if_not (nat_le phrase t) (x ∷ []) rest (le_not phrase t l))) ∙ e in
-          let r = taken_there shape (suc k) takes (t - phrase) (suc j) item f in
-          omega (arith, r.done, r.some, l))
-    ]
-taken_there shape k (ItemAfterClose seen again x ∷ takes) t zero item e =
-    let phrase : ℕ = events_in (take_phrase shape k (ItemAfterClose seen again x)) in
-    let rest : List ℕ = items_taken shape (suc k) takes (t - phrase) in
-    elim (at_most_or_above phrase t) [
-      | inl l ↦ (
-          let f : Some x ≡ Some item = sym (ap (λ l. slice_get l 0) (if_yes (nat_le phrase t) (x ∷ []) rest (le_yes phrase t l))) ∙ e in
-          taken_here shape k (ItemAfterClose seen again x) takes t item f l (phrase_some shape k (ItemAfterClose seen again x)))
-      | inr l ↦ absurd (
-          let f : slice_get rest 0 ≡ Some item = sym (ap (λ l. slice_get l 0) (if_not (nat_le phrase t) (x ∷ []) rest (le_not phrase t l))) ∙ e in
-          let r = taken_there shape (suc k) takes (t - phrase) 0 item f in
-          omega (arith, r.done, r.some, l))
-    ]
-taken_there shape k (ItemAfterClose seen again x ∷ takes) t (suc j) item e =
-    let phrase : ℕ = events_in (take_phrase shape k (ItemAfterClose seen again x)) in
-    let rest : List ℕ = items_taken shape (suc k) takes (t - phrase) in
-    elim (at_most_or_above phrase t) [
-      | inl l ↦ (
-          let f : slice_get rest j ≡ Some item = sym (ap (λ l. slice_get l (suc j)) (if_yes (nat_le phrase t) (x ∷ []) rest (le_yes phrase t l))) ∙ e in
-          taken_later shape k (ItemAfterClose seen again x) takes t j (suc j) item (omega arith) (taken_there shape (suc k) takes (t - phrase) j item f))
-      | inr l ↦ absurd (
-          let f : slice_get rest (suc j) ≡ Some item = sym (ap (λ l. slice_get l (suc j)) (if_not (nat_le phrase t) (x ∷ []) rest (le_not phrase t l))) ∙ e in
-          let r = taken_there shape (suc k) takes (t - phrase) (suc j) item f in
-          omega (arith, r.done, r.some, l))
-    ]

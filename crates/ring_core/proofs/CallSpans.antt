@@ -1,5 +1,5 @@
 -- Each call has the spans of its looks, and they stand at its own events.
-use Rattle.std.proofs.Common.{◌≡◌, inl, inr, ℕ, suc, ◌+◌, ◌%◌, true, false, List, [], ◌∷◌, ◌++◌, length, refl, sym, ap, subst, arith, length-append, append-nil}
+use Rattle.std.proofs.Common.{◌≡◌, inl, inr, ℕ, suc, ◌+◌, ◌%◌, true, false, List, [], ◌∷◌, ◌++◌, length, refl, ap, subst, arith, length-append, append-nil}
 use Rattle.bits_core.specs.declared.events.Side.{Side}
 use Rattle.bits_core.specs.declared.events.Side.TheVariants.{P, C}
 use Rattle.bits_core.specs.declared.events.Bit.TheVariants.{X}
@@ -10,11 +10,11 @@ use Rattle.register_core.specs.Word.{word_read}
 use Rattle.register_core.specs.ScanState.{scan_phrase, row_read_by}
 use Rattle.ring_core.specs.Counts.{past, Count, first_count, count_phrase, batch_phrase}
 use Rattle.ring_core.specs.Puts.{Put, Stored, Full, Puts, stored_in, stored_after, stored_count, words_phrase, put_phrase, put_phrases}
-use Rattle.ring_core.specs.Takes.{Take, Item, ItemAfterClose, Empty, End, Closed, Takes, taken_after, taken_in, take_phrase, take_phrases}
+use Rattle.ring_core.specs.Takes.{Take, Item, ItemAfterClose, Empty, End, Takes, taken_after, taken_in, take_phrase, take_phrases}
 use Rattle.ring_core.specs.Items.{events_in}
 use Rattle.ring_core.proofs.Spans.{Span, Outcome, Passes, Stops, Asks, counts, whole, IsSpanAt}
 use Rattle.ring_core.proofs.LookSpans.{steps, look, put_looks, take_looks, span_of, spans, put_spans, take_spans}
-use Rattle.ring_core.specs.CallsAt.{IsPutAt, IsTakeAt, IsEndAt, scan_events, put_seen, second_scan}
+use Rattle.ring_core.specs.CallsAt.{IsPutAt, IsTakeAt, scan_events}
 use Rattle.ring_core.proofs.CountRow.{past_is}
 
 -- the same, by equal numbers
@@ -29,6 +29,11 @@ pub three : (a b d : List Made) → length ((a ++ b) ++ d) ≡ length a + length
 three a b d = omega (arith, length-append (a ++ b) d, length-append a b)
 
 -- ---- puts
+
+-- what a put's scan gives
+abbrev pub put_seen : Put → ℕ
+put_seen (Stored seen items) = seen
+put_seen (Full seen) = seen
 
 -- how many items puts store
 abbrev pub put_counts : List Put → ℕ
@@ -207,7 +212,11 @@ take_phrases-push shape k (y ∷ before) x =
       take_phrases-push shape next before x,
     )
 
--- where the second scan of a take begins, by the span of its first look
+-- where the second scan of a take begins: behind its first scan, which gave seen, and the read of the close bit
+abbrev pub second_scan : ℕ → ℕ → ℕ
+second_scan start seen = start + events_in (scan_phrase (row_read_by C) seen ++ Read X true ∷ [])
+
+-- the same, by the span of its first look
 second_is : (shape : Shape) (k seen start : ℕ) → second_scan start seen ≡ start + whole (span_of C shape (steps shape k) (look seen (Asks true)))
 second_is shape k seen start = omega (arith, length-append (scan_phrase (row_read_by C) seen) (Read X true ∷ []))
 
@@ -247,25 +256,7 @@ empty_has_span shape calls seen k start stop r =
       stop_is = omega (arith, r.starts, r.stops, take_phrases-push shape 0 r.before (Empty seen), take_phrase-empty shape m seen);
     }
 
--- one that takes an item by a second scan has two
-pub after_has_first :
-    (shape : Shape) (calls : Takes) (seen again item k start stop : ℕ) → IsTakeAt shape calls (ItemAfterClose seen again item) k start stop →
-    HasSpan C (take_spans shape calls) k start (second_scan start seen) seen (Asks true)
-after_has_first shape calls seen again item k start stop r =
-    let m : ℕ = taken_in 0 r.before in
-    let y : Span = span_of C shape (steps shape m) (look seen (Asks true)) in
-    let z : Span = span_of C shape (steps shape m) (look again (Passes (item ∷ []))) in
-    let zs : List Span = spans C shape (steps shape (suc m)) (take_looks r.after calls.end) in
-    let st = behind_takes shape 0 r.before (ItemAfterClose seen again item ∷ r.after) calls.end 0 0 y (first_stands y (z ∷ zs)) in
-    record {
-      span = y;
-      stands = rw r.among (stands_at _ _ start _ k y (omega (arith, r.starts)) (omega (arith, r.number, taken_is 0 r.before)) st);
-      seen_is = refl;
-      outcome_is = refl;
-      scan_is = refl;
-      stop_is = second_is shape m seen start;
-    }
-
+-- one that takes an item by a second scan
 pub after_has_second :
     (shape : Shape) (calls : Takes) (seen again item k start stop : ℕ) → IsTakeAt shape calls (ItemAfterClose seen again item) k start stop →
     HasSpan C (take_spans shape calls) k (second_scan start seen) stop again (Passes (item ∷ []))
@@ -291,41 +282,4 @@ after_has_second shape calls seen again item k start stop r =
         take_phrase-after shape m seen again item,
         second_is shape m seen start,
       );
-    }
-
--- and so has the take that is told that the ring is closed
-pub end_has_first :
-    (shape : Shape) (calls : Takes) (seen again k start : ℕ) → IsEndAt shape calls seen again k start →
-    HasSpan C (take_spans shape calls) k start (second_scan start seen) seen (Asks true)
-end_has_first shape calls seen again k start r =
-    let m : ℕ = taken_in 0 calls.takes in
-    let y : Span = span_of C shape (steps shape m) (look seen (Asks true)) in
-    let z : Span = span_of C shape (steps shape m) (look again Stops) in
-    let st = behind_takes shape 0 calls.takes [] (Closed seen again) 0 0 y (first_stands y (z ∷ [])) in
-    record {
-      span = y;
-      stands = rw (r.is_end, sym (append-nil calls.takes)) (stands_at _ _ start _ k y (omega (arith, r.starts)) (omega (arith, r.number, taken_is 0 calls.takes)) st);
-      seen_is = refl;
-      outcome_is = refl;
-      scan_is = refl;
-      stop_is = second_is shape m seen start;
-    }
-
-pub end_has_second :
-    (shape : Shape) (calls : Takes) (seen again k start : ℕ) → IsEndAt shape calls seen again k start →
-    HasSpan C (take_spans shape calls) k (second_scan start seen) (second_scan start seen + scan_events C again) again Stops
-end_has_second shape calls seen again k start r =
-    let m : ℕ = taken_in 0 calls.takes in
-    let y : Span = span_of C shape (steps shape m) (look seen (Asks true)) in
-    let z : Span = span_of C shape (steps shape m) (look again Stops) in
-    let st = behind_takes shape 0 calls.takes [] (Closed seen again) (whole y) 0 z
-    (stands_behind y (z ∷ []) 0 0 (whole y) 0 z (omega arith) (omega arith) (first_stands z [])) in
-    record {
-      span = z;
-      stands = rw (r.is_end, sym (append-nil calls.takes))
-          (stands_at _ _ (second_scan start seen) _ k z (omega (arith, r.starts, second_is shape m seen start)) (omega (arith, r.number, taken_is 0 calls.takes)) st);
-      seen_is = refl;
-      outcome_is = refl;
-      scan_is = refl;
-      stop_is = omega arith;
     }

@@ -1,5 +1,5 @@
 -- The law of the ring over calls, from the law over spans.
-use Rattle.std.proofs.Common.{◌≡◌, inl, inr, ℕ, suc, ◌+◌, ◌-◌, ◌*◌, ◌%◌, ◌<◌, ◌≤◌, true, false, Some, List, [], ◌∷◌, length, get_or, refl, sym, ap, subst, ◌∙◌, arith, length-append}
+use Rattle.std.proofs.Common.{◌≡◌, ℕ, suc, ◌+◌, ◌-◌, ◌*◌, ◌%◌, ◌<◌, ◌≤◌, true, false, Some, List, [], ◌∷◌, length, get_or, refl, sym, ap, subst, ◌∙◌, arith, length-append}
 use Rattle.std.specs.Prelude.{slice_get}
 use Rattle.std.proofs.Math.Nat.{suc-mul}
 use Rattle.std.proofs.lemmas.Option.{slice_get_within, slice_get-get_or}
@@ -10,27 +10,29 @@ use Rattle.bits_core.specs.declared.events.Event.{Event}
 use Rattle.bits_core.specs.declared.shapes.Shape.{Shape}
 use Rattle.bits_core.specs.Shape.{batch_of, capacity_of, modulus_of, width_of}
 use Rattle.bits_core.specs.Bits.{other}
-use Rattle.bits_core.specs.Made.{Made, Read, own, clock, place_of, IsPlaceOf}
+use Rattle.bits_core.specs.Made.{Made, Read, own, clock, place_of, IsPlaceOf, IsBeginning}
 use Rattle.register_core.specs.ScanState.{scan_phrase, row_read_by}
 use Rattle.ring_core.specs.Counts.{distance, first_count}
-use Rattle.ring_core.specs.Puts.{Puts, Stored, Full}
-use Rattle.ring_core.specs.Takes.{accesses_before_word, Take, Item, ItemAfterClose, Empty, Takes}
+use Rattle.ring_core.specs.Puts.{Put, Puts, Stored, Full, stored_in, close_phrase}
+use Rattle.ring_core.specs.Takes.{accesses_before_word, Take, Item, ItemAfterClose, Empty, Takes, taken_in}
 use Rattle.ring_core.specs.Items.{events_in, items_put, items_taken}
 use Rattle.ring_core.proofs.Spans.{Span, Outcome, Passes, Stops, Asks, counts, before_count, whole, counts_begun, counts_ended, IsSpanAt, sizes, tally}
 use Rattle.ring_core.proofs.Spans as spans
 use Rattle.ring_core.specs.CallsAt as taken
-use Rattle.ring_core.proofs.LookSpans.{take_looks, put_spans, take_spans}
-use Rattle.ring_core.specs.CallsAt.{IsPutAt, IsTakeAt, IsEndAt, scan_events, put_seen, take_seen, PutScans, second_scan, TakeScans, word_events, StoresItem, TakesItem, puts_begun, puts_ended, takes_begun, takes_ended, IsPutNumber, IsTakeNumber}
+use Rattle.ring_core.proofs.LookSpans.{put_looks, take_looks, put_spans, take_spans}
+use Rattle.ring_core.specs.CallsAt.{IsPutAt, IsTakeAt, scan_events, StoresItem, TakesItem, puts_begun, puts_ended, takes_begun, takes_ended}
 use Rattle.ring_core.specs.RingLaw.{IsRun, ReadsCount, IsInterval, IsWithin, PutsAreInRange, TakesAreInRange, WordsAreQuiet, TakenArePrefix, TakesMatchPuts, EmptyIsFresh, FullIsFresh, FillIsFresh, ClosedIsTrue}
 use Rattle.ring_core.proofs.RingOfSpans as by_span
-use Rattle.ring_core.proofs.Timeline.{length-begun_items, length-ended_items}
-use Rattle.ring_core.proofs.Looks.{proper_puts, puts_items, takes_items, word_is, asks_word}
+use Rattle.ring_core.proofs.Timeline.{AllProper, begun_at, length-begun_items, length-ended_items}
+use Rattle.ring_core.proofs.Looks.{puts_as_looks, takes_as_looks, proper_puts, proper_takes, puts_items, takes_items, word_is, asks_word}
 use Rattle.ring_core.proofs.Lengths.{length-scan}
 use Rattle.ring_core.proofs.CellPlaces.{slice_get-before}
 use Rattle.ring_core.proofs.CloseReads.{OwnFacts}
 use Rattle.ring_core.proofs.CloseEnds.{place_within, not_ended}
-use Rattle.ring_core.proofs.CallSpans.{HasSpan, put_has_span, item_has_span, empty_has_span, after_has_first, after_has_second, end_has_first, end_has_second}
-use Rattle.ring_core.proofs.CallCounts.{stored_ended_is, taken_begun_is, put_tally, take_tally, ended_counts, ended_listed, taken_there}
+use Rattle.ring_core.proofs.CallSpans.{second_scan, stands_at, put_has_span, item_has_span, empty_has_span, after_has_second}
+use Rattle.ring_core.proofs.EndedCounts.{puts_ended_is, takes_begun_is}
+use Rattle.ring_core.proofs.ScanPlaces.{ScanSpan, scan_there, none-close, none-nil}
+use Rattle.ring_core.proofs.CallCounts.{stored_ended_is, taken_begun_is, put_tally, take_tally}
 
 interval_at : (s : Side) (h : List Event) (i i' e e' start stop : ℕ) → i ≡ i' → e ≡ e' → IsInterval s h i e start stop → IsInterval s h i' e' start stop
 interval_at s h i i' e e' start stop p q r = subst (λ m. IsInterval s h m e' start stop) p (subst (λ m. IsInterval s h i m start stop) q r)
@@ -88,23 +90,23 @@ module _ (facts : OwnFacts) (shape : Shape) (h : List Event) (puts : Puts) (take
   puts_begun_are t = sym (ap length (puts_items shape first_count puts.puts t) ∙ length-begun_items (put_spans shape puts) t)
 
   puts_ended_are : (t : ℕ) → counts_ended (put_spans shape puts) t ≡ puts_ended shape puts t
-  puts_ended_are t = sym (stored_ended_is shape first_count puts.puts t)
+  puts_ended_are t = sym (puts_ended_is shape puts t ∙ stored_ended_is shape first_count puts.puts t)
 
   takes_begun_are : (t : ℕ) → counts_begun (take_spans shape takes) t ≡ takes_begun shape takes t
-  takes_begun_are t = sym (taken_begun_is shape 0 takes.takes takes.end t)
+  takes_begun_are t = sym (takes_begun_is shape takes t ∙ taken_begun_is shape 0 takes.takes takes.end t)
 
   takes_ended_are : (t : ℕ) → counts_ended (take_spans shape takes) t ≡ takes_ended shape takes t
   takes_ended_are t = sym (ap length (takes_items shape 0 takes.takes takes.end t) ∙ length-ended_items (take_spans shape takes) t)
 
-  put_number : (w : ℕ) → IsPutNumber puts (tally (sizes (put_spans shape puts)) w)
+  put_number : (w : ℕ) → (first : List Put) × IsBeginning first puts.puts × (tally (sizes (put_spans shape puts)) w ≡ stored_in 0 first)
   put_number w =
       let (before, after, e, f) = put_tally shape first_count puts.puts w in
-      (before, after, e, omega (arith, f))
+      (before, (after, sym e), omega (arith, f))
 
-  take_number : (w : ℕ) → IsTakeNumber takes (tally (sizes (take_spans shape takes)) w)
+  take_number : (w : ℕ) → (first : List Take) × IsBeginning first takes.takes × (tally (sizes (take_spans shape takes)) w ≡ taken_in 0 first)
   take_number w =
       let (before, after, e, f) = take_tally shape 0 takes.takes takes.end w in
-      (before, after, e, omega (arith, f))
+      (before, (after, sym e), omega (arith, f))
 
   pub within : IsWithin shape h puts takes
   within t =
@@ -115,13 +117,14 @@ module _ (facts : OwnFacts) (shape : Shape) (h : List Event) (puts : Puts) (take
 
   -- ---- the ranges
 
-  reads_count :
-      (s : Side) (start seen : ℕ) (x : Span) (IsNumber : ℕ → Type 0) (ended_are begun_are : ℕ → ℕ) (writes : List Span) (least most : ℕ) →
-      ((t : ℕ) → counts_ended writes t ≡ ended_are t) → ((t : ℕ) → counts_begun writes t ≡ begun_are t) → ((w : ℕ) → IsNumber (tally (sizes writes) w)) →
+  reads_count : {X : Type 0} →
+      (s : Side) (start seen : ℕ) (x : Span) (calls : List X) (items : List X → ℕ) (ended_are begun_are : ℕ → ℕ) (writes : List Span) (least most : ℕ) →
+      ((t : ℕ) → counts_ended writes t ≡ ended_are t) → ((t : ℕ) → counts_begun writes t ≡ begun_are t) →
+      ((w : ℕ) → (first : List X) × IsBeginning first calls × (tally (sizes writes) w ≡ items first)) →
       x.seen ≡ seen → x.scan ≡ scan_events s seen → start + scan_events s seen ≤ length (own s h) →
       by_span.ReadsCount (modulus_of shape) (clock s h) (clock (other s) h) writes start x least most →
-      ReadsCount s shape h start seen IsNumber ended_are begun_are least most
-  reads_count s start seen x IsNumber ended_are begun_are writes least most ends begins numbers seen_is scan_is l r =
+      ReadsCount s shape h start seen calls items ended_are begun_are least most
+  reads_count s start seen x calls items ended_are begun_are writes least most ends begins numbers seen_is scan_is l r =
       let some : 1 ≤ scan_events s seen = scan_some s seen in
       let e : ℕ = start + scan_events s seen - 1 in
       let first : ℕ = place_of s h start in
@@ -129,56 +132,48 @@ module _ (facts : OwnFacts) (shape : Shape) (h : List Event) (puts : Puts) (take
       let at_first : IsPlaceOf s h start first = facts.has_place s h start (omega (arith, l, some)) in
       let at_last : IsPlaceOf s h e last = facts.has_place s h e (omega (arith, l, some)) in
       let same : start + (x.scan - 1) ≡ e = omega (arith, scan_is, some) in
+      let (counted, are_first, tallies) = numbers r.write in
+      let number_is : r.number ≡ items counted = r.tallies ∙ tallies in
       record {
         first = first;
         last = last;
         begins = at_first;
         ends = at_last;
-        number = r.number;
-        is_number = subst IsNumber (sym r.tallies) (numbers r.write);
-        value = sym seen_is ∙ r.value;
-        not_older = omega (arith, ends (clock (other s) h first), r.not_older first (at_first.before, at_first.past));
-        not_newer = omega (arith, begins (clock (other s) h last), r.not_newer last (at_last.before ∙ sym same, at_last.past ∙ ap suc (sym same)));
-        low = r.low;
-        high = r.high;
+        counted = counted;
+        are_first = are_first;
+        value = sym seen_is ∙ r.value ∙ ap (λ n. n % modulus_of shape) number_is;
+        not_older = omega (arith, ends (clock (other s) h first), r.not_older first (at_first.before, at_first.past), number_is);
+        not_newer = omega (arith, begins (clock (other s) h last), r.not_newer last (at_last.before ∙ sym same, at_last.past ∙ ap suc (sym same)), number_is);
+        low = omega (arith, r.low, number_is);
+        high = omega (arith, r.high, number_is);
       }
 
+  -- the span of a scan stands behind the items that are counted where it begins
+  behind :
+      (s : Side) (most : ℕ) (xs : List Span) → AllProper most xs → (begun : ℕ → ℕ) → ((t : ℕ) → counts_begun xs t ≡ begun t) →
+      (start n seen : ℕ) (made : List Made) → start ≡ events_in made → n ≡ begun start → (z : ScanSpan s xs (2 * length made) seen) → IsSpanAt xs start n z.span
+  behind s most xs proper begun begun_are start n seen made start_is n_is z =
+      let there : 2 * length made + 0 ≡ start = omega (arith, start_is) in
+      let here : counts_begun xs start ≡ z.number = sym (ap (counts_begun xs) there) ∙ begun_at most xs proper (2 * length made) z.number z.span z.stands 0 (omega arith) in
+      stands_at xs (2 * length made) start z.number n z.span (sym start_is) (sym here ∙ begun_are start ∙ sym n_is) z.stands
+
   pub put_range : PutsAreInRange shape h puts takes
-  put_range n start seen (x, stop, at, e) l =
-      let z = put_has_span shape puts x n start stop at in
-      let seen_is : z.span.seen ≡ seen = z.seen_is ∙ sym e in
-      let scan_is : z.span.scan ≡ scan_events P seen = z.scan_is ∙ ap (scan_events P) (sym e) in
-      reads_count P start seen z.span (IsTakeNumber takes) (takes_ended shape takes) (takes_begun shape takes) (take_spans shape takes) (n - (capacity_of shape + 1)) n
-      takes_ended_are takes_begun_are take_number seen_is scan_is l (law.put_range start n z.span z.stands (omega (arith, l, scan_is)))
-
-  take_scan :
-      (k start stop seen : ℕ) (o : Outcome) → HasSpan C (take_spans shape takes) k start stop seen o → start + scan_events C seen ≤ length (own C h) →
-      ReadsCount C shape h start seen (IsPutNumber puts) (puts_ended shape puts) (puts_begun shape puts) (k - batch_of shape) (k + capacity_of shape)
-  take_scan k start stop seen o z l =
-      reads_count C start seen z.span (IsPutNumber puts) (puts_ended shape puts) (puts_begun shape puts) (put_spans shape puts) (k - batch_of shape) (k + capacity_of shape)
-      puts_ended_are puts_begun_are put_number z.seen_is z.scan_is l (law.take_range start k z.span z.stands (omega (arith, l, z.scan_is)))
-
-  -- the same by equal values
-  take_scan_at :
-      (k start start' stop seen seen' : ℕ) (o : Outcome) → start' ≡ start → seen' ≡ seen → HasSpan C (take_spans shape takes) k start stop seen o →
-      start' + scan_events C seen' ≤ length (own C h) →
-      ReadsCount C shape h start' seen' (IsPutNumber puts) (puts_ended shape puts) (puts_begun shape puts) (k - batch_of shape) (k + capacity_of shape)
-  take_scan_at k start start' stop seen seen' o e f z l =
-      let z' : HasSpan C (take_spans shape takes) k start' stop seen' o =
-      subst (λ i. HasSpan C (take_spans shape takes) k i stop seen' o) (sym e) (subst (λ v. HasSpan C (take_spans shape takes) k start stop v o) (sym f) z) in
-      take_scan k start' stop seen' o z' l
+  put_range n start seen (before, after, program, start_is) l n_is =
+      let z : ScanSpan P (put_spans shape puts) (2 * length before) seen =
+      scan_there P shape first_count (put_looks puts.puts) (close_phrase puts.closes) (none-close P puts.closes) before after seen
+      (sym (puts_as_looks shape first_count puts.puts puts.closes) ∙ program) in
+      let stands = behind P (batch_of shape) (put_spans shape puts) (proper_puts shape puts run.puts_follow.are) (puts_begun shape puts) puts_begun_are start n seen before start_is n_is z in
+      reads_count P start seen z.span takes.takes (taken_in 0) (takes_ended shape takes) (takes_begun shape takes) (take_spans shape takes) (n - (capacity_of shape + 1)) n
+      takes_ended_are takes_begun_are take_number z.seen_is z.scan_is l (law.put_range start n z.span stands (omega (arith, l, z.scan_is)))
 
   pub take_range : TakesAreInRange shape h puts takes
-  take_range k start seen (inl (Item u item, stop, at, e)) l = take_scan_at k start start stop u seen _ refl e (item_has_span shape takes u item k start stop at) l
-  take_range k start seen (inl (ItemAfterClose u again item, stop, at, e)) l =
-      take_scan_at k start start (second_scan start u) u seen _ refl e (after_has_first shape takes u again item k start stop at) l
-  take_range k start seen (inl (Empty u, stop, at, e)) l = take_scan_at k start start stop u seen _ refl e (empty_has_span shape takes u k start stop at) l
-  take_range k start seen (inr (inl (u, item, begin, stop, at, e))) l =
-      take_scan_at k (second_scan begin u) start stop seen seen _ e refl (after_has_second shape takes u seen item k begin stop at) l
-  take_range k start seen (inr (inr (inl (again, at)))) l =
-      take_scan k start (second_scan start seen) seen _ (end_has_first shape takes seen again k start at) l
-  take_range k start seen (inr (inr (inr (u, begin, at, e)))) l =
-      take_scan_at k (second_scan begin u) start (second_scan begin u + scan_events C seen) seen seen _ e refl (end_has_second shape takes u seen k begin at) l
+  take_range k start seen (before, after, program, start_is) l k_is =
+      let z : ScanSpan C (take_spans shape takes) (2 * length before) seen =
+      scan_there C shape first_count (take_looks takes.takes takes.end) [] (none-nil C) before after seen
+      (sym (takes_as_looks shape 0 takes.takes takes.end) ∙ program) in
+      let stands = behind C 1 (take_spans shape takes) (proper_takes shape takes) (takes_begun shape takes) takes_begun_are start k seen before start_is k_is z in
+      reads_count C start seen z.span puts.puts (stored_in 0) (puts_ended shape puts) (puts_begun shape puts) (put_spans shape puts) (k - batch_of shape) (k + capacity_of shape)
+      puts_ended_are puts_begun_are put_number z.seen_is z.scan_is l (law.take_range start k z.span stands (omega (arith, l, z.scan_is)))
 
   -- ---- words
 
@@ -218,47 +213,9 @@ module _ (facts : OwnFacts) (shape : Shape) (h : List Event) (puts : Puts) (take
       let (few, not_closed) = law.empty start k z.span z.stands z.outcome_is (omega (arith, l, z.stop_is)) first is_first in (
         first,
         is_first,
-        record {
-          all_taken = all_taken first few;
-          not_closed = not_ended facts shape h puts run.puts_follow.events first not_closed (omega (arith, place_within C h start first is_first));
-        },
+        omega (arith, few, puts_ended_are (clock P h first), takes_ended_are (clock C h first)),
+        not_ended facts shape h puts run.puts_follow.events first not_closed (omega (arith, place_within C h start first is_first)),
       )
-    where
-      all_taken :
-          (first : ℕ) → by_span.puts_ended shape h puts first ≤ by_span.takes_ended shape h takes first →
-          (j item word past : ℕ) → StoresItem shape puts j item word past → past ≤ clock P h first →
-          (word' : ℕ) × (past' : ℕ) × TakesItem shape takes j item word' past' × (past' ≤ clock C h first)
-      all_taken first few j item word past a l =
-          let x = put_has_span shape puts (Stored a.seen a.items) a.n a.start past a.is_put in
-          let p : ℕ = clock P h first in
-          let c : ℕ = clock C h first in
-          let ended_there : a.start + whole x.span ≤ p = omega (arith, x.stop_is, l) in
-          let counted = ended_counts (put_spans shape puts) a.start a.n x.span p x.stands ended_there in
-          let inside = slice_get_within a.items a.index item a.listed in
-          let below : j < length (items_taken shape 0 takes.takes c) = omega (arith, counted, ap counts x.outcome_is, inside, a.number, few, takes_ended_are c) in
-          let got : ℕ = get_or (items_taken shape 0 takes.takes c) j 0 in
-          let taken_at : slice_get (items_taken shape 0 takes.takes c) j ≡ Some got = slice_get-get_or (items_taken shape 0 takes.takes c) j 0 below in
-          let (rest, e) = law.prefix first in
-          let put_at : slice_get (items_put shape first_count puts.puts p) j ≡ Some got =
-          ap (λ l. slice_get l j) (sym e) ∙ slice_get-before (items_taken shape 0 takes.takes c) rest j got taken_at in
-          let listed = ap (λ o. slice_get (spans.items_of o) a.index) x.outcome_is ∙ a.listed in
-          let stored_at : slice_get (items_put shape first_count puts.puts p) j ≡ Some item =
-          ap (λ l. slice_get l j) (puts_items shape first_count puts.puts p) ∙ ap (slice_get _) a.number ∙
-          ended_listed (batch_of shape) (put_spans shape puts) (proper_puts shape puts run.puts_follow.are) a.start a.n x.span p a.index item x.stands ended_there listed in
-          let both : Some got ≡ Some item = sym put_at ∙ stored_at in
-          let same : got ≡ item = cc in
-          let r = taken_there shape 0 takes.takes c j item (taken_at ∙ ap Some same) in (
-            _,
-            _,
-            record {
-              take = r.take;
-              start = _;
-              is_take = record { before = r.before; after = r.after; among = r.among; number = omega (arith, r.number); starts = refl; stops = refl };
-              has = r.has;
-              reads = refl;
-            },
-            r.done,
-          )
 
   pub full : FullIsFresh shape h puts takes
   full seen n start stop at l =

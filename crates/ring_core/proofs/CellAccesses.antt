@@ -8,11 +8,12 @@ use Rattle.bits_core.specs.declared.events.Side.TheVariants.{P, C}
 use Rattle.bits_core.specs.declared.events.Bit.{Bit}
 use Rattle.bits_core.specs.declared.events.Bit.TheVariants.{S, R, X, Cell}
 use Rattle.bits_core.specs.declared.events.Access.{Access}
+use Rattle.bits_core.specs.declared.events.Access.TheVariants as begins
 use Rattle.bits_core.specs.declared.events.Event.{Event}
 use Rattle.bits_core.specs.declared.shapes.Shape.{Shape}
 use Rattle.bits_core.specs.Shape.{capacity_of, width_of}
 use Rattle.bits_core.specs.Bits.{is_by}
-use Rattle.bits_core.specs.Intervals.{IsAccess, first_place}
+use Rattle.bits_core.specs.Intervals.{IsAccess, Overlap, first_place}
 use Rattle.bits_core.specs.Laws.{OwnHasPlace}
 use Rattle.bits_core.specs.Made.{Made, Read, Write, access_of, own, clock, place_of, IsPlaceOf, IsMadeAt}
 use Rattle.register_core.specs.Row.{RowWrite, row_bit, writes_in}
@@ -22,8 +23,8 @@ use Rattle.ring_core.specs.Counts.{Count, first_count, count_bits, count_phrase,
 use Rattle.ring_core.specs.Puts.{Put, Puts, Stored, Full, stored_in, stored_after, words_phrase, put_phrase, put_phrases, close_phrase, put_program}
 use Rattle.ring_core.specs.Takes.{accesses_before_word, Take, Takes, Item, ItemAfterClose, Empty, End, Open, Closed, taken_after, taken_in, item_phrase, take_phrase, take_phrases, end_phrase, take_program}
 use Rattle.ring_core.specs.Items.{events_in}
-use Rattle.ring_core.specs.CallsAt.{scan_events, word_events, StoresItem, item_of, TakesItem}
-use Rattle.ring_core.specs.RingLaw.{IsRun, IsInterval, bit_of, WordsAreQuiet, CellsAreQuiet}
+use Rattle.ring_core.specs.CallsAt.{scan_events, StoresItem, item_of, TakesItem}
+use Rattle.ring_core.specs.RingLaw.{IsRun, IsInterval, WordsAreQuiet, CellsAreQuiet}
 use Rattle.ring_core.proofs.Cuts.{at_most_or_above}
 use Rattle.ring_core.proofs.OwnEvents.{clock_within, clock_rises}
 use Rattle.ring_core.proofs.Lengths.{length-words}
@@ -41,6 +42,10 @@ cell_number (Cell j d) = Some j
 abbrev cell_of : Made → Option ℕ
 cell_of (Read b v) = cell_number b
 cell_of (Write b v) = cell_number b
+
+abbrev bit_of : Access → Bit
+bit_of (begins.Read b) = b
+bit_of (begins.Write b v) = b
 
 cell_is : (x : Made) → cell_of x ≡ cell_number (bit_of (access_of x))
 cell_is (Read b v) = refl
@@ -359,10 +364,12 @@ around has_place s h m x start stop word long r low high =
 
 -- ---- cells
 
-pub cells_are_quiet :
+-- no access of the producer to a digit of a cell overlaps one of the consumer to a digit of it
+digits_are_quiet :
     OwnFacts → (shape : Shape) (h : List Event) (puts : Puts) (takes : Takes) → IsRun shape h puts takes → WordsAreQuiet shape h puts takes →
-    CellsAreQuiet shape h puts takes
-cells_are_quiet facts shape h puts takes run words j d d' a a' start stop start' stop' p of_p c of_c (not_after, not_before) =
+    (j d d' : ℕ) (a a' : Access) (start stop start' stop' : ℕ) → IsAccess h P a start stop → bit_of a ≡ Cell j d →
+    IsAccess h C a' start' stop' → bit_of a' ≡ Cell j d' → ¬ Overlap start stop start' stop'
+digits_are_quiet facts shape h puts takes run words j d d' a a' start stop start' stop' p of_p c of_c (not_after, not_before) =
     let (m, x, x_at, x_is, made) = facts.accesses P h (put_program shape puts) run.puts_follow.events a start stop p in
     let (m', y, y_at, y_is, made') = facts.accesses C h (take_program shape takes) run.takes_follow.events a' start' stop' c in
     let x_cell : cell_of x ≡ Some j = cell_is x ∙ ap (λ e. cell_number (bit_of e)) x_is ∙ ap cell_number of_p in
@@ -399,9 +406,15 @@ cells_are_quiet facts shape h puts takes run words j d d' a a' start stop start'
               has = q.has;
               reads = refl;
             } in
-            let (from, to, on, from_l, to_l) = around facts.has_place P h m x start stop word (word_events shape) made (omega (arith, r.low)) (omega (arith, r.high)) in
-            let (from', to', off, from_l', to_l') = around facts.has_place C h m' y start' stop' word' (word_events shape) made' (omega (arith, q.low)) (omega (arith, q.high)) in
+            let (from, to, on, from_l, to_l) = around facts.has_place P h m x start stop word (2 * width_of shape) made (omega (arith, r.low)) (omega (arith, r.high)) in
+            let (from', to', off, from_l', to_l') = around facts.has_place C h m' y start' stop' word' (2 * width_of shape) made' (omega (arith, q.low)) (omega (arith, q.high)) in
             words _ r.item word _ stores _ q.item word' _ takes_it (r.cell ∙ sym q.cell) from to from' to' on off
             ((λ e. not_after (omega (arith, e, to_l, from_l'))), (λ e. not_before (omega (arith, e, to_l', from_l)))))
       ]
     ]
+
+pub cells_are_quiet :
+    OwnFacts → (shape : Shape) (h : List Event) (puts : Puts) (takes : Takes) → IsRun shape h puts takes → WordsAreQuiet shape h puts takes →
+    CellsAreQuiet shape h puts takes
+cells_are_quiet facts shape h puts takes run words j d d' v start stop start' stop' write read =
+    digits_are_quiet facts shape h puts takes run words j d d' (begins.Write (Cell j d) v) (begins.Read (Cell j d')) start stop start' stop' write refl read refl

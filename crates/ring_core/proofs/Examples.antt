@@ -1,13 +1,15 @@
 -- The programs of small runs, access by access: one cell, modulus 3, items of one digit.
-use Rattle.std.proofs.Common.{◌≡◌, inr, true, false, [], ◌∷◌, refl, arith}
+use Rattle.std.proofs.Common.{◌≡◌, true, false, [], ◌∷◌, ◌++◌, refl, arith}
+use Rattle.bits_core.specs.declared.events.Side.TheVariants.{C}
 use Rattle.bits_core.specs.declared.events.Bit.TheVariants.{S, R, X, Cell}
 use Rattle.bits_core.specs.declared.shapes.Shape.{Shape}
 use Rattle.bits_core.specs.Made.{Read, Write}
+use Rattle.register_core.specs.ScanState.{scan_phrase, row_read_by}
 use Rattle.ring_core.specs.Counts.{first_count}
 use Rattle.ring_core.specs.Puts.{Puts, Stored, put_program, ArePuts}
-use Rattle.ring_core.specs.Takes.{Takes, Item, ItemAfterClose, Empty, Open, Closed, take_program, AreTakes}
+use Rattle.ring_core.specs.Takes.{Takes, Item, ItemAfterClose, Empty, Open, Closed, take_phrases, take_program, AreTakes}
 use Rattle.ring_core.specs.Items.{items_put, items_taken, IsTold}
-use Rattle.ring_core.specs.CallsAt.{IsPutAt, IsTakeAt, IsEndAt, TakeScans, StoresItem, TakesItem, stored_ended, taken_begun}
+use Rattle.ring_core.specs.CallsAt.{IsPutAt, IsTakeAt, IsPartAt, StoresItem, TakesItem, puts_ended, takes_begun}
 
 -- one cell, modulus 3, items of one digit
 unfoldable pub one_cell : Shape
@@ -189,12 +191,12 @@ wraps-second : IsPutAt one_cell wraps (Stored 1 (0 ∷ [])) 1 8 18
 unfolding one_cell
 wraps-second = record { before = Stored 0 (1 ∷ []) ∷ []; after = Stored 2 (1 ∷ []) ∷ []; among = refl; number = refl; starts = refl; stops = refl }
 
-wraps-ended : (stored_ended one_cell first_count wraps.puts 17 ≡ 1) × (stored_ended one_cell first_count wraps.puts 18 ≡ 2)
+wraps-ended : (puts_ended one_cell wraps 17 ≡ 1) × (puts_ended one_cell wraps 18 ≡ 2)
 unfolding one_cell
 wraps-ended = (refl, refl)
 
 -- the second take's count write begins with event 18 of the consumer; the third take finds the ring empty with events 22 to 29
-wrap_takes-begun : (taken_begun one_cell 0 wrap_takes.takes 18 ≡ 1) × (taken_begun one_cell 0 wrap_takes.takes 19 ≡ 2)
+wrap_takes-begun : (takes_begun one_cell wrap_takes 18 ≡ 1) × (takes_begun one_cell wrap_takes 19 ≡ 2)
 unfolding one_cell
 wrap_takes-begun = (refl, refl)
 
@@ -230,10 +232,6 @@ second_scan-item = record {
   reads = refl;
 }
 
-second_scan-end : IsEndAt one_cell second_scan 1 1 1 14
+second_scan-last : IsPartAt (take_program one_cell second_scan) (scan_phrase (row_read_by C) 1) 20
 unfolding one_cell
-second_scan-end = record { is_end = refl; number = refl; starts = refl }
-
-second_scan-last : TakeScans one_cell second_scan 1 20 1
-unfolding one_cell
-second_scan-last = inr (inr (inr (1, 14, second_scan-end, refl)))
+second_scan-last = (take_phrases one_cell 0 second_scan.takes ++ (scan_phrase (row_read_by C) 1 ++ Read X true ∷ []), [], refl, refl)

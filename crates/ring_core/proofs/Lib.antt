@@ -43,6 +43,8 @@ pub mod CellWrites
 pub mod SafeWords
 pub mod RingHolds
 pub mod CloseEnds
+pub mod EndedCounts
+mod ScanPlaces
 pub mod CallSpans
 pub mod CallCounts
 pub mod CallsLaw

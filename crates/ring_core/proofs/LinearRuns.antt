@@ -11,7 +11,7 @@ use Rattle.ring_core.specs.Counts.{first_count}
 use Rattle.ring_core.specs.Puts.{Puts, put_phrases}
 use Rattle.ring_core.specs.Takes.{Take, Item, ItemAfterClose, Empty, Takes, taken_in, take_phrase, take_phrases, end_phrase, take_program}
 use Rattle.ring_core.specs.Items.{events_in, items_put, items_taken, Tells}
-use Rattle.ring_core.specs.CallsAt.{taken_begun}
+use Rattle.ring_core.proofs.EndedCounts.{taken_begun}
 use Rattle.ring_core.specs.RingLaw.{IsRun}
 use Rattle.ring_core.specs.Linear.{Operation, EndsBefore, KeepsTime, IsLinearizable}
 use Rattle.ring_core.proofs.Spans.{counts_begun, counts_ended}

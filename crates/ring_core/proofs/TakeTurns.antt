@@ -12,7 +12,7 @@ use Rattle.register_core.specs.Word.{word_read}
 use Rattle.register_core.specs.ScanState.{scan_phrase, row_read_by}
 use Rattle.ring_core.specs.Takes.{Take, Item, ItemAfterClose, Empty, End, Open, Closed, taken_after, take_phrase, end_phrase}
 use Rattle.ring_core.specs.Items.{events_in}
-use Rattle.ring_core.specs.CallsAt.{take_before_count, taken_begun}
+use Rattle.ring_core.proofs.EndedCounts.{take_before_count, taken_begun}
 use Rattle.ring_core.specs.Linear.{Operation, operations, take_effect, take_operations}
 use Rattle.ring_core.specs.Linear as linear
 use Rattle.ring_core.proofs.Spans.{Passes, Asks, before_count, whole}

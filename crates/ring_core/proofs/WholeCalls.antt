@@ -10,7 +10,7 @@ use Rattle.ring_core.specs.Counts.{first_count, count_phrase}
 use Rattle.ring_core.specs.Puts.{put_phrases, close_phrase, put_program}
 use Rattle.ring_core.specs.Takes.{Take, Item, ItemAfterClose, Empty, accesses_before_word, take_phrase, take_phrases, end_phrase, take_program}
 use Rattle.ring_core.specs.Items.{events_in, items_taken, all_taken}
-use Rattle.ring_core.specs.CallsAt.{take_before_count, taken_begun}
+use Rattle.ring_core.proofs.EndedCounts.{take_before_count, taken_begun, takes_begun_is}
 use Rattle.ring_core.specs.Whole.{WholePutsCount, WholeTakesCount}
 use Rattle.ring_core.proofs.CountRow.{first_is_count, count_long}
 use Rattle.ring_core.proofs.Following.{length-events}
@@ -88,7 +88,7 @@ whole-takes shape h calls is =
     let t : ℕ = length (own C h) in
     let long : events_in (take_phrases shape 0 calls.takes) ≤ t =
     omega (arith, ap length is, length-events C (take_program shape calls), length-append (take_phrases shape 0 calls.takes) (end_phrase calls.end)) in
-    (all-taken shape 0 calls.takes t long, all-counted shape 0 calls.takes t long)
+    (all-taken shape 0 calls.takes t long, takes_begun_is shape calls t ∙ all-counted shape 0 calls.takes t long)
 
 -- ---- puts
 

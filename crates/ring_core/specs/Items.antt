@@ -1,24 +1,31 @@
 -- What was put, taken and told among the first events of the calls of a side.
-use Rattle.std.specs.Prelude.{◌≡◌, ℕ, suc, ◌-◌, ◌*◌, ◌≤◌, nat_lt, nat_le, List, [], ◌∷◌, ◌++◌, length, if◌then◌else◌}
+use Rattle.std.specs.Prelude.{◌≡◌, ℕ, ◌-◌, ◌*◌, ◌≤◌, nat_lt, nat_le, List, [], ◌∷◌, ◌++◌, length, if◌then◌else◌}
 use Rattle.bits_core.specs.declared.events.Side.TheVariants.{P, C}
 use Rattle.bits_core.specs.declared.events.Event.{Event}
 use Rattle.bits_core.specs.declared.shapes.Shape.{Shape}
 use Rattle.bits_core.specs.Made.{Made, own}
 use Rattle.ring_core.specs.Counts.{Count, first_count}
 use Rattle.ring_core.specs.Puts.{Put, Stored, Full, stored_after, accesses_before_count, put_phrase, Puts, FollowsPuts}
-use Rattle.ring_core.specs.Takes.{Take, Item, ItemAfterClose, Empty, End, Open, Closed, take_phrase, take_program, Takes, FollowsTakes}
+use Rattle.ring_core.specs.Takes.{Take, Item, ItemAfterClose, Empty, End, Open, Closed, taken_after, take_phrase, take_program, Takes, FollowsTakes}
 
 -- how many events these accesses have
 abbrev pub events_in : List Made → ℕ
 events_in made = 2 * length made
 
+-- What calls give within the first t events of their side: each gives some items within the first of its own events, has the
+-- events of a phrase behind a state, and leaves another state.
+abbrev pub gathered : {S X : Type 0} → (S → X → ℕ → List ℕ) → (S → X → List Made) → (S → X → S) → S → List X → ℕ → List ℕ
+gathered gives phrase after s [] t = []
+gathered gives phrase after s (x ∷ xs) t = gives s x t ++ gathered gives phrase after (after s x) xs (t - events_in (phrase s x))
+
+-- the items of a put, once its count write has begun
+abbrev pub put_begun : Shape → Count → Put → ℕ → List ℕ
+put_begun shape c (Stored seen items) t = (if nat_lt (events_in (accesses_before_count shape c.number seen items)) t then items else [])
+put_begun shape c (Full seen) t = []
+
 -- the items of the puts whose count write has begun within the first t events, behind the producer's count
 abbrev pub items_put : Shape → Count → List Put → ℕ → List ℕ
-items_put shape c [] t = []
-items_put shape c (Stored seen items ∷ puts) t =
-    (if nat_lt (events_in (accesses_before_count shape c.number seen items)) t then items else [])
-    ++ items_put shape (stored_after shape c (Stored seen items)) puts (t - events_in (put_phrase shape c (Stored seen items)))
-items_put shape c (Full seen ∷ puts) t = items_put shape c puts (t - events_in (put_phrase shape c (Full seen)))
+items_put shape = gathered (put_begun shape) (put_phrase shape) (stored_after shape)
 
 -- the items of all these puts
 abbrev pub all_put : List Put → List ℕ
@@ -33,16 +40,16 @@ all_taken (Item seen item ∷ takes) = item ∷ all_taken takes
 all_taken (ItemAfterClose seen again item ∷ takes) = item ∷ all_taken takes
 all_taken (Empty seen ∷ takes) = all_taken takes
 
+-- the item of a take, once it has ended
+abbrev pub take_ended : Shape → ℕ → Take → ℕ → List ℕ
+take_ended shape k (Item seen item) t = (if nat_le (events_in (take_phrase shape k (Item seen item))) t then item ∷ [] else [])
+take_ended shape k (ItemAfterClose seen again item) t =
+    (if nat_le (events_in (take_phrase shape k (ItemAfterClose seen again item))) t then item ∷ [] else [])
+take_ended shape k (Empty seen) t = []
+
 -- the items of the takes that have ended within the first t events, where k items were taken before them
 abbrev pub items_taken : Shape → ℕ → List Take → ℕ → List ℕ
-items_taken shape k [] t = []
-items_taken shape k (Item seen item ∷ takes) t =
-    (if nat_le (events_in (take_phrase shape k (Item seen item))) t then item ∷ [] else [])
-    ++ items_taken shape (suc k) takes (t - events_in (take_phrase shape k (Item seen item)))
-items_taken shape k (ItemAfterClose seen again item ∷ takes) t =
-    (if nat_le (events_in (take_phrase shape k (ItemAfterClose seen again item))) t then item ∷ [] else [])
-    ++ items_taken shape (suc k) takes (t - events_in (take_phrase shape k (ItemAfterClose seen again item)))
-items_taken shape k (Empty seen ∷ takes) t = items_taken shape k takes (t - events_in (take_phrase shape k (Empty seen)))
+items_taken shape = gathered (take_ended shape) (take_phrase shape) taken_after
 
 -- whether the last of the takes is one that is told the ring is closed
 abbrev pub Tells : End → Type 0

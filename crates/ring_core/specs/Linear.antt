@@ -1,19 +1,19 @@
 -- Linearizability (Herlihy and Wing, 1990): the calls of the two sides, which overlap, answer as the operations of a queue do
 -- that come one after the other, in an order that keeps the time of the calls.
-use Rattle.std.specs.Prelude.{◌≡◌, ℕ, suc, ◌+◌, ◌<◌, ◌≤◌, Bool, true, false, List, [], ◌∷◌, ◌++◌, length, filter, map, nat_le, if◌then◌else◌}
+use Rattle.std.specs.Prelude.{◌≡◌, ℕ, suc, ◌+◌, ◌%◌, ◌<◌, ◌≤◌, Bool, true, false, List, [], ◌∷◌, ◌++◌, length, filter, map, nat_le, if◌then◌else◌}
 use Rattle.queue_calls.specs.Queue.{Does, Enqueue, FindFull, Close, Dequeue, FindEmpty, FindClosed, queue, IsLegal}
 use Rattle.bits_core.specs.declared.events.Side.{Side}
 use Rattle.bits_core.specs.declared.events.Side.TheVariants.{P, C}
 use Rattle.bits_core.specs.declared.events.Event.{Event}
 use Rattle.bits_core.specs.declared.shapes.Shape.{Shape}
-use Rattle.bits_core.specs.Shape.{capacity_of}
+use Rattle.bits_core.specs.Shape.{capacity_of, width_of}
 use Rattle.bits_core.specs.Bits.{same_side}
 use Rattle.bits_core.specs.Made.{own, clock}
+use Rattle.register_core.specs.Word.{word_read}
 use Rattle.ring_core.specs.Counts.{Count, first_count}
 use Rattle.ring_core.specs.Puts.{Put, Stored, Full, Puts, stored_after, accesses_before_count, put_phrase, close_phrase}
-use Rattle.ring_core.specs.Takes.{Take, Item, ItemAfterClose, Empty, End, Open, Closed, Takes, taken_after, take_phrase, end_phrase}
+use Rattle.ring_core.specs.Takes.{Take, Item, ItemAfterClose, Empty, End, Open, Closed, Takes, taken_after, accesses_before_word, take_phrase, end_phrase}
 use Rattle.ring_core.specs.Items.{events_in}
-use Rattle.ring_core.specs.CallsAt.{take_before_count}
 use Rattle.ring_core.specs.RingLaw.{IsRun}
 
 -- ---- the operations of the calls
@@ -50,8 +50,9 @@ put_effect shape c (Stored seen items) = suc (events_in (accesses_before_count s
 put_effect shape c (Full seen) = events_in (put_phrase shape c (Full seen))
 
 abbrev pub take_effect : Shape → ℕ → Take → ℕ
-take_effect shape k (Item seen item) = suc (events_in (take_before_count shape k (Item seen item)))
-take_effect shape k (ItemAfterClose seen again item) = suc (events_in (take_before_count shape k (ItemAfterClose seen again item)))
+take_effect shape k (Item seen item) = suc (events_in (accesses_before_word (Item seen item) ++ word_read (width_of shape) (k % capacity_of shape) item))
+take_effect shape k (ItemAfterClose seen again item) =
+    suc (events_in (accesses_before_word (ItemAfterClose seen again item) ++ word_read (width_of shape) (k % capacity_of shape) item))
 take_effect shape k (Empty seen) = events_in (take_phrase shape k (Empty seen))
 
 -- the operations of puts and of the close behind them, from own event start on, behind the producer's count; a close takes effect

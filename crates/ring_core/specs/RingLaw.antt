@@ -5,24 +5,23 @@ use Rattle.bits_core.specs.declared.events.Side.{Side}
 use Rattle.bits_core.specs.declared.events.Side.TheVariants.{P, C}
 use Rattle.bits_core.specs.declared.events.Bit.{Bit}
 use Rattle.bits_core.specs.declared.events.Bit.TheVariants.{X, Cell}
-use Rattle.bits_core.specs.declared.events.Access.{Access}
-use Rattle.bits_core.specs.declared.events.Access.TheVariants as access
+use Rattle.bits_core.specs.declared.events.Access.TheVariants.{Read}
 use Rattle.bits_core.specs.declared.events.Event.{Event}
 use Rattle.bits_core.specs.declared.shapes.Shape.{Shape}
-use Rattle.bits_core.specs.Shape.{batch_of, capacity_of, modulus_of}
+use Rattle.bits_core.specs.Shape.{batch_of, capacity_of, modulus_of, width_of}
 use Rattle.bits_core.specs.Intervals as intervals
 use Rattle.bits_core.specs.Lawful.{IsLawful}
 use Rattle.bits_core.specs.Made.{Made, events_of, own, clock, IsPlaceOf, IsBeginning}
 use Rattle.bits_core.specs.Bits.{other}
 use Rattle.bits_core.specs.Steps.{MayFollow}
 use Rattle.register_core.specs.Row.{row_bit}
-use Rattle.register_core.specs.ScanState.{zero_reads}
+use Rattle.register_core.specs.ScanState.{zero_reads, scan_phrase, row_read_by}
 use Rattle.register_core.specs.UnaryLaw.{ReadsZeros}
 use Rattle.ring_core.specs.Counts.{distance, first_count}
-use Rattle.ring_core.specs.Puts.{Stored, Full, Puts, put_phrases, put_program, ArePuts, FollowsPuts}
-use Rattle.ring_core.specs.Takes.{Empty, Takes, take_program, AreTakes, FollowsTakes}
+use Rattle.ring_core.specs.Puts.{Stored, Full, Puts, stored_in, put_phrases, put_program, ArePuts, FollowsPuts}
+use Rattle.ring_core.specs.Takes.{Empty, Takes, taken_in, take_program, AreTakes, FollowsTakes}
 use Rattle.ring_core.specs.Items.{events_in, items_put, items_taken, all_put, IsTold, items_put_in, items_taken_in, ToldIn}
-use Rattle.ring_core.specs.CallsAt.{IsPutAt, IsTakeAt, scan_events, PutScans, TakeScans, word_events, StoresItem, TakesItem, puts_begun, puts_ended, takes_begun, takes_ended, IsPutNumber, IsTakeNumber}
+use Rattle.ring_core.specs.CallsAt.{IsPutAt, IsTakeAt, IsPartAt, scan_events, StoresItem, TakesItem, puts_begun, puts_ended, takes_begun, takes_ended}
 
 -- a lawful history whose two sides follow these calls
 pub record IsRun (shape : Shape) (h : List Event) (puts : Puts) (takes : Takes) : Type 0 where
@@ -30,22 +29,22 @@ pub record IsRun (shape : Shape) (h : List Event) (puts : Puts) (takes : Takes) 
   pub puts_follow : FollowsPuts shape h puts
   pub takes_follow : FollowsTakes shape h takes
 
--- A scan that a side made from its own event start on, and that gave seen: it stands, modulo the modulus, for a number of items
--- that one of the other side's count writes left; not less than those had counted that had ended where the scan began, nor more
--- than those that had begun where it ended; and a number from least to most.
-pub record ReadsCount
-    (s : Side) (shape : Shape) (h : List Event) (start seen : ℕ) (IsNumber : ℕ → Type 0) (ended begun : ℕ → ℕ) (least most : ℕ) : Type 0 where
+-- A scan that a side made from its own event start on, and that gave seen: it stands, modulo the modulus, for the items that the
+-- first of the other side's calls counted; not fewer than those of the calls that had ended where the scan began, nor more than those
+-- whose count writes had begun where it ended; and a number from least to most.
+pub record ReadsCount {X : Type 0}
+    (s : Side) (shape : Shape) (h : List Event) (start seen : ℕ) (calls : List X) (items : List X → ℕ) (ended begun : ℕ → ℕ) (least most : ℕ) : Type 0 where
   pub first : ℕ
   pub last : ℕ
   pub begins : IsPlaceOf s h start first
   pub ends : IsPlaceOf s h (start + scan_events s seen - 1) last
-  pub number : ℕ
-  pub is_number : IsNumber number
-  pub value : seen ≡ number % modulus_of shape
-  pub not_older : ended (clock (other s) h first) ≤ number
-  pub not_newer : number ≤ begun (clock (other s) h last)
-  pub low : least ≤ number
-  pub high : number ≤ most
+  pub counted : List X
+  pub are_first : IsBeginning counted calls
+  pub value : seen ≡ items counted % modulus_of shape
+  pub not_older : ended (clock (other s) h first) ≤ items counted
+  pub not_newer : items counted ≤ begun (clock (other s) h last)
+  pub low : least ≤ items counted
+  pub high : items counted ≤ most
 
 -- from the place of a side's own event i to that of its own event e, or past the end of the history where that one has not come
 pub record IsInterval (s : Side) (h : List Event) (i e start stop : ℕ) : Type 0 where
@@ -58,36 +57,33 @@ IsWithin shape h puts takes =
     (t : ℕ) → (takes_begun shape takes (clock C h t) ≤ puts_begun shape puts (clock P h t)) ×
     (puts_begun shape puts (clock P h t) ≤ takes_begun shape takes (clock C h t) + capacity_of shape)
 
--- an ended scan of a put behind n items reads a count from n - capacity - 1 to n
+-- an ended scan of the producer, behind n items, reads a count from n - capacity - 1 to n
 abbrev pub PutsAreInRange : Shape → List Event → Puts → Takes → Type 0
 PutsAreInRange shape h puts takes =
-    (n start seen : ℕ) → PutScans shape puts n start seen → start + scan_events P seen ≤ length (own P h) →
-    ReadsCount P shape h start seen (IsTakeNumber takes) (takes_ended shape takes) (takes_begun shape takes) (n - (capacity_of shape + 1)) n
+    (n start seen : ℕ) → IsPartAt (put_program shape puts) (scan_phrase (row_read_by P) seen) start → start + scan_events P seen ≤ length (own P h) →
+    n ≡ puts_begun shape puts start →
+    ReadsCount P shape h start seen takes.takes (taken_in 0) (takes_ended shape takes) (takes_begun shape takes) (n - (capacity_of shape + 1)) n
 
--- an ended scan of take number k reads a count from k - batch to k + capacity
+-- an ended scan of the consumer, behind k items, reads a count from k - batch to k + capacity
 abbrev pub TakesAreInRange : Shape → List Event → Puts → Takes → Type 0
 TakesAreInRange shape h puts takes =
-    (k start seen : ℕ) → TakeScans shape takes k start seen → start + scan_events C seen ≤ length (own C h) →
-    ReadsCount C shape h start seen (IsPutNumber puts) (puts_ended shape puts) (puts_begun shape puts) (k - batch_of shape) (k + capacity_of shape)
+    (k start seen : ℕ) → IsPartAt (take_program shape takes) (scan_phrase (row_read_by C) seen) start → start + scan_events C seen ≤ length (own C h) →
+    k ≡ takes_begun shape takes start →
+    ReadsCount C shape h start seen puts.puts (stored_in 0) (puts_ended shape puts) (puts_begun shape puts) (k - batch_of shape) (k + capacity_of shape)
 
 -- where two items have the same cell, the word write of the one and the word read of the other do not overlap
 abbrev pub WordsAreQuiet : Shape → List Event → Puts → Takes → Type 0
 WordsAreQuiet shape h puts takes =
     (j item word past : ℕ) → StoresItem shape puts j item word past →
     (k item' word' past' : ℕ) → TakesItem shape takes k item' word' past' → j % capacity_of shape ≡ k % capacity_of shape →
-    (start stop start' stop' : ℕ) → IsInterval P h word (word + word_events shape - 1) start stop →
-    IsInterval C h word' (word' + word_events shape - 1) start' stop' → ¬ intervals.Overlap start stop start' stop'
+    (start stop start' stop' : ℕ) → IsInterval P h word (word + 2 * width_of shape - 1) start stop →
+    IsInterval C h word' (word' + 2 * width_of shape - 1) start' stop' → ¬ intervals.Overlap start stop start' stop'
 
--- the bit of an access
-abbrev pub bit_of : Access → Bit
-bit_of (access.Read b) = b
-bit_of (access.Write b v) = b
-
--- no access of the producer to a digit of a cell overlaps one of the consumer to a digit of it
+-- no write of a digit of a cell overlaps a read of a digit of it
 abbrev pub CellsAreQuiet : Shape → List Event → Puts → Takes → Type 0
 CellsAreQuiet shape h puts takes =
-    (j d d' : ℕ) (a a' : Access) (start stop start' stop' : ℕ) → intervals.IsAccess h P a start stop → bit_of a ≡ Cell j d →
-    intervals.IsAccess h C a' start' stop' → bit_of a' ≡ Cell j d' → ¬ intervals.Overlap start stop start' stop'
+    (j d d' : ℕ) (v : Bool) (start stop start' stop' : ℕ) → intervals.IsWrite h (Cell j d) v start stop →
+    intervals.IsAccess h C (Read (Cell j d')) start' stop' → ¬ intervals.Overlap start stop start' stop'
 
 -- at every moment the items taken are a prefix of the items put
 abbrev pub TakenArePrefix : Shape → List Event → Puts → Takes → Type 0
@@ -97,22 +93,16 @@ TakenArePrefix shape h puts takes =
 -- a take whose word read has ended, also where its count write is still to come, has the item put of its number
 abbrev pub TakesMatchPuts : Shape → List Event → Puts → Takes → Type 0
 TakesMatchPuts shape h puts takes =
-    (t k item word past : ℕ) → TakesItem shape takes k item word past → word + word_events shape ≤ clock C h t →
+    (t k item word past : ℕ) → TakesItem shape takes k item word past → word + 2 * width_of shape ≤ clock C h t →
     slice_get (items_put shape first_count puts.puts (clock P h t)) k ≡ Some item
 
--- At a place the ring is empty and open: each item of a put that had ended was taken by a take that had ended, and no write of
--- the close bit had.
-pub record IsEmptyAt (shape : Shape) (h : List Event) (puts : Puts) (takes : Takes) (place : ℕ) : Type 0 where
-  pub all_taken :
-      (j item word past : ℕ) → StoresItem shape puts j item word past → past ≤ clock P h place →
-      (word' : ℕ) × (past' : ℕ) × TakesItem shape takes j item word' past' × (past' ≤ clock C h place)
-  pub not_closed : (v : Bool) (start stop : ℕ) → intervals.IsWrite h X v start stop → ¬ (stop < place)
-
--- where a take that finds the ring empty begins, it is empty
+-- where a take that finds the ring empty begins, it is empty and open: no more items were stored by puts that had ended than takes had
+-- taken that had ended, and no write of the close bit had ended
 abbrev pub EmptyIsFresh : Shape → List Event → Puts → Takes → Type 0
 EmptyIsFresh shape h puts takes =
     (seen k start stop : ℕ) → IsTakeAt shape takes (Empty seen) k start stop → stop ≤ length (own C h) →
-    (first : ℕ) × IsPlaceOf C h start first × IsEmptyAt shape h puts takes first
+    (first : ℕ) × IsPlaceOf C h start first × (puts_ended shape puts (clock P h first) ≤ takes_ended shape takes (clock C h first)) ×
+    ((v : Bool) (from to : ℕ) → intervals.IsWrite h X v from to → ¬ (to < first))
 
 -- where a put that finds the ring full begins, the items stored before it, less those of takes that had ended, are at least
 -- the capacity

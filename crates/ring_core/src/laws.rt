@@ -173,15 +173,15 @@ pub fn has_a_run()
 /// The law of the ring, in the words of the calls. In every lawful history of safe bits whose two sides follow their
 /// programs, with `N` items put and `K` items taken by calls whose count write has begun:
 /// - `within`: `K <= N <= K + capacity`, at every moment;
-/// - `put_range`, `take_range`: each ended scan of a call has a place where it began and one where it ended, and gives,
-///   modulo the modulus, a number of items that a count write left, within a range which the modulus tells apart;
+/// - `put_range`, `take_range`: each ended scan has a place where it began and one where it ended, and gives, modulo the
+///   modulus, the number of items that some first calls of the other side count, within a range which the modulus tells apart;
 /// - `words`: of two items that have the same cell, the word write of the one and the word read of the other do not
 ///   overlap;
-/// - `cells`: no access of the producer to a digit of a cell overlaps one of the consumer to a digit of that cell;
+/// - `cells`: no write of a digit of a cell overlaps a read of a digit of that cell;
 /// - `prefix`: the items taken are a prefix of the items put, at every moment;
 /// - `items`: a take whose word read has ended has the item put of its number;
-/// - `empty`: where a take began that found the ring empty, every item of a put that had ended was taken by a take
-///   that had ended, and no write of the close bit had ended;
+/// - `empty`: where a take began that found the ring empty, takes that had ended had taken as many items as puts had
+///   stored that had ended, and no write of the close bit had ended;
 /// - `full`: where a put began that found the ring full, the items stored before it, less those of takes that had
 ///   ended, are at least the capacity;
 /// - `fill`: where a put began that fills all the room its scan left, the items stored up to and with it, less those of

@@ -1,14 +1,13 @@
 -- What the page is told of a play.
 use Rattle.std.specs.Prelude.{◌≡◌, ◌⊎◌, ◌↔◌, ◌<◌, min, Bool, true, false, not, nat_eq, ℕ, List, length, take}
-use Rattle.bits_core.specs.Memory.{flicker_count}
 use Rattle.bits_core.specs.Shape.{shape_fault_number}
 use Rattle.bits_core.specs.declared.events.Event.{Event}
 use Rattle.ring_core.specs.Items.{ToldIn, items_put_in, items_taken_in}
 use Rattle.ring_core.specs.Over.{empties, fulls, puts_over_in, takes_over_in}
 use Rattle.ring_core.specs.Puts.{FollowsPuts, Puts}
 use Rattle.ring_core.specs.Takes.{FollowsTakes, Takes}
-use Rattle.ring_player.specs.Headline.{HoldsHeadline}
-use Rattle.ring_player.specs.Plays.{Plays}
+use Rattle.ring_player.specs.Headline.{IsPlayOf}
+use Rattle.ring_player.specs.Plays.{HasFlickers}
 use Rattle.ring_script.specs.Faults.{IsScriptFault, script_fault_number}
 use Rattle.ring_script.specs.Script.{Content, Held, Holds, IsContentOf, IsScript}
 use Rattle.ring_script.specs.declared.faults.ScriptFault.{ScriptFault}
@@ -51,7 +50,7 @@ pub record Reports (script : Content) (history : List Event) (put taken : List �
   pub told_is : (takes : Takes) → FollowsTakes script.shape history takes → (told.told ≡ 1) ↔ ToldIn script.shape history takes
   pub full_is : (puts : Puts) → FollowsPuts script.shape history puts → told.full ≡ fulls (puts_over_in script.shape history puts)
   pub empty_is : (takes : Takes) → FollowsTakes script.shape history takes → told.empty ≡ empties (takes_over_in script.shape history takes)
-  pub flickers_is : told.flickers ≡ flicker_count history
+  pub flickers_is : HasFlickers history told.flickers
   pub all_letters_is : told.all_letters ≡ length script.letters
 
 -- no fault is told
@@ -62,11 +61,10 @@ pub record TellsNoFault (told : Played) : Type 0 where
   pub shape_fault : told.shape_fault ≡ 0
 
 -- this is told of the play of the script's first letters
-pub record IsPlayOf (script : Content) (letters : ℕ) (marks : List Mark) (put taken : List ℕ) (told : Played) : Type 0 where
+pub record TellsFirstLetters (script : Content) (letters : ℕ) (marks : List Mark) (put taken : List ℕ) (told : Played) : Type 0 where
   pub history : List Event
   pub no_fault : TellsNoFault told
-  pub plays : Plays script (take letters script.letters) history
-  pub headline : HoldsHeadline script history
+  pub plays : IsPlayOf script (take letters script.letters) history
   pub are_marks : AreMarks history (length history) marks
   pub reports : Reports script history put taken told
 
@@ -101,7 +99,7 @@ pub record TellsPlayed (held : Held) (letters : ℕ) (marks : List Mark) (put ta
   pub script : Content
   pub is_content : IsContentOf held script
   pub is_script : (bytes : List ℕ) → Holds bytes held → IsScript bytes script
-  pub is_play : IsPlayOf script letters marks put taken told
+  pub is_play : TellsFirstLetters script letters marks put taken told
 
 -- the page has no room: for the runs of the schedule, for the answers of the oracle, or for an event of each letter that is played
 abbrev pub HasNoRoom : Held → ℕ → Type 0

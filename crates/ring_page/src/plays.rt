@@ -3,10 +3,9 @@ ghost use Rattle.std.specs.Prelude.{◌≡◌, ◌<◌, ◌≤◌, ◌⊎◌, �
 ghost use Rattle.bits_core.specs.declared.events.Event.{Event};
 ghost use Rattle.bits_core.specs.declared.shapes.Shape.{Shape};
 ghost use Rattle.bits_core.specs.Lawful.{IsLawful};
-ghost use Rattle.bits_core.specs.Memory.{flicker_count};
 ghost use Rattle.ring_script.specs.Borrowed.{content_of, held_of};
 ghost use Rattle.ring_page.specs.Audit.{AreMarks, IsNothingSeen};
-ghost use Rattle.ring_page.specs.Play.{Fills, IsPlayOf, TellsPlay, TellsPlayFault, bit_number, fields_of};
+ghost use Rattle.ring_page.specs.Play.{Fills, TellsFirstLetters, TellsPlay, TellsPlayFault, bit_number, fields_of};
 
 use crate::audits::{EVENT_ROOM, no_events, nothing_seen};
 use crate::marks::{Mark, put_marks};
@@ -124,7 +123,7 @@ fn tell_play(
     put: &mut [u64],
     taken: &mut [u64],
 ) -> Result<Played, PlayFault>
-    ensures played { IfOk result (IsPlayOf (content_of script.entry) letters marks.new put.new taken.new) }
+    ensures played { IfOk result (TellsFirstLetters (content_of script.entry) letters marks.new put.new taken.new) }
     ensures refused { OnErr result (EVENT_ROOM < min letters (length (content_of script.entry).letters)) }
 {
     let mut events = no_events();

@@ -8,5 +8,6 @@ mod Writings
 mod Takings
 mod Turns
 mod Steps
+mod Flickers
 mod WorldParts
 mod Fillings

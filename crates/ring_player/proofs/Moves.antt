@@ -68,8 +68,8 @@ pub not_whole : (s : Side) (xs ys : List Made) (e : Event) → events_of s xs ++
 not_whole s xs ys e same = absurd (omega (arith, ap length same, length-append (events_of s xs) (e ∷ []), length-events s xs, length-events s ys))
 
 done_whole : (script : Content) (s : Side) (events : List Event) → IsDoneAfter script s events → (ys : List Made) × (events ≡ events_of s ys)
-done_whole script P events d = (put_program script.shape d.calls, d.whole)
-done_whole script C events d = (take_program script.shape d.calls, d.whole)
+done_whole script P events (calls, are, whole, all, closes) = (put_program script.shape calls, whole)
+done_whole script C events (calls, are, whole, enough) = (take_program script.shape calls, whole)
 
 pub open_not_done : (script : Content) (s : Side) (h : List Event) (list : List Made) (a : Access) → own s h ≡ so_far s list (Some a) → ¬ IsDone script s h
 open_not_done script s h list a are d =

@@ -17,7 +17,7 @@ use Rattle.ring_core.specs.Puts.{ArePuts, Full, IsBatch, number_after, Puts, put
 use Rattle.ring_core.specs.Over.{fulls}
 use Rattle.ring_core.specs.Readings.{PutsAreFirst}
 use Rattle.ring_player.specs.Actors.{IsAsked, IsPutting, PutTally, after_reply, full_in_reply, so_far, stored_in_reply}
-use Rattle.ring_player.specs.Plays.{AreAttempts, ArePutsOf, IsDoneProducer, IsProgram, offered}
+use Rattle.ring_player.specs.Plays.{AreAttempts, ArePutsOf, IsDoneAfter, IsProgram, offered}
 use Rattle.ring_script.specs.Script.{Content, Fit}
 use Rattle.ring_player.proofs.Nexts.{IsNextPut, NextPut as NextOf}
 use Rattle.ring_player.proofs.Moves.{events-append, events-more, length-events, program_beginning}
@@ -229,59 +229,59 @@ split_last (w ∷ xs) (v ∷ ys) zs x y e =
 
 pub unfinished :
     PutsAreFirst → (script : Content) (p : ProducerState) (kept : PutTally) (list : List Made) (due : Option Access) (a : Access) → IsPutting script p kept list None → NextOf p due →
-    due ≡ Some a → ¬ IsDoneProducer script (events_of P list)
+    due ≡ Some a → ¬ IsDoneAfter script P (events_of P list)
 unfinished law script p kept list due a s next is d =
     by_call (call_of p) s.asked (subst (λ t. IsNextPut script.shape s.calls (call_of p) list t) is (next_in script p kept list None due s next))
   where
     -- the done calls begin the calls with the one under way, which have more accesses
-    longer : (more : Puts) (rest : List Made) → (list ++ answered a true ∷ []) ++ rest ≡ put_program script.shape more → 2 * length (put_program script.shape d.calls) < 2 * length (put_program script.shape more)
+    longer : (more : Puts) (rest : List Made) → (list ++ answered a true ∷ []) ++ rest ≡ put_program script.shape more → 2 * length (put_program script.shape d.0) < 2 * length (put_program script.shape more)
     longer more rest e =
         omega (
           arith,
           ap length e,
           length-append (list ++ answered a true ∷ []) rest,
           length-append list (answered a true ∷ []),
-          ap length d.whole,
+          ap length d.2,
           length-events P list,
-          length-events P (put_program script.shape d.calls),
+          length-events P (put_program script.shape d.0),
         )
 
     begins_more : (more : Puts) (rest : List Made) → (list ++ answered a true ∷ []) ++ rest ≡ put_program script.shape more →
-        IsBeginning (events_of P (put_program script.shape d.calls)) (events_of P (put_program script.shape more))
+        IsBeginning (events_of P (put_program script.shape d.0)) (events_of P (put_program script.shape more))
     begins_more more rest e = (
       events_of P (answered a true ∷ rest),
-      ap (λ l. l ++ events_of P (answered a true ∷ rest)) (sym d.whole) ∙ sym (events-append P list (answered a true ∷ rest)) ∙
+      ap (λ l. l ++ events_of P (answered a true ∷ rest)) (sym d.2) ∙ sym (events-append P list (answered a true ∷ rest)) ∙
           ap (events_of P) (sym (append_assoc list (answered a true ∷ []) rest) ∙ e),
     )
 
-    not_all : (more : Puts) → d.calls ≡ more → 2 * length (put_program script.shape d.calls) < 2 * length (put_program script.shape more) → ⊥
+    not_all : (more : Puts) → d.0 ≡ more → 2 * length (put_program script.shape d.0) < 2 * length (put_program script.shape more) → ⊥
     not_all more same l = absurd (omega (arith, l, ap (λ (t : Puts). length (put_program script.shape t)) same))
 
-    put_less : (more : Puts) (x : puts.Put) (rest : List puts.Put) → more ≡ and_put s.calls x → more.puts ≡ d.calls.puts ++ rest →
-        (d.calls.closes ≡ true → d.calls ≡ more) → 2 * length (put_program script.shape d.calls) < 2 * length (put_program script.shape more) → stored_in 0 s.calls.puts < length script.items → ⊥
+    put_less : (more : Puts) (x : puts.Put) (rest : List puts.Put) → more ≡ and_put s.calls x → more.puts ≡ d.0.puts ++ rest →
+        (d.0.closes ≡ true → d.0 ≡ more) → 2 * length (put_program script.shape d.0) < 2 * length (put_program script.shape more) → stored_in 0 s.calls.puts < length script.items → ⊥
     put_less more x [] more_is e whole l left =
-        by_close d.calls.closes refl
+        by_close d.0.closes refl
       where
-        by_close : (b : Bool) → d.calls.closes ≡ b → ⊥
+        by_close : (b : Bool) → d.0.closes ≡ b → ⊥
         by_close true f = not_all more (whole f) l
         by_close false f =
-            let puts_same : d.calls.puts ≡ more.puts = sym (append-nil d.calls.puts) ∙ sym e in
-            let closes_same : d.calls.closes ≡ more.closes = f ∙ sym (ap (λ (t : Puts). t.closes) more_is) in
-            not_all more (same_calls d.calls more puts_same closes_same) l
+            let puts_same : d.0.puts ≡ more.puts = sym (append-nil d.0.puts) ∙ sym e in
+            let closes_same : d.0.closes ≡ more.closes = f ∙ sym (ap (λ (t : Puts). t.closes) more_is) in
+            not_all more (same_calls d.0 more puts_same closes_same) l
     put_less more x (y ∷ rest) more_is e whole l left =
-        let (ws, f) = split_last s.calls.puts d.calls.puts rest x y (sym (ap (λ (t : Puts). t.puts) more_is) ∙ e) in
-        absurd (omega (arith, left, d.all, stored_rises 0 d.calls.puts ws, ap (stored_in 0) f))
+        let (ws, f) = split_last s.calls.puts d.0.puts rest x y (sym (ap (λ (t : Puts). t.puts) more_is) ∙ e) in
+        absurd (omega (arith, left, d.3, stored_rises 0 d.0.puts ws, ap (stored_in 0) f))
 
     by_call : (c : Option Call) → IsAsked script s.calls c → IsNextPut script.shape s.calls c list (Some a) → ⊥
     by_call None asked n = absurd n
     by_call (Some (Put items)) (items_are, left) n =
         let (more, (x, of, more_is, are, o), (rest, e)) = n true (λ l. refl) in
-        let (rises, whole) = law script.shape d.calls more d.are are (begins_more more rest e) in
+        let (rises, whole) = law script.shape d.0 more d.1 are (begins_more more rest e) in
         put_less more x rises.0 more_is rises.1 whole (longer more rest e) left
     by_call (Some Close) (closes, all) n =
         let (more, (more_is, are, o), (rest, e)) = n true (λ l. refl) in
-        let (rises, whole) = law script.shape d.calls more d.are are (begins_more more rest e) in
-        not_all more (whole (d.closes ∙ closes)) (longer more rest e)
+        let (rises, whole) = law script.shape d.0 more d.1 are (begins_more more rest e) in
+        not_all more (whole (d.4 ∙ closes)) (longer more rest e)
 
 -- ---- the next call begins
 
@@ -354,16 +354,15 @@ began_close script p p' kept list s over closes shape call on = record {
 
 pub is_done :
     (script : Content) (p : ProducerState) (kept : PutTally) (list : List Made) → IsPutting script p kept list None → NextOf p None → length script.items ≤ kept.stored →
-    script.closes ≡ p.closed → IsDoneProducer script (events_of P list)
+    script.closes ≡ p.closed → IsDoneAfter script P (events_of P list)
 is_done script p kept list s next over closes =
-    let (none, whole) = idle p.shape s.calls (call_of p) list (next s.calls list s.there) in
-    record {
-      calls = s.calls;
-      are = subst (λ (t : Shape). ArePuts t 0 s.calls.puts) s.same_shape s.there.are;
-      all = omega (arith, over, s.counted, attempts_within script 0 s.calls.puts (omega arith) s.attempts);
-      closes = sym (closes ∙ s.there.closed_is ∙ ap (closes_with s.calls) none);
-      whole = ap (events_of P) (whole ∙ ap (λ (t : Shape). put_program t s.calls) s.same_shape);
-    }
+    let (none, whole) = idle p.shape s.calls (call_of p) list (next s.calls list s.there) in (
+      s.calls,
+      subst (λ (t : Shape). ArePuts t 0 s.calls.puts) s.same_shape s.there.are,
+      ap (events_of P) (whole ∙ ap (λ (t : Shape). put_program t s.calls) s.same_shape),
+      omega (arith, over, s.counted, attempts_within script 0 s.calls.puts (omega arith) s.attempts),
+      sym (closes ∙ s.there.closed_is ∙ ap (closes_with s.calls) none),
+    )
 
 -- a close that was not asked for was not made
 pub not_closed : (script : Content) (p : ProducerState) (kept : PutTally) (list : List Made) → IsPutting script p kept list None → NextOf p None → script.closes ≡ false → script.closes ≡ p.closed

@@ -17,7 +17,7 @@ use Rattle.ring_core.specs.Items.{events_in, items_taken, Tells}
 use Rattle.ring_core.specs.Readings.{TakesAreFirst}
 use Rattle.ring_core.specs.Takes.{AreTakes, Closed, Empty, End, Item, ItemAfterClose, Open, Take, end_phrase, take_phrase, take_phrases, take_program, taken_after, taken_in, Takes}
 use Rattle.ring_player.specs.Actors.{all_taken, begun, IsTaking, so_far, empty_in}
-use Rattle.ring_player.specs.Plays.{IsDoneConsumer, IsProgram}
+use Rattle.ring_player.specs.Plays.{IsDoneAfter, IsProgram}
 use Rattle.register_core.specs.ScanState.{row_read_by, scan_phrase}
 use Rattle.ring_core.specs.Over.{empties, takes_over}
 use Rattle.ring_player.specs.SoFar.{TakenSoFar}
@@ -150,57 +150,57 @@ same_calls a b p q = ap (λ (t : List Take). record { takes = t; end = a.end }) 
 
 pub unfinished :
     TakesAreFirst → (script : Content) (p : ConsumerState) (taken : List ℕ) (told : Bool) (empty : ℕ) (list : List Made) (due : Option Access) (a : Access) → IsTaking script p taken told empty list None →
-    NextOf p due → due ≡ Some a → ¬ IsDoneConsumer script (events_of C list)
+    NextOf p due → due ≡ Some a → ¬ IsDoneAfter script C (events_of C list)
 unfinished law script p taken told empty list due a s next is d =
     by_call (is_taking p) refl (subst (λ t. IsNextTake script.shape s.calls (is_taking p) list t) is (next_in script p taken told empty list None due s next))
   where
     longer : (more : Takes) (rest : List Made) → (list ++ answered a true ∷ []) ++ rest ≡ take_program script.shape more →
-        2 * length (take_program script.shape d.calls) < 2 * length (take_program script.shape more)
+        2 * length (take_program script.shape d.0) < 2 * length (take_program script.shape more)
     longer more rest e =
         omega (
           arith,
           ap length e,
           length-append (list ++ answered a true ∷ []) rest,
           length-append list (answered a true ∷ []),
-          ap length d.whole,
+          ap length d.2,
           length-events C list,
-          length-events C (take_program script.shape d.calls),
+          length-events C (take_program script.shape d.0),
         )
 
     begins_more : (more : Takes) (rest : List Made) → (list ++ answered a true ∷ []) ++ rest ≡ take_program script.shape more →
-        IsBeginning (events_of C (take_program script.shape d.calls)) (events_of C (take_program script.shape more))
+        IsBeginning (events_of C (take_program script.shape d.0)) (events_of C (take_program script.shape more))
     begins_more more rest e = (
       events_of C (answered a true ∷ rest),
-      ap (λ l. l ++ events_of C (answered a true ∷ rest)) (sym d.whole) ∙ sym (events-append C list (answered a true ∷ rest)) ∙
+      ap (λ l. l ++ events_of C (answered a true ∷ rest)) (sym d.2) ∙ sym (events-append C list (answered a true ∷ rest)) ∙
           ap (events_of C) (sym (append_assoc list (answered a true ∷ []) rest) ∙ e),
     )
 
-    not_all : (more : Takes) → d.calls ≡ more → 2 * length (take_program script.shape d.calls) < 2 * length (take_program script.shape more) → ⊥
+    not_all : (more : Takes) → d.0 ≡ more → 2 * length (take_program script.shape d.0) < 2 * length (take_program script.shape more) → ⊥
     not_all more same l = absurd (omega (arith, l, ap (λ (t : Takes). length (take_program script.shape t)) same))
 
     -- the done calls take no more than the calls made
-    no_more : (more : Takes) → HasTakeMore script.shape s.calls more → (rest : List Take) → more.takes ≡ d.calls.takes ++ rest → (Tells d.calls.end → d.calls ≡ more) →
-        2 * length (take_program script.shape d.calls) < 2 * length (take_program script.shape more) → (d.calls.end ≡ Open) → taken_in 0 d.calls.takes ≤ taken_in 0 s.calls.takes
+    no_more : (more : Takes) → HasTakeMore script.shape s.calls more → (rest : List Take) → more.takes ≡ d.0.takes ++ rest → (Tells d.0.end → d.0 ≡ more) →
+        2 * length (take_program script.shape d.0) < 2 * length (take_program script.shape more) → (d.0.end ≡ Open) → taken_in 0 d.0.takes ≤ taken_in 0 s.calls.takes
     no_more more has rest e whole l is_open = by_more has.is_one_more rest e
       where
-        by_more : ((x : Take) × (more ≡ and_take s.calls x)) ⊎ ((seen again : ℕ) × (more ≡ and_end s.calls seen again)) → (rest : List Take) → more.takes ≡ d.calls.takes ++ rest →
-            taken_in 0 d.calls.takes ≤ taken_in 0 s.calls.takes
+        by_more : ((x : Take) × (more ≡ and_take s.calls x)) ⊎ ((seen again : ℕ) × (more ≡ and_end s.calls seen again)) → (rest : List Take) → more.takes ≡ d.0.takes ++ rest →
+            taken_in 0 d.0.takes ≤ taken_in 0 s.calls.takes
         by_more (inl (x, more_is)) [] e =
-            let takes_same : d.calls.takes ≡ more.takes = sym (append-nil d.calls.takes) ∙ sym e in
-            let ends_same : d.calls.end ≡ more.end = is_open ∙ sym (ap (λ (t : Takes). t.end) more_is) in
-            absurd (not_all more (same_calls d.calls more takes_same ends_same) l)
+            let takes_same : d.0.takes ≡ more.takes = sym (append-nil d.0.takes) ∙ sym e in
+            let ends_same : d.0.end ≡ more.end = is_open ∙ sym (ap (λ (t : Takes). t.end) more_is) in
+            absurd (not_all more (same_calls d.0 more takes_same ends_same) l)
         by_more (inl (x, more_is)) (y ∷ rest) e =
-            let (ws, f) = split_last s.calls.takes d.calls.takes rest x y (sym (ap (λ (t : Takes). t.takes) more_is) ∙ e) in
-            omega (arith, taken_rises 0 d.calls.takes ws, ap (taken_in 0) f)
+            let (ws, f) = split_last s.calls.takes d.0.takes rest x y (sym (ap (λ (t : Takes). t.takes) more_is) ∙ e) in
+            omega (arith, taken_rises 0 d.0.takes ws, ap (taken_in 0) f)
         by_more (inr (seen, again, more_is)) rest e =
-            omega (arith, taken_rises 0 d.calls.takes rest, ap (taken_in 0) (sym e ∙ ap (λ (t : Takes). t.takes) more_is))
+            omega (arith, taken_rises 0 d.0.takes rest, ap (taken_in 0) (sym e ∙ ap (λ (t : Takes). t.takes) more_is))
 
-    by_end : (more : Takes) → HasTakeMore script.shape s.calls more → (rest : List Take) → more.takes ≡ d.calls.takes ++ rest → (Tells d.calls.end → d.calls ≡ more) →
-        2 * length (take_program script.shape d.calls) < 2 * length (take_program script.shape more) → taken_in 0 s.calls.takes < script.takes → (end : End) → d.calls.end ≡ end → ⊥
+    by_end : (more : Takes) → HasTakeMore script.shape s.calls more → (rest : List Take) → more.takes ≡ d.0.takes ++ rest → (Tells d.0.end → d.0 ≡ more) →
+        2 * length (take_program script.shape d.0) < 2 * length (take_program script.shape more) → taken_in 0 s.calls.takes < script.takes → (end : End) → d.0.end ≡ end → ⊥
     by_end more has rest e whole l left (Closed seen again) f = not_all more (whole (subst Tells (sym f) tt)) l
-    by_end more has rest e whole l left Open f = by_enough d.enough
+    by_end more has rest e whole l left Open f = by_enough d.3
       where
-        by_enough : (taken_in 0 d.calls.takes ≡ script.takes) ⊎ Tells d.calls.end → ⊥
+        by_enough : (taken_in 0 d.0.takes ≡ script.takes) ⊎ Tells d.0.end → ⊥
         by_enough (inl all) = absurd (omega (arith, all, left, no_more more has rest e whole l f))
         by_enough (inr told) = absurd (subst Tells f told)
 
@@ -208,8 +208,8 @@ unfinished law script p taken told empty list due a s next is d =
     by_call false e n = absurd n
     by_call true e n =
         let (more, has, (rest, f)) = n true (λ l. refl) in
-        let (rises, whole) = law script.shape d.calls more d.are has.are (begins_more more rest f) in
-        by_end more has rises.0 rises.1 whole (longer more rest f) (s.asked e) d.calls.end refl
+        let (rises, whole) = law script.shape d.0 more d.1 has.are (begins_more more rest f) in
+        by_end more has rises.0 rises.1 whole (longer more rest f) (s.asked e) d.0.end refl
 
 -- ---- the next take begins
 
@@ -242,15 +242,14 @@ began_one script p p' taken told empty list s not_told begun e =
 
 pub is_done :
     (script : Content) (p : ConsumerState) (taken : List ℕ) (told : Bool) (empty : ℕ) (list : List Made) → IsTaking script p taken told empty list None → NextOf p None →
-    (told ≡ true) ⊎ (script.takes ≤ length taken) → IsDoneConsumer script (events_of C list)
+    (told ≡ true) ⊎ (script.takes ≤ length taken) → IsDoneAfter script C (events_of C list)
 is_done script p taken told empty list s next over =
-    let (none, whole) = idle p.shape s.calls (is_taking p) list (next s.calls list s.there) in
-    record {
-      calls = s.calls;
-      are = subst (λ (t : Shape). AreTakes t 0 s.calls.takes s.calls.end) s.same_shape s.there.are;
-      enough = by_over over;
-      whole = ap (events_of C) (whole ∙ ap (λ (t : Shape). take_program t s.calls) s.same_shape);
-    }
+    let (none, whole) = idle p.shape s.calls (is_taking p) list (next s.calls list s.there) in (
+      s.calls,
+      subst (λ (t : Shape). AreTakes t 0 s.calls.takes s.calls.end) s.same_shape s.there.are,
+      ap (events_of C) (whole ∙ ap (λ (t : Shape). take_program t s.calls) s.same_shape),
+      by_over over,
+    )
   where
     by_over : (told ≡ true) ⊎ (script.takes ≤ length taken) → (taken_in 0 s.calls.takes ≡ script.takes) ⊎ Tells s.calls.end
     by_over (inl t) = inr (tells_so s.calls.end (sym s.told_is ∙ t))

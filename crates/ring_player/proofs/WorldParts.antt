@@ -4,17 +4,16 @@ use Rattle.std.specs.Prelude.{if◌then◌else◌, IfOk, OnErr, OnOk, ◌↔◌}
 use Rattle.bits_core.specs.declared.events.Side.{Side}
 use Rattle.bits_core.specs.declared.events.Side.TheVariants.{P, C}
 use Rattle.bits_core.specs.declared.events.Access.{Access}
-use Rattle.bits_core.specs.declared.events.Act.TheVariants.{ReadEnd}
 use Rattle.bits_core.specs.declared.events.Event.{Event}
 use Rattle.bits_core.specs.Bits.{begun_by, other}
 use Rattle.bits_core.specs.History.{open_access}
 use Rattle.bits_core.specs.Lawful.{IsLawful}
-use Rattle.bits_core.specs.Laws.{FlickerIsByInterval, OpenChanges, OverlapIsByInterval, OwnChanges}
+use Rattle.bits_core.specs.Laws.{FlickerIsByInterval, OpenChanges, OwnChanges}
 use Rattle.bits_core.specs.Made.{clock, own}
-use Rattle.bits_core.specs.Memory.{EndsOverlappedRead, Recorded}
+use Rattle.bits_core.specs.Memory.{Recorded}
 use Rattle.bits_core.specs.Oracle.{turn}
 use Rattle.ring_player.specs.Actors.{IsAtTurn, IsMove, IsPlaying, so_far}
-use Rattle.ring_player.specs.Plays.{AreInTurn, AreMoves, IsDone, IsPlayed, IsProgram, Plays, sides}
+use Rattle.ring_player.specs.Plays.{AreMoves, IsDone, IsPlayed, IsProgram, Plays, sides}
 use Rattle.std.specs.Prelude.{replicate, slice_index_or}
 use Rattle.std.proofs.lemmas.Bool.{cases_lt}
 use Rattle.std.proofs.lemmas.List.{length-append, length-replicate, take_all, take_more, take-append-le, take-replicate}
@@ -27,9 +26,10 @@ use Rattle.ring_core.specs.Items.{ItemsAreRead, items_put, items_put_in, items_t
 use Rattle.ring_core.specs.Over.{empties, fulls, PutsOverAreRead, puts_over_in, TakesOverAreRead, takes_over_in}
 use Rattle.ring_core.specs.Puts.{FollowsPuts, Puts}
 use Rattle.ring_core.specs.Takes.{FollowsTakes, Takes}
-use Rattle.ring_player.specs.Headline.{HoldsHeadline}
+use Rattle.ring_player.specs.Headline.{EveryPlayFills, EveryPlayHolds, HoldsHeadline, IsPlayOf}
 use Rattle.ring_player.specs.SoFar.{PutSoFar, TakenSoFar}
 use Rattle.ring_player.specs.Worlds.{IsWorld}
+use Rattle.ring_player.proofs.Flickers.{in_turn}
 use Rattle.ring_player.proofs.Moves.{moves-more, moves_step, not_by, own_other, sides-more}
 use Rattle.ring_player.proofs.Steps.{Stands}
 
@@ -100,25 +100,24 @@ consumer_steps opens owns script m m' ps cs cs' pd cd cd' pt ct ct' a a' w shape
 
 -- ---- the history is a play
 
-in_turn : OverlapIsByInterval → FlickerIsByInterval → (script : Content) (h : List Event) (answers : ℕ → Bool) → IsLawful script.shape h → IsAtTurn (turn script.oracle) h answers → AreInTurn script.oracle h
-in_turn overlap flicker script h answers lawful t s b start stop v r o =
-    let ends : EndsOverlappedRead h stop = record { side = s; bit = b; answer = v; start = start; read = r; overlap = o } in
-    t.answered stop (record { side = s; bit = b; act = ReadEnd v }) v r.ends refl ((flicker script.shape h lawful stop).1 ends)
-
 pub plays_of :
-    OverlapIsByInterval → FlickerIsByInterval → (script : Content) (m : Recorded) (ps cs : Content) (pd cd : Option Access) (pt ct : Stands) (a : ℕ → Bool) → IsWorld script m ps cs pd cd pt ct a →
+    FlickerIsByInterval → (script : Content) (m : Recorded) (ps cs : Content) (pd cd : Option Access) (pt ct : Stands) (a : ℕ → Bool) → IsWorld script m ps cs pd cd pt ct a →
     IsLawful m.shape m.events → IsProgram ps P (own P m.events) → IsProgram cs C (own C m.events) → Plays script (sides m.events) m.events
-plays_of overlap flicker script m ps cs pd cd pt ct a w lawful puts takes =
+plays_of flicker script m ps cs pd cd pt ct a w lawful puts takes =
     let lawful' : IsLawful script.shape m.events = subst (λ t. IsLawful t m.events) w.shape lawful in
     record {
       played = record {
         lawful = lawful';
         puts = subst (λ (t : Content). IsProgram t P (own P m.events)) w.put_script_is puts;
         takes = subst (λ (t : Content). IsProgram t C (own C m.events)) w.take_script_is takes;
-        answers = in_turn overlap flicker script m.events a lawful' w.oracle;
+        answers = in_turn flicker script.shape m.events lawful' script.oracle a w.oracle;
       };
       moves = w.moves;
     }
+
+-- the laws of every play hold of it
+pub is_play : EveryPlayHolds → EveryPlayFills → (script : Content) (letters : List Side) (h : List Event) → Plays script letters h → IsPlayOf script letters h
+is_play holds fills script letters h plays = record { plays = plays; headline = holds script letters h plays; batches = fills script letters h plays }
 
 pub letters_of :
     {E : Type 0} (script script' : Content) (s : Side) (h h' : List Event) (r : Result Bool E) → script' ≡ script → IfOk r (λ moved. IsMove script s moved h h') → IsPlayed script' h' →

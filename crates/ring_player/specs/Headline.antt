@@ -8,18 +8,17 @@ use Rattle.bits_core.specs.Shape.{capacity_of}
 use Rattle.ring_core.specs.CallsAt.{IsPutAt, scan_events, takes_ended}
 use Rattle.ring_core.specs.Items.{items_put_in, items_taken_in, ToldIn}
 use Rattle.ring_core.specs.Puts.{FollowsPuts, Puts, Stored}
-use Rattle.ring_core.specs.RingLaw.{CellsAreQuiet, ClosedIsTrue, EmptyIsFresh, FullIsFresh, IsRun, TakenArePrefix, TakesMatchPuts, WordsAreQuiet}
+use Rattle.ring_core.specs.RingLaw.{ClosedIsTrue, EmptyIsFresh, FullIsFresh, IsRun, TakenArePrefix, TakesMatchPuts, WordsAreQuiet}
 use Rattle.ring_core.specs.Takes.{FollowsTakes, Takes}
 use Rattle.ring_player.specs.Plays.{ArePutsOf, offered, Plays}
 use Rattle.ring_script.specs.Script.{Content}
 
 -- Whatever calls the events of the two sides are read as: the items taken are a prefix of the items put, each taken once, by
--- the take of its number; no cell's read overlaps its write; Empty and Full are answered only where the calls ended before
+-- the take of its number; no word's read overlaps its write; Empty and Full are answered only where the calls ended before
 -- require it; once Closed is told, every item put has been taken, and none comes later.
 pub record HeadlineOf (script : Content) (h : List Event) (puts : Puts) (takes : Takes) : Type 0 where
   pub prefix : TakenArePrefix script.shape h puts takes
   pub once : TakesMatchPuts script.shape h puts takes
-  pub cells : CellsAreQuiet script.shape h puts takes
   pub words : WordsAreQuiet script.shape h puts takes
   pub empty : EmptyIsFresh script.shape h puts takes
   pub full : FullIsFresh script.shape h puts takes
@@ -47,3 +46,9 @@ FillsRing script h =
 
 abbrev pub EveryPlayFills : Type 0
 EveryPlayFills = (script : Content) (letters : List Side) (h : List Event) → Plays script letters h → FillsRing script h
+
+-- the history is the play of the script by these letters; the sentence of the ring holds of it, and its puts fill the ring
+pub record IsPlayOf (script : Content) (letters : List Side) (h : List Event) : Type 0 where
+  pub plays : Plays script letters h
+  pub headline : HoldsHeadline script h
+  pub batches : FillsRing script h

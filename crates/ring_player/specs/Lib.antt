@@ -1,5 +1,6 @@
 pub mod Plays
 pub mod Headline
+pub mod Laws
 pub mod Actors
 pub mod SoFar
 pub mod Worlds

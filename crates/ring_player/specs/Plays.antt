@@ -1,5 +1,5 @@
 -- When a history is the play of a script by a list of letters.
-use Rattle.std.specs.Prelude.{◌≡◌, ◌⊎◌, ℕ, ◌<◌, Bool, true, List, [], ◌∷◌, ◌++◌, length, take, drop}
+use Rattle.std.specs.Prelude.{◌≡◌, ◌⊎◌, ℕ, suc, ◌<◌, ◌%◌, Bool, true, false, List, [], ◌∷◌, ◌++◌, length, take, drop, slice_index_or}
 use Rattle.bits_core.specs.declared.events.Side.{Side}
 use Rattle.bits_core.specs.declared.events.Side.TheVariants.{P, C}
 use Rattle.bits_core.specs.declared.events.Bit.{Bit}
@@ -7,8 +7,6 @@ use Rattle.bits_core.specs.declared.events.Event.{Event}
 use Rattle.bits_core.specs.Intervals.{HasOverlap, IsRead}
 use Rattle.bits_core.specs.Lawful.{IsLawful}
 use Rattle.bits_core.specs.Made.{events_of, own, IsBeginning}
-use Rattle.bits_core.specs.Memory.{count_below, is_flicker_at}
-use Rattle.bits_core.specs.Oracle.{turn}
 use Rattle.bits_core.specs.Shape.{batch_of}
 use Rattle.ring_core.specs.Items.{Tells}
 use Rattle.ring_core.specs.ProducerCalls.{IsPutOf}
@@ -37,25 +35,13 @@ IsProgram script P events = (calls : Puts) × ArePutsOf script calls × IsBeginn
 IsProgram script C events =
     (calls : Takes) × AreTakes script.shape 0 calls.takes calls.end × IsBeginning events (events_of C (take_program script.shape calls))
 
--- these events of the producer are those of whole calls that store all items, with the close if the script closes
-pub record IsDoneProducer (script : Content) (events : List Event) : Type 0 where
-  pub calls : Puts
-  pub are : ArePuts script.shape 0 calls.puts
-  pub all : stored_in 0 calls.puts ≡ length script.items
-  pub closes : calls.closes ≡ script.closes
-  pub whole : events ≡ events_of P (put_program script.shape calls)
-
--- these events of the consumer are those of whole calls that take as many items as the script wants, or are told that the
--- ring is closed
-pub record IsDoneConsumer (script : Content) (events : List Event) : Type 0 where
-  pub calls : Takes
-  pub are : AreTakes script.shape 0 calls.takes calls.end
-  pub enough : (taken_in 0 calls.takes ≡ script.takes) ⊎ Tells calls.end
-  pub whole : events ≡ events_of C (take_program script.shape calls)
-
+-- they are those of whole calls: of puts that store all items, with the close if the script closes; or of takes that take as
+-- many items as the script wants, or of which the last is told that the ring is closed
 abbrev pub IsDoneAfter : Content → Side → List Event → Type 0
-IsDoneAfter script P events = IsDoneProducer script events
-IsDoneAfter script C events = IsDoneConsumer script events
+IsDoneAfter script P events = (calls : Puts) × ArePuts script.shape 0 calls.puts × (events ≡ events_of P (put_program script.shape calls)) ×
+    (stored_in 0 calls.puts ≡ length script.items) × (calls.closes ≡ script.closes)
+IsDoneAfter script C events = (calls : Takes) × AreTakes script.shape 0 calls.takes calls.end × (events ≡ events_of C (take_program script.shape calls)) ×
+    ((taken_in 0 calls.takes ≡ script.takes) ⊎ Tells calls.end)
 
 -- a side is done in a history
 abbrev pub IsDone : Content → Side → List Event → Type 0
@@ -69,12 +55,24 @@ AreMoves script (letter ∷ letters) past later =
     (IsDone script letter past × AreMoves script letters past later) ⊎
     ((¬ IsDone script letter past) × ((e : Event) × (es : List Event) × (later ≡ e ∷ es) × (e.side ≡ letter) × AreMoves script letters (past ++ e ∷ []) es))
 
--- each ended read that a write overlaps has the oracle's next answer: of its characters in turn, from the first again after
--- the last, that behind as many as such reads had ended before it; and 0 where there are none
-abbrev pub AreInTurn : List Bool → List Event → Type 0
-AreInTurn oracle h =
-    (s : Side) (b : Bit) (start stop : ℕ) (v : Bool) → IsRead h s b start stop v → HasOverlap h b start stop →
-    v ≡ turn oracle (count_below stop (is_flicker_at h))
+-- at a place a read that a write overlaps ends with this answer
+abbrev pub EndsOverlapped : List Event → ℕ → Bool → Type 0
+EndsOverlapped h place v = (s : Side) × (b : Bit) × (start : ℕ) × IsRead h s b start place v × HasOverlap h b start place
+
+-- each place has a number: how many of these reads have ended before it
+pub record AreNumbered (h : List Event) (number : ℕ → ℕ) : Type 0 where
+  pub first : number 0 ≡ 0
+  pub next : (place : ℕ) (v : Bool) → EndsOverlapped h place v → number (suc place) ≡ suc (number place)
+  pub same : (place : ℕ) → ((v : Bool) → ¬ EndsOverlapped h place v) → number (suc place) ≡ number place
+
+-- each of them has the oracle's next answer: its characters in turn, from the first again after the last, and 0 where it has none
+unfoldable pub AreInTurn : List Bool → List Event → Type 0
+AreInTurn oracle h = (number : ℕ → ℕ) × AreNumbered h number ×
+    ((place : ℕ) (v : Bool) → EndsOverlapped h place v → v ≡ slice_index_or oracle (number place % length oracle) false)
+
+-- so many of them have ended
+unfoldable pub HasFlickers : List Event → ℕ → Type 0
+HasFlickers h count = (number : ℕ → ℕ) × AreNumbered h number × (count ≡ number (length h))
 
 -- a history that plays the script, whatever letters made it
 pub record IsPlayed (script : Content) (h : List Event) : Type 0 where

@@ -1,6 +1,8 @@
 //! What holds of every play of a script. Each law is the contract of a function that does nothing.
 ghost use Rattle.ring_player.specs.Headline.{EveryPlayFills, EveryPlayHolds};
+ghost use Rattle.ring_player.specs.Laws.{FlickersAreCounted};
 
+use bits_core::laws::flicker_is_by_interval;
 use ring_core::laws::{closed_stays, items_put_are_read, items_taken_are_read, ring_law};
 
 /// The sentence of the ring holds of every play of a script.
@@ -19,4 +21,11 @@ pub fn every_play_fills()
     ensures { EveryPlayFills }
 {
     ring_law();
+}
+
+/// In a lawful history as many reads have ended that a write overlaps, by intervals, as a memory counts flickers.
+pub fn flickers_are_counted()
+    ensures { FlickersAreCounted }
+{
+    flicker_is_by_interval();
 }

@@ -7,7 +7,7 @@ ghost use Rattle.bits_core.specs.declared.events.Access.{Access};
 ghost use Rattle.ring_core.specs.ProducerState.{due_put};
 ghost use Rattle.ring_player.specs.Actors.{HasWritten, IsPutting, digits_by, full_in_reply, put_once, so_far, stored_in_reply};
 ghost use Rattle.ring_player.specs.SoFar.{PutSoFar};
-ghost use Rattle.ring_player.specs.Plays.{IsDoneProducer};
+ghost use Rattle.ring_player.specs.Plays.{IsDoneAfter};
 ghost use Rattle.ring_script.specs.Borrowed.{content_of};
 
 use crate::actors::Actor;
@@ -131,7 +131,7 @@ impl<'a> PutActor<'a> {
         ensures script { content_of self.new.script ≡ content_of self.old.script }
         ensures counts { (self.new.digits ≡ self.old.digits) × (self.new.put ≡ self.old.put) }
         ensures stands { (list : List Made) → IsPutting (content_of self.old.script) self.old.producer (record { stored = self.old.stored; full = self.old.full }) list None → IsPutting (content_of self.new.script) self.new.producer (record { stored = self.new.stored; full = self.new.full }) list None }
-        ensures done { call_of self.new.producer ≡ None → (list : List Made) → IsPutting (content_of self.old.script) self.old.producer (record { stored = self.old.stored; full = self.old.full }) list None → IsDoneProducer (content_of self.old.script) (events_of side_is.P list) }
+        ensures done { call_of self.new.producer ≡ None → (list : List Made) → IsPutting (content_of self.old.script) self.old.producer (record { stored = self.old.stored; full = self.old.full }) list None → IsDoneAfter (content_of self.old.script) side_is.P (events_of side_is.P list) }
     {
         if self.producer.next().is_some() {
             return;

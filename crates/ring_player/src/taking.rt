@@ -6,7 +6,7 @@ ghost use Rattle.bits_core.specs.Made.{Made, events_of};
 ghost use Rattle.ring_core.specs.ConsumerState.{due_take, is_taking};
 ghost use Rattle.ring_player.specs.Actors.{IsTaking, so_far};
 ghost use Rattle.ring_player.specs.SoFar.{TakenSoFar};
-ghost use Rattle.ring_player.specs.Plays.{IsDoneConsumer};
+ghost use Rattle.ring_player.specs.Plays.{IsDoneAfter};
 ghost use Rattle.ring_script.specs.Borrowed.{content_of};
 
 use crate::actors::Actor;
@@ -91,7 +91,7 @@ impl<'a, T: Store<u64>> TakeActor<'a, T> {
         ensures script { content_of self.new.script ≡ content_of self.old.script }
         ensures taken { (T.items self.new.taken ≡ T.items self.old.taken) × (T.room self.new.taken ≡ T.room self.old.taken) }
         ensures stands { (list : List Made) → IsTaking (content_of self.old.script) self.old.consumer (T.items self.old.taken) self.old.told self.old.empty list None → IsTaking (content_of self.new.script) self.new.consumer (T.items self.new.taken) self.new.told self.new.empty list None }
-        ensures done { is_taking self.new.consumer ≡ false → (list : List Made) → IsTaking (content_of self.old.script) self.old.consumer (T.items self.old.taken) self.old.told self.old.empty list None → IsDoneConsumer (content_of self.old.script) (events_of side_is.C list) }
+        ensures done { is_taking self.new.consumer ≡ false → (list : List Made) → IsTaking (content_of self.old.script) self.old.consumer (T.items self.old.taken) self.old.told self.old.empty list None → IsDoneAfter (content_of self.old.script) side_is.C (events_of side_is.C list) }
     {
         if self.consumer.next().is_some() {
             return;

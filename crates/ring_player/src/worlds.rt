@@ -8,8 +8,8 @@ ghost use Rattle.ring_core.specs.Over.{empties, fulls, puts_over_in, takes_over_
 ghost use Rattle.ring_core.specs.Puts.{FollowsPuts, Puts};
 ghost use Rattle.ring_core.specs.Takes.{FollowsTakes, Takes};
 ghost use Rattle.ring_player.specs.Actors.{IsMove};
-ghost use Rattle.ring_player.specs.Headline.{FillsRing, HoldsHeadline};
-ghost use Rattle.ring_player.specs.Plays.{Plays, sides};
+ghost use Rattle.ring_player.specs.Headline.{IsPlayOf};
+ghost use Rattle.ring_player.specs.Plays.{HasFlickers, Plays, sides};
 ghost use Rattle.ring_script.specs.Borrowed.{content_of};
 
 use crate::actors::advance;
@@ -17,7 +17,7 @@ use crate::faults::PlayFault;
 use crate::laws::{every_play_fills, every_play_holds};
 use crate::putting::PutActor;
 use crate::taking::TakeActor;
-use bits_core::laws::{flicker_is_by_interval, open_changes, overlap_is_by_interval, own_changes};
+use bits_core::laws::{flicker_is_by_interval, open_changes, own_changes};
 use bits_core::{Event, Memory, Side, Store, Tape};
 use ring_core::laws::{calls_over_are_read, items_put_are_read, items_taken_are_read};
 use ring_script::{Script, ScriptRef};
@@ -82,16 +82,13 @@ impl<'a, E: Store<Event>, T: Store<u64>> World<'a, E, T> {
         }
     }
 
-    /// The history so far: the play of the script by the sides of its own events.
+    /// The history so far: the play of the script by the sides of its own events. The sentence of the ring holds of it.
     pub fn history(&self) -> &[Event]
         ensures history { result.now ≡ self.now.history }
-        ensures plays { Plays self.now.script (sides self.now.history) self.now.history }
-        ensures headline { HoldsHeadline self.now.script self.now.history }
-        ensures batches { FillsRing self.now.script self.now.history }
+        ensures plays { IsPlayOf self.now.script (sides self.now.history) self.now.history }
     {
         every_play_holds();
         every_play_fills();
-        overlap_is_by_interval();
         flicker_is_by_interval();
         self.memory.events()
     }
@@ -162,6 +159,7 @@ impl<'a, E: Store<Event>, T: Store<u64>> World<'a, E, T> {
     /// What was played. It takes no memory.
     pub fn report(self) -> Report<'a, E, T>
         ensures history { E.items result.history ≡ self.entry.history }
+        ensures plays { IsPlayOf self.entry.script (sides self.entry.history) (E.items result.history) }
         ensures put { (puts : Puts) → FollowsPuts self.entry.script.shape self.entry.history puts → result.put.now ≡ items_put_in self.entry.script.shape self.entry.history puts }
         ensures taken { (takes : Takes) → FollowsTakes self.entry.script.shape self.entry.history takes → T.items result.taken ≡ items_taken_in self.entry.script.shape self.entry.history takes }
         ensures told { (takes : Takes) → FollowsTakes self.entry.script.shape self.entry.history takes → (result.told ≡ true) ↔ ToldIn self.entry.script.shape self.entry.history takes }
@@ -170,6 +168,7 @@ impl<'a, E: Store<Event>, T: Store<u64>> World<'a, E, T> {
         ensures flicker { result.flicker ≡ flicker_count self.entry.history }
     {
         items_taken_are_read();
+        self.history();
         self.consumer.look();
         let put = self.put_items();
         let told = self.consumer.told();
@@ -206,8 +205,7 @@ impl<'a, E: Store<Event>, T: Store<u64>> World<'a, E, T> {
         ensures full { OnErr result ((self.old.event_room ≤ length self.old.history) ⊎ (self.old.item_room ≤ self.old.taken)) }
         ensures few { length self.new.history ≤ length self.old.history + 1 }
         ensures letters { OnOk result ((letters : List Side) → Plays self.old.script letters self.old.history → Plays self.new.script (letters ++ side ∷ []) self.new.history) }
-        ensures headline { HoldsHeadline self.new.script self.new.history }
-        ensures batches { FillsRing self.new.script self.new.history }
+        ensures plays { IsPlayOf self.new.script (sides self.new.history) self.new.history }
     {
         let moved = self.step_side(side);
         self.history();
@@ -324,15 +322,13 @@ pub fn play<'a, A: Allocator + Copy, B: Allocator>(
     alloc: A,
     script: &'a Script<B>,
 ) -> Result<Report<'a, Vec<Event, A>, Vec<u64, A>>, PlayFault>
-    ensures plays { IfOk result (λ r. Plays script.now script.now.letters r.history.items) }
-    ensures headline { IfOk result (λ r. HoldsHeadline script.now r.history.items) }
-    ensures batches { IfOk result (λ r. FillsRing script.now r.history.items) }
+    ensures plays { IfOk result (λ r. IsPlayOf script.now script.now.letters r.history.items) }
     ensures put { IfOk result (λ r. (puts : Puts) → FollowsPuts script.now.shape r.history.items puts → r.put.now ≡ items_put_in script.now.shape r.history.items puts) }
     ensures taken { IfOk result (λ r. (takes : Takes) → FollowsTakes script.now.shape r.history.items takes → r.taken.items ≡ items_taken_in script.now.shape r.history.items takes) }
     ensures told { IfOk result (λ r. (takes : Takes) → FollowsTakes script.now.shape r.history.items takes → (r.told ≡ true) ↔ ToldIn script.now.shape r.history.items takes) }
     ensures full { IfOk result (λ r. (puts : Puts) → FollowsPuts script.now.shape r.history.items puts → r.full ≡ fulls (puts_over_in script.now.shape r.history.items puts)) }
     ensures empty { IfOk result (λ r. (takes : Takes) → FollowsTakes script.now.shape r.history.items takes → r.empty ≡ empties (takes_over_in script.now.shape r.history.items takes)) }
-    ensures flicker { IfOk result (λ r. r.flicker ≡ flicker_count r.history.items) }
+    ensures flicker { IfOk result (λ r. HasFlickers r.history.items r.flicker) }
 {
     let letters = script.len();
     play_first(script.as_ref(), letters, Vec::new(alloc), Vec::new(alloc))
@@ -351,15 +347,13 @@ pub fn play_first<'a, E: Store<Event>, T: Store<u64>>(
 ) -> Result<Report<'a, E, T>, PlayFault>
     requires no_events { E.items events ≡ [] }
     requires none_taken { T.items taken ≡ [] }
-    ensures plays { IfOk result (λ r. Plays (content_of script.entry) (take letters (content_of script.entry).letters) (E.items r.history)) }
-    ensures headline { IfOk result (λ r. HoldsHeadline (content_of script.entry) (E.items r.history)) }
-    ensures batches { IfOk result (λ r. FillsRing (content_of script.entry) (E.items r.history)) }
+    ensures plays { IfOk result (λ r. IsPlayOf (content_of script.entry) (take letters (content_of script.entry).letters) (E.items r.history)) }
     ensures put { IfOk result (λ r. (puts : Puts) → FollowsPuts (content_of script.entry).shape (E.items r.history) puts → r.put.now ≡ items_put_in (content_of script.entry).shape (E.items r.history) puts) }
     ensures taken { IfOk result (λ r. (takes : Takes) → FollowsTakes (content_of script.entry).shape (E.items r.history) takes → T.items r.taken ≡ items_taken_in (content_of script.entry).shape (E.items r.history) takes) }
     ensures told { IfOk result (λ r. (takes : Takes) → FollowsTakes (content_of script.entry).shape (E.items r.history) takes → (r.told ≡ true) ↔ ToldIn (content_of script.entry).shape (E.items r.history) takes) }
     ensures full { IfOk result (λ r. (puts : Puts) → FollowsPuts (content_of script.entry).shape (E.items r.history) puts → r.full ≡ fulls (puts_over_in (content_of script.entry).shape (E.items r.history) puts)) }
     ensures empty { IfOk result (λ r. (takes : Takes) → FollowsTakes (content_of script.entry).shape (E.items r.history) takes → r.empty ≡ empties (takes_over_in (content_of script.entry).shape (E.items r.history) takes)) }
-    ensures flicker { IfOk result (λ r. r.flicker ≡ flicker_count (E.items r.history)) }
+    ensures flicker { IfOk result (λ r. HasFlickers (E.items r.history) r.flicker) }
     // A letter gives one event at most.
     ensures few { IfOk result (λ r. length (E.items r.history) ≤ min letters (length (content_of script.entry).letters)) }
     // A refusal comes only where the history has no room for as many events as letters are played, or the items taken have none for
@@ -368,6 +362,7 @@ pub fn play_first<'a, E: Store<Event>, T: Store<u64>>(
 {
     every_play_holds();
     every_play_fills();
+    flicker_is_by_interval();
     let mut world = World::over(script, events, taken);
     let played = run_first(&mut world, script, letters);
     world.few_taken();

@@ -18,8 +18,7 @@ use Rattle.bits_core.specs.declared.traces.TraceFault.TheVariants as trace
 use Rattle.ring_audit.specs.Audit.{IsFinding, SaysSentence, Statement}
 use Rattle.ring_audit.specs.Audit as audit
 use Rattle.ring_audit.specs.declared.faults.AuditFault.TheVariants as finding
-use Rattle.ring_player.specs.Headline.{FillsRing, HoldsHeadline}
-use Rattle.ring_player.specs.Plays.{Plays}
+use Rattle.ring_player.specs.Headline.{IsPlayOf}
 use Rattle.ring_player.specs.declared.faults.PlayFault.TheVariants as play
 use Rattle.ring_script.specs.Faults.{IsScriptFault}
 use Rattle.ring_script.specs.Script.{Content, IsScript}
@@ -86,28 +85,23 @@ pub record AuditsPrograms (input text : List ℕ) (ending : Ending) : Type 0 whe
   pub words : text ≡ audit_text_of found
   pub ends : ending ≡ finding_ending_of found
 
--- the input is a script, and this is the history of its play, by the letters of its schedule
-pub record IsPlayed (input : List ℕ) (content : Content) (history : List Event) : Type 0 where
-  pub is_script : IsScript input content
-  pub plays : Plays content content.letters history
-  pub headline : HoldsHeadline content history
-  pub batches : FillsRing content history
-
--- the text is that of a report of the play
+-- the input is a script, and the text is that of a report of its play, by the letters of its schedule
 pub record PlaysScript (input text : List ℕ) (ending : Ending) : Type 0 where
   pub content : Content
   pub history : List Event
   pub summary : Summary
-  pub played : IsPlayed input content history
+  pub is_script : IsScript input content
+  pub plays : IsPlayOf content content.letters history
   pub reports : Reports content history summary
   pub words : text ≡ report_text_of summary
   pub ends : ending ≡ Done
 
--- the text is a trace, of the play's history
+-- the input is a script, and the text is a trace, of the history of its play
 pub record TracesScript (input text : List ℕ) (ending : Ending) : Type 0 where
   pub content : Content
   pub history : List Event
-  pub played : IsPlayed input content history
+  pub is_script : IsScript input content
+  pub plays : IsPlayOf content content.letters history
   pub is_trace : IsTrace text content.shape history
   pub ends : ending ≡ Done
 

@@ -1,11 +1,11 @@
 -- What a report of a history of a script has to tell.
 use Rattle.std.specs.Prelude.{◌≡◌, ◌↔◌, true, List, length}
-use Rattle.bits_core.specs.Memory.{flicker_count}
 use Rattle.bits_core.specs.declared.events.Event.{Event}
 use Rattle.ring_core.specs.Items.{ToldIn, items_put_in, items_taken_in}
 use Rattle.ring_core.specs.Over.{empties, fulls, puts_over_in, takes_over_in}
 use Rattle.ring_core.specs.Puts.{FollowsPuts, Puts}
 use Rattle.ring_core.specs.Takes.{FollowsTakes, Takes}
+use Rattle.ring_player.specs.Plays.{HasFlickers}
 use Rattle.ring_script.specs.Script.{Content}
 use Rattle.ring_program.specs.Texts.{Summary}
 
@@ -19,4 +19,4 @@ pub record Reports (script : Content) (h : List Event) (summary : Summary) : Typ
   pub told : (takes : Takes) → FollowsTakes script.shape h takes → (summary.told ≡ true) ↔ ToldIn script.shape h takes
   pub full : (puts : Puts) → FollowsPuts script.shape h puts → summary.full ≡ fulls (puts_over_in script.shape h puts)
   pub empty : (takes : Takes) → FollowsTakes script.shape h takes → summary.empty ≡ empties (takes_over_in script.shape h takes)
-  pub flicker : summary.flicker ≡ flicker_count h
+  pub flicker : HasFlickers h summary.flicker

@@ -29,7 +29,7 @@ use Rattle.ring_run.specs.Below.{LawsBelow}
 use Rattle.ring_run.specs.Counters.{count_place, their_place, cell_place, words_of, first_counts, left_by, unary_over, IsLastCount, IsLastItem, ShowsWords, KeptWords, and_events, AddedAll, Nothing, IsBelow}
 use Rattle.ring_run.proofs.Histories.{either_side}
 use Rattle.ring_run.proofs.Rights.{AllRight, scan_right, unary_right, word_write_right, reads_right}
-use Rattle.ring_run.proofs.Moves.{set-same, ring_empty, first_seat, no_load}
+use Rattle.ring_run.proofs.Moves.{set-same, ring_empty, first_seat, first_each, each_stays, no_load}
 use Rattle.ring_run.proofs.Blocks.{wrote, Answers, Blocked, block}
 use Rattle.ring_run.proofs.LastWrites.{Spares, spares_writes, spared, spared_bits, IsLast, stays_last, is_last_now, Lowest, count_shows, item_shows, held_left}
 
@@ -103,6 +103,7 @@ module _ (laws : LawsBelow) (shape : Shape) where
           wide = length-set s.words place (f n) ∙ k.wide;
           shows = g.shows blocked;
           begins = begins;
+          each = each_stays k.owner s.views id me.0 w at (λ y can. may_step-more x y es me.0 ∙ can) k.each;
           seats = seats_more x acts h k.known k.owner s.views id me.0 blocked at mine not_theirs k.seats;
         },
         record {
@@ -472,5 +473,6 @@ opens laws shape = record {
   wide = length-replicate (words_of shape) 0;
   shows = shows_first shape;
   begins = ([], refl);
+  each = first_each;
   seats = first_seat;
 }

@@ -1,5 +1,6 @@
 -- What a take that finds the ring empty says of the puts that its taker knows.
-use Rattle.std.proofs.Common.{◌≡◌, ◌⊎◌, inl, inr, ⊎_elim, ℕ, zero, suc, ◌+◌, ◌*◌, ◌<◌, ◌≤◌, Bool, true, false, Some, None, List, [], ◌∷◌, ◌++◌, length, take, refl, ap, sym, subst, ◌∙◌, arith, append-nil, append_assoc, length-append}
+use Rattle.std.proofs.lemmas.Bool.Decides.{nat_tests}
+use Rattle.std.proofs.Common.{◌≡◌, ◌⊎◌, inl, inr, ⊎_elim, ℕ, zero, suc, ◌+◌, ◌-◌, ◌*◌, ◌<◌, ◌≤◌, nat_le, if◌then◌else◌, Bool, true, false, Some, None, List, [], ◌∷◌, ◌++◌, length, take, refl, ap, sym, subst, ◌∙◌, arith, append-nil, append_assoc, length-append}
 use Rattle.std.specs.Prelude.{slice_get}
 use native.Mathlib.Decide.{dec_lt}
 use Rattle.bits_core.specs.declared.events.Side.{Side}
@@ -8,6 +9,7 @@ use Rattle.bits_core.specs.declared.events.Bit.TheVariants.{X}
 use Rattle.bits_core.specs.declared.events.Event.{Event}
 use Rattle.bits_core.specs.declared.shapes.Shape.{Shape}
 use Rattle.bits_core.specs.Bits.{is_by}
+use Rattle.bits_core.specs.Intervals.{IsWrite}
 use Rattle.bits_core.specs.Shape.{width_of}
 use Rattle.bits_core.specs.Laws.{MadeIsAccess}
 use Rattle.bits_core.specs.Made.{Made, Write, events_of, own, clock, place_of, IsPlaceOf, IsBeginning}
@@ -15,10 +17,10 @@ use Rattle.ring_core.specs.declared.consumers.TakeReply.TheVariants as reply
 use Rattle.ring_core.specs.Counts.{Count, first_count, past}
 use Rattle.ring_core.specs.Puts.{Put, Stored, Full, Puts, stored_in, stored_after, put_phrase, put_phrases, close_phrase, put_program}
 use Rattle.ring_core.specs.Takes.{Take, Item, ItemAfterClose, Empty, End, Open, Takes, taken_in, taken_after, take_phrase, take_phrases, end_phrase, take_program}
-use Rattle.ring_core.specs.Items.{events_in, all_put, all_taken}
-use Rattle.ring_core.specs.CallsAt.{IsTakeAt, scan_events, StoresItem, item_of}
+use Rattle.ring_core.specs.Items.{events_in, items_taken, all_put, all_taken}
+use Rattle.ring_core.specs.CallsAt.{IsTakeAt, items_ended, puts_ended, takes_ended}
 use Rattle.ring_core.specs.Readings.{PutsAreFirst, TakesAreRead}
-use Rattle.ring_core.specs.RingLaw.{IsRun, InEveryRun, IsEmptyAt, EmptyIsFresh}
+use Rattle.ring_core.specs.RingLaw.{IsRun, InEveryRun, EmptyIsFresh}
 use Rattle.ring_core.specs.ConsumerCalls as takes
 use Rattle.ring_core.specs.ConsumerCalls.{and_take, tells, reply_at_end}
 use Rattle.ring_run.specs.Rule.{Stands}
@@ -28,106 +30,49 @@ use Rattle.ring_run.proofs.Histories.{by_case}
 use Rattle.ring_run.proofs.Lists.{events_of-append, length-events_of}
 use Rattle.ring_run.proofs.TakerCalls.{last-snoc}
 
--- ---- the last item of some puts
+-- ---- how many items calls store and take that have ended
 
-last_of : (items : List ℕ) → (length items ≡ 0) ⊎ ((index : ℕ) × (item : ℕ) × (slice_get items index ≡ Some item) × (suc index ≡ length items))
-last_of [] = inl refl
-last_of (x ∷ []) = inr (0, x, refl, refl)
-last_of (x ∷ y ∷ items) = ⊎_elim (λ none. absurd (omega (arith, none))) (λ r. inr (suc r.0, r.1, r.2, ap suc r.3)) (last_of (y ∷ items))
+by_true : (b : Bool) (xs ys : List ℕ) → b ≡ true → length ((if b then xs else []) ++ ys) ≡ length xs + length ys
+by_true true xs ys e = length-append xs ys
+by_true false xs ys e = absurd (cc)
 
-past_is : (n : ℕ) (items : List ℕ) → past n items ≡ n + length items
+at_most : (b : Bool) (x : ℕ) (ys : List ℕ) → length ((if b then x ∷ [] else []) ++ ys) ≤ suc (length ys)
+at_most true x ys = omega arith
+at_most false x ys = omega arith
+
+pub past_is : (n : ℕ) (items : List ℕ) → past n items ≡ n + length items
 past_is n [] = omega arith
 past_is n (x ∷ items) = omega (arith, past_is (suc n) items)
 
--- the put that stored it, behind n items
-record LastStored (n : ℕ) (puts : List Put) : Type 0 where
-  pub before : List Put
-  pub seen : ℕ
-  pub items : List ℕ
-  pub after : List Put
-  pub among : puts ≡ before ++ Stored seen items ∷ after
-  pub index : ℕ
-  pub item : ℕ
-  pub listed : slice_get items index ≡ Some item
-  pub number : suc (stored_in n before + index) ≡ n + length (all_put puts)
+within_le : (a b : ℕ) → a ≤ b → nat_le a b ≡ true
+within_le a b l = grind (arith, nat_tests)
 
-last_stored : (n : ℕ) (puts : List Put) → (length (all_put puts) ≡ 0) ⊎ LastStored n puts
-last_stored n [] = inl refl
-last_stored n (Full seen ∷ puts) = ⊎_elim
-    (λ none. inl none)
-    (λ (r : LastStored n puts). inr (record { before = Full seen ∷ r.before; seen = r.seen; items = r.items; after = r.after; among = ap (λ l. Full seen ∷ l) r.among; index = r.index; item = r.item; listed = r.listed; number = r.number }))
-    (last_stored n puts)
-last_stored n (Stored seen items ∷ puts) =
-    let long : length (items ++ all_put puts) ≡ length items + length (all_put puts) = length-append items (all_put puts) in
-    ⊎_elim
-    (λ (none : length (all_put puts) ≡ 0). ⊎_elim
-    (λ (nothing : length items ≡ 0). inl (omega (arith, long, none, nothing)))
-    (λ here. inr (record { before = []; seen = seen; items = items; after = puts; among = refl; index = here.0; item = here.1; listed = here.2; number = omega (arith, long, none, here.3) }))
-    (last_of items))
-    (λ (r : LastStored (past n items) puts).
-    let number : suc (stored_in (past n items) r.before + r.index) ≡ n + length (items ++ all_put puts) = omega (arith, r.number, past_is n items, long) in
-    inr (record { before = Stored seen items ∷ r.before; seen = r.seen; items = r.items; after = r.after; among = ap (λ l. Stored seen items ∷ l) r.among; index = r.index; item = r.item; listed = r.listed; number = number }))
-    (last_stored (past n items) puts)
-
--- more puts have more accesses
-grows : (shape : Shape) (c : Count) (xs ys : List Put) → length (put_phrases shape c xs) ≤ length (put_phrases shape c (xs ++ ys))
-grows shape c [] ys = omega arith
-grows shape c (x ∷ xs) ys =
+-- puts that have all ended have stored all their items
+ended_least :
+    (shape : Shape) (c : Count) (puts more : List Put) (t : ℕ) → events_in (put_phrases shape c puts) ≤ t →
+    length (all_put puts) ≤ length (items_ended shape c (puts ++ more) t)
+ended_least shape c [] more t l = omega arith
+ended_least shape c (x ∷ puts) more t l =
     let next : Count = stored_after shape c x in
-    omega (arith, length-append (put_phrase shape c x) (put_phrases shape next xs), length-append (put_phrase shape c x) (put_phrases shape next (xs ++ ys)), grows shape next xs ys)
+    let phrase : ℕ = events_in (put_phrase shape c x) in
+    let parts = length-append (put_phrase shape c x) (put_phrases shape next puts) in
+    let here = by_true (nat_le phrase t) (all_put (x ∷ [])) (items_ended shape next (puts ++ more) (t - phrase)) (within_le phrase t (omega (arith, l, parts))) in
+    omega (arith, here, ended_least shape next puts more (t - phrase) (omega (arith, l, parts)), one_more_put x puts)
+  where
+    one_more_put : (x : Put) (puts : List Put) → length (all_put (x ∷ puts)) ≡ length (all_put (x ∷ [])) + length (all_put puts)
+    one_more_put (Stored seen items) puts = omega (arith, length-append items (all_put puts), length-append items [])
+    one_more_put (Full seen) puts = omega arith
 
--- that item, among calls which begin with these puts
-record StoresLast (shape : Shape) (puts : List Put) (calls : Puts) : Type 0 where
-  pub j : ℕ
-  pub item : ℕ
-  pub word : ℕ
-  pub stop : ℕ
-  pub stores : StoresItem shape calls j item word stop
-  pub last : suc j ≡ length (all_put puts)
-  pub within : stop ≤ events_in (put_phrases shape first_count puts)
-
-stores_last : (shape : Shape) (puts : List Put) (calls : Puts) (more : List Put) → calls.puts ≡ puts ++ more → LastStored 0 puts → StoresLast shape puts calls
-stores_last shape puts calls more is r =
-    let x : Put = Stored r.seen r.items in
-    let start : ℕ = events_in (put_phrases shape first_count r.before) in
-    let stop : ℕ = events_in (put_phrases shape first_count (r.before ++ x ∷ [])) in
-    let longer : stop ≤ events_in (put_phrases shape first_count ((r.before ++ x ∷ []) ++ r.after)) = omega (arith, grows shape first_count (r.before ++ x ∷ []) r.after) in
-    record {
-      j = stored_in 0 r.before + r.index;
-      item = r.item;
-      word = start + scan_events P r.seen + 2 * (r.index * width_of shape);
-      stop = stop;
-      stores = record {
-        seen = r.seen;
-        items = r.items;
-        n = stored_in 0 r.before;
-        start = start;
-        index = r.index;
-        is_put = record {
-          before = r.before;
-          after = r.after ++ more;
-          among = is ∙ ap (λ l. l ++ more) r.among ∙ append_assoc r.before (x ∷ r.after) more;
-          number = refl;
-          starts = refl;
-          stops = refl;
-        };
-        listed = r.listed;
-        number = refl;
-        writes = refl;
-      };
-      last = omega (arith, r.number);
-      within = subst (λ l. stop ≤ events_in (put_phrases shape first_count l)) (append_assoc r.before (x ∷ []) r.after ∙ sym r.among) longer;
-    }
-
--- ---- how many items are taken
-
-counted : (k : ℕ) (before : List Take) (x : Take) (after : List Take) (item : ℕ) → item_of x ≡ Some item → suc (taken_in k before) ≤ k + length (all_taken (before ++ x ∷ after))
-counted k [] (Item seen i) after item has = omega arith
-counted k [] (ItemAfterClose seen again i) after item has = omega arith
-counted k [] (Empty seen) after item has = absurd (cc)
-counted k (Item seen i ∷ before) x after item has = omega (arith, counted (suc k) before x after item has)
-counted k (ItemAfterClose seen again i ∷ before) x after item has = omega (arith, counted (suc k) before x after item has)
-counted k (Empty seen ∷ before) x after item has = counted k before x after item has
+-- takes take no more items than all of them
+ended_most : (shape : Shape) (k : ℕ) (takes : List Take) (t : ℕ) → length (items_taken shape k takes t) ≤ length (all_taken takes)
+ended_most shape k [] t = omega arith
+ended_most shape k (Item seen item ∷ takes) t =
+    let phrase : ℕ = events_in (take_phrase shape k (Item seen item)) in
+    omega (arith, at_most (nat_le phrase t) item (items_taken shape (suc k) takes (t - phrase)), ended_most shape (suc k) takes (t - phrase))
+ended_most shape k (ItemAfterClose seen again item ∷ takes) t =
+    let phrase : ℕ = events_in (take_phrase shape k (ItemAfterClose seen again item)) in
+    omega (arith, at_most (nat_le phrase t) item (items_taken shape (suc k) takes (t - phrase)), ended_most shape (suc k) takes (t - phrase))
+ended_most shape k (Empty seen ∷ takes) t = ended_most shape k takes (t - events_in (take_phrase shape k (Empty seen)))
 
 none_more : (xs : List Take) (seen : ℕ) → all_taken (xs ++ Empty seen ∷ []) ≡ all_taken xs
 none_more [] seen = refl
@@ -143,14 +88,14 @@ own_mine s e h by = rw by refl
 own_theirs : (s : Side) (e : Event) (h : List Event) → is_by s e ≡ false → own s (e ∷ h) ≡ own s h
 own_theirs s e h by = rw by refl
 
-own_append : (s : Side) (h more : List Event) → own s (h ++ more) ≡ own s h ++ own s more
+pub own_append : (s : Side) (h more : List Event) → own s (h ++ more) ≡ own s h ++ own s more
 own_append s [] more = refl
 own_append s (e ∷ h) more = by_case (is_by s e)
     (λ by. own_mine s e (h ++ more) by ∙ ap (λ l. e ∷ l) (own_append s h more) ∙ sym (ap (λ l. l ++ own s more) (own_mine s e h by)))
     (λ by. own_theirs s e (h ++ more) by ∙ own_append s h more ∙ sym (ap (λ l. l ++ own s more) (own_theirs s e h by)))
 
 -- before a place of a beginning of the history a side has no more events than in that, and behind it no fewer
-inside : (s : Side) (known more : List Event) (place : ℕ) → place ≤ length known → clock s (known ++ more) place ≤ length (own s known)
+pub inside : (s : Side) (known more : List Event) (place : ℕ) → place ≤ length known → clock s (known ++ more) place ≤ length (own s known)
 inside s known more zero l = omega arith
 inside s [] more (suc n) l = absurd (omega (arith, l))
 inside s (e ∷ known) more (suc n) l =
@@ -159,7 +104,7 @@ inside s (e ∷ known) more (suc n) l =
     (λ by. omega (arith, rest, ap length (own_mine s e (take n (known ++ more)) by), ap length (own_mine s e known by)))
     (λ by. omega (arith, rest, ap length (own_theirs s e (take n (known ++ more)) by), ap length (own_theirs s e known by)))
 
-behind : (s : Side) (known more : List Event) (place : ℕ) → length known ≤ place → length (own s known) ≤ clock s (known ++ more) place
+pub behind : (s : Side) (known more : List Event) (place : ℕ) → length known ≤ place → length (own s known) ≤ clock s (known ++ more) place
 behind s [] more place l = omega arith
 behind s (e ∷ known) more zero l = absurd (omega (arith, l))
 behind s (e ∷ known) more (suc n) l =
@@ -167,6 +112,16 @@ behind s (e ∷ known) more (suc n) l =
     by_case (is_by s e)
     (λ by. omega (arith, rest, ap length (own_mine s e (take n (known ++ more)) by), ap length (own_mine s e known by)))
     (λ by. omega (arith, rest, ap length (own_theirs s e (take n (known ++ more)) by), ap length (own_theirs s e known by)))
+
+-- an own event of a side that is not among those of the known history stands behind it
+pub later_than : (s : Side) (known more h : List Event) (start place : ℕ) → known ++ more ≡ h → clock s h (suc place) ≡ suc start → length (own s known) ≤ start → length known ≤ place
+later_than s known more h start place is past long = go (dec_lt place (length known))
+  where
+    go : Dec (place < length known) → length known ≤ place
+    go (yes l) =
+        let few : clock s (known ++ more) (suc place) ≤ length (own s known) = inside s known more (suc place) (omega (arith, l)) in
+        absurd (omega (arith, few, ap (λ l. clock s l (suc place)) is, past, long))
+    go (no l) = omega (arith, l)
 
 there : (xs : List Made) (x : Made) (ys : List Made) → slice_get (xs ++ x ∷ ys) (length xs) ≡ Some x
 there [] x ys = refl
@@ -208,7 +163,8 @@ module _ (law : InEveryRun EmptyIsFresh) (first : PutsAreFirst) (made : MadeIsAc
   over =
       omega (arith, ap length (st.list_is ∙ has.list_is), length-events_of C (take_program shape more), length-append (take_phrases shape 0 (calls.takes ++ Empty seen ∷ [])) [])
 
-  fresh : (first : ℕ) × IsPlaceOf C h start first × IsEmptyAt shape h st.ring.puts more first
+  fresh : (first : ℕ) × IsPlaceOf C h start first × (puts_ended shape st.ring.puts (clock P h first) ≤ takes_ended shape more (clock C h first)) ×
+      ((v : Bool) (from to : ℕ) → IsWrite h X v from to → ¬ (to < first))
   fresh = law shape h st.ring.puts more run seen (taken_in 0 calls.takes) start (events_in (take_phrases shape 0 (calls.takes ++ Empty seen ∷ []))) is_take over
 
   abbrev place : ℕ
@@ -222,14 +178,7 @@ module _ (law : InEveryRun EmptyIsFresh) (first : PutsAreFirst) (made : MadeIsAc
 
   -- it began behind what is known
   later : length known ≤ place
-  later = go (dec_lt place (length known))
-    where
-      go : Dec (place < length known) → length known ≤ place
-      go (yes l) =
-          let few : clock C (known ++ rest) (suc place) ≤ length (own C known) = inside C known rest (suc place) (omega (arith, l)) in
-          let past : clock C h (suc place) ≡ suc start = fresh.1.past in
-          absurd (omega (arith, few, ap (λ l. clock C l (suc place)) h_is, past, before_long, ap length begins.1, length-append (own C known) begins.0))
-      go (no l) = omega (arith, l)
+  later = later_than C known rest h start place h_is fresh.1.past (omega (arith, before_long, ap length begins.1, length-append (own C known) begins.0))
 
   own_known : IsBeginning (own P known) (own P h)
   own_known = (own P rest, sym (own_append P known rest) ∙ ap (own P) h_is)
@@ -248,18 +197,14 @@ module _ (law : InEveryRun EmptyIsFresh) (first : PutsAreFirst) (made : MadeIsAc
   behind_known : (place' : ℕ) → length known ≤ place' → length (own P known) ≤ clock P h place'
   behind_known place' l = subst (λ l. length (own P known) ≤ clock P l place') h_is (behind P known rest place' l)
 
-  -- the last item of the known puts was taken before it
+  -- the items of the known puts were taken before it
   pub items : length (all_put puts.puts) ≤ length (all_taken calls.takes)
-  items = ⊎_elim
-      (λ (none : length (all_put puts.puts) ≡ 0). omega (arith, none))
-      (λ (r : LastStored 0 puts.puts).
-      let s = stores_last shape puts.puts st.ring.puts are_first.0.0 are_first.0.1 r in
-      let ended : s.stop ≤ clock P h place = omega (arith, s.within, known_long, behind_known place later) in
-      let (word, past, taken, done) = fresh.2.all_taken s.j s.item s.word s.stop s.stores ended in
-      let is = taken.is_take in
-      let few : suc (taken_in 0 is.before) ≤ length (all_taken (is.before ++ taken.take ∷ is.after)) = omega (arith, counted 0 is.before taken.take is.after s.item taken.has) in
-      omega (arith, s.last, is.number, few, ap (λ l. length (all_taken l)) is.among, ap length (none_more calls.takes seen)))
-      (last_stored 0 puts.puts)
+  items =
+      let ended : length (all_put puts.puts) ≤ length (items_ended shape first_count (puts.puts ++ are_first.0.0) (clock P h place)) =
+      ended_least shape first_count puts.puts are_first.0.0 (clock P h place) (omega (arith, known_long, behind_known place later)) in
+      let same : puts_ended shape st.ring.puts (clock P h place) ≡ length (items_ended shape first_count (puts.puts ++ are_first.0.0) (clock P h place)) =
+      ap (λ l. length (items_ended shape first_count l (clock P h place))) are_first.0.1 in
+      omega (arith, ended, same, fresh.2, ended_most shape 0 more.takes (clock C h place), ap length (none_more calls.takes seen))
 
   -- and no close is among them
   pub open_yet : puts.closes ≡ false
@@ -272,7 +217,7 @@ module _ (law : InEveryRun EmptyIsFresh) (first : PutsAreFirst) (made : MadeIsAc
       let (stop, at) = made P h (put_program shape st.ring.puts) st.ring.run.puts_follow.events (length phrases) (Write X true)
       (ap (λ l. slice_get l (length phrases)) program ∙ there phrases (Write X true) []) (omega (arith, long, more_own)) in
       let ended = (at.ended (omega (arith, long, more_own))).0 in
-      let not_before : ¬ (stop < place) = fresh.2.not_closed true (place_of P h (2 * length phrases)) stop at.access in
+      let not_before : ¬ (stop < place) = fresh.3 true (place_of P h (2 * length phrases)) stop at.access in
       let begun : length known ≤ stop = omega (arith, not_before, later) in
       absurd (omega (arith, long, behind_known stop begun, ended.before)))
       (λ no_close. no_close)

@@ -9,6 +9,7 @@ pub mod CounterTakes
 pub mod CounterTold
 pub mod CounterTakerCalls
 pub mod Emptied
+pub mod Filled
 pub mod Histories
 pub mod Idle
 pub mod LastWrites

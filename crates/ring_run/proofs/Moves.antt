@@ -1,11 +1,11 @@
 -- Each step keeps the rule of the ring.
-use Rattle.std.proofs.Common.{◌≡◌, ◌≢◌, ℕ, zero, suc, ◌<◌, Bool, true, false, true≢false, ◌⊎◌, List, [], ◌∷◌, ◌++◌, replicate, length, get_or, set, slice_index, Some, None, sym, refl, ap, ◌∙◌, subst, inl, inr, ⊎_elim, append_assoc, append-nil, length-set, get_or-set_same, get_or-set_other}
+use Rattle.std.proofs.Common.{arith, ◌≡◌, ◌≢◌, ℕ, zero, suc, ◌<◌, Bool, true, false, true≢false, ◌⊎◌, List, [], ◌∷◌, ◌++◌, replicate, length, get_or, set, slice_index, Some, None, sym, refl, ap, ◌∙◌, subst, inl, inr, ⊎_elim, append_assoc, append-nil, length-set, get_or-set_same, get_or-set_other}
 use Rattle.std.specs.Prelude.{if◌then◌else◌}
 use Rattle.std.proofs.lemmas.List.{length-replicate}
 use mathlib.Core.Option.{some, some-injective, some-ne-none}
 use lib.ListN.{get_elem?}
-use Rattle.atomic_table.specs.Table.{Me, keeps, opening, Allows, Splits, Joins}
-use Rattle.atomic_table.proofs.Lists.{at_set}
+use Rattle.atomic_table.specs.Table.{Me, State, keeps, opening, Allows, Enters, Splits, Joins}
+use Rattle.atomic_table.proofs.Lists.{at_set, at_snoc, at_last, at_longer, set_else}
 use Rattle.bits_core.specs.declared.shapes.Shape.{Shape}
 use Rattle.bits_core.specs.declared.events.Side.{Side}
 use Rattle.bits_core.specs.declared.events.Side.TheVariants.{P, C}
@@ -26,7 +26,7 @@ use Rattle.ring_run.specs.declared.views.View.{View}
 use Rattle.ring_run.specs.declared.layout.TheConstants.{FIRST_S}
 use Rattle.ring_run.specs.Words.{digit, shown, answer_of, first_r, word_place, word_count, first_words, Shows}
 use Rattle.ring_run.specs.Programs.{Follows, IsRing, GoesOn}
-use Rattle.ring_run.specs.Rule.{event, joint, spent, putter_of, taker_of, joined, may_step, list_of, kept_load, and_event, IsIdle, FirstLoad, Fits, FitsAll, KeptBy, Kept, Added, Learned}
+use Rattle.ring_run.specs.Rule.{event, joint, spent, putter_of, taker_of, joined, may_step, list_of, kept_load, and_event, IsIdle, FirstLoad, Fits, FitsAll, HasSeats, KeptBy, Kept, IsFound, Added, Learned}
 use Rattle.ring_run.specs.Below.{LawsBelow}
 use Rattle.ring_run.proofs.Places.{one_or_apart, place_below, shows_first}
 use Rattle.ring_run.proofs.Histories.{same_side-same, either_side, before_last-mine, before_last-theirs, own-mine, own-theirs, open-mine, open-theirs, shown-read_begin, shown-read_end, shown-apart, shown-write_begin, shown-write_end, permitted}
@@ -71,6 +71,27 @@ list_of-mine C e got v = refl
 pub may_step-more : (x y : Side) (e : Event) (got : ℕ) (v : View) → may_step y (and_event x e got v) ≡ may_step y v
 may_step-more x P e got v = refl
 may_step-more x C e got v = refl
+
+-- ---- for each side there is a seat that may step for it
+
+same_or_not : (a b : ℕ) → (a ≡ b) ⊎ (a ≢ b)
+same_or_not a b = grind arith
+
+set_there : (views : List View) (id : ℕ) (v w : View) → get_elem? views id ≡ some v → get_elem? (set views id w) id ≡ some w
+set_there [] id v w at = absurd (some-ne-none v (sym at))
+set_there (x ∷ xs) zero v w at = refl
+set_there (x ∷ xs) (suc id) v w at = set_there xs id v w at
+
+-- also where one of them has another view, by which it may step as before
+pub each_stays : (owner : Side → ℕ) (views : List View) (id : ℕ) (v w : View) → get_elem? views id ≡ some v → ((y : Side) → may_step y v ≡ true → may_step y w ≡ true) → HasSeats owner views → HasSeats owner (set views id w)
+each_stays owner views id v w at may each y =
+    let (u, there, can) = each y in
+    ⊎_elim
+    (λ (same : owner y ≡ id).
+    let is : u ≡ v = some-injective u v (sym there ∙ ap (get_elem? views) same ∙ at) in
+    (w, ap (get_elem? (set views id w)) same ∙ set_there views id v w at, may y (ap (may_step y) (sym is) ∙ can)))
+    (λ (apart : owner y ≢ id). (u, set_else views id (owner y) w apart ∙ there, can))
+    (same_or_not (owner y) id)
 
 -- what a step leaves open
 pub opened_by : LawsBelow → (x : Side) (b : Bit) (a : Act) (got : ℕ) (v w : View) → w ≡ and_event x (event x b a) got v → open_access x (list_of x w) ≡ Rattle.bits_core.specs.Bits.begun_access b a
@@ -169,6 +190,7 @@ module _ (laws : LawsBelow) (shape : Shape) where
           wide = length-set s.words (word_place shape b) (f n) ∙ k.wide;
           shows = shows_more s.words x b a h (f n) lawful g.may k.wide has k.shows g.word;
           begins = begins;
+          each = each_stays k.owner s.views id me.0 w at (λ y can. may_step-more x y e (got n) me.0 ∙ can) k.each;
           seats = seats_more x b a h k.known k.owner s.views id me.0 (got n) at mine not_theirs g.load k.seats;
         },
         record {
@@ -282,6 +304,11 @@ split_seats h known owner views id v there puts takes all seat u at y may =
     right_fits seat u is same C may = subst (λ (w : View). Fits h known (two_seats id (length views)) seat w C) same
         (let f = all id v there C takes in record { at = is; list = f.list; known_is = f.known_is; also_is = f.also_is; load = f.load })
 
+split_each : (views : List View) (id : ℕ) (v : View) → get_elem? views id ≡ some v → HasSeats (two_seats id (length views)) (set views id (putter_of v) ++ taker_of v ∷ [])
+unfolding two_seats
+split_each views id v at P = (putter_of v, at_longer (set views id (putter_of v)) (taker_of v ∷ []) id (putter_of v) (set_there views id v (putter_of v) at), refl)
+split_each views id v at C = (taker_of v, at_last (set views id (putter_of v)) (taker_of v) (length views) (length-set views id (putter_of v)), refl)
+
 pub splits : (count : Shape → ℕ) (IsShown : Shape → List ℕ → List Event → Type 0) (shape : Shape) (id : ℕ) (v : View) → v.puts ≡ true → v.takes ≡ true → Splits (KeptBy count IsShown shape) id v (putter_of v) (taker_of v)
 splits count IsShown shape id v puts takes s k at = record {
   history = k.history;
@@ -291,6 +318,7 @@ splits count IsShown shape id v puts takes s k at = record {
   wide = k.wide;
   shows = k.shows;
   begins = k.begins;
+  each = split_each s.views id v at;
   seats = split_seats k.history k.known k.owner s.views id v at puts takes k.seats;
 }
 
@@ -332,6 +360,17 @@ module _ (laws : LawsBelow) (shape : Shape) where
       both_fit seat u is same C = subst (λ (t : View). Fits h known (two_seats id id) seat t C) same
           (record { at = is; list = taker.list; known_is = putter.known_is; also_is = taker.known_is; load = no_load C h 0 (open_there laws shape C None w.taken h taker.list idle') })
 
+  join_each : (views : List View) (id : ℕ) (v : View) (there : ℕ) (w : View) → get_elem? views id ≡ some v → ¬ (there ≡ id) → HasSeats (two_seats id id) (set (set views id (joined v w)) there spent)
+  unfolding two_seats
+  join_each views id v there w at apart = both
+    where
+      joint_at : get_elem? (set (set views id (joined v w)) there spent) id ≡ some (joined v w)
+      joint_at = set_else (set views id (joined v w)) there id spent (λ e. apart (sym e)) ∙ set_there views id v (joined v w) at
+
+      both : HasSeats (two_seats id id) (set (set views id (joined v w)) there spent)
+      both P = (joined v w, joint_at, refl)
+      both C = (joined v w, joint_at, refl)
+
   pub joins : (count : Shape → ℕ) (IsShown : Shape → List ℕ → List Event → Type 0) (id : ℕ) (v : View) (there : ℕ) (w : View) → v.puts ≡ true → w.takes ≡ true → IsIdle P v.put → IsIdle C w.taken
       → Joins (KeptBy count IsShown shape) id v there w (joined v w) spent
   joins count IsShown id v there w puts takes idle idle' s k at apart at' = record {
@@ -342,6 +381,7 @@ module _ (laws : LawsBelow) (shape : Shape) where
     wide = k.wide;
     shows = k.shows;
     begins = k.begins;
+    each = join_each s.views id v there w at apart;
     seats = join_seats k.history k.known k.owner s.views id v there w at apart
         (⊎_elim (λ (same : (there ≡ id) × (joined v w ≡ w)). absurd (apart same.0)) (λ (t : (there ≢ id) × (get_elem? s.views there ≡ some w)). t.1) (at_set s.views id there (joined v w) w at'))
         puts takes idle idle' k.seats;
@@ -356,6 +396,11 @@ set-same (x ∷ xs) (suc i) = ap (λ (l : List ℕ). x ∷ l) (set-same xs i)
 
 abbrev knower : View → List Event → View
 knower v h = joint v.put v.taken h h
+
+-- the joint view may step for both sides
+knows_both : (v : View) (h : List Event) (y : Side) → may_step y (knower v h) ≡ true
+knows_both v h P = refl
+knows_both v h C = refl
 
 module _ (laws : LawsBelow) (shape : Shape) where
   learn_seats : (h known : List Event) (owner : Side → ℕ) (views : List View) (id : ℕ) (v : View) → get_elem? views id ≡ some v → v.puts ≡ true → v.takes ≡ true → IsIdle P v.put → IsIdle C v.taken → FitsAll h known owner views
@@ -399,6 +444,7 @@ module _ (laws : LawsBelow) (shape : Shape) where
           wide = length-set s.words i (slice_index s.words i) ∙ k.wide;
           shows = subst (λ (l : List ℕ). IsShown shape l h) (sym (set-same s.words i)) k.shows;
           begins = ([], append-nil h);
+          each = each_stays k.owner s.views id me.0 (knower me.0 h) at (λ y can. knows_both me.0 h y) k.each;
           seats = learn_seats h k.known k.owner s.views id me.0 at puts takes idle idle' k.seats;
         },
         record {
@@ -421,6 +467,10 @@ first_seat zero v at P may = subst (λ (w : View). Fits [] [] (λ _. 0) 0 w P) (
 first_seat zero v at C may = subst (λ (w : View). Fits [] [] (λ _. 0) 0 w C) (some-injective _ _ at) (record { at = refl; list = refl; known_is = refl; also_is = refl; load = λ b o. absurd (cc) })
 first_seat (suc seat) v at x may = absurd (some-ne-none v (sym at))
 
+pub first_each : HasSeats (λ _. 0) (joint [] [] [] [] ∷ [])
+first_each P = (joint [] [] [] [], refl, refl)
+first_each C = (joint [] [] [] [], refl, refl)
+
 pub opens : LawsBelow → (shape : Shape) → Kept shape (opening (first_words shape) [] (joint [] [] [] []))
 opens laws shape = record {
   history = [];
@@ -430,5 +480,30 @@ opens laws shape = record {
   wide = length-set (set (replicate (word_count shape) 0) FIRST_S 1) (first_r shape) 1 ∙ (length-set (replicate (word_count shape) 0) FIRST_S 1 ∙ length-replicate (word_count shape) 0);
   shows = shows_first shape;
   begins = ([], refl);
+  each = first_each;
   seats = first_seat;
 }
+
+-- a load by no end
+
+never_steps : (x : Side) (u : View) → spent ≡ u → may_step x u ≡ true → ⊥
+never_steps P u same may = true≢false (sym may ∙ ap (λ (w : View). w.puts) (sym same))
+never_steps C u same may = true≢false (sym may ∙ ap (λ (w : View). w.takes) (sym same))
+
+-- it finds the word of a state that keeps the rule
+pub finds : (count : Shape → ℕ) (IsShown : Shape → List ℕ → List Event → Type 0) (shape : Shape) (slots place : ℕ) → Enters (KeptBy count IsShown shape) slots place (λ n _. IsFound (KeptBy count IsShown shape) place n)
+finds count IsShown shape slots place s k homes small = (
+  spent,
+  record {
+    history = k.history;
+    known = k.known;
+    owner = k.owner;
+    ring = k.ring;
+    wide = k.wide;
+    shows = k.shows;
+    begins = k.begins;
+    each = λ x. (let (v, at, may) = k.each x in (v, at_longer s.views (spent ∷ []) (k.owner x) v at, may));
+    seats = λ seat v at x may. ⊎_elim (λ was. k.seats seat v was x may) (λ same. absurd (never_steps x v same may)) (at_snoc s.views spent v seat at);
+  },
+  (s, k, refl),
+)

@@ -1,16 +1,20 @@
 -- What a caller of the ends may rest on.
-use Rattle.std.specs.Prelude.{◌≡◌, ℕ, ◌<◌, ◌≤◌, false, List, length, slice_index}
+use Rattle.std.specs.Prelude.{◌≡◌, ℕ, ◌+◌, ◌<◌, ◌≤◌, false, List, length, slice_index}
 use Rattle.bits_core.specs.declared.shapes.Shape.{Shape}
 use Rattle.bits_core.specs.declared.events.Side.TheVariants.{P, C}
 use Rattle.bits_core.specs.declared.events.Event.{Event}
+use Rattle.bits_core.specs.Shape.{capacity_of}
 use Rattle.bits_core.specs.Made.{own, IsBeginning}
+use Rattle.ring_core.specs.declared.producers.PutReply.TheVariants as single
+use Rattle.ring_core.specs.declared.producers.BatchReply.{BatchReply}
+use Rattle.ring_core.specs.declared.producers.BatchReply.TheVariants as several
 use Rattle.ring_core.specs.declared.consumers.TakeReply.{TakeReply}
 use Rattle.ring_core.specs.declared.consumers.TakeReply.TheVariants.{Empty}
 use Rattle.ring_core.specs.Puts.{Puts}
 use Rattle.ring_core.specs.Takes.{Takes}
 use Rattle.ring_core.specs.Items.{all_put, all_taken}
 use Rattle.ring_run.specs.Rule.{Stands}
-use Rattle.ring_run.specs.Ends.{HasPuts, HasTakes, HasTaken}
+use Rattle.ring_run.specs.Ends.{HasPuts, HasPut, HasPutAll, HasTakes, HasTaken}
 use Rattle.ring_run.specs.Counters.{ShowsWords, words_of}
 
 -- A taker knows a history, whose puts are whole, and has made whole takes, those of that history among them. Where the next take
@@ -21,6 +25,27 @@ EmptyAfterMeeting =
     HasPuts shape (own P known) puts → HasTakes shape before takes → IsBeginning (own C known) before →
     Stands shape C after known → HasTaken shape before after Empty →
     (length (all_put puts.puts) ≤ length (all_taken takes.takes)) × (puts.closes ≡ false)
+
+-- A putter knows a history, whose takes are whole, and has made whole puts, those of that history among them. Where the next put
+-- finds the ring full, the items of its puts, less those of these takes, are at least the capacity.
+abbrev pub FullAfterMeeting : Type 0
+FullAfterMeeting =
+    (shape : Shape) (known before after : List Event) (takes : Takes) (puts : Puts) (items : List ℕ) →
+    HasTakes shape (own C known) takes → HasPuts shape before puts → IsBeginning (own P known) before →
+    Stands shape P after known → HasPutAll shape items before after several.Full →
+    length (all_taken takes.takes) + capacity_of shape ≤ length (all_put puts.puts)
+
+-- and so where the next put is one of a single item
+abbrev pub ItemFullAfterMeeting : Type 0
+ItemFullAfterMeeting =
+    (shape : Shape) (known before after : List Event) (takes : Takes) (puts : Puts) (item : ℕ) →
+    HasTakes shape (own C known) takes → HasPuts shape before puts → IsBeginning (own P known) before →
+    Stands shape P after known → HasPut shape item before after single.Full →
+    length (all_taken takes.takes) + capacity_of shape ≤ length (all_put puts.puts)
+
+-- a put leaves the list that was there, and adds to it
+abbrev pub PutsAdd : Type 0
+PutsAdd = (shape : Shape) (items : List ℕ) (before after : List Event) (reply : BatchReply) → HasPutAll shape items before after reply → IsBeginning before after
 
 -- a take leaves the list that was there, and adds to it
 abbrev pub TakesAdd : Type 0

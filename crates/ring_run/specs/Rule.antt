@@ -1,5 +1,5 @@
 -- The rule of the ring over its words and views, and what its steps tell.
-use Rattle.std.specs.Prelude.{◌≡◌, ℕ, Bool, true, false, List, [], ◌∷◌, ◌++◌, length, Some, None}
+use Rattle.std.specs.Prelude.{◌≡◌, ℕ, Bool, true, false, List, [], ◌∷◌, ◌++◌, length, slice_index, Some, None}
 use mathlib.Core.Option.{some}
 use lib.ListN.{get_elem?}
 use Rattle.atomic_table.specs.Table.{State, Me}
@@ -92,8 +92,13 @@ abbrev pub FitsAll : List Event → List Event → (Side → ℕ) → List View 
 FitsAll h known owner views =
     (seat : ℕ) (v : View) → get_elem? views seat ≡ some v → (x : Side) → may_step x v ≡ true → Fits h known owner seat v x
 
+-- for each side there is a seat that may step for it
+abbrev pub HasSeats : (Side → ℕ) → List View → Type 0
+HasSeats owner views = (x : Side) → (v : View) × (get_elem? views (owner x) ≡ some v) × (may_step x v ≡ true)
+
 -- There is a lawful history, whose two sides are the two seats' lists and follow their programs, which the words show, and
--- which begins with what the seats know. A ring says how many words it has and what they show
+-- which begins with what the seats know; and for each side there is one seat that may step for it, and no other. A ring says
+-- how many words it has and what they show
 pub record KeptBy (count : Shape → ℕ) (IsShown : Shape → List ℕ → List Event → Type 0) (shape : Shape) (s : State (Unit {0}) View) : Type 0 where
   pub history : List Event
   pub known : List Event
@@ -102,11 +107,16 @@ pub record KeptBy (count : Shape → ℕ) (IsShown : Shape → List ℕ → List
   pub wide : length s.words ≡ count shape
   pub shows : IsShown shape s.words history
   pub begins : IsBeginning known history
+  pub each : HasSeats owner s.views
   pub seats : FitsAll history known owner s.views
 
 -- the rule of the flickering ring
 abbrev pub Kept : Shape → State (Unit {0}) View → Type 0
 Kept shape s = KeptBy word_count Shows shape s
+
+-- the word at the place is this in a state that keeps the rule
+abbrev pub IsFound : (State (Unit {0}) View → Type 0) → ℕ → ℕ → Type 0
+IsFound holds place word = (s : State (Unit {0}) View) × holds s × (slice_index s.words place ≡ word)
 
 -- the side has no access open
 abbrev pub IsIdle : Side → List Event → Type 0

@@ -2,10 +2,13 @@
 //! ring.
 
 use crate::counter_putters::CounterPutter;
+use crate::counter_rings::CounterRing;
 use crate::counter_takers::CounterTaker;
-use crate::ends::{PutEnd, TakeEnd};
+use crate::ends::{PutEnd, RingOf, TakeEnd};
+use crate::meetings::Finished;
 use bits_core::Shape;
 use ring_core::{BatchReply, PutReply, TakeReply};
+use std::alloc::{Allocator, Global};
 
 impl<'a> PutEnd for CounterPutter<'a> {
     ghost end = { λ p. p };
@@ -44,5 +47,18 @@ impl<'a> TakeEnd for CounterTaker<'a> {
 
     fn take(&mut self) -> TakeReply {
         self.take_item()
+    }
+}
+
+impl<'a, A: Allocator> RingOf<CounterPutter<'a>, CounterTaker<'a>> for CounterRing<A> {
+    fn meet(
+        putter: CounterPutter<'a>,
+        taker: CounterTaker<'a>,
+    ) -> (CounterPutter<'a>, CounterTaker<'a>) {
+        CounterRing::<Global>::meet(putter, taker)
+    }
+
+    fn finish(putter: CounterPutter<'a>, taker: CounterTaker<'a>) -> Finished {
+        CounterRing::<Global>::finish(putter, taker)
     }
 }

@@ -7,13 +7,13 @@ ghost use Rattle.ring_run.specs.Relays.{IsRelayed};
 use crate::counter_rings::CounterRing;
 use crate::faults::RunFault;
 use crate::gates::Gate;
-use crate::relays::{Limits, Outcome, relay};
+use crate::relays::{Limits, Outcome, relay_through, room_for};
 use bits_core::Shape;
 use ring_core::laws::{ring_law, whole_calls_count};
 use std::alloc::Allocator;
 use std::thread::Threads;
 
-// Makes a ring and its ends, relays, and ends the ring's run.
+// Makes a ring and its ends, relays, and ends the ring's run. Once there are the ring and the room, nothing is refused.
 fn relay_words<R: Threads, A: Allocator + Copy, G: Gate + Sync>(
     rt: &R,
     alloc: A,
@@ -26,10 +26,9 @@ fn relay_words<R: Threads, A: Allocator + Copy, G: Gate + Sync>(
     ensures { IfOk result (λ r. IsRelayed shape items.now limits.puts limits.takes r.put r.calls r.full r.taken.items r.empty r.closed) }
 {
     let (ring, start) = CounterRing::new(alloc, shape)?;
-    let (mut putter, mut taker) = ring.ends(start);
-    let outcome = relay(rt, alloc, &mut putter, &mut taker, items, limits, gate)?;
-    let _finished = CounterRing::finish(putter, taker);
-    Ok(outcome)
+    let taken = room_for(alloc, items, limits)?;
+    let (putter, taker) = ring.ends(start);
+    Ok(relay_through(&ring, rt, taken, putter, taker, items, limits, gate))
 }
 
 /// Makes a counter ring and its ends, relays, and ends the ring's run. What it came to is counted in one lawful history
@@ -37,8 +36,9 @@ fn relay_words<R: Threads, A: Allocator + Copy, G: Gate + Sync>(
 /// first of those that were stored; once the taker was told that the ring is closed, all items were put and taken; and
 /// no more were stored and not taken than the ring has cells.
 ///
-/// Every item has to fit the width. It takes memory for the words of the ring and for the items that are taken.
-/// `OutOfMemory` is answered only where the allocator refused some.
+/// Every item has to fit the width. It takes memory for the words of the ring and, before the first put, for all items
+/// that can be taken. `OutOfMemory` is answered only where the allocator refused some: all memory is taken before the ends
+/// are made, so no call was made then, and no item put or taken.
 pub fn relay_counter<R: Threads, A: Allocator + Copy, G: Gate + Sync>(
     rt: &R,
     alloc: A,

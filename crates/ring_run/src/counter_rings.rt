@@ -1,17 +1,17 @@
 //! The counter ring.
-ghost use Rattle.std.specs.Prelude.{◌≡◌, [], IfOk};
-ghost use Rattle.ring_run.specs.Rule.{joint};
-ghost use Rattle.ring_run.specs.Counters.{first_counts};
+ghost use Rattle.std.specs.Prelude.{◌≡◌, ◌<◌, [], IfOk};
+ghost use Rattle.ring_run.specs.Rule.{IsFound, joint};
+ghost use Rattle.ring_run.specs.Counters.{KeptWords, first_counts, words_of};
 
 use crate::below::laws_below;
-use crate::counter_words::{CounterWords, WordLaw};
+use crate::counter_words::{CounterRule, CounterWords};
 use crate::faults::RunFault;
 use crate::rings::Start;
 use crate::views::View;
-use atomic_table::Table;
+use atomic_table::{Shared, Table};
 use bits_core::Shape;
 use std::alloc::{AllocError, Allocator};
-use std::marker::Model;
+use std::marker::{Brand, Model};
 
 /// The ring of one producer and one consumer on a machine with atomic words, shared by two threads with no lock
 /// (Lamport 1977).
@@ -28,7 +28,7 @@ use std::marker::Model;
 pub struct CounterRing<A: Allocator> {
     // unused, as `after` is: they keep other values off the cache lines of this one
     before: [u64; 8],
-    table: Table<(), View, Shape, WordLaw, A>,
+    table: Table<(), View, Shape, CounterRule, A>,
     shape: Shape,
     after: [u64; 8],
 }
@@ -73,6 +73,24 @@ impl<A: Allocator> CounterRing<A> {
         ensures { result ≡ self.now.shape }
     {
         self.shape
+    }
+
+    /// The words of the ring, with the rule that holds of them between any two atomic steps of whichever thread. Its
+    /// type says so: a step of a [`Shared`] has to keep the rule of its type, for its key, which is the ring's shape.
+    pub fn table(&self) -> &Shared<(), View, Shape, CounterRule>
+        ensures { (result.now.key ≡ self.now.shape) × (result.now.table_id ≡ self.now.id) × (result.now.table_id.words ≡ words_of self.now.shape) }
+    {
+        &self.table.shared
+    }
+
+    /// Loads a word: number 0 is that of the close bit, 1 the producer's counter, 2 the consumer's, and 3 + j that of
+    /// cell j. Any thread may do so at any time, whatever the two ends are at, and it is no event of theirs. The word is
+    /// that of a state which keeps the ring's rule ([`CounterRule`]). The place is below 3 and the capacity.
+    pub fn observe(&self, place: usize) -> u64
+        requires { place < words_of self.now.shape }
+        ensures { IsFound (KeptWords self.now.shape) place result }
+    {
+        self.words().find::<Brand>(place)
     }
 
     // The words as an end reaches them.

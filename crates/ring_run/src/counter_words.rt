@@ -2,7 +2,7 @@
 ghost use Rattle.std.specs.Prelude.{◌≡◌, ℕ, ◌<◌, true, []};
 ghost use Rattle.atomic_table.specs.Table.{Allows};
 ghost use Rattle.bits_core.specs.declared.events.Side.TheVariants.{P, C};
-ghost use Rattle.ring_run.specs.Rule.{Learned, Holds, IsIdle, joint, joined, putter_of, taker_of};
+ghost use Rattle.ring_run.specs.Rule.{Learned, Holds, IsFound, IsIdle, joint, joined, putter_of, taker_of};
 ghost use Rattle.ring_run.specs.Counters.{KeptWords, AddedAll, words_of};
 
 use crate::below::laws_below;
@@ -11,10 +11,17 @@ use atomic_table::{Play, Seat, Shared, TableRule};
 use bits_core::Shape;
 use std::marker::{Brand, Model, PhantomData};
 
-// Between any two steps there is one lawful history with no access open, and each word is what was last written.
-pub struct WordLaw;
+/// The rule of a counter ring's table, for the shape that is the table's key. It holds between any two atomic steps of
+/// whichever thread, for each step has to keep it. There is one lawful history of safe bits whose two sides follow
+/// their programs, such that
+/// - no access is open in it, and the words show it: the word of a counter is the value of its side's last count write,
+///   0 before any; that of a cell is the item last written to it, 0 before any; that of the close bit is what it holds;
+/// - for each side of the ring there is one seat that may step for it, and no other, and that seat's list is the
+///   history's events of the side;
+/// - it begins with what the two sides knew at their last meeting.
+pub struct CounterRule;
 
-impl TableRule<(), View, Shape> for WordLaw {
+impl TableRule<(), View, Shape> for CounterRule {
     ghost use Rattle.std.specs.Prelude.{[]};
     ghost use Rattle.ring_run.specs.Rule.{joint};
     ghost use Rattle.ring_run.specs.Counters.{KeptWords};
@@ -68,10 +75,22 @@ impl<N: Block> Play<(), View> for AddsAll<N> {
     ghost then = { λ _. AddedAll N.shape N.side N.made N.tells };
 }
 
+// A load by no end, which finds the word of a state that keeps the rule.
+pub struct FindsWord<N> {
+    note: PhantomData<N>,
+}
+
+impl<N: Note> Play<(), View> for FindsWord<N> {
+    ghost use Rattle.ring_run.specs.Rule.{IsFound};
+    ghost use Rattle.ring_run.specs.Counters.{KeptWords};
+
+    ghost then = { λ step _ n _. IsFound (KeptWords N.shape) step.word n };
+}
+
 // The words of a counter ring, by which one of its ends steps. To a contract they are that ring.
 #[derive(Drop)]
 pub struct CounterWords<'a> {
-    shared: &'a Shared<(), View, Shape, WordLaw>,
+    shared: &'a Shared<(), View, Shape, CounterRule>,
     shape: Shape,
 }
 
@@ -89,7 +108,10 @@ impl<'a> Model for CounterWords<'a> {
 
 impl<'a> CounterWords<'a> {
     // The words of a table whose key is the shape.
-    pub(crate) fn of(shared: &'a Shared<(), View, Shape, WordLaw>, shape: Shape) -> CounterWords<'a>
+    pub(crate) fn of(
+        shared: &'a Shared<(), View, Shape, CounterRule>,
+        shape: Shape,
+    ) -> CounterWords<'a>
         requires { (shared.now.key ≡ shape) × (shared.now.table_id.words ≡ words_of shape) }
         ensures { result ≡ record { shape = shape; id = shared.now.table_id } }
     {
@@ -132,6 +154,16 @@ impl<'a> CounterWords<'a> {
         ensures added { AddedAll N.shape N.side N.made N.tells seat.old.me new seat.new.me }
     {
         self.shared.store::<AddsAll<N>>(seat, word, new);
+    }
+
+    // A load by no end.
+    pub(crate) fn find<N: Note>(&self, word: usize) -> u64
+        requires own { word < words_of self.now.shape }
+        requires shape { N.shape ≡ self.now.shape }
+        ensures { IsFound (KeptWords self.now.shape) word result }
+    {
+        let (found, _seat) = self.shared.load_new_seat::<FindsWord<N>>(word);
+        found
     }
 
     // Cuts the joint seat in two.

@@ -1,9 +1,12 @@
 //! The two ends of a ring, as a relay and other callers use them.
 
+use crate::meetings::Finished;
 use crate::putters::Putter;
+use crate::rings::FlickerRing;
 use crate::takers::Taker;
 use bits_core::{Oracle, Shape};
 use ring_core::{BatchReply, PutReply, TakeReply};
+use std::alloc::{Allocator, Global};
 
 /// An end that puts. Its meaning is the list of its events: each call adds exactly its own accesses, and answers what
 /// they came to.
@@ -97,6 +100,37 @@ pub trait TakeEnd {
         ensures answered { answered self.old self.new };
 }
 
+/// A kind of ring, by the type of its end that puts and of the one that takes: what both ends do together, in the same
+/// words for each kind.
+pub trait RingOf<E: PutEnd, F: TakeEnd> {
+    ghost use Rattle.std.specs.Prelude.{◌≡◌};
+    ghost use Rattle.bits_core.specs.declared.events.Side.TheVariants.{P, C};
+    ghost use Rattle.ring_run.specs.Hands.{StandsAs};
+    ghost use Rattle.ring_run.specs.Meetings.{Keeps, Meets, ClosesAre, TellsAre};
+
+    /// Both ends learn one lawful history, whose sides are their two lists and which begins with what each knew. All
+    /// later calls of both stand behind it. The ends are those of one ring, with no call under way; they come back with
+    /// the same lists. It makes no access and takes no memory.
+    fn meet(putter: E, taker: F) -> (E, F)
+        requires ring { (E.end putter).ring ≡ (F.end taker).ring }
+        requires idle { E.idle putter × F.idle taker }
+        ensures putter { Keeps (E.end putter) (E.end result.0) × E.idle result.0 }
+        ensures taker { Keeps (F.end taker) (F.end result.1) × F.idle result.1 }
+        ensures one { (F.end result.1).known ≡ (E.end result.0).known }
+        ensures meets { Meets (E.end putter) (F.end taker) (E.end result.0).known }
+        ensures lawful { StandsAs P (E.end result.0) × StandsAs C (F.end result.1) };
+
+    /// Ends the ring's run, of which one lawful history is left, whose sides are the two lists and which begins with
+    /// what each end knew. The ends are those of one ring, with no call under way; they are gone. It makes no access and
+    /// takes no memory.
+    fn finish(putter: E, taker: F) -> Finished
+        requires ring { (E.end putter).ring ≡ (F.end taker).ring }
+        requires idle { E.idle putter × F.idle taker }
+        ensures meets { Meets (E.end putter) (F.end taker) result.history }
+        ensures closed { ClosesAre (E.end putter).ring.shape (E.end putter).list result.closed }
+        ensures told { TellsAre (F.end taker).ring.shape (F.end taker).list result.told };
+}
+
 impl<'a, O: Oracle + Drop> PutEnd for Putter<'a, O> {
     ghost use Rattle.std.specs.Prelude.{◌≡◌, None};
     ghost use Rattle.ring_run.specs.Hands.{AreAnswered};
@@ -140,5 +174,16 @@ impl<'a, O: Oracle + Drop> TakeEnd for Taker<'a, O> {
 
     fn take(&mut self) -> TakeReply {
         self.take_item()
+    }
+}
+
+impl<'a, A: Allocator, O1: Oracle + Drop, O2: Oracle + Drop> RingOf<Putter<'a, O1>, Taker<'a, O2>>
+    for FlickerRing<A> {
+    fn meet(putter: Putter<'a, O1>, taker: Taker<'a, O2>) -> (Putter<'a, O1>, Taker<'a, O2>) {
+        FlickerRing::<Global>::meet(putter, taker)
+    }
+
+    fn finish(putter: Putter<'a, O1>, taker: Taker<'a, O2>) -> Finished {
+        FlickerRing::<Global>::finish(putter, taker)
     }
 }

@@ -1,9 +1,11 @@
 //! What a caller of the ends may rest on, each the contract of a function that does nothing.
-ghost use Rattle.ring_run.specs.Laws.{EmptyAfterMeeting, TakesAdd, WordsAreTold};
+ghost use Rattle.ring_run.specs.Laws.{EmptyAfterMeeting, FullAfterMeeting, ItemFullAfterMeeting, PutsAdd, TakesAdd, WordsAreTold};
 
 use bits_core::laws::made_is_access;
 use register_core::laws::digits_tell_items;
-use ring_core::laws::{calls_are_first, counts_are_written, ring_law, takes_are_read};
+use ring_core::laws::{
+    calls_are_first, counts_are_written, puts_are_read, ring_law, takes_are_read,
+};
 
 /// No take is answered `Empty` while an item of a put that a meeting showed is not taken, nor once a meeting showed
 /// the close: of a taker that knows a history, and has made takes behind it, the next one finds the ring empty only
@@ -17,6 +19,25 @@ pub fn empty_after_meeting()
     takes_are_read();
     made_is_access();
 }
+
+/// No put is answered `Full` while there is room by what a meeting showed: of a putter that knows a history whose takes
+/// are whole, and has made puts behind it, the next one finds the ring full only where the items that its puts stored,
+/// less those that these takes took, are at least the capacity. By the law of the ring, which says that the ring was
+/// full where such a put began.
+pub fn full_after_meeting()
+    ensures several { FullAfterMeeting }
+    ensures single { ItemFullAfterMeeting }
+{
+    ring_law();
+    calls_are_first();
+    puts_are_read();
+}
+
+/// A put leaves the putter's list as it was and adds to it. So the list of a putter begins with its side of what a
+/// meeting showed, however many puts it made since.
+pub fn puts_add()
+    ensures { PutsAdd }
+{}
 
 /// A take leaves the taker's list as it was and adds to it. So the list of a taker begins with its side of what a
 /// meeting showed, however many takes it made since.

@@ -5,12 +5,10 @@ ghost use Rattle.bits_core.specs.Made.{IsBeginning};
 ghost use Rattle.bits_core.specs.Shape.{AllFit, batch_of, capacity_of};
 ghost use Rattle.ring_run.specs.Relays.{HasMadePuts, HasRelayedPuts, HasRelayedTakes, HasTakenMore, IsRelayed};
 
-use crate::ends::{PutEnd, TakeEnd};
+use crate::ends::{PutEnd, RingOf, TakeEnd};
 use crate::faults::RunFault;
 use crate::gates::Gate;
-use crate::putters::Putter;
 use crate::rings::FlickerRing;
-use crate::takers::Taker;
 use bits_core::{Oracle, Shape, Side};
 use ring_core::laws::{puts_are_read, ring_law, takes_are_read, whole_calls_count};
 use ring_core::{BatchReply, TakeReply};
@@ -138,7 +136,11 @@ pub struct Outcome<A: Allocator> {
 }
 
 // Room for as many items as can be taken where no more are taken than were put.
-fn room_for<A: Allocator>(alloc: A, items: &[u64], limits: Limits) -> Result<Vec<u64, A>, RunFault>
+pub(crate) fn room_for<A: Allocator>(
+    alloc: A,
+    items: &[u64],
+    limits: Limits,
+) -> Result<Vec<u64, A>, RunFault>
     ensures { IfOk result (λ v. (v.items ≡ []) × (min (length items.now) limits.takes ≤ vec_capacity v)) }
 {
     let room = (items.len() as u64).min(limits.takes);
@@ -224,35 +226,36 @@ pub fn relay<R: Threads, A: Allocator + Copy, E: PutEnd + Send, F: TakeEnd + Sen
     relay_into(rt, taken, putter, taker, items, limits, gate)
 }
 
-// A relay through one ring, whose run it ends: there is room for all items that are taken, for by the law of the ring
-// they are no more than were put.
-fn relay_ends<
-    'a,
+// A relay through the two ends of one ring of this kind, whose run it ends. Nothing is refused: there is room for all items
+// that are taken, for by the law of the ring they are no more than were put.
+pub(crate) fn relay_through<
+    K: RingOf<E, F>,
     R: Threads,
     A: Allocator,
-    O1: Oracle + Drop + Send,
-    O2: Oracle + Drop + Send,
+    E: PutEnd + Send,
+    F: TakeEnd + Send,
     G: Gate + Sync,
 >(
+    _ring: &K,
     rt: &R,
     taken: Vec<u64, A>,
-    mut putter: Putter<'a, O1>,
-    mut taker: Taker<'a, O2>,
+    mut putter: E,
+    mut taker: F,
     items: &[u64],
     limits: Limits,
     gate: &G,
 ) -> Outcome<A>
     requires room { (taken.items ≡ []) × (min (length items.now) limits.takes ≤ vec_capacity taken) }
-    requires ring { putter.end.ring ≡ taker.end.ring }
-    requires idle { (putter.call ≡ None) × (taker.taking ≡ false) }
-    requires fresh { (putter.end.list ≡ []) × (taker.end.list ≡ []) }
-    requires fit { AllFit putter.end.ring.shape items.now }
-    ensures { IsRelayed putter.entry.end.ring.shape items.now limits.puts limits.takes result.put result.calls result.full result.taken.items result.empty result.closed }
+    requires ring { (E.end putter).ring ≡ (F.end taker).ring }
+    requires idle { E.idle putter × F.idle taker }
+    requires fresh { ((E.end putter).list ≡ []) × ((F.end taker).list ≡ []) }
+    requires fit { AllFit (E.end putter).ring.shape items.now }
+    ensures { IsRelayed (E.end putter).ring.shape items.now limits.puts limits.takes result.put result.calls result.full result.taken.items result.empty result.closed }
 {
     ring_law();
     whole_calls_count();
     let outcome = relay_into(rt, taken, &mut putter, &mut taker, items, limits, gate);
-    let _finished = FlickerRing::finish(putter, taker);
+    let _finished = K::finish(putter, taker);
     match outcome {
         Ok(outcome) => outcome,
         Err(_) => unreachable!(),
@@ -282,7 +285,7 @@ fn relay_ring<
     let (ring, start) = FlickerRing::new(alloc, shape)?;
     let taken = room_for(alloc, items, limits)?;
     let (putter, taker) = ring.ends(start, oracle_p, oracle_c);
-    Ok(relay_ends(rt, taken, putter, taker, items, limits, gate))
+    Ok(relay_through(&ring, rt, taken, putter, taker, items, limits, gate))
 }
 
 /// Makes a ring and its ends, relays, and ends the ring's run. What it came to is counted in one lawful history of
@@ -291,7 +294,8 @@ fn relay_ring<
 /// and no more were stored and not taken than the ring has cells.
 ///
 /// Every item has to fit the width. It takes memory for the words of the ring and, before the first put, for all items
-/// that can be taken. `OutOfMemory` is answered only where the allocator refused some, and then no put was made.
+/// that can be taken. `OutOfMemory` is answered only where the allocator refused some: all memory is taken before the ends
+/// are made, so no call was made then, no item put or taken, and no oracle asked.
 pub fn relay_flicker<
     R: Threads,
     A: Allocator + Copy,

@@ -1,17 +1,18 @@
 //! The ring.
-ghost use Rattle.std.specs.Prelude.{◌≡◌, [], IfOk};
-ghost use Rattle.ring_run.specs.Rule.{joint};
-ghost use Rattle.ring_run.specs.Words.{first_words};
+ghost use Rattle.std.specs.Prelude.{◌≡◌, true, [], IfOk};
+ghost use Rattle.bits_core.specs.Shape.{belongs};
+ghost use Rattle.ring_run.specs.Rule.{Kept, IsFound, joint};
+ghost use Rattle.ring_run.specs.Words.{first_words, word_count, word_place};
 
 use crate::below::laws_below;
 use crate::faults::RunFault;
 use crate::layout::{FIRST_S, first_r, word_count};
-use crate::views::{Law, View};
+use crate::views::{FlickerRule, View};
 use crate::words::Words;
-use atomic_table::{Seat, Table};
-use bits_core::Shape;
+use atomic_table::{Seat, Shared, Table};
+use bits_core::{Bit, Shape};
 use std::alloc::{AllocError, Allocator};
-use std::marker::Model;
+use std::marker::{Brand, Model};
 
 /// The safe bits of one producer and one consumer, shared by two threads with no lock (Lamport 1977, over the
 /// registers of 1986).
@@ -26,7 +27,7 @@ use std::marker::Model;
 pub struct FlickerRing<A: Allocator> {
     // unused, as `after` is: they keep other values off the cache lines of this one
     before: [u64; 8],
-    table: Table<(), View, Shape, Law, A>,
+    table: Table<(), View, Shape, FlickerRule, A>,
     shape: Shape,
     after: [u64; 8],
 }
@@ -89,6 +90,27 @@ impl<A: Allocator> FlickerRing<A> {
         ensures { result ≡ self.now.shape }
     {
         self.shape
+    }
+
+    /// The words of the ring, with the rule that holds of them between any two atomic steps of whichever thread. Its
+    /// type says so: a step of a [`Shared`] has to keep the rule of its type, for its key, which is the ring's shape.
+    pub fn table(&self) -> &Shared<(), View, Shape, FlickerRule>
+        ensures { (result.now.key ≡ self.now.shape) × (result.now.table_id ≡ self.now.id) × (result.now.table_id.words ≡ word_count self.now.shape) }
+    {
+        &self.table.shared
+    }
+
+    /// Loads the word of a bit: 0 or 1, and 2 while a write of the bit is under way. Any thread may do so at any time,
+    /// whatever the two ends are at, and it is no event of theirs. The word is that of a state which keeps the ring's
+    /// rule ([`FlickerRule`]): so, at each moment, there is one lawful history whose two sides are the lists of the
+    /// two seats that may step, and this is what its bit shows. The bit is one of the ring's shape.
+    pub fn observe(&self, bit: Bit) -> u64
+        requires { belongs self.now.shape bit ≡ true }
+        ensures { IsFound (Kept self.now.shape) (word_place self.now.shape bit) result }
+    {
+        let words = self.words();
+        let place = words.word_of(bit);
+        words.find::<Brand>(place)
     }
 
     // The words as an end reaches them.

@@ -6,32 +6,47 @@ use bits_core::{Event, Shape};
 use std::collections::LinkedList;
 use std::marker::{Brand, PhantomData};
 
-// What the two loads of a read found. No value of it is made.
+/// What the two loads of a read found. It stands in contracts alone: no value of it is made.
 pub struct Loads {
+    /// What the first load found, where the read began.
     pub first: u64,
+    /// What the second load found, where it ended.
     pub found: u64,
 }
 
-// What a seat knows. No value of it is made.
+/// What a seat of a ring's table knows: the right to step for one side of the ring, or for both, with the list of the
+/// events that were made by it. Each end of a ring has one such seat. It stands in contracts alone: no value of it is
+/// made.
 pub struct View {
-    // It may step as the putter, and as the taker.
+    /// Whether it may step for the producer.
     pub puts: bool,
+    /// Whether it may step for the consumer.
     pub takes: bool,
+    /// The events of the producer, where it steps for that.
     pub put: LinkedList<Event>,
+    /// The events of the consumer, where it steps for that.
     pub taken: LinkedList<Event>,
-    // What the putter knew at the last meeting, and what the taker knew.
+    /// What the putter knew at the last meeting.
     pub known: LinkedList<Event>,
+    /// What the taker knew at the last meeting.
     pub also: LinkedList<Event>,
-    // The first load of the open read.
+    /// The first load of the read that is open.
     pub first: u64,
-    // What the loads of each read found that has ended since the ends were made or last met.
+    /// What the loads of each read found that has ended since the ends were made or last met.
     pub loads: LinkedList<Loads>,
 }
 
-// Between any two steps there is one lawful history.
-pub struct Law;
+/// The rule of a flickering ring's table, for the shape that is the table's key. It holds between any two atomic steps
+/// of whichever thread, for each step has to keep it. There is one lawful history of safe bits whose two sides follow
+/// their programs, such that
+/// - the words show it: the word of a bit is 2 where a write of the bit is open, else what the bit holds;
+/// - for each side of the ring there is one seat that may step for it, and no other, and that seat's list is the
+///   history's events of the side;
+/// - it begins with what the two sides knew at their last meeting;
+/// - where a read is open, the load that its seat keeps is what the word showed where the read began.
+pub struct FlickerRule;
 
-impl TableRule<(), View, Shape> for Law {
+impl TableRule<(), View, Shape> for FlickerRule {
     ghost use Rattle.std.specs.Prelude.{[]};
     ghost use Rattle.ring_run.specs.Rule.{Kept, joint};
 
@@ -81,6 +96,17 @@ impl<N: Note> Play<(), View> for Learns<N> {
     ghost use Rattle.ring_run.specs.Rule.{Learned};
 
     ghost then = { λ _ m _. Learned N.shape m };
+}
+
+// A load by no end, which finds the word of a state that keeps the rule.
+pub struct Finds<N> {
+    note: PhantomData<N>,
+}
+
+impl<N: Note> Play<(), View> for Finds<N> {
+    ghost use Rattle.ring_run.specs.Rule.{Kept, IsFound};
+
+    ghost then = { λ step _ n _. IsFound (Kept N.shape) step.word n };
 }
 
 // The joint view is cut in two.

@@ -1,14 +1,14 @@
 //! The words of a ring as its ends reach them.
-ghost use Rattle.std.specs.Prelude.{◌≡◌, ℕ, true, []};
+ghost use Rattle.std.specs.Prelude.{◌≡◌, ℕ, ◌<◌, true, []};
 ghost use Rattle.atomic_table.specs.Table.{Allows};
 ghost use Rattle.bits_core.specs.declared.events.Side.TheVariants.{P, C};
 ghost use Rattle.bits_core.specs.Shape.{belongs};
-ghost use Rattle.ring_run.specs.Rule.{Kept, Added, Learned, Holds, IsIdle, joint, joined, putter_of, taker_of};
+ghost use Rattle.ring_run.specs.Rule.{Kept, Added, Learned, Holds, IsFound, IsIdle, joint, joined, putter_of, taker_of};
 ghost use Rattle.ring_run.specs.Words.{word_place};
 
 use crate::below::laws_below;
 use crate::layout::place_of;
-use crate::views::{Adds, Both, Cut, Law, Learns, Note, View};
+use crate::views::{Adds, Both, Cut, Finds, FlickerRule, Learns, Note, View};
 use atomic_table::{Seat, Shared};
 use bits_core::{Bit, Shape, Side};
 use std::marker::{Brand, Model};
@@ -16,7 +16,7 @@ use std::marker::{Brand, Model};
 // The words of a ring, by which one of its ends steps. To a contract they are that ring.
 #[derive(Drop)]
 pub struct Words<'a> {
-    shared: &'a Shared<(), View, Shape, Law>,
+    shared: &'a Shared<(), View, Shape, FlickerRule>,
     shape: Shape,
 }
 
@@ -36,7 +36,7 @@ impl<'a> Words<'a> {
     ghost use Rattle.ring_run.specs.Words.{word_count};
 
     // The words of a table whose key is the shape.
-    pub(crate) fn of(shared: &'a Shared<(), View, Shape, Law>, shape: Shape) -> Words<'a>
+    pub(crate) fn of(shared: &'a Shared<(), View, Shape, FlickerRule>, shape: Shape) -> Words<'a>
         requires { (shared.now.key ≡ shape) × (shared.now.table_id.words ≡ word_count shape) }
         ensures { result ≡ record { shape = shape; id = shared.now.table_id } }
     {
@@ -142,6 +142,16 @@ impl<'a> Words<'a> {
         ensures added { Added N.shape N.event seat.old.me new seat.new.me }
     {
         self.shared.store::<Adds<N>>(seat, word, new);
+    }
+
+    // A load by no end.
+    pub(crate) fn find<N: Note>(&self, word: usize) -> u64
+        requires own { word < word_count self.now.shape }
+        requires shape { N.shape ≡ self.now.shape }
+        ensures { IsFound (Kept self.now.shape) word result }
+    {
+        let (found, _seat) = self.shared.load_new_seat::<Finds<N>>(word);
+        found
     }
 
     // Cuts the joint seat in two.

@@ -4,7 +4,7 @@ ghost use Rattle.std.specs.Prelude.{◌≡◌, None, false};
 use bits_core::{Flip, Shape};
 use ring_core::{BatchReply, PutReply, TakeReply};
 use ring_run::{
-    CounterPutter, CounterRing, CounterTaker, FlickerRing, PutEnd, Putter, TakeEnd, Taker,
+    CounterPutter, CounterRing, CounterTaker, FlickerRing, PutEnd, Putter, RingOf, TakeEnd, Taker,
 };
 use std::alloc::AllocGlobal;
 use std::process::Abort;
@@ -136,6 +136,34 @@ fn expect_calls(rt: &(impl Abort + AllocGlobal), case: &Case) -> Result<(), Fail
     let (ring, start) = CounterRing::new(rt.alloc(), shape)?;
     let (putter, taker) = ring.ends(start);
     expect_run(rt, CounterEnds { putter, taker }, case);
+    Ok(())
+}
+
+// Ends of one ring of this kind meet, a take finds the ring empty, and so the run ends.
+fn expect_empty<K: RingOf<P, T>, P: PutEnd, T: TakeEnd>(
+    rt: &impl Abort,
+    _ring: &K,
+    putter: P,
+    taker: T,
+)
+    requires ring { (P.end putter).ring ≡ (T.end taker).ring }
+    requires idle { P.idle putter × T.idle taker }
+{
+    let (mut putter, mut taker) = K::meet(putter, taker);
+    expect_answer(rt, &mut putter, &mut taker, &Call::Take(TakeReply::Empty));
+    let finished = K::finish(putter, taker);
+    assert!(rt; !finished.closed() && !finished.told());
+}
+
+#[test]
+fn ends_of_either_kind_meet_and_end_alike(rt: HostRuntime) -> Result<(), Fail> {
+    let shape = Shape::new(1, 3, 1)?;
+    let (ring, start) = FlickerRing::new(rt.alloc(), shape)?;
+    let (putter, taker) = ring.ends(start, Flip::new(), Flip::new());
+    expect_empty(&rt, &ring, putter, taker);
+    let (ring, start) = CounterRing::new(rt.alloc(), shape)?;
+    let (putter, taker) = ring.ends(start);
+    expect_empty(&rt, &ring, putter, taker);
     Ok(())
 }
 

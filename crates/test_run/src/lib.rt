@@ -13,6 +13,8 @@ mod growths;
 #[cfg(test)]
 mod limits;
 #[cfg(test)]
+mod observed;
+#[cfg(test)]
 mod oracles;
 #[cfg(test)]
 mod relay_growths;

@@ -9,7 +9,6 @@ returns c script letters h plays puts takes p q =
     record {
       prefix = law.prefix script.shape h puts takes run;
       once = law.items script.shape h puts takes run;
-      cells = law.cells script.shape h puts takes run;
       words = law.words script.shape h puts takes run;
       empty = law.empty script.shape h puts takes run;
       full = law.full script.shape h puts takes run;

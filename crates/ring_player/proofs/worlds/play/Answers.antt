@@ -1,7 +1,13 @@
-use Rattle.std.proofs.Common.{subst, IfOk}
+use Rattle.std.proofs.Common.{List, IfOk, take, subst, arith}
+use Rattle.std.proofs.lemmas.List.{take_all}
+use Rattle.bits_core.specs.declared.events.Side.{Side}
 use Rattle.ring_script.specs.Script.{Content}
-use Rattle.ring_player.specs.Headline.{FillsRing}
+use Rattle.ring_player.specs.Headline.{IsPlayOf}
 use Rattle.ring_player.proofs.worlds.play.Goals as goal
 
-pub returns-clause-batches : goal.returns-clause-batches
-returns-clause-batches g c = subst (λ (t : Content). IfOk c.play_first.result (λ r. FillsRing t r.history.items)) c.as_ref.ensures c.play_first.ensures.batches
+pub returns-clause-plays : goal.returns-clause-plays
+returns-clause-plays g c =
+    let script = c.args.script.now in
+    let all = take_all c.len-letters.result script.letters (omega (arith, c.len-letters.ensures.value)) in
+    subst (λ (l : List Side). IfOk c.play_first.result (λ r. IsPlayOf script l r.history.items)) all
+    (subst (λ (t : Content). IfOk c.play_first.result (λ r. IsPlayOf t (take c.len-letters.result t.letters) r.history.items)) c.as_ref.ensures c.play_first.ensures.plays)

@@ -7,18 +7,25 @@ use Rattle.ring_core.specs.Takes.{FollowsTakes}
 use Rattle.ring_script.specs.Borrowed.{content_of}
 use Rattle.ring_script.specs.Script.{Content}
 use Rattle.bits_core.specs.declared.events.Event.{Event}
-use Rattle.ring_player.specs.Headline.{FillsRing, HoldsHeadline}
+use Rattle.bits_core.specs.declared.events.Side.{Side}
+use Rattle.ring_player.specs.Headline.{IsPlayOf}
+use Rattle.ring_player.specs.Plays.{HasFlickers}
+use Rattle.ring_player.proofs.Flickers.{has_flickers}
+use Rattle.ring_player.proofs.WorldParts.{is_play}
 use Rattle.ring_player.proofs.worlds.play_first.Goals as goal
 
-pub returns-clause-headline : goal.returns-clause-headline
-returns-clause-headline g c =
+pub returns-clause-plays : goal.returns-clause-plays
+returns-clause-plays g c =
     let script = content_of c.args.script in
-    subst (λ (l : List Event). HoldsHeadline script l) (sym c.report.ensures.history) (c.every_play_holds.ensures script (take c.args.letters script.letters) c.run_first-played.new.world.history c.in_ok-played.ensures.plays)
+    let letters : List Side = take c.args.letters script.letters in
+    subst (λ (l : List Event). IsPlayOf script letters l) (sym c.report.ensures.history)
+    (is_play c.every_play_holds.ensures c.every_play_fills.ensures script letters c.run_first-played.new.world.history c.in_ok-played.ensures.plays)
 
-pub returns-clause-batches : goal.returns-clause-batches
-returns-clause-batches g c =
-    let script = content_of c.args.script in
-    subst (λ (l : List Event). FillsRing script l) (sym c.report.ensures.history) (c.every_play_fills.ensures script (take c.args.letters script.letters) c.run_first-played.new.world.history c.in_ok-played.ensures.plays)
+pub returns-clause-flicker : goal.returns-clause-flicker
+returns-clause-flicker g c =
+    let w = c.run_first-played.new.world in
+    subst (λ (l : List Event). HasFlickers l c.report.result.flicker) (sym c.report.ensures.history)
+    (subst (HasFlickers w.history) (sym c.report.ensures.flicker) (has_flickers c.flicker_is_by_interval.ensures (content_of c.args.script).shape w.history c.in_ok-played.ensures.plays.played.lawful))
 
 pub returns-clause-taken : goal.returns-clause-taken
 returns-clause-taken g c takes =

@@ -17,7 +17,7 @@ loop-run-init g c =
     let w = c.args.world.now in
     let k : ℕ = c.args.letters in
     let nothing : Plays w.script (take k (spelled [])) [] =
-    subst (λ (l : List Side). Plays w.script l []) (sym (take-none k)) (subst (λ (h : List Event). Plays w.script (sides h) h) c.requires.new c.history.ensures.plays) in
+    subst (λ (l : List Side). Plays w.script l []) (sym (take-none k)) (subst (λ (h : List Event). Plays w.script (sides h) h) c.requires.new c.history.ensures.plays.plays) in
     record {
       script = c.requires.of_script;
       all = c.runs-run-items.ensures;

@@ -10,7 +10,8 @@ returns-clause-answered g c =
       content = c.in_ok-script.script;
       history = report.history.items;
       summary = summary_of report;
-      played = record { is_script = c.in_ok-script.ensures.read; plays = told.plays; headline = told.headline; batches = told.batches };
+      is_script = c.in_ok-script.ensures.read;
+      plays = told.plays;
       reports = record { events = refl; put = told.put; taken = told.taken; told = told.told; full = told.full; empty = told.empty; flicker = told.flicker };
       words = c.in_ok-text.ensures.text;
       ends = refl;

@@ -9,12 +9,8 @@ returns-clause-answered g c =
     record {
       content = script;
       history = h;
-      played = record {
-        is_script = c.in_ok-script.ensures.read;
-        plays = c.in_ok-report.ensures.plays;
-        headline = c.in_ok-report.ensures.headline;
-        batches = c.in_ok-report.ensures.batches;
-      };
-      is_trace = rw (c.shape.ensures, c.as_slice.ensures.value) at (c.in_ok-text.ensures.again (rw c.as_slice.ensures.value (play_within _ script h c.in_ok-script.ensures.read c.in_ok-report.ensures.plays)));
+      is_script = c.in_ok-script.ensures.read;
+      plays = c.in_ok-report.ensures.plays;
+      is_trace = rw (c.shape.ensures, c.as_slice.ensures.value) at (c.in_ok-text.ensures.again (rw c.as_slice.ensures.value (play_within _ script h c.in_ok-script.ensures.read c.in_ok-report.ensures.plays.plays)));
       ends = refl;
     }

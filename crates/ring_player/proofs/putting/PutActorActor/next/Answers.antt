@@ -3,7 +3,7 @@ use Rattle.bits_core.specs.declared.events.Side.TheVariants.{P}
 use Rattle.bits_core.specs.Made.{events_of}
 use Rattle.bits_core.specs.Open.{IsOpenRight}
 use Rattle.ring_player.proofs.Nexts.{put_next}
-use Rattle.ring_player.specs.Plays.{IsDoneProducer}
+use Rattle.ring_player.specs.Plays.{IsDoneAfter}
 use Rattle.ring_script.specs.Script.{Content}
 use Rattle.ring_player.proofs.Puttings.{resting, right, unfinished}
 use Rattle.ring_script.specs.Borrowed.{content_of}
@@ -12,7 +12,7 @@ use Rattle.ring_player.proofs.putting.PutActorActor.next.Goals as goal
 pub returns-clause-unfinished : goal.returns-clause-unfinished
 returns-clause-unfinished c a is list s =
     let y = c.begin_call.new.self in
-    subst (λ (t : Content). ¬ IsDoneProducer t (events_of P list)) c.begin_call.ensures.script
+    subst (λ (t : Content). ¬ IsDoneAfter t P (events_of P list)) c.begin_call.ensures.script
     (unfinished c.calls_are_first.ensures.puts (content_of y.script) y.producer (record { stored = y.stored; full = y.full }) list c.next.result a (c.begin_call.ensures.stands list s.0) (put_next _ _ c.next.ensures.rest c.next.ensures.goes_on) is)
 
 pub returns-clause-right : goal.returns-clause-right

@@ -3,7 +3,7 @@ use Rattle.bits_core.specs.declared.events.Side.TheVariants.{C}
 use Rattle.bits_core.specs.Made.{events_of}
 use Rattle.bits_core.specs.Open.{IsOpenRight}
 use Rattle.ring_player.proofs.Nexts.{take_next}
-use Rattle.ring_player.specs.Plays.{IsDoneConsumer}
+use Rattle.ring_player.specs.Plays.{IsDoneAfter}
 use Rattle.ring_script.specs.Script.{Content}
 use Rattle.ring_player.proofs.Takings.{resting, right, unfinished}
 use Rattle.ring_script.specs.Borrowed.{content_of}
@@ -12,7 +12,7 @@ use Rattle.ring_player.proofs.taking.TakeActorActor.next.Goals as goal
 pub returns-clause-unfinished : goal.returns-clause-unfinished
 returns-clause-unfinished g c a is list s =
     let y = c.begin_take.new.self in
-    subst (λ (t : Content). ¬ IsDoneConsumer t (events_of C list)) c.begin_take.ensures.script
+    subst (λ (t : Content). ¬ IsDoneAfter t C (events_of C list)) c.begin_take.ensures.script
     (unfinished c.calls_are_first.ensures.takes (content_of y.script) y.consumer (g.T.Store.items y.taken) y.told y.empty list c.next.result a (c.begin_take.ensures.stands list s) (take_next _ _ c.next.ensures.rest c.next.ensures.goes_on) is)
 
 pub returns-clause-right : goal.returns-clause-right

@@ -1,10 +1,10 @@
 use Rattle.std.proofs.Common.{List, subst, sym}
 use Rattle.bits_core.specs.declared.events.Event.{Event}
 use Rattle.bits_core.specs.declared.events.Side.TheVariants.{P, C}
-use Rattle.ring_player.specs.Headline.{FillsRing, HoldsHeadline}
+use Rattle.ring_player.specs.Headline.{IsPlayOf}
 use Rattle.ring_player.specs.Plays.{IsProgram, Plays, sides}
 use Rattle.ring_player.specs.Worlds.{Played}
-use Rattle.ring_player.proofs.WorldParts.{plays_of}
+use Rattle.ring_player.proofs.WorldParts.{is_play, plays_of}
 use Rattle.ring_script.specs.Borrowed.{content_of}
 use Rattle.ring_player.proofs.worlds.World.history.Goals as goal
 
@@ -13,27 +13,8 @@ returns-clause-plays g c =
     let w = c.self.inside in
     let i = c.self.invariant in
     let plays : Plays (content_of w.script) (sides w.memory.events) w.memory.events =
-    plays_of c.overlap_is_by_interval.ensures c.flicker_is_by_interval.ensures (content_of w.script) w.memory (content_of w.producer.script) (content_of w.consumer.script) _ _ _ _ _ i c.events.ensures.lawful
+    plays_of c.flicker_is_by_interval.ensures (content_of w.script) w.memory (content_of w.producer.script) (content_of w.consumer.script) _ _ _ _ _ i c.events.ensures.lawful
     (subst (λ (t : List Event). IsProgram (content_of w.producer.script) P t) (sym i.puts.own_is) i.puts.there.0.program)
     (subst (λ (t : List Event). IsProgram (content_of w.consumer.script) C t) (sym i.takes.own_is) i.takes.there.program) in
-    subst (λ (t : Played). Plays t.script (sides t.history) t.history) c.self.view_is plays
-
-pub returns-clause-headline : goal.returns-clause-headline
-returns-clause-headline g c =
-    let w = c.self.inside in
-    let i = c.self.invariant in
-    let plays : Plays (content_of w.script) (sides w.memory.events) w.memory.events =
-    plays_of c.overlap_is_by_interval.ensures c.flicker_is_by_interval.ensures (content_of w.script) w.memory (content_of w.producer.script) (content_of w.consumer.script) _ _ _ _ _ i c.events.ensures.lawful
-    (subst (λ (t : List Event). IsProgram (content_of w.producer.script) P t) (sym i.puts.own_is) i.puts.there.0.program)
-    (subst (λ (t : List Event). IsProgram (content_of w.consumer.script) C t) (sym i.takes.own_is) i.takes.there.program) in
-    subst (λ (t : Played). HoldsHeadline t.script t.history) c.self.view_is (c.every_play_holds.ensures (content_of w.script) (sides w.memory.events) w.memory.events plays)
-
-pub returns-clause-batches : goal.returns-clause-batches
-returns-clause-batches g c =
-    let w = c.self.inside in
-    let i = c.self.invariant in
-    let plays : Plays (content_of w.script) (sides w.memory.events) w.memory.events =
-    plays_of c.overlap_is_by_interval.ensures c.flicker_is_by_interval.ensures (content_of w.script) w.memory (content_of w.producer.script) (content_of w.consumer.script) _ _ _ _ _ i c.events.ensures.lawful
-    (subst (λ (t : List Event). IsProgram (content_of w.producer.script) P t) (sym i.puts.own_is) i.puts.there.0.program)
-    (subst (λ (t : List Event). IsProgram (content_of w.consumer.script) C t) (sym i.takes.own_is) i.takes.there.program) in
-    subst (λ (t : Played). FillsRing t.script t.history) c.self.view_is (c.every_play_fills.ensures (content_of w.script) (sides w.memory.events) w.memory.events plays)
+    subst (λ (t : Played). IsPlayOf t.script (sides t.history) t.history) c.self.view_is
+    (is_play c.every_play_holds.ensures c.every_play_fills.ensures (content_of w.script) (sides w.memory.events) w.memory.events plays)

@@ -1,12 +1,12 @@
 use Rattle.std.proofs.Common.{◌≡◌, ap, ◌∙◌, sym}
 use Rattle.ring_run.specs.Ring.{Ring}
 use Rattle.ring_run.proofs.Relayed.{relayed, none_past}
-use Rattle.ring_run.proofs.relays.relay_ends.Goals as goal
+use Rattle.ring_run.proofs.relays.relay_through.Goals as goal
 
 pub unreachable-requires : goal.unreachable-requires
 unreachable-requires g c =
-    let p = c.relay_into-outcome.new.putter.end in
-    let t = c.relay_into-outcome.new.taker.end in
+    let p = g.E.PutEnd.end c.relay_into-outcome.new.putter in
+    let t = g.F.TakeEnd.end c.relay_into-outcome.new.taker in
     let f = c.in-Err.ensures in
     let same : t.ring ≡ p.ring = f.same.1.ring ∙ sym c.requires.ring ∙ sym f.same.0.ring in
     none_past c.ring_law.ensures.prefix c.whole_calls_count.ensures.puts c.whole_calls_count.ensures.takes c.args.items.now c.args.limits.puts c.args.limits.takes p t same c.finish-finished.result.history c.finish-finished.ensures.meets f.fault.0 f.fault.1
@@ -14,10 +14,10 @@ unreachable-requires g c =
 pub returns : goal.returns
 returns g c =
     let o = c.in-Ok.outcome in
-    let p = c.relay_into-outcome.new.putter.end in
-    let t = c.relay_into-outcome.new.taker.end in
+    let p = g.E.PutEnd.end c.relay_into-outcome.new.putter in
+    let t = g.F.TakeEnd.end c.relay_into-outcome.new.taker in
     let f = c.in-Ok.ensures in
-    let shape = c.args.putter.end.ring.shape in
+    let shape = (g.E.PutEnd.end c.args.putter).ring.shape in
     let p_is : p.ring.shape ≡ shape = ap (λ (r : Ring). r.shape) f.same.0.ring in
     let t_is : t.ring.shape ≡ shape = ap (λ (r : Ring). r.shape) (f.same.1.ring ∙ sym c.requires.ring) in
     relayed shape c.args.items.now c.args.limits.puts c.args.limits.takes o.put o.calls o.full o.taken.items o.empty o.closed p t p_is t_is c.finish-finished.result.history c.finish-finished.ensures.meets f.puts f.takes

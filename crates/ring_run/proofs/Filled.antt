@@ -1,0 +1,190 @@
+-- What a put that finds the ring full says of the takes that its putter knows.
+use Rattle.std.proofs.Common.{◌≡◌, ◌⊎◌, ⊎_elim, ℕ, suc, ◌+◌, ◌-◌, ◌*◌, ◌≤◌, Bool, true, false, Some, None, List, [], ◌∷◌, ◌++◌, length, refl, ap, sym, subst, ◌∙◌, arith, append-nil, append_assoc, length-append}
+use Rattle.std.specs.Prelude.{nat_le, if◌then◌else◌}
+use Rattle.std.proofs.lemmas.Bool.Decides.{nat_tests}
+use Rattle.bits_core.specs.declared.events.Side.TheVariants.{P, C}
+use Rattle.bits_core.specs.declared.events.Event.{Event}
+use Rattle.bits_core.specs.declared.shapes.Shape.{Shape}
+use Rattle.bits_core.specs.Shape.{capacity_of}
+use Rattle.bits_core.specs.Made.{Made, events_of, own, clock, IsPlaceOf, IsBeginning}
+use Rattle.ring_core.specs.declared.producers.PutReply.TheVariants as one
+use Rattle.ring_core.specs.declared.producers.BatchReply.{BatchReply}
+use Rattle.ring_core.specs.declared.producers.BatchReply.TheVariants as reply
+use Rattle.ring_core.specs.Counts.{Count, first_count, past}
+use Rattle.ring_core.specs.Puts.{Put, Stored, Full, Puts, number_after, stored_in, stored_after, stored_count, put_phrase, put_phrases, close_phrase, put_program}
+use Rattle.ring_core.specs.Takes.{Take, Item, ItemAfterClose, Empty, Takes, taken_after, take_phrase, take_phrases, end_phrase, take_program}
+use Rattle.ring_core.specs.Items.{events_in, all_put, all_taken, items_taken}
+use Rattle.ring_core.specs.CallsAt.{IsPutAt, takes_ended}
+use Rattle.ring_core.specs.Readings.{PutsAreRead, TakesAreFirst}
+use Rattle.ring_core.specs.RingLaw.{IsRun, InEveryRun, FullIsFresh}
+use Rattle.ring_core.specs.ProducerState.{item_reply}
+use Rattle.ring_core.specs.ProducerCalls as puts
+use Rattle.ring_core.specs.ProducerCalls.{and_put}
+use Rattle.ring_run.specs.Rule.{Stands}
+use Rattle.ring_run.specs.Ends.{HasPuts, HasTakes, PutAdds, HasPut, HasPutAll}
+use Rattle.ring_run.specs.Laws.{FullAfterMeeting, ItemFullAfterMeeting, PutsAdd}
+use Rattle.ring_run.proofs.Lists.{events_of-append, length-events_of}
+use Rattle.ring_run.proofs.Emptied.{past_is, own_append, behind, later_than}
+
+-- ---- how many items are stored, and how many are taken by takes that have ended
+
+stored_is : (n : ℕ) (puts : List Put) → stored_in n puts ≡ n + length (all_put puts)
+stored_is n [] = omega arith
+stored_is n (Full seen ∷ puts) = stored_is n puts
+stored_is n (Stored seen items ∷ puts) = omega (arith, stored_is (past n items) puts, past_is n items, length-append items (all_put puts))
+
+is_within : (a b : ℕ) → a ≤ b → nat_le a b ≡ true
+is_within a b le = grind (arith, nat_tests)
+
+one_longer : (b : Bool) (item : ℕ) (rest : List ℕ) → b ≡ true → length ((if b then item ∷ [] else []) ++ rest) ≡ suc (length rest)
+one_longer true item rest e = refl
+one_longer false item rest e = absurd (cc)
+
+-- whole takes have ended, also where more follow
+all_ended : (shape : Shape) (k : ℕ) (xs more : List Take) (t : ℕ) → events_in (take_phrases shape k xs) ≤ t → length (all_taken xs) ≤ length (items_taken shape k (xs ++ more) t)
+all_ended shape k [] more t le = omega arith
+all_ended shape k (Item seen item ∷ xs) more t le =
+    let first : List Made = take_phrase shape k (Item seen item) in
+    let long = length-append first (take_phrases shape (suc k) xs) in
+    let rest : List ℕ = items_taken shape (suc k) (xs ++ more) (t - events_in first) in
+    let ended : length (all_taken xs) ≤ length rest = all_ended shape (suc k) xs more (t - events_in first) (omega (arith, le, long)) in
+    omega (arith, ended, one_longer (nat_le (events_in first) t) item rest (is_within (events_in first) t (omega (arith, le, long))))
+all_ended shape k (ItemAfterClose seen again item ∷ xs) more t le =
+    let first : List Made = take_phrase shape k (ItemAfterClose seen again item) in
+    let long = length-append first (take_phrases shape (suc k) xs) in
+    let rest : List ℕ = items_taken shape (suc k) (xs ++ more) (t - events_in first) in
+    let ended : length (all_taken xs) ≤ length rest = all_ended shape (suc k) xs more (t - events_in first) (omega (arith, le, long)) in
+    omega (arith, ended, one_longer (nat_le (events_in first) t) item rest (is_within (events_in first) t (omega (arith, le, long))))
+all_ended shape k (Empty seen ∷ xs) more t le =
+    let first : List Made = take_phrase shape k (Empty seen) in
+    let long = length-append first (take_phrases shape k xs) in
+    all_ended shape k xs more (t - events_in first) (omega (arith, le, long))
+
+-- ---- the put that finds the ring full
+
+module _ (law : InEveryRun FullIsFresh) (first : TakesAreFirst)
+    (shape : Shape) (known before after : List Event) (takes : Takes) (calls : Puts) (seen : ℕ) (is_open : calls.closes ≡ false)
+    (whole : HasTakes shape (own C known) takes) (was : HasPuts shape before calls) (begins : IsBeginning (own P known) before)
+    (st : Stands shape P after known) (has : HasPuts shape after (and_put calls (Full seen))) where
+  abbrev h : List Event
+  h = st.history
+
+  abbrev more : Puts
+  more = and_put calls (Full seen)
+
+  abbrev rest : List Event
+  rest = st.begins.0
+
+  h_is : known ++ rest ≡ h
+  h_is = st.begins.1
+
+  run : IsRun shape h more st.ring.takes
+  run = record {
+    lawful = st.ring.run.lawful;
+    puts_follow = record { are = has.are; events = ([], append-nil (own P h) ∙ st.list_is ∙ has.list_is) };
+    takes_follow = st.ring.run.takes_follow;
+  }
+
+  start : ℕ
+  start = events_in (put_phrases shape first_count calls.puts)
+
+  is_put : IsPutAt shape more (Full seen) (stored_in 0 calls.puts) start (events_in (put_phrases shape first_count (calls.puts ++ Full seen ∷ [])))
+  unfolding start
+  is_put = record { before = calls.puts; after = []; among = refl; number = refl; starts = refl; stops = refl }
+
+  over : events_in (put_phrases shape first_count (calls.puts ++ Full seen ∷ [])) ≤ length (own P h)
+  over =
+      omega (arith, ap length (st.list_is ∙ has.list_is), length-events_of P (put_program shape more), length-append (put_phrases shape first_count (calls.puts ++ Full seen ∷ [])) [])
+
+  fresh : (place : ℕ) × IsPlaceOf P h start place × (takes_ended shape st.ring.takes (clock C h place) + capacity_of shape ≤ stored_in 0 calls.puts)
+  fresh = law shape h more st.ring.takes run seen (stored_in 0 calls.puts) start (events_in (put_phrases shape first_count (calls.puts ++ Full seen ∷ []))) is_put over
+
+  abbrev place : ℕ
+  place = fresh.0
+
+  before_long : length before ≡ start
+  unfolding start
+  before_long =
+      ap length was.list_is ∙ length-events_of P (put_program shape calls) ∙
+      ap (λ (l : List Made). 2 * length l) (ap (λ (b : Bool). put_phrases shape first_count calls.puts ++ close_phrase b) is_open ∙ append-nil (put_phrases shape first_count calls.puts))
+
+  -- it began behind what is known
+  later : length known ≤ place
+  later = later_than P known rest h start place h_is fresh.1.past (omega (arith, before_long, ap length begins.1, length-append (own P known) begins.0))
+
+  own_known : IsBeginning (own C known) (own C h)
+  own_known = (own C rest, sym (own_append C known rest) ∙ ap (own C) h_is)
+
+  are_first : (others : List Take) × (st.ring.takes.takes ≡ takes.takes ++ others)
+  are_first =
+      let follows = st.ring.run.takes_follow in
+      let both : List Event = own_known.0 ++ follows.events.0 in
+      (first shape takes st.ring.takes whole.are follows.are
+      (both, ap (λ l. l ++ both) (sym whole.list_is) ∙ sym (append_assoc (own C known) own_known.0 follows.events.0) ∙ ap (λ l. l ++ follows.events.0) own_known.1 ∙ follows.events.1)).0
+
+  known_long : length (own C known) ≡ 2 * (length (take_phrases shape 0 takes.takes) + length (end_phrase takes.end))
+  known_long = omega (arith, ap length whole.list_is, length-events_of C (take_program shape takes), length-append (take_phrases shape 0 takes.takes) (end_phrase takes.end))
+
+  -- the known takes had ended where it began
+  pub filled : length (all_taken takes.takes) + capacity_of shape ≤ length (all_put calls.puts)
+  filled =
+      let t : ℕ = clock C h place in
+      let late : length (own C known) ≤ t = subst (λ l. length (own C known) ≤ clock C l place) h_is (behind C known rest place later) in
+      let ended : length (all_taken takes.takes) ≤ length (items_taken shape 0 (takes.takes ++ are_first.0) t) = all_ended shape 0 takes.takes are_first.0 t (omega (arith, late, known_long)) in
+      omega (arith, ended, ap (λ l. length (items_taken shape 0 l t)) are_first.1, fresh.2, stored_is 0 calls.puts)
+
+-- ---- the law
+
+full_of : (x : Put) → puts.reply_to x ≡ reply.Full → (seen : ℕ) × (x ≡ Full seen)
+full_of (Stored seen items) e = absurd (cc)
+full_of (Full seen) e = (seen, refl)
+
+-- the put that was answered so
+full_adds :
+    (shape : Shape) (before after : List Event) (calls : Puts) (items : List ℕ) (closed : Bool) → PutAdds closed shape calls items reply.Full before after →
+    (seen : ℕ) × (closed ≡ false) × HasPuts shape after (and_put calls (Full seen))
+full_adds shape before after calls items true a = absurd (cc)
+full_adds shape before after calls items false (x, is, replied, has) =
+    let (seen, x_is) = full_of x (sym replied) in
+    (seen, refl, subst (λ y. HasPuts shape after (and_put calls y)) x_is has)
+
+pub full-after : InEveryRun FullIsFresh → TakesAreFirst → PutsAreRead → FullAfterMeeting
+full-after law first read shape known before after takes calls items whole was begins st put =
+    let same : put.calls ≡ calls = read shape put.calls calls put.before_is.are was.are (sym put.before_is.list_is ∙ was.list_is) in
+    let adds : PutAdds calls.closes shape calls items reply.Full before after = subst (λ (p : Puts). PutAdds p.closes shape p items reply.Full before after) same put.adds in
+    let (seen, is_open, has) = full_adds shape before after calls items calls.closes adds in
+    filled law first shape known before after takes calls seen is_open whole was begins st has
+
+full_answer : (answer : BatchReply) → Some one.Full ≡ item_reply (Some answer) → answer ≡ reply.Full
+full_answer (reply.Stored n) e = absurd (cc)
+full_answer reply.Full e = refl
+full_answer reply.Closed e = absurd (cc)
+
+pub item-full-after : InEveryRun FullIsFresh → TakesAreFirst → PutsAreRead → ItemFullAfterMeeting
+item-full-after law first read shape known before after takes calls item whole was begins st (answer, is, put) =
+    full-after law first read shape known before after takes calls (item ∷ []) whole was begins st (subst (λ r. HasPutAll shape (item ∷ []) before after r) (full_answer answer is) put)
+
+-- ---- a put adds to the list
+
+put_phrases-append : (shape : Shape) (c : Count) (xs ys : List Put) → put_phrases shape c (xs ++ ys) ≡ put_phrases shape c xs ++ put_phrases shape (stored_count shape c xs) ys
+put_phrases-append shape c [] ys = refl
+put_phrases-append shape c (x ∷ xs) ys =
+    let next : Count = stored_after shape c x in
+    ap (λ l. put_phrase shape c x ++ l) (put_phrases-append shape next xs ys) ∙
+    sym (append_assoc (put_phrase shape c x) (put_phrases shape next xs) (put_phrases shape (stored_count shape next xs) ys))
+
+one_more : (shape : Shape) (calls : Puts) (x : Put) → calls.closes ≡ false → (rest : List Made) × (put_program shape (and_put calls x) ≡ put_program shape calls ++ rest)
+one_more shape calls x is_open =
+    let phrases : List Made = put_phrases shape first_count calls.puts in
+    let program : put_program shape calls ≡ phrases = ap (λ (b : Bool). phrases ++ close_phrase b) is_open ∙ append-nil phrases in
+    let last : List Made = put_phrases shape (stored_count shape first_count calls.puts) (x ∷ []) in
+    (last, append-nil (put_phrases shape first_count (calls.puts ++ x ∷ [])) ∙ put_phrases-append shape first_count calls.puts (x ∷ []) ∙ ap (λ l. l ++ last) (sym program))
+
+pub puts-add : PutsAdd
+puts-add shape items before after answer put = go put.calls.closes refl put.adds
+  where
+    go : (closed : Bool) → put.calls.closes ≡ closed → PutAdds closed shape put.calls items answer before after → IsBeginning before after
+    go true e a = ([], append-nil before ∙ sym a.1)
+    go false e (x, is, replied, has) =
+        let (rest, same) = one_more shape put.calls x e in
+        (events_of P rest, ap (λ l. l ++ events_of P rest) put.before_is.list_is ∙ sym (events_of-append P (put_program shape put.calls) rest) ∙ ap (events_of P) (sym same) ∙ sym has.list_is)
