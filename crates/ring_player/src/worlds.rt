@@ -4,6 +4,7 @@ ghost use Rattle.bits_core.specs.declared.events.Side.{Side};
 ghost use Rattle.bits_core.specs.declared.events.Side.TheVariants as side_is;
 ghost use Rattle.bits_core.specs.Memory.{flicker_count};
 ghost use Rattle.ring_core.specs.Items.{ToldIn, items_put_in, items_taken_in};
+ghost use Rattle.ring_core.specs.Linear.{EachReadingIsLinearizable};
 ghost use Rattle.ring_core.specs.Over.{empties, fulls, puts_over_in, takes_over_in};
 ghost use Rattle.ring_core.specs.Puts.{FollowsPuts, Puts};
 ghost use Rattle.ring_core.specs.Takes.{FollowsTakes, Takes};
@@ -19,7 +20,9 @@ use crate::putting::PutActor;
 use crate::taking::TakeActor;
 use bits_core::laws::{flicker_is_by_interval, open_changes, own_changes};
 use bits_core::{Event, Memory, Side, Store, Tape};
-use ring_core::laws::{calls_over_are_read, items_put_are_read, items_taken_are_read};
+use ring_core::laws::{
+    calls_over_are_read, items_put_are_read, items_taken_are_read, ring_is_linearizable,
+};
 use ring_script::{Script, ScriptRef};
 use std::alloc::Allocator;
 use std::marker::Model;
@@ -82,14 +85,17 @@ impl<'a, E: Store<Event>, T: Store<u64>> World<'a, E, T> {
         }
     }
 
-    /// The history so far: the play of the script by the sides of its own events. The sentence of the ring holds of it.
+    /// The history so far: the play of the script by the sides of its own events. The sentence of the ring holds of it, and its
+    /// calls are linearizable.
     pub fn history(&self) -> &[Event]
         ensures history { result.now ≡ self.now.history }
         ensures plays { IsPlayOf self.now.script (sides self.now.history) self.now.history }
+        ensures linearizable { EachReadingIsLinearizable self.now.script.shape self.now.history }
     {
         every_play_holds();
         every_play_fills();
         flicker_is_by_interval();
+        ring_is_linearizable();
         self.memory.events()
     }
 
@@ -323,6 +329,7 @@ pub fn play<'a, A: Allocator + Copy, B: Allocator>(
     script: &'a Script<B>,
 ) -> Result<Report<'a, Vec<Event, A>, Vec<u64, A>>, PlayFault>
     ensures plays { IfOk result (λ r. IsPlayOf script.now script.now.letters r.history.items) }
+    ensures linearizable { IfOk result (λ r. EachReadingIsLinearizable script.now.shape r.history.items) }
     ensures put { IfOk result (λ r. (puts : Puts) → FollowsPuts script.now.shape r.history.items puts → r.put.now ≡ items_put_in script.now.shape r.history.items puts) }
     ensures taken { IfOk result (λ r. (takes : Takes) → FollowsTakes script.now.shape r.history.items takes → r.taken.items ≡ items_taken_in script.now.shape r.history.items takes) }
     ensures told { IfOk result (λ r. (takes : Takes) → FollowsTakes script.now.shape r.history.items takes → (r.told ≡ true) ↔ ToldIn script.now.shape r.history.items takes) }
@@ -348,6 +355,7 @@ pub fn play_first<'a, E: Store<Event>, T: Store<u64>>(
     requires no_events { E.items events ≡ [] }
     requires none_taken { T.items taken ≡ [] }
     ensures plays { IfOk result (λ r. IsPlayOf (content_of script.entry) (take letters (content_of script.entry).letters) (E.items r.history)) }
+    ensures linearizable { IfOk result (λ r. EachReadingIsLinearizable (content_of script.entry).shape (E.items r.history)) }
     ensures put { IfOk result (λ r. (puts : Puts) → FollowsPuts (content_of script.entry).shape (E.items r.history) puts → r.put.now ≡ items_put_in (content_of script.entry).shape (E.items r.history) puts) }
     ensures taken { IfOk result (λ r. (takes : Takes) → FollowsTakes (content_of script.entry).shape (E.items r.history) takes → T.items r.taken ≡ items_taken_in (content_of script.entry).shape (E.items r.history) takes) }
     ensures told { IfOk result (λ r. (takes : Takes) → FollowsTakes (content_of script.entry).shape (E.items r.history) takes → (r.told ≡ true) ↔ ToldIn (content_of script.entry).shape (E.items r.history) takes) }
@@ -363,6 +371,7 @@ pub fn play_first<'a, E: Store<Event>, T: Store<u64>>(
     every_play_holds();
     every_play_fills();
     flicker_is_by_interval();
+    ring_is_linearizable();
     let mut world = World::over(script, events, taken);
     let played = run_first(&mut world, script, letters);
     world.few_taken();

@@ -19,6 +19,7 @@ use Rattle.ring_core.specs.RingLaw.{IsRun, InEveryRun, IsWithin, TakenArePrefix,
 use Rattle.ring_run.specs.Ring.{Ring, RingEnd}
 use Rattle.ring_run.specs.Meetings.{Meets}
 use Rattle.ring_run.specs.Programs.{IsRing}
+use Rattle.ring_core.specs.Linear.{EachReadingIsLinearizable}
 use Rattle.ring_run.specs.Relays.{HasMadePuts, HasRelayedPuts, HasRelayedTakes, HasTakenMore, IsRelayed, PutsAre, TakesAre}
 use Rattle.ring_run.proofs.Lists.{length-events_of}
 use Rattle.ring_run.proofs.RelayLemmas.{length_first}
@@ -99,10 +100,11 @@ module _ (within : InEveryRun IsWithin) (prefix : InEveryRun TakenArePrefix) (cl
 -- what a relay's ends and their meeting say, of one history
 pub relayed :
     (shape : Shape) (items : List ℕ) (most_puts most_takes put made full : ℕ) (taken : List ℕ) (empty : ℕ) (closed : Bool) (p c : RingEnd) → p.ring.shape ≡ shape → c.ring.shape ≡ shape → (h : List Event) → Meets p c h →
-    HasRelayedPuts p.ring.shape p.list items most_puts put made full → HasRelayedTakes c.ring.shape c.list most_takes taken empty closed → IsRelayed shape items most_puts most_takes put made full taken empty closed
-relayed shape items most_puts most_takes put made full taken empty closed p c p_is c_is h m ps ts = record {
+    EachReadingIsLinearizable p.ring.shape h → HasRelayedPuts p.ring.shape p.list items most_puts put made full → HasRelayedTakes c.ring.shape c.list most_takes taken empty closed → IsRelayed shape items most_puts most_takes put made full taken empty closed
+relayed shape items most_puts most_takes put made full taken empty closed p c p_is c_is h m linear ps ts = record {
   history = h;
   ring = subst (λ (s : Shape). IsRing s h) p_is m.ring;
+  linearizable = subst (λ (s : Shape). EachReadingIsLinearizable s h) p_is linear;
   puts = subst (λ (z : Shape × List Event). HasRelayedPuts z.0 z.1 items most_puts put made full) (λ i. (p_is i, sym m.put i)) ps;
   takes = subst (λ (z : Shape × List Event). HasRelayedTakes z.0 z.1 most_takes taken empty closed) (λ i. (c_is i, sym m.taken i)) ts;
 }

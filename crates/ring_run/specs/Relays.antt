@@ -5,6 +5,7 @@ use Rattle.bits_core.specs.declared.events.Event.{Event}
 use Rattle.bits_core.specs.declared.events.Side.TheVariants.{P, C}
 use Rattle.bits_core.specs.Made.{own}
 use Rattle.ring_run.specs.Programs.{IsRing}
+use Rattle.ring_core.specs.Linear.{EachReadingIsLinearizable}
 use Rattle.ring_core.specs.Puts.{Put, Puts, number_after}
 use Rattle.ring_core.specs.Takes.{Takes}
 use Rattle.ring_core.specs.Items.{all_put, all_taken}
@@ -69,9 +70,10 @@ pub record HasMadePuts (shape : Shape) (list : List Event) (items : List ℕ) (l
   pub full : ℕ
   pub puts : HasRelayedPuts shape list items limit put made full
 
--- one lawful history, whose two sides follow their programs, counts so
+-- one lawful history, whose two sides follow their programs, counts so; its calls are linearizable
 pub record IsRelayed (shape : Shape) (items : List ℕ) (most_puts most_takes put made full : ℕ) (taken : List ℕ) (empty : ℕ) (closed : Bool) : Type 0 where
   pub history : List Event
   pub ring : IsRing shape history
   pub puts : HasRelayedPuts shape (own P history) items most_puts put made full
   pub takes : HasRelayedTakes shape (own C history) most_takes taken empty closed
+  pub linearizable : EachReadingIsLinearizable shape history

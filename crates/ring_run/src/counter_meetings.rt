@@ -1,6 +1,7 @@
 //! How the two ends of a counter ring are made, meet, and end.
 ghost use Rattle.std.specs.Prelude.{◌≡◌, []};
 ghost use Rattle.bits_core.specs.declared.events.Side.TheVariants.{P, C};
+ghost use Rattle.ring_core.specs.Linear.{EachReadingIsLinearizable};
 ghost use Rattle.ring_run.specs.Hands.{StandsAs};
 ghost use Rattle.ring_run.specs.Rule.{IsIdle};
 ghost use Rattle.ring_run.specs.Meetings.{Keeps, Meets, ClosesAre, TellsAre};
@@ -16,6 +17,7 @@ use crate::rings::Start;
 use crate::views::View;
 use atomic_table::Seat;
 use bits_core::Side;
+use ring_core::laws::ring_is_linearizable;
 use std::alloc::{Allocator, Global};
 
 /// A counter ring whose run is over: what is left of it is what is left of a flickering ring.
@@ -55,8 +57,8 @@ impl<A: Allocator> CounterRing<A> {
 
 // With an allocator's name, so that `CounterRing::meet` and `CounterRing::finish` are called with none: ends have none.
 impl CounterRing<Global> {
-    /// Both ends learn one lawful history, whose sides are their two lists and which begins with what each knew. All
-    /// later calls of both stand behind it. The ends are those of one ring; they come back with the same lists. It
+    /// Both ends learn one lawful history, whose sides are their two lists and which begins with what each knew. Its calls
+    /// are linearizable. All later calls of both stand behind it. The ends are those of one ring; they come back with the same lists. It
     /// makes no access and takes no memory.
     pub fn meet<'a>(
         putter: CounterPutter<'a>,
@@ -67,9 +69,11 @@ impl CounterRing<Global> {
         ensures taker { Keeps taker.entry result.1 }
         ensures one { result.1.known ≡ result.0.known }
         ensures meets { Meets putter.entry taker.entry result.0.known }
+        ensures linearizable { EachReadingIsLinearizable putter.entry.ring.shape result.0.known }
         ensures lawful { StandsAs P result.0 × StandsAs C result.1 }
     {
         laws_below();
+        ring_is_linearizable();
         let CounterPutter {
             before: _,
             hand: p,
@@ -108,14 +112,16 @@ impl CounterRing<Global> {
     }
 
     /// Ends the ring's run, of which one lawful history is left, whose sides are the two lists and which begins with
-    /// what each end knew. The ends are those of one ring. It makes no access and takes no memory.
+    /// what each end knew; its calls are linearizable. The ends are those of one ring. It makes no access and takes no memory.
     pub fn finish<'a>(putter: CounterPutter<'a>, taker: CounterTaker<'a>) -> CounterFinished
         requires ring { putter.ring ≡ taker.ring }
         ensures meets { Meets putter.entry taker.entry result.history }
+        ensures linearizable { EachReadingIsLinearizable putter.entry.ring.shape result.history }
         ensures closed { ClosesAre putter.entry.ring.shape putter.entry.list result.closed }
         ensures told { TellsAre taker.entry.ring.shape taker.entry.list result.told }
     {
         laws_below();
+        ring_is_linearizable();
         let CounterPutter {
             before: _,
             hand: p,

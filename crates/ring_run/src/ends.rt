@@ -105,11 +105,12 @@ pub trait TakeEnd {
 pub trait RingOf<E: PutEnd, F: TakeEnd> {
     ghost use Rattle.std.specs.Prelude.{◌≡◌};
     ghost use Rattle.bits_core.specs.declared.events.Side.TheVariants.{P, C};
+    ghost use Rattle.ring_core.specs.Linear.{EachReadingIsLinearizable};
     ghost use Rattle.ring_run.specs.Hands.{StandsAs};
     ghost use Rattle.ring_run.specs.Meetings.{Keeps, Meets, ClosesAre, TellsAre};
 
-    /// Both ends learn one lawful history, whose sides are their two lists and which begins with what each knew. All
-    /// later calls of both stand behind it. The ends are those of one ring, with no call under way; they come back with
+    /// Both ends learn one lawful history, whose sides are their two lists and which begins with what each knew. Its calls
+    /// are linearizable. All later calls of both stand behind it. The ends are those of one ring, with no call under way; they come back with
     /// the same lists. It makes no access and takes no memory.
     fn meet(putter: E, taker: F) -> (E, F)
         requires ring { (E.end putter).ring ≡ (F.end taker).ring }
@@ -118,15 +119,17 @@ pub trait RingOf<E: PutEnd, F: TakeEnd> {
         ensures taker { Keeps (F.end taker) (F.end result.1) × F.idle result.1 }
         ensures one { (F.end result.1).known ≡ (E.end result.0).known }
         ensures meets { Meets (E.end putter) (F.end taker) (E.end result.0).known }
+        ensures linearizable { EachReadingIsLinearizable (E.end putter).ring.shape (E.end result.0).known }
         ensures lawful { StandsAs P (E.end result.0) × StandsAs C (F.end result.1) };
 
     /// Ends the ring's run, of which one lawful history is left, whose sides are the two lists and which begins with
-    /// what each end knew. The ends are those of one ring, with no call under way; they are gone. It makes no access and
+    /// what each end knew; its calls are linearizable. The ends are those of one ring, with no call under way; they are gone. It makes no access and
     /// takes no memory.
     fn finish(putter: E, taker: F) -> Finished
         requires ring { (E.end putter).ring ≡ (F.end taker).ring }
         requires idle { E.idle putter × F.idle taker }
         ensures meets { Meets (E.end putter) (F.end taker) result.history }
+        ensures linearizable { EachReadingIsLinearizable (E.end putter).ring.shape result.history }
         ensures closed { ClosesAre (E.end putter).ring.shape (E.end putter).list result.closed }
         ensures told { TellsAre (F.end taker).ring.shape (F.end taker).list result.told };
 }

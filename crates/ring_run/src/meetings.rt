@@ -1,6 +1,7 @@
 //! How the two ends of a ring are made, meet, and end.
 ghost use Rattle.std.specs.Prelude.{◌≡◌, false, None, []};
 ghost use Rattle.bits_core.specs.declared.events.Side.TheVariants.{P, C};
+ghost use Rattle.ring_core.specs.Linear.{EachReadingIsLinearizable};
 ghost use Rattle.ring_run.specs.Hands.{StandsAs};
 ghost use Rattle.ring_run.specs.Rule.{IsIdle};
 ghost use Rattle.ring_run.specs.Meetings.{Keeps, Meets, ClosesAre, TellsAre, closed_reply};
@@ -14,6 +15,7 @@ use crate::views::View;
 use crate::words::Words;
 use atomic_table::Seat;
 use bits_core::{Oracle, Side};
+use ring_core::laws::ring_is_linearizable;
 use ring_core::{Consumer, Producer, TakeReply};
 use std::alloc::{Allocator, Global};
 use std::marker::Model;
@@ -87,8 +89,8 @@ impl<A: Allocator> FlickerRing<A> {
 
 // With an allocator's name, so that `FlickerRing::meet` and `FlickerRing::finish` are called with none: ends have none.
 impl FlickerRing<Global> {
-    /// Both ends learn one lawful history, whose sides are their two lists and which begins with what each knew. All
-    /// later calls of both stand behind it. The ends are those of one ring, with no call under way; they come back with
+    /// Both ends learn one lawful history, whose sides are their two lists and which begins with what each knew. Its calls
+    /// are linearizable. All later calls of both stand behind it. The ends are those of one ring, with no call under way; they come back with
     /// the same lists and the same oracles, which are asked nothing. It makes no access and takes no memory.
     pub fn meet<'a, O1: Oracle + Drop, O2: Oracle + Drop>(
         putter: Putter<'a, O1>,
@@ -100,9 +102,11 @@ impl FlickerRing<Global> {
         ensures taker { Keeps taker.entry.end result.1.end × (result.1.taking ≡ false) }
         ensures one { result.1.end.known ≡ result.0.end.known }
         ensures meets { Meets putter.entry.end taker.entry.end result.0.end.known }
+        ensures linearizable { EachReadingIsLinearizable putter.entry.end.ring.shape result.0.end.known }
         ensures lawful { StandsAs P result.0.end × StandsAs C result.1.end }
         ensures oracles { (result.0.oracle ≡ putter.entry.oracle) × (result.1.oracle ≡ taker.entry.oracle) }
     {
+        ring_is_linearizable();
         let Putter {
             before: _,
             core: p,
@@ -133,7 +137,7 @@ impl FlickerRing<Global> {
     }
 
     /// Ends the ring's run, of which one lawful history is left, whose sides are the two lists and which begins with
-    /// what each end knew. The ends are those of one ring, with no call under way; they are gone, and their oracles with
+    /// what each end knew; its calls are linearizable. The ends are those of one ring, with no call under way; they are gone, and their oracles with
     /// them. It makes no access and takes no memory.
     pub fn finish<'a, O1: Oracle + Drop, O2: Oracle + Drop>(
         putter: Putter<'a, O1>,
@@ -142,9 +146,11 @@ impl FlickerRing<Global> {
         requires ring { putter.end.ring ≡ taker.end.ring }
         requires idle { (putter.call ≡ None) × (taker.taking ≡ false) }
         ensures meets { Meets putter.entry.end taker.entry.end result.history }
+        ensures linearizable { EachReadingIsLinearizable putter.entry.end.ring.shape result.history }
         ensures closed { ClosesAre putter.entry.end.ring.shape putter.entry.end.list result.closed }
         ensures told { TellsAre taker.entry.end.ring.shape taker.entry.end.list result.told }
     {
+        ring_is_linearizable();
         let Putter {
             before: _,
             core: p,

@@ -61,3 +61,7 @@ returns-clause-empty g c takes =
     let empty = c.report.result.empty in
     subst (λ (l : List Event). FollowsTakes (content_of c.args.script).shape l takes → empty ≡ empties (takes_over_in (content_of c.args.script).shape l takes)) (sym c.report.ensures.history)
     (subst (λ (t : Content). FollowsTakes t.shape w.history takes → empty ≡ empties (takes_over_in t.shape w.history takes)) c.in_ok-played.ensures.script (c.report.ensures.empty takes))
+
+pub returns-clause-linearizable : goal.returns-clause-linearizable
+returns-clause-linearizable g c puts takes run =
+    c.ring_is_linearizable.ensures (content_of c.args.script).shape (g.E.Store.items c.report.result.history) puts takes run

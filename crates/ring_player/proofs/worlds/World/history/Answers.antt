@@ -1,6 +1,7 @@
 use Rattle.std.proofs.Common.{List, subst, sym}
 use Rattle.bits_core.specs.declared.events.Event.{Event}
 use Rattle.bits_core.specs.declared.events.Side.TheVariants.{P, C}
+use Rattle.ring_core.specs.Linear.{EachReadingIsLinearizable}
 use Rattle.ring_player.specs.Headline.{IsPlayOf}
 use Rattle.ring_player.specs.Plays.{IsProgram, Plays, sides}
 use Rattle.ring_player.specs.Worlds.{Played}
@@ -18,3 +19,9 @@ returns-clause-plays g c =
     (subst (λ (t : List Event). IsProgram (content_of w.consumer.script) C t) (sym i.takes.own_is) i.takes.there.program) in
     subst (λ (t : Played). IsPlayOf t.script (sides t.history) t.history) c.self.view_is
     (is_play c.every_play_holds.ensures c.every_play_fills.ensures (content_of w.script) (sides w.memory.events) w.memory.events plays)
+
+pub returns-clause-linearizable : goal.returns-clause-linearizable
+returns-clause-linearizable g c =
+    let w = c.self.inside in
+    subst (λ (t : Played). EachReadingIsLinearizable t.script.shape t.history) c.self.view_is
+    (λ puts takes run. c.ring_is_linearizable.ensures (content_of w.script).shape w.memory.events puts takes run)
