@@ -15,9 +15,10 @@ use Rattle.bits_core.specs.Shape.{HasBatch, IsRefusedBatch}
 use Rattle.bits_core.specs.Made.{IsBeginning}
 use Rattle.bits_core.specs.declared.traces.TraceFault.{TraceFault}
 use Rattle.bits_core.specs.declared.traces.TraceFault.TheVariants as trace
-use Rattle.ring_audit.specs.Audit.{IsFinding, SaysSentence, Statement}
+use Rattle.ring_audit.specs.Audit.{IsFinding, SaysLinearizable, SaysSentence, Statement}
 use Rattle.ring_audit.specs.Audit as audit
 use Rattle.ring_audit.specs.declared.faults.AuditFault.TheVariants as finding
+use Rattle.ring_core.specs.Linear.{EachReadingIsLinearizable}
 use Rattle.ring_player.specs.Headline.{IsPlayOf}
 use Rattle.ring_player.specs.declared.faults.PlayFault.TheVariants as play
 use Rattle.ring_script.specs.Faults.{IsScriptFault}
@@ -74,7 +75,7 @@ pub record AuditsBits (input text : List ℕ) (ending : Ending) : Type 0 where
   pub ends : ending ≡ verdict_ending_of verdict
 
 -- The input is a trace, and the text and the ending are those of the one finding of its bits and of the programs of its two
--- sides. Lists that it tells meet the sentence of the ring
+-- sides. Lists that it tells meet the sentence of the ring, and their calls are linearizable
 pub record AuditsPrograms (input text : List ℕ) (ending : Ending) : Type 0 where
   pub shape : Shape
   pub events : List Event
@@ -82,16 +83,18 @@ pub record AuditsPrograms (input text : List ℕ) (ending : Ending) : Type 0 whe
   pub is_trace : IsTrace input shape events
   pub is_finding : IsFinding shape events found
   pub sentence : SaysSentence shape events found
+  pub linearizable : SaysLinearizable shape events found
   pub words : text ≡ audit_text_of found
   pub ends : ending ≡ finding_ending_of found
 
--- the input is a script, and the text is that of a report of its play, by the letters of its schedule
+-- the input is a script, and the text is that of a report of its play, by the letters of its schedule, whose calls are linearizable
 pub record PlaysScript (input text : List ℕ) (ending : Ending) : Type 0 where
   pub content : Content
   pub history : List Event
   pub summary : Summary
   pub is_script : IsScript input content
   pub plays : IsPlayOf content content.letters history
+  pub linearizable : EachReadingIsLinearizable content.shape history
   pub reports : Reports content history summary
   pub words : text ≡ report_text_of summary
   pub ends : ending ≡ Done
@@ -102,6 +105,7 @@ pub record TracesScript (input text : List ℕ) (ending : Ending) : Type 0 where
   pub history : List Event
   pub is_script : IsScript input content
   pub plays : IsPlayOf content content.letters history
+  pub linearizable : EachReadingIsLinearizable content.shape history
   pub is_trace : IsTrace text content.shape history
   pub ends : ending ≡ Done
 

@@ -9,6 +9,7 @@ returns-clause-answered g c = record {
   is_trace = c.in_ok-shape.ensures.read;
   is_finding = rw c.as_slice.ensures.value at c.in_ok-finding.ensures.found;
   sentence = rw c.as_slice.ensures.value at c.in_ok-finding.ensures.sentence;
+  linearizable = rw c.as_slice.ensures.value at c.in_ok-finding.ensures.linearizable;
   words = c.in_ok-text.ensures.text;
   ends = c.finding_ending-ending.ensures;
 }

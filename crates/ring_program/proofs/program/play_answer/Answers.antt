@@ -12,6 +12,7 @@ returns-clause-answered g c =
       summary = summary_of report;
       is_script = c.in_ok-script.ensures.read;
       plays = told.plays;
+      linearizable = told.linearizable;
       reports = record { events = refl; put = told.put; taken = told.taken; told = told.told; full = told.full; empty = told.empty; flicker = told.flicker };
       words = c.in_ok-text.ensures.text;
       ends = refl;

@@ -11,6 +11,7 @@ returns-clause-answered g c =
       history = h;
       is_script = c.in_ok-script.ensures.read;
       plays = c.in_ok-report.ensures.plays;
+      linearizable = c.in_ok-report.ensures.linearizable;
       is_trace = rw (c.shape.ensures, c.as_slice.ensures.value) at (c.in_ok-text.ensures.again (rw c.as_slice.ensures.value (play_within _ script h c.in_ok-script.ensures.read c.in_ok-report.ensures.plays.plays)));
       ends = refl;
     }
