@@ -16,7 +16,7 @@ use Rattle.bits_core.specs.Laws.{FaultBreaks, FlickerIsByInterval}
 use Rattle.bits_core.specs.Lawful.{IsLawful}
 use Rattle.bits_core.specs.Memory.{EndsOverlappedRead, is_flicker, is_flicker_at}
 use Rattle.bits_core.specs.Seen.{AreSeen, IsSeen, clashes, sound_count}
-use Rattle.ring_page.specs.Audit.{AreMarks, IsNothingSeen, Names, Shows, ShowsNothing, nothing}
+use Rattle.ring_page.specs.Audit.{AreMarksOf, IsNothingSeen, Names, ShowsPlace, ShowsNothing, nothing}
 use Rattle.ring_page.specs.Marks.{ArePut, mark_of}
 use Rattle.ring_page.specs.declared.marks.Mark.{Mark}
 
@@ -45,7 +45,7 @@ sound breaks shape h (Fault place kind) is = (breaks shape h place kind is).0
 
 -- what is seen at a place is what the beginning that is lawful shows there
 shown : FlickerIsByInterval → (shape : Shape) (h : List Event) (n p : ℕ) (e : Event) (x : Seen) (m : Mark) → IsLawful shape (take n h) → p < n → slice_get h p ≡ Some e → IsSeen (take p h) e x → m ≡ mark_of e x
-    → Shows (take n h) p e m
+    → ShowsPlace (take n h) p e m
 shown by_interval shape h n p e x m lawful below at seen is = record {
   held_is = ap (λ (k : Mark). k.held) is ∙ seen.held_is ∙ ap (held e.bit) later;
   overlapped_is = (λ t. law.0 (sym flicker ∙ t), λ ends. flicker ∙ law.1 ends);
@@ -78,9 +78,9 @@ shows_nothing e x m is none = record {
   clashes_is = ap (λ (k : Mark). k.clashes) is ∙ ap (λ (s : Seen). s.clashes) none;
 }
 
-pub AreMarks-audited : FaultBreaks → FlickerIsByInterval → (shape : Shape) (h : List Event) (verdict : Verdict) (old new : List Seen) (marks : List Mark) → IsVerdict shape h verdict → IsNothingSeen old
-    → AreSeen h (sound_count h verdict) old new → length h ≤ length new → ArePut h new marks → AreMarks h (sound_count h verdict) marks
-AreMarks-audited breaks by_interval shape h verdict old new marks is none seen room put = record {
+pub AreMarksOf-audited : FaultBreaks → FlickerIsByInterval → (shape : Shape) (h : List Event) (verdict : Verdict) (old new : List Seen) (marks : List Mark) → IsVerdict shape h verdict → IsNothingSeen old
+    → AreSeen h (sound_count h verdict) old new → length h ≤ length new → ArePut h new marks → AreMarksOf h (sound_count h verdict) marks
+AreMarksOf-audited breaks by_interval shape h verdict old new marks is none seen room put = record {
   names = λ p e m at there. let x = seen_at p e at in names e x.0 m (put p e x.0 m at x.1 there);
   shows = λ p e m at there below. let x = seen_at p e at in
       shown by_interval shape h (sound_count h verdict) p e x.0 m (sound breaks shape h verdict is) below at (seen.seen p e x.0 below at x.1) (put p e x.0 m at x.1 there);

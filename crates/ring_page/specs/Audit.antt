@@ -31,7 +31,7 @@ pub record Names (e : Event) (m : Mark) : Type 0 where
 
 -- What the lawful history shows at the place: what the event's bit holds just after it; whether a read ends there that a write
 -- overlapped, by intervals; whether just after it a read and a write of one bit are open.
-pub record Shows (lawful : List Event) (place : ℕ) (e : Event) (m : Mark) : Type 0 where
+pub record ShowsPlace (lawful : List Event) (place : ℕ) (e : Event) (m : Mark) : Type 0 where
   pub held_is : m.held ≡ held e.bit (take (suc place) lawful)
   pub overlapped_is : (m.overlapped ≡ true) ↔ EndsOverlappedRead lawful place
   pub clashes_is : m.clashes ≡ clashes (take (suc place) lawful)
@@ -43,9 +43,9 @@ pub record ShowsNothing (m : Mark) : Type 0 where
 
 -- Each mark names its event, for as many as there is room. Those of the first n events, which are lawful, show what is seen there, and
 -- the others nothing.
-pub record AreMarks (events : List Event) (n : ℕ) (marks : List Mark) : Type 0 where
+pub record AreMarksOf (events : List Event) (n : ℕ) (marks : List Mark) : Type 0 where
   pub names : (place : ℕ) (e : Event) (m : Mark) → slice_get events place ≡ Some e → slice_get marks place ≡ Some m → Names e m
-  pub shows : (place : ℕ) (e : Event) (m : Mark) → slice_get events place ≡ Some e → slice_get marks place ≡ Some m → place < n → Shows (take n events) place e m
+  pub shows : (place : ℕ) (e : Event) (m : Mark) → slice_get events place ≡ Some e → slice_get marks place ≡ Some m → place < n → ShowsPlace (take n events) place e m
   pub rest : (place : ℕ) (e : Event) (m : Mark) → slice_get events place ≡ Some e → slice_get marks place ≡ Some m → n ≤ place → ShowsNothing m
 
 -- nothing is seen
@@ -80,7 +80,7 @@ pub record TellsAudit (text : List ℕ) (marks : List Mark) (told : Told) : Type
   pub tells : TellsVerdict verdict told
   pub tells_shape : TellsShape shape told
   pub count : told.count ≡ length events
-  pub are_marks : AreMarks events (sound_count events verdict) marks
+  pub are_marks : AreMarksOf events (sound_count events verdict) marks
 
 -- ---- no trace
 
@@ -113,5 +113,5 @@ pub record TellsRefusal (text : List ℕ) (told : Told) : Type 0 where
   pub tells : TellsFault fault told
 
 -- what is told of a text
-abbrev pub Tells : List ℕ → List Mark → Told → Type 0
-Tells text marks told = TellsAudit text marks told ⊎ TellsRefusal text told
+abbrev pub TellsText : List ℕ → List Mark → Told → Type 0
+TellsText text marks told = TellsAudit text marks told ⊎ TellsRefusal text told

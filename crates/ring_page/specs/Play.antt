@@ -9,11 +9,12 @@ use Rattle.ring_core.specs.Takes.{FollowsTakes, Takes}
 use Rattle.ring_player.specs.Headline.{IsPlayOf}
 use Rattle.ring_player.specs.Plays.{HasFlickers}
 use Rattle.ring_script.specs.Faults.{IsScriptFault, script_fault_number}
-use Rattle.ring_script.specs.Script.{Content, Held, Holds, IsContentOf, IsScript}
+use Rattle.ring_script.specs.Content.{Content}
+use Rattle.ring_script.specs.Script.{Held, Holds, IsContentOf, IsScript}
 use Rattle.ring_script.specs.declared.faults.ScriptFault.{ScriptFault}
 use Rattle.ring_script.specs.declared.faults.ScriptFault.TheVariants as fault
 use Rattle.ring_script.specs.Schedule.{run_count}
-use Rattle.ring_page.specs.Audit.{AreMarks}
+use Rattle.ring_page.specs.Audit.{AreMarksOf}
 use Rattle.ring_page.specs.declared.audits.TheConstants.{EVENT_ROOM}
 use Rattle.ring_page.specs.declared.plays.TheConstants.{ANSWER_ROOM, RUN_ROOM}
 use Rattle.ring_page.specs.declared.marks.Mark.{Mark}
@@ -43,7 +44,7 @@ abbrev pub Fills : List ℕ → List ℕ → Type 0
 Fills list room = take (length list) room ≡ take (length room) list
 
 -- the numbers of the report of a history
-pub record Reports (script : Content) (history : List Event) (put taken : List ℕ) (told : Played) : Type 0 where
+pub record TellsReport (script : Content) (history : List Event) (put taken : List ℕ) (told : Played) : Type 0 where
   pub count : told.count ≡ length history
   pub put_is : (puts : Puts) → FollowsPuts script.shape history puts → Fills (items_put_in script.shape history puts) put × (told.put ≡ length (items_put_in script.shape history puts))
   pub taken_is : (takes : Takes) → FollowsTakes script.shape history takes → Fills (items_taken_in script.shape history takes) taken × (told.taken ≡ length (items_taken_in script.shape history takes))
@@ -65,8 +66,8 @@ pub record TellsFirstLetters (script : Content) (letters : ℕ) (marks : List Ma
   pub history : List Event
   pub no_fault : TellsNoFault told
   pub plays : IsPlayOf script (take letters script.letters) history
-  pub are_marks : AreMarks history (length history) marks
-  pub reports : Reports script history put taken told
+  pub are_marks : AreMarksOf history (length history) marks
+  pub reports : TellsReport script history put taken told
 
 -- the place of a fault; a number that it does not use is 0
 abbrev pub TellsFaultPlace : ScriptFault → Played → Type 0

@@ -2,7 +2,7 @@
 ghost use Rattle.std.specs.Prelude.{◌≡◌, ◌≤◌, ◌⊎◌, ℕ, length};
 ghost use Rattle.bits_core.specs.Shape.{batch_of, capacity_of, modulus_of, width_of};
 ghost use Rattle.bits_core.specs.Trace.{IsTraceFault};
-ghost use Rattle.ring_page.specs.Audit.{IsNothingSeen, Tells, TellsFault, TellsShape, TellsVerdict};
+ghost use Rattle.ring_page.specs.Audit.{IsNothingSeen, TellsText, TellsFault, TellsShape, TellsVerdict};
 
 use crate::marks::{Mark, put_marks};
 use bits_core::laws::{fault_breaks, flicker_is_by_interval};
@@ -81,7 +81,7 @@ fn told_fault(fault: TraceFault) -> Told
 fn audited(text: &[u8], events: &mut [Event], seen: &mut [Seen], marks: &mut [Mark]) -> Told
     requires room { length events.old ≡ EVENT_ROOM }
     requires seen { (length seen.old ≡ EVENT_ROOM) × IsNothingSeen seen.old }
-    ensures { Tells text.now marks.new result }
+    ensures { TellsText text.now marks.new result }
 {
     fault_breaks();
     flicker_is_by_interval();
@@ -125,7 +125,7 @@ pub fn nothing_seen() -> [Seen; EVENT_ROOM]
 /// for; or why it is no trace, or that it has more events than `EVENT_ROOM`. It takes no memory.
 #[unsafe(no_mangle)]
 pub extern "C" fn page_audit(text: &[u8], marks: &mut [Mark], told: &mut Told)
-    ensures { Tells text.now marks.new told.new }
+    ensures { TellsText text.now marks.new told.new }
 {
     let mut events = no_events();
     let mut seen = nothing_seen();

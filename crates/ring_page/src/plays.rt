@@ -4,7 +4,7 @@ ghost use Rattle.bits_core.specs.declared.events.Event.{Event};
 ghost use Rattle.bits_core.specs.declared.shapes.Shape.{Shape};
 ghost use Rattle.bits_core.specs.Lawful.{IsLawful};
 ghost use Rattle.ring_script.specs.Borrowed.{content_of, held_of};
-ghost use Rattle.ring_page.specs.Audit.{AreMarks, IsNothingSeen};
+ghost use Rattle.ring_page.specs.Audit.{AreMarksOf, IsNothingSeen};
 ghost use Rattle.ring_page.specs.Play.{Fills, TellsFirstLetters, TellsPlay, TellsPlayFault, bit_number, fields_of};
 
 use crate::audits::{EVENT_ROOM, no_events, nothing_seen};
@@ -105,7 +105,7 @@ fn put_list(list: &[u64], room: &mut [u64])
 fn put_lawful(shape: &Shape, history: &[Event], marks: &mut [Mark])
     requires lawful { IsLawful shape.now history.now }
     requires few { length history.now ≤ EVENT_ROOM }
-    ensures { AreMarks history.now (length history.now) marks.new }
+    ensures { AreMarksOf history.now (length history.now) marks.new }
 {
     fault_breaks();
     flicker_is_by_interval();

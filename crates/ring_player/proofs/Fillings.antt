@@ -7,7 +7,7 @@ use Rattle.ring_core.specs.Puts.{ArePuts, IsPut, number_after, Put, Stored, stor
 use Rattle.ring_core.specs.RingLaw.{FillIsFresh, InEveryRun, IsRun}
 use Rattle.ring_player.specs.Headline.{EveryPlayFills}
 use Rattle.ring_player.specs.Plays.{AreAttempts, offered}
-use Rattle.ring_script.specs.Script.{Content}
+use Rattle.ring_script.specs.Content.{Content}
 
 -- a put among attempts, behind others, is one of the items that are offered there
 attempt_at :

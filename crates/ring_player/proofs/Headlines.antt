@@ -13,7 +13,7 @@ use Rattle.ring_core.specs.Puts.{FollowsPuts, Full, Put, Puts, Stored, stored_in
 use Rattle.ring_core.specs.RingLaw.{ClosedIsTrue, InEveryRun, IsRun}
 use Rattle.ring_core.specs.Takes.{FollowsTakes, Takes}
 use Rattle.ring_player.specs.Plays.{AreAttempts, offered, Plays}
-use Rattle.ring_script.specs.Script.{Content}
+use Rattle.ring_script.specs.Content.{Content}
 
 drop-all : (n : ℕ) (xs : List ℕ) → n ≡ length xs → drop n xs ≡ []
 drop-all zero [] e = refl

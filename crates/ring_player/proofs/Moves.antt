@@ -13,7 +13,7 @@ use Rattle.ring_core.specs.Puts.{put_program}
 use Rattle.ring_core.specs.Takes.{take_program}
 use Rattle.ring_player.specs.Actors.{begun, so_far, IsMove}
 use Rattle.ring_player.specs.Plays.{AreMoves, IsDone, IsDoneAfter, IsProgram, sides}
-use Rattle.ring_script.specs.Script.{Content}
+use Rattle.ring_script.specs.Content.{Content}
 
 -- ---- the events of one side
 

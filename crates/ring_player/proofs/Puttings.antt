@@ -18,7 +18,8 @@ use Rattle.ring_core.specs.Over.{fulls}
 use Rattle.ring_core.specs.Readings.{PutsAreFirst}
 use Rattle.ring_player.specs.Actors.{IsAsked, IsPutting, PutTally, after_reply, full_in_reply, so_far, stored_in_reply}
 use Rattle.ring_player.specs.Plays.{AreAttempts, ArePutsOf, IsDoneAfter, IsProgram, offered}
-use Rattle.ring_script.specs.Script.{Content, Fit}
+use Rattle.ring_script.specs.Content.{Content}
+use Rattle.ring_script.specs.Script.{Fit}
 use Rattle.ring_player.proofs.Nexts.{IsNextPut, NextPut as NextOf}
 use Rattle.ring_player.proofs.Moves.{events-append, events-more, length-events, program_beginning}
 

@@ -22,7 +22,7 @@ use Rattle.ring_core.specs.Calls.{EndsInZeros, LastBitIsDue}
 use Rattle.ring_core.specs.RingLaw.{PutsAreSeen, TakesAreSeen}
 use Rattle.ring_player.specs.Actors.{begun, so_far, IsMove, IsPlaying}
 use Rattle.ring_player.specs.Plays.{IsProgram}
-use Rattle.ring_script.specs.Script.{Content}
+use Rattle.ring_script.specs.Content.{Content}
 use Rattle.ring_player.proofs.Moves.{by_side, events-more, length-events, open_not_done, own_by, own_other, so_far_length}
 
 abbrev pub Stands : Type 1

@@ -22,7 +22,7 @@ use Rattle.register_core.specs.ScanState.{row_read_by, scan_phrase}
 use Rattle.ring_core.specs.Over.{empties, takes_over}
 use Rattle.ring_player.specs.SoFar.{TakenSoFar}
 use Rattle.ring_player.proofs.Overs.{takes_all_over, takes_cut_over}
-use Rattle.ring_script.specs.Script.{Content}
+use Rattle.ring_script.specs.Content.{Content}
 use Rattle.ring_player.proofs.Nexts.{IsNextTake, NextTake as NextOf}
 use Rattle.ring_player.proofs.Moves.{events-append, events-more, length-events, program_beginning, so_far_length}
 

@@ -20,7 +20,7 @@ use Rattle.std.proofs.lemmas.List.{length-append, length-replicate, take_all, ta
 use Rattle.std.proofs.Math.Seq.{take-append-add, take-length}
 use Rattle.ring_script.specs.declared.schedules.Run.{Run}
 use Rattle.ring_script.specs.Schedule.{spelled}
-use Rattle.ring_script.specs.Script.{Content}
+use Rattle.ring_script.specs.Content.{Content}
 use Rattle.ring_core.specs.Counts.{first_count}
 use Rattle.ring_core.specs.Items.{ItemsAreRead, items_put, items_put_in, items_taken, items_taken_in, TakenAreRead, ToldIn}
 use Rattle.ring_core.specs.Over.{empties, fulls, PutsOverAreRead, puts_over_in, TakesOverAreRead, takes_over_in}

@@ -18,7 +18,7 @@ use Rattle.ring_core.specs.ProducerCalls.{HasCallMore, room_in}
 use Rattle.ring_core.specs.ProducerState.{Call, call_of, Close, ProducerState, Put}
 use Rattle.ring_core.specs.Puts as puts
 use Rattle.ring_core.specs.Puts.{accesses_before_count, ArePuts, close_phrase, Full, put_phrase, put_phrases, put_program, Puts, Stored, stored_after}
-use Rattle.ring_script.specs.Script.{Content}
+use Rattle.ring_script.specs.Content.{Content}
 use Rattle.ring_player.specs.Actors.{begun, digits_by, digits_in, HasWritten, IsAsked, IsPutting, items_begun, put_once, PutTally, so_far, with_open}
 use Rattle.ring_player.specs.Plays.{AreAttempts, ArePutsOf, offered}
 use Rattle.ring_player.specs.SoFar.{PutSoFar}

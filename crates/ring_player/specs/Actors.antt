@@ -23,7 +23,7 @@ use Rattle.ring_core.specs.Over.{empties, fulls}
 use Rattle.ring_core.specs.Puts.{Puts, stored_in, put_program}
 use Rattle.ring_core.specs.Takes.{Take, Takes, Item, ItemAfterClose, Empty, taken_in, take_program}
 use Rattle.ring_player.specs.Plays.{offered, AreAttempts, IsProgram, IsDone}
-use Rattle.ring_script.specs.Script.{Content}
+use Rattle.ring_script.specs.Content.{Content}
 
 -- the event by which an access begins
 abbrev pub begun : Side → Access → Event

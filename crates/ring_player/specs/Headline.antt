@@ -11,7 +11,7 @@ use Rattle.ring_core.specs.Puts.{FollowsPuts, Puts, Stored}
 use Rattle.ring_core.specs.RingLaw.{ClosedIsTrue, EmptyIsFresh, FullIsFresh, IsRun, TakenArePrefix, TakesMatchPuts, WordsAreQuiet}
 use Rattle.ring_core.specs.Takes.{FollowsTakes, Takes}
 use Rattle.ring_player.specs.Plays.{ArePutsOf, offered, Plays}
-use Rattle.ring_script.specs.Script.{Content}
+use Rattle.ring_script.specs.Content.{Content}
 
 -- Whatever calls the events of the two sides are read as: the items taken are a prefix of the items put, each taken once, by
 -- the take of its number; no word's read overlaps its write; Empty and Full are answered only where the calls ended before

@@ -12,7 +12,7 @@ use Rattle.ring_core.specs.Items.{Tells}
 use Rattle.ring_core.specs.ProducerCalls.{IsPutOf}
 use Rattle.ring_core.specs.Puts.{Put, Puts, number_after, stored_in, put_program, ArePuts}
 use Rattle.ring_core.specs.Takes.{Takes, taken_in, take_program, AreTakes}
-use Rattle.ring_script.specs.Script.{Content}
+use Rattle.ring_script.specs.Content.{Content}
 
 -- the items that the world offers where n are stored: the next ones, as many as a batch may have
 abbrev pub offered : Content → ℕ → List ℕ

@@ -8,7 +8,7 @@ use Rattle.bits_core.specs.Memory.{Recorded}
 use Rattle.bits_core.specs.Oracle.{turn}
 use Rattle.ring_player.specs.Actors.{IsPlaying, IsAtTurn}
 use Rattle.ring_player.specs.Plays.{AreMoves, sides}
-use Rattle.ring_script.specs.Script.{Content}
+use Rattle.ring_script.specs.Content.{Content}
 
 -- a world is seen as its script and its history, by how many items were taken, and for how many events and items in all there is
 -- room at least

@@ -21,7 +21,7 @@ pub trait Actor {
     ghost use Rattle.bits_core.specs.Open.{IsOpenRight};
     ghost use Rattle.ring_core.specs.Calls.{LastBitIsDue, EndsInZeros};
     ghost use Rattle.ring_player.specs.Plays.{IsDoneAfter};
-    ghost use Rattle.ring_script.specs.Script.{Content};
+    ghost use Rattle.ring_script.specs.Content.{Content};
 
     ghost script: { Self → Content };
 

@@ -9,7 +9,8 @@ use Rattle.bits_core.specs.declared.events.Side.{Side}
 use Rattle.bits_core.specs.declared.shapes.Shape.{Shape}
 use Rattle.bits_core.specs.declared.traces.TheConstants.{EVENT_LIMIT}
 use Rattle.ring_player.specs.Plays.{AreMoves, Plays}
-use Rattle.ring_script.specs.Script.{Content, IsScript}
+use Rattle.ring_script.specs.Content.{Content}
+use Rattle.ring_script.specs.Script.{IsScript}
 
 each_of_shape : (shape : Shape) (h : List Event) → ((p : ℕ) (e : Event) → slice_get h p ≡ Some e → belongs shape e.bit ≡ true) → AreOfShape shape h
 each_of_shape shape [] each = All-nil (λ e. belongs shape e.bit ≡ true)

@@ -22,7 +22,8 @@ use Rattle.ring_core.specs.Linear.{EachReadingIsLinearizable}
 use Rattle.ring_player.specs.Headline.{IsPlayOf}
 use Rattle.ring_player.specs.declared.faults.PlayFault.TheVariants as play
 use Rattle.ring_script.specs.Faults.{IsScriptFault}
-use Rattle.ring_script.specs.Script.{Content, IsScript}
+use Rattle.ring_script.specs.Content.{Content}
+use Rattle.ring_script.specs.Script.{IsScript}
 use Rattle.ring_script.specs.declared.faults.ScriptFault.{ScriptFault}
 use Rattle.ring_script.specs.declared.faults.ScriptFault.TheVariants as script
 use Rattle.ring_program.specs.Reports.{Reports}

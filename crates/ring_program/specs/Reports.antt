@@ -6,7 +6,7 @@ use Rattle.ring_core.specs.Over.{empties, fulls, puts_over_in, takes_over_in}
 use Rattle.ring_core.specs.Puts.{FollowsPuts, Puts}
 use Rattle.ring_core.specs.Takes.{FollowsTakes, Takes}
 use Rattle.ring_player.specs.Plays.{HasFlickers}
-use Rattle.ring_script.specs.Script.{Content}
+use Rattle.ring_script.specs.Content.{Content}
 use Rattle.ring_program.specs.Texts.{Summary}
 
 -- by the calls that the history's events are read as: the items put, the items taken, whether a take was told that the ring is

@@ -19,7 +19,8 @@ use Rattle.ring_script.specs.Results.{result_and_then}
 use Rattle.ring_script.specs.Schedule.{IsSchedule, IsScheduleText}
 use Rattle.ring_script.specs.ScheduleReading.{letters_of, stray_in}
 use Rattle.ring_script.specs.FieldReading.{FieldValues, has_known_names, names_in, typed_of, values_of}
-use Rattle.ring_script.specs.Script.{Held, Content, Fit, Holds, HoldsItems, HoldsLetters, HoldsShape, IsContentOf, IsOracle, IsOracleText, IsScript, answer_byte}
+use Rattle.ring_script.specs.Content.{Content}
+use Rattle.ring_script.specs.Script.{Held, Fit, Holds, HoldsItems, HoldsLetters, HoldsShape, IsContentOf, IsOracle, IsOracleText, IsScript, answer_byte}
 use Rattle.ring_script.specs.ScriptReading.{Given, given_by, given_in, given_of, if_answers, if_fits, if_read, if_stands, is_no_answer, is_too_wide, items_in, json_of, oracle_of, schedule_of, script_of, shape_in}
 use Rattle.ring_script.specs.Fields.{HasKnownNames, IsJson, IsObject, held_as, wholes}
 use Rattle.ring_script.specs.Faults.{IsScriptFault, IsFirstStray}

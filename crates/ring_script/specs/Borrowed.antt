@@ -1,6 +1,7 @@
 -- What a borrowed script is seen as.
 use Rattle.ring_script.specs.Schedule.{spelled}
-use Rattle.ring_script.specs.Script.{Content, Held}
+use Rattle.ring_script.specs.Content.{Content}
+use Rattle.ring_script.specs.Script.{Held}
 use Rattle.ring_script.specs.declared.borrowed.Fields.{Fields}
 use Rattle.ring_script.specs.declared.borrowed.ScriptRef.{ScriptRef}
 

@@ -2,7 +2,8 @@
 use Rattle.std.specs.Prelude.{◌≡◌, ◌⊎◌, ◌<◌, ◌^◌, ℕ, List, decimal}
 use Rattle.bits_core.specs.declared.events.Side.{Side}
 use Rattle.ring_script.specs.Schedule.{IsCount, IsSchedule, count_of}
-use Rattle.ring_script.specs.Script.{Content, IsScript}
+use Rattle.ring_script.specs.Content.{Content}
+use Rattle.ring_script.specs.Script.{IsScript}
 use Rattle.ring_script.specs.Faults.{IsScriptFault}
 use Rattle.ring_script.specs.declared.faults.ScriptFault.{ScriptFault}
 

@@ -1,5 +1,6 @@
 pub mod Schedule
 pub mod Fields
+pub mod Content
 pub mod Script
 pub mod Faults
 pub mod Laws

@@ -4,20 +4,12 @@ use Rattle.serde_json.specs.Data.{Members, number, unsigned, array, boolean, str
 use Rattle.bits_core.specs.Shape.{HasBatch}
 use Rattle.bits_core.specs.declared.shapes.Shape.{Shape}
 use Rattle.bits_core.specs.declared.events.Side.{Side}
+use Rattle.ring_script.specs.Content.{Content}
 use Rattle.ring_script.specs.Schedule.{IsSchedule}
 use Rattle.ring_script.specs.Fields.{HasBatchField, IsObject, held_as, wholes}
 use Rattle.ring_script.specs.declared.faults.Field.TheVariants.{Capacity, Modulus, Width, Items, Takes, Close, Schedule, Oracle}
 use Rattle.ring_script.specs.declared.schedules.TheConstants.{LETTER_LIMIT}
 use Rattle.ring_script.specs.declared.scripts.TheConstants.{ITEM_LIMIT}
-
--- what a script is seen as; `letters` are the letters of its schedule, one by one
-pub record Content : Type 0 where
-  pub shape : Shape
-  pub items : List ℕ
-  pub takes : ℕ
-  pub closes : Bool
-  pub letters : List Side
-  pub oracle : List Bool
 
 -- ---- the fields
 

@@ -10,7 +10,8 @@ use Rattle.bits_core.specs.declared.shapes.ShapeFault.TheVariants as shape
 use Rattle.bits_core.specs.declared.events.Side.{Side}
 use Rattle.ring_script.specs.Results.{result_and_then}
 use Rattle.ring_script.specs.ScheduleReading.{letters_of, stray_in}
-use Rattle.ring_script.specs.Script.{Content, Held}
+use Rattle.ring_script.specs.Content.{Content}
+use Rattle.ring_script.specs.Script.{Held}
 use Rattle.ring_script.specs.FieldReading.{names_in, values_of, typed_of}
 use Rattle.ring_script.specs.declared.faults.ScriptFault.{ScriptFault}
 use Rattle.ring_script.specs.declared.faults.ScriptFault.TheVariants as fault

@@ -1,6 +1,6 @@
 use Rattle.std.proofs.Common.{◌≤◌, ◌∙◌, sym, inl, take, length, arith}
 use Rattle.std.proofs.lemmas.List.{length-take-le}
-use Rattle.ring_page.proofs.Shown.{AreMarks-audited}
+use Rattle.ring_page.proofs.Shown.{AreMarksOf-audited}
 use Rattle.ring_page.proofs.audits.audited.Goals as goal
 
 pub returns-in-Ok : goal.returns-in-Ok
@@ -19,6 +19,6 @@ returns-in-Ok c =
       tells = c.told_verdict.ensures.verdict;
       tells_shape = c.told_verdict.ensures.shape;
       count = c.told_verdict.ensures.count ∙ sym count;
-      are_marks = AreMarks-audited c.fault_breaks.ensures c.flicker_is_by_interval.ensures shape events verdict c.args.seen.now c.audit_bits_into-verdict.new.seen c.put_marks.new.marks
+      are_marks = AreMarksOf-audited c.fault_breaks.ensures c.flicker_is_by_interval.ensures shape events verdict c.args.seen.now c.audit_bits_into-verdict.new.seen c.put_marks.new.marks
           c.audit_bits_into-verdict.ensures.verdict c.requires.seen.1 c.audit_bits_into-verdict.ensures.seen few c.put_marks.ensures;
     })

@@ -12,7 +12,7 @@ use Rattle.bits_core.specs.Open.{bit_of}
 use Rattle.ring_core.specs.Calls.{EndsInZeros, LastBitIsDue}
 use Rattle.ring_player.specs.Actors.{IsPlaying}
 use Rattle.ring_player.specs.Plays.{IsProgram}
-use Rattle.ring_script.specs.Script.{Content}
+use Rattle.ring_script.specs.Content.{Content}
 use Rattle.ring_player.proofs.Steps.{accesses_few, after_end, answers_one, end_move, playing_on, reading, there_with}
 use Rattle.ring_player.proofs.Turns.{turn_read}
 use Rattle.ring_player.proofs.actors.end_read.Goals as goal

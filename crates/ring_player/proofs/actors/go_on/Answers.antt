@@ -4,7 +4,7 @@ use Rattle.bits_core.specs.declared.events.Event.{Event}
 use Rattle.bits_core.specs.Made.{events_of, own}
 use Rattle.ring_player.specs.Actors.{begun}
 use Rattle.ring_player.specs.Plays.{IsDoneAfter}
-use Rattle.ring_script.specs.Script.{Content}
+use Rattle.ring_script.specs.Content.{Content}
 use Rattle.ring_player.proofs.Steps.{begun_side, own_with, there_with}
 use Rattle.ring_player.proofs.Turns.{turn_begin}
 use Rattle.ring_player.proofs.actors.go_on.Goals as goal

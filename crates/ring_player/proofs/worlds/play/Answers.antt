@@ -1,8 +1,8 @@
 use Rattle.std.proofs.Common.{List, IfOk, take, subst, arith}
 use Rattle.std.proofs.lemmas.List.{take_all}
 use Rattle.bits_core.specs.declared.events.Side.{Side}
-use Rattle.ring_script.specs.Script.{Content}
 use Rattle.ring_core.specs.Linear.{EachReadingIsLinearizable}
+use Rattle.ring_script.specs.Content.{Content}
 use Rattle.ring_player.specs.Headline.{IsPlayOf}
 use Rattle.ring_player.proofs.worlds.play.Goals as goal
 

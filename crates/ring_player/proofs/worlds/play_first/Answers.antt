@@ -5,7 +5,7 @@ use Rattle.ring_core.specs.Over.{empties, fulls, puts_over_in, takes_over_in}
 use Rattle.ring_core.specs.Puts.{FollowsPuts}
 use Rattle.ring_core.specs.Takes.{FollowsTakes}
 use Rattle.ring_script.specs.Borrowed.{content_of}
-use Rattle.ring_script.specs.Script.{Content}
+use Rattle.ring_script.specs.Content.{Content}
 use Rattle.bits_core.specs.declared.events.Event.{Event}
 use Rattle.bits_core.specs.declared.events.Side.{Side}
 use Rattle.ring_player.specs.Headline.{IsPlayOf}

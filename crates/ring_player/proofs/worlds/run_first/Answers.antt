@@ -7,7 +7,7 @@ use Rattle.bits_core.specs.declared.events.Side.TheVariants.{P}
 use Rattle.ring_script.specs.declared.schedules.Run.{Run}
 use Rattle.ring_script.specs.Borrowed.{content_of}
 use Rattle.ring_script.specs.Schedule.{spelled}
-use Rattle.ring_script.specs.Script.{Content}
+use Rattle.ring_script.specs.Content.{Content}
 use Rattle.ring_player.specs.Plays.{Plays, sides}
 use Rattle.ring_player.proofs.WorldParts.{left-more, spelled-more, spelled-none, take-more, take-none, on_err, within_all}
 use Rattle.ring_player.proofs.worlds.run_first.Goals as goal

@@ -4,7 +4,7 @@ use Rattle.bits_core.specs.Made.{events_of}
 use Rattle.bits_core.specs.Open.{IsOpenRight}
 use Rattle.ring_player.proofs.Nexts.{take_next}
 use Rattle.ring_player.specs.Plays.{IsDoneAfter}
-use Rattle.ring_script.specs.Script.{Content}
+use Rattle.ring_script.specs.Content.{Content}
 use Rattle.ring_player.proofs.Takings.{resting, right, unfinished}
 use Rattle.ring_script.specs.Borrowed.{content_of}
 use Rattle.ring_player.proofs.taking.TakeActorActor.next.Goals as goal

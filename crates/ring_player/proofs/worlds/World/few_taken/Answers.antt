@@ -6,7 +6,7 @@ use Rattle.ring_player.specs.Headline.{HoldsHeadline}
 use Rattle.ring_player.specs.Worlds.{Played}
 use Rattle.ring_player.proofs.WorldParts.{few_of}
 use Rattle.ring_script.specs.Borrowed.{content_of}
-use Rattle.ring_script.specs.Script.{Content}
+use Rattle.ring_script.specs.Content.{Content}
 use Rattle.ring_player.proofs.worlds.World.few_taken.Goals as goal
 
 pub returns : goal.returns
