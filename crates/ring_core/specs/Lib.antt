@@ -17,4 +17,6 @@ pub mod ProducerCalls
 pub mod ConsumerState
 pub mod ConsumerCalls
 pub mod GoingOn
+pub mod Ranges
 pub mod RingLaw
+pub mod RunLaws
