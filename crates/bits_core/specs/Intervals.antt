@@ -1,12 +1,15 @@
--- Accesses by the places where they begin and end, as Lamport has them.
+-- Accesses by the places where they begin and end, as Lamport has them, and when a history of safe bits is lawful.
 use Rattle.std.specs.Prelude.{◌≡◌, ℕ, suc, ◌+◌, ◌<◌, ◌≤◌, ◌⊎◌, Bool, Some, List, [], ◌∷◌, drop, slice_get, if◌then◌else◌}
 use Rattle.bits_core.specs.declared.events.Side.{Side}
 use Rattle.bits_core.specs.declared.events.Bit.{Bit}
 use Rattle.bits_core.specs.declared.events.Access.{Access}
-use Rattle.bits_core.specs.declared.events.Act.TheVariants.{ReadEnd}
+use Rattle.bits_core.specs.declared.events.Act.{Act}
+use Rattle.bits_core.specs.declared.events.Act.TheVariants.{ReadBegin, ReadEnd, WriteBegin, WriteEnd}
 use Rattle.bits_core.specs.declared.events.Access.TheVariants.{Read, Write}
 use Rattle.bits_core.specs.declared.events.Event.{Event}
+use Rattle.bits_core.specs.declared.shapes.Shape.{Shape}
 use Rattle.bits_core.specs.Bits.{is_by, begun_by, writer, first_value}
+use Rattle.bits_core.specs.Shape.{IsByRightSide}
 
 -- the place of a side's first event, or the length where it has none
 abbrev pub first_place : Side → List Event → ℕ
@@ -61,3 +64,28 @@ IsOpenAt h s access place = (start : ℕ) × (stop : ℕ) × IsAccess h s access
 pub record IsRead (h : List Event) (s : Side) (b : Bit) (start stop : ℕ) (v : Bool) : Type 0 where
   pub access : IsAccess h s (Read b) start stop
   pub ends : slice_get h stop ≡ Some (record { side = s; bit = b; act = ReadEnd v })
+
+-- ---- lawful histories
+
+-- a begin where the side has no access open, or the end of the access of this bit and kind that it has open
+abbrev pub TakesTurn : List Event → ℕ → Side → Bit → Act → Type 0
+TakesTurn h place s b ReadBegin = (access : Access) → ¬ IsOpenAt h s access place
+TakesTurn h place s b (WriteBegin v) = (access : Access) → ¬ IsOpenAt h s access place
+TakesTurn h place s b (ReadEnd v) = IsOpenAt h s (Read b) place
+TakesTurn h place s b WriteEnd = (v : Bool) × IsOpenAt h s (Write b v) place
+
+-- an ended read's answer is permitted where a write of its bit overlaps it, or where the bit held it at the read's begin
+abbrev pub AnswersSafely : List Event → ℕ → Side → Bit → Act → Type 0
+AnswersSafely h place s b ReadBegin = Unit {0}
+AnswersSafely h place s b (WriteBegin v) = Unit {0}
+AnswersSafely h place s b (ReadEnd v) = (start : ℕ) → IsAccess h s (Read b) start place → HasOverlap h b start place ⊎ IsHeld h b start v
+AnswersSafely h place s b WriteEnd = Unit {0}
+
+pub record IsLawfulEvent (shape : Shape) (h : List Event) (place : ℕ) (e : Event) : Type 0 where
+  pub right_side : IsByRightSide shape e
+  pub in_turn : TakesTurn h place e.side e.bit e.act
+  pub permitted : AnswersSafely h place e.side e.bit e.act
+
+-- every event is by the right side, in turn, and, where it ends a read, with an answer that a safe bit may give
+pub record IsLawful (shape : Shape) (h : List Event) : Type 0 where
+  pub each : (place : ℕ) (e : Event) → slice_get h place ≡ Some e → IsLawfulEvent shape h place e

@@ -1,3 +1,4 @@
+pub mod Phrases
 pub mod Row
 pub mod Machine
 pub mod Word

@@ -1,21 +1,11 @@
 -- Scans of a unary register, what the machine of one remembers, and the reads that it has made.
-use Rattle.std.specs.Prelude.{◌≡◌, ℕ, zero, suc, ◌<◌, Bool, true, false, Option, Some, None, List, [], ◌∷◌, ◌++◌, length, if◌then◌else◌}
+use Rattle.std.specs.Prelude.{◌≡◌, ℕ, suc, ◌<◌, Bool, true, false, Option, Some, None, List, [], ◌∷◌, ◌++◌, length, if◌then◌else◌}
 use Rattle.bits_core.specs.declared.events.Side.{Side}
 use Rattle.bits_core.specs.declared.events.Bit.{Bit}
 use Rattle.bits_core.specs.declared.events.Access.{Access}
 use Rattle.bits_core.specs.declared.events.Access.TheVariants as begins
-use Rattle.bits_core.specs.Bits.{other}
-use Rattle.bits_core.specs.Made.{Made, Read, answered, IsBeginning}
-use Rattle.register_core.specs.Row.{row_bit}
-
--- reads of the first n bits of a row that all answer 0
-abbrev pub zero_reads : (ℕ → Bit) → ℕ → List Made
-zero_reads row zero = []
-zero_reads row (suc n) = zero_reads row n ++ Read (row n) false ∷ []
-
--- the accesses of a scan of a row whose value is c: bits 0 to c - 1 answer 0, and then bit c answers 1
-abbrev pub scan_phrase : (ℕ → Bit) → ℕ → List Made
-scan_phrase row c = zero_reads row c ++ Read (row c) true ∷ []
+use Rattle.bits_core.specs.Made.{Made, answered, IsBeginning}
+pub use Rattle.register_core.specs.Phrases.{zero_reads, scan_phrase, row_read_by}
 
 -- the reader's side, the modulus, how many bits were read as 0, and whether one was read as 1
 pub record ScanState : Type 0 where
@@ -27,10 +17,6 @@ pub record ScanState : Type 0 where
 -- a scan that has not begun
 abbrev pub new_scan : Side → ℕ → ScanState
 new_scan side modulus = record { side = side; modulus = modulus; zeros = 0; found = false }
-
--- the row that a side scans: the one that the other side writes
-abbrev pub row_read_by : Side → ℕ → Bit
-row_read_by side = row_bit (other side)
 
 -- the reads that were made
 abbrev pub reads_made : ScanState → List Made

@@ -4,19 +4,7 @@ use Rattle.std.specs.Prelude.{ℕ, zero, suc, ◌-◌, Bool, true, false, cond, 
 use Rattle.bits_core.specs.declared.events.Side.{Side}
 use Rattle.bits_core.specs.Made.{Made}
 use Rattle.register_core.specs.Row.{RowWrite, row_bit, first_bits, bits_after, writes_in}
-
--- a write of 0 to each set bit below the place, from the highest down
-abbrev pub clearing : (ℕ → Bool) → ℕ → List RowWrite
-clearing bits zero = []
-clearing bits (suc j) = cond (bits j) (record { bit = j; value = false } ∷ clearing bits j) (clearing bits j)
-
--- a write of 1 to the bit, where it is clear
-abbrev pub setting : (ℕ → Bool) → ℕ → List RowWrite
-setting bits v = cond (bits v) [] (record { bit = v; value = true } ∷ [])
-
--- the bit writes of a unary write of v over the bits that the writer remembers
-abbrev pub unary_phrase : (ℕ → Bool) → ℕ → List RowWrite
-unary_phrase bits v = setting bits v ++ clearing bits v
+pub use Rattle.register_core.specs.Phrases.{clearing, setting, unary_phrase}
 
 -- a unary write: its value and its bit writes
 pub record UnaryWrite : Type 0 where

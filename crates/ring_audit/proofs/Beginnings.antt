@@ -9,11 +9,11 @@ use Rattle.bits_core.specs.declared.events.Access.TheVariants as begins
 use Rattle.bits_core.specs.declared.events.Event.{Event}
 use Rattle.bits_core.specs.Bits.{begun_access, begun_by}
 use Rattle.bits_core.specs.Made.{Made, Read, Write, access_of, answered, begin_event, end_event, events_of, IsBeginning}
-use Rattle.ring_audit.specs.Sides.{begin_of}
+use Rattle.ring_audit.specs.Sides.{opening_event}
 
 -- ---- one access
 
-pub begin_is : (s : Side) (x : Made) → begin_event s x ≡ begin_of s (access_of x)
+pub begin_is : (s : Side) (x : Made) → begin_event s x ≡ opening_event s (access_of x)
 begin_is s (Read b v) = refl
 begin_is s (Write b v) = refl
 
@@ -33,23 +33,23 @@ pub ended_is : (s : Side) (x : Made) → begun_by (end_event s x) ≡ None
 ended_is s (Read b v) = refl
 ended_is s (Write b v) = refl
 
-pub begun_of : (s : Side) (a : Access) → begun_by (begin_of s a) ≡ Some a
+pub begun_of : (s : Side) (a : Access) → begun_by (opening_event s a) ≡ Some a
 begun_of s (begins.Read b) = refl
 begun_of s (begins.Write b v) = refl
 
 -- an access is known by its begin
-pub same_access : (s : Side) (a : Access) (x : Made) → begin_of s a ≡ begin_event s x → access_of x ≡ a
+pub same_access : (s : Side) (a : Access) (x : Made) → opening_event s a ≡ begin_event s x → access_of x ≡ a
 same_access s a x e = let both : Some a ≡ Some (access_of x) = sym (begun_of s a) ∙ ap begun_by e ∙ begun_is s x in cc
 
 -- the event that begins an access
-event_of : (s : Side) (b : Bit) (act : Act) (a : Access) → begun_access b act ≡ Some a → record { side = s; bit = b; act = act } ≡ begin_of s a
-event_of s b ReadBegin a e = let is : begins.Read b ≡ a = cc in ap (begin_of s) is
+event_of : (s : Side) (b : Bit) (act : Act) (a : Access) → begun_access b act ≡ Some a → record { side = s; bit = b; act = act } ≡ opening_event s a
+event_of s b ReadBegin a e = let is : begins.Read b ≡ a = cc in ap (opening_event s) is
 event_of s b (ReadEnd v) a e = absurd (cc)
-event_of s b (WriteBegin v) a e = let is : begins.Write b v ≡ a = cc in ap (begin_of s) is
+event_of s b (WriteBegin v) a e = let is : begins.Write b v ≡ a = cc in ap (opening_event s) is
 event_of s b WriteEnd a e = absurd (cc)
 
-pub begins_so : (s : Side) (e : Event) (a : Access) → e.side ≡ s → begun_by e ≡ Some a → e ≡ begin_of s a
-begins_so s e a by begun = event_of e.side e.bit e.act a begun ∙ ap (λ t. begin_of t a) by
+pub begins_so : (s : Side) (e : Event) (a : Access) → e.side ≡ s → begun_by e ≡ Some a → e ≡ opening_event s a
+begins_so s e a by begun = event_of e.side e.bit e.act a begun ∙ ap (λ t. opening_event t a) by
 
 -- an access is known by its events
 pub same_made : (s : Side) (x y : Made) → begin_event s x ≡ begin_event s y → end_event s x ≡ end_event s y → x ≡ y

@@ -18,9 +18,9 @@ use Rattle.bits_core.specs.declared.events.Side.{Side}
 use Rattle.bits_core.specs.Bits.{is_by}
 use Rattle.bits_core.specs.Made.{own, IsBeginning}
 use Rattle.ring_audit.specs.Audit.{IsOfPrograms, IsFound, IsKindAt, IsFirstBreak, Statement, Lawful, Fault, IsFinding, lawful_until, tells_lawful}
-use Rattle.ring_audit.specs.PutReading.{PutsStand, HasPut}
-use Rattle.ring_audit.specs.TakeReading.{TakesStand, HasTaken}
-use Rattle.ring_audit.specs.Reading.{Reading, Stands, BothFollow}
+use Rattle.ring_audit.specs.PutReading.{PutsStand, WerePut}
+use Rattle.ring_audit.specs.TakeReading.{TakesStand, WereTaken}
+use Rattle.ring_audit.specs.Reading.{Reading, ReadingStands, BothFollow}
 
 pub of_programs : (shape : Shape) (h : List Event) → IsLawful shape h → BothFollow shape h → IsOfPrograms shape h
 of_programs shape h lawful ((puts, are, events), (takes, are', events')) =
@@ -69,8 +69,8 @@ break_of_bits law shape h place kind fault follow = record {
 
 pub both_read :
     (shape : Shape) (r : Reading) (told : Bool) →
-    ((es : List Event) (items stored : List ℕ) → PutsStand shape r.puts es items stored → HasPut shape es items) →
-    ((es : List Event) (items : List ℕ) → TakesStand shape r.takes es items → HasTaken shape es items told) → (h : List Event) → Stands shape r h → BothFollow shape h
+    ((es : List Event) (items stored : List ℕ) → PutsStand shape r.puts es items stored → WerePut shape es items) →
+    ((es : List Event) (items : List ℕ) → TakesStand shape r.takes es items → WereTaken shape es items told) → (h : List Event) → ReadingStands shape r h → BothFollow shape h
 both_read shape r told puts_so takes_so h st =
     let p = puts_so (own P h) st.items st.stored st.puts_stand in
     let t = takes_so (own C h) r.taken st.takes_stand in
@@ -78,9 +78,9 @@ both_read shape r told puts_so takes_so h st =
 
 pub found :
     (shape : Shape) (r : Reading) (told : Bool) (put : List ℕ) →
-    ((es : List Event) (items stored : List ℕ) → PutsStand shape r.puts es items stored → HasPut shape es items) →
-    ((es : List Event) (items : List ℕ) → TakesStand shape r.takes es items → HasTaken shape es items told) → put ≡ take r.counted r.put →
-    (h : List Event) → IsLawful shape h → Stands shape r h → IsFound shape h put r.taken told
+    ((es : List Event) (items stored : List ℕ) → PutsStand shape r.puts es items stored → WerePut shape es items) →
+    ((es : List Event) (items : List ℕ) → TakesStand shape r.takes es items → WereTaken shape es items told) → put ≡ take r.counted r.put →
+    (h : List Event) → IsLawful shape h → ReadingStands shape r h → IsFound shape h put r.taken told
 found shape r told put puts_so takes_so kept h lawful st =
     let p = puts_so (own P h) st.items st.stored st.puts_stand in
     let t = takes_so (own C h) r.taken st.takes_stand in

@@ -23,8 +23,8 @@ use Rattle.ring_core.specs.CountWrites.{CountsAreWritten, CountsShowNumbers}
 use Rattle.ring_core.specs.PutParts.{left_by}
 use Rattle.ring_audit.specs.declared.puts.Stage.{Stage}
 use Rattle.ring_audit.specs.declared.puts.Stage.TheVariants.{Resting, Scanning, Choosing, Storing, Counting, Closing, Closed}
-use Rattle.ring_audit.specs.Sides.{begin_of, open_events}
-use Rattle.ring_audit.specs.PutReading.{PutReading, IsPutReading, IsAt, IsMost, InCount, PutsStand, HasPut}
+use Rattle.ring_audit.specs.Sides.{opening_event, open_events}
+use Rattle.ring_audit.specs.PutReading.{PutReading, IsPutReading, IsReaderAt, IsMost, InCount, PutsStand, WerePut}
 use Rattle.ring_audit.proofs.Beginnings.{begin_is, events_of-append, length-events}
 use Rattle.ring_audit.proofs.Readers.{at_rest, open-short, open-long}
 use Rattle.ring_audit.proofs.PutReads.{made_at, at_stage, scan_due, same_open, read_due}
@@ -99,8 +99,8 @@ begins_so made rest None open_is = (events_of P rest, ap (λ l. l ++ events_of P
 begins_so made rest (Some a) open_is =
     let (x, more, rest_is, same) = open_is a refl in (
       end_event P x ∷ events_of P more,
-      append_assoc (events_of P made) (begin_of P a ∷ []) (end_event P x ∷ events_of P more)
-          ∙ ap (λ z. events_of P made ++ begin_of P z ∷ end_event P x ∷ events_of P more) (sym same)
+      append_assoc (events_of P made) (opening_event P a ∷ []) (end_event P x ∷ events_of P more)
+          ∙ ap (λ z. events_of P made ++ opening_event P z ∷ end_event P x ∷ events_of P more) (sym same)
           ∙ ap (λ z. events_of P made ++ z ∷ end_event P x ∷ events_of P more) (sym (begin_is P x))
           ∙ sym (events_of-append P made (x ∷ more)) ∙ ap (λ l. events_of P (made ++ l)) (sym rest_is),
     )
@@ -132,7 +132,7 @@ none_opens o rest none a some = let clash : None ≡ Some a = sym none ∙ some 
 -- no put under way
 by_puts :
     CountLaws → (shape : Shape) (r : PutReading) (es : List Event) (items stored : List ℕ) (st : PutsStand shape r es items stored) (closes : Bool) (part rest : List Made) →
-    items ≡ all_put st.puts → st.made ≡ put_phrases shape first_count st.puts ++ part → close_phrase closes ≡ part ++ rest → OpensRest r.open_access rest → HasPut shape es items
+    items ≡ all_put st.puts → st.made ≡ put_phrases shape first_count st.puts ++ part → close_phrase closes ≡ part ++ rest → OpensRest r.open_access rest → WerePut shape es items
 by_puts law shape r es items stored st closes part rest items_are made_is close_is opens =
     let front : List Made = put_phrases shape first_count st.puts in
     let lower : 2 * length st.made ≤ length es = subst (λ l. 2 * length st.made ≤ length l) (sym st.events_are) (open-long P st.made r.open_access) in
@@ -153,7 +153,7 @@ by_put :
     CountLaws → (shape : Shape) (r : PutReading) (es : List Event) (items stored : List ℕ) (st : PutsStand shape r es items stored) (x : Put) (part rest : List Made) (more : List ℕ) →
     IsPut shape (left_by shape st.puts).number x → items ≡ all_put st.puts ++ more → st.made ≡ put_phrases shape first_count st.puts ++ part →
     put_phrase shape (left_by shape st.puts) x ≡ part ++ rest → OpensRest r.open_access rest →
-    ((t : ℕ) → t ≡ length es - events_in (put_phrases shape first_count st.puts) → items_put shape (left_by shape st.puts) (x ∷ []) t ≡ more) → HasPut shape es items
+    ((t : ℕ) → t ≡ length es - events_in (put_phrases shape first_count st.puts) → items_put shape (left_by shape st.puts) (x ∷ []) t ≡ more) → WerePut shape es items
 by_put law shape r es items stored st x part rest more is_put items_are made_is phrase_is opens put_so =
     let front : List Made = put_phrases shape first_count st.puts in
     let lower : 2 * length st.made ≤ length es = subst (λ l. 2 * length st.made ≤ length l) (sym st.events_are) (open-long P st.made r.open_access) in
@@ -190,7 +190,7 @@ room_or_none shape n d = below_or_not (distance (modulus_of shape) n d) (capacit
 has_batch : (shape : Shape) → 1 ≤ batch_of shape
 has_batch shape = omega (arith, shape.has_batch)
 
-scanning_put : (law : CountLaws) (shape : Shape) (r : PutReading) (es : List Event) (items stored : List ℕ) → PutsStand shape r es items stored → r.stage ≡ Scanning → IsAt Scanning r → HasPut shape es items
+scanning_put : (law : CountLaws) (shape : Shape) (r : PutReading) (es : List Event) (items stored : List ℕ) → PutsStand shape r es items stored → r.stage ≡ Scanning → IsReaderAt Scanning r → WerePut shape es items
 scanning_put law shape r es items stored st stage (idle, scans, some, due) =
     let (rests, made_is) = made_at shape r es items stored st Scanning stage in
     let c : Count = left_by shape st.puts in
@@ -274,7 +274,7 @@ some_digits : (item w : ℕ) → 0 < w → 1 ≤ length (digit_writes item w)
 some_digits item zero l = absurd (omega (arith, l))
 some_digits item (suc w) l = omega (arith, length-append (digit_writes item w) (record { bit = w; value = digit w item } ∷ []))
 
-choosing_put : (law : CountLaws) (shape : Shape) (r : PutReading) (es : List Event) (items stored : List ℕ) → PutsStand shape r es items stored → r.stage ≡ Choosing → IsAt Choosing r → HasPut shape es items
+choosing_put : (law : CountLaws) (shape : Shape) (r : PutReading) (es : List Event) (items stored : List ℕ) → PutsStand shape r es items stored → r.stage ≡ Choosing → IsReaderAt Choosing r → WerePut shape es items
 choosing_put law shape r es items stored st stage (none, idle) =
     let (s, made_is) = made_at shape r es items stored st Choosing stage in
     let c : Count = left_by shape st.puts in
@@ -308,9 +308,9 @@ choosing_put law shape r es items stored st stage (none, idle) =
     zero_or_more (suc n) = inr (omega arith)
 
 storing_put :
-    (law : CountLaws) (shape : Shape) (r : PutReading) (es : List Event) (items stored : List ℕ) (st : PutsStand shape r es items stored) → r.stage ≡ Storing → IsAt Storing r →
+    (law : CountLaws) (shape : Shape) (r : PutReading) (es : List Event) (items stored : List ℕ) (st : PutsStand shape r es items stored) → r.stage ≡ Storing → IsReaderAt Storing r →
     (v : Bool) → ((a : Access) → r.open_access ≡ Some a → a ≡ begins.Write (Cell r.word.cell r.word.read) v) →
-    ((made : List Made) → ReaderStands r.word made → BeginsRead r.word.width r.word.cell (made ++ Read (Cell r.word.cell r.word.read) v ∷ [])) → HasPut shape es items
+    ((made : List Made) → ReaderStands r.word made → BeginsRead r.word.width r.word.cell (made ++ Read (Cell r.word.cell r.word.read) v ∷ [])) → WerePut shape es items
 storing_put law shape r es items stored st stage (idle, width_is, cell_same, below, room, some, opened_so) v opened goes =
     let (s, reads, stands, made_is) = made_at shape r es items stored st Storing stage in
     let c : Count = left_by shape st.puts in
@@ -336,7 +336,7 @@ storing_put law shape r es items stored st stage (idle, width_is, cell_same, bel
     (λ a o. (Write (Cell cell n) v, tail, refl, ap (λ j. begins.Write (Cell j n) v) (sym (cell_same ∙ s.cell_is)) ∙ sym (opened a o)))
     (λ t f. late_word shape c s.seen stored item t part [] first (here ∷ map as_write later) (moment shape r es items stored st part t made_is f).1 digits (omega arith) part_is)
 
-counting_put : (law : CountLaws) (shape : Shape) (r : PutReading) (es : List Event) (items stored : List ℕ) → PutsStand shape r es items stored → r.stage ≡ Counting → r.row.side ≡ P → IsAt Counting r → HasPut shape es items
+counting_put : (law : CountLaws) (shape : Shape) (r : PutReading) (es : List Event) (items stored : List ℕ) → PutsStand shape r es items stored → r.stage ≡ Counting → r.row.side ≡ P → IsReaderAt Counting r → WerePut shape es items
 counting_put law shape r es items stored st stage side (due, opened) =
     let (s, made_is) = made_at shape r es items stored st Counting stage in
     let c : Count = left_by shape st.puts in
@@ -371,7 +371,7 @@ counting_put law shape r es items stored st stage side (due, opened) =
         omega (arith, e, long, parts, es_is, some)
     by_open s (Some a) o {t = t} e long parts =
         let es_is : length es ≡ suc (2 * length st.made) =
-        ap length (st.events_are ∙ ap (λ z. events_of P st.made ++ open_events P z) o) ∙ length-append (events_of P st.made) (begin_of P a ∷ []) ∙ one_more_event (length-events P st.made) in
+        ap length (st.events_are ∙ ap (λ z. events_of P st.made ++ open_events P z) o) ∙ length-append (events_of P st.made) (opening_event P a ∷ []) ∙ one_more_event (length-events P st.made) in
         omega (arith, e, long, parts, es_is)
       where
         one_more_event : length (events_of P st.made) ≡ 2 * length st.made → length (events_of P st.made) + 1 ≡ suc (2 * length st.made)
@@ -382,25 +382,25 @@ counting_put law shape r es items stored st stage side (due, opened) =
 pub has_put :
     CountLaws → (r : PutReading) → IsPutReading r → (due : Option Access) → due ≡ due_read r.word →
     ((made : List Made) → ReaderStands r.word made → IsNextRead r.word.width r.word.cell made due) →
-    (es : List Event) (items stored : List ℕ) → PutsStand r.shape r es items stored → HasPut r.shape es items
+    (es : List Event) (items stored : List ℕ) → PutsStand r.shape r es items stored → WerePut r.shape es items
 has_put law r is due due_is nexts es items stored st = by_stage r.stage refl
   where
-    by_stage : (stage : Stage) → r.stage ≡ stage → HasPut r.shape es items
+    by_stage : (stage : Stage) → r.stage ≡ stage → WerePut r.shape es items
     by_stage Resting e =
         let (rests, made_is) = made_at r.shape r es items stored st Resting e in
-        let at : IsAt Resting r = at_stage r Resting is e in
+        let at : IsReaderAt Resting r = at_stage r Resting is e in
         by_puts law r.shape r es items stored st false [] [] rests.items_are (made_is ∙ sym (append-nil (put_phrases r.shape first_count st.puts))) refl (none_opens r.open_access [] at.0)
     by_stage Scanning e = scanning_put law r.shape r es items stored st e (at_stage r Scanning is e)
     by_stage Choosing e = choosing_put law r.shape r es items stored st e (at_stage r Choosing is e)
     by_stage Storing e =
-        let at : IsAt Storing r = at_stage r Storing is e in
+        let at : IsReaderAt Storing r = at_stage r Storing is e in
         let reads : (v : Bool) (made : List Made) → ReaderStands r.word made → BeginsRead r.word.width r.word.cell (made ++ Read (Cell r.word.cell r.word.read) v ∷ []) = λ v made stands.
         (subst (IsNextRead r.word.width r.word.cell made) (due_is ∙ read_due r.word at.3) (nexts made stands) v) in
         by_open r.open_access refl at reads
       where
         by_open :
-            (o : Option Access) → r.open_access ≡ o → IsAt Storing r →
-            ((v : Bool) (made : List Made) → ReaderStands r.word made → BeginsRead r.word.width r.word.cell (made ++ Read (Cell r.word.cell r.word.read) v ∷ [])) → HasPut r.shape es items
+            (o : Option Access) → r.open_access ≡ o → IsReaderAt Storing r →
+            ((v : Bool) (made : List Made) → ReaderStands r.word made → BeginsRead r.word.width r.word.cell (made ++ Read (Cell r.word.cell r.word.read) v ∷ [])) → WerePut r.shape es items
         by_open None o at reads = storing_put law r.shape r es items stored st e at true (λ a f. (let clash : None ≡ Some a = sym o ∙ f in absurd (cc))) (reads true)
         by_open (Some b) o at reads =
             let (v, writes) = at.6 b o in
@@ -408,10 +408,10 @@ has_put law r is due due_is nexts es items stored st = by_stage r.stage refl
     by_stage Counting e = counting_put law r.shape r es items stored st e is.row_side (at_stage r Counting is e)
     by_stage Closing e =
         let (rests, made_is) = made_at r.shape r es items stored st Closing e in
-        let at : IsAt Closing r = at_stage r Closing is e in
+        let at : IsReaderAt Closing r = at_stage r Closing is e in
         by_puts law r.shape r es items stored st true [] (Write X true ∷ []) rests.items_are (made_is ∙ sym (append-nil (put_phrases r.shape first_count st.puts))) refl
         (λ a o. (Write X true, [], refl, same_open r.open_access (begins.Write X true) a at o))
     by_stage Closed e =
         let (rests, made_is) = made_at r.shape r es items stored st Closed e in
-        let at : IsAt Closed r = at_stage r Closed is e in
+        let at : IsReaderAt Closed r = at_stage r Closed is e in
         by_puts law r.shape r es items stored st true (Write X true ∷ []) [] rests.items_are made_is refl (none_opens r.open_access [] at)

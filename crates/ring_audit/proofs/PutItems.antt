@@ -20,7 +20,7 @@ use Rattle.ring_core.specs.Counts.{past, Count, first_count, count_bits, batch_p
 use Rattle.ring_core.specs.Puts.{Put, Stored, stored_after, words_phrase, put_phrases}
 use Rattle.ring_core.specs.PutParts.{left_by}
 use Rattle.ring_audit.specs.declared.puts.Stage.TheVariants.{Resting, Choosing, Storing, Counting}
-use Rattle.ring_audit.specs.PutReading.{PutReading, RowHolds, IsMost, has_items, InPut, InCount, MadeAt, PutsStand}
+use Rattle.ring_audit.specs.PutReading.{PutReading, RowHolds, IsMost, has_items, InPut, InCount, MadeWhile, PutsStand}
 use Rattle.ring_audit.proofs.Readers.{ended}
 use Rattle.ring_audit.proofs.PutReads.{made_at}
 use Rattle.ring_audit.proofs.PutSteps.{phrases-push, left-push, are-push, put-push}
@@ -114,7 +114,7 @@ ends_digit shape r es items stored word a v w st some is cell stage fed goes =
       are = st.are;
       count_is = st.count_is;
       events_are = ended P es st.made r.open_access a v st.events_are some;
-      made_is = subst (λ z. MadeAt z shape (record r { word = word; open_access = None }) st.puts items stored (st.made ++ answered a v ∷ [])) (sym stage) (
+      made_is = subst (λ z. MadeWhile z shape (record r { word = word; open_access = None }) st.puts items stored (st.made ++ answered a v ∷ [])) (sym stage) (
         record {
           seen = s.seen;
           may = s.may;
@@ -278,7 +278,7 @@ ends_bit shape r es items stored row a v st some stage side due left goes = reco
   are = st.are;
   count_is = st.count_is;
   events_are = ended P es st.made r.open_access a v st.events_are some;
-  made_is = subst (λ z. MadeAt z shape (record r { row = row; open_access = None }) st.puts items stored (st.made ++ answered a v ∷ [])) (sym stage)
+  made_is = subst (λ z. MadeWhile z shape (record r { row = row; open_access = None }) st.puts items stored (st.made ++ answered a v ∷ [])) (sym stage)
       (counted_on shape r es items stored st row a v stage side due left goes);
 }
 

@@ -26,8 +26,8 @@ use Rattle.ring_core.specs.Readings.{PutsAreFirst}
 use Rattle.ring_audit.specs.declared.puts.PutStep.{PutStep}
 use Rattle.ring_audit.specs.declared.puts.Stage.{Stage}
 use Rattle.ring_audit.specs.declared.puts.Stage.TheVariants.{Resting, Scanning, Choosing, Storing, Counting, Closed}
-use Rattle.ring_audit.specs.Sides.{begin_of, AreOfPuts}
-use Rattle.ring_audit.specs.PutReading.{PutReading, IsPutReading, HasReadPut, IsAt, RowHolds, IsMost, has_items, MadeAt, PutsStand}
+use Rattle.ring_audit.specs.Sides.{opening_event, AreOfPuts}
+use Rattle.ring_audit.specs.PutReading.{PutReading, IsPutReading, HasReadPut, IsReaderAt, RowHolds, IsMost, has_items, MadeWhile, PutsStand}
 use Rattle.ring_audit.proofs.Readers as readers
 use Rattle.ring_audit.proofs.Beginnings.{begin_is, access_is, same_access, same_made, GoesOnWith, GoesOnBy, events_of-append}
 
@@ -39,7 +39,7 @@ rest_on shape r es items stored st e none (calls, are, begins) = readers.rest_on
 
 work_on :
     (shape : Shape) (r : PutReading) (es : List Event) (items stored : List ℕ) (st : PutsStand shape r es items stored) (a : Access) (e : Event) → r.open_access ≡ Some a →
-    (of_puts : AreOfPuts shape (es ++ e ∷ [])) → GoesOnBy P st.made (put_program shape of_puts.0) (begin_of P a) e
+    (of_puts : AreOfPuts shape (es ++ e ∷ [])) → GoesOnBy P st.made (put_program shape of_puts.0) (opening_event P a) e
 work_on shape r es items stored st a e some (calls, are, begins) = readers.work_on P es st.made (put_program shape calls) r.open_access a e st.events_are some begins
 
 -- ---- where it stops
@@ -56,7 +56,7 @@ pub zero_at_last :
 zero_at_last one shape r es items stored a st some scans due last of_puts =
     let on = work_on shape r es items stored st a (end_event P (answered a false)) some of_puts in
     let begun : begin_event P (answered a false) ≡ begin_event P on.next =
-    begin_is P (answered a false) ∙ ap (begin_of P) (access_is a false) ∙ on.begins in
+    begin_is P (answered a false) ∙ ap (opening_event P) (access_is a false) ∙ on.begins in
     let next_is : on.next ≡ answered a false = sym (same_made P (answered a false) on.next begun on.ends) in
     let both : Some a ≡ Some (begins.Read (row_read_by P r.scan.zeros)) = sym due ∙ scan_due P (modulus_of shape) r.scan scans in
     let a_is : a ≡ begins.Read (row_read_by P r.scan.zeros) = cc in
@@ -79,18 +79,18 @@ goes_behind shape r es items stored st part e made_is of_puts on = record {
 }
 
 pub made_at : (shape : Shape) (r : PutReading) (es : List Event) (items stored : List ℕ) (st : PutsStand shape r es items stored) (stage : Stage) → r.stage ≡ stage →
-    MadeAt stage shape r st.puts items stored st.made
-made_at shape r es items stored st stage e = subst (λ s. MadeAt s shape r st.puts items stored st.made) e st.made_is
+    MadeWhile stage shape r st.puts items stored st.made
+made_at shape r es items stored st stage e = subst (λ s. MadeWhile s shape r st.puts items stored st.made) e st.made_is
 
 -- between calls
 pub no_call :
     ScansOrCloses → (shape : Shape) (r : PutReading) (es : List Event) (items stored : List ℕ) (a : Access) → PutsStand shape r es items stored → r.open_access ≡ None →
-    r.stage ≡ Resting → (begins.Write X true ≡ a → ⊥) → (begins.Read (row_read_by P 0) ≡ a → ⊥) → AreOfPuts shape (es ++ begin_of P a ∷ []) → ⊥
+    r.stage ≡ Resting → (begins.Write X true ≡ a → ⊥) → (begins.Read (row_read_by P 0) ≡ a → ⊥) → AreOfPuts shape (es ++ opening_event P a ∷ []) → ⊥
 no_call law shape r es items stored a st none stage no_close no_read of_puts =
     let (rests, made_is) = made_at shape r es items stored st Resting stage in
-    let on = rest_on shape r es items stored st (begin_of P a) none of_puts in
+    let on = rest_on shape r es items stored st (opening_event P a) none of_puts in
     let is_a : access_of on.next ≡ a = same_access P a on.next on.begins in
-    let g = goes_behind shape r es items stored st [] (begin_of P a) (made_is ∙ sym (append-nil (put_phrases shape first_count st.puts))) of_puts on in
+    let g = goes_behind shape r es items stored st [] (opening_event P a) (made_is ∙ sym (append-nil (put_phrases shape first_count st.puts))) of_puts on in
     elim (law shape st.puts on.next on.rest st.are g) [
       | inl (v, e) ↦ no_read (sym (ap access_of e) ∙ is_a)
       | inr e ↦ no_close (sym (ap access_of e) ∙ is_a)
@@ -99,7 +99,7 @@ no_call law shape r es items stored a st none stage no_close no_read of_puts =
 -- in a scan
 pub no_read :
     ScansOn → (shape : Shape) (r : PutReading) (es : List Event) (items stored : List ℕ) (a : Access) → PutsStand shape r es items stored → r.open_access ≡ None →
-    r.stage ≡ Scanning → 0 < r.scan.zeros → (begins.Read (row_read_by P r.scan.zeros) ≡ a → ⊥) → AreOfPuts shape (es ++ begin_of P a ∷ []) → ⊥
+    r.stage ≡ Scanning → 0 < r.scan.zeros → (begins.Read (row_read_by P r.scan.zeros) ≡ a → ⊥) → AreOfPuts shape (es ++ opening_event P a ∷ []) → ⊥
 no_read law shape r es items stored a st none stage some wrong of_puts =
     by_zeros r.scan.zeros refl
   where
@@ -107,9 +107,9 @@ no_read law shape r es items stored a st none stage some wrong of_puts =
     by_zeros zero e = absurd (omega (arith, some, e))
     by_zeros (suc zeros) e =
         let (rests, made_is) = made_at shape r es items stored st Scanning stage in
-        let on = rest_on shape r es items stored st (begin_of P a) none of_puts in
+        let on = rest_on shape r es items stored st (opening_event P a) none of_puts in
         let is_a : access_of on.next ≡ a = same_access P a on.next on.begins in
-        let g = goes_behind shape r es items stored st (zero_reads (row_read_by P) (suc zeros)) (begin_of P a)
+        let g = goes_behind shape r es items stored st (zero_reads (row_read_by P) (suc zeros)) (opening_event P a)
         (made_is ∙ ap (λ n. put_phrases shape first_count st.puts ++ zero_reads (row_read_by P) n) e) of_puts on in
         let (v, is) = law shape st.puts zeros on.next on.rest st.are g in
         wrong (ap (λ n. begins.Read (row_read_by P n)) e ∙ sym (ap access_of is) ∙ is_a)
@@ -151,15 +151,15 @@ first_due row w more side e = ap (first_access (row_bit row.side)) e ∙ ap (λ 
 pub no_word_nor_count :
     StoresOrCounts → (shape : Shape) (r : PutReading) (es : List Event) (items stored : List ℕ) (a : Access) → PutsStand shape r es items stored → r.open_access ≡ None →
     r.stage ≡ Choosing → r.row.side ≡ P → ((v : Bool) → 0 < r.room → a ≡ begins.Write (Cell r.cell 0) v → ⊥) →
-    (r.some ≡ true → due_unary (record r.row { value = r.next }) ≡ Some a → ⊥) → AreOfPuts shape (es ++ begin_of P a ∷ []) → ⊥
+    (r.some ≡ true → due_unary (record r.row { value = r.next }) ≡ Some a → ⊥) → AreOfPuts shape (es ++ opening_event P a ∷ []) → ⊥
 no_word_nor_count law shape r es items stored a st none stage side no_word no_count of_puts =
     let (s, made_is) = made_at shape r es items stored st Choosing stage in
     let c : Count = left_by shape st.puts in
     let scan : List Made = scan_phrase (row_read_by P) s.seen in
     let words : List Made = words_phrase shape c.number stored in
-    let on = rest_on shape r es items stored st (begin_of P a) none of_puts in
+    let on = rest_on shape r es items stored st (opening_event P a) none of_puts in
     let is_a : access_of on.next ≡ a = same_access P a on.next on.begins in
-    let g = goes_behind shape r es items stored st (scan ++ words) (begin_of P a) made_is of_puts on in
+    let g = goes_behind shape r es items stored st (scan ++ words) (opening_event P a) made_is of_puts on in
     elim (law shape st.puts s.seen stored on.next on.rest st.are (has_room_then shape c.number s.seen (length stored + r.room) s.may) s.fit
     (subst (GoesBehind shape st.puts) (append_assoc scan words (on.next ∷ on.rest)) g)) [
       | inl (v, e, room, few) ↦
@@ -178,7 +178,7 @@ no_word_nor_count law shape r es items stored a st none stage side no_word no_co
 pub no_digit :
     StoresOn → (shape : Shape) (r : PutReading) (es : List Event) (items stored : List ℕ) (a : Access) → PutsStand shape r es items stored → r.open_access ≡ None →
     r.stage ≡ Storing → r.word.read < width_of shape → 0 < r.word.read → ((v : Bool) → a ≡ begins.Write (Cell r.cell r.word.read) v → ⊥) →
-    AreOfPuts shape (es ++ begin_of P a ∷ []) → ⊥
+    AreOfPuts shape (es ++ opening_event P a ∷ []) → ⊥
 no_digit law shape r es items stored a st none stage below some wrong of_puts =
     by_read r.word.read refl
   where
@@ -190,13 +190,13 @@ no_digit law shape r es items stored a st none stage below some wrong of_puts =
         let scan : List Made = scan_phrase (row_read_by P) s.seen in
         let words : List Made = words_phrase shape c.number stored in
         let digits : List Made = writes_in (Cell (past c.number stored % capacity_of shape)) (digit_writes r.word.value (suc read)) in
-        let on = rest_on shape r es items stored st (begin_of P a) none of_puts in
+        let on = rest_on shape r es items stored st (opening_event P a) none of_puts in
         let is_a : access_of on.next ≡ a = same_access P a on.next on.begins in
         let front : List Made = put_phrases shape first_count st.puts in
         let made_so : st.made ≡ front ++ (scan ++ (words ++ digits)) =
         made_is ∙ ap (λ n. front ++ (scan ++ (words ++ writes_in (Cell r.cell) (digit_writes r.word.value n)))) e
         ∙ ap (λ j. front ++ (scan ++ (words ++ writes_in (Cell j) (digit_writes r.word.value (suc read))))) s.cell_is in
-        let g = goes_behind shape r es items stored st (scan ++ (words ++ digits)) (begin_of P a) made_so of_puts on in
+        let g = goes_behind shape r es items stored st (scan ++ (words ++ digits)) (opening_event P a) made_so of_puts on in
         let parts : (scan ++ (words ++ digits)) ++ on.next ∷ on.rest ≡ scan ++ (words ++ (digits ++ on.next ∷ on.rest)) =
         append_assoc scan (words ++ digits) (on.next ∷ on.rest) ∙ ap (λ l. scan ++ l) (append_assoc words digits (on.next ∷ on.rest)) in
         let (v, is) = law shape st.puts s.seen stored r.word.value read on.next on.rest st.are
@@ -210,7 +210,7 @@ some_due (w ∷ more) none = (w, more, refl)
 -- in a count write
 pub no_bit :
     CountsOn → (shape : Shape) (r : PutReading) (es : List Event) (items stored : List ℕ) (a : Access) → PutsStand shape r es items stored → r.open_access ≡ None →
-    r.stage ≡ Counting → r.row.side ≡ P → due_unary r.row ≢ None → (due_unary r.row ≡ Some a → ⊥) → AreOfPuts shape (es ++ begin_of P a ∷ []) → ⊥
+    r.stage ≡ Counting → r.row.side ≡ P → due_unary r.row ≢ None → (due_unary r.row ≡ Some a → ⊥) → AreOfPuts shape (es ++ opening_event P a ∷ []) → ⊥
 no_bit law shape r es items stored a st none stage side due wrong of_puts =
     let (s, made_is) = made_at shape r es items stored st Counting stage in
     let c : Count = left_by shape st.puts in
@@ -221,9 +221,9 @@ no_bit law shape r es items stored a st none stage side due wrong of_puts =
     let (w, more, due_are) = some_due (due_writes r.row) (λ e. due (ap (first_access (row_bit r.row.side)) e)) in
     let bits : List Made = writes_in (row_bit P) (u ∷ writes) in
     let made_so : st.made ≡ front ++ (scan ++ (words ++ bits)) = made_is ∙ ap (λ ws. front ++ (scan ++ (words ++ writes_in (row_bit P) ws))) writes_are in
-    let on = rest_on shape r es items stored st (begin_of P a) none of_puts in
+    let on = rest_on shape r es items stored st (opening_event P a) none of_puts in
     let is_a : access_of on.next ≡ a = same_access P a on.next on.begins in
-    let g = goes_behind shape r es items stored st (scan ++ (words ++ bits)) (begin_of P a) made_so of_puts on in
+    let g = goes_behind shape r es items stored st (scan ++ (words ++ bits)) (opening_event P a) made_so of_puts on in
     let parts : (scan ++ (words ++ bits)) ++ on.next ∷ on.rest ≡ scan ++ (words ++ (bits ++ on.next ∷ on.rest)) =
     append_assoc scan (words ++ bits) (on.next ∷ on.rest) ∙ ap (λ l. scan ++ l) (append_assoc words bits (on.next ∷ on.rest)) in
     let batch = s.is_put.2 in
@@ -235,10 +235,10 @@ no_bit law shape r es items stored a st none stage side due wrong of_puts =
 -- behind the close
 pub no_more :
     PutsAreFirst → (shape : Shape) (r : PutReading) (es : List Event) (items stored : List ℕ) (a : Access) → PutsStand shape r es items stored → r.open_access ≡ None →
-    r.stage ≡ Closed → AreOfPuts shape (es ++ begin_of P a ∷ []) → ⊥
+    r.stage ≡ Closed → AreOfPuts shape (es ++ opening_event P a ∷ []) → ⊥
 no_more first shape r es items stored a st none stage of_puts =
     let (rests, made_is) = made_at shape r es items stored st Closed stage in
-    let on = rest_on shape r es items stored st (begin_of P a) none of_puts in
+    let on = rest_on shape r es items stored st (opening_event P a) none of_puts in
     let calls : Puts = record { puts = st.puts; closes = true } in
     let more : List Made = on.next ∷ on.rest in
     let whole : put_program shape calls ++ more ≡ put_program shape of_puts.0 = ap (λ l. l ++ more) (sym made_is) ∙ sym on.whole_is in
@@ -253,8 +253,8 @@ no_more first shape r es items stored a st none stage of_puts =
 pub lift : (r now new : PutReading) (e : Event) (step : PutStep) → r ≡ now → HasReadPut r.shape r new e step → HasReadPut now.shape now new e step
 lift r now new e step is read = subst (λ (z : PutReading). HasReadPut z.shape z new e step) is read
 
-pub at_stage : (r : PutReading) (stage : Stage) → IsPutReading r → r.stage ≡ stage → IsAt stage r
-at_stage r stage is e = subst (λ s. IsAt s r) e is.at
+pub at_stage : (r : PutReading) (stage : Stage) → IsPutReading r → r.stage ≡ stage → IsReaderAt stage r
+at_stage r stage is e = subst (λ s. IsReaderAt s r) e is.at
 
 pub same_open : (o : Option Access) (a b : Access) → o ≡ Some a → o ≡ Some b → a ≡ b
 same_open o a b e f = let both : Some a ≡ Some b = sym e ∙ f in cc

@@ -18,8 +18,8 @@ use Rattle.ring_core.specs.Puts.{Put, Stored, Full, stored_after, stored_count, 
 use Rattle.ring_core.specs.Items.{all_put}
 use Rattle.ring_core.specs.PutParts.{left_by}
 use Rattle.ring_audit.specs.declared.puts.Stage.TheVariants.{Resting, Scanning, Choosing, Storing, Counting, Closing, Closed}
-use Rattle.ring_audit.specs.Sides.{begin_of}
-use Rattle.ring_audit.specs.PutReading.{PutReading, RowHolds, IsMost, has_items, AtRest, MadeAt, PutsStand}
+use Rattle.ring_audit.specs.Sides.{opening_event}
+use Rattle.ring_audit.specs.PutReading.{PutReading, RowHolds, IsMost, has_items, AtRest, MadeWhile, PutsStand}
 use Rattle.ring_audit.proofs.Readers.{opened, ended}
 use Rattle.ring_audit.proofs.PutReads.{made_at, count_due}
 
@@ -55,7 +55,7 @@ full-push (Full u ∷ xs) seen = full-push xs seen
 
 pub begins_close :
     (shape : Shape) (r : PutReading) (es : List Event) (items stored : List ℕ) (a : Access) → PutsStand shape r es items stored → r.open_access ≡ None → r.stage ≡ Resting →
-    PutsStand shape (record r { stage = Closing; open_access = Some a }) (es ++ begin_of P a ∷ []) items stored
+    PutsStand shape (record r { stage = Closing; open_access = Some a }) (es ++ opening_event P a ∷ []) items stored
 begins_close shape r es items stored a st none stage =
     let (rests, made_is) = made_at shape r es items stored st Resting stage in
     record {
@@ -70,7 +70,7 @@ begins_close shape r es items stored a st none stage =
 
 pub begins_scan :
     (shape : Shape) (r : PutReading) (es : List Event) (items stored : List ℕ) (scan : ScanState) (a : Access) → PutsStand shape r es items stored → r.open_access ≡ None → r.stage ≡ Resting →
-    scan.zeros ≡ 0 → PutsStand shape (record r { stage = Scanning; scan = scan; open_access = Some a }) (es ++ begin_of P a ∷ []) items stored
+    scan.zeros ≡ 0 → PutsStand shape (record r { stage = Scanning; scan = scan; open_access = Some a }) (es ++ opening_event P a ∷ []) items stored
 begins_scan shape r es items stored scan a st none stage new =
     let (rests, made_is) = made_at shape r es items stored st Resting stage in
     let front : List Made = put_phrases shape first_count st.puts in
@@ -89,7 +89,7 @@ begins_scan shape r es items stored scan a st none stage new =
 
 pub begins_read :
     (shape : Shape) (r : PutReading) (es : List Event) (items stored : List ℕ) (a : Access) → PutsStand shape r es items stored → r.open_access ≡ None → r.stage ≡ Scanning →
-    PutsStand shape (record r { open_access = Some a }) (es ++ begin_of P a ∷ []) items stored
+    PutsStand shape (record r { open_access = Some a }) (es ++ opening_event P a ∷ []) items stored
 begins_read shape r es items stored a st none stage =
     let (rests, made_is) = made_at shape r es items stored st Scanning stage in
     record {
@@ -99,14 +99,14 @@ begins_read shape r es items stored a st none stage =
       are = st.are;
       count_is = st.count_is;
       events_are = opened P es st.made r.open_access a st.events_are none;
-      made_is = subst (λ s. MadeAt s shape (record r { open_access = Some a }) st.puts items stored st.made) (sym stage)
+      made_is = subst (λ s. MadeWhile s shape (record r { open_access = Some a }) st.puts items stored st.made) (sym stage)
           (record { holds = rests.holds; cell_is = rests.cell_is; items_are = rests.items_are; none_stored = rests.none_stored }, made_is);
     }
 
 pub begins_word :
     (shape : Shape) (r : PutReading) (es : List Event) (items stored : List ℕ) (word : ReaderState) (a : Access) → PutsStand shape r es items stored → r.open_access ≡ None →
     r.stage ≡ Choosing → word.read ≡ 0 → ReaderStands word [] →
-    PutsStand shape (record r { stage = Storing; word = word; open_access = Some a }) (es ++ begin_of P a ∷ []) items stored
+    PutsStand shape (record r { stage = Storing; word = word; open_access = Some a }) (es ++ opening_event P a ∷ []) items stored
 begins_word shape r es items stored word a st none stage new stands =
     let (s, made_is) = made_at shape r es items stored st Choosing stage in
     let front : List Made = put_phrases shape first_count st.puts in
@@ -138,7 +138,7 @@ begins_word shape r es items stored word a st none stage new stands =
 
 pub begins_digit :
     (shape : Shape) (r : PutReading) (es : List Event) (items stored : List ℕ) (a : Access) → PutsStand shape r es items stored → r.open_access ≡ None → r.stage ≡ Storing →
-    PutsStand shape (record r { open_access = Some a }) (es ++ begin_of P a ∷ []) items stored
+    PutsStand shape (record r { open_access = Some a }) (es ++ opening_event P a ∷ []) items stored
 begins_digit shape r es items stored a st none stage =
     let (s, reads, stands, made_is) = made_at shape r es items stored st Storing stage in
     record {
@@ -148,7 +148,7 @@ begins_digit shape r es items stored a st none stage =
       are = st.are;
       count_is = st.count_is;
       events_are = opened P es st.made r.open_access a st.events_are none;
-      made_is = subst (λ z. MadeAt z shape (record r { open_access = Some a }) st.puts items stored st.made) (sym stage) (
+      made_is = subst (λ z. MadeWhile z shape (record r { open_access = Some a }) st.puts items stored st.made) (sym stage) (
         record {
           seen = s.seen;
           may = s.may;
@@ -173,7 +173,7 @@ pub begins_count :
     (shape : Shape) (r : PutReading) (es : List Event) (items stored : List ℕ) (row : UnaryState) (a : Access) → PutsStand shape r es items stored → r.open_access ≡ None →
     r.stage ≡ Choosing → r.some ≡ true → r.row.side ≡ P → row ≡ record r.row { value = r.next } →
     ((values : List ℕ) (made : List Made) → UnaryStands r.row values made → UnaryStands row (values ++ r.next ∷ []) made) →
-    PutsStand shape (record r { stage = Counting; row = row; open_access = Some a }) (es ++ begin_of P a ∷ []) (items ++ stored) []
+    PutsStand shape (record r { stage = Counting; row = row; open_access = Some a }) (es ++ opening_event P a ∷ []) (items ++ stored) []
 begins_count shape r es items stored row a st none stage some side row_is asks =
     let (s, made_is) = made_at shape r es items stored st Choosing stage in
     let c : Count = left_by shape st.puts in
@@ -217,7 +217,7 @@ begins_count shape r es items stored row a st none stage some side row_is asks =
 
 pub begins_bit :
     (shape : Shape) (r : PutReading) (es : List Event) (items stored : List ℕ) (a : Access) → PutsStand shape r es items stored → r.open_access ≡ None → r.stage ≡ Counting →
-    PutsStand shape (record r { open_access = Some a }) (es ++ begin_of P a ∷ []) items stored
+    PutsStand shape (record r { open_access = Some a }) (es ++ opening_event P a ∷ []) items stored
 begins_bit shape r es items stored a st none stage =
     let (s, made_is) = made_at shape r es items stored st Counting stage in
     record {
@@ -227,7 +227,7 @@ begins_bit shape r es items stored a st none stage =
       are = st.are;
       count_is = st.count_is;
       events_are = opened P es st.made r.open_access a st.events_are none;
-      made_is = subst (λ z. MadeAt z shape (record r { open_access = Some a }) st.puts items stored st.made) (sym stage) (
+      made_is = subst (λ z. MadeWhile z shape (record r { open_access = Some a }) st.puts items stored st.made) (sym stage) (
         record {
           seen = s.seen;
           batch = s.batch;
@@ -287,7 +287,7 @@ ends_zero shape r es items stored scan a v st some is stage fed not_found =
       are = st.are;
       count_is = st.count_is;
       events_are = ended P es st.made r.open_access a v st.events_are some;
-      made_is = subst (λ z. MadeAt z shape (record r { scan = scan; open_access = None }) st.puts items stored (st.made ++ answered a v ∷ [])) (sym stage) (
+      made_is = subst (λ z. MadeWhile z shape (record r { scan = scan; open_access = None }) st.puts items stored (st.made ++ answered a v ∷ [])) (sym stage) (
         record { holds = rests.holds; cell_is = rests.cell_is; items_are = rests.items_are; none_stored = rests.none_stored },
         ap (λ l. l ++ answered a v ∷ []) made_is ∙ append_assoc front zeros (answered a v ∷ [])
             ∙ ap (λ z. front ++ (zeros ++ answered z v ∷ [])) is ∙ ap (λ w. front ++ (zeros ++ Read (row_read_by P r.scan.zeros) w ∷ [])) zero_is
@@ -335,7 +335,7 @@ ends_with_room shape r es items stored scan a v seen room st some is stage not_f
       few = omega (arith, few);
       most = λ k l m. omega (arith, most k (subst (λ z. LeavesRoomFor shape z seen k) (sym st.count_is) l) m);
     } in
-    let at : MadeAt Choosing shape new st.puts items [] (st.made ++ answered a v ∷ []) = (
+    let at : MadeWhile Choosing shape new st.puts items [] (st.made ++ answered a v ∷ []) = (
       record {
         seen = seen;
         may = may;
@@ -355,7 +355,7 @@ ends_with_room shape r es items stored scan a v seen room st some is stage not_f
       are = st.are;
       count_is = st.count_is;
       events_are = ended P es st.made r.open_access a v st.events_are some;
-      made_is = subst (λ l. MadeAt Choosing shape new st.puts items l (st.made ++ answered a v ∷ [])) (sym rests.none_stored) at;
+      made_is = subst (λ l. MadeWhile Choosing shape new st.puts items l (st.made ++ answered a v ∷ [])) (sym rests.none_stored) at;
     }
 
 pub ends_full :

@@ -5,7 +5,7 @@ use Rattle.bits_core.specs.declared.events.Access.{Access}
 use Rattle.bits_core.specs.declared.events.Event.{Event}
 use Rattle.bits_core.specs.Bits.{begun_by}
 use Rattle.bits_core.specs.Made.{Made, access_of, answered, end_event, events_of, IsBeginning}
-use Rattle.ring_audit.specs.Sides.{begin_of, open_events, EndsSo}
+use Rattle.ring_audit.specs.Sides.{opening_event, open_events, EndsSo}
 use Rattle.ring_audit.proofs.Beginnings.{begin_is, access_is, answer_is, begun_is, ended_is, same_access, GoesOnWith, next_begins, GoesOnBy, next_ends, events_of-append, length-events}
 
 -- ---- what was read
@@ -17,26 +17,26 @@ at_rest s es made o is none = is ∙ ap (λ z. events_of s made ++ open_events s
 -- with one open, and one event more
 at_work :
     (s : Side) (es : List Event) (made : List Made) (o : Option Access) (a : Access) (e : Event) → es ≡ events_of s made ++ open_events s o → o ≡ Some a →
-    es ++ e ∷ [] ≡ events_of s made ++ begin_of s a ∷ e ∷ []
+    es ++ e ∷ [] ≡ events_of s made ++ opening_event s a ∷ e ∷ []
 at_work s es made o a e is some =
-    ap (λ l. l ++ e ∷ []) (is ∙ ap (λ z. events_of s made ++ open_events s z) some) ∙ append_assoc (events_of s made) (begin_of s a ∷ []) (e ∷ [])
+    ap (λ l. l ++ e ∷ []) (is ∙ ap (λ z. events_of s made ++ open_events s z) some) ∙ append_assoc (events_of s made) (opening_event s a ∷ []) (e ∷ [])
 
 -- two for each access that was made, and one for the open one
 pub open-short : (s : Side) (made : List Made) (o : Option Access) → length (events_of s made ++ open_events s o) ≤ suc (2 * length made)
 open-short s made None = omega (arith, length-append (events_of s made) [], length-events s made)
-open-short s made (Some a) = omega (arith, length-append (events_of s made) (begin_of s a ∷ []), length-events s made)
+open-short s made (Some a) = omega (arith, length-append (events_of s made) (opening_event s a ∷ []), length-events s made)
 
 pub open-long : (s : Side) (made : List Made) (o : Option Access) → 2 * length made ≤ length (events_of s made ++ open_events s o)
 open-long s made None = omega (arith, length-append (events_of s made) [], length-events s made)
-open-long s made (Some a) = omega (arith, length-append (events_of s made) (begin_of s a ∷ []), length-events s made)
+open-long s made (Some a) = omega (arith, length-append (events_of s made) (opening_event s a ∷ []), length-events s made)
 
 -- ---- where it goes on
 
 -- with a begin
 pub opened :
     (s : Side) (es : List Event) (made : List Made) (o : Option Access) (a : Access) → es ≡ events_of s made ++ open_events s o → o ≡ None →
-    es ++ begin_of s a ∷ [] ≡ events_of s made ++ open_events s (Some a)
-opened s es made o a is none = ap (λ l. l ++ begin_of s a ∷ []) (at_rest s es made o is none)
+    es ++ opening_event s a ∷ [] ≡ events_of s made ++ open_events s (Some a)
+opened s es made o a is none = ap (λ l. l ++ opening_event s a ∷ []) (at_rest s es made o is none)
 
 -- with an end
 pub ended :
@@ -44,7 +44,7 @@ pub ended :
     es ++ end_event s (answered a v) ∷ [] ≡ events_of s (made ++ answered a v ∷ []) ++ open_events s None
 ended s es made o a v is some =
     at_work s es made o a (end_event s (answered a v)) is some
-    ∙ ap (λ b. events_of s made ++ b ∷ end_event s (answered a v) ∷ []) (sym (begin_is s (answered a v) ∙ ap (begin_of s) (access_is a v)))
+    ∙ ap (λ b. events_of s made ++ b ∷ end_event s (answered a v) ∷ []) (sym (begin_is s (answered a v) ∙ ap (opening_event s) (access_is a v)))
     ∙ sym (events_of-append s made (answered a v ∷ []))
     ∙ sym (append-nil (events_of s (made ++ answered a v ∷ [])))
 
@@ -57,9 +57,9 @@ rest_on s es made whole o e is none begins = next_begins s made whole e (subst (
 -- or with the open one, which it ends
 pub work_on :
     (s : Side) (es : List Event) (made whole : List Made) (o : Option Access) (a : Access) (e : Event) → es ≡ events_of s made ++ open_events s o → o ≡ Some a →
-    IsBeginning (es ++ e ∷ []) (events_of s whole) → GoesOnBy s made whole (begin_of s a) e
+    IsBeginning (es ++ e ∷ []) (events_of s whole) → GoesOnBy s made whole (opening_event s a) e
 work_on s es made whole o a e is some begins =
-    next_ends s made whole (begin_of s a) e (subst (λ l. IsBeginning l (events_of s whole)) (at_work s es made o a e is some) begins)
+    next_ends s made whole (opening_event s a) e (subst (λ l. IsBeginning l (events_of s whole)) (at_work s es made o a e is some) begins)
 
 -- ---- where it stops
 

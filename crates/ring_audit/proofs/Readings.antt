@@ -12,7 +12,7 @@ use Rattle.ring_audit.specs.declared.takes.TakeStep.TheVariants as c
 use Rattle.ring_audit.specs.Sides.{AreOfPuts, AreOfTakes}
 use Rattle.ring_audit.specs.PutReading.{PutReading, PutsStand, HasReadPut}
 use Rattle.ring_audit.specs.TakeReading.{TakeReading, TakesStand, HasRead}
-use Rattle.ring_audit.specs.Reading.{Reading, Stands, BothFollow}
+use Rattle.ring_audit.specs.Reading.{Reading, ReadingStands, BothFollow}
 
 pub own_more : OwnChanges → (s t : Side) (h : List Event) (e : Event) → e.side ≡ t → own s (h ++ e ∷ []) ≡ (if same_side s t then own s h ++ e ∷ [] else own s h)
 own_more changes s t h e by = changes s h e ∙ ap (λ (u : Side). if same_side s u then own s h ++ e ∷ [] else own s h) by
@@ -21,13 +21,13 @@ own_more changes s t h e by = changes s h e ∙ ap (λ (u : Side). if same_side 
 
 pub put_stops :
     OwnChanges → (shape : Shape) (r : Reading) (new : PutReading) (e : Event) → e.side ≡ P → HasReadPut shape r.puts new e p.Stops →
-    (h : List Event) → Stands shape r h → BothFollow shape (h ++ e ∷ []) → ⊥
+    (h : List Event) → ReadingStands shape r h → BothFollow shape (h ++ e ∷ []) → ⊥
 put_stops changes shape r new e by read h st (of_puts, of_takes) =
     read (own P h) st.items st.stored st.puts_stand (subst (AreOfPuts shape) (own_more changes P P h e by) of_puts)
 
 pub put_goes :
     OwnChanges → (shape : Shape) (r : Reading) (new : PutReading) (e : Event) → e.side ≡ P → HasReadPut shape r.puts new e p.GoesOn →
-    (h : List Event) → Stands shape r h → Stands shape (record r { puts = new }) (h ++ e ∷ [])
+    (h : List Event) → ReadingStands shape r h → ReadingStands shape (record r { puts = new }) (h ++ e ∷ [])
 put_goes changes shape r new e by read h st = record {
   items = st.items;
   stored = st.stored;
@@ -39,7 +39,7 @@ put_goes changes shape r new e by read h st = record {
 
 pub put_stores :
     OwnChanges → (shape : Shape) (r : Reading) (new : PutReading) (e : Event) (item : ℕ) (put : List ℕ) → e.side ≡ P → HasReadPut shape r.puts new e (p.Stores item) →
-    put ≡ r.put ++ item ∷ [] → (h : List Event) → Stands shape r h → Stands shape (record r { puts = new; put = put }) (h ++ e ∷ [])
+    put ≡ r.put ++ item ∷ [] → (h : List Event) → ReadingStands shape r h → ReadingStands shape (record r { puts = new; put = put }) (h ++ e ∷ [])
 put_stores changes shape r new e item put by read more h st = record {
   items = st.items;
   stored = st.stored ++ item ∷ [];
@@ -51,7 +51,7 @@ put_stores changes shape r new e item put by read more h st = record {
 
 pub put_counts :
     OwnChanges → (shape : Shape) (r : Reading) (new : PutReading) (e : Event) (counted : ℕ) → e.side ≡ P → HasReadPut shape r.puts new e p.Counts →
-    counted ≡ length r.put → (h : List Event) → Stands shape r h → Stands shape (record r { puts = new; counted = counted }) (h ++ e ∷ [])
+    counted ≡ length r.put → (h : List Event) → ReadingStands shape r h → ReadingStands shape (record r { puts = new; counted = counted }) (h ++ e ∷ [])
 put_counts changes shape r new e counted by read all h st = record {
   items = st.items ++ st.stored;
   stored = [];
@@ -65,13 +65,13 @@ put_counts changes shape r new e counted by read all h st = record {
 
 pub take_stops :
     OwnChanges → (shape : Shape) (r : Reading) (new : TakeReading) (e : Event) → e.side ≡ C → HasRead shape r.takes new e c.Stops →
-    (h : List Event) → Stands shape r h → BothFollow shape (h ++ e ∷ []) → ⊥
+    (h : List Event) → ReadingStands shape r h → BothFollow shape (h ++ e ∷ []) → ⊥
 take_stops changes shape r new e by read h st (of_puts, of_takes) =
     read (own C h) r.taken st.takes_stand (subst (AreOfTakes shape) (own_more changes C C h e by) of_takes)
 
 pub take_goes :
     OwnChanges → (shape : Shape) (r : Reading) (new : TakeReading) (e : Event) → e.side ≡ C → HasRead shape r.takes new e c.GoesOn →
-    (h : List Event) → Stands shape r h → Stands shape (record r { takes = new }) (h ++ e ∷ [])
+    (h : List Event) → ReadingStands shape r h → ReadingStands shape (record r { takes = new }) (h ++ e ∷ [])
 take_goes changes shape r new e by read h st = record {
   items = st.items;
   stored = st.stored;
@@ -83,7 +83,7 @@ take_goes changes shape r new e by read h st = record {
 
 pub take_takes :
     OwnChanges → (shape : Shape) (r : Reading) (new : TakeReading) (e : Event) (item : ℕ) (taken : List ℕ) → e.side ≡ C → HasRead shape r.takes new e (c.Takes item) →
-    taken ≡ r.taken ++ item ∷ [] → (h : List Event) → Stands shape r h → Stands shape (record r { takes = new; taken = taken }) (h ++ e ∷ [])
+    taken ≡ r.taken ++ item ∷ [] → (h : List Event) → ReadingStands shape r h → ReadingStands shape (record r { takes = new; taken = taken }) (h ++ e ∷ [])
 take_takes changes shape r new e item taken by read more h st = record {
   items = st.items;
   stored = st.stored;

@@ -9,7 +9,8 @@ use Rattle.bits_core.specs.Made.{clock, own, IsBeginning}
 use Rattle.ring_core.specs.Counts.{first_count}
 use Rattle.ring_core.specs.Items.{items_put, items_taken, IsTold}
 use Rattle.ring_core.specs.Linear.{IsLinearizable}
-use Rattle.ring_core.specs.RingLaw.{InEveryRun, ClosedStays, RingLaw}
+use Rattle.ring_core.specs.RingLaw.{InEveryRun, RingLaw}
+use Rattle.ring_core.specs.RunLaws.{ClosedStays}
 use Rattle.ring_audit.specs.Audit.{IsFound, MeetsSentence, Statement, Lawful, Fault, IsFinding, SaysLinearizable, SaysSentence}
 
 clock_end : (s : Side) (h : List Event) → clock s h (length h) ≡ length (own s h)

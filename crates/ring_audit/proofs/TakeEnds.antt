@@ -14,8 +14,8 @@ use Rattle.ring_core.specs.Takes.{Take, Item, ItemAfterClose, Empty, Takes, End,
 use Rattle.ring_core.specs.Items.{all_taken, events_in, items_taken, Tells, IsTold}
 use Rattle.ring_core.specs.ConsumerState.{ConsumerState, due_take, takes_at, is_taking}
 use Rattle.ring_core.specs.ConsumerCalls.{ConsumerStands, MadeAt, HasTakeMore, TakeGoesOn, IsReply, last_reply, reply_at_end}
-use Rattle.ring_audit.specs.Sides.{begin_of, open_events}
-use Rattle.ring_audit.specs.TakeReading.{IsTakeReading, TakesStand, HasTaken, tells_closed}
+use Rattle.ring_audit.specs.Sides.{opening_event, open_events}
+use Rattle.ring_audit.specs.TakeReading.{IsTakeReading, TakesStand, WereTaken, tells_closed}
 use Rattle.ring_audit.proofs.Readers.{open-short, open-long}
 use Rattle.ring_audit.proofs.Beginnings.{begin_is, access_is, events_of-append, length-events}
 
@@ -147,9 +147,9 @@ open_begins made rest a None same = (
 )
 open_begins made rest a (Some b) same = (
   end_event C (answered a true) ∷ events_of C rest,
-  append_assoc (events_of C made) (begin_of C b ∷ []) (end_event C (answered a true) ∷ events_of C rest)
-      ∙ ap (λ z. events_of C made ++ begin_of C z ∷ end_event C (answered a true) ∷ events_of C rest) (same b refl)
-      ∙ ap (λ z. events_of C made ++ z ∷ end_event C (answered a true) ∷ events_of C rest) (sym (begin_is C (answered a true) ∙ ap (begin_of C) (access_is a true)))
+  append_assoc (events_of C made) (opening_event C b ∷ []) (end_event C (answered a true) ∷ events_of C rest)
+      ∙ ap (λ z. events_of C made ++ opening_event C z ∷ end_event C (answered a true) ∷ events_of C rest) (same b refl)
+      ∙ ap (λ z. events_of C made ++ z ∷ end_event C (answered a true) ∷ events_of C rest) (sym (begin_is C (answered a true) ∙ ap (opening_event C) (access_is a true)))
       ∙ sym (events_of-append C made (answered a true ∷ rest)),
 )
 
@@ -159,7 +159,7 @@ taken_at :
     (shape : Shape) (p : ConsumerState) (o : Option Access) (es : List Event) (items : List ℕ) (due : Option Access) (reply : Option TakeReply) →
     (st : TakesStand shape (record { consumer = p; open_access = o }) es items) → ((a : Access) → o ≡ Some a → due ≡ Some a) →
     ((a : Access) → due ≡ Some a → (is_taking p ≡ true) × TakeGoesOn shape st.calls st.made a) →
-    (due ≡ None → (is_taking p ≡ false) × (st.made ≡ take_program shape st.calls)) → IsReply st.calls (is_taking p) reply → HasTaken shape es items (tells_closed reply)
+    (due ≡ None → (is_taking p ≡ false) × (st.made ≡ take_program shape st.calls)) → IsReply st.calls (is_taking p) reply → WereTaken shape es items (tells_closed reply)
 taken_at shape p o es items None reply st is_due goes rests replied =
     let (idle, made_is) = rests refl in
     let answers : IsReply st.calls false reply = subst (λ b. IsReply st.calls b reply) idle replied in
@@ -211,7 +211,7 @@ pub has_taken :
     ((calls : Takes) (made : List Made) (a : Access) → ConsumerStands p calls made → due ≡ Some a → (is_taking p ≡ true) × TakeGoesOn p.shape calls made a) →
     ((calls : Takes) (made : List Made) → ConsumerStands p calls made → due ≡ None → (is_taking p ≡ false) × (made ≡ take_program p.shape calls)) →
     ((calls : Takes) (made : List Made) → ConsumerStands p calls made → IsReply calls (is_taking p) reply) →
-    (es : List Event) (items : List ℕ) → TakesStand p.shape (record { consumer = p; open_access = o }) es items → HasTaken p.shape es items (tells_closed reply)
+    (es : List Event) (items : List ℕ) → TakesStand p.shape (record { consumer = p; open_access = o }) es items → WereTaken p.shape es items (tells_closed reply)
 has_taken p o due reply is due_is goes rests replies_so es items st =
     taken_at p.shape p o es items due reply st (λ a e. due_is ∙ is.is_due a e) (λ a e. goes st.calls st.made a st.stands e) (λ e. rests st.calls st.made st.stands e)
     (replies_so st.calls st.made st.stands)

@@ -17,7 +17,7 @@ use Rattle.ring_core.specs.declared.consumers.Stage.{Stage}
 use Rattle.ring_core.specs.declared.consumers.Stage.TheVariants.{Idle, Scanning, Checking, Rescanning, Loading, Counting}
 use Rattle.ring_core.specs.ConsumerState.{ConsumerState, due_at, due_take, takes_at, is_taking}
 use Rattle.ring_core.specs.ConsumerCalls.{TakeGoesOn, ConsumerStands, tells}
-use Rattle.ring_audit.specs.Sides.{begin_of, AreOfTakes}
+use Rattle.ring_audit.specs.Sides.{opening_event, AreOfTakes}
 use Rattle.ring_audit.specs.TakeReading.{TakeReading, TakesStand}
 use Rattle.ring_audit.proofs.Readers as readers
 use Rattle.ring_audit.proofs.Beginnings.{begin_is, access_is, same_access, same_made, GoesOnWith, GoesOnBy, events_of-append}
@@ -30,7 +30,7 @@ rest_on shape r es items st e none (calls, are, begins) = readers.rest_on C es s
 
 work_on :
     (shape : Shape) (r : TakeReading) (es : List Event) (items : List ℕ) (st : TakesStand shape r es items) (a : Access) (e : Event) → r.open_access ≡ Some a →
-    (of_takes : AreOfTakes shape (es ++ e ∷ [])) → GoesOnBy C st.made (take_program shape of_takes.0) (begin_of C a) e
+    (of_takes : AreOfTakes shape (es ++ e ∷ [])) → GoesOnBy C st.made (take_program shape of_takes.0) (opening_event C a) e
 work_on shape r es items st a e some (calls, are, begins) = readers.work_on C es st.made (take_program shape calls) r.open_access a e st.events_are some begins
 
 -- ---- where it stops
@@ -42,7 +42,7 @@ pub zero_at_last :
 zero_at_last one shape r es items a st some due (i, reads, last) of_takes =
     let on = work_on shape r es items st a (end_event C (answered a false)) some of_takes in
     let begun : begin_event C (answered a false) ≡ begin_event C on.next =
-    begin_is C (answered a false) ∙ ap (begin_of C) (access_is a false) ∙ on.begins in
+    begin_is C (answered a false) ∙ ap (opening_event C) (access_is a false) ∙ on.begins in
     let next_is : on.next ≡ answered a false = sym (same_made C (answered a false) on.next begun on.ends) in
     let both : Some a ≡ Some (begins.Read (row_read_by C i)) = sym due ∙ reads in
     let a_is : a ≡ begins.Read (row_read_by C i) = cc in
@@ -82,20 +82,20 @@ pub not_due :
     (st : TakesStand shape r es items) → r.open_access ≡ None → p.shape ≡ shape → ConsumerStands p st.calls st.made →
     ((access : Access) → due ≡ Some access → (is_taking p ≡ true) × TakeGoesOn p.shape st.calls st.made access) →
     (due ≡ None → (is_taking p ≡ false) × (st.made ≡ take_program p.shape st.calls)) →
-    (is_taking p ≡ true) ⊎ (p.told ≡ true) → (due ≡ Some a → ⊥) → AreOfTakes shape (es ++ begin_of C a ∷ []) → ⊥
+    (is_taking p ≡ true) ⊎ (p.told ≡ true) → (due ≡ Some a → ⊥) → AreOfTakes shape (es ++ opening_event C a ∷ []) → ⊥
 not_due alike first shape r es items p (Some d) a st none same stands goes rests over wrong of_takes =
-    let on = rest_on shape r es items st (begin_of C a) none of_takes in
+    let on = rest_on shape r es items st (opening_event C a) none of_takes in
     let is_a : access_of on.next ≡ a = same_access C a on.next on.begins in
     let due_so : TakeGoesOn shape st.calls st.made d = subst (λ s. TakeGoesOn s st.calls st.made d) same (goes d refl).1 in
     let is_d : access_of on.next ≡ d = next_is_due alike shape st.calls of_takes.0 st.made on.rest d on.next of_takes.1 due_so on.whole_is in
     wrong (ap Some (sym is_d ∙ is_a))
 not_due alike first shape r es items p None a st none same stands goes rests over wrong of_takes =
-    let on = rest_on shape r es items st (begin_of C a) none of_takes in
+    let on = rest_on shape r es items st (opening_event C a) none of_takes in
     let (idle, made_is) = rests refl in
     let made_so : st.made ≡ take_program shape st.calls = made_is ∙ ap (λ s. take_program s st.calls) same in
     by_told on idle made_so over
   where
-    by_told : (on : GoesOnWith C st.made (take_program shape of_takes.0) (begin_of C a)) → is_taking p ≡ false → st.made ≡ take_program shape st.calls → (is_taking p ≡ true) ⊎ (p.told ≡ true) → ⊥
+    by_told : (on : GoesOnWith C st.made (take_program shape of_takes.0) (opening_event C a)) → is_taking p ≡ false → st.made ≡ take_program shape st.calls → (is_taking p ≡ true) ⊎ (p.told ≡ true) → ⊥
     by_told on idle made_so (inl is) = let clash : true ≡ false = sym is ∙ idle in absurd (cc)
     by_told on idle made_so (inr told) =
         let tells_end : Tells st.calls.end = told-tells st.calls.end (sym stands.told_is ∙ told) in

@@ -41,19 +41,19 @@ pub record PutReading : Type 0 where
   pub open_access : Option Access
 
 -- what holds at each stage
-abbrev pub IsAt : Stage → PutReading → Type 0
-IsAt Resting r = (r.open_access ≡ None) × (due_unary r.row ≡ None)
-IsAt Scanning r =
+abbrev pub IsReaderAt : Stage → PutReading → Type 0
+IsReaderAt Resting r = (r.open_access ≡ None) × (due_unary r.row ≡ None)
+IsReaderAt Scanning r =
     (due_unary r.row ≡ None) × IsScanning P (modulus_of r.shape) r.scan × (r.open_access ≡ None → 0 < r.scan.zeros) ×
     ((access : Access) → r.open_access ≡ Some access → due_scan r.scan ≡ Some access)
-IsAt Choosing r = (r.open_access ≡ None) × (due_unary r.row ≡ None)
-IsAt Storing r =
+IsReaderAt Choosing r = (r.open_access ≡ None) × (due_unary r.row ≡ None)
+IsReaderAt Storing r =
     (due_unary r.row ≡ None) × (r.word.width ≡ width_of r.shape) × (r.word.cell ≡ r.cell) × (r.word.read < r.word.width) × (0 < r.room) ×
     (r.open_access ≡ None → 0 < r.word.read) ×
     ((access : Access) → r.open_access ≡ Some access → (v : Bool) × (access ≡ begins.Write (Cell r.word.cell r.word.read) v))
-IsAt Counting r = (due_unary r.row ≢ None) × ((access : Access) → r.open_access ≡ Some access → due_unary r.row ≡ Some access)
-IsAt Closing r = r.open_access ≡ Some (begins.Write X true)
-IsAt Closed r = r.open_access ≡ None
+IsReaderAt Counting r = (due_unary r.row ≢ None) × ((access : Access) → r.open_access ≡ Some access → due_unary r.row ≡ Some access)
+IsReaderAt Closing r = r.open_access ≡ Some (begins.Write X true)
+IsReaderAt Closed r = r.open_access ≡ None
 
 pub record IsPutReading (r : PutReading) : Type 0 where
   pub count_below : r.count < modulus_of r.shape
@@ -61,7 +61,7 @@ pub record IsPutReading (r : PutReading) : Type 0 where
   pub cell_below : r.cell < capacity_of r.shape
   pub row_side : r.row.side ≡ P
   pub row_modulus : r.row.modulus ≡ modulus_of r.shape
-  pub at : IsAt r.stage r
+  pub at : IsReaderAt r.stage r
 
 -- behind n items and a scan of this value, m is the most items that may be stored, and some may
 pub record IsMost (shape : Shape) (n seen m : ℕ) : Type 0 where
@@ -115,25 +115,25 @@ pub record InCount (shape : Shape) (r : PutReading) (puts : List Put) (items sto
   pub none_stored : stored ≡ []
 
 -- the accesses made, by the stage: those of the puts, and of the one under way
-abbrev pub MadeAt : Stage → Shape → PutReading → List Put → List ℕ → List ℕ → List Made → Type 0
-MadeAt Resting shape r puts items stored made = AtRest shape r puts items stored × (made ≡ put_phrases shape first_count puts)
-MadeAt Scanning shape r puts items stored made =
+abbrev pub MadeWhile : Stage → Shape → PutReading → List Put → List ℕ → List ℕ → List Made → Type 0
+MadeWhile Resting shape r puts items stored made = AtRest shape r puts items stored × (made ≡ put_phrases shape first_count puts)
+MadeWhile Scanning shape r puts items stored made =
     AtRest shape r puts items stored × (made ≡ put_phrases shape first_count puts ++ zero_reads (row_read_by P) r.scan.zeros)
-MadeAt Choosing shape r puts items stored made =
+MadeWhile Choosing shape r puts items stored made =
     (s : InPut shape r puts items stored) ×
     (made ≡ put_phrases shape first_count puts ++ (scan_phrase (row_read_by P) s.seen ++ words_phrase shape (left_by shape puts).number stored))
-MadeAt Storing shape r puts items stored made =
+MadeWhile Storing shape r puts items stored made =
     (s : InPut shape r puts items stored) × (reads : List Made) × ReaderStands r.word reads ×
     (made ≡
     put_phrases shape first_count puts ++
     (scan_phrase (row_read_by P) s.seen ++ (words_phrase shape (left_by shape puts).number stored ++ writes_in (Cell r.cell) (digit_writes r.word.value r.word.read))))
-MadeAt Counting shape r puts items stored made =
+MadeWhile Counting shape r puts items stored made =
     (s : InCount shape r puts items stored) ×
     (made ≡
     put_phrases shape first_count puts ++
     (scan_phrase (row_read_by P) s.seen ++ (words_phrase shape (left_by shape puts).number s.batch ++ writes_in (row_bit P) s.writes)))
-MadeAt Closing shape r puts items stored made = AtRest shape r puts items stored × (made ≡ put_phrases shape first_count puts)
-MadeAt Closed shape r puts items stored made = AtRest shape r puts items stored × (made ≡ put_phrases shape first_count puts ++ Write X true ∷ [])
+MadeWhile Closing shape r puts items stored made = AtRest shape r puts items stored × (made ≡ put_phrases shape first_count puts)
+MadeWhile Closed shape r puts items stored made = AtRest shape r puts items stored × (made ≡ put_phrases shape first_count puts ++ Write X true ∷ [])
 
 -- the reader stands after these events of the producer, in which these items were counted, or their count write has begun,
 -- and these were stored behind them
@@ -144,7 +144,7 @@ pub record PutsStand (shape : Shape) (r : PutReading) (es : List Event) (items s
   pub are : ArePuts shape 0 puts
   pub count_is : r.count ≡ (left_by shape puts).number % modulus_of shape
   pub events_are : es ≡ events_of P made ++ open_events P r.open_access
-  pub made_is : MadeAt r.stage shape r puts items stored made
+  pub made_is : MadeWhile r.stage shape r puts items stored made
 
 -- An event more: where the reader stops, the events are no beginning of those of any calls; else it stands after them.
 abbrev pub HasReadPut : Shape → PutReading → PutReading → Event → PutStep → Type 0
@@ -156,7 +156,7 @@ HasReadPut shape old new e Counts =
     (es : List Event) (items stored : List ℕ) → PutsStand shape old es items stored → PutsStand shape new (es ++ e ∷ []) (items ++ stored) []
 
 -- the events are a beginning of those of calls, by which these items were put
-pub record HasPut (shape : Shape) (es : List Event) (items : List ℕ) : Type 0 where
+pub record WerePut (shape : Shape) (es : List Event) (items : List ℕ) : Type 0 where
   pub calls : Puts
   pub are : ArePuts shape 0 calls.puts
   pub events : IsBeginning es (events_of P (put_program shape calls))

@@ -17,7 +17,7 @@ pub record Reading : Type 0 where
   pub taken : List ℕ
 
 -- both stand after their side's events
-pub record Stands (shape : Shape) (r : Reading) (h : List Event) : Type 0 where
+pub record ReadingStands (shape : Shape) (r : Reading) (h : List Event) : Type 0 where
   pub items : List ℕ
   pub stored : List ℕ
   pub puts_stand : PutsStand shape r.puts (own P h) items stored

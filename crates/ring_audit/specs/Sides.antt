@@ -13,14 +13,14 @@ use Rattle.ring_core.specs.Puts.{Puts, put_program, ArePuts}
 use Rattle.ring_core.specs.Takes.{Takes, take_program, AreTakes}
 
 -- the event with which a side begins an access
-abbrev pub begin_of : Side → Access → Event
-begin_of s (begins.Read b) = record { side = s; bit = b; act = ReadBegin }
-begin_of s (begins.Write b v) = record { side = s; bit = b; act = WriteBegin v }
+abbrev pub opening_event : Side → Access → Event
+opening_event s (begins.Read b) = record { side = s; bit = b; act = ReadBegin }
+opening_event s (begins.Write b v) = record { side = s; bit = b; act = WriteBegin v }
 
 -- the begin of the access that is open
 abbrev pub open_events : Side → Option Access → List Event
 open_events s None = []
-open_events s (Some access) = begin_of s access ∷ []
+open_events s (Some access) = opening_event s access ∷ []
 
 -- the event ends the access, which is answered so
 abbrev pub EndsSo : Access → Event → Bool → Type 0

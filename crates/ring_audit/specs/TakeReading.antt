@@ -59,7 +59,7 @@ HasRead shape old new e GoesOn = (es : List Event) (items : List ℕ) → TakesS
 HasRead shape old new e (TakesItem item) = (es : List Event) (items : List ℕ) → TakesStand shape old es items → TakesStand shape new (es ++ e ∷ []) (items ++ item ∷ [])
 
 -- the events are a beginning of those of calls, by which these items were taken and this was told
-pub record HasTaken (shape : Shape) (es : List Event) (items : List ℕ) (told : Bool) : Type 0 where
+pub record WereTaken (shape : Shape) (es : List Event) (items : List ℕ) (told : Bool) : Type 0 where
   pub calls : Takes
   pub are : AreTakes shape 0 calls.takes calls.end
   pub events : IsBeginning es (events_of C (take_program shape calls))

@@ -4,7 +4,7 @@ ghost use Rattle.bits_core.specs.declared.events.Event.{Event as AnEvent};
 ghost use Rattle.bits_core.specs.Lawful.{IsLawful};
 ghost use Rattle.ring_audit.specs.Audit.{IsFinding, IsOfPrograms, SaysLinearizable, SaysSentence, lawful_until, statement, tells_lawful};
 ghost use Rattle.bits_core.specs.Audit.{IsVerdict};
-ghost use Rattle.ring_audit.specs.Reading.{Stands, BothFollow};
+ghost use Rattle.ring_audit.specs.Reading.{ReadingStands, BothFollow};
 
 use crate::faults::AuditFault;
 use crate::puts::{PutReader, PutStep};
@@ -56,7 +56,7 @@ impl<A: Allocator> Reading<A> {
         A: Copy,
         ensures put_shape { result.puts.shape ≡ shape.now }
         ensures take_shape { result.takes.consumer.shape ≡ shape.now }
-        ensures stands { Stands shape.now result [] }
+        ensures stands { ReadingStands shape.now result [] }
     {
         Reading {
             puts: PutReader::new(shape),
@@ -72,8 +72,8 @@ impl<A: Allocator> Reading<A> {
         requires { self.old.takes.consumer.shape ≡ self.old.puts.shape }
         ensures put_shape { self.new.puts.shape ≡ self.old.puts.shape }
         ensures take_shape { self.new.takes.consumer.shape ≡ self.old.takes.consumer.shape }
-        ensures goes_on { IfOk result (λ on. on ≡ true → (h : List AnEvent) → Stands self.old.puts.shape self.old h → Stands self.old.puts.shape self.new (h ++ event ∷ [])) }
-        ensures stops { IfOk result (λ on. on ≡ false → (h : List AnEvent) → Stands self.old.puts.shape self.old h → ¬ BothFollow self.old.puts.shape (h ++ event ∷ [])) }
+        ensures goes_on { IfOk result (λ on. on ≡ true → (h : List AnEvent) → ReadingStands self.old.puts.shape self.old h → ReadingStands self.old.puts.shape self.new (h ++ event ∷ [])) }
+        ensures stops { IfOk result (λ on. on ≡ false → (h : List AnEvent) → ReadingStands self.old.puts.shape self.old h → ¬ BothFollow self.old.puts.shape (h ++ event ∷ [])) }
     {
         own_changes();
         match event.side {
@@ -103,7 +103,7 @@ impl<A: Allocator> Reading<A> {
     // What was read so far is of the programs.
     fn follows(&self)
         requires { self.now.takes.consumer.shape ≡ self.now.puts.shape }
-        ensures { (h : List AnEvent) → Stands self.now.puts.shape self.now h → BothFollow self.now.puts.shape h }
+        ensures { (h : List AnEvent) → ReadingStands self.now.puts.shape self.now h → BothFollow self.now.puts.shape h }
     {
         self.puts.follow();
         let _told = self.takes.told();
@@ -112,7 +112,7 @@ impl<A: Allocator> Reading<A> {
     // What was found of a lawful history that was read to its end.
     fn finding(self) -> Finding<A>
         requires { self.takes.consumer.shape ≡ self.puts.shape }
-        ensures { (h : List AnEvent) → IsLawful self.puts.shape h → Stands self.puts.shape self h → IsFinding self.puts.shape h (statement result) }
+        ensures { (h : List AnEvent) → IsLawful self.puts.shape h → ReadingStands self.puts.shape self h → IsFinding self.puts.shape h (statement result) }
     {
         let Reading {
             puts,

@@ -6,8 +6,8 @@ ghost use Rattle.bits_core.specs.declared.events.Event.{Event as AnEvent};
 ghost use Rattle.bits_core.specs.Made.{answered, end_event};
 ghost use Rattle.bits_core.specs.Shape.{modulus_of, batch_of};
 ghost use Rattle.ring_core.specs.Counts.{LeavesRoom, LeavesRoomFor};
-ghost use Rattle.ring_audit.specs.Sides.{begin_of};
-ghost use Rattle.ring_audit.specs.PutReading.{PutsStand, HasReadPut, HasPut};
+ghost use Rattle.ring_audit.specs.Sides.{opening_event};
+ghost use Rattle.ring_audit.specs.PutReading.{PutsStand, HasReadPut, WerePut};
 
 use crate::sides::{answer_to, begun_by, is_same, told_by, writes_next};
 use bits_core::{Access, Bit, Event, Shape, Side};
@@ -131,7 +131,7 @@ impl PutReader {
     fn begin(&mut self, access: Access) -> PutStep
         requires { self.old.open_access ≡ None }
         ensures shape { self.new.shape ≡ self.old.shape }
-        ensures read { HasReadPut self.old.shape self.old self.new (begin_of P access) result }
+        ensures read { HasReadPut self.old.shape self.old self.new (opening_event P access) result }
     {
         calls_are_first();
         match self.stage {
@@ -150,7 +150,7 @@ impl PutReader {
         requires none { self.old.open_access ≡ None }
         requires stage { self.old.stage ≡ Resting }
         ensures shape { self.new.shape ≡ self.old.shape }
-        ensures read { HasReadPut self.old.shape self.old self.new (begin_of P access) result }
+        ensures read { HasReadPut self.old.shape self.old self.new (opening_event P access) result }
     {
         puts_go_on();
         if is_same(Some(Access::Write(Bit::X, true)), access) {
@@ -174,7 +174,7 @@ impl PutReader {
         requires none { self.old.open_access ≡ None }
         requires stage { self.old.stage ≡ Scanning }
         ensures shape { self.new.shape ≡ self.old.shape }
-        ensures read { HasReadPut self.old.shape self.old self.new (begin_of P access) result }
+        ensures read { HasReadPut self.old.shape self.old self.new (opening_event P access) result }
     {
         puts_go_on();
         if is_same(self.scan.next(), access) {
@@ -190,7 +190,7 @@ impl PutReader {
         requires none { self.old.open_access ≡ None }
         requires stage { self.old.stage ≡ Choosing }
         ensures shape { self.new.shape ≡ self.old.shape }
-        ensures read { HasReadPut self.old.shape self.old self.new (begin_of P access) result }
+        ensures read { HasReadPut self.old.shape self.old self.new (opening_event P access) result }
     {
         puts_go_on();
         if self.room > 0 && writes_next(WordReader::new(&self.shape, self.cell).next(), access) {
@@ -212,7 +212,7 @@ impl PutReader {
         requires some { self.old.some ≡ true }
         requires no_word { (v : Bool) → 0 < self.old.room → access ≢ Access.Write (Cell self.old.cell 0) v }
         ensures shape { self.new.shape ≡ self.old.shape }
-        ensures read { HasReadPut self.old.shape self.old self.new (begin_of P access) result }
+        ensures read { HasReadPut self.old.shape self.old self.new (opening_event P access) result }
     {
         puts_go_on();
         self.row.write(self.next);
@@ -232,7 +232,7 @@ impl PutReader {
         requires none { self.old.open_access ≡ None }
         requires stage { self.old.stage ≡ Storing }
         ensures shape { self.new.shape ≡ self.old.shape }
-        ensures read { HasReadPut self.old.shape self.old self.new (begin_of P access) result }
+        ensures read { HasReadPut self.old.shape self.old self.new (opening_event P access) result }
     {
         puts_go_on();
         if writes_next(self.word.next(), access) {
@@ -248,7 +248,7 @@ impl PutReader {
         requires none { self.old.open_access ≡ None }
         requires stage { self.old.stage ≡ Counting }
         ensures shape { self.new.shape ≡ self.old.shape }
-        ensures read { HasReadPut self.old.shape self.old self.new (begin_of P access) result }
+        ensures read { HasReadPut self.old.shape self.old self.new (opening_event P access) result }
     {
         puts_go_on();
         if is_same(self.row.next(), access) {
@@ -355,7 +355,7 @@ impl PutReader {
 
     /// What was read so far is a beginning of the events of puts.
     pub fn follow(&self)
-        ensures { (es : List AnEvent) (items stored : List ℕ) → PutsStand self.now.shape self.now es items stored → HasPut self.now.shape es items }
+        ensures { (es : List AnEvent) (items stored : List ℕ) → PutsStand self.now.shape self.now es items stored → WerePut self.now.shape es items }
     {
         counts_are_written();
         let _due = self.word.next();

@@ -5,8 +5,8 @@ ghost use Rattle.bits_core.specs.declared.events.Event.{Event as AnEvent};
 ghost use Rattle.bits_core.specs.declared.events.Access.{Access as AnAccess};
 ghost use Rattle.bits_core.specs.Made.{answered, end_event};
 ghost use Rattle.ring_core.specs.ConsumerState.{due_take};
-ghost use Rattle.ring_audit.specs.Sides.{begin_of, AreOfTakes};
-ghost use Rattle.ring_audit.specs.TakeReading.{TakesStand, HasRead, HasTaken, step_by, tells_closed};
+ghost use Rattle.ring_audit.specs.Sides.{opening_event, AreOfTakes};
+ghost use Rattle.ring_audit.specs.TakeReading.{TakesStand, HasRead, WereTaken, step_by, tells_closed};
 
 use crate::sides::{answer_to, begun_by, is_same};
 use bits_core::{Access, Event, Shape};
@@ -81,8 +81,8 @@ impl TakeReader {
     // An access begins: whether it is the one that is due.
     fn begin(&mut self, access: Access) -> bool
         ensures shape { self.new.consumer.shape ≡ self.old.consumer.shape }
-        ensures goes_on { result ≡ true → (es : List AnEvent) (items : List ℕ) → TakesStand self.old.consumer.shape self.old es items → TakesStand self.old.consumer.shape self.new (es ++ begin_of C access ∷ []) items }
-        ensures stops { result ≡ false → (es : List AnEvent) (items : List ℕ) → TakesStand self.old.consumer.shape self.old es items → ¬ AreOfTakes self.old.consumer.shape (es ++ begin_of C access ∷ []) }
+        ensures goes_on { result ≡ true → (es : List AnEvent) (items : List ℕ) → TakesStand self.old.consumer.shape self.old es items → TakesStand self.old.consumer.shape self.new (es ++ opening_event C access ∷ []) items }
+        ensures stops { result ≡ false → (es : List AnEvent) (items : List ℕ) → TakesStand self.old.consumer.shape self.old es items → ¬ AreOfTakes self.old.consumer.shape (es ++ opening_event C access ∷ []) }
     {
         match self.open_access {
             Some(_) => false,
@@ -104,7 +104,7 @@ impl TakeReader {
         ensures due { result ≡ due_take self.new.consumer }
         ensures open_access { self.new.open_access ≡ None }
         ensures stands { (es : List AnEvent) (items : List ℕ) → TakesStand self.old.consumer.shape self.old es items → TakesStand self.old.consumer.shape self.new es items }
-        ensures only { (es : List AnEvent) (items : List ℕ) (access : AnAccess) → TakesStand self.old.consumer.shape self.old es items → result ≢ Some access → ¬ AreOfTakes self.old.consumer.shape (es ++ begin_of C access ∷ []) }
+        ensures only { (es : List AnEvent) (items : List ℕ) (access : AnAccess) → TakesStand self.old.consumer.shape self.old es items → result ≢ Some access → ¬ AreOfTakes self.old.consumer.shape (es ++ opening_event C access ∷ []) }
     {
         takes_go_on_alike();
         calls_are_first();
@@ -134,7 +134,7 @@ impl TakeReader {
 
     /// Whether a take was told that the ring is closed, and what was read so far.
     pub fn told(&self) -> bool
-        ensures { (es : List AnEvent) (items : List ℕ) → TakesStand self.now.consumer.shape self.now es items → HasTaken self.now.consumer.shape es items result }
+        ensures { (es : List AnEvent) (items : List ℕ) → TakesStand self.now.consumer.shape self.now es items → WereTaken self.now.consumer.shape es items result }
     {
         let _due = self.consumer.next();
         was_told(self.consumer.reply())

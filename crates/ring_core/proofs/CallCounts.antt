@@ -1,6 +1,5 @@
 -- What the calls count and take is what their spans do.
-use Rattle.std.proofs.Common.{◌≡◌, inl, inr, ℕ, zero, suc, ◌+◌, ◌-◌, ◌%◌, ◌<◌, ◌≤◌, Bool, true, false, nat_lt, nat_le, if◌then◌else◌, Some, List, [], ◌∷◌, ◌++◌, length, refl, sym, ap, ◌∙◌, arith, length-append, append-nil}
-use Rattle.std.specs.Prelude.{slice_get}
+use Rattle.std.proofs.Common.{◌≡◌, ℕ, zero, suc, ◌+◌, ◌-◌, ◌%◌, Bool, true, false, nat_lt, nat_le, if◌then◌else◌, List, [], ◌∷◌, ◌++◌, length, refl, ap, ◌∙◌, arith, length-append, append-nil}
 use Rattle.std.proofs.lemmas.Bool.Decides.{nat_tests}
 use Rattle.bits_core.specs.declared.events.Side.TheVariants.{P, C}
 use Rattle.bits_core.specs.declared.events.Bit.TheVariants.{X}
@@ -11,17 +10,12 @@ use Rattle.register_core.specs.Word.{word_read}
 use Rattle.register_core.specs.ScanState.{scan_phrase, row_read_by}
 use Rattle.ring_core.specs.Counts.{Count, batch_phrase}
 use Rattle.ring_core.specs.Puts.{Put, Stored, Full, stored_in, stored_after, words_phrase, put_phrase}
-use Rattle.ring_core.specs.Takes.{Take, Item, ItemAfterClose, Empty, End, Open, Closed, taken_after, taken_in, take_phrase, take_phrases}
-use Rattle.ring_core.specs.Items.{events_in, items_taken}
-use Rattle.ring_core.proofs.Spans.{Span, Passes, Stops, Asks, counts, items_of, whole, before_count, IsSpanAt, counts_begun, counts_ended, begun_items, sizes, tally}
+use Rattle.ring_core.specs.Takes.{Take, Item, ItemAfterClose, Empty, End, Open, Closed, taken_in, take_phrase}
+use Rattle.ring_core.specs.Items.{events_in}
+use Rattle.ring_core.proofs.Spans.{Span, Passes, Stops, Asks, whole, before_count, counts_begun, counts_ended, sizes, tally}
 use Rattle.ring_core.proofs.LookSpans.{steps, look, put_looks, take_looks, span_of, spans}
-use Rattle.ring_core.specs.CallsAt.{item_of}
 use Rattle.ring_core.proofs.EndedCounts.{stored_ended, taken_begun, take_before_count}
 use Rattle.ring_core.proofs.CountRow.{past_is}
-use Rattle.ring_core.proofs.Cuts.{at_most_or_above}
-use Rattle.ring_core.proofs.CellPlaces.{slice_get-before}
-use Rattle.ring_core.proofs.Lengths.{length-scan}
-use Rattle.ring_core.proofs.Timeline.{AllProper, counts-items, ended_past, slice_get-behind, begun_items_past}
 use Rattle.ring_core.proofs.CallSpans.{three, take_phrase-item, take_phrase-after, take_phrase-empty}
 
 -- counts where the same test holds, before the same counts

@@ -1,37 +1,42 @@
 -- The law of the ring over calls, from the law over spans.
-use Rattle.std.proofs.Common.{◌≡◌, ℕ, suc, ◌+◌, ◌-◌, ◌*◌, ◌%◌, ◌<◌, ◌≤◌, true, false, Some, List, [], ◌∷◌, length, get_or, refl, sym, ap, subst, ◌∙◌, arith, length-append}
+use Rattle.std.proofs.Common.{◌≡◌, inl, inr, zero, ℕ, suc, ◌+◌, ◌-◌, ◌*◌, ◌%◌, ◌<◌, ◌≤◌, true, false, Some, List, [], ◌∷◌, ◌++◌, length, sym, ap, subst, ◌∙◌, arith, length-append}
 use Rattle.std.specs.Prelude.{slice_get}
 use Rattle.std.proofs.Math.Nat.{suc-mul}
-use Rattle.std.proofs.lemmas.Option.{slice_get_within, slice_get-get_or}
+use Rattle.std.proofs.lemmas.Option.{slice_get_within}
 use Rattle.bits_core.specs.declared.events.Side.{Side}
 use Rattle.bits_core.specs.declared.events.Side.TheVariants.{P, C}
 use Rattle.bits_core.specs.declared.events.Bit.TheVariants.{X}
 use Rattle.bits_core.specs.declared.events.Event.{Event}
 use Rattle.bits_core.specs.declared.shapes.Shape.{Shape}
-use Rattle.bits_core.specs.Shape.{batch_of, capacity_of, modulus_of, width_of}
+use Rattle.bits_core.specs.Shape.{AllFit, batch_of, capacity_of, modulus_of, width_of}
+use Rattle.register_core.specs.Phrases.{word_read, word_write}
+use Rattle.register_core.specs.Word.{DigitsTellItems}
 use Rattle.bits_core.specs.Bits.{other}
 use Rattle.bits_core.specs.Made.{Made, Read, own, clock, place_of, IsPlaceOf, IsBeginning}
 use Rattle.register_core.specs.ScanState.{scan_phrase, row_read_by}
 use Rattle.ring_core.specs.Counts.{distance, first_count}
-use Rattle.ring_core.specs.Puts.{Put, Puts, Stored, Full, stored_in, close_phrase}
-use Rattle.ring_core.specs.Takes.{accesses_before_word, Take, Item, ItemAfterClose, Empty, Takes, taken_in}
+use Rattle.ring_core.specs.Puts.{Put, Puts, Stored, Full, stored_in, close_phrase, put_program}
+use Rattle.ring_core.specs.Takes.{accesses_before_word, Take, Item, ItemAfterClose, Empty, Takes, taken_in, take_program}
 use Rattle.ring_core.specs.Items.{events_in, items_put, items_taken}
-use Rattle.ring_core.proofs.Spans.{Span, Outcome, Passes, Stops, Asks, counts, before_count, whole, counts_begun, counts_ended, IsSpanAt, sizes, tally}
-use Rattle.ring_core.proofs.Spans as spans
-use Rattle.ring_core.specs.CallsAt as taken
+use Rattle.ring_core.proofs.Spans.{Span, items_of, Passes, counts, whole, counts_begun, counts_ended, IsSpanAt, sizes, tally}
+use Rattle.ring_core.specs.Items as taken
 use Rattle.ring_core.proofs.LookSpans.{put_looks, take_looks, put_spans, take_spans}
-use Rattle.ring_core.specs.CallsAt.{IsPutAt, IsTakeAt, scan_events, StoresItem, TakesItem, puts_begun, puts_ended, takes_begun, takes_ended}
-use Rattle.ring_core.specs.RingLaw.{IsRun, ReadsCount, IsInterval, IsWithin, PutsAreInRange, TakesAreInRange, WordsAreQuiet, TakenArePrefix, TakesMatchPuts, EmptyIsFresh, FullIsFresh, FillIsFresh, ClosedIsTrue}
+use Rattle.ring_core.specs.CallsAt.{IsTakeAt, scan_events, puts_begun, puts_ended, takes_begun, takes_ended}
+use Rattle.ring_core.proofs.ItemPlaces.{TakesItem, ItemsAreQuiet}
+use Rattle.ring_core.proofs.WordPlaces.{WordSpan, word_there}
+use Rattle.ring_core.proofs.WordPlaces.{none-close as no_word}
+use Rattle.ring_core.proofs.Phrases.{same_word_read}
+use Rattle.ring_core.specs.RingLaw.{IsRun, IsInterval, IsWithin, WordsAreQuiet, TakenArePrefix, TakesMatchPuts, EmptyIsFresh, FullIsFresh, FillIsFresh, ClosedIsTrue}
+use Rattle.ring_core.specs.Ranges.{ReadsCount, PutsAreInRange, TakesAreInRange}
 use Rattle.ring_core.proofs.RingOfSpans as by_span
-use Rattle.ring_core.proofs.Timeline.{AllProper, begun_at, length-begun_items, length-ended_items}
-use Rattle.ring_core.proofs.Looks.{puts_as_looks, takes_as_looks, proper_puts, proper_takes, puts_items, takes_items, word_is, asks_word}
+use Rattle.ring_core.proofs.Timeline.{AllProper, begun_at, ended_at, length-begun_items, length-ended_items}
+use Rattle.ring_core.proofs.Looks.{puts_as_looks, takes_as_looks, proper_puts, proper_takes, puts_items, takes_items, word_is as word_is_long, asks_word, take_fits}
 use Rattle.ring_core.proofs.Lengths.{length-scan}
-use Rattle.ring_core.proofs.CellPlaces.{slice_get-before}
 use Rattle.ring_core.proofs.CloseReads.{OwnFacts}
 use Rattle.ring_core.proofs.CloseEnds.{place_within, not_ended}
 use Rattle.ring_core.proofs.CallSpans.{second_scan, stands_at, put_has_span, item_has_span, empty_has_span, after_has_second}
 use Rattle.ring_core.proofs.EndedCounts.{puts_ended_is, takes_begun_is}
-use Rattle.ring_core.proofs.ScanPlaces.{ScanSpan, scan_there, none-close, none-nil}
+use Rattle.ring_core.proofs.ScanPlaces.{ScanSpan, scan_there, none-close}
 use Rattle.ring_core.proofs.CallCounts.{stored_ended_is, taken_begun_is, put_tally, take_tally}
 
 interval_at : (s : Side) (h : List Event) (i i' e e' start stop : ℕ) → i ≡ i' → e ≡ e' → IsInterval s h i e start stop → IsInterval s h i' e' start stop
@@ -40,6 +45,18 @@ interval_at s h i i' e e' start stop p q r = subst (λ m. IsInterval s h m e' st
 -- a scan has an event
 scan_some : (s : Side) (seen : ℕ) → 1 ≤ scan_events s seen
 scan_some s seen = omega (arith, length-scan (row_read_by s) seen)
+
+-- a span counts no more than any
+few_at : (most : ℕ) (xs : List Span) → AllProper most xs → (s n : ℕ) (x : Span) → IsSpanAt xs s n x → counts x.outcome ≤ most
+few_at most [] h s n x st = elim st [ ]
+few_at most (y ∷ ys) h s n x (inl st) = omega (arith, h.0.few, ap (λ (z : Span). counts z.outcome) st.2)
+few_at most (y ∷ ys) h s n x (inr st) = few_at most ys h.1 st.0 st.1 x st.4
+
+only_item : (items : List ℕ) (i x : ℕ) → slice_get items i ≡ Some x → length items ≤ 1 → items ≡ x ∷ []
+only_item [] i x e l = absurd (cc)
+only_item (y ∷ []) zero x e l = cc
+only_item (y ∷ []) (suc i) x e l = absurd (cc)
+only_item (y ∷ z ∷ items) i x e l = absurd (omega (arith, l))
 
 -- the take of an item by its span
 pub record HasWord (shape : Shape) (calls : Takes) (k item word stop : ℕ) : Type 0 where
@@ -169,7 +186,7 @@ module _ (facts : OwnFacts) (shape : Shape) (h : List Event) (puts : Puts) (take
   pub take_range : TakesAreInRange shape h puts takes
   take_range k start seen (before, after, program, start_is) l k_is =
       let z : ScanSpan C (take_spans shape takes) (2 * length before) seen =
-      scan_there C shape first_count (take_looks takes.takes takes.end) [] (none-nil C) before after seen
+      scan_there C shape first_count (take_looks takes.takes takes.end) [] tt before after seen
       (sym (takes_as_looks shape 0 takes.takes takes.end) ∙ program) in
       let stands = behind C 1 (take_spans shape takes) (proper_takes shape takes) (takes_begun shape takes) takes_begun_are start k seen before start_is k_is z in
       reads_count C start seen z.span puts.puts (stored_in 0) (puts_ended shape puts) (puts_begun shape puts) (put_spans shape puts) (k - batch_of shape) (k + capacity_of shape)
@@ -177,8 +194,8 @@ module _ (facts : OwnFacts) (shape : Shape) (h : List Event) (puts : Puts) (take
 
   -- ---- words
 
-  pub words : WordsAreQuiet shape h puts takes
-  words j item word past a k item' word' past' b cell start stop start' stop' on off overlap =
+  pub items_quiet : ItemsAreQuiet shape h puts takes
+  items_quiet j item word past a k item' word' past' b cell start stop start' stop' on off overlap =
       let w : ℕ = width_of shape in
       let x = put_has_span shape puts (Stored a.seen a.items) a.n a.start past a.is_put in
       let y = has_word shape takes k item' word' past' b in
@@ -195,11 +212,67 @@ module _ (facts : OwnFacts) (shape : Shape) (h : List Event) (puts : Puts) (take
   pub prefix : TakenArePrefix shape h puts takes
   prefix = law.prefix
 
-  pub items : TakesMatchPuts shape h puts takes
-  items t k item word past b l =
-      let y = has_word shape takes k item word past b in
-      let long = word_is C shape (take_looks takes.takes takes.end) y.start k y.span y.stands (ap counts y.outcome_is) in
-      law.items t y.start k y.span item y.stands y.outcome_is (omega (arith, y.word_is, long, l))
+  -- the word of an item, where it stands among the accesses
+  put_word : (before after : List Made) (cell item : ℕ) → put_program shape puts ≡ before ++ (word_write (width_of shape) cell item ++ after) →
+      WordSpan P shape 0 (put_spans shape puts) before (word_write (width_of shape) cell item ++ after) cell
+  put_word before after cell item program =
+      word_there P shape first_count (put_looks puts.puts) (close_phrase puts.closes) (no_word P puts.closes) before after cell item
+      (sym (puts_as_looks shape first_count puts.puts puts.closes) ∙ program)
+
+  take_word : (before after : List Made) (cell item : ℕ) → take_program shape takes ≡ before ++ (word_read (width_of shape) cell item ++ after) →
+      WordSpan C shape 0 (take_spans shape takes) before (word_read (width_of shape) cell item ++ after) cell
+  take_word before after cell item program =
+      word_there C shape first_count (take_looks takes.takes takes.end) [] tt before after cell item (sym (takes_as_looks shape 0 takes.takes takes.end) ∙ program)
+
+  -- a look of a take has one item
+  one_item : (before rest : List Made) (cell : ℕ) (y : WordSpan C shape 0 (take_spans shape takes) before rest cell) →
+      (counts y.span.outcome ≡ 1) × (y.index ≡ 0) × (y.items ≡ y.item ∷ [])
+  one_item before rest cell y =
+      let few : counts y.span.outcome ≤ 1 = few_at 1 (take_spans shape takes) (proper_takes shape takes) y.start y.number y.span y.stands in
+      let size : counts y.span.outcome ≡ length y.items = ap counts y.outcome_is in
+      let within : y.index < length y.items = slice_get_within y.items y.index y.item y.listed in
+      (omega (arith, few, size, within), omega (arith, few, size, within), only_item y.items y.index y.item y.listed (omega (arith, few, size)))
+
+  pub words : WordsAreQuiet shape h puts takes
+  words cell item item' word word' (before, after, program, word_is) (before', after', program', word_is') start stop start' stop' on off overlap =
+      let w : ℕ = width_of shape in
+      let x = put_word before after cell item program in
+      let y = take_word before' after' cell item' program' in
+      let (one, first, only) = one_item before' (word_read w cell item' ++ after') cell y in
+      let size : suc x.index * w ≡ x.index * w + w = suc-mul x.index w in
+      let single : 1 * w ≡ w = omega arith in
+      let none : 0 * w ≡ 0 = omega arith in
+      let at_first : y.index * w ≡ 0 * w = ap (λ i. i * w) first in
+      let digits : 0 < w = shape.has_digits in
+      let x_number : 0 + x.number + x.index ≡ x.number + x.index = omega arith in
+      let y_number : 0 + y.number + y.index ≡ y.number = omega (arith, first) in
+      let same : (x.number + x.index) % capacity_of shape ≡ y.number % capacity_of shape =
+      ap (λ i. i % capacity_of shape) (sym x_number) ∙ x.cell_is ∙ sym y.cell_is ∙ ap (λ i. i % capacity_of shape) y_number in
+      law.quiet x.start x.number x.index x.span x.stands (omega (arith, slice_get_within x.items x.index x.item x.listed, ap counts x.outcome_is))
+      y.start y.number y.span y.stands one same start stop start' stop'
+      (interval_at P h word _ _ _ start stop (omega (arith, word_is, x.place)) (omega (arith, word_is, x.place, size, digits)) on)
+      (interval_at C h word' _ _ _ start' stop' (omega (arith, word_is', y.place, at_first, none)) (omega (arith, word_is', y.place, at_first, none, single, digits)) off)
+      overlap
+
+  pub items : DigitsTellItems → TakesMatchPuts shape h puts takes
+  items tell t k cell item word fits (before, after, program, word_is) k_is l =
+      let w : ℕ = width_of shape in
+      let y = take_word before after cell item program in
+      let (one, first, only) = one_item before (word_read w cell item ++ after) cell y in
+      let at_first : y.index * w ≡ 0 * w = ap (λ i. i * w) first in
+      let none : 0 * w ≡ 0 = omega arith in
+      let outcome : y.span.outcome ≡ Passes (y.item ∷ []) = y.outcome_is ∙ ap Passes only in
+      let fit : AllFit shape (items_of y.span.outcome) = (take_fits shape first_count takes.takes takes.end run.takes_follow.are y.start y.number y.span y.stands).items in
+      let fits' : AllFit shape (y.item ∷ []) = subst (λ o. AllFit shape (items_of o)) outcome fit in
+      let (same, left) = same_word_read tell w cell item y.item after y.after fits fits'.0 y.there in
+      let digits : 0 < w = shape.has_digits in
+      let long : y.span.word ≡ 2 * w = word_is_long C shape (take_looks takes.takes takes.end) y.start y.number y.span y.stands one in
+      let place : y.start + y.span.scan ≡ word = omega (arith, word_is, y.place, at_first, none) in
+      let number : k ≡ y.number =
+      k_is ∙ sym (takes_ended_are word) ∙ ap (counts_ended (take_spans shape takes)) (sym place) ∙
+      ended_at 1 (take_spans shape takes) (proper_takes shape takes) y.start y.number y.span y.stands y.span.scan (omega (arith, long, digits)) in
+      ap (slice_get (items_put shape first_count puts.puts (clock P h t))) number ∙
+      law.items t y.start y.number y.span y.item y.stands outcome (omega (arith, place, long, l)) ∙ ap Some (sym same)
 
   -- ---- empty and full
 

@@ -23,8 +23,10 @@ use Rattle.ring_core.specs.Counts.{Count, first_count, count_bits, count_phrase,
 use Rattle.ring_core.specs.Puts.{Put, Puts, Stored, Full, stored_in, stored_after, words_phrase, put_phrase, put_phrases, close_phrase, put_program}
 use Rattle.ring_core.specs.Takes.{accesses_before_word, Take, Takes, Item, ItemAfterClose, Empty, End, Open, Closed, taken_after, taken_in, item_phrase, take_phrase, take_phrases, end_phrase, take_program}
 use Rattle.ring_core.specs.Items.{events_in}
-use Rattle.ring_core.specs.CallsAt.{scan_events, StoresItem, item_of, TakesItem}
-use Rattle.ring_core.specs.RingLaw.{IsRun, IsInterval, WordsAreQuiet, CellsAreQuiet}
+use Rattle.ring_core.specs.Items.{item_of}
+use Rattle.ring_core.specs.CallsAt.{scan_events}
+use Rattle.ring_core.specs.RingLaw.{IsRun, IsInterval, CellsAreQuiet}
+use Rattle.ring_core.proofs.ItemPlaces.{StoresItem, TakesItem, ItemsAreQuiet}
 use Rattle.ring_core.proofs.Cuts.{at_most_or_above}
 use Rattle.ring_core.proofs.OwnEvents.{clock_within, clock_rises}
 use Rattle.ring_core.proofs.Lengths.{length-words}
@@ -366,7 +368,7 @@ around has_place s h m x start stop word long r low high =
 
 -- no access of the producer to a digit of a cell overlaps one of the consumer to a digit of it
 digits_are_quiet :
-    OwnFacts → (shape : Shape) (h : List Event) (puts : Puts) (takes : Takes) → IsRun shape h puts takes → WordsAreQuiet shape h puts takes →
+    OwnFacts → (shape : Shape) (h : List Event) (puts : Puts) (takes : Takes) → IsRun shape h puts takes → ItemsAreQuiet shape h puts takes →
     (j d d' : ℕ) (a a' : Access) (start stop start' stop' : ℕ) → IsAccess h P a start stop → bit_of a ≡ Cell j d →
     IsAccess h C a' start' stop' → bit_of a' ≡ Cell j d' → ¬ Overlap start stop start' stop'
 digits_are_quiet facts shape h puts takes run words j d d' a a' start stop start' stop' p of_p c of_c (not_after, not_before) =
@@ -414,7 +416,7 @@ digits_are_quiet facts shape h puts takes run words j d d' a a' start stop start
     ]
 
 pub cells_are_quiet :
-    OwnFacts → (shape : Shape) (h : List Event) (puts : Puts) (takes : Takes) → IsRun shape h puts takes → WordsAreQuiet shape h puts takes →
+    OwnFacts → (shape : Shape) (h : List Event) (puts : Puts) (takes : Takes) → IsRun shape h puts takes → ItemsAreQuiet shape h puts takes →
     CellsAreQuiet shape h puts takes
 cells_are_quiet facts shape h puts takes run words j d d' v start stop start' stop' write read =
     digits_are_quiet facts shape h puts takes run words j d d' (begins.Write (Cell j d) v) (begins.Read (Cell j d')) start stop start' stop' write refl read refl

@@ -11,7 +11,8 @@ use Rattle.ring_core.specs.Counts.{first_count}
 use Rattle.ring_core.specs.Puts.{FollowsPuts}
 use Rattle.ring_core.specs.Takes.{FollowsTakes}
 use Rattle.ring_core.specs.Items.{items_put, items_taken, items_put_in, IsTold, ItemsAreRead, TakenAreRead}
-use Rattle.ring_core.specs.RingLaw.{RingLaw, InEveryRun, ClosedStays}
+use Rattle.ring_core.specs.RingLaw.{RingLaw, InEveryRun}
+use Rattle.ring_core.specs.RunLaws.{ClosedStays}
 
 -- the own events of a beginning begin those of the whole
 own_begins : (s : Side) (h h' : List Event) (program : List Event) → IsBeginning h h' → IsBeginning (own s h') program → IsBeginning (own s h) program

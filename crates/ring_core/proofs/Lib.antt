@@ -44,7 +44,10 @@ pub mod SafeWords
 pub mod RingHolds
 pub mod CloseEnds
 pub mod EndedCounts
+mod Parts
 mod ScanPlaces
+mod WordPlaces
+mod ItemPlaces
 pub mod CallSpans
 pub mod CallCounts
 pub mod CallsLaw

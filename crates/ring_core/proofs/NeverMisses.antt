@@ -21,7 +21,7 @@ use Rattle.ring_core.specs.Counts.{past, first_count}
 use Rattle.ring_core.proofs.Spans.{Outcome, Passes, Stops, Asks}
 use Rattle.ring_core.specs.Puts.{close_phrase}
 use Rattle.ring_core.proofs.LookSpans.{Look, put_looks, take_looks, look_number, look_accesses}
-use Rattle.ring_core.specs.RingLaw.{NeverReadsAll, NeverMisses, PutsAreSeen, TakesAreSeen}
+use Rattle.ring_core.specs.RunLaws.{NeverReadsAll, NeverMisses, PutsAreSeen, TakesAreSeen}
 use Rattle.ring_core.proofs.Cuts.{at_most_or_above}
 use Rattle.ring_core.proofs.CountTimes.{IsQuiet, quiet_close, values_from, value_of, counted_in}
 use Rattle.ring_core.proofs.Lengths.{length-zero_reads}

@@ -8,7 +8,7 @@ use Rattle.bits_core.specs.Laws.{LawfulByOneMore, OwnChanges}
 use Rattle.bits_core.specs.Made.{events_of, own, IsBeginning}
 use Rattle.ring_core.specs.Puts.{put_program}
 use Rattle.ring_core.specs.Takes.{take_program}
-use Rattle.ring_core.specs.RingLaw.{RunsByPut, RunsByTake}
+use Rattle.ring_core.specs.RunLaws.{RunsByPut, RunsByTake}
 
 -- a side's own events behind an event of a side, which is that one or the other
 own_more :

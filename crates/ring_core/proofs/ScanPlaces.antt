@@ -7,53 +7,32 @@ use Rattle.bits_core.specs.declared.events.Bit.TheVariants.{X, Cell}
 use Rattle.bits_core.specs.declared.shapes.Shape.{Shape}
 use Rattle.bits_core.specs.Shape.{capacity_of, width_of}
 use Rattle.bits_core.specs.Made.{Made, Read}
-use Rattle.register_core.specs.Row.{RowWrite, row_bit, writes_in}
-use Rattle.register_core.specs.Word.{digit, digit_writes, digit_reads, word_read, word_write}
-use Rattle.register_core.specs.ScanState.{zero_reads, scan_phrase, row_read_by}
+use Rattle.register_core.specs.Phrases.{RowWrite, row_bit, writes_in, digit, digit_writes, digit_reads, word_read, word_write, zero_reads, scan_phrase, row_read_by}
 use Rattle.ring_core.specs.Counts.{Count, count_bits}
 use Rattle.ring_core.specs.Puts.{words_phrase, close_phrase}
 use Rattle.ring_core.specs.CallsAt.{scan_events}
+use Rattle.ring_core.proofs.Parts.{NoneAre, none-append, behind, never}
 use Rattle.ring_core.proofs.Phrases.{scan-front, scan_begins, same_scan}
 use Rattle.ring_core.proofs.Spans.{Span, Outcome, Passes, Stops, Asks, counts, IsSpanAt}
 use Rattle.ring_core.proofs.LookSpans.{Look, words_read, word_part, count_part, after_look, look_accesses, span_of, spans}
 
 -- ---- accesses with which no scan begins
 
--- the access does not read the first bit of the row that a side scans
-abbrev NotFirst : Side → Made → Type 0
-NotFirst s x = (v : Bool) → x ≡ Read (row_read_by s 0) v → ⊥
+-- the access reads the first bit of the row that a side scans
+abbrev IsFirst : Side → Made → Type 0
+IsFirst s x = (v : Bool) × (x ≡ Read (row_read_by s 0) v)
 
 abbrev NoneFirst : Side → List Made → Type 0
-NoneFirst s [] = Unit {0}
-NoneFirst s (x ∷ xs) = NotFirst s x × NoneFirst s xs
-
-none-append : (s : Side) (xs ys : List Made) → NoneFirst s xs → NoneFirst s ys → NoneFirst s (xs ++ ys)
-none-append s [] ys h k = k
-none-append s (x ∷ xs) ys h k = (h.0, none-append s xs ys h.1 k)
-
--- a read of it behind such accesses
-cut :
-    (s : Side) (xs ys before rest : List Made) (v : Bool) → NoneFirst s xs → xs ++ ys ≡ before ++ Read (row_read_by s 0) v ∷ rest →
-    (front : List Made) × (before ≡ xs ++ front) × (ys ≡ front ++ Read (row_read_by s 0) v ∷ rest)
-cut s [] ys before rest v h e = (before, refl, e)
-cut s (x ∷ xs) ys [] rest v h e =
-    let first : x ≡ Read (row_read_by s 0) v = cc in
-    absurd (h.0 v first)
-cut s (x ∷ xs) ys (y ∷ before) rest v h e =
-    let later : xs ++ ys ≡ before ++ Read (row_read_by s 0) v ∷ rest = cc in
-    let same : y ≡ x = cc in
-    let (front, is, left) = cut s xs ys before rest v h.1 later in
-    let whole : y ∷ before ≡ x ∷ (xs ++ front) = cc in
-    (front, whole, left)
+NoneFirst s = NoneAre (IsFirst s)
 
 -- the row's other bits
-not_next : (s : Side) (i : ℕ) (u : Bool) → NotFirst s (Read (row_read_by s (suc i)) u)
-not_next P i u v e = let other : suc i ≡ 0 = cc in omega (arith, other)
-not_next C i u v e = let other : suc i ≡ 0 = cc in omega (arith, other)
+not_next : (s : Side) (i : ℕ) (u : Bool) → IsFirst s (Read (row_read_by s (suc i)) u) → ⊥
+not_next P i u (v, e) = let other : suc i ≡ 0 = cc in omega (arith, other)
+not_next C i u (v, e) = let other : suc i ≡ 0 = cc in omega (arith, other)
 
 none-zeros : (s : Side) (n : ℕ) → NoneFirst s (zero_reads (λ i. row_read_by s (suc i)) n)
 none-zeros s zero = tt
-none-zeros s (suc n) = none-append s (zero_reads (λ i. row_read_by s (suc i)) n) (Read (row_read_by s (suc n)) false ∷ []) (none-zeros s n) (not_next s n false, tt)
+none-zeros s (suc n) = none-append (IsFirst s) (zero_reads (λ i. row_read_by s (suc i)) n) (Read (row_read_by s (suc n)) false ∷ []) (none-zeros s n) (not_next s n false, tt)
 
 -- the reads of a scan behind its first
 abbrev behind_first : (ℕ → Bit) → ℕ → List Made
@@ -66,36 +45,37 @@ scan_splits row (suc c) = (false, scan-front row c)
 
 none-behind : (s : Side) (c : ℕ) → NoneFirst s (behind_first (row_read_by s) c)
 none-behind s zero = tt
-none-behind s (suc c) = none-append s (zero_reads (λ i. row_read_by s (suc i)) c) (Read (row_read_by s (suc c)) true ∷ []) (none-zeros s c) (not_next s c true, tt)
+none-behind s (suc c) =
+    none-append (IsFirst s) (zero_reads (λ i. row_read_by s (suc i)) c) (Read (row_read_by s (suc c)) true ∷ []) (none-zeros s c) (not_next s c true, tt)
 
 -- words, counts and the close bit
 none-writes : (s : Side) (row : ℕ → Bit) (writes : List RowWrite) → NoneFirst s (writes_in row writes)
 none-writes s row [] = tt
-none-writes s row (w ∷ writes) = ((λ v e. absurd (cc)), none-writes s row writes)
+none-writes s row (w ∷ writes) = ((λ (v, e). absurd (cc)), none-writes s row writes)
 
 none-words : (s : Side) (shape : Shape) (n : ℕ) (items : List ℕ) → NoneFirst s (words_phrase shape n items)
 none-words s shape n [] = tt
 none-words s shape n (item ∷ items) =
-    none-append s (word_write (width_of shape) (n % capacity_of shape) item) (words_phrase shape (suc n) items)
+    none-append (IsFirst s) (word_write (width_of shape) (n % capacity_of shape) item) (words_phrase shape (suc n) items)
     (none-writes s (Cell (n % capacity_of shape)) (digit_writes item (width_of shape))) (none-words s shape (suc n) items)
 
-not_cell : (s : Side) (j i : ℕ) (u : Bool) → NotFirst s (Read (Cell j i) u)
-not_cell P j i u v e = absurd (cc)
-not_cell C j i u v e = absurd (cc)
+not_cell : (s : Side) (j i : ℕ) (u : Bool) → IsFirst s (Read (Cell j i) u) → ⊥
+not_cell P j i u (v, e) = absurd (cc)
+not_cell C j i u (v, e) = absurd (cc)
 
-not_close : (s : Side) (u : Bool) → NotFirst s (Read X u)
-not_close P u v e = absurd (cc)
-not_close C u v e = absurd (cc)
+not_close : (s : Side) (u : Bool) → IsFirst s (Read X u) → ⊥
+not_close P u (v, e) = absurd (cc)
+not_close C u (v, e) = absurd (cc)
 
 none-digits : (s : Side) (j item n : ℕ) → NoneFirst s (digit_reads j item n)
 none-digits s j item zero = tt
 none-digits s j item (suc n) =
-    none-append s (digit_reads j item n) (Read (Cell j n) (digit n item) ∷ []) (none-digits s j item n) (not_cell s j n (digit n item), tt)
+    none-append (IsFirst s) (digit_reads j item n) (Read (Cell j n) (digit n item) ∷ []) (none-digits s j item n) (not_cell s j n (digit n item), tt)
 
 none-words_read : (s : Side) (shape : Shape) (n : ℕ) (items : List ℕ) → NoneFirst s (words_read shape n items)
 none-words_read s shape n [] = tt
 none-words_read s shape n (item ∷ items) =
-    none-append s (word_read (width_of shape) (n % capacity_of shape) item) (words_read shape (suc n) items)
+    none-append (IsFirst s) (word_read (width_of shape) (n % capacity_of shape) item) (words_read shape (suc n) items)
     (none-digits s (n % capacity_of shape) item (width_of shape)) (none-words_read s shape (suc n) items)
 
 none-word_part : (s : Side) (shape : Shape) (n : ℕ) (o : Outcome) → NoneFirst s (word_part s shape n o)
@@ -111,12 +91,9 @@ none-count_part s shape c (Passes items) = none-writes s (row_bit s) (count_bits
 none-count_part s shape c Stops = tt
 none-count_part s shape c (Asks answer) = tt
 
-pub none-close : (s : Side) (closes : Bool) → NoneFirst s (close_phrase closes)
+pub none-close : (s : Side) (closes : Bool) → NoneAre (IsFirst s) (close_phrase closes)
 none-close s false = tt
-none-close s true = ((λ v e. absurd (cc)), tt)
-
-pub none-nil : (s : Side) → NoneFirst s []
-none-nil s = tt
+none-close s true = ((λ (v, e). absurd (cc)), tt)
 
 -- ---- the look
 
@@ -128,45 +105,42 @@ pub record ScanSpan (s : Side) (xs : List Span) (start seen : ℕ) : Type 0 wher
   pub seen_is : span.seen ≡ seen
   pub scan_is : span.scan ≡ scan_events s seen
 
-never : (front : List Made) (x : Made) (rest : List Made) → [] ≡ front ++ x ∷ rest → ⊥
-never [] x rest e = absurd (cc)
-never (y ∷ front) x rest e = absurd (cc)
-
 pub scan_there :
-    (s : Side) (shape : Shape) (c : Count) (looks : List Look) (behind : List Made) → NoneFirst s behind → (before after : List Made) (seen : ℕ) →
-    look_accesses s shape c looks behind ≡ before ++ (scan_phrase (row_read_by s) seen ++ after) → ScanSpan s (spans s shape c looks) (2 * length before) seen
-scan_there s shape c [] behind none before after seen e =
+    (s : Side) (shape : Shape) (c : Count) (looks : List Look) (tail : List Made) → NoneAre (IsFirst s) tail → (before after : List Made) (seen : ℕ) →
+    look_accesses s shape c looks tail ≡ before ++ (scan_phrase (row_read_by s) seen ++ after) → ScanSpan s (spans s shape c looks) (2 * length before) seen
+scan_there s shape c [] tail none before after seen e =
     let (v, rest, f) = scan_begins (row_read_by s) seen after in
-    let (front, is, left) = cut s behind [] before rest v none (append-nil behind ∙ e ∙ ap (λ l. before ++ l) f) in
+    let (front, is, left) = behind (IsFirst s) tail [] before rest (Read (row_read_by s 0) v) (v, refl) none (append-nil tail ∙ e ∙ ap (λ l. before ++ l) f) in
     absurd (never front _ rest left)
-scan_there s shape c (l ∷ looks) behind none [] after seen e =
+scan_there s shape c (l ∷ looks) tail none [] after seen e =
     let (same, left) = same_scan (row_read_by s) l.seen seen _ after e in
     record { number = 0; span = span_of s shape c l; stands = inl (refl, refl, refl); seen_is = same; scan_is = ap (scan_events s) same }
-scan_there s shape c (l ∷ looks) behind none (x ∷ before) after seen e =
+scan_there s shape c (l ∷ looks) tail none (x ∷ before) after seen e =
     let next : Count = after_look shape c l.outcome in
-    let tail : List Made = behind_first (row_read_by s) l.seen in
+    let reads : List Made = behind_first (row_read_by s) l.seen in
     let word : List Made = word_part s shape c.number l.outcome in
     let count : List Made = count_part s shape c l.outcome in
-    let later : List Made = look_accesses s shape next looks behind in
+    let later : List Made = look_accesses s shape next looks tail in
     let (u, head) = scan_splits (row_read_by s) l.seen in
     let (v, rest, f) = scan_begins (row_read_by s) seen after in
-    let e' : Read (row_read_by s 0) u ∷ (tail ++ (word ++ (count ++ later))) ≡ x ∷ (before ++ (scan_phrase (row_read_by s) seen ++ after)) =
+    let z : Made = Read (row_read_by s 0) v in
+    let e' : Read (row_read_by s 0) u ∷ (reads ++ (word ++ (count ++ later))) ≡ x ∷ (before ++ (scan_phrase (row_read_by s) seen ++ after)) =
     sym (ap (λ a. a ++ (word ++ (count ++ later))) head) ∙ e in
-    let g : tail ++ (word ++ (count ++ later)) ≡ before ++ (scan_phrase (row_read_by s) seen ++ after) = cc in
-    let (a, a_is, a_left) = cut s tail (word ++ (count ++ later)) before rest v (none-behind s l.seen) (g ∙ ap (λ l. before ++ l) f) in
-    let (b, b_is, b_left) = cut s word (count ++ later) a rest v (none-word_part s shape c.number l.outcome) a_left in
-    let (d, d_is, d_left) = cut s count later b rest v (none-count_part s shape c l.outcome) b_left in
-    let r = scan_there s shape next looks behind none d after seen (d_left ∙ ap (λ l. d ++ l) (sym f)) in
+    let g : reads ++ (word ++ (count ++ later)) ≡ before ++ (scan_phrase (row_read_by s) seen ++ after) = cc in
+    let (a, a_is, a_left) = behind (IsFirst s) reads (word ++ (count ++ later)) before rest z (v, refl) (none-behind s l.seen) (g ∙ ap (λ l. before ++ l) f) in
+    let (b, b_is, b_left) = behind (IsFirst s) word (count ++ later) a rest z (v, refl) (none-word_part s shape c.number l.outcome) a_left in
+    let (d, d_is, d_left) = behind (IsFirst s) count later b rest z (v, refl) (none-count_part s shape c l.outcome) b_left in
+    let r = scan_there s shape next looks tail none d after seen (d_left ∙ ap (λ l. d ++ l) (sym f)) in
     record {
       number = counts l.outcome + r.number;
       span = r.span;
       stands = inr (
-          2 * length d,
-          r.number,
-          omega (arith, ap length head, ap length a_is, length-append tail a, ap length b_is, length-append word b, ap length d_is, length-append count d),
-          refl,
-          r.stands,
-        );
+        2 * length d,
+        r.number,
+        omega (arith, ap length head, ap length a_is, length-append reads a, ap length b_is, length-append word b, ap length d_is, length-append count d),
+        refl,
+        r.stands,
+      );
       seen_is = r.seen_is;
       scan_is = r.scan_is;
     }

@@ -20,7 +20,7 @@ use Rattle.bits_core.specs.Steps.{IsAnswer, MayFollow}
 use Rattle.ring_core.specs.Items.{items_put_in, items_taken_in, ToldIn}
 use Rattle.ring_core.specs.Puts.{Puts, Stored, Full, ArePuts, FollowsPuts}
 use Rattle.ring_core.specs.Takes.{Takes, Empty, ItemAfterClose, Closed, AreTakes, FollowsTakes}
-use Rattle.ring_core.specs.RingLaw.{FindsEmpty, FindsFull, HasARun}
+use Rattle.ring_core.specs.RunLaws.{FindsEmpty, FindsFull, HasARun}
 use Rattle.ring_core.proofs.Examples.{one_cell}
 
 infixr 10 ◌>>◌

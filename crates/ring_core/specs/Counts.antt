@@ -4,8 +4,7 @@ use Rattle.bits_core.specs.declared.events.Side.{Side}
 use Rattle.bits_core.specs.declared.shapes.Shape.{Shape}
 use Rattle.bits_core.specs.Shape.{capacity_of, modulus_of}
 use Rattle.bits_core.specs.Made.{Made}
-use Rattle.register_core.specs.Row.{RowWrite, row_bit, first_bits, bits_after, writes_in}
-use Rattle.register_core.specs.Unary.{unary_phrase}
+use Rattle.register_core.specs.Phrases.{RowWrite, row_bit, first_bits, bits_after, writes_in, unary_phrase}
 
 -- a less b, modulo a number above both
 abbrev pub distance : ℕ → ℕ → ℕ → ℕ

@@ -1,10 +1,10 @@
 -- What was put, taken and told among the first events of the calls of a side.
-use Rattle.std.specs.Prelude.{◌≡◌, ℕ, ◌-◌, ◌*◌, ◌≤◌, nat_lt, nat_le, List, [], ◌∷◌, ◌++◌, length, if◌then◌else◌}
+use Rattle.std.specs.Prelude.{◌≡◌, ℕ, ◌-◌, ◌*◌, ◌≤◌, nat_lt, nat_le, Option, Some, None, List, [], ◌∷◌, ◌++◌, length, filter_map, if◌then◌else◌}
 use Rattle.bits_core.specs.declared.events.Side.TheVariants.{P, C}
 use Rattle.bits_core.specs.declared.events.Event.{Event}
 use Rattle.bits_core.specs.declared.shapes.Shape.{Shape}
 use Rattle.bits_core.specs.Made.{Made, own}
-use Rattle.ring_core.specs.Counts.{Count, first_count}
+use Rattle.ring_core.specs.Counts.{Count, first_count, count_phrase}
 use Rattle.ring_core.specs.Puts.{Put, Stored, Full, stored_after, accesses_before_count, put_phrase, Puts, FollowsPuts}
 use Rattle.ring_core.specs.Takes.{Take, Item, ItemAfterClose, Empty, End, Open, Closed, taken_after, take_phrase, take_program, Takes, FollowsTakes}
 
@@ -33,6 +33,12 @@ all_put [] = []
 all_put (Stored seen items ∷ puts) = items ++ all_put puts
 all_put (Full seen ∷ puts) = all_put puts
 
+-- the item that a take takes
+abbrev pub item_of : Take → Option ℕ
+item_of (Item seen item) = Some item
+item_of (ItemAfterClose seen again item) = Some item
+item_of (Empty seen) = None
+
 -- the items of all these takes
 abbrev pub all_taken : List Take → List ℕ
 all_taken [] = []
@@ -50,6 +56,28 @@ take_ended shape k (Empty seen) t = []
 -- the items of the takes that have ended within the first t events, where k items were taken before them
 abbrev pub items_taken : Shape → ℕ → List Take → ℕ → List ℕ
 items_taken shape = gathered (take_ended shape) (take_phrase shape) taken_after
+
+-- the items of the puts that have ended within the first t events, behind the producer's count
+abbrev pub items_ended : Shape → Count → List Put → ℕ → List ℕ
+items_ended shape = gathered (λ c x t. if nat_le (events_in (put_phrase shape c x)) t then all_put (x ∷ []) else []) (put_phrase shape) (stored_after shape)
+
+-- the items that the count writes count which have begun within a side's first t events, and those of the calls that have ended
+abbrev pub puts_begun : Shape → Puts → ℕ → ℕ
+puts_begun shape calls t = length (items_put shape first_count calls.puts t)
+
+abbrev pub puts_ended : Shape → Puts → ℕ → ℕ
+puts_ended shape calls t = length (items_ended shape first_count calls.puts t)
+
+-- the last accesses of a take of an item are its count write
+abbrev pub takes_begun : Shape → Takes → ℕ → ℕ
+takes_begun shape calls t =
+    length (gathered (λ k x t. if nat_lt (events_in (take_phrase shape k x) - events_in (count_phrase shape C k)) t then filter_map item_of (x ∷ []) else [])
+    (take_phrase shape) taken_after 0 calls.takes t)
+
+abbrev pub takes_ended : Shape → Takes → ℕ → ℕ
+takes_ended shape calls t = length (items_taken shape 0 calls.takes t)
+
+-- ---- told
 
 -- whether the last of the takes is one that is told the ring is closed
 abbrev pub Tells : End → Type 0

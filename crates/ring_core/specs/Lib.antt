@@ -17,5 +17,7 @@ pub mod ProducerCalls
 pub mod ConsumerState
 pub mod ConsumerCalls
 pub mod GoingOn
+pub mod Ranges
 pub mod RingLaw
 pub mod Linear
+pub mod RunLaws

@@ -1,5 +1,5 @@
 -- The producer's machine beside the accesses that it has made and the calls that these are.
-use Rattle.std.specs.Prelude.{◌≡◌, ◌⊎◌, ℕ, ◌-◌, ◌<◌, ◌%◌, Bool, true, false, Option, Some, None, List, [], ◌∷◌, ◌++◌, length, take}
+use Rattle.std.specs.Prelude.{◌≡◌, ◌⊎◌, ℕ, ◌<◌, ◌%◌, Bool, true, false, Option, Some, None, List, [], ◌∷◌, ◌++◌, length, take}
 use Rattle.bits_core.specs.declared.events.Side.TheVariants.{P}
 use Rattle.bits_core.specs.declared.events.Access.{Access}
 use Rattle.bits_core.specs.declared.shapes.Shape.{Shape}
@@ -13,12 +13,13 @@ use Rattle.ring_core.specs.declared.producers.BatchReply as replies
 use Rattle.ring_core.specs.declared.producers.BatchReply.TheVariants as reply
 use Rattle.ring_core.specs.declared.producers.Stage.{Stage}
 use Rattle.ring_core.specs.declared.producers.Stage.TheVariants.{Idle, Scanning, Storing, Counting, Closing}
-use Rattle.ring_core.specs.Counts.{LeavesRoomFor, distance, past, Count, first_count}
+use Rattle.ring_core.specs.Counts.{LeavesRoomFor, past, Count, first_count}
 use Rattle.ring_core.specs.Puts as puts
 use Rattle.ring_core.specs.Puts.{Puts, Stored, Full, stored_count, put_values, words_phrase, put_phrases, put_program, ArePuts}
 use Rattle.ring_core.specs.Calls.{LastBitIsDue}
 use Rattle.ring_core.specs.Lengths.{longest_put, longest_batch}
 use Rattle.ring_core.specs.ProducerState.{ProducerState, Call, Put, Close, call_of}
+pub use Rattle.ring_core.specs.Puts.{room_in, IsPutOf}
 
 -- no calls
 abbrev pub no_puts : Puts
@@ -51,15 +52,6 @@ count_of shape calls = stored_count shape first_count calls.puts
 -- the values that they write to it
 abbrev pub values_of : Shape → Puts → List ℕ
 values_of shape calls = put_values shape 0 calls.puts
-
--- how many cells a count that is read leaves to a producer that has put n items, modulo the modulus
-abbrev pub room_in : Shape → ℕ → ℕ → ℕ
-room_in shape n seen = capacity_of shape - distance (modulus_of shape) n seen
-
--- the put, behind n items, is one of these items: it stored those for which there was room, from the first on, or none
-abbrev pub IsPutOf : Shape → ℕ → List ℕ → puts.Put → Type 0
-IsPutOf shape n items (Stored seen stored) = stored ≡ take (room_in shape (n % modulus_of shape) seen) items
-IsPutOf shape n items (Full seen) = Unit {0}
 
 -- the calls of a program, and one put more, or the close
 abbrev pub and_put : Puts → puts.Put → Puts

@@ -1,15 +1,13 @@
 -- The producer's program: puts one after the other, and perhaps a close.
-use Rattle.std.specs.Prelude.{ℕ, suc, ◌%◌, ◌<◌, ◌≤◌, Bool, true, false, List, [], ◌∷◌, ◌++◌, length}
+use Rattle.std.specs.Prelude.{◌≡◌, ℕ, suc, ◌-◌, ◌%◌, ◌<◌, ◌≤◌, Bool, true, false, List, [], ◌∷◌, ◌++◌, length, take}
 use Rattle.bits_core.specs.declared.events.Side.TheVariants.{P}
 use Rattle.bits_core.specs.declared.events.Bit.TheVariants.{X}
 use Rattle.bits_core.specs.declared.events.Event.{Event}
 use Rattle.bits_core.specs.declared.shapes.Shape.{Shape}
 use Rattle.bits_core.specs.Shape.{AllFit, batch_of, capacity_of, modulus_of, width_of}
 use Rattle.bits_core.specs.Made.{Made, Write, events_of, own, IsBeginning}
-use Rattle.register_core.specs.Row.{bits_after}
-use Rattle.register_core.specs.Word.{word_write}
-use Rattle.register_core.specs.ScanState.{scan_phrase, row_read_by}
-use Rattle.ring_core.specs.Counts.{LeavesRoom, LeavesRoomFor, past, Count, first_count, count_bits, batch_phrase}
+use Rattle.register_core.specs.Phrases.{bits_after, word_write, scan_phrase, row_read_by}
+use Rattle.ring_core.specs.Counts.{distance, LeavesRoom, LeavesRoomFor, past, Count, first_count, count_bits, batch_phrase}
 
 -- a put, by the count that it read: it stored some items under one count write, or it found the ring full
 pub data Put : Type 0 where
@@ -20,6 +18,11 @@ pub data Put : Type 0 where
 pub record Puts : Type 0 where
   pub puts : List Put
   pub closes : Bool
+
+-- how many items a put stores
+abbrev pub stored_by : Put → ℕ
+stored_by (Stored seen items) = length items
+stored_by (Full seen) = 0
 
 -- how many items are stored, after n of them and this put
 abbrev pub number_after : ℕ → Put → ℕ
@@ -91,6 +94,15 @@ IsPut shape n (Full seen) = (seen < modulus_of shape) × ¬ LeavesRoom shape (n 
 abbrev pub ArePuts : Shape → ℕ → List Put → Type 0
 ArePuts shape n [] = Unit {0}
 ArePuts shape n (x ∷ puts) = IsPut shape n x × ArePuts shape (number_after n x) puts
+
+-- how many cells a count that is read leaves to a producer that has put n items, modulo the modulus
+abbrev pub room_in : Shape → ℕ → ℕ → ℕ
+room_in shape n seen = capacity_of shape - distance (modulus_of shape) n seen
+
+-- the put, behind n items, is one of these items: it stored those for which there was room, from the first on, or none
+abbrev pub IsPutOf : Shape → ℕ → List ℕ → Put → Type 0
+IsPutOf shape n items (Stored seen stored) = stored ≡ take (room_in shape (n % modulus_of shape) seen) items
+IsPutOf shape n items (Full seen) = Unit {0}
 
 -- the producer of a history makes these calls, the last perhaps cut
 pub record FollowsPuts (shape : Shape) (h : List Event) (calls : Puts) : Type 0 where

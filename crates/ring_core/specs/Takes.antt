@@ -6,8 +6,7 @@ use Rattle.bits_core.specs.declared.events.Event.{Event}
 use Rattle.bits_core.specs.declared.shapes.Shape.{Shape}
 use Rattle.bits_core.specs.Shape.{capacity_of, modulus_of, width_of}
 use Rattle.bits_core.specs.Made.{Made, Read, events_of, own, IsBeginning}
-use Rattle.register_core.specs.Word.{word_read}
-use Rattle.register_core.specs.ScanState.{scan_phrase, row_read_by}
+use Rattle.register_core.specs.Phrases.{word_read, scan_phrase, row_read_by}
 use Rattle.ring_core.specs.Counts.{ShowsItem, count_phrase}
 
 -- a take, by the counts that it read: it took an item, at once or by a second scan after the close bit was 1, or it found

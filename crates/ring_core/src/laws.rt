@@ -9,7 +9,9 @@ ghost use Rattle.ring_core.specs.OneCallMore.{ClosesByOneMore, EndsByOneMore, Pu
 ghost use Rattle.ring_core.specs.Over.{PutsOverAreRead, TakesOverAreRead};
 ghost use Rattle.ring_core.specs.PutParts.{CountsOn, ScansOn, ScansOrCloses, StoresOn, StoresOrCounts};
 ghost use Rattle.ring_core.specs.Readings.{PutsAreFirst, PutsAreRead, TakesAreFirst, TakesAreRead};
-ghost use Rattle.ring_core.specs.RingLaw.{CellsAreQuiet, ClosedIsTrue, ClosedStays, EmptyIsFresh, FillIsFresh, FullIsFresh, HasARun, InEveryRun, IsWithin, PutsAreInRange, PutsAreSeen, RunsByPut, RunsByTake, TakenArePrefix, TakesAreInRange, TakesAreSeen, TakesMatchPuts, WordsAreQuiet};
+ghost use Rattle.ring_core.specs.RingLaw.{CellsAreQuiet, ClosedIsTrue, EmptyIsFresh, FillIsFresh, FullIsFresh, InEveryRun, IsWithin, TakenArePrefix, TakesMatchPuts, WordsAreQuiet};
+ghost use Rattle.ring_core.specs.Ranges.{PutsAreInRange, TakesAreInRange};
+ghost use Rattle.ring_core.specs.RunLaws.{ClosedStays, HasARun, PutsAreSeen, RunsByPut, RunsByTake, TakesAreSeen};
 ghost use Rattle.ring_core.specs.Whole.{WholePutsCount, WholeTakesCount};
 
 use bits_core::laws::{
@@ -203,6 +205,7 @@ pub fn ring_law()
     ensures fill { InEveryRun FillIsFresh }
     ensures closed { InEveryRun ClosedIsTrue }
 {
+    digits_tell_items();
     own_has_place();
     own_has_one_place();
     clock_counts_places();

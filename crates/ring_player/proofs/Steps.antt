@@ -19,7 +19,7 @@ use Rattle.bits_core.specs.Shape.{modulus_of}
 use Rattle.register_core.specs.Row.{row_bit}
 use Rattle.register_core.specs.ScanState.{row_read_by, zero_reads}
 use Rattle.ring_core.specs.Calls.{EndsInZeros, LastBitIsDue}
-use Rattle.ring_core.specs.RingLaw.{PutsAreSeen, TakesAreSeen}
+use Rattle.ring_core.specs.RunLaws.{PutsAreSeen, TakesAreSeen}
 use Rattle.ring_player.specs.Actors.{begun, so_far, IsMove, IsPlaying}
 use Rattle.ring_player.specs.Plays.{IsProgram}
 use Rattle.ring_script.specs.Content.{Content}

@@ -2,7 +2,7 @@
 use Rattle.bits_core.specs.Laws.{BeforeLastChanges, BeginningIsLawful, EmptyIsLawful, HeldChanges, LawfulByOneMore, MadeLeaveNoneOpen, OpenChanges, OpenFromOwn, OpenWriteChanges, OwnChanges, QuietIsHeld}
 use Rattle.ring_core.specs.CountWrites.{CountsShowNumbers}
 use Rattle.ring_core.specs.OneCallMore.{ClosesByOneMore, EndsByOneMore, PutsByOneMore, TakesByOneMore}
-use Rattle.ring_core.specs.RingLaw.{RunsByPut, RunsByTake, PutsAreSeen, TakesAreSeen}
+use Rattle.ring_core.specs.RunLaws.{RunsByPut, RunsByTake, PutsAreSeen, TakesAreSeen}
 
 pub record LawsBelow : Type 0 where
   pub nothing : EmptyIsLawful

@@ -4,7 +4,7 @@ use Rattle.std.proofs.lemmas.List.{take_more}
 use Rattle.bits_core.specs.declared.events.Event.{Event}
 use Rattle.bits_core.specs.Lawful.{IsLawful}
 use Rattle.ring_audit.specs.Audit.{lawful_until}
-use Rattle.ring_audit.specs.Reading.{Stands, BothFollow}
+use Rattle.ring_audit.specs.Reading.{ReadingStands, BothFollow}
 use Rattle.ring_audit.proofs.Breaks.{break_of_program, break_of_bits, lawful_part, length_part}
 use Rattle.ring_audit.proofs.audits.find.Goals as goal
 
@@ -18,7 +18,7 @@ returns-then-not-branch g c =
     let lawful : IsLawful shape part = lawful_part c.fault_breaks.ensures shape h c.audit_bits-verdict.result n c.audit_bits-verdict.ensures.verdict c.lawful_length.ensures.value in
     let long : length part ≡ n = length_part h n c.lawful_length.ensures.within in
     let (sp, sc, st) = c.loop-i.invariant in
-    let old : Stands c.loop-i.reading.puts.shape c.loop-i.reading (take i part) = subst (λ s. Stands s c.loop-i.reading (take i part)) (sym sp) st in
+    let old : ReadingStands c.loop-i.reading.puts.shape c.loop-i.reading (take i part) = subst (λ s. ReadingStands s c.loop-i.reading (take i part)) (sym sp) st in
     let within : i < length part = c.loop-i-test.true in
     break_of_program c.beginning_is_lawful.ensures c.loop-i.reading.puts.shape shape h part n i _ sp refl lawful within (omega (arith, long, c.lawful_length.ensures.within))
     (omega (arith, within, long)) (c.follows.ensures (take i part) old) (c.in_ok-read.ensures.stops c.if-not-branch.true (take i part) old)
@@ -30,12 +30,12 @@ loop-i-preserved g c =
     let i : ℕ = c.loop-i.i in
     let part : List Event = take c.lawful_length.result h in
     let (sp, sc, st) = c.loop-i.invariant in
-    let old : Stands c.loop-i.reading.puts.shape c.loop-i.reading (take i part) = subst (λ s. Stands s c.loop-i.reading (take i part)) (sym sp) st in
+    let old : ReadingStands c.loop-i.reading.puts.shape c.loop-i.reading (take i part) = subst (λ s. ReadingStands s c.loop-i.reading (take i part)) (sym sp) st in
     let within : i < length part = c.loop-i-test.true in
     let on = c.in_ok-read.ensures.goes_on c.if-not-branch.false (take i part) old in (
       c.in_ok-read.ensures.put_shape ∙ sp,
       c.in_ok-read.ensures.take_shape ∙ sc,
-      subst (λ s. Stands s c.read.new.self (take (i + 1) part)) sp (subst (Stands c.loop-i.reading.puts.shape c.read.new.self) (sym (take_more part i _ within)) on),
+      subst (λ s. ReadingStands s c.read.new.self (take (i + 1) part)) sp (subst (ReadingStands c.loop-i.reading.puts.shape c.read.new.self) (sym (take_more part i _ within)) on),
     )
 
 pub returns-in-Fault : goal.returns-in-Fault
@@ -50,6 +50,6 @@ returns-in-Fault g c =
     let end : i ≡ length part = omega (arith, c.loop-i-test.false, c.loop-i.auto.i-end) in
     let whole : take i part ≡ take c.in-Fault.place h = ap (λ k. take k part) end ∙ take-length part ∙ ap (λ k. take k h) place_is in
     let (sp, sc, st) = c.loop-i.invariant in
-    let old : Stands c.loop-i.reading.puts.shape c.loop-i.reading (take i part) = subst (λ s. Stands s c.loop-i.reading (take i part)) (sym sp) st in
+    let old : ReadingStands c.loop-i.reading.puts.shape c.loop-i.reading (take i part) = subst (λ s. ReadingStands s c.loop-i.reading (take i part)) (sym sp) st in
     let follow : BothFollow shape (take i part) = subst (λ s. BothFollow s (take i part)) sp (c.follows-2.ensures (take i part) old) in
     break_of_bits c.fault_breaks.ensures shape h c.in-Fault.place c.in-Fault.kind c.in-Fault.ensures.verdict (subst (BothFollow shape) whole follow)

@@ -33,13 +33,13 @@ pub returns-clause-words : goal.returns-clause-words
 returns-clause-words c shape h puts takes run = calls.words (own c) shape h puts takes run (every c shape h puts takes run)
 
 pub returns-clause-cells : goal.returns-clause-cells
-returns-clause-cells c shape h puts takes run = cells_are_quiet (own c) shape h puts takes run (calls.words (own c) shape h puts takes run (every c shape h puts takes run))
+returns-clause-cells c shape h puts takes run = cells_are_quiet (own c) shape h puts takes run (calls.items_quiet (own c) shape h puts takes run (every c shape h puts takes run))
 
 pub returns-clause-prefix : goal.returns-clause-prefix
 returns-clause-prefix c shape h puts takes run = calls.prefix (own c) shape h puts takes run (every c shape h puts takes run)
 
 pub returns-clause-items : goal.returns-clause-items
-returns-clause-items c shape h puts takes run = calls.items (own c) shape h puts takes run (every c shape h puts takes run)
+returns-clause-items c shape h puts takes run = calls.items (own c) shape h puts takes run (every c shape h puts takes run) c.digits_tell_items.ensures
 
 pub returns-clause-empty : goal.returns-clause-empty
 returns-clause-empty c shape h puts takes run = calls.empty (own c) shape h puts takes run (every c shape h puts takes run)

@@ -2,8 +2,8 @@ use Rattle.std.proofs.Common.{◌≡◌, ℕ, List, subst, sym}
 use Rattle.bits_core.specs.declared.events.Event.{Event}
 use Rattle.bits_core.specs.Lawful.{IsLawful}
 use Rattle.ring_audit.specs.Audit.{IsFound}
-use Rattle.ring_audit.specs.TakeReading.{TakesStand, HasTaken}
-use Rattle.ring_audit.specs.Reading.{Reading, Stands}
+use Rattle.ring_audit.specs.TakeReading.{TakesStand, WereTaken}
+use Rattle.ring_audit.specs.Reading.{Reading, ReadingStands}
 use Rattle.ring_audit.proofs.Breaks.{found}
 use Rattle.ring_audit.proofs.audits.Reading.finding.Goals as goal
 
@@ -11,7 +11,7 @@ pub returns : goal.returns
 returns g c =
     let r : Reading = record { puts = c.self.inside.puts; takes = c.self.inside.takes; put = c.self.inside.put.items; counted = c.self.inside.counted; taken = c.self.inside.taken.items } in
     let same : r.takes.consumer.shape ≡ r.puts.shape = subst (λ (z : Reading). z.takes.consumer.shape ≡ z.puts.shape) (sym c.self.view_is) c.requires in
-    let takes_so : (es : List Event) (items : List ℕ) → TakesStand r.puts.shape r.takes es items → HasTaken r.puts.shape es items c.told.result =
-    subst (λ s. (es : List Event) (items : List ℕ) → TakesStand s r.takes es items → HasTaken s es items c.told.result) same c.told.ensures in
-    subst (λ (z : Reading). (h : List Event) → IsLawful z.puts.shape h → Stands z.puts.shape z h → IsFound z.puts.shape h c.truncate.new.self.items r.taken c.told.result) c.self.view_is
+    let takes_so : (es : List Event) (items : List ℕ) → TakesStand r.puts.shape r.takes es items → WereTaken r.puts.shape es items c.told.result =
+    subst (λ s. (es : List Event) (items : List ℕ) → TakesStand s r.takes es items → WereTaken s es items c.told.result) same c.told.ensures in
+    subst (λ (z : Reading). (h : List Event) → IsLawful z.puts.shape h → ReadingStands z.puts.shape z h → IsFound z.puts.shape h c.truncate.new.self.items r.taken c.told.result) c.self.view_is
     (found r.puts.shape r c.told.result c.truncate.new.self.items c.follow.ensures takes_so c.truncate.ensures.items)

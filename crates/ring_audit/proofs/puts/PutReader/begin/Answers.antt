@@ -2,11 +2,11 @@ use Rattle.std.proofs.Common.{◌≡◌, true, Some, None, sym, ap, ◌∙◌}
 use Rattle.bits_core.specs.declared.events.Bit.TheVariants.{X}
 use Rattle.bits_core.specs.declared.events.Access.TheVariants as begins
 use Rattle.bits_core.specs.declared.events.Side.TheVariants.{P}
-use Rattle.ring_audit.specs.Sides.{begin_of}
+use Rattle.ring_audit.specs.Sides.{opening_event}
 use Rattle.ring_audit.specs.declared.puts.PutStep.TheVariants.{Stops}
 use Rattle.ring_audit.specs.declared.puts.Stage.TheVariants.{Closing}
 use Rattle.ring_audit.specs.contracts.puts.PutReader.{the_view}
-use Rattle.ring_audit.specs.PutReading.{PutReading, HasReadPut, IsAt}
+use Rattle.ring_audit.specs.PutReading.{PutReading, HasReadPut, IsReaderAt}
 use Rattle.ring_audit.proofs.PutReads.{at_stage, no_more}
 use Rattle.ring_audit.proofs.puts.PutReader.begin.Goals as goal
 
@@ -14,14 +14,14 @@ pub returns-in-Closing-clause-read : goal.returns-in-Closing-clause-read
 returns-in-Closing-clause-read c es items stored st of_puts =
     let r : PutReading = the_view c.self.inside in
     let none : r.open_access ≡ None = ap (λ (z : PutReading). z.open_access) c.self.view_is ∙ c.requires in
-    let at : IsAt Closing r = at_stage r Closing c.self.invariant c.in-Closing.is in
+    let at : IsReaderAt Closing r = at_stage r Closing c.self.invariant c.in-Closing.is in
     let clash : Some (begins.Write X true) ≡ None = sym at ∙ none in
     absurd (cc)
 
 pub returns-in-Closed-clause-read : goal.returns-in-Closed-clause-read
 returns-in-Closed-clause-read c =
     let now : PutReading = c.args.self.now in
-    let stops : HasReadPut now.shape now now (begin_of P c.args.access) Stops = λ es items stored st of_puts.
+    let stops : HasReadPut now.shape now now (opening_event P c.args.access) Stops = λ es items stored st of_puts.
     no_more c.calls_are_first.ensures.puts now.shape now es items stored c.args.access st c.requires
     (sym (ap (λ (z : PutReading). z.stage) c.self.view_is) ∙ c.in-Closed.is) of_puts in
     stops

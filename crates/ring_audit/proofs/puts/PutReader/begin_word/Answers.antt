@@ -8,8 +8,8 @@ use Rattle.register_core.specs.WordState.{ReaderState, due_read}
 use Rattle.ring_audit.specs.declared.puts.PutStep.TheVariants.{Stops, GoesOn}
 use Rattle.ring_audit.specs.declared.puts.Stage.TheVariants.{Choosing, Storing}
 use Rattle.ring_audit.specs.contracts.puts.PutReader.{the_view}
-use Rattle.ring_audit.specs.Sides.{begin_of}
-use Rattle.ring_audit.specs.PutReading.{PutReading, IsAt}
+use Rattle.ring_audit.specs.Sides.{opening_event}
+use Rattle.ring_audit.specs.PutReading.{PutReading, IsReaderAt}
 use Rattle.ring_audit.proofs.PutReads.{lift, at_stage, no_word_nor_count, read_due}
 use Rattle.ring_audit.proofs.PutSteps.{begins_word}
 use Rattle.ring_audit.proofs.puts.PutReader.begin_word.Goals as goal
@@ -22,9 +22,9 @@ returns-then-writes_next-clause-read c =
     let is : r ≡ now = c.self.view_is in
     let stage : r.stage ≡ Choosing = ap (λ (z : PutReading). z.stage) is ∙ c.requires.stage in
     let none : r.open_access ≡ None = ap (λ (z : PutReading). z.open_access) is ∙ c.requires.none in
-    let at : IsAt Choosing r = at_stage r Choosing c.self.invariant stage in
+    let at : IsReaderAt Choosing r = at_stage r Choosing c.self.invariant stage in
     let a : Access = c.args.access in
-    lift r now (record r { stage = Storing; word = c.new-self-inside.result; open_access = Some a }) (begin_of P a) GoesOn is
+    lift r now (record r { stage = Storing; word = c.new-self-inside.result; open_access = Some a }) (opening_event P a) GoesOn is
     (λ es items stored st. begins_word r.shape r es items stored c.new-self-inside.result a st none stage
     (ap (λ (z : ReaderState). z.read) c.new-self-inside.ensures.state) c.new-self-inside.ensures.stands)
 
@@ -35,7 +35,7 @@ returns-else-self-clause-read c =
     let is : r ≡ now = c.self.view_is in
     let stage : r.stage ≡ Choosing = ap (λ (z : PutReading). z.stage) is ∙ c.requires.stage in
     let none : r.open_access ≡ None = ap (λ (z : PutReading). z.open_access) is ∙ c.requires.none in
-    let at : IsAt Choosing r = at_stage r Choosing c.self.invariant stage in
+    let at : IsReaderAt Choosing r = at_stage r Choosing c.self.invariant stage in
     let a : Access = c.args.access in
     let word : ReaderState = record { width = width_of r.shape; cell = r.cell; read = 0; value = 0 } in
     let no_word : (v : Bool) → 0 < r.room → a ≡ begins.Write (Cell r.cell 0) v → ⊥ = λ v room writes.
@@ -46,6 +46,6 @@ returns-else-self-clause-read c =
           absurd (cc)
       | else-self-gt0-via-else-self-gt0 w ↦ absurd (omega (arith, room, w.if-self-gt0.false))
     ]) in
-    lift r now r (begin_of P a) Stops is
+    lift r now r (opening_event P a) Stops is
     (λ es items stored st of_puts. no_word_nor_count c.puts_go_on.ensures.words r.shape r es items stored a st none stage c.self.invariant.row_side no_word
     (λ some due. (let clash : true ≡ false = sym some ∙ c.if-self.false in absurd (cc))) of_puts)

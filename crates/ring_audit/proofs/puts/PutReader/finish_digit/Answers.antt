@@ -10,7 +10,7 @@ use Rattle.ring_audit.specs.declared.puts.PutStep.TheVariants.{GoesOn, Stores}
 use Rattle.ring_audit.specs.declared.puts.Stage.TheVariants.{Choosing, Storing}
 use Rattle.ring_audit.specs.contracts.puts.PutReader.{the_view}
 use Rattle.ring_audit.specs.Sides.{told_of}
-use Rattle.ring_audit.specs.PutReading.{PutReading, IsAt}
+use Rattle.ring_audit.specs.PutReading.{PutReading, IsReaderAt}
 use Rattle.ring_audit.proofs.PutReads.{lift, at_stage, read_due, whole_word}
 use Rattle.ring_audit.proofs.PutItems.{ends_digit, ends_word}
 use Rattle.ring_audit.proofs.puts.PutReader.finish_digit.Goals as goal
@@ -22,7 +22,7 @@ returns-in-None-clause-read c =
     let is : r ≡ now = c.self.view_is in
     let stage : r.stage ≡ Storing = ap (λ (z : PutReading). z.stage) is ∙ c.requires.stage in
     let some : r.open_access ≡ Some c.args.access = ap (λ (z : PutReading). z.open_access) is ∙ c.requires.open_access in
-    let at : IsAt Storing r = at_stage r Storing c.self.invariant stage in
+    let at : IsReaderAt Storing r = at_stage r Storing c.self.invariant stage in
     let a : Access = c.args.access in
     let (w, writes) = at.6 a some in
     let told : c.told_by.result ≡ w = c.told_by.ensures ∙ ap (λ z. told_of z c.args.answer) writes in
@@ -40,7 +40,7 @@ returns-in-Some-clause-read c =
     let is : r ≡ now = c.self.view_is in
     let stage : r.stage ≡ Storing = ap (λ (z : PutReading). z.stage) is ∙ c.requires.stage in
     let some : r.open_access ≡ Some c.args.access = ap (λ (z : PutReading). z.open_access) is ∙ c.requires.open_access in
-    let at : IsAt Storing r = at_stage r Storing c.self.invariant stage in
+    let at : IsReaderAt Storing r = at_stage r Storing c.self.invariant stage in
     let a : Access = c.args.access in
     let (w, writes) = at.6 a some in
     let told : c.told_by.result ≡ w = c.told_by.ensures ∙ ap (λ z. told_of z c.args.answer) writes in

@@ -9,7 +9,7 @@ use Rattle.ring_audit.specs.declared.puts.PutStep.TheVariants.{Stops, GoesOn}
 use Rattle.ring_audit.specs.declared.puts.Stage.TheVariants.{Resting, Scanning, Choosing}
 use Rattle.ring_audit.specs.contracts.puts.PutReader.{the_view}
 use Rattle.ring_audit.specs.Sides.{AreOfPuts}
-use Rattle.ring_audit.specs.PutReading.{PutReading, IsAt}
+use Rattle.ring_audit.specs.PutReading.{PutReading, IsReaderAt}
 use Rattle.ring_audit.proofs.PutReads.{lift, at_stage, same_open, zero_at_last, scan_due, no_value}
 use Rattle.ring_audit.proofs.PutSteps.{ends_zero, ends_with_room, ends_full}
 use Rattle.ring_audit.proofs.puts.PutReader.finish_read.Goals as goal
@@ -21,7 +21,7 @@ returns-then-not-answer-clause-read c =
     let is : r ≡ now = c.self.view_is in
     let stage : r.stage ≡ Scanning = ap (λ (z : PutReading). z.stage) is ∙ c.requires.stage in
     let some : r.open_access ≡ Some c.args.access = ap (λ (z : PutReading). z.open_access) is ∙ c.requires.open_access in
-    let at : IsAt Scanning r = at_stage r Scanning c.self.invariant stage in
+    let at : IsReaderAt Scanning r = at_stage r Scanning c.self.invariant stage in
     let a : Access = c.args.access in
     lift r now r (end_event P (answered a c.args.answer)) Stops is
     (λ es items stored st of_puts. zero_at_last c.last_reads_are_one.ensures.puts r.shape r es items stored a st some at.1 (at.3 a some) (c.expects_one.ensures.0 c.if-expects_one.true)
@@ -34,7 +34,7 @@ returns-in-None-clause-read c =
     let is : r ≡ now = c.self.view_is in
     let stage : r.stage ≡ Scanning = ap (λ (z : PutReading). z.stage) is ∙ c.requires.stage in
     let some : r.open_access ≡ Some c.args.access = ap (λ (z : PutReading). z.open_access) is ∙ c.requires.open_access in
-    let at : IsAt Scanning r = at_stage r Scanning c.self.invariant stage in
+    let at : IsReaderAt Scanning r = at_stage r Scanning c.self.invariant stage in
     let a : Access = c.args.access in
     let reads : a ≡ begins.Read (row_read_by P r.scan.zeros) =
     same_open (due_scan r.scan) a (begins.Read (row_read_by P r.scan.zeros)) (at.3 a some) (scan_due P (modulus_of r.shape) r.scan at.1) in
@@ -48,7 +48,7 @@ returns-then-has_room-clause-read c =
     let is : r ≡ now = c.self.view_is in
     let stage : r.stage ≡ Scanning = ap (λ (z : PutReading). z.stage) is ∙ c.requires.stage in
     let some : r.open_access ≡ Some c.args.access = ap (λ (z : PutReading). z.open_access) is ∙ c.requires.open_access in
-    let at : IsAt Scanning r = at_stage r Scanning c.self.invariant stage in
+    let at : IsReaderAt Scanning r = at_stage r Scanning c.self.invariant stage in
     let a : Access = c.args.access in
     let reads : a ≡ begins.Read (row_read_by P r.scan.zeros) =
     same_open (due_scan r.scan) a (begins.Read (row_read_by P r.scan.zeros)) (at.3 a some) (scan_due P (modulus_of r.shape) r.scan at.1) in
@@ -63,7 +63,7 @@ returns-else-has_room-clause-read c =
     let is : r ≡ now = c.self.view_is in
     let stage : r.stage ≡ Scanning = ap (λ (z : PutReading). z.stage) is ∙ c.requires.stage in
     let some : r.open_access ≡ Some c.args.access = ap (λ (z : PutReading). z.open_access) is ∙ c.requires.open_access in
-    let at : IsAt Scanning r = at_stage r Scanning c.self.invariant stage in
+    let at : IsReaderAt Scanning r = at_stage r Scanning c.self.invariant stage in
     let a : Access = c.args.access in
     let reads : a ≡ begins.Read (row_read_by P r.scan.zeros) =
     same_open (due_scan r.scan) a (begins.Read (row_read_by P r.scan.zeros)) (at.3 a some) (scan_due P (modulus_of r.shape) r.scan at.1) in

@@ -1,12 +1,12 @@
 use Rattle.std.proofs.Common.{ℕ, List, subst}
 use Rattle.bits_core.specs.declared.events.Event.{Event}
 use Rattle.ring_audit.specs.contracts.puts.PutReader.{the_view}
-use Rattle.ring_audit.specs.PutReading.{PutReading, PutsStand, HasPut}
+use Rattle.ring_audit.specs.PutReading.{PutReading, PutsStand, WerePut}
 use Rattle.ring_audit.proofs.PutEnds.{has_put}
 use Rattle.ring_audit.proofs.puts.PutReader.follow.Goals as goal
 
 pub returns : goal.returns
 returns c =
     let r : PutReading = the_view c.self.inside in
-    subst (λ (z : PutReading). (es : List Event) (items stored : List ℕ) → PutsStand z.shape z es items stored → HasPut z.shape es items) c.self.view_is
+    subst (λ (z : PutReading). (es : List Event) (items stored : List ℕ) → PutsStand z.shape z es items stored → WerePut z.shape es items) c.self.view_is
     (has_put (c.counts_are_written.ensures.numbers, c.counts_are_written.ensures.written) r c.self.invariant c.next-due.result c.next-due.ensures.due c.next-due.ensures.stands)
