@@ -19,6 +19,8 @@ mod oracles;
 #[cfg(test)]
 mod relay_growths;
 #[cfg(test)]
+mod room;
+#[cfg(test)]
 mod scripts;
 #[cfg(test)]
 mod steps;
