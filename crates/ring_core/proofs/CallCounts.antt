@@ -1,5 +1,5 @@
 -- What the calls count and take is what their spans do.
-use Rattle.std.proofs.Common.{◌≡◌, ℕ, zero, suc, ◌+◌, ◌-◌, ◌%◌, Bool, true, false, nat_lt, nat_le, if◌then◌else◌, List, [], ◌∷◌, ◌++◌, length, refl, ap, ◌∙◌, arith, length-append, append-nil}
+use Rattle.std.proofs.Common.{◌≡◌, ℕ, zero, suc, ◌+◌, ◌-◌, ◌%◌, Bool, true, false, nat_lt, nat_le, if◌then◌else◌, List, [], ◌∷◌, ◌++◌, length, refl, ap, ◌∙◌, arith, length-append, append-nil, ◌≤◌, inl, inr}
 use Rattle.std.proofs.lemmas.Bool.Decides.{nat_tests}
 use Rattle.bits_core.specs.declared.events.Side.TheVariants.{P, C}
 use Rattle.bits_core.specs.declared.events.Bit.TheVariants.{X}
@@ -12,7 +12,9 @@ use Rattle.ring_core.specs.Counts.{Count, batch_phrase}
 use Rattle.ring_core.specs.Puts.{Put, Stored, Full, stored_in, stored_after, words_phrase, put_phrase}
 use Rattle.ring_core.specs.Takes.{Take, Item, ItemAfterClose, Empty, End, Open, Closed, taken_in, take_phrase}
 use Rattle.ring_core.specs.Items.{events_in}
-use Rattle.ring_core.proofs.Spans.{Span, Passes, Stops, Asks, whole, before_count, counts_begun, counts_ended, sizes, tally}
+use Rattle.ring_core.proofs.Lengths.{length-scan}
+use Rattle.ring_core.proofs.Timeline.{ended_past}
+use Rattle.ring_core.proofs.Spans.{Span, Passes, Stops, Asks, whole, before_count, counts_begun, counts_ended, sizes, tally, IsSpanAt, counts}
 use Rattle.ring_core.proofs.LookSpans.{steps, look, put_looks, take_looks, span_of, spans}
 use Rattle.ring_core.proofs.EndedCounts.{stored_ended, taken_begun, take_before_count}
 use Rattle.ring_core.proofs.CountRow.{past_is}
