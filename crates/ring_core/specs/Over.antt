@@ -14,20 +14,19 @@ abbrev pub over : {S X : Type 0} → (S → X → ℕ) → (S → X → S) → S
 over events after s [] t = []
 over events after s (x ∷ xs) t = if nat_le (events s x) t then x ∷ over events after (after s x) xs (t - events s x) else []
 
--- the puts that have ended within the first t events, behind the producer's count
+-- the calls that have ended in a history, by those that its sides follow
+abbrev pub puts_over_in : Shape → List Event → Puts → List Put
+puts_over_in shape h calls = over (λ c x. events_in (put_phrase shape c x)) (stored_after shape) first_count calls.puts (length (own P h))
+
+abbrev pub takes_over_in : Shape → List Event → Takes → List Take
+takes_over_in shape h calls = over (λ k x. events_in (take_phrase shape k x)) taken_after 0 calls.takes (length (own C h))
+
+-- the same of lists of calls within the first t events: of puts behind the producer's count, and of takes behind k items
 abbrev pub puts_over : Shape → Count → List Put → ℕ → List Put
 puts_over shape = over (λ c x. events_in (put_phrase shape c x)) (stored_after shape)
 
--- the takes that have ended within the first t events, where k items were taken before them
 abbrev pub takes_over : Shape → ℕ → List Take → ℕ → List Take
 takes_over shape = over (λ k x. events_in (take_phrase shape k x)) taken_after
-
--- those of a history, by the calls that its sides follow
-abbrev pub puts_over_in : Shape → List Event → Puts → List Put
-puts_over_in shape h calls = puts_over shape first_count calls.puts (length (own P h))
-
-abbrev pub takes_over_in : Shape → List Event → Takes → List Take
-takes_over_in shape h calls = takes_over shape 0 calls.takes (length (own C h))
 
 -- how many of these puts found the ring full, and how many of these takes found it empty
 abbrev pub fulls : List Put → ℕ

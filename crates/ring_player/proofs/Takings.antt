@@ -13,10 +13,10 @@ use Rattle.ring_core.specs.declared.consumers.TakeReply.TheVariants as reply
 use Rattle.ring_core.specs.Calls.{LastBitIsDue}
 use Rattle.ring_core.specs.ConsumerCalls.{and_end, and_take, ConsumerStands, HasMoved, HasTakeMore, IsAfter, IsReply, last_reply, new_consumer, no_takes, reply_at_end, reply_to, tells}
 use Rattle.ring_core.specs.ConsumerState.{ConsumerState, due_take, is_taking}
-use Rattle.ring_core.specs.Items.{events_in, items_taken, Tells}
+use Rattle.ring_core.specs.Items.{all_taken, events_in, items_taken, Tells}
 use Rattle.ring_core.specs.Readings.{TakesAreFirst}
 use Rattle.ring_core.specs.Takes.{AreTakes, Closed, Empty, End, Item, ItemAfterClose, Open, Take, end_phrase, take_phrase, take_phrases, take_program, taken_after, taken_in, Takes}
-use Rattle.ring_player.specs.Actors.{all_taken, begun, IsTaking, so_far, empty_in}
+use Rattle.ring_player.specs.Actors.{begun, IsTaking, so_far, empty_in}
 use Rattle.ring_player.specs.Plays.{IsDoneAfter, IsProgram}
 use Rattle.register_core.specs.ScanState.{row_read_by, scan_phrase}
 use Rattle.ring_core.specs.Over.{empties, takes_over}

@@ -19,9 +19,10 @@ use Rattle.ring_core.specs.declared.consumers.TakeReply.TheVariants as taken
 use Rattle.ring_core.specs.declared.producers.BatchReply.{BatchReply}
 use Rattle.ring_core.specs.declared.producers.BatchReply.TheVariants as reply
 use Rattle.bits_core.specs.Shape.{width_of}
+use Rattle.ring_core.specs.Items.{all_taken}
 use Rattle.ring_core.specs.Over.{empties, fulls}
 use Rattle.ring_core.specs.Puts.{Puts, stored_in, put_program}
-use Rattle.ring_core.specs.Takes.{Take, Takes, Item, ItemAfterClose, Empty, taken_in, take_program}
+use Rattle.ring_core.specs.Takes.{Takes, taken_in, take_program}
 use Rattle.ring_player.specs.Plays.{offered, AreAttempts, IsProgram, IsDone}
 use Rattle.ring_script.specs.Content.{Content}
 
@@ -141,13 +142,6 @@ pub record HasWritten (script : Content) (digits put : ℕ) (list : List Made) (
   pub put_is : put ≡ items_begun (width_of script.shape) 0 0 (with_open list opened)
 
 -- ---- the consumer's actor
-
--- the items of takes
-abbrev pub all_taken : List Take → List ℕ
-all_taken [] = []
-all_taken (Item seen item ∷ takes) = item ∷ all_taken takes
-all_taken (ItemAfterClose seen again item ∷ takes) = item ∷ all_taken takes
-all_taken (Empty seen ∷ takes) = all_taken takes
 
 -- how many takes were answered that the ring is empty, by a reply
 abbrev pub empty_in : Option TakeReply → ℕ
