@@ -1,5 +1,5 @@
 -- What a put that finds the ring full says of the takes that its putter knows.
-use Rattle.std.proofs.Common.{◌≡◌, ◌⊎◌, ⊎_elim, ℕ, suc, ◌+◌, ◌-◌, ◌*◌, ◌≤◌, Bool, true, false, Some, None, List, [], ◌∷◌, ◌++◌, length, refl, ap, sym, subst, ◌∙◌, arith, append-nil, append_assoc, length-append}
+use Rattle.std.proofs.Common.{◌≡◌, ℕ, suc, ◌+◌, ◌-◌, ◌*◌, ◌≤◌, Bool, true, false, Some, List, [], ◌∷◌, ◌++◌, length, refl, ap, sym, subst, ◌∙◌, arith, append-nil, append_assoc, length-append}
 use Rattle.std.specs.Prelude.{nat_le, if◌then◌else◌}
 use Rattle.std.proofs.lemmas.Bool.Decides.{nat_tests}
 use Rattle.bits_core.specs.declared.events.Side.TheVariants.{P, C}
@@ -11,8 +11,8 @@ use Rattle.ring_core.specs.declared.producers.PutReply.TheVariants as one
 use Rattle.ring_core.specs.declared.producers.BatchReply.{BatchReply}
 use Rattle.ring_core.specs.declared.producers.BatchReply.TheVariants as reply
 use Rattle.ring_core.specs.Counts.{Count, first_count, past}
-use Rattle.ring_core.specs.Puts.{Put, Stored, Full, Puts, number_after, stored_in, stored_after, stored_count, put_phrase, put_phrases, close_phrase, put_program}
-use Rattle.ring_core.specs.Takes.{Take, Item, ItemAfterClose, Empty, Takes, taken_after, take_phrase, take_phrases, end_phrase, take_program}
+use Rattle.ring_core.specs.Puts.{Put, Stored, Full, Puts, stored_in, stored_after, stored_count, put_phrase, put_phrases, close_phrase, put_program}
+use Rattle.ring_core.specs.Takes.{Take, Item, ItemAfterClose, Empty, Takes, take_phrase, take_phrases, end_phrase, take_program}
 use Rattle.ring_core.specs.Items.{events_in, all_put, all_taken, items_taken}
 use Rattle.ring_core.specs.CallsAt.{IsPutAt, takes_ended}
 use Rattle.ring_core.specs.Readings.{PutsAreRead, TakesAreFirst}
@@ -21,7 +21,7 @@ use Rattle.ring_core.specs.ProducerState.{item_reply}
 use Rattle.ring_core.specs.ProducerCalls as puts
 use Rattle.ring_core.specs.ProducerCalls.{and_put}
 use Rattle.ring_run.specs.Rule.{Stands}
-use Rattle.ring_run.specs.Ends.{HasPuts, HasTakes, PutAdds, HasPut, HasPutAll}
+use Rattle.ring_run.specs.Ends.{HasPuts, HasTakes, PutAdds, HasPutAll}
 use Rattle.ring_run.specs.Laws.{FullAfterMeeting, ItemFullAfterMeeting, PutsAdd}
 use Rattle.ring_run.proofs.Lists.{events_of-append, length-events_of}
 use Rattle.ring_run.proofs.Emptied.{past_is, own_append, behind, later_than}

@@ -1,5 +1,5 @@
 -- An end that has made no call, and knows nothing yet, knows that there is room.
-use Rattle.std.proofs.Common.{◌≡◌, false, List, [], ◌∷◌, refl, sym, subst, arith}
+use Rattle.std.proofs.Common.{◌≡◌, List, [], refl, sym, subst, arith}
 use Rattle.bits_core.specs.declared.events.Event.{Event}
 use Rattle.bits_core.specs.declared.events.Side.TheVariants.{P, C}
 use Rattle.bits_core.specs.Made.{own, IsBeginning}

@@ -1,5 +1,4 @@
-use Rattle.std.proofs.Common.{◌≡◌, ℕ, List, [], ◌∷◌, sym, subst, arith}
-use Rattle.bits_core.specs.declared.shapes.Shape.{Shape}
+use Rattle.std.proofs.Common.{List, subst, arith}
 use Rattle.bits_core.specs.declared.events.Event.{Event}
 use Rattle.bits_core.specs.declared.events.Side.TheVariants.{P}
 use Rattle.ring_core.specs.declared.producers.PutReply.TheVariants as reply
