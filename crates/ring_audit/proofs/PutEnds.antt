@@ -20,7 +20,7 @@ use Rattle.ring_core.specs.Counts.{LeavesRoom, distance, past, Count, IsCount, f
 use Rattle.ring_core.specs.Puts.{Put, Puts, Stored, Full, stored_after, stored_count, words_phrase, put_phrase, put_phrases, close_phrase, accesses_before_count, IsPut, ArePuts}
 use Rattle.ring_core.specs.Items.{events_in, items_put, all_put}
 use Rattle.ring_core.specs.CountWrites.{CountsAreWritten, CountsShowNumbers}
-use Rattle.ring_core.specs.PutParts.{left_by}
+use Rattle.ring_core.specs.PutParts.{count_behind}
 use Rattle.ring_audit.specs.declared.puts.Stage.{Stage}
 use Rattle.ring_audit.specs.declared.puts.Stage.TheVariants.{Resting, Scanning, Choosing, Storing, Counting, Closing, Closed}
 use Rattle.ring_audit.specs.Sides.{opening_event, open_events}
@@ -151,9 +151,9 @@ by_puts law shape r es items stored st closes part rest items_are made_is close_
 -- a put under way, of which the accesses made are a beginning
 by_put :
     CountLaws → (shape : Shape) (r : PutReading) (es : List Event) (items stored : List ℕ) (st : PutsStand shape r es items stored) (x : Put) (part rest : List Made) (more : List ℕ) →
-    IsPut shape (left_by shape st.puts).number x → items ≡ all_put st.puts ++ more → st.made ≡ put_phrases shape first_count st.puts ++ part →
-    put_phrase shape (left_by shape st.puts) x ≡ part ++ rest → OpensRest r.open_access rest →
-    ((t : ℕ) → t ≡ length es - events_in (put_phrases shape first_count st.puts) → items_put shape (left_by shape st.puts) (x ∷ []) t ≡ more) → WerePut shape es items
+    IsPut shape (count_behind shape st.puts).number x → items ≡ all_put st.puts ++ more → st.made ≡ put_phrases shape first_count st.puts ++ part →
+    put_phrase shape (count_behind shape st.puts) x ≡ part ++ rest → OpensRest r.open_access rest →
+    ((t : ℕ) → t ≡ length es - events_in (put_phrases shape first_count st.puts) → items_put shape (count_behind shape st.puts) (x ∷ []) t ≡ more) → WerePut shape es items
 by_put law shape r es items stored st x part rest more is_put items_are made_is phrase_is opens put_so =
     let front : List Made = put_phrases shape first_count st.puts in
     let lower : 2 * length st.made ≤ length es = subst (λ l. 2 * length st.made ≤ length l) (sym st.events_are) (open-long P st.made r.open_access) in
@@ -193,7 +193,7 @@ has_batch shape = omega (arith, shape.has_batch)
 scanning_put : (law : CountLaws) (shape : Shape) (r : PutReading) (es : List Event) (items stored : List ℕ) → PutsStand shape r es items stored → r.stage ≡ Scanning → IsReaderAt Scanning r → WerePut shape es items
 scanning_put law shape r es items stored st stage (idle, scans, some, due) =
     let (rests, made_is) = made_at shape r es items stored st Scanning stage in
-    let c : Count = left_by shape st.puts in
+    let c : Count = count_behind shape st.puts in
     let z : ℕ = r.scan.zeros in
     let zeros : List Made = zero_reads (row_read_by P) z in
     let here : Made = Read (row_read_by P z) true in
@@ -277,7 +277,7 @@ some_digits item (suc w) l = omega (arith, length-append (digit_writes item w) (
 choosing_put : (law : CountLaws) (shape : Shape) (r : PutReading) (es : List Event) (items stored : List ℕ) → PutsStand shape r es items stored → r.stage ≡ Choosing → IsReaderAt Choosing r → WerePut shape es items
 choosing_put law shape r es items stored st stage (none, idle) =
     let (s, made_is) = made_at shape r es items stored st Choosing stage in
-    let c : Count = left_by shape st.puts in
+    let c : Count = count_behind shape st.puts in
     let scan : List Made = scan_phrase (row_read_by P) s.seen in
     let words : List Made = words_phrase shape c.number stored in
     let cell : ℕ = past c.number stored % capacity_of shape in
@@ -313,7 +313,7 @@ storing_put :
     ((made : List Made) → ReaderStands r.word made → BeginsRead r.word.width r.word.cell (made ++ Read (Cell r.word.cell r.word.read) v ∷ [])) → WerePut shape es items
 storing_put law shape r es items stored st stage (idle, width_is, cell_same, below, room, some, opened_so) v opened goes =
     let (s, reads, stands, made_is) = made_at shape r es items stored st Storing stage in
-    let c : Count = left_by shape st.puts in
+    let c : Count = count_behind shape st.puts in
     let scan : List Made = scan_phrase (row_read_by P) s.seen in
     let words : List Made = words_phrase shape c.number stored in
     let cell : ℕ = past c.number stored % capacity_of shape in
@@ -339,7 +339,7 @@ storing_put law shape r es items stored st stage (idle, width_is, cell_same, bel
 counting_put : (law : CountLaws) (shape : Shape) (r : PutReading) (es : List Event) (items stored : List ℕ) → PutsStand shape r es items stored → r.stage ≡ Counting → r.row.side ≡ P → IsReaderAt Counting r → WerePut shape es items
 counting_put law shape r es items stored st stage side (due, opened) =
     let (s, made_is) = made_at shape r es items stored st Counting stage in
-    let c : Count = left_by shape st.puts in
+    let c : Count = count_behind shape st.puts in
     let scan : List Made = scan_phrase (row_read_by P) s.seen in
     let words : List Made = words_phrase shape c.number s.batch in
     let bits : List Made = writes_in (row_bit P) s.writes in
@@ -360,10 +360,10 @@ counting_put law shape r es items stored st stage side (due, opened) =
   where
     by_open :
         (s : InCount shape r st.puts items stored) (o : Option Access) → r.open_access ≡ o → {t : ℕ} → t ≡ length es - events_in (put_phrases shape first_count st.puts) →
-        length st.made ≡ length (put_phrases shape first_count st.puts) + length (scan_phrase (row_read_by P) s.seen ++ (words_phrase shape (left_by shape st.puts).number s.batch ++ writes_in (row_bit P) s.writes)) →
-        length (scan_phrase (row_read_by P) s.seen ++ (words_phrase shape (left_by shape st.puts).number s.batch ++ writes_in (row_bit P) s.writes)) ≡
-        length (scan_phrase (row_read_by P) s.seen ++ words_phrase shape (left_by shape st.puts).number s.batch) + length (writes_in (row_bit P) s.writes) →
-        events_in (accesses_before_count shape (left_by shape st.puts).number s.seen s.batch) < t
+        length st.made ≡ length (put_phrases shape first_count st.puts) + length (scan_phrase (row_read_by P) s.seen ++ (words_phrase shape (count_behind shape st.puts).number s.batch ++ writes_in (row_bit P) s.writes)) →
+        length (scan_phrase (row_read_by P) s.seen ++ (words_phrase shape (count_behind shape st.puts).number s.batch ++ writes_in (row_bit P) s.writes)) ≡
+        length (scan_phrase (row_read_by P) s.seen ++ words_phrase shape (count_behind shape st.puts).number s.batch) + length (writes_in (row_bit P) s.writes) →
+        events_in (accesses_before_count shape (count_behind shape st.puts).number s.seen s.batch) < t
     by_open s None o {t = t} e long parts =
         let (u, more, is) = s.begun o in
         let es_is : length es ≡ 2 * length st.made = ap length (at_rest P es st.made r.open_access st.events_are o) ∙ length-events P st.made in

@@ -18,7 +18,7 @@ use Rattle.register_core.specs.UnaryState.{UnaryState, due_writes, due_unary, fi
 use Rattle.register_core.specs.ScanState.{scan_phrase, row_read_by}
 use Rattle.ring_core.specs.Counts.{past, Count, first_count, count_bits, batch_phrase}
 use Rattle.ring_core.specs.Puts.{Put, Stored, stored_after, words_phrase, put_phrases}
-use Rattle.ring_core.specs.PutParts.{left_by}
+use Rattle.ring_core.specs.PutParts.{count_behind}
 use Rattle.ring_audit.specs.declared.puts.Stage.TheVariants.{Resting, Choosing, Storing, Counting}
 use Rattle.ring_audit.specs.PutReading.{PutReading, RowHolds, IsMost, has_items, InPut, InCount, MadeWhile, PutsStand}
 use Rattle.ring_audit.proofs.Readers.{ended}
@@ -72,12 +72,12 @@ written :
     (s : InPut shape r st.puts items stored) × (reads : List Made) × ReaderStands word reads ×
     (st.made ++ answered a v ∷ [] ≡
     put_phrases shape first_count st.puts ++
-    (scan_phrase (row_read_by P) s.seen ++ (words_phrase shape (left_by shape st.puts).number stored ++ writes_in (Cell r.cell) (digit_writes word.value word.read))))
+    (scan_phrase (row_read_by P) s.seen ++ (words_phrase shape (count_behind shape st.puts).number stored ++ writes_in (Cell r.cell) (digit_writes word.value word.read))))
 written shape r es items stored st word a v w is cell stage fed goes =
     let (s, reads, stands, made_is) = made_at shape r es items stored st Storing stage in
     let front : List Made = put_phrases shape first_count st.puts in
     let scan : List Made = scan_phrase (row_read_by P) s.seen in
-    let words : List Made = words_phrase shape (left_by shape st.puts).number stored in
+    let words : List Made = words_phrase shape (count_behind shape st.puts).number stored in
     let n : ℕ = r.word.read in
     let digits : List Made = writes_in (Cell r.cell) (digit_writes r.word.value n) in
     let stands_on : ReaderStands word (reads ++ Read (Cell r.word.cell n) w ∷ []) = goes reads stands in
@@ -163,7 +163,7 @@ pub ends_word :
     (es ++ end_event P (answered a v) ∷ []) items (stored ++ item ∷ [])
 ends_word shape r es items stored word a v w item cell_on next_on st some is cell stage fed goes whole item_is room cell_up next_up =
     let (s, reads, stands, made_so) = written shape r es items stored st word a v w is cell stage fed goes in
-    let n : ℕ = (left_by shape st.puts).number in
+    let n : ℕ = (count_behind shape st.puts).number in
     let front : List Made = put_phrases shape first_count st.puts in
     let scan : List Made = scan_phrase (row_read_by P) s.seen in
     let words : List Made = words_phrase shape n stored in
@@ -236,10 +236,10 @@ counted_on :
     (s : InCount shape (record r { row = row; open_access = None }) st.puts items stored) ×
     (st.made ++ answered a v ∷ [] ≡
     put_phrases shape first_count st.puts ++
-    (scan_phrase (row_read_by P) s.seen ++ (words_phrase shape (left_by shape st.puts).number s.batch ++ writes_in (row_bit P) s.writes)))
+    (scan_phrase (row_read_by P) s.seen ++ (words_phrase shape (count_behind shape st.puts).number s.batch ++ writes_in (row_bit P) s.writes)))
 counted_on shape r es items stored st row a v stage side due left goes =
     let (s, made_is) = made_at shape r es items stored st Counting stage in
-    let c : Count = left_by shape st.puts in
+    let c : Count = count_behind shape st.puts in
     let (w, more, due_are, is) = first_of r.row a side due in
     let front : List Made = put_phrases shape first_count st.puts in
     let scan : List Made = scan_phrase (row_read_by P) s.seen in
@@ -297,13 +297,13 @@ pub ends_count :
     due_unary row ≡ None → PutsStand shape (record r { row = row; count = r.next; stage = Resting; open_access = None }) (es ++ end_event P (answered a v) ∷ []) items stored
 ends_count shape r es items stored row a v st some stage side due left goes over =
     let (s, made_so) = counted_on shape r es items stored st row a v stage side due left goes in
-    let c : Count = left_by shape st.puts in
+    let c : Count = count_behind shape st.puts in
     let x : Put = Stored s.seen s.batch in
     let front : List Made = put_phrases shape first_count st.puts in
     let scan : List Made = scan_phrase (row_read_by P) s.seen in
     let words : List Made = words_phrase shape c.number s.batch in
     let whole : count_bits shape c s.batch ≡ s.writes = s.parts ∙ ap (λ ws. s.writes ++ ws) (no_writes row over) ∙ append-nil s.writes in
-    let after : left_by shape (st.puts ++ x ∷ []) ≡ stored_after shape c x = left-push shape first_count st.puts x in
+    let after : count_behind shape (st.puts ++ x ∷ []) ≡ stored_after shape c x = left-push shape first_count st.puts x in
     record {
       puts = st.puts ++ x ∷ [];
       made = st.made ++ answered a v ∷ [];

@@ -20,7 +20,7 @@ use Rattle.register_core.specs.ScanState.{ScanState, LastIsDue, zero_reads, scan
 use Rattle.ring_core.specs.Counts.{LeavesRoom, past, Count, first_count, count_bits}
 use Rattle.ring_core.specs.Puts.{Puts, words_phrase, put_phrases, put_program}
 use Rattle.ring_core.specs.Calls.{IsScanning}
-use Rattle.ring_core.specs.PutParts.{GoesBehind, left_by, count_write, ScansOrCloses, ScansOn, StoresOrCounts, StoresOn, CountsOn}
+use Rattle.ring_core.specs.PutParts.{GoesBehind, count_behind, count_access, ScansOrCloses, ScansOn, StoresOrCounts, StoresOn, CountsOn}
 use Rattle.ring_core.specs.GoingOn.{LastPutsReadOne}
 use Rattle.ring_core.specs.Readings.{PutsAreFirst}
 use Rattle.ring_audit.specs.declared.puts.PutStep.{PutStep}
@@ -144,7 +144,7 @@ pub count_due :
 count_due shape row c items next side h e = ap (λ f. unary_phrase f next) (row_bits row c.bits side h) ∙ ap (unary_phrase c.bits) e
 
 -- the first access of bit writes
-pub first_due : (row : UnaryState) (w : RowWrite) (more : List RowWrite) → row.side ≡ P → due_writes row ≡ w ∷ more → due_unary row ≡ Some (access_of (count_write w))
+pub first_due : (row : UnaryState) (w : RowWrite) (more : List RowWrite) → row.side ≡ P → due_writes row ≡ w ∷ more → due_unary row ≡ Some (access_of (count_access w))
 first_due row w more side e = ap (first_access (row_bit row.side)) e ∙ ap (λ s. Some (begins.Write (row_bit s w.bit) w.value)) side
 
 -- behind a scan that found room, or a whole word
@@ -154,7 +154,7 @@ pub no_word_nor_count :
     (r.some ≡ true → due_unary (record r.row { value = r.next }) ≡ Some a → ⊥) → AreOfPuts shape (es ++ opening_event P a ∷ []) → ⊥
 no_word_nor_count law shape r es items stored a st none stage side no_word no_count of_puts =
     let (s, made_is) = made_at shape r es items stored st Choosing stage in
-    let c : Count = left_by shape st.puts in
+    let c : Count = count_behind shape st.puts in
     let scan : List Made = scan_phrase (row_read_by P) s.seen in
     let words : List Made = words_phrase shape c.number stored in
     let on = rest_on shape r es items stored st (opening_event P a) none of_puts in
@@ -186,7 +186,7 @@ no_digit law shape r es items stored a st none stage below some wrong of_puts =
     by_read zero e = absurd (omega (arith, some, e))
     by_read (suc read) e =
         let (s, reads, stands, made_is) = made_at shape r es items stored st Storing stage in
-        let c : Count = left_by shape st.puts in
+        let c : Count = count_behind shape st.puts in
         let scan : List Made = scan_phrase (row_read_by P) s.seen in
         let words : List Made = words_phrase shape c.number stored in
         let digits : List Made = writes_in (Cell (past c.number stored % capacity_of shape)) (digit_writes r.word.value (suc read)) in
@@ -213,7 +213,7 @@ pub no_bit :
     r.stage ≡ Counting → r.row.side ≡ P → due_unary r.row ≢ None → (due_unary r.row ≡ Some a → ⊥) → AreOfPuts shape (es ++ opening_event P a ∷ []) → ⊥
 no_bit law shape r es items stored a st none stage side due wrong of_puts =
     let (s, made_is) = made_at shape r es items stored st Counting stage in
-    let c : Count = left_by shape st.puts in
+    let c : Count = count_behind shape st.puts in
     let scan : List Made = scan_phrase (row_read_by P) s.seen in
     let words : List Made = words_phrase shape c.number s.batch in
     let front : List Made = put_phrases shape first_count st.puts in

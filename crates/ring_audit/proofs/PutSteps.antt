@@ -16,7 +16,7 @@ use Rattle.register_core.specs.ScanState.{ScanState, scan_read, zero_reads, scan
 use Rattle.ring_core.specs.Counts.{LeavesRoom, LeavesRoomFor, Count, first_count, count_bits}
 use Rattle.ring_core.specs.Puts.{Put, Stored, Full, stored_after, stored_count, words_phrase, put_phrase, put_phrases, IsPut, ArePuts}
 use Rattle.ring_core.specs.Items.{all_put}
-use Rattle.ring_core.specs.PutParts.{left_by}
+use Rattle.ring_core.specs.PutParts.{count_behind}
 use Rattle.ring_audit.specs.declared.puts.Stage.TheVariants.{Resting, Scanning, Choosing, Storing, Counting, Closing, Closed}
 use Rattle.ring_audit.specs.Sides.{opening_event}
 use Rattle.ring_audit.specs.PutReading.{PutReading, RowHolds, IsMost, has_items, AtRest, MadeWhile, PutsStand}
@@ -111,7 +111,7 @@ begins_word shape r es items stored word a st none stage new stands =
     let (s, made_is) = made_at shape r es items stored st Choosing stage in
     let front : List Made = put_phrases shape first_count st.puts in
     let scan : List Made = scan_phrase (row_read_by P) s.seen in
-    let words : List Made = words_phrase shape (left_by shape st.puts).number stored in
+    let words : List Made = words_phrase shape (count_behind shape st.puts).number stored in
     record {
       puts = st.puts;
       made = st.made;
@@ -176,7 +176,7 @@ pub begins_count :
     PutsStand shape (record r { stage = Counting; row = row; open_access = Some a }) (es ++ opening_event P a ∷ []) (items ++ stored) []
 begins_count shape r es items stored row a st none stage some side row_is asks =
     let (s, made_is) = made_at shape r es items stored st Choosing stage in
-    let c : Count = left_by shape st.puts in
+    let c : Count = count_behind shape st.puts in
     let front : List Made = put_phrases shape first_count st.puts in
     let scan : List Made = scan_phrase (row_read_by P) s.seen in
     let words : List Made = words_phrase shape c.number stored in
@@ -326,7 +326,7 @@ ends_with_room shape r es items stored scan a v seen room st some is stage not_f
     let seen_below : seen < modulus_of shape = subst (λ k. k < modulus_of shape) zeros_is below in
     let (rests, made_so) = scanned shape r es items stored st scan a v seen is stage not_found fed gives in
     let front : List Made = put_phrases shape first_count st.puts in
-    let n : ℕ = (left_by shape st.puts).number in
+    let n : ℕ = (count_behind shape st.puts).number in
     let new : PutReading = record r { stage = Choosing; scan = scan; room = room; next = r.count; some = false; open_access = None } in
     let may : IsMost shape n seen (0 + room) = record {
       below = seen_below;
@@ -367,7 +367,7 @@ ends_full shape r es items stored scan a v seen st some is stage not_found fed g
     let (one_read, zeros_is) = read_one r.scan v seen not_found (ap (λ (z : ScanState). if z.found then Some z.zeros else None) (sym fed) ∙ gives) in
     let seen_below : seen < modulus_of shape = subst (λ k. k < modulus_of shape) zeros_is below in
     let (rests, made_so) = scanned shape r es items stored st scan a v seen is stage not_found fed gives in
-    let left : left_by shape (st.puts ++ Full seen ∷ []) ≡ left_by shape st.puts = left-push shape first_count st.puts (Full seen) in
+    let left : count_behind shape (st.puts ++ Full seen ∷ []) ≡ count_behind shape st.puts = left-push shape first_count st.puts (Full seen) in
     record {
       puts = st.puts ++ Full seen ∷ [];
       made = st.made ++ answered a v ∷ [];

@@ -15,7 +15,7 @@ use Rattle.register_core.specs.ScanState.{ScanState, zero_reads, scan_phrase, ro
 use Rattle.register_core.specs.UnaryState.{UnaryState, due_unary, due_writes, UnaryStands}
 use Rattle.ring_core.specs.Counts.{LeavesRoomFor, past, first_count, count_bits}
 use Rattle.ring_core.specs.Puts.{Put, Stored, Puts, words_phrase, put_phrases, put_program, IsPut, ArePuts}
-use Rattle.ring_core.specs.PutParts.{left_by}
+use Rattle.ring_core.specs.PutParts.{count_behind}
 use Rattle.ring_core.specs.Items.{items_put, all_put}
 use Rattle.ring_core.specs.Calls.{IsScanning}
 use Rattle.ring_audit.specs.declared.puts.PutStep.{PutStep}
@@ -84,32 +84,32 @@ has_items (item ∷ items) = true
 
 -- between puts, and while a put scans: these items were counted
 pub record AtRest (shape : Shape) (r : PutReading) (puts : List Put) (items stored : List ℕ) : Type 0 where
-  pub holds : RowHolds r.row (left_by shape puts).bits
-  pub cell_is : r.cell ≡ (left_by shape puts).number % capacity_of shape
+  pub holds : RowHolds r.row (count_behind shape puts).bits
+  pub cell_is : r.cell ≡ (count_behind shape puts).number % capacity_of shape
   pub items_are : items ≡ all_put puts
   pub none_stored : stored ≡ []
 
 -- while a put stores: it has stored these items, which are not counted yet
 pub record InPut (shape : Shape) (r : PutReading) (puts : List Put) (items stored : List ℕ) : Type 0 where
   pub seen : ℕ
-  pub may : IsMost shape (left_by shape puts).number seen (length stored + r.room)
+  pub may : IsMost shape (count_behind shape puts).number seen (length stored + r.room)
   pub fit : AllFit shape stored
-  pub next_is : r.next ≡ past (left_by shape puts).number stored % modulus_of shape
-  pub cell_is : r.cell ≡ past (left_by shape puts).number stored % capacity_of shape
+  pub next_is : r.next ≡ past (count_behind shape puts).number stored % modulus_of shape
+  pub cell_is : r.cell ≡ past (count_behind shape puts).number stored % capacity_of shape
   pub some_is : r.some ≡ has_items stored
-  pub holds : RowHolds r.row (left_by shape puts).bits
+  pub holds : RowHolds r.row (count_behind shape puts).bits
   pub items_are : items ≡ all_put puts
 
 -- while it counts them: these bit writes of the count were made
 pub record InCount (shape : Shape) (r : PutReading) (puts : List Put) (items stored : List ℕ) : Type 0 where
   pub seen : ℕ
   pub batch : List ℕ
-  pub is_put : IsPut shape (left_by shape puts).number (Stored seen batch)
-  pub next_is : r.next ≡ past (left_by shape puts).number batch % modulus_of shape
-  pub cell_is : r.cell ≡ past (left_by shape puts).number batch % capacity_of shape
+  pub is_put : IsPut shape (count_behind shape puts).number (Stored seen batch)
+  pub next_is : r.next ≡ past (count_behind shape puts).number batch % modulus_of shape
+  pub cell_is : r.cell ≡ past (count_behind shape puts).number batch % capacity_of shape
   pub writes : List RowWrite
-  pub holds : RowHolds r.row (bits_after (left_by shape puts).bits writes)
-  pub parts : count_bits shape (left_by shape puts) batch ≡ writes ++ due_writes r.row
+  pub holds : RowHolds r.row (bits_after (count_behind shape puts).bits writes)
+  pub parts : count_bits shape (count_behind shape puts) batch ≡ writes ++ due_writes r.row
   pub begun : r.open_access ≡ None → (u : RowWrite) × (more : List RowWrite) × (writes ≡ u ∷ more)
   pub items_are : items ≡ all_put puts ++ batch
   pub none_stored : stored ≡ []
@@ -121,17 +121,17 @@ MadeWhile Scanning shape r puts items stored made =
     AtRest shape r puts items stored × (made ≡ put_phrases shape first_count puts ++ zero_reads (row_read_by P) r.scan.zeros)
 MadeWhile Choosing shape r puts items stored made =
     (s : InPut shape r puts items stored) ×
-    (made ≡ put_phrases shape first_count puts ++ (scan_phrase (row_read_by P) s.seen ++ words_phrase shape (left_by shape puts).number stored))
+    (made ≡ put_phrases shape first_count puts ++ (scan_phrase (row_read_by P) s.seen ++ words_phrase shape (count_behind shape puts).number stored))
 MadeWhile Storing shape r puts items stored made =
     (s : InPut shape r puts items stored) × (reads : List Made) × ReaderStands r.word reads ×
     (made ≡
     put_phrases shape first_count puts ++
-    (scan_phrase (row_read_by P) s.seen ++ (words_phrase shape (left_by shape puts).number stored ++ writes_in (Cell r.cell) (digit_writes r.word.value r.word.read))))
+    (scan_phrase (row_read_by P) s.seen ++ (words_phrase shape (count_behind shape puts).number stored ++ writes_in (Cell r.cell) (digit_writes r.word.value r.word.read))))
 MadeWhile Counting shape r puts items stored made =
     (s : InCount shape r puts items stored) ×
     (made ≡
     put_phrases shape first_count puts ++
-    (scan_phrase (row_read_by P) s.seen ++ (words_phrase shape (left_by shape puts).number s.batch ++ writes_in (row_bit P) s.writes)))
+    (scan_phrase (row_read_by P) s.seen ++ (words_phrase shape (count_behind shape puts).number s.batch ++ writes_in (row_bit P) s.writes)))
 MadeWhile Closing shape r puts items stored made = AtRest shape r puts items stored × (made ≡ put_phrases shape first_count puts)
 MadeWhile Closed shape r puts items stored made = AtRest shape r puts items stored × (made ≡ put_phrases shape first_count puts ++ Write X true ∷ [])
 
@@ -142,7 +142,7 @@ pub record PutsStand (shape : Shape) (r : PutReading) (es : List Event) (items s
   pub made : List Made
   pub shape_is : r.shape ≡ shape
   pub are : ArePuts shape 0 puts
-  pub count_is : r.count ≡ (left_by shape puts).number % modulus_of shape
+  pub count_is : r.count ≡ (count_behind shape puts).number % modulus_of shape
   pub events_are : es ≡ events_of P made ++ open_events P r.open_access
   pub made_is : MadeWhile r.stage shape r puts items stored made
 

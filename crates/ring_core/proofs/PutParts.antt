@@ -12,7 +12,7 @@ use Rattle.register_core.specs.Word.{digit, digit_writes, word_write, DigitsTell
 use Rattle.register_core.specs.ScanState.{zero_reads, scan_phrase, row_read_by}
 use Rattle.ring_core.specs.Counts.{LeavesRoom, LeavesRoomFor, past, Count, first_count, count_bits, batch_phrase, IsCount}
 use Rattle.ring_core.specs.Puts.{Put, Stored, Full, stored_after, stored_count, words_phrase, put_phrase, put_phrases, close_phrase, IsBatch, IsPut, ArePuts}
-use Rattle.ring_core.specs.PutParts.{GoesBehind, left_by, count_write, ScansOrCloses, ScansOn, StoresOrCounts, StoresOn, CountsOn}
+use Rattle.ring_core.specs.PutParts.{GoesBehind, count_behind, count_access, ScansOrCloses, ScansOn, StoresOrCounts, StoresOn, CountsOn}
 use Rattle.ring_core.specs.GoingOn.{LastPutsReadOne}
 use Rattle.ring_core.proofs.Phrases.{scan-front, scan_begins, same_scan, same_word_write, same_writes, length-digit_writes, at_or_below}
 use Rattle.ring_core.proofs.PutsRead.{no_close, puts_stored, puts_full, no_room, NoCellFirst, count_first, words_first, digits_first, word_first}
@@ -68,7 +68,7 @@ module _ (tell : DigitsTellItems) where
       (front ∙ ap (λ l. puts_from shape c l b) same ∙ append_assoc phrase (put_phrases shape after more) (close_phrase b)) in
       behind shape after xs more b zs (stored_is_count shape c x is) p.1 are.1 rest
 
-  from_calls : (shape : Shape) (puts : List Put) (rest : List Made) → ArePuts shape 0 puts → GoesBehind shape puts rest → From shape (left_by shape puts) rest
+  from_calls : (shape : Shape) (puts : List Put) (rest : List Made) → ArePuts shape 0 puts → GoesBehind shape puts rest → From shape (count_behind shape puts) rest
   from_calls shape puts rest are g =
       behind shape first_count puts g.calls.puts g.calls.closes rest (first_is_count shape) are g.are (sym g.program_is)
 
@@ -231,7 +231,7 @@ module _ (tell : DigitsTellItems) where
       From shape c (scan seen ++ (words_phrase shape c.number items ++ x ∷ rest)) →
       ((v : Bool) × (x ≡ Write (Cell (past c.number items % capacity_of shape) 0) v) ×
       LeavesRoomFor shape (c.number % modulus_of shape) seen (suc (length items)) × (suc (length items) ≤ batch_of shape)) ⊎
-      ((1 ≤ length items) × (w : RowWrite) × (more : List RowWrite) × (count_bits shape c items ≡ w ∷ more) × (x ≡ count_write w))
+      ((1 ≤ length items) × (w : RowWrite) × (more : List RowWrite) × (count_bits shape c items ≡ w ∷ more) × (x ≡ count_access w))
   chooses shape c seen items x rest room fit f =
       let s = stores shape c seen (words_phrase shape c.number items ++ x ∷ rest) room f in
       let left = left_words shape c seen items (x ∷ rest) fit s in
@@ -242,14 +242,14 @@ module _ (tell : DigitsTellItems) where
           (left : WordsLeft shape c.number items s.items (x ∷ rest) (batch_phrase shape P c s.items ++ s.behind_it)) (more : List ℕ) → left.more ≡ more →
           ((v : Bool) × (x ≡ Write (Cell (past c.number items % capacity_of shape) 0) v) ×
           LeavesRoomFor shape (c.number % modulus_of shape) seen (suc (length items)) × (suc (length items) ≤ batch_of shape)) ⊎
-          ((1 ≤ length items) × (w : RowWrite) × (more : List RowWrite) × (count_bits shape c items ≡ w ∷ more) × (x ≡ count_write w))
+          ((1 ≤ length items) × (w : RowWrite) × (more : List RowWrite) × (count_bits shape c items ≡ w ∷ more) × (x ≡ count_access w))
       by_more s left [] e =
           let all : s.items ≡ items = left.all_is ∙ ap (λ l. items ++ l) e ∙ append-nil items in
           let is : x ∷ rest ≡ batch_phrase shape P c items ++ s.behind_it =
           left.rest_is ∙ ap (λ l. words_phrase shape (past c.number items) l ++ (batch_phrase shape P c s.items ++ s.behind_it)) e ∙ ap (λ l. batch_phrase shape P c l ++ s.behind_it) all in
           let batch : IsBatch shape items = subst (IsBatch shape) all s.is_put.2 in
           let (w, ws, bits) = some_write (count_bits shape c items) (bits_long shape c items s.is_count batch.some batch.few) in
-          let first : x ∷ rest ≡ count_write w ∷ (writes_in (row_bit P) ws ++ s.behind_it) = is ∙ ap (λ l. writes_in (row_bit P) l ++ s.behind_it) bits in
+          let first : x ∷ rest ≡ count_access w ∷ (writes_in (row_bit P) ws ++ s.behind_it) = is ∙ ap (λ l. writes_in (row_bit P) l ++ s.behind_it) bits in
           inr (batch.some, w, ws, bits, cc)
       by_more s left (y ∷ ys) e =
           let tail : List Made = batch_phrase shape P c s.items ++ s.behind_it in
@@ -292,7 +292,7 @@ module _ (tell : DigitsTellItems) where
   counts_on :
       (shape : Shape) (c : Count) (seen : ℕ) (items : List ℕ) (u w : RowWrite) (writes more : List RowWrite) (x : Made) (rest : List Made) →
       LeavesRoom shape (c.number % modulus_of shape) seen → AllFit shape items → count_bits shape c items ≡ (u ∷ writes) ++ w ∷ more →
-      From shape c (scan seen ++ (words_phrase shape c.number items ++ (writes_in (row_bit P) (u ∷ writes) ++ x ∷ rest))) → x ≡ count_write w
+      From shape c (scan seen ++ (words_phrase shape c.number items ++ (writes_in (row_bit P) (u ∷ writes) ++ x ∷ rest))) → x ≡ count_access w
   counts_on shape c seen items u w writes more x rest room fit bits f =
       let zs : List Made = writes_in (row_bit P) (u ∷ writes) ++ x ∷ rest in
       let s = stores shape c seen (words_phrase shape c.number items ++ zs) room f in
@@ -302,7 +302,7 @@ module _ (tell : DigitsTellItems) where
       by_more :
           (s : StoresFrom shape c seen (words_phrase shape c.number items ++ (writes_in (row_bit P) (u ∷ writes) ++ x ∷ rest)))
           (left : WordsLeft shape c.number items s.items (writes_in (row_bit P) (u ∷ writes) ++ x ∷ rest) (batch_phrase shape P c s.items ++ s.behind_it))
-          (behind_them : List ℕ) → left.more ≡ behind_them → x ≡ count_write w
+          (behind_them : List ℕ) → left.more ≡ behind_them → x ≡ count_access w
       by_more s left [] e =
           let tail : List Made = batch_phrase shape P c s.items ++ s.behind_it in
           let made : List Made = writes_in (row_bit P) (u ∷ writes) in
@@ -354,21 +354,21 @@ last-puts_read_one shape calls p made i v rest e last =
 
 module _ (tell : DigitsTellItems) where
   pub scans-or_closes : ScansOrCloses
-  scans-or_closes shape puts x rest are g = begins_call shape (left_by shape puts) x rest (from_calls tell shape puts (x ∷ rest) are g)
+  scans-or_closes shape puts x rest are g = begins_call shape (count_behind shape puts) x rest (from_calls tell shape puts (x ∷ rest) are g)
 
   pub scans-on : ScansOn
   scans-on shape puts zeros x rest are g =
-      goes_on_scanning shape (left_by shape puts) zeros x rest (from_calls tell shape puts (zero_reads (row_read_by P) (suc zeros) ++ x ∷ rest) are g)
+      goes_on_scanning shape (count_behind shape puts) zeros x rest (from_calls tell shape puts (zero_reads (row_read_by P) (suc zeros) ++ x ∷ rest) are g)
 
   pub stores-or_counts : StoresOrCounts
   stores-or_counts shape puts seen items x rest are room fit g =
-      chooses tell shape (left_by shape puts) seen items x rest room fit
-      (from_calls tell shape puts (scan seen ++ (words_phrase shape (left_by shape puts).number items ++ x ∷ rest)) are g)
+      chooses tell shape (count_behind shape puts) seen items x rest room fit
+      (from_calls tell shape puts (scan seen ++ (words_phrase shape (count_behind shape puts).number items ++ x ∷ rest)) are g)
 
   pub stores-on : StoresOn
   stores-on shape puts seen items value digits x rest are room fit below g =
-      stores_on tell shape (left_by shape puts) seen items value digits x rest room fit below (from_calls tell shape puts _ are g)
+      stores_on tell shape (count_behind shape puts) seen items value digits x rest room fit below (from_calls tell shape puts _ are g)
 
   pub counts-on : CountsOn
   counts-on shape puts seen items u w writes more x rest are room fit bits g =
-      counts_on tell shape (left_by shape puts) seen items u w writes more x rest room fit bits (from_calls tell shape puts _ are g)
+      counts_on tell shape (count_behind shape puts) seen items u w writes more x rest room fit bits (from_calls tell shape puts _ are g)

@@ -18,12 +18,12 @@ pub record GoesBehind (shape : Shape) (puts : List Put) (rest : List Made) : Typ
   pub program_is : put_program shape calls ≡ put_phrases shape first_count puts ++ rest
 
 -- the count that puts leave
-abbrev pub left_by : Shape → List Put → Count
-left_by shape puts = stored_count shape first_count puts
+abbrev pub count_behind : Shape → List Put → Count
+count_behind shape puts = stored_count shape first_count puts
 
 -- a write of a count's bit, as an access
-abbrev pub count_write : RowWrite → Made
-count_write w = Write (row_bit P w.bit) w.value
+abbrev pub count_access : RowWrite → Made
+count_access w = Write (row_bit P w.bit) w.value
 
 -- behind whole puts: a scan begins, or the close
 abbrev pub ScansOrCloses : Type 0
@@ -41,27 +41,27 @@ ScansOn =
 abbrev pub StoresOrCounts : Type 0
 StoresOrCounts =
     (shape : Shape) (puts : List Put) (seen : ℕ) (items : List ℕ) (x : Made) (rest : List Made) → ArePuts shape 0 puts →
-    LeavesRoom shape ((left_by shape puts).number % modulus_of shape) seen → AllFit shape items →
-    GoesBehind shape puts (scan_phrase (row_read_by P) seen ++ (words_phrase shape (left_by shape puts).number items ++ x ∷ rest)) →
-    ((v : Bool) × (x ≡ Write (Cell (past (left_by shape puts).number items % capacity_of shape) 0) v) ×
-    LeavesRoomFor shape ((left_by shape puts).number % modulus_of shape) seen (suc (length items)) × (suc (length items) ≤ batch_of shape)) ⊎
-    ((1 ≤ length items) × (w : RowWrite) × (more : List RowWrite) × (count_bits shape (left_by shape puts) items ≡ w ∷ more) × (x ≡ count_write w))
+    LeavesRoom shape ((count_behind shape puts).number % modulus_of shape) seen → AllFit shape items →
+    GoesBehind shape puts (scan_phrase (row_read_by P) seen ++ (words_phrase shape (count_behind shape puts).number items ++ x ∷ rest)) →
+    ((v : Bool) × (x ≡ Write (Cell (past (count_behind shape puts).number items % capacity_of shape) 0) v) ×
+    LeavesRoomFor shape ((count_behind shape puts).number % modulus_of shape) seen (suc (length items)) × (suc (length items) ≤ batch_of shape)) ⊎
+    ((1 ≤ length items) × (w : RowWrite) × (more : List RowWrite) × (count_bits shape (count_behind shape puts) items ≡ w ∷ more) × (x ≡ count_access w))
 
 -- in a word: its next digit
 abbrev pub StoresOn : Type 0
 StoresOn =
     (shape : Shape) (puts : List Put) (seen : ℕ) (items : List ℕ) (value digits : ℕ) (x : Made) (rest : List Made) → ArePuts shape 0 puts →
-    LeavesRoom shape ((left_by shape puts).number % modulus_of shape) seen → AllFit shape items → suc digits < width_of shape →
+    LeavesRoom shape ((count_behind shape puts).number % modulus_of shape) seen → AllFit shape items → suc digits < width_of shape →
     GoesBehind shape puts
     (scan_phrase (row_read_by P) seen ++
-    (words_phrase shape (left_by shape puts).number items ++ (writes_in (Cell (past (left_by shape puts).number items % capacity_of shape)) (digit_writes value (suc digits)) ++ x ∷ rest))) →
-    (v : Bool) × (x ≡ Write (Cell (past (left_by shape puts).number items % capacity_of shape) (suc digits)) v)
+    (words_phrase shape (count_behind shape puts).number items ++ (writes_in (Cell (past (count_behind shape puts).number items % capacity_of shape)) (digit_writes value (suc digits)) ++ x ∷ rest))) →
+    (v : Bool) × (x ≡ Write (Cell (past (count_behind shape puts).number items % capacity_of shape) (suc digits)) v)
 
 -- in a count write: its next bit write
 abbrev pub CountsOn : Type 0
 CountsOn =
     (shape : Shape) (puts : List Put) (seen : ℕ) (items : List ℕ) (u w : RowWrite) (writes more : List RowWrite) (x : Made) (rest : List Made) → ArePuts shape 0 puts →
-    LeavesRoom shape ((left_by shape puts).number % modulus_of shape) seen → AllFit shape items → count_bits shape (left_by shape puts) items ≡ (u ∷ writes) ++ w ∷ more →
+    LeavesRoom shape ((count_behind shape puts).number % modulus_of shape) seen → AllFit shape items → count_bits shape (count_behind shape puts) items ≡ (u ∷ writes) ++ w ∷ more →
     GoesBehind shape puts
-    (scan_phrase (row_read_by P) seen ++ (words_phrase shape (left_by shape puts).number items ++ (writes_in (row_bit P) (u ∷ writes) ++ x ∷ rest))) →
-    x ≡ count_write w
+    (scan_phrase (row_read_by P) seen ++ (words_phrase shape (count_behind shape puts).number items ++ (writes_in (row_bit P) (u ∷ writes) ++ x ∷ rest))) →
+    x ≡ count_access w
