@@ -1,5 +1,5 @@
 -- Operations that come one after the other at a queue, and some that do not.
-use Rattle.std.proofs.Common.{◌≡◌, true, false, [], ◌∷◌, length, refl, ap, arith}
+use Rattle.std.proofs.Common.{true, false, [], ◌∷◌, length, refl, ap, arith}
 use Rattle.queue_calls.specs.Queue.{Enqueue, FindFull, FindShut, Close, Dequeue, FindEmpty, FindClosed, Queue, queue, IsLegal}
 
 -- these come one after the other at a queue of one cell

@@ -1,8 +1,21 @@
-//! What follows of the queue.
-ghost use Rattle.queue_calls.specs.Laws.{OperationsLeadOneWay};
+//! What follows of the queue and of histories of its calls.
+ghost use Rattle.queue_calls.specs.Laws.{BeginningIsLinearizable, MomentsAreOrders, OperationsLeadOneWay};
 
 /// An operation leaves one queue: the sequential specification lets it answer or not, and chooses nothing else. So
 /// operations that come one after the other tell what is in the queue after each of them.
 pub fn operations_lead_one_way()
     ensures { OperationsLeadOneWay }
+{}
+
+/// A history is linearizable where it is so with one event more: an event with which it is not is
+/// the first one, and none behind it mends that.
+pub fn beginning_is_linearizable()
+    ensures { BeginningIsLinearizable }
+{}
+
+/// Two forms of linearizability are one: each operation of a call takes effect at a moment between
+/// its begin and its end, or (Herlihy and Wing 1990) all operations have an order that is legal and
+/// keeps real time.
+pub fn moments_are_orders()
+    ensures { MomentsAreOrders }
 {}

@@ -1,0 +1,27 @@
+-- What an auditor says of a history, event by event.
+use Rattle.std.specs.Prelude.{ℕ, ◌≡◌, List, [], ◌∷◌, ◌++◌, Result, MatchResult}
+use Rattle.queue_calls.specs.Calls.{Event, PutBegin, IsLinearizable}
+use Rattle.queue_calls.specs.InTurn.{IsInTurn}
+use Rattle.queue_calls.specs.State.{Keeps}
+use Rattle.queue_calls.specs.declared.auditors.CallAuditor.{CallAuditor}
+use Rattle.queue_calls.specs.declared.faults.Fault.{Fault}
+use Rattle.queue_calls.specs.declared.faults.Fault.TheVariants.{OutOfTurn, NotLinearizable, OutOfMemory}
+
+-- the auditor has read this history
+abbrev pub Audits : {A : Type 0} → CallAuditor A → List Event → Type 0
+Audits a h = Keeps a.capacity h a.inside.items a.put a.take a.shut
+
+-- what a refusal says of the history with the event
+abbrev pub Refuses : Fault → ℕ → List Event → Event → Type 0
+Refuses OutOfTurn capacity h event = ¬ IsInTurn (h ++ event ∷ []) × ¬ IsLinearizable capacity (h ++ event ∷ [])
+Refuses NotLinearizable capacity h event = IsInTurn (h ++ event ∷ []) × ¬ IsLinearizable capacity (h ++ event ∷ [])
+Refuses OutOfMemory capacity h event = (items : List ℕ) × (event ≡ PutBegin items)
+
+-- Behind each history that it has read, an auditor reads an event: it accepts where the history with the event is linearizable, and
+-- has then read that; it refuses, but for want of memory at a put's begin, where it is not, and has then read what it had.
+abbrev pub Reads : {A : Type 0} → CallAuditor A → Event → Result Unit Fault → CallAuditor A → Type 0
+Reads old event result new =
+    (new.capacity ≡ old.capacity) ×
+    ((h : List Event) → Audits old h →
+    MatchResult result (λ _. Audits new (h ++ event ∷ []) × IsLinearizable old.capacity (h ++ event ∷ []))
+    (λ fault. Audits new h × Refuses fault old.capacity h event))

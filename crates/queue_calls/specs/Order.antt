@@ -1,0 +1,125 @@
+-- Linearizability in the form of Herlihy and Wing: an order of all operations of the calls, which is legal and keeps real time.
+use Rattle.std.specs.Prelude.{◌≡◌, ◌⊎◌, ℕ, suc, ◌<◌, false, List, [], ◌∷◌, length, map}
+use Rattle.queue_calls.specs.Queue.{Does, Enqueue, FindFull, FindShut, Close, Dequeue, FindEmpty, FindClosed, queue, IsLegal}
+use Rattle.queue_calls.specs.Calls.{Event, PutBegin, PutStored, PutFull, PutClosed, CloseBegin, CloseEnd, TakeBegin, TakeItem, TakeEmpty, TakeClosed, Happens, Effect, Producer, Idle, Consumer, Resting, ProducerStep, ConsumerStep}
+
+pub data Side : Type 0 where
+  P : Side
+  C : Side
+
+-- one of two, by whether two sides are the same
+abbrev pub pick : {A : Type 0} → Side → Side → A → A → A
+pick P P same other = same
+pick P C same other = other
+pick C P same other = other
+pick C C same other = same
+
+-- the side of an event, and of an operation
+abbrev pub side_of : Event → Side
+side_of (PutBegin items) = P
+side_of (PutStored count) = P
+side_of PutFull = P
+side_of PutClosed = P
+side_of CloseBegin = P
+side_of CloseEnd = P
+side_of TakeBegin = C
+side_of (TakeItem item) = C
+side_of TakeEmpty = C
+side_of TakeClosed = C
+
+abbrev pub doer_of : Does → Side
+doer_of (Enqueue item) = P
+doer_of FindFull = P
+doer_of FindShut = P
+doer_of Close = P
+doer_of (Dequeue item) = C
+doer_of FindEmpty = C
+doer_of FindClosed = C
+
+-- an event of a history, and its number in it
+pub record Numbered : Type 0 where
+  pub number : ℕ
+  pub event : Event
+
+abbrev pub numbered : ℕ → Event → Numbered
+numbered n e = record { number = n; event = e }
+
+-- the events of a side, of a history whose first event has this number
+abbrev pub own_events : Side → ℕ → List Event → List Numbered
+own_events s n [] = []
+own_events s n (e ∷ h) = pick s (side_of e) (numbered n e ∷ own_events s (suc n) h) (own_events s (suc n) h)
+
+-- the calls of a side: its events, and the operations between them
+pub data Own : Type 0 where
+  Comes : (event : Numbered) → Own
+  Makes : (does : Does) → Own
+
+abbrev pub events_in : List Own → List Numbered
+events_in [] = []
+events_in (Comes e ∷ calls) = e ∷ events_in calls
+events_in (Makes d ∷ calls) = events_in calls
+
+-- they are calls of the producer, from this on; and of the consumer
+abbrev pub ArePuts : Producer → List Own → Type 0
+ArePuts p [] = Unit {0}
+ArePuts p (Comes e ∷ calls) = (after : Producer) × ProducerStep p (Happens e.event) after × ArePuts after calls
+ArePuts p (Makes d ∷ calls) = (after : Producer) × (doer_of d ≡ P) × ProducerStep p (Effect d) after × ArePuts after calls
+
+abbrev pub AreTakes : Consumer → List Own → Type 0
+AreTakes c [] = Unit {0}
+AreTakes c (Comes e ∷ calls) = (after : Consumer) × ConsumerStep c (Happens e.event) after × AreTakes after calls
+AreTakes c (Makes d ∷ calls) = (after : Consumer) × (doer_of d ≡ C) × ConsumerStep c (Effect d) after × AreTakes after calls
+
+-- an operation, and the numbers of the events with which its call begins and ends
+pub record Operation : Type 0 where
+  pub side : Side
+  pub does : Does
+  pub start : ℕ
+  pub stop : ℕ
+
+abbrev pub operation : Side → Does → ℕ → ℕ → Operation
+operation s d start stop = record { side = s; does = d; start = start; stop = stop }
+
+-- the number of the next event, or of the end of the history
+abbrev pub next_event : ℕ → List Own → ℕ
+next_event end [] = end
+next_event end (Comes e ∷ calls) = e.number
+next_event end (Makes d ∷ calls) = next_event end calls
+
+-- the operations of calls, behind the event of this number
+abbrev pub operations : Side → (end start : ℕ) → List Own → List Operation
+operations s end start [] = []
+operations s end start (Comes e ∷ calls) = operations s end e.number calls
+operations s end start (Makes d ∷ calls) = operation s d start (next_event end calls) ∷ operations s end start calls
+
+-- the operations of one side
+abbrev pub of_side : Side → List Operation → List Operation
+of_side s [] = []
+of_side s (o ∷ order) = pick s o.side (o ∷ of_side s order) (of_side s order)
+
+-- what operations do
+abbrev pub done_by : List Operation → List Does
+done_by order = map (λ o. o.does) order
+
+-- no operation stands behind one before which its call had ended
+abbrev pub IsAmong : Operation → List Operation → Type 0
+IsAmong o [] = ⊥
+IsAmong o (x ∷ order) = (o ≡ x) ⊎ IsAmong o order
+
+abbrev pub KeepsTime : List Operation → Type 0
+KeepsTime [] = Unit {0}
+KeepsTime (a ∷ order) = ((b : Operation) → IsAmong b order → ¬ (b.stop < a.start)) × KeepsTime order
+
+-- an order of the operations of both sides' calls
+pub record Linearization (capacity : ℕ) (h : List Event) : Type 0 where
+  pub puts : List Own
+  pub takes : List Own
+  pub put_events : events_in puts ≡ own_events P 0 h
+  pub take_events : events_in takes ≡ own_events C 0 h
+  pub are_puts : ArePuts Idle puts
+  pub are_takes : AreTakes Resting takes
+  pub order : List Operation
+  pub producer : of_side P order ≡ operations P (length h) 0 puts
+  pub consumer : of_side C order ≡ operations C (length h) 0 takes
+  pub legal : IsLegal capacity (queue [] false) (done_by order)
+  pub keeps_time : KeepsTime order

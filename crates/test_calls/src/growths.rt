@@ -1,0 +1,17 @@
+use queue_calls::{CallAuditor, Event, Fault};
+use refusing::Refusing;
+use std::alloc::AllocGlobal;
+use std::process::Abort;
+use std::test::Fail;
+
+#[test]
+fn a_refused_growth_leaves_the_auditor(rt: HostRuntime) -> Result<(), Fail> {
+    let alloc = Refusing::after(rt.alloc(), 0);
+    let mut auditor = CallAuditor::new(&alloc, 4);
+    assert!(rt; auditor.feed(Event::PutBegins(&[1, 2, 3])) == Err(Fault::OutOfMemory));
+    assert!(rt; auditor.feed(Event::PutBegins(&[1, 2, 3])) == Ok(()));
+    assert!(rt; auditor.feed(Event::PutStored(3)) == Ok(()));
+    assert!(rt; auditor.feed(Event::TakeBegins) == Ok(()));
+    assert!(rt; auditor.feed(Event::TakeItem(1)) == Ok(()));
+    Ok(())
+}

@@ -1,0 +1,7 @@
+//! Tests of the auditor of histories of calls.
+#![tactic(auto)]
+
+#[cfg(test)]
+mod growths;
+#[cfg(test)]
+mod histories;
