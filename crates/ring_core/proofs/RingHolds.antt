@@ -32,8 +32,8 @@ use Rattle.ring_core.proofs.HistoryClocks.{clocks_of}
 use Rattle.ring_core.proofs.OwnEvents.{clock_within, clock_end, clock_rises, one_place}
 use Rattle.ring_core.proofs.Following.{length-events}
 use Rattle.ring_core.proofs.LookSpans.{LookAt}
-use Rattle.ring_core.proofs.Looks.{puts_as_looks, takes_as_looks, puts_pass, takes_pass, proper_puts, proper_takes, total_is, look_from_first, words_are, word_is, word_some, asks_word, puts_items, takes_items, put_rules, take_rules, put_fits, take_fits, last_two}
-use Rattle.ring_core.proofs.CountRow.{first_is_count, batch_fits, has_batch}
+use Rattle.ring_core.proofs.Looks.{puts_as_looks, takes_as_looks, proper_puts, proper_takes, total_is, look_from_first, words_are, word_is, word_some, asks_word, puts_items, takes_items, put_rules, take_rules, put_fits, take_fits, last_two}
+use Rattle.ring_core.proofs.CountRow.{batch_fits, has_batch}
 use Rattle.ring_core.proofs.CellPlaces.{multiple_up}
 use Rattle.ring_core.proofs.RegularScans.{put_events, take_events, puts_regular, takes_regular}
 use Rattle.ring_core.proofs.CloseReads.{OwnFacts, read_of_close}
