@@ -1,7 +1,7 @@
 -- The closes: how they begin and end.
-use Rattle.std.proofs.Common.{◌≡◌, ◌⊎◌, inl, inr, ℕ, Bool, true, false, List, [], ◌∷◌, ◌++◌, length, refl, sym, ap, subst, ◌∙◌}
-use Rattle.queue_calls.specs.Queue.{Queue, queue, Close, FindClosed}
-use Rattle.queue_calls.specs.Calls.{Event, CloseBegin, CloseEnd, Idle, Closing, Consumer, Resting, Taking, Took, FoundEmpty, FoundClosed, Point, point, CanLeadTo}
+use Rattle.std.proofs.Common.{◌≡◌, ◌⊎◌, inl, inr, ℕ, Bool, true, false, List, [], ◌∷◌, ◌++◌, length, refl, sym, ap, subst, ◌∙◌, arith}
+use Rattle.queue_calls.specs.Queue.{Capacity, Queue, queue, IsDrained, Close, FindClosed}
+use Rattle.queue_calls.specs.Calls.{Event, CloseBegin, CloseEnd, Idle, Closing, Consumer, Resting, Taking, FoundClosed, Point, point, CanLeadTo}
 use Rattle.queue_calls.specs.declared.turns.PutTurn.TheVariants.{Free, Closes}
 use Rattle.queue_calls.specs.declared.turns.TakeTurn.{TakeTurn}
 use Rattle.queue_calls.specs.declared.turns.TakeTurn.TheVariants.{Rests, Waits}
@@ -16,25 +16,21 @@ record Earlier (take : TakeTurn) (c : Consumer) (q : Queue) : Type 0 where
   before : Consumer
   same : taken_by before ≡ taken_by c
   fits : FitsTake take before (queue q.items false)
-  later : (before ≡ c) ⊎ ((before ≡ Taking) × (c ≡ FoundClosed) × (q.items ≡ []) × (q.closed ≡ true))
+  later : (before ≡ c) ⊎ ((wanted : ℕ) × (before ≡ Taking 0 [] wanted) × (c ≡ FoundClosed) × IsDrained q)
 
 earlier : (take : TakeTurn) (c : Consumer) (q : Queue) → FitsTake take c q → Earlier take c q
 earlier Rests Resting q f = record { before = Resting; same = refl; fits = tt; later = inl refl }
-earlier Rests Taking q f = absurd f
-earlier Rests (Took item) q f = absurd f
-earlier Rests FoundEmpty q f = absurd f
+earlier Rests (Taking lacked took left) q f = absurd f
 earlier Rests FoundClosed q f = absurd f
-earlier (Waits empty) Resting q f = absurd f
-earlier (Waits empty) Taking q f = record { before = Taking; same = refl; fits = tt; later = inl refl }
-earlier (Waits empty) (Took item) q f = record { before = Took item; same = refl; fits = tt; later = inl refl }
-earlier (Waits empty) FoundEmpty q f = record { before = FoundEmpty; same = refl; fits = f; later = inl refl }
-earlier (Waits empty) FoundClosed q f = record { before = Taking; same = refl; fits = tt; later = inr (refl, refl, f.0, f.1) }
+earlier (Waits wanted before ended) Resting q f = absurd f
+earlier (Waits wanted before ended) (Taking lacked took left) q f = record { before = Taking lacked took left; same = refl; fits = f; later = inl refl }
+earlier (Waits wanted before ended) FoundClosed q f = record { before = Taking 0 [] wanted; same = refl; fits = (omega arith, inl refl); later = inr (wanted, refl, refl, f) }
 
 -- a queue that is closed, and one that is open
 as_closed : (q : Queue) (b : Bool) → q.closed ≡ b → q ≡ queue q.items b
 as_closed q b e = let F : Bool → Type 0 = λ z. queue q.items z ≡ queue q.items b in subst F (sym e) refl
 
-module _ (capacity : ℕ) (h : List Event) (inside : List ℕ) (take' : TakeTurn) where
+module _ (capacity : Capacity) (h : List Event) (inside : List ℕ) (take' : TakeTurn) where
   -- the close took effect already, behind the begin
   took_effect :
       Keeps capacity h inside Free take' false → (t : Point) → t.producer ≡ Closing true → t.queue.closed ≡ true →
@@ -57,14 +53,14 @@ module _ (capacity : ℕ) (h : List Event) (inside : List ℕ) (take' : TakeTurn
       elim w.later [
         | inl e ↦ subst (λ z. C (point t.queue t.producer z)) e there
         | inr f ↦ (
-            let (eb, et, none, shut) = f in
+            let (wanted, eb, et, none) = f in
             goes capacity (h ++ CloseBegin ∷ []) (point t.queue t.producer w.before) t FindClosed there
-            (record { queue = (none, shut, refl); producer = refl; consumer = (eb, et) }))
+            (record { queue = (none, refl); producer = refl; consumer = (wanted, eb, et) }))
       ]
 
   begins_open : (t : Point) → Keeps capacity h inside Free take' false → Describes capacity inside (Closes false) take' false t → CanLeadTo capacity (h ++ CloseBegin ∷ []) t
   begins_open t k d =
-      let (done, ep, ec, es) = closes_closing false false t.queue.closed t.producer d.producer in
+      let (done, ep, ec, es) = closes_closing capacity false false t.queue.closed t.producer d.producer in
       by_done done ep (ec refl)
     where
       by_done : (done : Bool) → t.producer ≡ Closing done → t.queue.closed ≡ done → CanLeadTo capacity (h ++ CloseBegin ∷ []) t
@@ -77,7 +73,7 @@ module _ (capacity : ℕ) (h : List Event) (inside : List ℕ) (take' : TakeTurn
 
   begins_shut : (t : Point) → Keeps capacity h inside Free take' true → Describes capacity inside (Closes true) take' true t → CanLeadTo capacity (h ++ CloseBegin ∷ []) t
   begins_shut t k d =
-      let (done, ep, ec, es) = closes_closing true true t.queue.closed t.producer d.producer in
+      let (done, ep, ec, es) = closes_closing capacity true true t.queue.closed t.producer d.producer in
       let closed : t.queue.closed ≡ true = es refl in
       let d' = with_producer capacity inside (Closes true) take' true t d (Closing done) ep in
       let r : CanLeadTo capacity (h ++ CloseBegin ∷ []) (point t.queue (Closing false) t.consumer) =
@@ -96,7 +92,7 @@ module _ (capacity : ℕ) (h : List Event) (inside : List ℕ) (take' : TakeTurn
 
   pub close_begin : (shut : Bool) → Keeps capacity h inside Free take' shut → Accepts capacity h CloseBegin inside (Closes shut) take' shut
   close_begin shut k =
-      accept capacity h CloseBegin inside inside Free (Closes shut) take' take' shut shut k (refl, refl) k.few (λ e. e) k.take_ok
+      accept capacity h CloseBegin inside inside Free (Closes shut) take' take' shut shut [] k (refl, refl) k.few (λ e. e) k.take_ok
       (λ s t d m.
       let (ep, ep') = m.producer in
       let d' = with_producer capacity inside Free take' shut s d Idle ep in
@@ -108,20 +104,20 @@ module _ (capacity : ℕ) (h : List Event) (inside : List ℕ) (take' : TakeTurn
       by_shut true k t d = begins_shut t k d
       by_shut false k t d = begins_open t k d
 
-  end_take_ok : (n m : ℕ) (shut : Bool) (t : TakeTurn) → IsSoundTake n m t shut → IsSoundTake 0 m t true
-  end_take_ok n m shut Rests f = tt
-  end_take_ok n m shut (Waits empty) f = λ e. inr refl
+  end_take_ok : (n : ℕ) (shut : Bool) (t : TakeTurn) → IsSoundTake 0 n t shut → IsSoundTake 0 n t true
+  end_take_ok n shut Rests f = tt
+  end_take_ok n shut (Waits wanted before ended) f = (f.0, λ e. (refl, (f.1 e).1))
 
   pub close_end : (again shut : Bool) → Keeps capacity h inside (Closes again) take' shut → Accepts capacity h CloseEnd inside Free take' true
   close_end again shut k =
-      accept capacity h CloseEnd inside inside (Closes again) Free take' take' shut true k (refl, refl) k.few tt (end_take_ok 0 (length inside) shut take' k.take_ok)
+      accept capacity h CloseEnd inside inside (Closes again) Free take' take' shut true [] k (refl, refl) k.few tt (end_take_ok (length inside) shut take' k.take_ok)
       (λ s t d m.
       let (ep, ep') = m.producer in
       let d' = with_producer capacity inside (Closes again) take' shut s d (Closing true) ep in
       described_at capacity inside Free take' true t s.queue Idle s.consumer m.queue ep' m.consumer
       (record { items = d'.items; room = d'.room; producer = by_again again k.put_ok d'.producer.0 d'.producer.1; consumer = d'.consumer }))
       (λ t d told.
-      let (ep, ec) = free_idle true t.queue.closed t.producer d.producer in
+      let (ep, ec) = free_idle capacity true t.queue.closed t.producer d.producer in
       let d' = with_producer capacity inside Free take' true t d Idle ep in
       happens capacity h (point t.queue (Closing true) t.consumer) t CloseEnd
       (k.sound (point t.queue (Closing true) t.consumer) (record { items = d'.items; room = d.room; producer = ((λ e. ec), (λ e. ec)); consumer = d.consumer }) tt)

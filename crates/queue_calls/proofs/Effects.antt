@@ -1,17 +1,18 @@
 -- Where an operation takes effect, what an auditor keeps describes the point that follows.
-use Rattle.std.proofs.Common.{◌≡◌, inl, inr, ℕ, suc, ◌<◌, ◌≤◌, Bool, true, false, List, [], ◌∷◌, ◌++◌, length, refl, sym, ap, subst, ◌∙◌, arith, length-append, append_assoc}
-use Rattle.queue_calls.specs.Queue.{Enqueue, FindFull, FindShut, Close, Dequeue, FindEmpty, FindClosed, Queue, queue}
-use Rattle.queue_calls.specs.Calls.{Producer, Idle, Putting, FoundFull, FoundShut, Closing, Consumer, Resting, Taking, Took, FoundEmpty, FoundClosed, Point, point}
+use Rattle.std.proofs.Common.{◌≡◌, inr, ℕ, suc, ◌+◌, ◌<◌, ◌≤◌, Bool, true, false, List, [], ◌∷◌, ◌++◌, length, refl, sym, ap, subst, ◌∙◌, arith, length-append, append_assoc}
+use Rattle.queue_calls.specs.Queue.{Capacity, HasRoom, LacksRoom, Enqueue, FindNoRoom, FindShut, Close, Dequeue, FindFewer, FindClosed, Queue, queue, IsDrained}
+use Rattle.queue_calls.specs.Calls.{Producer, Idle, Putting, FoundShut, Closing, Consumer, Resting, Taking, FoundClosed, Point, point}
 use Rattle.queue_calls.specs.declared.turns.PutTurn.{PutTurn}
 use Rattle.queue_calls.specs.declared.turns.PutTurn.TheVariants.{Free, Offers, Late, Closes}
 use Rattle.queue_calls.specs.declared.turns.TakeTurn.{TakeTurn}
 use Rattle.queue_calls.specs.declared.turns.TakeTurn.TheVariants.{Rests, Waits}
 use Rattle.queue_calls.specs.State.{taken_by, left_by, FitsPut, FitsTake, Describes, offered_by, IsSoundPut, IsSoundTake}
+use Rattle.queue_calls.proofs.Rooms.{holds_fewer, holds_one_more, lacks_with_more}
 use Rattle.queue_calls.proofs.Points.{Stays}
 
 -- a point, told by its parts
 pub described_at :
-    (capacity : ℕ) (inside : List ℕ) (put : PutTurn) (take : TakeTurn) (shut : Bool) (t : Point) (q : Queue) (p : Producer) (c : Consumer) →
+    (capacity : Capacity) (inside : List ℕ) (put : PutTurn) (take : TakeTurn) (shut : Bool) (t : Point) (q : Queue) (p : Producer) (c : Consumer) →
     t.queue ≡ q → t.producer ≡ p → t.consumer ≡ c → Describes capacity inside put take shut (point q p c) → Describes capacity inside put take shut t
 described_at capacity inside put take shut t q p c eq ep ec d =
     let D : Point → Type 0 = λ z. Describes capacity inside put take shut z in
@@ -20,7 +21,7 @@ described_at capacity inside put take shut t q p c eq ep ec d =
     subst (λ z. D (point t.queue t.producer z)) (sym ec) d2
 
 pub described_as :
-    (capacity : ℕ) (inside : List ℕ) (put : PutTurn) (take : TakeTurn) (shut : Bool) (s : Point) (p : Producer) (c : Consumer) →
+    (capacity : Capacity) (inside : List ℕ) (put : PutTurn) (take : TakeTurn) (shut : Bool) (s : Point) (p : Producer) (c : Consumer) →
     s.producer ≡ p → s.consumer ≡ c → Describes capacity inside put take shut s → Describes capacity inside put take shut (point s.queue p c)
 described_as capacity inside put take shut s p c ep ec d =
     let D : Point → Type 0 = λ z. Describes capacity inside put take shut z in
@@ -30,51 +31,58 @@ described_as capacity inside put take shut s p c ep ec d =
 -- what the consumer found of an open queue stays so
 pub fits_while_open : (take : TakeTurn) (c : Consumer) (q q' : Queue) → q.closed ≡ false → FitsTake take c q → FitsTake take c q'
 fits_while_open Rests Resting q q' o f = tt
-fits_while_open Rests Taking q q' o f = absurd f
-fits_while_open Rests (Took item) q q' o f = absurd f
-fits_while_open Rests FoundEmpty q q' o f = absurd f
+fits_while_open Rests (Taking lacked took left) q q' o f = absurd f
 fits_while_open Rests FoundClosed q q' o f = absurd f
-fits_while_open (Waits empty) Resting q q' o f = absurd f
-fits_while_open (Waits empty) Taking q q' o f = tt
-fits_while_open (Waits empty) (Took item) q q' o f = tt
-fits_while_open (Waits empty) FoundEmpty q q' o f = f
-fits_while_open (Waits empty) FoundClosed q q' o (e, f) = absurd (cc)
+fits_while_open (Waits wanted before ended) Resting q q' o f = absurd f
+fits_while_open (Waits wanted before ended) (Taking lacked took left) q q' o f = f
+fits_while_open (Waits wanted before ended) FoundClosed q q' o (e, f) = absurd (cc)
 
-module _ (capacity : ℕ) (inside : List ℕ) (take : TakeTurn) (shut : Bool) where
+-- a take that found the same may have taken other items, with as many to come
+pub fits_alike :
+    (take : TakeTurn) (lacked : ℕ) (took took' : List ℕ) (left left' : ℕ) (q q' : Queue) → length took + left ≡ length took' + left' →
+    FitsTake take (Taking lacked took left) q → FitsTake take (Taking lacked took' left') q'
+fits_alike Rests lacked took took' left left' q q' e f = absurd f
+fits_alike (Waits wanted before ended) lacked took took' left left' q q' e f = (omega (arith, e, f.0), f.1)
+
+some_items : (xs : List ℕ) → (xs ≡ [] → ⊥) → 0 < length xs
+some_items [] n = absurd (n refl)
+some_items (x ∷ xs) n = omega arith
+
+module _ (capacity : Capacity) (inside : List ℕ) (take : TakeTurn) (shut : Bool) where
   abbrev Here : PutTurn → Point → Type 0
   Here put s = Describes capacity inside put take shut s
 
   enqueue :
-      (put : PutTurn) (q : Queue) (c : Consumer) (done item : ℕ) (left : List ℕ) → length q.items < capacity → q.closed ≡ false →
-      Here put (point q (Putting done (item ∷ left)) c) → Here put (point (queue (q.items ++ item ∷ []) false) (Putting (suc done) left) c)
-  enqueue Free q c done item left l o d = absurd d.producer
-  enqueue (Offers offered full) q c done item left l o d =
+      (put : PutTurn) (q : Queue) (c : Consumer) (lacked done item : ℕ) (left : List ℕ) → HasRoom capacity (length q.items) → q.closed ≡ false →
+      Here put (point q (Putting lacked done (item ∷ left)) c) → Here put (point (queue (q.items ++ item ∷ []) false) (Putting lacked (suc done) left) c)
+  enqueue Free q c lacked done item left l o d = absurd d.producer
+  enqueue (Offers offered before) q c lacked done item left l o d =
       record {
         items = d.items ∙ ap (λ z. taken_by c ++ z) (sym (append_assoc q.items (item ∷ []) left));
-        room = omega (arith, l, length-append q.items (item ∷ []));
-        producer = (omega (arith, d.producer.0), refl);
+        room = holds_fewer capacity (length (q.items ++ item ∷ [])) (suc (length q.items)) (omega (arith, length-append q.items (item ∷ []))) (holds_one_more capacity (length q.items) l);
+        producer = (omega (arith, d.producer.0), refl, d.producer.2);
         consumer = fits_while_open take c q (queue (q.items ++ item ∷ []) false) o d.consumer;
       }
-  enqueue Late q c done item left l o d = let f : q.closed ≡ true = d.producer.1 in absurd (cc)
-  enqueue (Closes again) q c done item left l o d = absurd d.producer
+  enqueue (Late offered) q c lacked done item left l o d = let f : q.closed ≡ true = d.producer.2 in absurd (cc)
+  enqueue (Closes again) q c lacked done item left l o d = absurd d.producer
 
-  find_full :
-      (put : PutTurn) (q : Queue) (c : Consumer) (items : List ℕ) → IsSoundPut capacity (length inside) put shut → length q.items ≡ capacity → q.closed ≡ false →
-      Here put (point q (Putting 0 items) c) → Here put (point q (FoundFull items) c)
-  find_full Free q c items ok l o d = absurd d.producer
-  find_full (Offers offered true) q c items ok l o d =
-      record { items = d.items; room = d.room; producer = (refl, omega (arith, d.producer.0), o); consumer = d.consumer }
-  find_full (Offers offered false) q c items ok l o d =
-      absurd (omega (arith, ok.1 refl, ap length d.items, length-append (taken_by c) (q.items ++ items), length-append q.items items, l, d.producer.0))
-  find_full Late q c items ok l o d = let f : q.closed ≡ true = d.producer.1 in absurd (cc)
-  find_full (Closes again) q c items ok l o d = absurd d.producer
+  find_no_room :
+      (put : PutTurn) (q : Queue) (c : Consumer) (items : List ℕ) (count : ℕ) → IsSoundPut (length inside) put shut → LacksRoom capacity (length q.items) count → q.closed ≡ false →
+      Here put (point q (Putting 0 0 items) c) → Here put (point q (Putting count 0 items) c)
+  find_no_room Free q c items count ok l o d = absurd d.producer
+  find_no_room (Offers offered before) q c items count ok l o d =
+      let few : length q.items ≤ before =
+      omega (arith, ok.1, ap length d.items, length-append (taken_by c) (q.items ++ items), length-append q.items items, d.producer.0) in
+      record { items = d.items; room = d.room; producer = (d.producer.0, o, inr (lacks_with_more capacity (length q.items) before count few l)); consumer = d.consumer }
+  find_no_room (Late offered) q c items count ok l o d = let f : q.closed ≡ true = d.producer.2 in absurd (cc)
+  find_no_room (Closes again) q c items count ok l o d = absurd d.producer
 
   find_shut :
       (put : PutTurn) (q : Queue) (c : Consumer) (items : List ℕ) → q.closed ≡ true →
-      Here put (point q (Putting 0 items) c) → Here put (point q FoundShut c)
+      Here put (point q (Putting 0 0 items) c) → Here put (point q FoundShut c)
   find_shut Free q c items o d = absurd d.producer
-  find_shut (Offers offered full) q c items o d = let f : q.closed ≡ false = d.producer.1 in absurd (cc)
-  find_shut Late q c items o d = record { items = d.items; room = d.room; producer = o; consumer = d.consumer }
+  find_shut (Offers offered before) q c items o d = let f : q.closed ≡ false = d.producer.1 in absurd (cc)
+  find_shut (Late offered) q c items o d = record { items = d.items; room = d.room; producer = o; consumer = d.consumer }
   find_shut (Closes again) q c items o d = absurd d.producer
 
   pub close_found : (c : Consumer) (q : Queue) → FitsTake take c q → FitsTake take c (queue q.items true)
@@ -82,126 +90,121 @@ module _ (capacity : ℕ) (inside : List ℕ) (take : TakeTurn) (shut : Bool) wh
     where
       by_case : (take : TakeTurn) (c : Consumer) → FitsTake take c q → FitsTake take c (queue q.items true)
       by_case Rests Resting f = tt
-      by_case Rests Taking f = absurd f
-      by_case Rests (Took item) f = absurd f
-      by_case Rests FoundEmpty f = absurd f
+      by_case Rests (Taking lacked took left) f = absurd f
       by_case Rests FoundClosed f = absurd f
-      by_case (Waits empty) Resting f = absurd f
-      by_case (Waits empty) Taking f = tt
-      by_case (Waits empty) (Took item) f = tt
-      by_case (Waits empty) FoundEmpty f = f
-      by_case (Waits empty) FoundClosed (e, f) = (e, refl)
+      by_case (Waits wanted before ended) Resting f = absurd f
+      by_case (Waits wanted before ended) (Taking lacked took left) f = f
+      by_case (Waits wanted before ended) FoundClosed (e, f) = (e, refl)
 
   close :
       (put : PutTurn) (q : Queue) (c : Consumer) → Here put (point q (Closing false) c) → Here put (point (queue q.items true) (Closing true) c)
   close Free q c d = absurd d.producer
-  close (Offers offered full) q c d = absurd d.producer
-  close Late q c d = absurd d.producer
+  close (Offers offered before) q c d = absurd d.producer
+  close (Late offered) q c d = absurd d.producer
   close (Closes again) q c d = record { items = d.items; room = d.room; producer = ((λ _. refl), (λ _. refl)); consumer = close_found c q d.consumer }
 
   -- what stays of the producer where the queue is as open or closed as it was
-  fits_put : (put : PutTurn) (p : Producer) (a b : Bool) → b ≡ a → FitsPut put shut p a → FitsPut put shut p b
-  fits_put put p a b e f = subst (FitsPut put shut p) (sym e) f
+  fits_put : (put : PutTurn) (p : Producer) (a b : Bool) → b ≡ a → FitsPut capacity put shut p a → FitsPut capacity put shut p b
+  fits_put put p a b e f = subst (FitsPut capacity put shut p) (sym e) f
 
   dequeue :
-      (put : PutTurn) (q after : Queue) (p : Producer) (item : ℕ) → q.items ≡ item ∷ after.items → after.closed ≡ q.closed →
-      Here put (point q p Taking) → Here put (point after p (Took item))
-  dequeue put q after p item e o d =
+      (put : PutTurn) (q after : Queue) (p : Producer) (lacked : ℕ) (took : List ℕ) (left item : ℕ) → q.items ≡ item ∷ after.items → after.closed ≡ q.closed →
+      Here put (point q p (Taking lacked took (suc left))) → Here put (point after p (Taking lacked (took ++ item ∷ []) left))
+  dequeue put q after p lacked took left item e o d =
       record {
-        items = d.items ∙ ap (λ z. z ++ left_by put p) e;
-        room = omega (arith, ap length e, d.room);
+        items = d.items ∙ (ap (λ z. took ++ (z ++ left_by put p)) e ∙ sym (append_assoc took (item ∷ []) (after.items ++ left_by put p)));
+        room = holds_fewer capacity (length after.items) (length q.items) (omega (arith, ap length e)) d.room;
         producer = fits_put put p q.closed after.closed o d.producer;
-        consumer = by_case take d.consumer;
+        consumer = fits_alike take lacked took (took ++ item ∷ []) (suc left) left q after (omega (arith, length-append took (item ∷ []))) d.consumer;
       }
-    where
-      by_case : (take : TakeTurn) → FitsTake take Taking q → FitsTake take (Took item) after
-      by_case Rests f = absurd f
-      by_case (Waits empty) f = tt
 
   -- the items left are no more than those offered, and the queue that a put found before a close is open
-  pub few_left : (put : PutTurn) (p : Producer) (closed : Bool) → FitsPut put shut p closed → length (left_by put p) ≤ offered_by put
+  pub few_left : (put : PutTurn) (p : Producer) (closed : Bool) → FitsPut capacity put shut p closed → length (left_by put p) ≤ offered_by put
   few_left Free p closed f = omega arith
-  few_left (Offers offered full) Idle closed f = absurd f
-  few_left (Offers offered full) (Putting done left) closed f = omega (arith, f.0)
-  few_left (Offers offered full) (FoundFull items) closed f = omega (arith, f.1)
-  few_left (Offers offered full) FoundShut closed f = absurd f
-  few_left (Offers offered full) (Closing done) closed f = absurd f
-  few_left Late p closed f = omega arith
+  few_left (Offers offered before) Idle closed f = absurd f
+  few_left (Offers offered before) (Putting lacked done left) closed f = omega (arith, f.0)
+  few_left (Offers offered before) FoundShut closed f = absurd f
+  few_left (Offers offered before) (Closing done) closed f = absurd f
+  few_left (Late offered) p closed f = omega arith
   few_left (Closes again) p closed f = omega arith
 
-  pub shut_closed : (put : PutTurn) (p : Producer) (closed : Bool) → IsSoundPut capacity (length inside) put shut → FitsPut put shut p closed → shut ≡ true → closed ≡ true
-  shut_closed Free Idle closed ok f e = f ∙ e
-  shut_closed Free (Putting done left) closed ok f e = absurd f
-  shut_closed Free (FoundFull items) closed ok f e = absurd f
-  shut_closed Free FoundShut closed ok f e = absurd f
-  shut_closed Free (Closing done) closed ok f e = absurd f
-  shut_closed (Offers offered full) p closed ok f e = let o : shut ≡ false = ok.0 in absurd (cc)
-  shut_closed Late Idle closed ok f e = absurd f
-  shut_closed Late (Putting done left) closed ok f e = f.1
-  shut_closed Late (FoundFull items) closed ok f e = absurd f
-  shut_closed Late FoundShut closed ok f e = f
-  shut_closed Late (Closing done) closed ok f e = absurd f
-  shut_closed (Closes again) Idle closed ok f e = absurd f
-  shut_closed (Closes again) (Putting done left) closed ok f e = absurd f
-  shut_closed (Closes again) (FoundFull items) closed ok f e = absurd f
-  shut_closed (Closes again) FoundShut closed ok f e = absurd f
-  shut_closed (Closes again) (Closing done) closed ok f e = f.1 e
+  pub shut_closed : (n : ℕ) (put : PutTurn) (p : Producer) (closed : Bool) → IsSoundPut n put shut → FitsPut capacity put shut p closed → shut ≡ true → closed ≡ true
+  shut_closed n Free Idle closed ok f e = f ∙ e
+  shut_closed n Free (Putting lacked done left) closed ok f e = absurd f
+  shut_closed n Free FoundShut closed ok f e = absurd f
+  shut_closed n Free (Closing done) closed ok f e = absurd f
+  shut_closed n (Offers offered before) p closed ok f e = let o : shut ≡ false = ok.0 in absurd (cc)
+  shut_closed n (Late offered) Idle closed ok f e = absurd f
+  shut_closed n (Late offered) (Putting lacked done left) closed ok f e = f.2
+  shut_closed n (Late offered) FoundShut closed ok f e = f
+  shut_closed n (Late offered) (Closing done) closed ok f e = absurd f
+  shut_closed n (Closes again) Idle closed ok f e = absurd f
+  shut_closed n (Closes again) (Putting lacked done left) closed ok f e = absurd f
+  shut_closed n (Closes again) FoundShut closed ok f e = absurd f
+  shut_closed n (Closes again) (Closing done) closed ok f e = f.1 e
 
-  find_empty :
-      (put : PutTurn) (q : Queue) (p : Producer) → IsSoundPut capacity (length inside) put shut → IsSoundTake (offered_by put) (length inside) take shut →
-      q.items ≡ [] → q.closed ≡ false → Here put (point q p Taking) → Here put (point q p FoundEmpty)
-  find_empty put q p ok took e o d = record { items = d.items; room = d.room; producer = d.producer; consumer = by_case take took d.consumer }
+  find_fewer :
+      (put : PutTurn) (q : Queue) (p : Producer) (wanted count : ℕ) → IsSoundPut (length inside) put shut → IsSoundTake (offered_by put) (length inside) take shut →
+      length q.items < count → ¬ IsDrained q → Here put (point q p (Taking 0 [] wanted)) → Here put (point q p (Taking count [] wanted))
+  find_fewer put q p wanted count ok took l some d = record { items = d.items; room = d.room; producer = d.producer; consumer = by_case take took d.consumer }
     where
-      by_case : (take : TakeTurn) → IsSoundTake (offered_by put) (length inside) take shut → FitsTake take Taking q → FitsTake take FoundEmpty q
+      by_case : (take : TakeTurn) → IsSoundTake (offered_by put) (length inside) take shut → FitsTake take (Taking 0 [] wanted) q → FitsTake take (Taking count [] wanted) q
       by_case Rests took f = absurd f
-      by_case (Waits true) took f = refl
-      by_case (Waits false) took f = elim (took refl) [
-        | inl l ↦ absurd (omega (arith, l, ap length d.items, length-append q.items (left_by put p), ap length e, few_left put p q.closed d.producer))
-        | inr s ↦ (let c : q.closed ≡ true = shut_closed put p q.closed ok d.producer s in absurd (cc))
-      ]
+      by_case (Waits wanted' before ended) took f =
+          let long : length inside ≡ length q.items + length (left_by put p) = omega (arith, ap length d.items, length-append q.items (left_by put p)) in
+          let few : length (left_by put p) ≤ offered_by put = few_left put p q.closed d.producer in (
+            f.0,
+            inr (
+              omega (arith, took.0, l, long, few),
+              λ e.
+                  let (s, all) = took.1 e in
+                  let c : q.closed ≡ true = shut_closed (length inside) put p q.closed ok d.producer s in
+                  omega (arith, all, long, some_items q.items (λ n. some (n, c))),
+            ),
+          )
 
   find_closed :
-      (put : PutTurn) (q : Queue) (p : Producer) → q.items ≡ [] → q.closed ≡ true → Here put (point q p Taking) → Here put (point q p FoundClosed)
-  find_closed put q p e o d = record { items = d.items; room = d.room; producer = d.producer; consumer = by_case take d.consumer }
+      (put : PutTurn) (q : Queue) (p : Producer) (wanted : ℕ) → IsDrained q → Here put (point q p (Taking 0 [] wanted)) → Here put (point q p FoundClosed)
+  find_closed put q p wanted none d = record { items = d.items; room = d.room; producer = d.producer; consumer = by_case take d.consumer }
     where
-      by_case : (take : TakeTurn) → FitsTake take Taking q → FitsTake take FoundClosed q
+      by_case : (take : TakeTurn) → FitsTake take (Taking 0 [] wanted) q → FitsTake take FoundClosed q
       by_case Rests f = absurd f
-      by_case (Waits empty) f = (e, o)
+      by_case (Waits wanted' before ended) f = none
 
   pub stays :
-      (put : PutTurn) → IsSoundPut capacity (length inside) put shut → IsSoundTake (offered_by put) (length inside) take shut →
+      (put : PutTurn) → IsSoundPut (length inside) put shut → IsSoundTake (offered_by put) (length inside) take shut →
       Stays capacity (Describes capacity inside put take shut)
   stays put ok took s t (Enqueue item) d l =
-      let (done, left, ep, ep') = l.producer in
+      let (lacked, done, left, ep, ep') = l.producer in
       let (room, o, eq) = l.queue in
-      described_at capacity inside put take shut t (queue (s.queue.items ++ item ∷ []) false) (Putting (suc done) left) s.consumer eq ep' l.consumer
-      (enqueue put s.queue s.consumer done item left room o (described_as capacity inside put take shut s (Putting done (item ∷ left)) s.consumer ep refl d))
-  stays put ok took s t FindFull d l =
+      described_at capacity inside put take shut t (queue (s.queue.items ++ item ∷ []) false) (Putting lacked (suc done) left) s.consumer eq ep' l.consumer
+      (enqueue put s.queue s.consumer lacked done item left room o (described_as capacity inside put take shut s (Putting lacked done (item ∷ left)) s.consumer ep refl d))
+  stays put ok took s t (FindNoRoom count) d l =
       let (items, ep, ep') = l.producer in
-      let (full, o, eq) = l.queue in
-      described_at capacity inside put take shut t s.queue (FoundFull items) s.consumer eq ep' l.consumer
-      (find_full put s.queue s.consumer items ok full o (described_as capacity inside put take shut s (Putting 0 items) s.consumer ep refl d))
+      let (lacks, o, eq) = l.queue in
+      described_at capacity inside put take shut t s.queue (Putting count 0 items) s.consumer eq ep' l.consumer
+      (find_no_room put s.queue s.consumer items count ok lacks o (described_as capacity inside put take shut s (Putting 0 0 items) s.consumer ep refl d))
   stays put ok took s t FindShut d l =
       let (items, ep, ep') = l.producer in
       let (closed, eq) = l.queue in
       described_at capacity inside put take shut t s.queue FoundShut s.consumer eq ep' l.consumer
-      (find_shut put s.queue s.consumer items closed (described_as capacity inside put take shut s (Putting 0 items) s.consumer ep refl d))
+      (find_shut put s.queue s.consumer items closed (described_as capacity inside put take shut s (Putting 0 0 items) s.consumer ep refl d))
   stays put ok took s t Close d l =
       let (ep, ep') = l.producer in
       described_at capacity inside put take shut t (queue s.queue.items true) (Closing true) s.consumer l.queue ep' l.consumer
       (close put s.queue s.consumer (described_as capacity inside put take shut s (Closing false) s.consumer ep refl d))
   stays put ok took s t (Dequeue item) d l =
-      let (ec, ec') = l.consumer in
+      let (lacked, items, left, ec, ec') = l.consumer in
       let (e, o) = l.queue in
-      described_at capacity inside put take shut t t.queue s.producer (Took item) refl l.producer ec'
-      (dequeue put s.queue t.queue s.producer item e o (described_as capacity inside put take shut s s.producer Taking refl ec d))
-  stays put ok took s t FindEmpty d l =
-      let (ec, ec') = l.consumer in
-      let (e, o, eq) = l.queue in
-      described_at capacity inside put take shut t s.queue s.producer FoundEmpty eq l.producer ec'
-      (find_empty put s.queue s.producer ok took e o (described_as capacity inside put take shut s s.producer Taking refl ec d))
+      described_at capacity inside put take shut t t.queue s.producer (Taking lacked (items ++ item ∷ []) left) refl l.producer ec'
+      (dequeue put s.queue t.queue s.producer lacked items left item e o (described_as capacity inside put take shut s s.producer (Taking lacked items (suc left)) refl ec d))
+  stays put ok took s t (FindFewer count) d l =
+      let (wanted, ec, ec') = l.consumer in
+      let (few, some, eq) = l.queue in
+      described_at capacity inside put take shut t s.queue s.producer (Taking count [] wanted) eq l.producer ec'
+      (find_fewer put s.queue s.producer wanted count ok took few some (described_as capacity inside put take shut s s.producer (Taking 0 [] wanted) refl ec d))
   stays put ok took s t FindClosed d l =
-      let (ec, ec') = l.consumer in
-      let (e, o, eq) = l.queue in
+      let (wanted, ec, ec') = l.consumer in
+      let (none, eq) = l.queue in
       described_at capacity inside put take shut t s.queue s.producer FoundClosed eq l.producer ec'
-      (find_closed put s.queue s.producer e o (described_as capacity inside put take shut s s.producer Taking refl ec d))
+      (find_closed put s.queue s.producer wanted none (described_as capacity inside put take shut s s.producer (Taking 0 [] wanted) refl ec d))

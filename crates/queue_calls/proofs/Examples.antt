@@ -1,30 +1,53 @@
 -- Operations that come one after the other at a queue, and some that do not.
-use Rattle.std.proofs.Common.{true, false, [], ◌∷◌, length, refl, ap, arith}
-use Rattle.queue_calls.specs.Queue.{Enqueue, FindFull, FindShut, Close, Dequeue, FindEmpty, FindClosed, Queue, queue, IsLegal}
+use Rattle.std.proofs.Common.{◌≡◌, true, false, [], ◌∷◌, length, refl, ap, arith}
+use Rattle.queue_calls.specs.Queue.{Unbounded, Between, exactly, Enqueue, FindNoRoom, FindFull, FindShut, Close, Dequeue, FindFewer, FindEmpty, FindClosed, Queue, queue, IsLegal}
 
 -- these come one after the other at a queue of one cell
-some_legal : IsLegal 1 (queue [] false) (FindEmpty ∷ Enqueue 1 ∷ FindFull ∷ Close ∷ FindShut ∷ Dequeue 1 ∷ FindClosed ∷ [])
+some_legal : IsLegal (exactly 1) (queue [] false) (FindEmpty ∷ Enqueue 1 ∷ FindFull ∷ FindFewer 2 ∷ Close ∷ FindShut ∷ Dequeue 1 ∷ FindClosed ∷ [])
 some_legal = (
   queue [] false,
-  (refl, refl, refl),
+  (omega arith, (λ d. let o : false ≡ true = d.1 in cc), refl),
   (
     queue (1 ∷ []) false,
     (omega arith, refl, refl),
     (
       queue (1 ∷ []) false,
-      (refl, refl, refl),
+      (omega arith, refl, refl),
       (
-        queue (1 ∷ []) true,
-        refl,
-        (queue (1 ∷ []) true, (refl, refl), (queue [] true, (refl, refl), (queue [] true, (refl, refl, refl), tt))),
+        queue (1 ∷ []) false,
+        (omega arith, (λ d. let o : false ≡ true = d.1 in cc), refl),
+        (
+          queue (1 ∷ []) true,
+          refl,
+          (queue (1 ∷ []) true, (refl, refl), (queue [] true, (refl, refl), (queue [] true, ((refl, refl), refl), tt))),
+        ),
       ),
     ),
   ),
 )
 
--- and these do not: two items in one cell, a queue that is found empty with an item in it, and items that come out in the other order
-too_many : ¬ IsLegal 1 (queue [] false) (Enqueue 1 ∷ Enqueue 2 ∷ [])
+-- a queue that may be full with one inside, or hold a second
+between_legal : IsLegal (Between 1 2) (queue [] false) (FindNoRoom 2 ∷ Enqueue 1 ∷ FindFull ∷ Enqueue 2 ∷ [])
+between_legal = (
+  queue [] false,
+  (omega arith, refl, refl),
+  (
+    queue (1 ∷ []) false,
+    (omega arith, refl, refl),
+    (queue (1 ∷ []) false, (omega arith, refl, refl), (queue (1 ∷ 2 ∷ []) false, (omega arith, refl, refl), tt)),
+  ),
+)
+
+-- and these do not: two items in one cell, a queue with no bound that lacks room, one that is found empty with an item in it, and one
+-- that is closed and empty and is found to have fewer than it may have
+too_many : ¬ IsLegal (exactly 1) (queue [] false) (Enqueue 1 ∷ Enqueue 2 ∷ [])
 too_many r = omega (arith, r.2.1.0, ap (λ (q : Queue). length q.items) r.1.2)
 
-not_empty : ¬ IsLegal 1 (queue [] false) (Enqueue 1 ∷ FindEmpty ∷ [])
-not_empty r = omega (arith, ap length r.2.1.0, ap (λ (q : Queue). length q.items) r.1.2)
+no_bound : ¬ IsLegal Unbounded (queue [] false) (FindNoRoom 9 ∷ [])
+no_bound r = r.1.0
+
+not_empty : ¬ IsLegal (exactly 1) (queue [] false) (Enqueue 1 ∷ FindEmpty ∷ [])
+not_empty r = omega (arith, r.2.1.0, ap (λ (q : Queue). length q.items) r.1.2)
+
+drained : ¬ IsLegal (exactly 1) (queue [] true) (FindFewer 2 ∷ [])
+drained r = r.1.1 (refl, refl)

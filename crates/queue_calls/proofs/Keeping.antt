@@ -1,14 +1,15 @@
 -- What an auditor keeps describes some point; and how it accepts or refuses an event.
 use Rattle.std.proofs.Common.{◌≡◌, ◌⊎◌, inl, inr, ℕ, ◌+◌, ◌-◌, ◌<◌, ◌≤◌, Bool, true, false, List, [], ◌∷◌, ◌++◌, length, take, drop, refl, sym, ap, subst, ◌∙◌, arith, length-append, length-drop}
-use Rattle.std.proofs.lemmas.List.{append-nil, take-append-drop}
-use Rattle.queue_calls.specs.Queue.{Queue, queue}
-use Rattle.queue_calls.specs.Calls.{Event, Happens, Idle, Putting, FoundShut, Closing, Consumer, Resting, Taking, Took, Point, point, Leads, CanLeadTo, IsLinearizable}
+use Rattle.std.proofs.lemmas.List.{append-nil, take-append-drop, length-take-le}
+use Rattle.queue_calls.specs.Queue.{Capacity, Queue, queue}
+use Rattle.queue_calls.specs.Calls.{Event, Happens, Idle, Putting, FoundShut, Closing, Consumer, Resting, Taking, Point, point, Leads, CanLeadTo, IsLinearizable}
 use Rattle.queue_calls.specs.declared.turns.PutTurn.{PutTurn}
 use Rattle.queue_calls.specs.declared.turns.PutTurn.TheVariants.{Free, Offers, Late, Closes}
 use Rattle.queue_calls.specs.declared.turns.TakeTurn.{TakeTurn}
 use Rattle.queue_calls.specs.declared.turns.TakeTurn.TheVariants.{Rests, Waits}
-use Rattle.queue_calls.specs.State.{taken_by, FitsTake, Describes, offered_by, asked_by, IsSoundPut, IsSoundTake, IsTold, Keeps, sides_of}
+use Rattle.queue_calls.specs.State.{Holds, taken_by, FitsTake, Describes, offered_by, asked_by, IsSoundPut, IsSoundTake, IsTold, Keeps, sides_of}
 use Rattle.queue_calls.specs.InTurn.{NoCall, Sides, sides, Turn, IsInTurn}
+use Rattle.queue_calls.proofs.Rooms.{holds_fewer, holds_none}
 use Rattle.queue_calls.proofs.TurnLemmas.{one_turn_more, last_turn, same_turns, linearizable_in_turn}
 use Rattle.queue_calls.proofs.Points.{last_event}
 use Rattle.queue_calls.proofs.Effects.{stays}
@@ -31,98 +32,119 @@ split xs n l = record {
   long = omega (arith, length-drop (length xs - n) xs, l);
 }
 
--- some point that is described
-abbrev pub Some : ℕ → List ℕ → PutTurn → TakeTurn → Bool → Type 0
-Some capacity inside put take shut = (s : Point) × Describes capacity inside put take shut s × IsTold put s.producer
+-- some point that is described, whatever items a put after a close has
+abbrev pub Some : Capacity → List ℕ → PutTurn → TakeTurn → Bool → Type 0
+Some capacity inside put take shut = (s : Point) × Describes capacity inside put take shut s × ((late : List ℕ) → IsTold late put s.producer)
 
 some_put :
-    (capacity : ℕ) (inside rest : List ℕ) (put : PutTurn) (take : TakeTurn) (shut : Bool) (c : Consumer) →
-    ((q : Queue) → FitsTake take c q) → inside ≡ taken_by c ++ rest → length rest ≤ capacity + offered_by put →
-    IsSoundPut capacity (length inside) put shut → Some capacity inside put take shut
-some_put capacity inside rest Free take shut c fits e l ok = (
+    (capacity : Capacity) (inside rest : List ℕ) (put : PutTurn) (take : TakeTurn) (shut : Bool) (c : Consumer) →
+    ((q : Queue) → FitsTake take c q) → inside ≡ taken_by c ++ rest → Holds capacity (length rest - offered_by put) → Some capacity inside put take shut
+some_put capacity inside rest Free take shut c fits e l = (
   point (queue rest shut) Idle c,
-  record { items = e ∙ ap (λ z. taken_by c ++ z) (sym (append-nil rest)); room = omega (arith, l); producer = refl; consumer = fits (queue rest shut) },
-  tt,
+  record {
+    items = e ∙ ap (λ z. taken_by c ++ z) (sym (append-nil rest));
+    room = holds_fewer capacity (length rest) (length rest - 0) (omega arith) l;
+    producer = refl;
+    consumer = fits (queue rest shut);
+  },
+  λ late. tt,
 )
-some_put capacity inside rest (Offers offered full) take shut c fits e l ok = elim (at_most_or_above offered (length rest)) [
+some_put capacity inside rest (Offers offered before) take shut c fits e l = elim (at_most_or_above offered (length rest)) [
   | inl few ↦ (
       let s : Split rest offered = split rest offered few in (
-        point (queue s.front false) (Putting 0 s.back) c,
+        point (queue s.front false) (Putting 0 0 s.back) c,
         record {
           items = e ∙ ap (λ z. taken_by c ++ z) s.parts;
-          room = omega (arith, l, s.long, ap length s.parts, length-append s.front s.back);
-          producer = (omega (arith, s.long), refl);
+          room = holds_fewer capacity (length s.front) (length rest - offered) (omega (arith, s.long, ap length s.parts, length-append s.front s.back)) l;
+          producer = (omega (arith, s.long), refl, inl refl);
           consumer = fits (queue s.front false);
         },
-        tt,
+        λ late. tt,
       ))
   | inr many ↦ (
-    point (queue [] false) (Putting (offered - length rest) rest) c,
-    record { items = e; room = omega arith; producer = (omega (arith, many), refl); consumer = fits (queue [] false) },
-    tt,
+    point (queue [] false) (Putting 0 (offered - length rest) rest) c,
+    record { items = e; room = holds_none capacity; producer = (omega (arith, many), refl, inl refl); consumer = fits (queue [] false) },
+    λ late. tt,
   )
 ]
-some_put capacity inside rest Late take shut c fits e l ok = (
+some_put capacity inside rest (Late offered) take shut c fits e l = (
   point (queue rest true) FoundShut c,
-  record { items = e ∙ ap (λ z. taken_by c ++ z) (sym (append-nil rest)); room = omega (arith, l); producer = refl; consumer = fits (queue rest true) },
-  tt,
+  record {
+    items = e ∙ ap (λ z. taken_by c ++ z) (sym (append-nil rest));
+    room = holds_fewer capacity (length rest) (length rest - 0) (omega arith) l;
+    producer = refl;
+    consumer = fits (queue rest true);
+  },
+  λ late. tt,
 )
-some_put capacity inside rest (Closes again) take shut c fits e l ok = (
+some_put capacity inside rest (Closes again) take shut c fits e l = (
   point (queue rest true) (Closing true) c,
   record {
     items = e ∙ ap (λ z. taken_by c ++ z) (sym (append-nil rest));
-    room = omega (arith, l);
+    room = holds_fewer capacity (length rest) (length rest - 0) (omega arith) l;
     producer = ((λ _. refl), (λ _. refl));
     consumer = fits (queue rest true);
   },
-  tt,
+  λ late. tt,
 )
 
 pub some :
-    (capacity : ℕ) (inside : List ℕ) (put : PutTurn) (take : TakeTurn) (shut : Bool) → length inside ≤ capacity + offered_by put + asked_by take →
-    IsSoundPut capacity (length inside) put shut → Some capacity inside put take shut
-some capacity inside put Rests shut l ok = some_put capacity inside inside put Rests shut Resting (λ q. tt) refl (omega (arith, l)) ok
-some capacity [] put (Waits empty) shut l ok = some_put capacity [] [] put (Waits empty) shut Taking (λ q. tt) refl (omega arith) ok
-some capacity (x ∷ inside) put (Waits empty) shut l ok =
-    some_put capacity (x ∷ inside) inside put (Waits empty) shut (Took x) (λ q. tt) refl (omega (arith, l)) ok
+    (capacity : Capacity) (inside : List ℕ) (put : PutTurn) (take : TakeTurn) (shut : Bool) → Holds capacity (length inside - (offered_by put + asked_by take)) →
+    Some capacity inside put take shut
+some capacity inside put Rests shut l =
+    some_put capacity inside inside put Rests shut Resting (λ q. tt) refl
+    (holds_fewer capacity (length inside - offered_by put) (length inside - (offered_by put + 0)) (omega arith) l)
+some capacity inside put (Waits wanted before ended) shut l = elim (at_most_or_above wanted (length inside)) [
+  | inl few ↦ (
+      let rest : List ℕ = drop wanted inside in
+      let long : length rest ≡ length inside - wanted = length-drop wanted inside in
+      some_put capacity inside rest put (Waits wanted before ended) shut (Taking 0 (take wanted inside) 0)
+      (λ q. (omega (arith, length-take-le wanted inside few), inl refl)) (sym (take-append-drop wanted inside))
+      (holds_fewer capacity (length rest - offered_by put) (length inside - (offered_by put + wanted)) (omega (arith, long)) l))
+  | inr many ↦
+      some_put capacity inside [] put (Waits wanted before ended) shut (Taking 0 inside (wanted - length inside))
+      (λ q. (omega (arith, many), inl refl)) (sym (append-nil inside))
+      (holds_fewer capacity (0 - offered_by put) 0 (omega arith) (holds_none capacity))
+]
 
 -- what an auditor says of a history with one event more
-abbrev pub Accepts : ℕ → List Event → Event → List ℕ → PutTurn → TakeTurn → Bool → Type 0
+abbrev pub Accepts : Capacity → List Event → Event → List ℕ → PutTurn → TakeTurn → Bool → Type 0
 Accepts capacity h e inside put take shut = Keeps capacity (h ++ e ∷ []) inside put take shut × IsLinearizable capacity (h ++ e ∷ [])
 
 -- it refuses an event that is in turn, where no point follows; or one that is out of turn
-abbrev pub Refused : ℕ → List Event → Event → List ℕ → PutTurn → TakeTurn → Bool → Type 0
+abbrev pub Refused : Capacity → List Event → Event → List ℕ → PutTurn → TakeTurn → Bool → Type 0
 Refused capacity h e inside put take shut = Keeps capacity h inside put take shut × (IsInTurn (h ++ e ∷ []) × ¬ IsLinearizable capacity (h ++ e ∷ []))
 
-abbrev pub TurnedAway : ℕ → List Event → Event → List ℕ → PutTurn → TakeTurn → Bool → Type 0
+abbrev pub TurnedAway : Capacity → List Event → Event → List ℕ → PutTurn → TakeTurn → Bool → Type 0
 TurnedAway capacity h e inside put take shut = Keeps capacity h inside put take shut × (¬ IsInTurn (h ++ e ∷ []) × ¬ IsLinearizable capacity (h ++ e ∷ []))
 
 -- it accepts where what it keeps describes just the points that follow
 pub accept :
-    (capacity : ℕ) (h : List Event) (e : Event) (inside inside' : List ℕ) (put put' : PutTurn) (take take' : TakeTurn) (shut shut' : Bool) →
-    Keeps capacity h inside put take shut → Turn (sides_of put take) e (sides_of put' take') → length inside' ≤ capacity + offered_by put' + asked_by take' →
-    IsSoundPut capacity (length inside') put' shut' → IsSoundTake (offered_by put') (length inside') take' shut' →
+    (capacity : Capacity) (h : List Event) (e : Event) (inside inside' : List ℕ) (put put' : PutTurn) (take take' : TakeTurn) (shut shut' : Bool) (late : List ℕ) →
+    Keeps capacity h inside put take shut → Turn (sides_of put take) e (sides_of put' take') → Holds capacity (length inside' - (offered_by put' + asked_by take')) →
+    IsSoundPut (length inside') put' shut' → IsSoundTake (offered_by put') (length inside') take' shut' →
     ((s t : Point) → Describes capacity inside put take shut s → Leads capacity s (Happens e) t → Describes capacity inside' put' take' shut' t) →
-    ((t : Point) → Describes capacity inside' put' take' shut' t → IsTold put' t.producer → CanLeadTo capacity (h ++ e ∷ []) t) →
+    ((t : Point) → Describes capacity inside' put' take' shut' t → IsTold late put' t.producer → CanLeadTo capacity (h ++ e ∷ []) t) →
     Accepts capacity h e inside' put' take' shut'
-accept capacity h e inside inside' put put' take take' shut shut' k turn few ok took after before = (
+accept capacity h e inside inside' put put' take take' shut shut' late k turn few ok took after before = (
   record {
-    has_room = k.has_room;
+    proper = k.proper;
     turns = one_turn_more h e (sides NoCall NoCall) (sides_of put take) (sides_of put' take') k.turns turn;
     few = few;
     put_ok = ok;
     take_ok = took;
+    late = late;
     sound = before;
     complete =
         λ t r.
         last_event capacity h e (Describes capacity inside' put' take' shut') (stays capacity inside' take' shut' put' ok took)
         (λ s t' r' l. after s t' (k.complete s r') l) t r;
   },
-  (let (s, d, told) = some capacity inside' put' take' shut' few ok in (s, before s d told)),
+  (let (s, d, told) = some capacity inside' put' take' shut' few in (s, before s d (told late))),
 )
 
 pub refuse :
-    (capacity : ℕ) (h : List Event) (e : Event) (inside : List ℕ) (put : PutTurn) (take : TakeTurn) (shut : Bool) (next : Sides) →
+    (capacity : Capacity) (h : List Event) (e : Event) (inside : List ℕ) (put : PutTurn) (take : TakeTurn) (shut : Bool) (next : Sides) →
     Keeps capacity h inside put take shut → Turn (sides_of put take) e next →
     ((s t : Point) → Describes capacity inside put take shut s → Leads capacity s (Happens e) t → ⊥) → Refused capacity h e inside put take shut
 refuse capacity h e inside put take shut next k turn none = (
@@ -134,7 +156,7 @@ refuse capacity h e inside put take shut next k turn none = (
 )
 
 pub turn_away :
-    (capacity : ℕ) (h : List Event) (e : Event) (inside : List ℕ) (put : PutTurn) (take : TakeTurn) (shut : Bool) →
+    (capacity : Capacity) (h : List Event) (e : Event) (inside : List ℕ) (put : PutTurn) (take : TakeTurn) (shut : Bool) →
     Keeps capacity h inside put take shut → ((next : Sides) → Turn (sides_of put take) e next → ⊥) → TurnedAway capacity h e inside put take shut
 turn_away capacity h e inside put take shut k none =
     let never : ¬ IsInTurn (h ++ e ∷ []) =
@@ -143,3 +165,15 @@ turn_away capacity h e inside put take shut k none =
     let same : s ≡ sides_of put take = same_turns h (sides NoCall NoCall) s (sides_of put take) before k.turns in
     none t (subst (λ x. Turn x e t) same last) in
     (k, (never, (λ l. never (linearizable_in_turn capacity (h ++ e ∷ []) l))))
+
+-- what is kept, where its parts are told otherwise
+pub kept_as :
+    (capacity capacity' : Capacity) (h : List Event) (inside inside' : List ℕ) (put put' : PutTurn) (take take' : TakeTurn) (shut shut' : Bool) →
+    capacity' ≡ capacity → inside' ≡ inside → put' ≡ put → take' ≡ take → shut' ≡ shut → Keeps capacity h inside put take shut → Keeps capacity' h inside' put' take' shut'
+kept_as capacity capacity' h inside inside' put put' take take' shut shut' ec ei ep et es k =
+    let K : Capacity → List ℕ → PutTurn → TakeTurn → Bool → Type 0 = λ c i p t s. Keeps c h i p t s in
+    let k1 : K capacity inside put take shut' = subst (λ z. K capacity inside put take z) (sym es) k in
+    let k2 : K capacity inside put take' shut' = subst (λ z. K capacity inside put z shut') (sym et) k1 in
+    let k3 : K capacity inside put' take' shut' = subst (λ z. K capacity inside z take' shut') (sym ep) k2 in
+    let k4 : K capacity inside' put' take' shut' = subst (λ z. K capacity z put' take' shut') (sym ei) k3 in
+    subst (λ z. K z inside' put' take' shut') (sym ec) k4

@@ -1,3 +1,4 @@
+pub mod Rooms
 pub mod Points
 pub mod Effects
 pub mod TurnLemmas
@@ -9,7 +10,15 @@ pub mod TakeEnds
 pub mod Batches
 pub mod PutBegins
 pub mod TakeBegins
+pub mod Reading
 pub mod OutOfTurn
 pub mod OrderOf
 pub mod MomentsOf
 mod Examples
+pub mod NumberReading
+pub mod LineReadings
+pub mod LineLemmas
+pub mod HearingLemmas
+pub mod HeardLines
+pub mod RecordingLemmas
+pub mod RecordingLaws

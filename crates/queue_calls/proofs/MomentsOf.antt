@@ -1,8 +1,8 @@
 -- A history whose operations have an order can have them take effect at moments.
 use Rattle.std.proofs.Common.{◌≡◌, inl, inr, ℕ, suc, ◌<◌, ◌≤◌, false, List, [], ◌∷◌, ◌++◌, length, refl, sym, ap, subst, ◌∙◌, arith, append_assoc}
 use Rattle.std.proofs.lemmas.List.{append-nil}
-use Rattle.queue_calls.specs.Queue.{Does, Enqueue, FindFull, FindShut, Close, Dequeue, FindEmpty, FindClosed, Queue, queue, Step, IsLegal}
-use Rattle.queue_calls.specs.Calls.{Event, PutBegin, PutStored, PutFull, PutClosed, CloseBegin, CloseEnd, TakeBegin, TakeItem, TakeEmpty, TakeClosed, Happens, Effect, Producer, Idle, Consumer, Resting, ProducerStep, ConsumerStep, point, CanLeadTo, IsLinearizable}
+use Rattle.queue_calls.specs.Queue.{Capacity, Does, Enqueue, FindNoRoom, FindShut, Close, Dequeue, FindFewer, FindClosed, Queue, queue, Step, IsLegal}
+use Rattle.queue_calls.specs.Calls.{Event, PutBegin, PutStored, PutFull, PutShort, PutNothing, PutClosed, CloseBegin, CloseEnd, TakeBegin, TakeItems, TakeEmpty, TakeShort, TakeNothing, TakeClosed, Happens, Effect, Producer, Idle, Consumer, Resting, ProducerStep, ConsumerStep, point, CanLeadTo, IsLinearizable}
 use Rattle.queue_calls.specs.Order.{Side, P, C, pick, side_of, doer_of, Numbered, numbered, own_events, Own, Comes, Makes, events_in, ArePuts, AreTakes, Operation, operation, next_event, operations, of_side, done_by, IsAmong, KeepsTime, Linearization}
 use Rattle.queue_calls.proofs.Points.{start, goes, happens}
 
@@ -11,42 +11,50 @@ producer_idle : (e : Event) (p : Producer) → side_of e ≡ C → ProducerStep 
 producer_idle (PutBegin items) p s = absurd (cc)
 producer_idle (PutStored count) p s = absurd (cc)
 producer_idle PutFull p s = absurd (cc)
+producer_idle PutShort p s = absurd (cc)
+producer_idle PutNothing p s = absurd (cc)
 producer_idle PutClosed p s = absurd (cc)
 producer_idle CloseBegin p s = absurd (cc)
 producer_idle CloseEnd p s = absurd (cc)
-producer_idle TakeBegin p s = refl
-producer_idle (TakeItem item) p s = refl
+producer_idle (TakeBegin wanted) p s = refl
+producer_idle (TakeItems items) p s = refl
 producer_idle TakeEmpty p s = refl
+producer_idle TakeShort p s = refl
+producer_idle TakeNothing p s = refl
 producer_idle TakeClosed p s = refl
 
 consumer_idle : (e : Event) (c : Consumer) → side_of e ≡ P → ConsumerStep c (Happens e) c
 consumer_idle (PutBegin items) c s = refl
 consumer_idle (PutStored count) c s = refl
 consumer_idle PutFull c s = refl
+consumer_idle PutShort c s = refl
+consumer_idle PutNothing c s = refl
 consumer_idle PutClosed c s = refl
 consumer_idle CloseBegin c s = refl
 consumer_idle CloseEnd c s = refl
-consumer_idle TakeBegin c s = absurd (cc)
-consumer_idle (TakeItem item) c s = absurd (cc)
+consumer_idle (TakeBegin wanted) c s = absurd (cc)
+consumer_idle (TakeItems items) c s = absurd (cc)
 consumer_idle TakeEmpty c s = absurd (cc)
+consumer_idle TakeShort c s = absurd (cc)
+consumer_idle TakeNothing c s = absurd (cc)
 consumer_idle TakeClosed c s = absurd (cc)
 
 producer_rests : (d : Does) (p : Producer) → doer_of d ≡ C → ProducerStep p (Effect d) p
 producer_rests (Enqueue item) p s = absurd (cc)
-producer_rests FindFull p s = absurd (cc)
+producer_rests (FindNoRoom count) p s = absurd (cc)
 producer_rests FindShut p s = absurd (cc)
 producer_rests Close p s = absurd (cc)
 producer_rests (Dequeue item) p s = refl
-producer_rests FindEmpty p s = refl
+producer_rests (FindFewer count) p s = refl
 producer_rests FindClosed p s = refl
 
 consumer_rests : (d : Does) (c : Consumer) → doer_of d ≡ P → ConsumerStep c (Effect d) c
 consumer_rests (Enqueue item) c s = refl
-consumer_rests FindFull c s = refl
+consumer_rests (FindNoRoom count) c s = refl
 consumer_rests FindShut c s = refl
 consumer_rests Close c s = refl
 consumer_rests (Dequeue item) c s = absurd (cc)
-consumer_rests FindEmpty c s = absurd (cc)
+consumer_rests (FindFewer count) c s = absurd (cc)
 consumer_rests FindClosed c s = absurd (cc)
 
 -- numbers from this one on
@@ -109,7 +117,7 @@ clash s s' end n start k e h o order rest calls calls' d es ev ev' l first mine 
     same_pick C f = next_is end calls (numbered n e) (own_events s (suc n) h) (sym f)
 
 -- what is to come of an order, behind the first n events
-record Rest (capacity end n a b : ℕ) (h : List Event) (q : Queue) (p : Producer) (c : Consumer) (puts takes : List Own) (order : List Operation) : Type 0 where
+record Rest (capacity : Capacity) (end n a b : ℕ) (h : List Event) (q : Queue) (p : Producer) (c : Consumer) (puts takes : List Own) (order : List Operation) : Type 0 where
   put_events : own_events P n h ≡ events_in puts
   take_events : own_events C n h ≡ events_in takes
   are_puts : ArePuts p puts
@@ -124,7 +132,7 @@ abbrev NoClash : Side → List Event → List Own → Type 0
 NoClash s [] calls = Unit {0}
 NoClash s (e ∷ h) calls = (d : Does) (rest : List Own) → calls ≡ Makes d ∷ rest → side_of e ≡ s → ⊥
 
-module _ (capacity end : ℕ) where
+module _ (capacity : Capacity) (end : ℕ) where
   abbrev Passes : List Event → Type 0
   Passes h =
       (n a b : ℕ) (q : Queue) (p : Producer) (c : Consumer) (puts takes : List Own) (order : List Operation) → Rest capacity end n a b h q p c puts takes order →
@@ -258,7 +266,7 @@ module _ (capacity end : ℕ) where
   passes [] = λ n a b q p c puts takes order x no_p no_c past r. (point q p c, subst (λ z. CanLeadTo capacity z (point q p c)) (sym (append-nil past)) r)
   passes (e ∷ h) = passing e h (inner h (passes h))
 
-pub moments_of : (capacity : ℕ) (h : List Event) → Linearization capacity h → IsLinearizable capacity h
+pub moments_of : (capacity : Capacity) (h : List Event) → Linearization capacity h → IsLinearizable capacity h
 moments_of capacity h l =
     inner capacity (length h) h (passes capacity (length h) h) l.order 0 0 0 (queue [] false) Idle Resting l.puts l.takes
     (record {

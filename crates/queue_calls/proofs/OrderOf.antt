@@ -1,12 +1,12 @@
 -- A history whose operations take effect at moments has an order of them.
 use Rattle.std.proofs.Common.{◌≡◌, inl, inr, ℕ, suc, ◌+◌, ◌≤◌, false, List, [], ◌∷◌, ◌++◌, length, refl, sym, ap, subst, ◌∙◌, arith, append_assoc}
 use Rattle.std.proofs.lemmas.List.{append-nil}
-use Rattle.queue_calls.specs.Queue.{Does, Enqueue, FindFull, FindShut, Close, Dequeue, FindEmpty, FindClosed, Queue, queue, Step, IsLegal}
-use Rattle.queue_calls.specs.Calls.{Event, PutBegin, PutStored, PutFull, PutClosed, CloseBegin, CloseEnd, TakeBegin, TakeItem, TakeEmpty, TakeClosed, Mark, Happens, Effect, Producer, Idle, Consumer, Resting, ProducerStep, ConsumerStep, Point, point, Leads, LeadTo, events_of, IsLinearizable}
+use Rattle.queue_calls.specs.Queue.{Capacity, Does, Enqueue, FindNoRoom, FindShut, Close, Dequeue, FindFewer, FindClosed, Queue, queue, Step, IsLegal}
+use Rattle.queue_calls.specs.Calls.{Event, PutBegin, PutStored, PutFull, PutShort, PutNothing, PutClosed, CloseBegin, CloseEnd, TakeBegin, TakeItems, TakeEmpty, TakeShort, TakeNothing, TakeClosed, Mark, Happens, Effect, Producer, Idle, Consumer, Resting, ProducerStep, ConsumerStep, Point, point, Leads, LeadTo, events_of, IsLinearizable}
 use Rattle.queue_calls.specs.Order.{Side, P, C, pick, side_of, doer_of, numbered, own_events, Own, Comes, Makes, events_in, ArePuts, AreTakes, Operation, operation, next_event, operations, of_side, done_by, IsAmong, KeepsTime, Linearization}
 
 -- marks lead on from a point
-abbrev Way : ℕ → Point → List Mark → Type 0
+abbrev Way : Capacity → Point → List Mark → Type 0
 Way capacity s [] = Unit {0}
 Way capacity s (m ∷ marks) = (t : Point) × Leads capacity s m t × Way capacity t marks
 
@@ -19,7 +19,7 @@ events [] = []
 events (Happens e ∷ w) = e ∷ events w
 events (Effect d ∷ w) = events w
 
-way_of : (capacity : ℕ) (w v : List Mark) (t : Point) → LeadTo capacity w t → Way capacity t v → Way capacity (point (queue [] false) Idle Resting) (turned w v)
+way_of : (capacity : Capacity) (w v : List Mark) (t : Point) → LeadTo capacity w t → Way capacity t v → Way capacity (point (queue [] false) Idle Resting) (turned w v)
 way_of capacity [] v t l f = subst (λ z. Way capacity z v) l f
 way_of capacity (m ∷ w) v t (s, l, n) f = way_of capacity w (m ∷ v) s l (t, n, f)
 
@@ -61,45 +61,53 @@ pub producer_stays : (e : Event) (p after : Producer) → side_of e ≡ C → Pr
 producer_stays (PutBegin items) p after s f = absurd (cc)
 producer_stays (PutStored count) p after s f = absurd (cc)
 producer_stays PutFull p after s f = absurd (cc)
+producer_stays PutShort p after s f = absurd (cc)
+producer_stays PutNothing p after s f = absurd (cc)
 producer_stays PutClosed p after s f = absurd (cc)
 producer_stays CloseBegin p after s f = absurd (cc)
 producer_stays CloseEnd p after s f = absurd (cc)
-producer_stays TakeBegin p after s f = f
-producer_stays (TakeItem item) p after s f = f
+producer_stays (TakeBegin wanted) p after s f = f
+producer_stays (TakeItems items) p after s f = f
 producer_stays TakeEmpty p after s f = f
+producer_stays TakeShort p after s f = f
+producer_stays TakeNothing p after s f = f
 producer_stays TakeClosed p after s f = f
 
 pub producer_keeps : (d : Does) (p after : Producer) → doer_of d ≡ C → ProducerStep p (Effect d) after → after ≡ p
 producer_keeps (Enqueue item) p after s f = absurd (cc)
-producer_keeps FindFull p after s f = absurd (cc)
+producer_keeps (FindNoRoom count) p after s f = absurd (cc)
 producer_keeps FindShut p after s f = absurd (cc)
 producer_keeps Close p after s f = absurd (cc)
 producer_keeps (Dequeue item) p after s f = f
-producer_keeps FindEmpty p after s f = f
+producer_keeps (FindFewer count) p after s f = f
 producer_keeps FindClosed p after s f = f
 
 pub consumer_stays : (e : Event) (c after : Consumer) → side_of e ≡ P → ConsumerStep c (Happens e) after → after ≡ c
 consumer_stays (PutBegin items) c after s f = f
 consumer_stays (PutStored count) c after s f = f
 consumer_stays PutFull c after s f = f
+consumer_stays PutShort c after s f = f
+consumer_stays PutNothing c after s f = f
 consumer_stays PutClosed c after s f = f
 consumer_stays CloseBegin c after s f = f
 consumer_stays CloseEnd c after s f = f
-consumer_stays TakeBegin c after s f = absurd (cc)
-consumer_stays (TakeItem item) c after s f = absurd (cc)
+consumer_stays (TakeBegin wanted) c after s f = absurd (cc)
+consumer_stays (TakeItems items) c after s f = absurd (cc)
 consumer_stays TakeEmpty c after s f = absurd (cc)
+consumer_stays TakeShort c after s f = absurd (cc)
+consumer_stays TakeNothing c after s f = absurd (cc)
 consumer_stays TakeClosed c after s f = absurd (cc)
 
 pub consumer_keeps : (d : Does) (c after : Consumer) → doer_of d ≡ P → ConsumerStep c (Effect d) after → after ≡ c
 consumer_keeps (Enqueue item) c after s f = f
-consumer_keeps FindFull c after s f = f
+consumer_keeps (FindNoRoom count) c after s f = f
 consumer_keeps FindShut c after s f = f
 consumer_keeps Close c after s f = f
 consumer_keeps (Dequeue item) c after s f = absurd (cc)
-consumer_keeps FindEmpty c after s f = absurd (cc)
+consumer_keeps (FindFewer count) c after s f = absurd (cc)
 consumer_keeps FindClosed c after s f = absurd (cc)
 
-puts_of : (capacity n : ℕ) (w : List Mark) (s : Point) → Way capacity s w → ArePuts s.producer (own P n w)
+puts_of : (capacity : Capacity) (n : ℕ) (w : List Mark) (s : Point) → Way capacity s w → ArePuts s.producer (own P n w)
 puts_of capacity n [] s l = tt
 puts_of capacity n (Happens e ∷ w) s (t, m, l) = by_side (side_of e) refl (puts_of capacity (suc n) w t l)
   where
@@ -112,7 +120,7 @@ puts_of capacity n (Effect d ∷ w) s (t, m, l) = by_side (doer_of d) refl (puts
     by_side P f r = (t.producer, f, m.producer, r)
     by_side C f r = subst (λ z. ArePuts z (own P n w)) (producer_keeps d s.producer t.producer f m.producer) r
 
-takes_of : (capacity n : ℕ) (w : List Mark) (s : Point) → Way capacity s w → AreTakes s.consumer (own C n w)
+takes_of : (capacity : Capacity) (n : ℕ) (w : List Mark) (s : Point) → Way capacity s w → AreTakes s.consumer (own C n w)
 takes_of capacity n [] s l = tt
 takes_of capacity n (Happens e ∷ w) s (t, m, l) = by_side (side_of e) refl (takes_of capacity (suc n) w t l)
   where
@@ -126,7 +134,7 @@ takes_of capacity n (Effect d ∷ w) s (t, m, l) = by_side (doer_of d) refl (tak
     by_side P f r = subst (λ z. AreTakes z (own C n w)) (consumer_keeps d s.consumer t.consumer f m.consumer) r
 
 -- an order of the operations of these calls, behind the events of these numbers of both sides
-record Ordered (capacity end a b n : ℕ) (q : Queue) (puts takes : List Own) : Type 0 where
+record Ordered (capacity : Capacity) (end a b n : ℕ) (q : Queue) (puts takes : List Own) : Type 0 where
   order : List Operation
   producer : of_side P order ≡ operations P end a puts
   consumer : of_side C order ≡ operations C end b takes
@@ -151,7 +159,7 @@ next_late s end n (Effect d ∷ w) l = by_side s (doer_of d) (next_late s end n 
     by_side C P r = r
     by_side C C r = r
 
-one_more : (capacity end n start stop : ℕ) (s : Side) (d : Does) (q after : Queue) (order : List Operation) → Step capacity q d after → IsLegal capacity after (done_by order) → KeepsTime order →
+one_more : (capacity : Capacity) (end n start stop : ℕ) (s : Side) (d : Does) (q after : Queue) (order : List Operation) → Step capacity q d after → IsLegal capacity after (done_by order) → KeepsTime order →
     ((o : Operation) → IsAmong o order → n ≤ o.stop) → start ≤ n → n ≤ stop →
     IsLegal capacity q (done_by (operation s d start stop ∷ order)) × KeepsTime (operation s d start stop ∷ order) × ((o : Operation) → IsAmong o (operation s d start stop ∷ order) → n ≤ o.stop)
 one_more capacity end n start stop s d q after order step legal keeps late ls le = (
@@ -161,7 +169,7 @@ one_more capacity end n start stop s d q after order step legal keeps late ls le
 )
 
 ordered :
-    (capacity end a b n : ℕ) (w : List Mark) (s : Point) → n + length (events w) ≤ end → a ≤ n → b ≤ n → Way capacity s w →
+    (capacity : Capacity) (end a b n : ℕ) (w : List Mark) (s : Point) → n + length (events w) ≤ end → a ≤ n → b ≤ n → Way capacity s w →
     Ordered capacity end a b n s.queue (own P n w) (own C n w)
 ordered capacity end a b n [] s l la lb f = record { order = []; producer = refl; consumer = refl; legal = tt; keeps_time = tt; late = λ o i. absurd i }
 ordered capacity end a b n (Happens e ∷ w) s l la lb (t, m, f) =
@@ -188,7 +196,7 @@ ordered capacity end a b n (Effect d ∷ w) s l la lb (t, m, f) =
         let (legal, keeps, late) = one_more capacity end n b stop C d s.queue t.queue r.order m.queue r.legal r.keeps_time r.late lb lc in
         record { order = operation C d b stop ∷ r.order; producer = r.producer; consumer = ap (λ z. operation C d b stop ∷ z) r.consumer; legal = legal; keeps_time = keeps; late = late }
 
-pub order_of : (capacity : ℕ) (h : List Event) → IsLinearizable capacity h → Linearization capacity h
+pub order_of : (capacity : Capacity) (h : List Event) → IsLinearizable capacity h → Linearization capacity h
 order_of capacity h (t, r) =
     let w : List Mark = turned r.marks [] in
     let is : events w ≡ h = turned_events r.marks [] ∙ (append-nil (events_of r.marks) ∙ r.events) in

@@ -1,29 +1,29 @@
 -- The points to which a history can lead, and how one event more changes them.
-use Rattle.std.proofs.Common.{◌≡◌, ℕ, false, List, [], ◌∷◌, ◌++◌, length, refl, sym, ap, subst, arith, length-append, append_assoc}
+use Rattle.std.proofs.Common.{◌≡◌, false, List, [], ◌∷◌, ◌++◌, length, refl, sym, ap, subst, arith, length-append, append_assoc}
 use Rattle.std.proofs.lemmas.List.{append-nil}
-use Rattle.queue_calls.specs.Queue.{Does, queue}
+use Rattle.queue_calls.specs.Queue.{Capacity, Does, queue}
 use Rattle.queue_calls.specs.Calls.{Event, Mark, Happens, Effect, Idle, Resting, Point, point, Leads, LeadTo, events_of, CanLeadTo, IsLinearizable}
 
 -- where there is no event yet
-pub start : (capacity : ℕ) → CanLeadTo capacity [] (point (queue [] false) Idle Resting)
+pub start : (capacity : Capacity) → CanLeadTo capacity [] (point (queue [] false) Idle Resting)
 start capacity = record { marks = []; events = refl; lead = refl }
 
 -- an operation takes effect
-pub goes : (capacity : ℕ) (h : List Event) (s t : Point) (d : Does) → CanLeadTo capacity h s → Leads capacity s (Effect d) t → CanLeadTo capacity h t
+pub goes : (capacity : Capacity) (h : List Event) (s t : Point) (d : Does) → CanLeadTo capacity h s → Leads capacity s (Effect d) t → CanLeadTo capacity h t
 goes capacity h s t d r l = record { marks = Effect d ∷ r.marks; events = r.events; lead = (s, r.lead, l) }
 
 -- an event comes
 pub happens :
-    (capacity : ℕ) (h : List Event) (s t : Point) (e : Event) → CanLeadTo capacity h s → Leads capacity s (Happens e) t →
+    (capacity : Capacity) (h : List Event) (s t : Point) (e : Event) → CanLeadTo capacity h s → Leads capacity s (Happens e) t →
     CanLeadTo capacity (h ++ e ∷ []) t
 happens capacity h s t e r l = record { marks = Happens e ∷ r.marks; events = ap (λ z. z ++ e ∷ []) r.events; lead = (s, r.lead, l) }
 
 -- what holds of points stays where operations take effect
-abbrev pub Stays : ℕ → (Point → Type 0) → Type 0
+abbrev pub Stays : Capacity → (Point → Type 0) → Type 0
 Stays capacity P = (s t : Point) (d : Does) → P s → Leads capacity s (Effect d) t → P t
 
 only_start_marks :
-    (capacity : ℕ) (P : Point → Type 0) → Stays capacity P → P (point (queue [] false) Idle Resting) →
+    (capacity : Capacity) (P : Point → Type 0) → Stays capacity P → P (point (queue [] false) Idle Resting) →
     (marks : List Mark) (t : Point) → events_of marks ≡ [] → LeadTo capacity marks t → P t
 only_start_marks capacity P stays p [] t e l = subst P (sym l) p
 only_start_marks capacity P stays p (Happens x ∷ marks) t e l =
@@ -31,7 +31,7 @@ only_start_marks capacity P stays p (Happens x ∷ marks) t e l =
 only_start_marks capacity P stays p (Effect d ∷ marks) t e (s, l, m) = stays s t d (only_start_marks capacity P stays p marks s e l) m
 
 pub only_start :
-    (capacity : ℕ) (P : Point → Type 0) → Stays capacity P → P (point (queue [] false) Idle Resting) → (t : Point) → CanLeadTo capacity [] t → P t
+    (capacity : Capacity) (P : Point → Type 0) → Stays capacity P → P (point (queue [] false) Idle Resting) → (t : Point) → CanLeadTo capacity [] t → P t
 only_start capacity P stays p t r = only_start_marks capacity P stays p r.marks t r.events r.lead
 
 -- two lists with one last item more
@@ -45,7 +45,7 @@ same_last (a ∷ xs) (b ∷ ys) x y e =
     (cc, l)
 
 last_event_marks :
-    (capacity : ℕ) (h : List Event) (e : Event) (P : Point → Type 0) → Stays capacity P →
+    (capacity : Capacity) (h : List Event) (e : Event) (P : Point → Type 0) → Stays capacity P →
     ((s t : Point) → CanLeadTo capacity h s → Leads capacity s (Happens e) t → P t) →
     (marks : List Mark) (t : Point) → events_of marks ≡ h ++ e ∷ [] → LeadTo capacity marks t → P t
 last_event_marks capacity h e P stays step [] t f l = absurd (omega (arith, ap length f, length-append h (e ∷ [])))
@@ -56,15 +56,15 @@ last_event_marks capacity h e P stays step (Effect d ∷ marks) t f (s, l, m) = 
 
 -- behind one event more
 pub last_event :
-    (capacity : ℕ) (h : List Event) (e : Event) (P : Point → Type 0) → Stays capacity P →
+    (capacity : Capacity) (h : List Event) (e : Event) (P : Point → Type 0) → Stays capacity P →
     ((s t : Point) → CanLeadTo capacity h s → Leads capacity s (Happens e) t → P t) → (t : Point) → CanLeadTo capacity (h ++ e ∷ []) t → P t
 last_event capacity h e P stays step t r = last_event_marks capacity h e P stays step r.marks t r.events r.lead
 
-one_less : (capacity : ℕ) (h : List Event) (e : Event) → IsLinearizable capacity (h ++ e ∷ []) → IsLinearizable capacity h
+one_less : (capacity : Capacity) (h : List Event) (e : Event) → IsLinearizable capacity (h ++ e ∷ []) → IsLinearizable capacity h
 one_less capacity h e (t, r) = last_event capacity h e (λ z. IsLinearizable capacity h) (λ s u d p l. p) (λ s u q l. (s, q)) t r
 
 -- and so of each beginning
-pub beginning : (capacity : ℕ) (h rest : List Event) → IsLinearizable capacity (h ++ rest) → IsLinearizable capacity h
+pub beginning : (capacity : Capacity) (h rest : List Event) → IsLinearizable capacity (h ++ rest) → IsLinearizable capacity h
 beginning capacity h [] l = subst (IsLinearizable capacity) (append-nil h) l
 beginning capacity h (e ∷ rest) l =
     one_less capacity h e (beginning capacity (h ++ e ∷ []) rest (subst (IsLinearizable capacity) (sym (append_assoc h (e ∷ []) rest)) l))

@@ -1,183 +1,191 @@
 -- The puts: how they begin.
-use Rattle.std.proofs.Common.{◌≡◌, inl, inr, ℕ, ◌+◌, ◌<◌, ◌≤◌, Bool, true, false, List, [], ◌∷◌, ◌++◌, length, refl, sym, ap, subst, ◌∙◌, arith, length-append, append_assoc}
+use Rattle.std.proofs.Common.{◌≡◌, inl, inr, ℕ, zero, suc, ◌+◌, ◌-◌, ◌<◌, ◌≤◌, Bool, true, false, List, [], ◌∷◌, ◌++◌, length, refl, sym, ap, subst, ◌∙◌, arith, length-append, append_assoc}
 use Rattle.std.proofs.lemmas.List.{append-nil}
-use Rattle.queue_calls.specs.Queue.{Queue, queue, Enqueue, FindFull, FindShut, Dequeue}
-use Rattle.queue_calls.specs.Calls.{Event, PutBegin, Producer, Idle, Putting, FoundFull, FoundShut, Closing, Consumer, Resting, Taking, Took, FoundEmpty, FoundClosed, Point, point, CanLeadTo}
+use Rattle.queue_calls.specs.Queue.{Capacity, Queue, queue, FindNoRoom, FindShut}
+use Rattle.queue_calls.specs.Calls.{Event, PutBegin, Producer, Idle, Putting, FoundShut, Closing, Consumer, Resting, Taking, FoundClosed, Point, point, CanLeadTo}
 use Rattle.queue_calls.specs.declared.turns.PutTurn.TheVariants.{Free, Offers, Late}
 use Rattle.queue_calls.specs.declared.turns.TakeTurn.{TakeTurn}
 use Rattle.queue_calls.specs.declared.turns.TakeTurn.TheVariants.{Rests, Waits}
-use Rattle.queue_calls.specs.State.{taken_by, FitsTake, Describes, IsSoundTake, IsTold, Keeps}
+use Rattle.queue_calls.specs.State.{Holds, taken_by, MayLack, FitsTake, Describes, asked_by, IsSoundTake, IsTold, Keeps}
+use Rattle.queue_calls.proofs.Rooms.{holds_fewer, over, over_holds, over_least, over_few, over_lacks}
 use Rattle.queue_calls.proofs.Points.{goes, happens}
-use Rattle.queue_calls.proofs.Effects.{described_at, fits_while_open}
-use Rattle.queue_calls.proofs.Keeping.{Accepts, accept, at_most_or_above}
+use Rattle.queue_calls.proofs.Effects.{described_at, fits_while_open, fits_alike}
+use Rattle.queue_calls.proofs.Keeping.{Accepts, accept}
 use Rattle.queue_calls.proofs.Sides.{with_producer}
-use Rattle.queue_calls.proofs.Batches.{enqueues, Stored, stored}
+use Rattle.queue_calls.proofs.Batches.{enqueues, moves, Stored, stored}
 
-module _ (capacity : ℕ) (h : List Event) (inside items : List ℕ) (take' : TakeTurn) (k : Keeps capacity h inside Free take' false) where
+-- two lists that go on alike have the same first items
+record Cut (n : ℕ) (a b c d : List ℕ) : Type 0 where
+  front : List ℕ
+  rest : List ℕ
+  more : List ℕ
+  first : a ≡ front ++ rest
+  second : c ≡ front ++ more
+  long : length front ≡ n
+  others : rest ++ b ≡ more ++ d
+
+cut : (n : ℕ) (a b c d : List ℕ) → a ++ b ≡ c ++ d → n ≤ length a → n ≤ length c → Cut n a b c d
+cut zero a b c d e l m = record { front = []; rest = a; more = c; first = refl; second = refl; long = refl; others = e }
+cut (suc n) [] b c d e l m = absurd (omega (arith, l))
+cut (suc n) (x ∷ a) b [] d e l m = absurd (omega (arith, m))
+cut (suc n) (x ∷ a) b (y ∷ c) d e l m =
+    let same : x ≡ y = cc in
+    let tail : a ++ b ≡ c ++ d = cc in
+    let r : Cut n a b c d = cut n a b c d tail (omega (arith, l)) (omega (arith, m)) in
+    record {
+      front = x ∷ r.front;
+      rest = r.rest;
+      more = r.more;
+      first = ap (λ z. x ∷ z) r.first;
+      second = ap (λ z. z ∷ c) (sym same) ∙ ap (λ z. x ∷ z) r.second;
+      long = omega (arith, r.long);
+      others = r.others;
+    }
+
+-- no take was told that an open queue is closed
+open_not_told : (take : TakeTurn) (q : Queue) → q.closed ≡ false → FitsTake take FoundClosed q → ⊥
+open_not_told Rests q o f = f
+open_not_told (Waits wanted before ended) q o (e, f) = cc
+
+module _ (capacity : Capacity) (h : List Event) (inside items : List ℕ) (take' : TakeTurn) (k : Keeps capacity h inside Free take' false) (some : 0 < length items) where
   abbrev After : Point → Type 0
   After t = CanLeadTo capacity (h ++ PutBegin items ∷ []) t
 
   -- a point before the put, and that behind its begin
-  begun : (xs : List ℕ) (c : Consumer) → inside ≡ taken_by c ++ xs → length xs ≤ capacity → FitsTake take' c (queue xs false) → After (point (queue xs false) (Putting 0 items) c)
+  begun : (xs : List ℕ) (c : Consumer) → inside ≡ taken_by c ++ xs → Holds capacity (length xs) → FitsTake take' c (queue xs false) → After (point (queue xs false) (Putting 0 0 items) c)
   begun xs c e l f =
-      happens capacity h (point (queue xs false) Idle c) (point (queue xs false) (Putting 0 items) c) (PutBegin items)
+      happens capacity h (point (queue xs false) Idle c) (point (queue xs false) (Putting 0 0 items) c) (PutBegin items)
       (k.sound (point (queue xs false) Idle c) (record { items = e ∙ ap (λ z. taken_by c ++ z) (sym (append-nil xs)); room = l; producer = refl; consumer = f }) tt)
-      (record { queue = refl; producer = (refl, refl); consumer = refl })
+      (record { queue = refl; producer = (refl, some, refl); consumer = refl })
 
-  -- some items of it were stored, and none that were inside was taken meanwhile
-  some_stored :
-      (xs left : List ℕ) (c : Consumer) (rest : List ℕ) (m : ℕ) → inside ≡ taken_by c ++ rest → rest ++ items ≡ xs ++ left → m + length left ≡ length items →
-      length xs ≤ capacity → FitsTake take' c (queue rest false) → After (point (queue xs false) (Putting m left) c)
-  some_stored xs left c rest m e f sum l fits =
-      let s : Stored rest items xs left = stored rest items xs left f (omega (arith, sum)) in
-      let long : length rest + length s.done ≤ capacity = omega (arith, l, ap length s.items_are, length-append rest s.done) in
+  -- it found no room for so many, or did not look
+  lacking : (xs : List ℕ) (c : Consumer) (lacked : ℕ) → MayLack capacity (length xs) lacked → After (point (queue xs false) (Putting 0 0 items) c) → After (point (queue xs false) (Putting lacked 0 items) c)
+  lacking xs c lacked lacks r = elim lacks [
+    | inl e ↦ subst (λ z. After (point (queue xs false) (Putting z 0 items) c)) (sym e) r
+    | inr l ↦
+        goes capacity (h ++ PutBegin items ∷ []) (point (queue xs false) (Putting 0 0 items) c) (point (queue xs false) (Putting lacked 0 items) c) (FindNoRoom lacked) r
+        (record { queue = (l, refl, refl); producer = (items, refl, refl); consumer = refl })
+  ]
+
+  -- with no take under way
+  rested :
+      (xs left : List ℕ) (lacked m : ℕ) → inside ++ items ≡ xs ++ left → m + length left ≡ length items → MayLack capacity (length inside) lacked → Holds capacity (length xs) →
+      FitsTake take' Resting (queue xs false) → After (point (queue xs false) (Putting lacked m left) Resting)
+  rested xs left lacked m e sum lacks room fits =
+      let s : Stored inside items xs left = stored inside items xs left e (omega (arith, sum)) in
+      let long : length xs ≡ length inside + length s.done = omega (arith, ap length s.items_are, length-append inside s.done) in
       let count : 0 + length s.done ≡ m = omega (arith, sum, ap length s.offered_are, length-append s.done left) in
-      let first : After (point (queue rest false) (Putting 0 items) c) = begun rest c e (omega (arith, long)) fits in
-      let first' : After (point (queue rest false) (Putting 0 (s.done ++ left)) c) = subst (λ z. After (point (queue rest false) (Putting 0 z) c)) s.offered_are first in
-      let then : After (point (queue (rest ++ s.done) false) (Putting (0 + length s.done) left) c) = enqueues capacity (h ++ PutBegin items ∷ []) c s.done left rest 0 long first' in
-      subst (λ z. After (point (queue xs false) (Putting z left) c)) count
-      (subst (λ z. After (point (queue z false) (Putting (0 + length s.done) left) c)) (sym s.items_are) then)
+      let r0 : After (point (queue inside false) (Putting 0 0 items) Resting) =
+      begun inside Resting refl (holds_fewer capacity (length inside) (length xs) (omega (arith, long)) room) (fits_while_open take' Resting (queue xs false) (queue inside false) refl fits) in
+      let r1 : After (point (queue inside false) (Putting lacked 0 (s.done ++ left)) Resting) =
+      subst (λ z. After (point (queue inside false) (Putting lacked 0 z) Resting)) s.offered_are (lacking inside Resting lacked lacks r0) in
+      let r2 : After (point (queue (inside ++ s.done) false) (Putting lacked (0 + length s.done) left) Resting) =
+      enqueues capacity (h ++ PutBegin items ∷ []) Resting lacked s.done left inside 0
+      (holds_fewer capacity (length inside + length s.done) (length xs) (omega (arith, long)) room) r1 in
+      subst (λ z. After (point (queue xs false) (Putting lacked z left) Resting)) count
+      (subst (λ z. After (point (queue z false) (Putting lacked (0 + length s.done) left) Resting)) (sym s.items_are) r2)
 
-  -- the first item of it was taken
-  first_taken :
-      (xs left : List ℕ) (item m : ℕ) → inside ≡ [] → items ≡ item ∷ (xs ++ left) → m + length left ≡ length items → length xs ≤ capacity →
-      FitsTake take' Taking (queue [] false) → After (point (queue xs false) (Putting m left) (Took item))
-  first_taken xs left item m none e sum l fits =
-      let H : List Event = h ++ PutBegin items ∷ [] in
-      let room : 0 < capacity = k.has_room in
-      let count : 1 + length xs ≡ m = omega (arith, sum, ap length e, length-append xs left) in
-      let s0 : After (point (queue [] false) (Putting 0 (item ∷ (xs ++ left))) Taking) = subst (λ z. After (point (queue [] false) (Putting 0 z) Taking)) e (begun [] Taking none (omega arith) fits) in
-      let s1 : After (point (queue (item ∷ []) false) (Putting 1 (xs ++ left)) Taking) =
-      goes capacity H (point (queue [] false) (Putting 0 (item ∷ (xs ++ left))) Taking) (point (queue (item ∷ []) false) (Putting 1 (xs ++ left)) Taking) (Enqueue item) s0
-      (record { queue = (room, refl, refl); producer = (0, xs ++ left, refl, refl); consumer = refl }) in
-      let s2 : After (point (queue [] false) (Putting 1 (xs ++ left)) (Took item)) =
-      goes capacity H (point (queue (item ∷ []) false) (Putting 1 (xs ++ left)) Taking) (point (queue [] false) (Putting 1 (xs ++ left)) (Took item)) (Dequeue item) s1
-      (record { queue = (refl, refl); producer = refl; consumer = (refl, refl) }) in
-      subst (λ z. After (point (queue xs false) (Putting z left) (Took item))) count
-      (enqueues capacity H (Took item) xs left [] 1 (omega (arith, l)) s2)
+  -- as many were inside the queue as it can have
+  may_lack_over : (n lacked : ℕ) → MayLack capacity n lacked → MayLack capacity (n - over capacity n) lacked
+  may_lack_over n zero lacks = inl refl
+  may_lack_over n (suc count) lacks = elim lacks [ inl e ↦ absurd (omega (arith, e)) | inr l ↦ inr (over_lacks capacity n count k.proper l) ]
 
-  taking_fits : (turn : TakeTurn) (q q' : Queue) (item : ℕ) → FitsTake turn (Took item) q → FitsTake turn Taking q'
-  taking_fits Rests q q' item f = absurd f
-  taking_fits (Waits empty) q q' item f = tt
+  -- with a take under way: it took what the queue cannot have, the put found no room, and then both went on
+  took :
+      (xs left : List ℕ) (lacked m found : ℕ) (taken : List ℕ) (wanted : ℕ) → inside ++ items ≡ taken ++ (xs ++ left) → m + length left ≡ length items →
+      MayLack capacity (length inside) lacked → Holds capacity (length xs) → FitsTake take' (Taking found taken wanted) (queue xs false) →
+      After (point (queue xs false) (Putting lacked m left) (Taking found taken wanted))
+  took xs left lacked m found taken wanted e sum lacks room fits =
+      let n : ℕ = over capacity (length inside) in
+      let whole : length inside + length items ≡ length taken + (length xs + length left) =
+      omega (arith, length-append inside items, ap length e, length-append taken (xs ++ left), length-append xs left) in
+      let few : n ≤ length taken =
+      over_least capacity (length inside) (length taken) (holds_fewer capacity (length inside - length taken) (length xs) (omega (arith, whole, sum)) room) in
+      let r : Cut n inside items taken (xs ++ left) = cut n inside items taken (xs ++ left) e (over_few capacity (length inside)) few in
+      let long : length r.rest ≡ length inside - n = omega (arith, ap length r.first, length-append r.front r.rest, r.long) in
+      let c : Consumer = Taking found r.front (length r.more + wanted) in
+      let fit : FitsTake take' c (queue r.rest false) =
+      fits_alike take' found taken r.front wanted (length r.more + wanted) (queue xs false) (queue r.rest false)
+      (omega (arith, ap length r.second, length-append r.front r.more)) fits in
+      let r0 : After (point (queue r.rest false) (Putting 0 0 items) c) =
+      begun r.rest c r.first (holds_fewer capacity (length r.rest) (length inside - n) (omega (arith, long)) (over_holds capacity (length inside))) fit in
+      let lacks' : MayLack capacity (length r.rest) lacked =
+      subst (λ z. MayLack capacity z lacked) (sym long) (may_lack_over (length inside) lacked lacks) in
+      let r1 : After (point (queue r.rest false) (Putting lacked 0 items) c) = lacking r.rest c lacked lacks' r0 in
+      let r2 : After (point (queue xs false) (Putting lacked m left) (Taking found (r.front ++ r.more) wanted)) =
+      moves capacity (h ++ PutBegin items ∷ []) k.proper lacked found r.rest items r.front r.more xs left 0 m wanted r.others (omega (arith, sum)) (omega (arith, sum)) room r1 in
+      subst (λ z. After (point (queue xs false) (Putting lacked m left) (Taking found z wanted))) (sym r.second) r2
 
-  by_inside :
-      (xs left : List ℕ) (item m : ℕ) (whole : List ℕ) → inside ≡ whole → whole ++ items ≡ item ∷ (xs ++ left) → m + length left ≡ length items → length xs ≤ capacity →
-      FitsTake take' (Took item) (queue xs false) → After (point (queue xs false) (Putting m left) (Took item))
-  by_inside xs left item m [] e f sum l fits = first_taken xs left item m e f sum l (taking_fits take' (queue xs false) (queue [] false) item fits)
-  by_inside xs left item m (x ∷ rest) e f sum l fits =
-      let first : x ≡ item = cc in
-      let others : rest ++ items ≡ xs ++ left = cc in
-      some_stored xs left (Took item) rest m (e ∙ ap (λ z. z ∷ rest) first) others sum l (fits_while_open take' (Took item) (queue xs false) (queue rest false) refl fits)
+  points :
+      (xs : List ℕ) (closed : Bool) (p : Producer) (c : Consumer) → Describes capacity (inside ++ items) (Offers (length items) (length inside)) take' false (point (queue xs closed) p c) →
+      After (point (queue xs closed) p c)
+  points xs closed Idle c d = absurd d.producer
+  points xs true (Putting lacked m left) c d = let o : true ≡ false = d.producer.1 in absurd (cc)
+  points xs false (Putting lacked m left) Resting d = rested xs left lacked m d.items d.producer.0 d.producer.2 d.room d.consumer
+  points xs false (Putting lacked m left) (Taking found taken wanted) d = took xs left lacked m found taken wanted d.items d.producer.0 d.producer.2 d.room d.consumer
+  points xs false (Putting lacked m left) FoundClosed d = absurd (open_not_told take' (queue xs false) refl d.consumer)
+  points xs closed FoundShut c d = absurd d.producer
+  points xs closed (Closing done) c d = absurd d.producer
 
-  found_full :
-      (xs its : List ℕ) (c : Consumer) → inside ≡ taken_by c ++ xs → items ≡ its → length xs ≡ capacity → FitsTake take' c (queue xs false) →
-      After (point (queue xs false) (FoundFull its) c)
-  found_full xs its c e f l fits =
-      goes capacity (h ++ PutBegin items ∷ []) (point (queue xs false) (Putting 0 items) c) (point (queue xs false) (FoundFull its) c) FindFull (begun xs c e (omega (arith, l)) fits)
-      (record { queue = (l, refl, refl); producer = (items, refl, ap FoundFull (sym f)); consumer = refl })
+  more_take : (n m : ℕ) (turn : TakeTurn) → IsSoundTake 0 n turn false → IsSoundTake m (n + m) turn false
+  more_take n m Rests f = tt
+  more_take n m (Waits wanted before ended) f = (omega (arith, f.0), λ e. let s : false ≡ true = (f.1 e).0 in absurd (cc))
 
-  full_then_taken :
-      (xs its : List ℕ) (item : ℕ) → inside ≡ item ∷ xs → items ≡ its → length inside ≡ capacity → FitsTake take' Taking (queue inside false) →
-      After (point (queue xs false) (FoundFull its) (Took item))
-  full_then_taken xs its item e f l fits =
-      let H : List Event = h ++ PutBegin items ∷ [] in
-      goes capacity H (point (queue inside false) (FoundFull its) Taking) (point (queue xs false) (FoundFull its) (Took item)) (Dequeue item)
-      (found_full inside its Taking refl f l fits)
-      (record { queue = (e, refl); producer = refl; consumer = (refl, refl) })
-
-  module _ (full : Bool) (is_full : full ≡ true → capacity ≤ length inside) where
-    same_front : (xs its front : List ℕ) → inside ++ items ≡ front ++ (xs ++ its) → length its ≡ length items → (inside ≡ front ++ xs) × (items ≡ its)
-    same_front xs its front e l =
-        let whole : inside ++ items ≡ (front ++ xs) ++ its = e ∙ sym (append_assoc front xs its) in
-        let s : Stored inside items (front ++ xs) its = stored inside items (front ++ xs) its whole (omega (arith, l)) in
-        none_done s.done s.items_are s.offered_are
-      where
-        none_done : (done : List ℕ) → front ++ xs ≡ inside ++ done → items ≡ done ++ its → (inside ≡ front ++ xs) × (items ≡ its)
-        none_done [] a b = (sym (a ∙ append-nil inside), b)
-        none_done (x ∷ done) a b = absurd (omega (arith, l, ap length b, length-append done its))
-
-    full_at : (xs its : List ℕ) (c : Consumer) → inside ++ items ≡ taken_by c ++ (xs ++ its) → length its ≡ length items → full ≡ true → length xs ≤ capacity → FitsTake take' c (queue xs false) → After (point (queue xs false) (FoundFull its) c)
-    full_at xs its Resting e l f room fits =
-        let (a, b) = same_front xs its [] e l in found_full xs its Resting a b (omega (arith, room, is_full f, ap length a)) fits
-    full_at xs its Taking e l f room fits =
-        let (a, b) = same_front xs its [] e l in found_full xs its Taking a b (omega (arith, room, is_full f, ap length a)) fits
-    full_at xs its FoundEmpty e l f room fits =
-        let (a, b) = same_front xs its [] e l in found_full xs its FoundEmpty a b (omega (arith, room, is_full f, ap length a)) fits
-    full_at xs its FoundClosed e l f room fits =
-        let (a, b) = same_front xs its [] e l in found_full xs its FoundClosed a b (omega (arith, room, is_full f, ap length a)) fits
-    full_at xs its (Took item) e l f room fits =
-        let (a, b) = same_front xs its (item ∷ []) e l in
-        elim (at_most_or_above capacity (length xs)) [
-          | inl m ↦ found_full xs its (Took item) a b (omega (arith, room, m)) fits
-          | inr m ↦ full_then_taken xs its item a b (omega (arith, m, is_full f, ap length a)) (taking_fits take' (queue xs false) (queue inside false) item fits)
-        ]
-
-    put_at : (xs left : List ℕ) (m : ℕ) (c : Consumer) → inside ++ items ≡ taken_by c ++ (xs ++ left) → m + length left ≡ length items → length xs ≤ capacity → FitsTake take' c (queue xs false) → After (point (queue xs false) (Putting m left) c)
-    put_at xs left m Resting e sum room fits = some_stored xs left Resting inside m refl e sum room (fits_while_open take' Resting (queue xs false) (queue inside false) refl fits)
-    put_at xs left m Taking e sum room fits = some_stored xs left Taking inside m refl e sum room (fits_while_open take' Taking (queue xs false) (queue inside false) refl fits)
-    put_at xs left m FoundEmpty e sum room fits = some_stored xs left FoundEmpty inside m refl e sum room (fits_while_open take' FoundEmpty (queue xs false) (queue inside false) refl fits)
-    put_at xs left m FoundClosed e sum room fits = some_stored xs left FoundClosed inside m refl e sum room (fits_while_open take' FoundClosed (queue xs false) (queue inside false) refl fits)
-    put_at xs left m (Took item) e sum room fits = by_inside xs left item m inside refl e sum room fits
-
-    points : (xs : List ℕ) (closed : Bool) (p : Producer) (c : Consumer) → Describes capacity (inside ++ items) (Offers (length items) full) take' false (point (queue xs closed) p c) → After (point (queue xs closed) p c)
-    points xs closed Idle c d = absurd d.producer
-    points xs true (Putting m left) c d = let o : true ≡ false = d.producer.1 in absurd (cc)
-    points xs false (Putting m left) c d = put_at xs left m c d.items d.producer.0 d.room d.consumer
-    points xs true (FoundFull its) c d = let o : true ≡ false = d.producer.2 in absurd (cc)
-    points xs false (FoundFull its) c d = full_at xs its c d.items d.producer.1 d.producer.0 d.room d.consumer
-    points xs closed FoundShut c d = absurd d.producer
-    points xs closed (Closing done) c d = absurd d.producer
-
-    more_take : (n m : ℕ) (turn : TakeTurn) → IsSoundTake 0 n turn false → IsSoundTake m (n + m) turn false
-    more_take n m Rests f = tt
-    more_take n m (Waits empty) f = λ e. elim (f e) [ inl a ↦ inl (omega (arith, a)) | inr s ↦ inr s ]
-
-    pub put_begin : (full ≡ false → length inside < capacity) → Accepts capacity h (PutBegin items) (inside ++ items) (Offers (length items) full) take' false
-    put_begin not_full =
-        let long : length (inside ++ items) ≡ length inside + length items = length-append inside items in
-        let F : ℕ → Type 0 = λ z. IsSoundTake (length items) z take' false in
-        accept capacity h (PutBegin items) inside (inside ++ items) Free (Offers (length items) full) take' take' false false k (refl, refl)
-        (omega (arith, long, k.few)) (refl, (λ e. omega (arith, long, not_full e)))
-        (subst F (sym long) (more_take (length inside) (length items) take' k.take_ok))
-        (λ s t d m.
-        let (ep, ep') = m.producer in
-        let d' = with_producer capacity inside Free take' false s d Idle ep in
-        described_at capacity (inside ++ items) (Offers (length items) full) take' false t s.queue (Putting 0 items) s.consumer m.queue ep' m.consumer
-        (record {
-          items = joined (taken_by s.consumer) s.queue.items d'.items;
-          room = d'.room;
-          producer = (omega arith, d'.producer);
-          consumer = d'.consumer;
-        }))
-        (λ t d told. points t.queue.items t.queue.closed t.producer t.consumer d)
-      where
-        joined : (a b : List ℕ) → inside ≡ a ++ (b ++ []) → inside ++ items ≡ a ++ (b ++ items)
-        joined a b e =
-            let short : inside ≡ a ++ b = e ∙ ap (λ z. a ++ z) (append-nil b) in
-            ap (λ z. z ++ items) short ∙ append_assoc a b items
+  pub put_begin : Accepts capacity h (PutBegin items) (inside ++ items) (Offers (length items) (length inside)) take' false
+  put_begin =
+      let long : length (inside ++ items) ≡ length inside + length items = length-append inside items in
+      let F : ℕ → Type 0 = λ z. IsSoundTake (length items) z take' false in
+      accept capacity h (PutBegin items) inside (inside ++ items) Free (Offers (length items) (length inside)) take' take' false false [] k (refl, some, refl)
+      (holds_fewer capacity (length (inside ++ items) - (length items + asked_by take')) (length inside - (0 + asked_by take')) (omega (arith, long)) k.few)
+      (refl, omega (arith, long))
+      (subst F (sym long) (more_take (length inside) (length items) take' k.take_ok))
+      (λ s t d m.
+      let (ep, some', ep') = m.producer in
+      let d' = with_producer capacity inside Free take' false s d Idle ep in
+      described_at capacity (inside ++ items) (Offers (length items) (length inside)) take' false t s.queue (Putting 0 0 items) s.consumer m.queue ep' m.consumer
+      (record {
+        items = joined (taken_by s.consumer) s.queue.items d'.items;
+        room = d'.room;
+        producer = (omega arith, d'.producer, inl refl);
+        consumer = d'.consumer;
+      }))
+      (λ t d told. points t.queue.items t.queue.closed t.producer t.consumer d)
+    where
+      joined : (a b : List ℕ) → inside ≡ a ++ (b ++ []) → inside ++ items ≡ a ++ (b ++ items)
+      joined a b e =
+          let short : inside ≡ a ++ b = e ∙ ap (λ z. a ++ z) (append-nil b) in
+          ap (λ z. z ++ items) short ∙ append_assoc a b items
 
 -- a put that begins after a close had ended, or a take was told of it
-module _ (capacity : ℕ) (h : List Event) (inside items : List ℕ) (take' : TakeTurn) where
-  late_points :
-      Keeps capacity h inside Free take' true → (q : Queue) (p : Producer) (c : Consumer) → Describes capacity inside Late take' true (point q p c) → IsTold Late p →
-      CanLeadTo capacity (h ++ PutBegin items ∷ []) (point q p c)
-  late_points k q Idle c d told = absurd d.producer
-  late_points k q (Putting m left) c d told = absurd told
-  late_points k q (FoundFull its) c d told = absurd d.producer
-  late_points k q FoundShut c d told =
-      goes capacity (h ++ PutBegin items ∷ []) (point q (Putting 0 items) c) (point q FoundShut c) FindShut
-      (happens capacity h (point q Idle c) (point q (Putting 0 items) c) (PutBegin items)
-      (k.sound (point q Idle c) (record { items = d.items; room = d.room; producer = d.producer; consumer = d.consumer }) tt)
-      (record { queue = refl; producer = (refl, refl); consumer = refl }))
-      (record { queue = (d.producer, refl); producer = (items, refl, refl); consumer = refl })
-  late_points k q (Closing done) c d told = absurd d.producer
+module _ (capacity : Capacity) (h : List Event) (inside items : List ℕ) (take' : TakeTurn) (k : Keeps capacity h inside Free take' true) (some : 0 < length items) where
+  abbrev Leading : Point → Type 0
+  Leading t = CanLeadTo capacity (h ++ PutBegin items ∷ []) t
 
-  pub late_begin : Keeps capacity h inside Free take' true → Accepts capacity h (PutBegin items) inside Late take' true
-  late_begin k =
-      accept capacity h (PutBegin items) inside inside Free Late take' take' true true k (refl, refl) k.few refl k.take_ok
+  late_begun : (q : Queue) (c : Consumer) → inside ≡ taken_by c ++ (q.items ++ []) → Holds capacity (length q.items) → q.closed ≡ true → FitsTake take' c q → Leading (point q (Putting 0 0 items) c)
+  late_begun q c e l closed f =
+      happens capacity h (point q Idle c) (point q (Putting 0 0 items) c) (PutBegin items)
+      (k.sound (point q Idle c) (record { items = e; room = l; producer = closed; consumer = f }) tt)
+      (record { queue = refl; producer = (refl, some, refl); consumer = refl })
+
+  late_points :
+      (q : Queue) (p : Producer) (c : Consumer) → Describes capacity inside (Late (length items)) take' true (point q p c) → IsTold items (Late (length items)) p → Leading (point q p c)
+  late_points q Idle c d told = absurd d.producer
+  late_points q (Putting lacked m left) c d told =
+      let (none, nothing, closed) = d.producer in
+      subst (λ z. Leading (point q (Putting z m left) c)) (sym none)
+      (subst (λ z. Leading (point q (Putting 0 z left) c)) (sym nothing)
+      (subst (λ z. Leading (point q (Putting 0 0 z) c)) (sym told) (late_begun q c d.items d.room closed d.consumer)))
+  late_points q FoundShut c d told =
+      goes capacity (h ++ PutBegin items ∷ []) (point q (Putting 0 0 items) c) (point q FoundShut c) FindShut (late_begun q c d.items d.room d.producer d.consumer)
+      (record { queue = (d.producer, refl); producer = (items, refl, refl); consumer = refl })
+  late_points q (Closing done) c d told = absurd d.producer
+
+  pub late_begin : Accepts capacity h (PutBegin items) inside (Late (length items)) take' true
+  late_begin =
+      accept capacity h (PutBegin items) inside inside Free (Late (length items)) take' take' true true items k (refl, some, refl) k.few refl k.take_ok
       (λ s t d m.
-      let (ep, ep') = m.producer in
+      let (ep, some', ep') = m.producer in
       let d' = with_producer capacity inside Free take' true s d Idle ep in
-      described_at capacity inside Late take' true t s.queue (Putting 0 items) s.consumer m.queue ep' m.consumer
-      (record { items = d'.items; room = d'.room; producer = (refl, d'.producer); consumer = d'.consumer }))
-      (λ t d told. late_points k t.queue t.producer t.consumer d told)
+      described_at capacity inside (Late (length items)) take' true t s.queue (Putting 0 0 items) s.consumer m.queue ep' m.consumer
+      (record { items = d'.items; room = d'.room; producer = (refl, refl, d'.producer); consumer = d'.consumer }))
+      (λ t d told. late_points t.queue t.producer t.consumer d told)

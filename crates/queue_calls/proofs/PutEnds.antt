@@ -1,14 +1,15 @@
--- The puts: how they begin and end.
-use Rattle.std.proofs.Common.{◌≡◌, ◌⊎◌, inl, inr, ℕ, ◌+◌, ◌<◌, ◌≤◌, Bool, true, false, List, [], ◌++◌, length, take, drop, refl, sym, ap, ◌∙◌, arith, length-append, length-drop, append_assoc}
+-- The puts: how they end.
+use Rattle.std.proofs.Common.{◌≡◌, ◌⊎◌, inl, inr, ℕ, zero, suc, ◌+◌, ◌-◌, ◌<◌, ◌≤◌, Bool, true, false, List, [], ◌++◌, length, take, drop, refl, sym, ap, subst, ◌∙◌, arith, length-append, length-drop, append_assoc}
 use Rattle.std.proofs.lemmas.List.{append-nil, take-append-drop, length-take-le}
 use Rattle.std.proofs.Math.Seq.{take-append_seam}
-use Rattle.queue_calls.specs.Queue.{Queue}
-use Rattle.queue_calls.specs.Calls.{Event, PutStored, PutFull, PutClosed, Idle, Putting, FoundFull, FoundShut, Consumer, Resting, Taking, Took, FoundEmpty, FoundClosed, point}
+use Rattle.queue_calls.specs.Queue.{Capacity, Queue}
+use Rattle.queue_calls.specs.Calls.{Event, PutStored, PutFull, PutShort, PutNothing, PutClosed, Happens, Producer, Idle, Putting, FoundShut, Consumer, Resting, Taking, FoundClosed, short_of, ProducerStep, ConsumerStep, point}
 use Rattle.queue_calls.specs.declared.turns.PutTurn.TheVariants.{Free, Offers, Late}
 use Rattle.queue_calls.specs.declared.turns.TakeTurn.{TakeTurn}
 use Rattle.queue_calls.specs.declared.turns.TakeTurn.TheVariants.{Rests, Waits}
-use Rattle.queue_calls.specs.State.{taken_by, FitsTake, asked_by, IsSoundTake, Keeps, call_of_take}
-use Rattle.queue_calls.specs.InTurn.{NoCall, sides}
+use Rattle.queue_calls.specs.State.{taken_by, FitsTake, asked_by, IsSoundTake, MayLack, CanEndPut, Keeps, call_of_take}
+use Rattle.queue_calls.specs.InTurn.{NoCall, APut, sides, Turn}
+use Rattle.queue_calls.proofs.Rooms.{holds_fewer}
 use Rattle.queue_calls.proofs.Points.{happens}
 use Rattle.queue_calls.proofs.Effects.{described_at}
 use Rattle.queue_calls.proofs.Keeping.{Accepts, Refused, accept, refuse}
@@ -27,155 +28,209 @@ whole_of xs a b n e =
     let front : take n xs ≡ a ++ b = e ∙ ap (λ z. a ++ z) (append-nil b) in
     sym (take-append-drop n xs) ∙ (ap (λ z. z ++ drop n xs) front ∙ append_assoc a b (drop n xs))
 
-module _ (capacity : ℕ) (h : List Event) (inside : List ℕ) (take' : TakeTurn) (shut : Bool) where
-  take_stays : (offered n m : ℕ) (t : TakeTurn) → (offered < n → 0 < m) → IsSoundTake offered n t shut → IsSoundTake 0 m t shut
-  take_stays offered n m Rests l f = tt
-  take_stays offered n m (Waits empty) l f = λ e. elim (f e) [ inl a ↦ inl (l a) | inr s ↦ inr s ]
+few_taken : (turn : TakeTurn) (c : Consumer) (q : Queue) → FitsTake turn c q → length (taken_by c) ≤ asked_by turn
+few_taken Rests Resting q f = omega arith
+few_taken Rests (Taking lacked took left) q f = absurd f
+few_taken Rests FoundClosed q f = absurd f
+few_taken (Waits wanted before ended) Resting q f = absurd f
+few_taken (Waits wanted before ended) (Taking lacked took left) q f = omega (arith, f.0)
+few_taken (Waits wanted before ended) FoundClosed q f = omega arith
 
-  pub put_stored :
-      (offered count kept : ℕ) (full : Bool) → Keeps capacity h inside (Offers offered full) take' shut → 0 < count → count ≤ offered →
-      kept + offered ≡ length inside + count → kept ≤ capacity + asked_by take' →
-      Accepts capacity h (PutStored count) (take kept inside) Free take' shut
-  put_stored offered count kept full k some few e l =
-      let long : length (take kept inside) ≡ kept = length-take-le kept inside (omega (arith, e, few)) in
-      accept capacity h (PutStored count) inside (take kept inside) (Offers offered full) Free take' take' shut shut k (refl, refl)
-      (omega (arith, long, l)) tt
-      (take_stays offered (length inside) (length (take kept inside)) take' (λ a. omega (arith, a, long, e)) k.take_ok)
-      (λ s t d m.
-      let (left, pos, ep, ep') = m.producer in
-      let d' = with_producer capacity inside (Offers offered full) take' shut s d (Putting count left) ep in
-      described_at capacity (take kept inside) Free take' shut t s.queue Idle s.consumer m.queue ep' m.consumer
-      (record {
-        items = front_of inside (taken_by s.consumer) s.queue.items left kept d'.items (omega (arith, e, d'.producer.0));
-        room = d'.room;
-        producer = d'.producer.1 ∙ sym k.put_ok.0;
-        consumer = d'.consumer;
-      }))
-      (λ t d told.
-      let (ep, ec) = free_idle shut t.queue.closed t.producer d.producer in
-      let left : List ℕ = drop kept inside in
-      let d' = with_producer capacity (take kept inside) Free take' shut t d Idle ep in
-      happens capacity h (point t.queue (Putting count left) t.consumer) t (PutStored count)
-      (k.sound (point t.queue (Putting count left) t.consumer)
-      (record {
-        items = whole_of inside (taken_by t.consumer) t.queue.items kept d'.items;
-        room = d.room;
-        producer = (omega (arith, length-drop kept inside, e, few), ec ∙ k.put_ok.0);
-        consumer = d.consumer;
-      }) tt)
-      (record { queue = refl; producer = (left, some, refl, ep); consumer = refl }))
+-- an end of a put that stored so many items, where it found no room for the number that goes with those left
+record Ends (e : Event) (done : ℕ) (lack : ℕ → ℕ) : Type 0 where
+  ends : (p p' : Producer) → ProducerStep p (Happens e) p' → (left : List ℕ) × (p ≡ Putting (lack (length left)) done left) × (p' ≡ Idle)
+  idle : (c c' : Consumer) → ConsumerStep c (Happens e) c' → c' ≡ c
+  rests : (c : Consumer) → ConsumerStep c (Happens e) c
 
-  -- a put tells that items were stored where that can be
-  pub not_stored :
-      (offered count : ℕ) (full : Bool) → Keeps capacity h inside (Offers offered full) take' shut →
-      (count ≡ 0) ⊎ ((offered < count) ⊎ ((length inside + count < offered) ⊎ (capacity + asked_by take' + offered < length inside + count))) →
-      Refused capacity h (PutStored count) inside (Offers offered full) take' shut
-  not_stored offered count full k bad =
-      refuse capacity h (PutStored count) inside (Offers offered full) take' shut (sides NoCall (call_of_take take')) k (refl, refl)
-      (λ s t d m.
-      let (left, pos, ep, ep') = m.producer in
-      let d' = with_producer capacity inside (Offers offered full) take' shut s d (Putting count left) ep in
-      contradiction s.queue s.consumer take' left d'.items d'.room d'.producer.0 d'.consumer pos bad)
+stored_ends : (count : ℕ) → Ends (PutStored count) count (short_of count)
+stored_ends count = record { ends = λ p p' m. (m.0, m.2, m.3); idle = λ c c' m. m; rests = λ c. refl }
+
+full_ends : Ends PutFull 0 (λ _. 1)
+full_ends = record { ends = λ p p' m. m; idle = λ c c' m. m; rests = λ c. refl }
+
+short_ends : Ends PutShort 0 (λ n. n)
+short_ends = record { ends = λ p p' m. (m.0, m.2, m.3); idle = λ c c' m. m; rests = λ c. refl }
+
+nothing_ends : Ends PutNothing 0 (λ _. 0)
+nothing_ends = record { ends = λ p p' m. m; idle = λ c c' m. m; rests = λ c. refl }
+
+module _ (capacity : Capacity) (h : List Event) (inside : List ℕ) (take' : TakeTurn) (shut : Bool) where
+  take_stays : (offered n m : ℕ) (t : TakeTurn) → n - offered ≤ m → shut ≡ false → IsSoundTake offered n t shut → IsSoundTake 0 m t shut
+  take_stays offered n m Rests l o f = tt
+  take_stays offered n m (Waits wanted before ended) l o f = (omega (arith, l, f.0), λ e. let g : shut ≡ true = (f.1 e).0 in absurd (cc))
+
+  module _ (e : Event) (offered before done rest : ℕ) (lack : ℕ → ℕ) (ends : Ends e done lack) (k : Keeps capacity h inside (Offers offered before) take' shut) (sum : done + rest ≡ offered) where
+    accepts :
+        Turn (sides (APut offered) (call_of_take take')) e (sides NoCall (call_of_take take')) → ((left : List ℕ) → length left ≡ rest → ProducerStep (Putting (lack (length left)) done left) (Happens e) Idle) →
+        MayLack capacity before (lack rest) → CanEndPut capacity (length inside) (asked_by take') rest → Accepts capacity h e (take (length inside - rest) inside) Free take' shut
+    accepts turn back lacks fits =
+        let kept : ℕ = length inside - rest in
+        let long : length (take kept inside) ≡ kept = length-take-le kept inside (omega arith) in
+        accept capacity h e inside (take kept inside) (Offers offered before) Free take' take' shut shut [] k turn
+        (holds_fewer capacity (length (take kept inside) - (0 + asked_by take')) ((length inside - rest) - asked_by take') (omega (arith, long)) fits.1) tt
+        (take_stays offered (length inside) (length (take kept inside)) take' (omega (arith, long, sum)) k.put_ok.0 k.take_ok)
+        (λ s t d m.
+        let (left, ep, ep') = ends.ends s.producer t.producer m.producer in
+        let d' = with_producer capacity inside (Offers offered before) take' shut s d (Putting (lack (length left)) done left) ep in
+        described_at capacity (take kept inside) Free take' shut t s.queue Idle s.consumer m.queue ep' (ends.idle s.consumer t.consumer m.consumer)
+        (record {
+          items = front_of inside (taken_by s.consumer) s.queue.items left kept d'.items (omega (arith, fits.0, sum, d'.producer.0));
+          room = d'.room;
+          producer = d'.producer.1 ∙ sym k.put_ok.0;
+          consumer = d'.consumer;
+        }))
+        (λ t d told.
+        let (ep, ec) = free_idle capacity shut t.queue.closed t.producer d.producer in
+        let left : List ℕ = drop kept inside in
+        let all : length left ≡ rest = omega (arith, length-drop kept inside, fits.0) in
+        let d' = with_producer capacity (take kept inside) Free take' shut t d Idle ep in
+        let step : ProducerStep (Putting (lack (length left)) done left) (Happens e) t.producer = subst (λ z. ProducerStep (Putting (lack (length left)) done left) (Happens e) z) (sym ep) (back left all) in
+        happens capacity h (point t.queue (Putting (lack (length left)) done left) t.consumer) t e
+        (k.sound (point t.queue (Putting (lack (length left)) done left) t.consumer)
+        (record {
+          items = whole_of inside (taken_by t.consumer) t.queue.items kept d'.items;
+          room = d.room;
+          producer = (omega (arith, all, sum), ec ∙ k.put_ok.0, subst (λ z. MayLack capacity before (lack z)) (sym all) lacks);
+          consumer = d.consumer;
+        }) tt)
+        (record { queue = refl; producer = step; consumer = ends.rests t.consumer }))
+
+    refuses :
+        Turn (sides (APut offered) (call_of_take take')) e (sides NoCall (call_of_take take')) →
+        (MayLack capacity before (lack rest) → ⊥) ⊎ (CanEndPut capacity (length inside) (asked_by take') rest → ⊥) → Refused capacity h e inside (Offers offered before) take' shut
+    refuses turn bad =
+        refuse capacity h e inside (Offers offered before) take' shut (sides NoCall (call_of_take take')) k turn
+        (λ s t d m.
+        let (left, ep, ep') = ends.ends s.producer t.producer m.producer in
+        let d' = with_producer capacity inside (Offers offered before) take' shut s d (Putting (lack (length left)) done left) ep in
+        let all : length left ≡ rest = omega (arith, sum, d'.producer.0) in
+        let long : length inside ≡ length (taken_by s.consumer) + (length s.queue.items + length left) =
+        omega (arith, ap length d'.items, length-append (taken_by s.consumer) (s.queue.items ++ left), length-append s.queue.items left) in
+        elim bad [
+          | inl n ↦ n (subst (λ z. MayLack capacity before (lack z)) all d'.producer.2)
+          | inr n ↦ n (
+            omega (arith, all, long),
+            holds_fewer capacity ((length inside - rest) - asked_by take') (length s.queue.items)
+                (omega (arith, all, long, few_taken take' s.consumer s.queue d'.consumer)) d'.room,
+          )
+        ])
+
+  -- a put of which items are left found no room for one more than it stored, and one of which none is left has no reason to tell
+  reason : (before offered count : ℕ) → count ≤ offered → (count < offered → MayLack capacity before (suc count)) → MayLack capacity before (short_of count (offered - count))
+  reason before offered count l f = by_rest (offered - count) refl
     where
-      contradiction :
-          (q : Queue) (c : Consumer) (turn : TakeTurn) (left : List ℕ) → inside ≡ taken_by c ++ (q.items ++ left) → length q.items ≤ capacity →
-          count + length left ≡ offered → FitsTake turn c q → 0 < count →
-          (count ≡ 0) ⊎ ((offered < count) ⊎ ((length inside + count < offered) ⊎ (capacity + asked_by turn + offered < length inside + count))) → ⊥
-      contradiction q c turn left e room sum f pos bad =
-          let long : length inside ≡ length (taken_by c) + (length q.items + length left) = omega (arith, ap length e, length-append (taken_by c) (q.items ++ left), length-append q.items left) in
-          let took : length (taken_by c) ≤ asked_by turn = few_taken turn c q f in
-          elim bad [
-            | inl a ↦ omega (arith, a, pos)
-            | inr b ↦ elim b [ inl a ↦ omega (arith, a, sum) | inr z ↦ elim z [ inl a ↦ omega (arith, a, sum, long) | inr a ↦ omega (arith, a, sum, long, took, room) ] ]
-          ]
-        where
-          few_taken : (turn : TakeTurn) (c : Consumer) (q : Queue) → FitsTake turn c q → length (taken_by c) ≤ asked_by turn
-          few_taken Rests Resting q f = omega arith
-          few_taken Rests Taking q f = absurd f
-          few_taken Rests (Took item) q f = absurd f
-          few_taken Rests FoundEmpty q f = absurd f
-          few_taken Rests FoundClosed q f = absurd f
-          few_taken (Waits empty) Resting q f = absurd f
-          few_taken (Waits empty) Taking q f = omega arith
-          few_taken (Waits empty) (Took item) q f = omega arith
-          few_taken (Waits empty) FoundEmpty q f = omega arith
-          few_taken (Waits empty) FoundClosed q f = omega arith
+      by_rest : (n : ℕ) → n ≡ offered - count → MayLack capacity before (short_of count n)
+      by_rest zero e = inl refl
+      by_rest (suc n) e = f (omega (arith, e))
 
-  pub put_full :
-      (offered kept : ℕ) → Keeps capacity h inside (Offers offered true) take' shut → kept + offered ≡ length inside →
-      Accepts capacity h PutFull (take kept inside) Free take' shut
-  put_full offered kept k e =
-      let long : length (take kept inside) ≡ kept = length-take-le kept inside (omega (arith, e)) in
-      accept capacity h PutFull inside (take kept inside) (Offers offered true) Free take' take' shut shut k (refl, refl)
-      (omega (arith, long, e, k.few)) tt
-      (take_stays offered (length inside) (length (take kept inside)) take' (λ a. omega (arith, a, long, e)) k.take_ok)
-      (λ s t d m.
-      let (items, ep, ep') = m.producer in
-      let d' = with_producer capacity inside (Offers offered true) take' shut s d (FoundFull items) ep in
-      described_at capacity (take kept inside) Free take' shut t s.queue Idle s.consumer m.queue ep' m.consumer
-      (record {
-        items = front_of inside (taken_by s.consumer) s.queue.items items kept d'.items (omega (arith, e, d'.producer.1));
-        room = d'.room;
-        producer = d'.producer.2 ∙ sym k.put_ok.0;
-        consumer = d'.consumer;
-      }))
-      (λ t d told.
-      let (ep, ec) = free_idle shut t.queue.closed t.producer d.producer in
-      let items : List ℕ = drop kept inside in
-      let d' = with_producer capacity (take kept inside) Free take' shut t d Idle ep in
-      happens capacity h (point t.queue (FoundFull items) t.consumer) t PutFull
-      (k.sound (point t.queue (FoundFull items) t.consumer)
-      (record {
-        items = whole_of inside (taken_by t.consumer) t.queue.items kept d'.items;
-        room = d.room;
-        producer = (refl, omega (arith, length-drop kept inside, e), ec ∙ k.put_ok.0);
-        consumer = d.consumer;
-      }) tt)
-      (record { queue = refl; producer = (items, refl, ep); consumer = refl }))
+  no_reason : (before offered count : ℕ) → count < offered → MayLack capacity before (short_of count (offered - count)) → MayLack capacity before (suc count)
+  no_reason before offered count l f = by_rest (offered - count) refl f
+    where
+      by_rest : (n : ℕ) → n ≡ offered - count → MayLack capacity before (short_of count n) → MayLack capacity before (suc count)
+      by_rest zero e g = absurd (omega (arith, e, l))
+      by_rest (suc n) e g = g
 
-  pub not_full :
-      (offered : ℕ) (full : Bool) → Keeps capacity h inside (Offers offered full) take' shut → (full ≡ false) ⊎ (length inside < offered) →
-      Refused capacity h PutFull inside (Offers offered full) take' shut
-  not_full offered full k bad =
-      refuse capacity h PutFull inside (Offers offered full) take' shut (sides NoCall (call_of_take take')) k (refl, refl)
-      (λ s t d m.
-      let (items, ep, ep') = m.producer in
-      let d' = with_producer capacity inside (Offers offered full) take' shut s d (FoundFull items) ep in
-      elim bad [
-        | inl e ↦ (let f : full ≡ true = d'.producer.0 in cc)
-        | inr l ↦ omega (arith, l, ap length d'.items, length-append (taken_by s.consumer) (s.queue.items ++ items), length-append s.queue.items items, d'.producer.1)
-      ])
+  module _ (offered before : ℕ) (k : Keeps capacity h inside (Offers offered before) take' shut) where
+    pub put_stored :
+        (count : ℕ) → 0 < count → count ≤ offered → (count < offered → MayLack capacity before (suc count)) →
+        CanEndPut capacity (length inside) (asked_by take') (offered - count) →
+        Accepts capacity h (PutStored count) (take (length inside - (offered - count)) inside) Free take' shut
+    put_stored count some few lacks fits =
+        accepts (PutStored count) offered before count (offered - count) (short_of count) (stored_ends count) k (omega (arith, few)) (offered, refl, some, few, refl)
+        (λ left all. (left, some, refl, refl)) (reason before offered count few lacks) fits
 
-  pub put_closed : Keeps capacity h inside Late take' shut → Accepts capacity h PutClosed inside Free take' shut
-  put_closed k =
-      accept capacity h PutClosed inside inside Late Free take' take' shut shut k (refl, refl) k.few tt k.take_ok
-      (λ s t d m.
-      let (ep, ep') = m.producer in
-      let d' = with_producer capacity inside Late take' shut s d FoundShut ep in
-      described_at capacity inside Free take' shut t s.queue Idle s.consumer m.queue ep' m.consumer
-      (record { items = d'.items; room = d'.room; producer = d'.producer ∙ sym k.put_ok; consumer = d'.consumer }))
-      (λ t d told.
-      let (ep, ec) = free_idle shut t.queue.closed t.producer d.producer in
-      let d' = with_producer capacity inside Free take' shut t d Idle ep in
-      happens capacity h (point t.queue FoundShut t.consumer) t PutClosed
-      (k.sound (point t.queue FoundShut t.consumer) (record { items = d'.items; room = d.room; producer = ec ∙ k.put_ok; consumer = d.consumer }) tt)
-      (record { queue = refl; producer = (refl, ep); consumer = refl }))
+    pub not_stored :
+        (count : ℕ) → 0 < count → count ≤ offered →
+        ((count < offered) × (MayLack capacity before (suc count) → ⊥)) ⊎ (CanEndPut capacity (length inside) (asked_by take') (offered - count) → ⊥) →
+        Refused capacity h (PutStored count) inside (Offers offered before) take' shut
+    not_stored count some few bad =
+        refuses (PutStored count) offered before count (offered - count) (short_of count) (stored_ends count) k (omega (arith, few)) (offered, refl, some, few, refl)
+        (elim bad [ inl n ↦ inl (λ f. n.1 (no_reason before offered count n.0 f)) | inr n ↦ inr n ])
 
-  pub not_closed : (offered : ℕ) (full : Bool) → Keeps capacity h inside (Offers offered full) take' shut → Refused capacity h PutClosed inside (Offers offered full) take' shut
-  not_closed offered full k =
-      refuse capacity h PutClosed inside (Offers offered full) take' shut (sides NoCall (call_of_take take')) k (refl, refl)
-      (λ s t d m. (with_producer capacity inside (Offers offered full) take' shut s d FoundShut m.producer.0).producer)
+    pub put_full : MayLack capacity before 1 → CanEndPut capacity (length inside) (asked_by take') offered → Accepts capacity h PutFull (take (length inside - offered) inside) Free take' shut
+    put_full lacks fits =
+        accepts PutFull offered before 0 offered (λ _. 1) full_ends k (omega arith) (offered, refl, refl) (λ left all. (left, refl, refl)) lacks fits
 
-  -- a put that began after a close stores nothing and finds nothing full
-  pub late_not_stored : (count : ℕ) → Keeps capacity h inside Late take' shut → Refused capacity h (PutStored count) inside Late take' shut
-  late_not_stored count k =
-      refuse capacity h (PutStored count) inside Late take' shut (sides NoCall (call_of_take take')) k (refl, refl)
-      (λ s t d m.
-      let (left, pos, ep, ep') = m.producer in
-      let none : count ≡ 0 = (with_producer capacity inside Late take' shut s d (Putting count left) ep).producer.0 in
-      omega (arith, none, pos))
+    pub not_full :
+        (MayLack capacity before 1 → ⊥) ⊎ (CanEndPut capacity (length inside) (asked_by take') offered → ⊥) → Refused capacity h PutFull inside (Offers offered before) take' shut
+    not_full bad = refuses PutFull offered before 0 offered (λ _. 1) full_ends k (omega arith) (offered, refl, refl) bad
 
-  pub late_not_full : Keeps capacity h inside Late take' shut → Refused capacity h PutFull inside Late take' shut
-  late_not_full k =
-      refuse capacity h PutFull inside Late take' shut (sides NoCall (call_of_take take')) k (refl, refl)
-      (λ s t d m. let (items, ep, ep') = m.producer in (with_producer capacity inside Late take' shut s d (FoundFull items) ep).producer)
+    pub put_short :
+        1 < offered → MayLack capacity before offered → CanEndPut capacity (length inside) (asked_by take') offered → Accepts capacity h PutShort (take (length inside - offered) inside) Free take' shut
+    put_short several lacks fits =
+        accepts PutShort offered before 0 offered (λ n. n) short_ends k (omega arith) (offered, refl, several, refl)
+        (λ left all. (left, omega (arith, all, several), refl, refl)) lacks fits
+
+    pub not_short :
+        1 < offered → (MayLack capacity before offered → ⊥) ⊎ (CanEndPut capacity (length inside) (asked_by take') offered → ⊥) →
+        Refused capacity h PutShort inside (Offers offered before) take' shut
+    not_short several bad = refuses PutShort offered before 0 offered (λ n. n) short_ends k (omega arith) (offered, refl, several, refl) bad
+
+    pub put_nothing : CanEndPut capacity (length inside) (asked_by take') offered → Accepts capacity h PutNothing (take (length inside - offered) inside) Free take' shut
+    put_nothing fits =
+        accepts PutNothing offered before 0 offered (λ _. 0) nothing_ends k (omega arith) (offered, refl, refl) (λ left all. (left, refl, refl)) (inl refl) fits
+
+    pub not_nothing : (CanEndPut capacity (length inside) (asked_by take') offered → ⊥) → Refused capacity h PutNothing inside (Offers offered before) take' shut
+    not_nothing bad = refuses PutNothing offered before 0 offered (λ _. 0) nothing_ends k (omega arith) (offered, refl, refl) (inr bad)
+
+    pub not_closed : Refused capacity h PutClosed inside (Offers offered before) take' shut
+    not_closed =
+        refuse capacity h PutClosed inside (Offers offered before) take' shut (sides NoCall (call_of_take take')) k (offered, refl, refl)
+        (λ s t d m. (with_producer capacity inside (Offers offered before) take' shut s d FoundShut m.producer.0).producer)
+
+  -- a put that began after a close had ended
+  module _ (offered : ℕ) (k : Keeps capacity h inside (Late offered) take' shut) where
+    pub put_closed : Accepts capacity h PutClosed inside Free take' shut
+    put_closed =
+        accept capacity h PutClosed inside inside (Late offered) Free take' take' shut shut [] k (offered, refl, refl) k.few tt k.take_ok
+        (λ s t d m.
+        let (ep, ep') = m.producer in
+        let d' = with_producer capacity inside (Late offered) take' shut s d FoundShut ep in
+        described_at capacity inside Free take' shut t s.queue Idle s.consumer m.queue ep' m.consumer
+        (record { items = d'.items; room = d'.room; producer = d'.producer ∙ sym k.put_ok; consumer = d'.consumer }))
+        (λ t d told.
+        let (ep, ec) = free_idle capacity shut t.queue.closed t.producer d.producer in
+        let d' = with_producer capacity inside Free take' shut t d Idle ep in
+        happens capacity h (point t.queue FoundShut t.consumer) t PutClosed
+        (k.sound (point t.queue FoundShut t.consumer) (record { items = d'.items; room = d.room; producer = ec ∙ k.put_ok; consumer = d.consumer }) tt)
+        (record { queue = refl; producer = (refl, ep); consumer = refl }))
+
+    pub late_nothing : Accepts capacity h PutNothing inside Free take' shut
+    late_nothing =
+        accept capacity h PutNothing inside inside (Late offered) Free take' take' shut shut [] k (offered, refl, refl) k.few tt k.take_ok
+        (λ s t d m.
+        let (items, ep, ep') = m.producer in
+        let d' = with_producer capacity inside (Late offered) take' shut s d (Putting 0 0 items) ep in
+        described_at capacity inside Free take' shut t s.queue Idle s.consumer m.queue ep' m.consumer
+        (record { items = d'.items; room = d'.room; producer = d'.producer.2 ∙ sym k.put_ok; consumer = d'.consumer }))
+        (λ t d told.
+        let (ep, ec) = free_idle capacity shut t.queue.closed t.producer d.producer in
+        let d' = with_producer capacity inside Free take' shut t d Idle ep in
+        happens capacity h (point t.queue (Putting 0 0 k.late) t.consumer) t PutNothing
+        (k.sound (point t.queue (Putting 0 0 k.late) t.consumer) (record { items = d'.items; room = d.room; producer = (refl, refl, ec ∙ k.put_ok); consumer = d.consumer }) refl)
+        (record { queue = refl; producer = (k.late, refl, ep); consumer = refl }))
+
+    -- it stores nothing, and finds no want of room
+    pub late_not_stored : (count : ℕ) → 0 < count → count ≤ offered → Refused capacity h (PutStored count) inside (Late offered) take' shut
+    late_not_stored count some few =
+        refuse capacity h (PutStored count) inside (Late offered) take' shut (sides NoCall (call_of_take take')) k (offered, refl, some, few, refl)
+        (λ s t d m.
+        let (left, pos, ep, ep') = m.producer in
+        let none : count ≡ 0 = (with_producer capacity inside (Late offered) take' shut s d (Putting (short_of count (length left)) count left) ep).producer.1 in
+        omega (arith, none, pos))
+
+    pub late_not_full : Refused capacity h PutFull inside (Late offered) take' shut
+    late_not_full =
+        refuse capacity h PutFull inside (Late offered) take' shut (sides NoCall (call_of_take take')) k (offered, refl, refl)
+        (λ s t d m.
+        let (items, ep, ep') = m.producer in
+        let none : 1 ≡ 0 = (with_producer capacity inside (Late offered) take' shut s d (Putting 1 0 items) ep).producer.0 in
+        omega (arith, none))
+
+    pub late_not_short : 1 < offered → Refused capacity h PutShort inside (Late offered) take' shut
+    late_not_short several =
+        refuse capacity h PutShort inside (Late offered) take' shut (sides NoCall (call_of_take take')) k (offered, refl, several, refl)
+        (λ s t d m.
+        let (items, more, ep, ep') = m.producer in
+        let none : length items ≡ 0 = (with_producer capacity inside (Late offered) take' shut s d (Putting (length items) 0 items) ep).producer.0 in
+        omega (arith, none, more))

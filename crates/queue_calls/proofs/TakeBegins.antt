@@ -1,197 +1,195 @@
--- The takes: how they begin; and the events that come out of turn.
-use Rattle.std.proofs.Common.{◌≡◌, ◌⊎◌, inl, inr, ℕ, zero, suc, ◌+◌, ◌-◌, ◌<◌, ◌≤◌, Bool, true, false, List, [], ◌∷◌, ◌++◌, length, refl, sym, ap, subst, ◌∙◌, arith, length-append, append_assoc}
-use Rattle.queue_calls.specs.Queue.{Queue, queue, Enqueue, Close, Dequeue, FindEmpty, FindClosed}
-use Rattle.queue_calls.specs.Calls.{Event, TakeBegin, Producer, Idle, Putting, FoundFull, FoundShut, Closing, Consumer, Resting, Taking, Took, FoundEmpty, FoundClosed, Point, point, CanLeadTo}
+-- The takes: how they begin.
+use Rattle.std.proofs.Common.{◌≡◌, ◌⊎◌, inl, inr, ℕ, ◌+◌, ◌-◌, ◌<◌, ◌≤◌, Bool, true, false, List, [], ◌∷◌, ◌++◌, length, refl, sym, ap, subst, ◌∙◌, arith, length-append}
+use Rattle.std.proofs.lemmas.List.{append-nil}
+use Rattle.queue_calls.specs.Queue.{Capacity, Queue, queue, IsDrained, Close, FindFewer, FindClosed}
+use Rattle.queue_calls.specs.Calls.{Event, TakeBegin, Producer, Idle, Putting, FoundShut, Closing, Consumer, Resting, Taking, FoundClosed, Point, point, CanLeadTo}
 use Rattle.queue_calls.specs.declared.turns.PutTurn.{PutTurn}
 use Rattle.queue_calls.specs.declared.turns.PutTurn.TheVariants.{Free, Offers, Late, Closes}
 use Rattle.queue_calls.specs.declared.turns.TakeTurn.TheVariants.{Rests, Waits}
-use Rattle.queue_calls.specs.State.{taken_by, left_by, FitsPut, Describes, offered_by, IsTold, Keeps}
+use Rattle.queue_calls.specs.State.{IsProper, Holds, taken_by, left_by, MayLack, MayFindFewer, FitsPut, Describes, offered_by, IsSoundPut, IsTold, Keeps}
+use Rattle.queue_calls.proofs.Rooms.{holds_fewer, holds_none}
 use Rattle.queue_calls.proofs.Points.{start, goes, happens, only_start}
 use Rattle.queue_calls.proofs.Effects.{described_at, stays}
 use Rattle.queue_calls.proofs.Keeping.{Accepts, accept, at_most_or_above, split, Split}
 use Rattle.queue_calls.proofs.Sides.{free_idle, rests_resting, with_consumer}
-use Rattle.queue_calls.proofs.Batches.{enqueues}
+use Rattle.queue_calls.proofs.Batches.{dequeues, moves}
 
-module _ (capacity : ℕ) (h : List Event) (inside : List ℕ) (put : PutTurn) (shut : Bool) (k : Keeps capacity h inside put Rests shut) where
+-- items may come to an open queue, and are in one that is closed with some inside
+not_drained : (xs : List ℕ) (closed : Bool) → (closed ≡ true → 0 < length xs) → ¬ IsDrained (queue xs closed)
+not_drained xs closed f (none, c) = omega (arith, f c, ap length none)
+
+module _ (capacity : Capacity) (h : List Event) (inside : List ℕ) (shut : Bool) (wanted : ℕ) (some : 0 < wanted) where
   abbrev After : Point → Type 0
-  After t = CanLeadTo capacity (h ++ TakeBegin ∷ []) t
+  After t = CanLeadTo capacity (h ++ TakeBegin wanted ∷ []) t
 
-  -- a point before the take, and that behind its begin
-  begun : (q : Queue) (p : Producer) → inside ≡ q.items ++ left_by put p → length q.items ≤ capacity → FitsPut put shut p q.closed → IsTold put p → After (point q p Taking)
-  begun q p e l f told =
-      happens capacity h (point q p Resting) (point q p Taking) TakeBegin
-      (k.sound (point q p Resting) (record { items = e; room = l; producer = f; consumer = tt }) told)
-      (record { queue = refl; producer = refl; consumer = (refl, refl) })
+  module _ (put : PutTurn) (k : Keeps capacity h inside put Rests shut) where
+    -- a point before the take, and that behind its begin
+    begun : (q : Queue) (p : Producer) → inside ≡ q.items ++ left_by put p → Holds capacity (length q.items) → FitsPut capacity put shut p q.closed → IsTold k.late put p → After (point q p (Taking 0 [] wanted))
+    begun q p e l f told =
+        happens capacity h (point q p Resting) (point q p (Taking 0 [] wanted)) (TakeBegin wanted)
+        (k.sound (point q p Resting) (record { items = e; room = l; producer = f; consumer = tt }) told)
+        (record { queue = refl; producer = refl; consumer = (refl, some, refl) })
 
-  -- it took an item that was inside
-  took_first :
-      (xs : List ℕ) (closed : Bool) (p : Producer) (item : ℕ) → inside ≡ item ∷ (xs ++ left_by put p) → length xs < capacity → FitsPut put shut p closed → IsTold put p →
-      After (point (queue xs closed) p (Took item))
-  took_first xs closed p item e l f told =
-      goes capacity (h ++ TakeBegin ∷ []) (point (queue (item ∷ xs) closed) p Taking) (point (queue xs closed) p (Took item)) (Dequeue item)
-      (begun (queue (item ∷ xs) closed) p e (omega (arith, l)) f told)
-      (record { queue = (refl, refl); producer = refl; consumer = (refl, refl) })
+    -- it found fewer than so many, or did not look
+    lacking :
+        (q : Queue) (p : Producer) (found : ℕ) → (found ≡ 0) ⊎ ((length q.items < found) × (¬ IsDrained q)) → After (point q p (Taking 0 [] wanted)) → After (point q p (Taking found [] wanted))
+    lacking q p found lacks r = elim lacks [
+      | inl e ↦ subst (λ z. After (point q p (Taking z [] wanted))) (sym e) r
+      | inr l ↦
+          goes capacity (h ++ TakeBegin wanted ∷ []) (point q p (Taking 0 [] wanted)) (point q p (Taking found [] wanted)) (FindFewer found) r
+          (record { queue = (l.0, l.1, refl); producer = refl; consumer = (wanted, refl, refl) })
+    ]
 
-  -- it found the queue empty
-  found_first :
-      (closed : Bool) (p : Producer) → inside ≡ left_by put p → closed ≡ false → FitsPut put shut p closed → IsTold put p → After (point (queue [] closed) p FoundEmpty)
-  found_first closed p e o f told =
-      goes capacity (h ++ TakeBegin ∷ []) (point (queue [] closed) p Taking) (point (queue [] closed) p FoundEmpty) FindEmpty
-      (begun (queue [] closed) p e (omega arith) f told)
-      (record { queue = (refl, o, refl); producer = refl; consumer = (refl, refl) })
+    -- it was told that the queue is closed
+    told_closed :
+        (q : Queue) (p : Producer) → inside ≡ q.items ++ left_by put p → Holds capacity (length q.items) → FitsPut capacity put shut p q.closed → IsTold k.late put p → IsDrained q →
+        After (point q p FoundClosed)
+    told_closed q p e l f told none =
+        goes capacity (h ++ TakeBegin wanted ∷ []) (point q p (Taking 0 [] wanted)) (point q p FoundClosed) FindClosed (begun q p e l f told)
+        (record { queue = (none, refl); producer = refl; consumer = (wanted, refl, refl) })
 
--- the put under way stored an item into the place of the item taken
-module _ (capacity : ℕ) (h : List Event) (inside : List ℕ) (offered : ℕ) (full shut : Bool) (k : Keeps capacity h inside (Offers offered full) Rests shut) where
-  took_then_stored :
-      (xs left : List ℕ) (item m : ℕ) → inside ≡ item ∷ (xs ++ left) → length xs ≡ capacity → m + length left ≡ offered →
-      CanLeadTo capacity (h ++ TakeBegin ∷ []) (point (queue xs false) (Putting m left) (Took item))
-  took_then_stored xs left item zero e l sum =
-      absurd (omega (arith, k.few, ap length e, length-append xs left, l, sum))
-  took_then_stored xs left item (suc m) e l sum =
-      let room : 1 ≤ length xs = omega (arith, k.has_room, l) in
-      let s : Split xs 1 = split xs 1 room in
-      by_last s.front s.back s.parts s.long
-    where
-      by_last :
-          (front back : List ℕ) → xs ≡ front ++ back → length back ≡ 1 →
-          CanLeadTo capacity (h ++ TakeBegin ∷ []) (point (queue xs false) (Putting (suc m) left) (Took item))
-      by_last front [] f g = absurd (omega (arith, g))
-      by_last front (a ∷ b ∷ back) f g = absurd (omega (arith, g))
-      by_last front (z ∷ []) f g =
-          let C : Point → Type 0 = λ w. CanLeadTo capacity (h ++ TakeBegin ∷ []) w in
-          let short : length front < capacity = omega (arith, l, ap length f, length-append front (z ∷ [])) in
-          let parts : inside ≡ item ∷ (front ++ z ∷ left) = e ∙ (ap (λ w. item ∷ (w ++ left)) f ∙ ap (λ w. item ∷ w) (append_assoc front (z ∷ []) left)) in
-          let r : C (point (queue front false) (Putting m (z ∷ left)) (Took item)) =
-          took_first capacity h inside (Offers offered full) shut k front false (Putting m (z ∷ left)) item parts short (omega (arith, sum), refl) tt in
-          subst (λ w. C (point (queue w false) (Putting (suc m) left) (Took item))) (sym f)
-          (goes capacity (h ++ TakeBegin ∷ []) (point (queue front false) (Putting m (z ∷ left)) (Took item)) (point (queue (front ++ z ∷ []) false) (Putting (suc m) left) (Took item)) (Enqueue z) r
-          (record { queue = (short, refl, refl); producer = (m, left, refl, refl); consumer = refl }))
+    -- no item can come: all that is inside is in the queue
+    took_inside :
+        (xs : List ℕ) (closed : Bool) (p : Producer) (found : ℕ) (taken : List ℕ) (left : ℕ) → offered_by put ≡ 0 → left_by put p ≡ [] → inside ≡ taken ++ (xs ++ left_by put p) →
+        FitsPut capacity put shut p closed → IsTold k.late put p → length taken + left ≡ wanted → (found ≡ 0) ⊎ ((length inside < found) × (closed ≡ true → 0 < length inside)) →
+        After (point (queue xs closed) p (Taking found taken left))
+    took_inside xs closed p found taken left none nothing e f told sum lacks =
+        let short : inside ≡ taken ++ xs = e ∙ (ap (λ z. taken ++ (xs ++ z)) nothing ∙ ap (λ z. taken ++ z) (append-nil xs)) in
+        let whole : inside ≡ inside ++ left_by put p = sym (append-nil inside) ∙ ap (λ z. inside ++ z) (sym nothing) in
+        let room : Holds capacity (length inside) = holds_fewer capacity (length inside) (length inside - (offered_by put + 0)) (omega (arith, none)) k.few in
+        let lacks' : (found ≡ 0) ⊎ ((length inside < found) × (¬ IsDrained (queue inside closed))) =
+        elim lacks [ inl z ↦ inl z | inr l ↦ inr (l.0, not_drained inside closed l.1) ] in
+        let r0 : After (point (queue inside closed) p (Taking found [] wanted)) =
+        lacking (queue inside closed) p found lacks' (begun (queue inside closed) p whole room f told) in
+        let r1 : After (point (queue (taken ++ xs) closed) p (Taking found [] (length taken + left))) =
+        subst (λ z. After (point (queue (taken ++ xs) closed) p (Taking found [] z))) (sym sum)
+        (subst (λ z. After (point (queue z closed) p (Taking found [] wanted))) short r0) in
+        dequeues capacity (h ++ TakeBegin wanted ∷ []) closed p found [] taken xs left r1
 
-  -- items of the put were stored after the take found the queue empty
-  found_then_stored :
-      (xs left : List ℕ) (m : ℕ) → inside ≡ xs ++ left → length xs ≤ capacity → m + length left ≡ offered → length inside ≤ offered →
-      CanLeadTo capacity (h ++ TakeBegin ∷ []) (point (queue xs false) (Putting m left) FoundEmpty)
-  found_then_stored xs left m e l sum few =
-      let C : Point → Type 0 = λ w. CanLeadTo capacity (h ++ TakeBegin ∷ []) w in
-      let long : length inside ≡ length xs + length left = omega (arith, ap length e, length-append xs left) in
-      let count : (m - length xs) + length xs ≡ m = omega (arith, long, sum, few) in
-      let r : C (point (queue [] false) (Putting (m - length xs) (xs ++ left)) FoundEmpty) =
-      found_first capacity h inside (Offers offered full) shut k false (Putting (m - length xs) (xs ++ left)) e refl
-      (omega (arith, long, sum, few, length-append xs left), refl) tt in
-      subst (λ w. C (point (queue xs false) (Putting w left) FoundEmpty)) count
-      (enqueues capacity (h ++ TakeBegin ∷ []) FoundEmpty xs left [] (m - length xs) (omega (arith, l)) r)
+  -- a put under way: it had stored as little as it can have when the take began
+  module _ (offered before : ℕ) (k : Keeps capacity h inside (Offers offered before) Rests shut) where
+    took_from :
+        (front back : List ℕ) (done : ℕ) → inside ≡ front ++ back → done + length back ≡ offered → length front ≡ length inside - offered →
+        (xs left : List ℕ) (lacked m found : ℕ) (taken : List ℕ) (rest : ℕ) → inside ≡ taken ++ (xs ++ left) → Holds capacity (length xs) → m + length left ≡ offered → length left ≤ length back →
+        MayLack capacity before lacked → length taken + rest ≡ wanted → (found ≡ 0) ⊎ (length inside - offered < found) →
+        After (point (queue xs false) (Putting lacked m left) (Taking found taken rest))
+    took_from front back done parts sum long xs left lacked m found taken rest e room sum' few lacks total finds =
+        let p : Producer = Putting lacked done back in
+        let r0 : After (point (queue front false) p (Taking 0 [] wanted)) =
+        begun (Offers offered before) k (queue front false) p parts
+        (holds_fewer capacity (length front) (length inside - (offered + 0)) (omega (arith, long)) k.few) (sum, refl, lacks) tt in
+        let finds' : (found ≡ 0) ⊎ ((length front < found) × (¬ IsDrained (queue front false))) =
+        elim finds [ inl z ↦ inl z | inr l ↦ inr (omega (arith, l, long), not_drained front false (λ z. absurd (cc))) ] in
+        let r1 : After (point (queue front false) p (Taking found [] wanted)) = lacking (Offers offered before) k (queue front false) p found finds' r0 in
+        let r2 : After (point (queue front false) p (Taking found [] (length taken + rest))) = subst (λ z. After (point (queue front false) p (Taking found [] z))) (sym total) r1 in
+        moves capacity (h ++ TakeBegin wanted ∷ []) k.proper lacked found front back [] taken xs left done m rest (sym parts ∙ e) few (omega (arith, sum, sum')) room r2
 
-no_items : (xs ys : List ℕ) (inside : List ℕ) (n : ℕ) → inside ≡ xs ++ ys → length ys ≡ n → length inside ≤ n → xs ≡ []
-no_items [] ys inside n e a b = refl
-no_items (x ∷ xs) ys inside n e a b = absurd (omega (arith, ap length e, length-append xs ys, a, b))
+    took_of_put :
+        (xs left : List ℕ) (lacked m found : ℕ) (taken : List ℕ) (rest : ℕ) → inside ≡ taken ++ (xs ++ left) → Holds capacity (length xs) → m + length left ≡ offered →
+        MayLack capacity before lacked → length taken + rest ≡ wanted → (found ≡ 0) ⊎ (length inside - offered < found) →
+        After (point (queue xs false) (Putting lacked m left) (Taking found taken rest))
+    took_of_put xs left lacked m found taken rest e room sum lacks total finds =
+        let whole : length inside ≡ length taken + (length xs + length left) = omega (arith, ap length e, length-append taken (xs ++ left), length-append xs left) in
+        elim (at_most_or_above offered (length inside)) [
+          | inl few ↦ (
+              let s : Split inside offered = split inside offered few in
+              took_from s.front s.back 0 s.parts (omega (arith, s.long)) (omega (arith, s.long, ap length s.parts, length-append s.front s.back)) xs left lacked m found taken rest e room sum
+              (omega (arith, s.long, sum)) lacks total finds)
+          | inr many ↦
+              took_from [] inside (offered - length inside) refl (omega (arith, many)) (omega (arith, many)) xs left lacked m found taken rest e room sum (omega (arith, whole)) lacks total finds
+        ]
 
-module _ (capacity : ℕ) (h : List Event) (inside : List ℕ) (shut : Bool) where
-  abbrev Leading : Point → Type 0
-  Leading t = CanLeadTo capacity (h ++ TakeBegin ∷ []) t
+  abbrev Before : PutTurn → ℕ
+  Before put = length inside - offered_by put
+
+  -- it found fewer than so many in a queue that is open, or that was closed when it began
+  finds_open : (put : PutTurn) (found : ℕ) (closed : Bool) → offered_by put ≡ 0 → (closed ≡ true → shut ≡ true) → MayFindFewer (Before put) shut found → (found ≡ 0) ⊎ ((length inside < found) × (closed ≡ true → 0 < length inside))
+  finds_open put found closed none f lacks = elim lacks [ inl z ↦ inl z | inr l ↦ inr (omega (arith, l.0, none), λ c. let more : 0 < length inside - offered_by put = l.1 (f c) in omega (arith, more)) ]
 
   took_at :
-      (put : PutTurn) → Keeps capacity h inside put Rests shut → (xs : List ℕ) (closed : Bool) (p : Producer) (item : ℕ) → inside ≡ item ∷ (xs ++ left_by put p) →
-      length xs ≤ capacity → FitsPut put shut p closed → IsTold put p → Leading (point (queue xs closed) p (Took item))
-  took_at put k xs closed p item e l f told = elim (at_most_or_above capacity (length xs)) [
-    | inr m ↦ took_first capacity h inside put shut k xs closed p item e m f told
-    | inl m ↦ by_put put k xs closed p item e (omega (arith, l, m)) f
-  ]
+      (put : PutTurn) (k : Keeps capacity h inside put Rests shut) (xs : List ℕ) (closed : Bool) (p : Producer) (found : ℕ) (taken : List ℕ) (left : ℕ) → inside ≡ taken ++ (xs ++ left_by put p) →
+      Holds capacity (length xs) → FitsPut capacity put shut p closed → IsTold k.late put p → length taken + left ≡ wanted → MayFindFewer (Before put) shut found →
+      After (point (queue xs closed) p (Taking found taken left))
+  took_at Free k xs closed Idle found taken left e room f told sum lacks =
+      took_inside Free k xs closed Idle found taken left refl refl e f told sum (finds_open Free found closed refl (λ c. sym f ∙ c) lacks)
+  took_at Free k xs closed (Putting lacked m its) found taken left e room f told sum lacks = absurd f
+  took_at Free k xs closed FoundShut found taken left e room f told sum lacks = absurd f
+  took_at Free k xs closed (Closing done) found taken left e room f told sum lacks = absurd f
+  took_at (Offers offered before) k xs closed Idle found taken left e room f told sum lacks = absurd f
+  took_at (Offers offered before) k xs true (Putting lacked m its) found taken left e room f told sum lacks = let o : true ≡ false = f.1 in absurd (cc)
+  took_at (Offers offered before) k xs false (Putting lacked m its) found taken left e room f told sum lacks =
+      took_of_put offered before k xs its lacked m found taken left e room f.0 f.2 sum (elim lacks [ inl z ↦ inl z | inr l ↦ inr l.0 ])
+  took_at (Offers offered before) k xs closed FoundShut found taken left e room f told sum lacks = absurd f
+  took_at (Offers offered before) k xs closed (Closing done) found taken left e room f told sum lacks = absurd f
+  took_at (Late offered) k xs closed p found taken left e room f told sum lacks =
+      took_inside (Late offered) k xs closed p found taken left refl refl e f told sum (finds_open (Late offered) found closed refl (λ c. k.put_ok) lacks)
+  took_at (Closes again) k xs closed Idle found taken left e room f told sum lacks = absurd f
+  took_at (Closes again) k xs closed (Putting lacked m its) found taken left e room f told sum lacks = absurd f
+  took_at (Closes again) k xs closed FoundShut found taken left e room f told sum lacks = absurd f
+  took_at (Closes true) k xs closed (Closing done) found taken left e room f told sum lacks =
+      took_inside (Closes true) k xs closed (Closing done) found taken left refl refl e f told sum (finds_open (Closes true) found closed refl (λ c. k.put_ok refl) lacks)
+  took_at (Closes false) k xs closed (Closing false) found taken left e room f told sum lacks =
+      took_inside (Closes false) k xs closed (Closing false) found taken left refl refl e f told sum
+      (finds_open (Closes false) found closed refl (λ c. let o : closed ≡ false = f.0 refl in absurd (cc)) lacks)
+  took_at (Closes false) k xs closed (Closing true) found taken left e room f told sum lacks = by_shut shut refl
     where
-      by_put :
-          (put : PutTurn) → Keeps capacity h inside put Rests shut → (xs : List ℕ) (closed : Bool) (p : Producer) (item : ℕ) → inside ≡ item ∷ (xs ++ left_by put p) →
-          length xs ≡ capacity → FitsPut put shut p closed → Leading (point (queue xs closed) p (Took item))
-      by_put Free k xs closed p item e l f = absurd (omega (arith, k.few, ap length e, length-append xs [], l))
-      by_put Late k xs closed p item e l f = absurd (omega (arith, k.few, ap length e, length-append xs [], l))
-      by_put (Closes again) k xs closed p item e l f = absurd (omega (arith, k.few, ap length e, length-append xs [], l))
-      by_put (Offers offered full) k xs closed Idle item e l f = absurd f
-      by_put (Offers offered full) k xs closed (FoundFull its) item e l f = absurd (omega (arith, k.few, ap length e, length-append xs its, l, f.1))
-      by_put (Offers offered full) k xs closed FoundShut item e l f = absurd f
-      by_put (Offers offered full) k xs closed (Closing done) item e l f = absurd f
-      by_put (Offers offered full) k xs true (Putting m left) item e l (sum, o) = absurd (cc)
-      by_put (Offers offered full) k xs false (Putting m left) item e l (sum, o) = took_then_stored capacity h inside offered full shut k xs left item m e l sum
+      by_shut : (b : Bool) → shut ≡ b → After (point (queue xs closed) (Closing true) (Taking found taken left))
+      by_shut true s =
+          took_inside (Closes false) k xs closed (Closing true) found taken left refl refl e f told sum (finds_open (Closes false) found closed refl (λ c. s) lacks)
+      by_shut false s =
+          let open_first : After (point (queue xs false) (Closing false) (Taking found taken left)) =
+          took_inside (Closes false) k xs false (Closing false) found taken left refl refl e ((λ z. refl), (λ z. absurd (cc))) tt sum
+          (finds_open (Closes false) found false refl (λ c. absurd (cc)) lacks) in
+          subst (λ b. After (point (queue xs b) (Closing true) (Taking found taken left))) (sym (f.0 refl))
+          (goes capacity (h ++ TakeBegin wanted ∷ []) (point (queue xs false) (Closing false) (Taking found taken left)) (point (queue xs true) (Closing true) (Taking found taken left)) Close open_first
+          (record { queue = refl; producer = (refl, refl); consumer = refl }))
 
-  empty_at :
-      (put : PutTurn) → Keeps capacity h inside put Rests shut → (xs : List ℕ) (closed : Bool) (p : Producer) → inside ≡ xs ++ left_by put p →
-      length xs ≤ capacity → FitsPut put shut p closed → IsTold put p → shut ≡ false → length inside ≤ offered_by put → Leading (point (queue xs closed) p FoundEmpty)
-  empty_at Free k xs closed Idle e l f told o few =
-      let C : List ℕ → Type 0 = λ z. Leading (point (queue z closed) Idle FoundEmpty) in
-      let none : xs ≡ [] = no_items xs [] inside 0 e refl few in
-      subst C (sym none) (found_first capacity h inside Free shut k closed Idle (e ∙ ap (λ z. z ++ []) none) (f ∙ o) f tt)
-  empty_at Free k xs closed (Putting m left) e l f told o few = absurd f
-  empty_at Free k xs closed (FoundFull its) e l f told o few = absurd f
-  empty_at Free k xs closed FoundShut e l f told o few = absurd f
-  empty_at Free k xs closed (Closing done) e l f told o few = absurd f
-  empty_at (Offers offered full) k xs closed Idle e l f told o few = absurd f
-  empty_at (Offers offered full) k xs true (Putting m left) e l (sum, z) told o few = absurd (cc)
-  empty_at (Offers offered full) k xs false (Putting m left) e l (sum, z) told o few = found_then_stored capacity h inside offered full shut k xs left m e l sum few
-  empty_at (Offers offered full) k xs closed (FoundFull its) e l f told o few =
-      let C : List ℕ → Type 0 = λ z. Leading (point (queue z closed) (FoundFull its) FoundEmpty) in
-      let none : xs ≡ [] = no_items xs its inside offered e f.1 few in
-      subst C (sym none) (found_first capacity h inside (Offers offered full) shut k closed (FoundFull its) (e ∙ ap (λ z. z ++ its) none) f.2 f tt)
-  empty_at (Offers offered full) k xs closed FoundShut e l f told o few = absurd f
-  empty_at (Offers offered full) k xs closed (Closing done) e l f told o few = absurd f
-  empty_at Late k xs closed p e l f told o few = let s : shut ≡ true = k.put_ok in absurd (cc)
-  empty_at (Closes again) k xs closed Idle e l f told o few = absurd f
-  empty_at (Closes again) k xs closed (Putting m left) e l f told o few = absurd f
-  empty_at (Closes again) k xs closed (FoundFull its) e l f told o few = absurd f
-  empty_at (Closes again) k xs closed FoundShut e l f told o few = absurd f
-  empty_at (Closes true) k xs closed (Closing done) e l f told o few = let s : shut ≡ true = k.put_ok refl in absurd (cc)
-  empty_at (Closes false) k xs closed (Closing false) e l f told o few =
-      let C : List ℕ → Type 0 = λ z. Leading (point (queue z closed) (Closing false) FoundEmpty) in
-      let none : xs ≡ [] = no_items xs [] inside 0 e refl few in
-      subst C (sym none) (found_first capacity h inside (Closes false) shut k closed (Closing false) (e ∙ ap (λ z. z ++ []) none) (f.0 refl) f tt)
-  empty_at (Closes false) k xs closed (Closing true) e l f told o few =
-      let C : List ℕ → Bool → Type 0 = λ z b. Leading (point (queue z b) (Closing true) FoundEmpty) in
-      let none : xs ≡ [] = no_items xs [] inside 0 e refl few in
-      let r : Leading (point (queue [] false) (Closing false) FoundEmpty) =
-      found_first capacity h inside (Closes false) shut k false (Closing false) (e ∙ ap (λ z. z ++ []) none) refl
-      ((λ z. refl), (λ s. absurd (cc))) tt in
-      subst (λ z. C z closed) (sym none) (subst (λ b. C [] b) (sym (f.0 refl))
-      (goes capacity (h ++ TakeBegin ∷ []) (point (queue [] false) (Closing false) FoundEmpty) (point (queue [] true) (Closing true) FoundEmpty) Close r
-      (record { queue = refl; producer = (refl, refl); consumer = refl })))
-
-  module _ (put : PutTurn) (k : Keeps capacity h inside put Rests shut) (empty : Bool)
-      (is_empty : empty ≡ true → (shut ≡ false) × (length inside ≤ offered_by put)) where
+  module _ (put : PutTurn) (k : Keeps capacity h inside put Rests shut) where
     points :
-        (xs : List ℕ) (closed : Bool) (p : Producer) (c : Consumer) → Describes capacity inside put (Waits empty) shut (point (queue xs closed) p c) → IsTold put p →
-        Leading (point (queue xs closed) p c)
+        (xs : List ℕ) (closed : Bool) (p : Producer) (c : Consumer) → Describes capacity inside put (Waits wanted (Before put) shut) shut (point (queue xs closed) p c) → IsTold k.late put p →
+        After (point (queue xs closed) p c)
     points xs closed p Resting d told = absurd d.consumer
-    points xs closed p Taking d told = begun capacity h inside put shut k (queue xs closed) p d.items d.room d.producer told
-    points xs closed p (Took item) d told = took_at put k xs closed p item d.items d.room d.producer told
-    points xs closed p FoundEmpty d told = let (o, few) = is_empty d.consumer in empty_at put k xs closed p d.items d.room d.producer told o few
-    points xs closed p FoundClosed d told =
-        goes capacity (h ++ TakeBegin ∷ []) (point (queue xs closed) p Taking) (point (queue xs closed) p FoundClosed) FindClosed
-        (begun capacity h inside put shut k (queue xs closed) p d.items d.room d.producer told)
-        (record { queue = (d.consumer.0, d.consumer.1, refl); producer = refl; consumer = (refl, refl) })
+    points xs closed p (Taking found taken left) d told = took_at put k xs closed p found taken left d.items d.room d.producer told d.consumer.0 d.consumer.1
+    points xs closed p FoundClosed d told = told_closed put k (queue xs closed) p d.items d.room d.producer told d.consumer
 
-    pub take_begin : (empty ≡ false → (offered_by put < length inside) ⊎ (shut ≡ true)) → Accepts capacity h TakeBegin inside put (Waits empty) shut
-    take_begin not_empty =
-        accept capacity h TakeBegin inside inside put put Rests (Waits empty) shut shut k (refl, refl) (omega (arith, k.few)) k.put_ok not_empty
+    -- all that is inside was there before, where a close had ended
+    all_before : (turn : PutTurn) → IsSoundPut (length inside) turn shut → shut ≡ true → length inside ≤ length inside - offered_by turn
+    all_before Free ok s = omega arith
+    all_before (Offers offered before) ok s = let o : shut ≡ false = ok.0 in absurd (cc)
+    all_before (Late offered) ok s = omega arith
+    all_before (Closes again) ok s = omega arith
+
+    pub take_begin : Accepts capacity h (TakeBegin wanted) inside put (Waits wanted (Before put) shut) shut
+    take_begin =
+        accept capacity h (TakeBegin wanted) inside inside put put Rests (Waits wanted (Before put) shut) shut shut k.late k (refl, some, refl)
+        (holds_fewer capacity (length inside - (offered_by put + wanted)) (length inside - (offered_by put + 0)) (omega arith) k.few) k.put_ok
+        (omega arith, λ e. (e, all_before put k.put_ok e))
         (λ s t d m.
-        let (ec, ec') = m.consumer in
+        let (ec, some', ec') = m.consumer in
         let d' = with_consumer capacity inside put Rests shut s d Resting ec in
-        described_at capacity inside put (Waits empty) shut t s.queue s.producer Taking m.queue m.producer ec'
-        (record { items = d'.items; room = d'.room; producer = d'.producer; consumer = tt }))
+        described_at capacity inside put (Waits wanted (Before put) shut) shut t s.queue s.producer (Taking 0 [] wanted) m.queue m.producer ec'
+        (record { items = d'.items; room = d'.room; producer = d'.producer; consumer = (omega arith, inl refl) }))
         (λ t d told. points t.queue.items t.queue.closed t.producer t.consumer d told)
 
 -- no event yet
-pub keeps_nothing : (capacity : ℕ) → 0 < capacity → Keeps capacity [] [] Free Rests false
+pub keeps_nothing : (capacity : Capacity) → IsProper capacity → Keeps capacity [] [] Free Rests false
 keeps_nothing capacity l = record {
-  has_room = l;
+  proper = l;
   turns = refl;
-  few = omega arith;
+  few = holds_fewer capacity (0 - (0 + 0)) 0 (omega arith) (holds_none capacity);
   put_ok = tt;
   take_ok = tt;
+  late = [];
   sound = λ s d told. only s.queue.items s.queue.closed s.producer s.consumer d;
   complete = λ t r.
       only_start capacity (Describes capacity [] Free Rests false) (stays capacity [] Rests false Free tt tt)
-      (record { items = refl; room = omega arith; producer = refl; consumer = tt }) t r;
+      (record { items = refl; room = holds_none capacity; producer = refl; consumer = tt }) t r;
 }
   where
     only : (xs : List ℕ) (closed : Bool) (p : Producer) (c : Consumer) → Describes capacity [] Free Rests false (point (queue xs closed) p c) → CanLeadTo capacity [] (point (queue xs closed) p c)
     only (x ∷ xs) closed p c d = absurd (omega (arith, ap length d.items, length-append (taken_by c) ((x ∷ xs) ++ []), length-append (x ∷ xs) []))
     only [] closed p c d =
-        let (ep, ec) = free_idle false closed p d.producer in
+        let (ep, ec) = free_idle capacity false closed p d.producer in
         let er = rests_resting c (queue [] closed) d.consumer in
         let C : Point → Type 0 = λ z. CanLeadTo capacity [] z in
         subst (λ z. C (point (queue [] closed) p z)) (sym er) (subst (λ z. C (point (queue [] closed) z Resting)) (sym ep) (subst (λ z. C (point (queue [] z) Idle Resting)) (sym ec) (start capacity)))

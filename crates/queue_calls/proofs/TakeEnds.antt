@@ -1,203 +1,299 @@
 -- The takes: how they end.
-use Rattle.std.proofs.Common.{◌≡◌, ◌⊎◌, inl, inr, ℕ, ◌+◌, ◌<◌, ◌≤◌, Bool, true, false, List, [], ◌∷◌, ◌++◌, length, drop, refl, sym, ap, subst, ◌∙◌, arith, length-append}
-use Rattle.queue_calls.specs.Calls.{Event, TakeItem, TakeEmpty, TakeClosed, Producer, Idle, Putting, FoundFull, FoundShut, Closing, Resting, Took, FoundEmpty, FoundClosed, point}
+use Rattle.std.proofs.Common.{◌≡◌, ◌⊎◌, inl, inr, ℕ, zero, suc, ◌+◌, ◌-◌, ◌<◌, ◌≤◌, Bool, true, false, List, [], ◌∷◌, ◌++◌, length, take, drop, slice_index_or, refl, sym, ap, subst, ◌∙◌, arith, length-append, append_assoc}
+use Rattle.std.proofs.lemmas.List.{length-take-le, take_more}
+use Rattle.std.proofs.Math.Seq.{drop-append_seam, get_or-append_seam}
+use Rattle.queue_calls.specs.Queue.{Capacity}
+use Rattle.queue_calls.specs.Calls.{Event, TakeItems, TakeEmpty, TakeShort, TakeNothing, TakeClosed, Happens, Producer, Idle, Putting, FoundShut, Closing, Consumer, Resting, Taking, FoundClosed, short_of, ProducerStep, ConsumerStep, point}
 use Rattle.queue_calls.specs.declared.turns.PutTurn.{PutTurn}
 use Rattle.queue_calls.specs.declared.turns.PutTurn.TheVariants.{Free, Offers, Late, Closes}
 use Rattle.queue_calls.specs.declared.turns.TakeTurn.TheVariants.{Rests, Waits}
-use Rattle.queue_calls.specs.State.{left_by, has_closed, IsNext, FitsPut, offered_by, IsSoundPut, Keeps, call_of_put}
-use Rattle.queue_calls.specs.InTurn.{NoCall, sides}
+use Rattle.queue_calls.specs.State.{Holds, left_by, has_closed, FitsPut, offered_by, IsSoundPut, MayFindFewer, AreNext, CanEndTake, Keeps, call_of_put}
+use Rattle.queue_calls.specs.InTurn.{NoCall, ATake, sides, Turn}
+use Rattle.queue_calls.proofs.Rooms.{holds_fewer, holds_none}
 use Rattle.queue_calls.proofs.Points.{happens}
 use Rattle.queue_calls.proofs.Effects.{described_at, few_left, shut_closed}
 use Rattle.queue_calls.proofs.Keeping.{Accepts, Refused, accept, refuse}
 use Rattle.queue_calls.proofs.Sides.{rests_resting, with_consumer}
 
-module _ (capacity : ℕ) (h : List Event) (put : PutTurn) where
-  -- an item fewer inside
-  put_stays : (inside : List ℕ) (item : ℕ) (shut : Bool) (p : PutTurn) → IsSoundPut capacity (length (item ∷ inside)) p shut → IsSoundPut capacity (length inside) p shut
-  put_stays inside item shut Free f = tt
-  put_stays inside item shut (Offers offered full) (o, f) = (o, (λ e. omega (arith, f e)))
-  put_stays inside item shut Late f = f
-  put_stays inside item shut (Closes again) f = f
+-- what comes behind the same items is the same
+behind : (xs ys zs : List ℕ) → xs ++ ys ≡ xs ++ zs → ys ≡ zs
+behind [] ys zs e = e
+behind (x ∷ xs) ys zs e = behind xs ys zs (let f : xs ++ ys ≡ xs ++ zs = cc in f)
 
-  pub take_item :
-      (item : ℕ) (inside : List ℕ) (empty shut : Bool) → Keeps capacity h (item ∷ inside) put (Waits empty) shut →
-      Accepts capacity h (TakeItem item) inside put Rests shut
-  take_item item inside empty shut k =
-      accept capacity h (TakeItem item) (item ∷ inside) inside put put (Waits empty) Rests shut shut k (refl, refl) (omega (arith, k.few)) (put_stays inside item shut put k.put_ok) tt
+-- an end of a take that took these items, where it found fewer than the number that goes with how many more it wanted
+record Ends (e : Event) (took : List ℕ) (lack : ℕ → ℕ) : Type 0 where
+  ends : (c c' : Consumer) → ConsumerStep c (Happens e) c' → (left : ℕ) × (c ≡ Taking (lack left) took left) × (c' ≡ Resting)
+  idle : (p p' : Producer) → ProducerStep p (Happens e) p' → p' ≡ p
+  rests : (p : Producer) → ProducerStep p (Happens e) p
+
+items_ends : (items : List ℕ) → Ends (TakeItems items) items (short_of (length items))
+items_ends items = record { ends = λ c c' m. (m.0, m.2, m.3); idle = λ p p' m. m; rests = λ p. refl }
+
+empty_ends : Ends TakeEmpty [] (λ _. 1)
+empty_ends = record { ends = λ c c' m. m; idle = λ p p' m. m; rests = λ p. refl }
+
+short_ends : Ends TakeShort [] (λ n. n)
+short_ends = record { ends = λ c c' m. (m.0, m.2, m.3); idle = λ p p' m. m; rests = λ p. refl }
+
+nothing_ends : Ends TakeNothing [] (λ _. 0)
+nothing_ends = record { ends = λ c c' m. m; idle = λ p p' m. m; rests = λ p. refl }
+
+module _ (capacity : Capacity) (h : List Event) (put : PutTurn) (shut : Bool) where
+  -- items fewer inside
+  put_stays : (n m : ℕ) (p : PutTurn) → m ≤ n → IsSoundPut n p shut → IsSoundPut m p shut
+  put_stays n m Free l f = tt
+  put_stays n m (Offers offered before) l f = (f.0, omega (arith, l, f.1))
+  put_stays n m (Late offered) l f = f
+  put_stays n m (Closes again) l f = f
+
+  module _ (e : Event) (wanted before : ℕ) (ended : Bool) (took inside : List ℕ) (rest : ℕ) (lack : ℕ → ℕ) (ends : Ends e took lack)
+      (k : Keeps capacity h (took ++ inside) put (Waits wanted before ended) shut) (sum : length took + rest ≡ wanted) where
+    accepts :
+        Turn (sides (call_of_put put) (ATake wanted)) e (sides (call_of_put put) NoCall) → ConsumerStep (Taking (lack rest) took rest) (Happens e) Resting →
+        MayFindFewer before ended (lack rest) → Holds capacity (length inside - offered_by put) → Accepts capacity h e inside put Rests shut
+    accepts turn back lacks fits =
+        accept capacity h e (took ++ inside) inside put put (Waits wanted before ended) Rests shut shut k.late k turn
+        (holds_fewer capacity (length inside - (offered_by put + 0)) (length inside - offered_by put) (omega arith) fits)
+        (put_stays (length (took ++ inside)) (length inside) put (omega (arith, length-append took inside)) k.put_ok) tt
+        (λ s t d m.
+        let (left, ec, ec') = ends.ends s.consumer t.consumer m.consumer in
+        let d' = with_consumer capacity (took ++ inside) put (Waits wanted before ended) shut s d (Taking (lack left) took left) ec in
+        described_at capacity inside put Rests shut t s.queue s.producer Resting m.queue (ends.idle s.producer t.producer m.producer) ec'
+        (record { items = behind took inside (s.queue.items ++ left_by put s.producer) d'.items; room = d'.room; producer = d'.producer; consumer = tt }))
+        (λ t d told.
+        let ec : t.consumer ≡ Resting = rests_resting t.consumer t.queue d.consumer in
+        let d' = with_consumer capacity inside put Rests shut t d Resting ec in
+        let step : ConsumerStep (Taking (lack rest) took rest) (Happens e) t.consumer = subst (λ z. ConsumerStep (Taking (lack rest) took rest) (Happens e) z) (sym ec) back in
+        happens capacity h (point t.queue t.producer (Taking (lack rest) took rest)) t e
+        (k.sound (point t.queue t.producer (Taking (lack rest) took rest))
+        (record { items = ap (λ z. took ++ z) d'.items; room = d.room; producer = d.producer; consumer = (sum, lacks) }) told)
+        (record { queue = refl; producer = ends.rests t.producer; consumer = step }))
+
+  module _ (e : Event) (wanted before : ℕ) (ended : Bool) (took inside : List ℕ) (rest : ℕ) (lack : ℕ → ℕ) (ends : Ends e took lack)
+      (k : Keeps capacity h inside put (Waits wanted before ended) shut) (sum : length took + rest ≡ wanted) where
+    refuses :
+        Turn (sides (call_of_put put) (ATake wanted)) e (sides (call_of_put put) NoCall) →
+        (MayFindFewer before ended (lack rest) → AreNext took inside → CanEndTake capacity (length inside) (offered_by put) (length took) → ⊥) →
+        Refused capacity h e inside put (Waits wanted before ended) shut
+    refuses turn bad =
+        refuse capacity h e inside put (Waits wanted before ended) shut (sides (call_of_put put) NoCall) k turn
+        (λ s t d m.
+        let (left, ec, ec') = ends.ends s.consumer t.consumer m.consumer in
+        let d' = with_consumer capacity inside put (Waits wanted before ended) shut s d (Taking (lack left) took left) ec in
+        let same : left ≡ rest = omega (arith, sum, d'.consumer.0) in
+        let F : ℕ → Type 0 = λ z. MayFindFewer before ended (lack z) in
+        let few : length (left_by put s.producer) ≤ offered_by put =
+        few_left capacity inside (Waits wanted before ended) shut put s.producer s.queue.closed d.producer in
+        bad (subst F same d'.consumer.1) (s.queue.items ++ left_by put s.producer, d'.items)
+        (holds_fewer capacity ((length inside - length took) - offered_by put) (length s.queue.items)
+        (omega (arith, ap length d'.items, length-append took (s.queue.items ++ left_by put s.producer), length-append s.queue.items (left_by put s.producer), few)) d.room))
+
+  -- a take that took fewer than it wanted found fewer than one more, and one that took all has no reason to tell
+  reason : (before count wanted : ℕ) (ended : Bool) → count ≤ wanted → (count < wanted → MayFindFewer before ended (suc count)) → MayFindFewer before ended (short_of count (wanted - count))
+  reason before count wanted ended l f = by_rest (wanted - count) refl
+    where
+      by_rest : (n : ℕ) → n ≡ wanted - count → MayFindFewer before ended (short_of count n)
+      by_rest zero e = inl refl
+      by_rest (suc n) e = f (omega (arith, e))
+
+  no_reason : (before count wanted : ℕ) (ended : Bool) → count < wanted → MayFindFewer before ended (short_of count (wanted - count)) → MayFindFewer before ended (suc count)
+  no_reason before count wanted ended l f = by_rest (wanted - count) refl f
+    where
+      by_rest : (n : ℕ) → n ≡ wanted - count → MayFindFewer before ended (short_of count n) → MayFindFewer before ended (suc count)
+      by_rest zero e g = absurd (omega (arith, e, l))
+      by_rest (suc n) e g = g
+
+  -- where fewer were inside than so many, which is not 0
+  fewer : (before count : ℕ) (ended : Bool) → 0 < count → MayFindFewer before ended count → (before < count) × (ended ≡ true → 0 < before)
+  fewer before count ended l f = elim f [ inl e ↦ absurd (omega (arith, e, l)) | inr g ↦ g ]
+
+  module _ (inside : List ℕ) (wanted before : ℕ) (ended : Bool) (k : Keeps capacity h inside put (Waits wanted before ended) shut) where
+    all_fit : CanEndTake capacity (length inside) (offered_by put) 0 → Holds capacity (length inside - offered_by put)
+    all_fit fits = holds_fewer capacity (length inside - offered_by put) ((length inside - 0) - offered_by put) (omega arith) fits
+
+    pub take_items :
+        (items : List ℕ) → 0 < length items → length items ≤ wanted → (length items < wanted → before ≤ length items) → AreNext items inside →
+        CanEndTake capacity (length inside) (offered_by put) (length items) → Accepts capacity h (TakeItems items) (drop (length items) inside) put Rests shut
+    take_items items some few lacks (rest, next) fits =
+        let long : length inside ≡ length items + length rest = omega (arith, ap length next, length-append items rest) in
+        let K : List ℕ → Type 0 = λ z. Keeps capacity h z put (Waits wanted before ended) shut in
+        let A : List ℕ → Type 0 = λ z. Accepts capacity h (TakeItems items) z put Rests shut in
+        let reasons : length items < wanted → MayFindFewer before ended (suc (length items)) =
+        λ l. inr (omega (arith, lacks l), λ e. let (s, all) = k.take_ok.1 e in omega (arith, all, some, long)) in
+        subst A (sym (ap (λ z. drop (length items) z) next ∙ drop-append_seam items rest))
+        (accepts (TakeItems items) wanted before ended items rest (wanted - length items) (short_of (length items)) (items_ends items) (subst K next k) (omega (arith, few))
+        (wanted, refl, some, few, refl) (wanted - length items, some, refl, refl) (reason before (length items) wanted ended few reasons)
+        (holds_fewer capacity (length rest - offered_by put) ((length inside - length items) - offered_by put) (omega (arith, long)) fits))
+
+    pub not_items :
+        (items : List ℕ) → 0 < length items → length items ≤ wanted →
+        ((length items < wanted) × (length items < before)) ⊎ ((AreNext items inside → ⊥) ⊎ (CanEndTake capacity (length inside) (offered_by put) (length items) → ⊥)) →
+        Refused capacity h (TakeItems items) inside put (Waits wanted before ended) shut
+    not_items items some few bad =
+        refuses (TakeItems items) wanted before ended items inside (wanted - length items) (short_of (length items)) (items_ends items) k (omega (arith, few))
+        (wanted, refl, some, few, refl)
+        (λ lacks next fits. elim bad [
+          | inl b ↦ (
+              let (less, _) = fewer before (suc (length items)) ended (omega arith) (no_reason before (length items) wanted ended b.0 lacks) in
+              omega (arith, less, b.1))
+          | inr r ↦ elim r [ inl n ↦ n next | inr n ↦ n fits ]
+        ])
+
+    pub take_empty : ended ≡ false → before ≡ 0 → CanEndTake capacity (length inside) (offered_by put) 0 → Accepts capacity h TakeEmpty inside put Rests shut
+    take_empty open_then none fits =
+        accepts TakeEmpty wanted before ended [] inside wanted (λ _. 1) empty_ends k (omega arith) (wanted, refl, refl) (wanted, refl, refl)
+        (inr (omega (arith, none), λ e. absurd (cc))) (all_fit fits)
+
+    pub not_empty :
+        (ended ≡ true) ⊎ ((0 < before) ⊎ (CanEndTake capacity (length inside) (offered_by put) 0 → ⊥)) → Refused capacity h TakeEmpty inside put (Waits wanted before ended) shut
+    not_empty bad =
+        refuses TakeEmpty wanted before ended [] inside wanted (λ _. 1) empty_ends k (omega arith) (wanted, refl, refl)
+        (λ lacks next fits.
+        let (less, some) = fewer before 1 ended (omega arith) lacks in
+        elim bad [
+          | inl e ↦ omega (arith, less, some e)
+          | inr r ↦ elim r [ inl l ↦ omega (arith, less, l) | inr n ↦ n fits ]
+        ])
+
+    pub take_short :
+        1 < wanted → before < wanted → (ended ≡ true → 0 < before) → CanEndTake capacity (length inside) (offered_by put) 0 → Accepts capacity h TakeShort inside put Rests shut
+    take_short several less some fits =
+        accepts TakeShort wanted before ended [] inside wanted (λ n. n) short_ends k (omega arith) (wanted, refl, several, refl) (wanted, several, refl, refl)
+        (inr (less, some)) (all_fit fits)
+
+    pub not_short :
+        1 < wanted → (wanted ≤ before) ⊎ (((ended ≡ true) × (before ≡ 0)) ⊎ (CanEndTake capacity (length inside) (offered_by put) 0 → ⊥)) →
+        Refused capacity h TakeShort inside put (Waits wanted before ended) shut
+    not_short several bad =
+        refuses TakeShort wanted before ended [] inside wanted (λ n. n) short_ends k (omega arith) (wanted, refl, several, refl)
+        (λ lacks next fits.
+        let (less, some) = fewer before wanted ended (omega (arith, several)) lacks in
+        elim bad [
+          | inl l ↦ omega (arith, less, l)
+          | inr r ↦ elim r [ inl e ↦ omega (arith, some e.0, e.1) | inr n ↦ n fits ]
+        ])
+
+    pub take_nothing : CanEndTake capacity (length inside) (offered_by put) 0 → Accepts capacity h TakeNothing inside put Rests shut
+    take_nothing fits =
+        accepts TakeNothing wanted before ended [] inside wanted (λ _. 0) nothing_ends k (omega arith) (wanted, refl, refl) (wanted, refl, refl) (inl refl) (all_fit fits)
+
+    pub not_nothing : (CanEndTake capacity (length inside) (offered_by put) 0 → ⊥) → Refused capacity h TakeNothing inside put (Waits wanted before ended) shut
+    not_nothing bad =
+        refuses TakeNothing wanted before ended [] inside wanted (λ _. 0) nothing_ends k (omega arith) (wanted, refl, refl) (λ lacks next fits. bad fits)
+
+-- a close has begun, so the queue may be closed
+put_shut : (shut : Bool) (p : PutTurn) → has_closed p shut ≡ true → IsSoundPut 0 p shut → IsSoundPut 0 p true
+put_shut shut Free e f = tt
+put_shut shut (Offers offered before) e f = let o : shut ≡ false = f.0 in absurd (cc)
+put_shut shut (Late offered) e f = refl
+put_shut shut (Closes again) e f = λ a. refl
+
+module _ (capacity : Capacity) (shut closed : Bool) where
+  told_shut : (turn : PutTurn) (p : Producer) → closed ≡ true → FitsPut capacity turn shut p closed → FitsPut capacity turn true p closed
+  told_shut Free Idle c f = c
+  told_shut Free (Putting lacked done left) c f = absurd f
+  told_shut Free FoundShut c f = absurd f
+  told_shut Free (Closing done) c f = absurd f
+  told_shut (Offers offered before) Idle c f = absurd f
+  told_shut (Offers offered before) (Putting lacked done left) c f = f
+  told_shut (Offers offered before) FoundShut c f = absurd f
+  told_shut (Offers offered before) (Closing done) c f = absurd f
+  told_shut (Late offered) Idle c f = absurd f
+  told_shut (Late offered) (Putting lacked done left) c f = f
+  told_shut (Late offered) FoundShut c f = f
+  told_shut (Late offered) (Closing done) c f = absurd f
+  told_shut (Closes again) Idle c f = absurd f
+  told_shut (Closes again) (Putting lacked done left) c f = absurd f
+  told_shut (Closes again) FoundShut c f = absurd f
+  told_shut (Closes again) (Closing done) c f = (f.0, λ e. c)
+
+  untold_shut : (turn : PutTurn) (p : Producer) → has_closed turn shut ≡ true → FitsPut capacity turn true p closed → closed ≡ true → FitsPut capacity turn shut p closed
+  untold_shut Free Idle e f c = f ∙ sym e
+  untold_shut Free (Putting lacked done left) e f c = absurd f
+  untold_shut Free FoundShut e f c = absurd f
+  untold_shut Free (Closing done) e f c = absurd f
+  untold_shut (Offers offered before) Idle e f c = absurd f
+  untold_shut (Offers offered before) (Putting lacked done left) e f c = f
+  untold_shut (Offers offered before) FoundShut e f c = absurd f
+  untold_shut (Offers offered before) (Closing done) e f c = absurd f
+  untold_shut (Late offered) Idle e f c = absurd f
+  untold_shut (Late offered) (Putting lacked done left) e f c = f
+  untold_shut (Late offered) FoundShut e f c = f
+  untold_shut (Late offered) (Closing done) e f c = absurd f
+  untold_shut (Closes again) Idle e f c = absurd f
+  untold_shut (Closes again) (Putting lacked done left) e f c = absurd f
+  untold_shut (Closes again) FoundShut e f c = absurd f
+  untold_shut (Closes again) (Closing done) e f c = (f.0, λ z. c)
+
+  -- a queue that is closed has no items left to come, and a close has begun
+  closed_left : (turn : PutTurn) (p : Producer) (n : ℕ) → IsSoundPut n turn shut → FitsPut capacity turn shut p closed → closed ≡ true → (left_by turn p ≡ []) × (has_closed turn shut ≡ true)
+  closed_left Free Idle n ok f c = (refl, sym f ∙ c)
+  closed_left Free (Putting lacked done left) n ok f c = absurd f
+  closed_left Free FoundShut n ok f c = absurd f
+  closed_left Free (Closing done) n ok f c = absurd f
+  closed_left (Offers offered before) Idle n ok f c = absurd f
+  closed_left (Offers offered before) (Putting lacked done left) n ok f c = let o : closed ≡ false = f.1 in absurd (cc)
+  closed_left (Offers offered before) FoundShut n ok f c = absurd f
+  closed_left (Offers offered before) (Closing done) n ok f c = absurd f
+  closed_left (Late offered) p n ok f c = (refl, ok)
+  closed_left (Closes again) p n ok f c = (refl, refl)
+
+none_of : (xs ys : List ℕ) → [] ≡ xs ++ ys → xs ≡ []
+none_of [] ys e = refl
+none_of (x ∷ xs) ys e = absurd (cc)
+
+module _ (capacity : Capacity) (h : List Event) (put : PutTurn) (wanted before : ℕ) (ended shut : Bool) where
+  pub take_closed : Keeps capacity h [] put (Waits wanted before ended) shut → has_closed put shut ≡ true → Accepts capacity h TakeClosed [] put Rests true
+  take_closed k closed =
+      accept capacity h TakeClosed [] [] put put (Waits wanted before ended) Rests shut true k.late k (wanted, refl, refl)
+      (holds_fewer capacity (0 - (offered_by put + 0)) 0 (omega arith) (holds_none capacity)) (put_shut shut put closed k.put_ok) tt
       (λ s t d m.
       let (ec, ec') = m.consumer in
-      let d' = with_consumer capacity (item ∷ inside) put (Waits empty) shut s d (Took item) ec in
-      described_at capacity inside put Rests shut t s.queue s.producer Resting m.queue m.producer ec'
-      (let items : inside ≡ s.queue.items ++ left_by put s.producer = (let e = d'.items in cc) in
-      record { items = items; room = d'.room; producer = d'.producer; consumer = tt }))
-      (λ t d told.
-      let ec : t.consumer ≡ Resting = rests_resting t.consumer t.queue d.consumer in
-      let d' = with_consumer capacity inside put Rests shut t d Resting ec in
-      happens capacity h (point t.queue t.producer (Took item)) t (TakeItem item)
-      (k.sound (point t.queue t.producer (Took item)) (record { items = ap (λ z. item ∷ z) d'.items; room = d.room; producer = d.producer; consumer = tt }) told)
-      (record { queue = refl; producer = refl; consumer = (refl, ec) }))
-
-  -- another item is next, or none
-  pub not_item :
-      (item : ℕ) (inside : List ℕ) (empty shut : Bool) → Keeps capacity h inside put (Waits empty) shut → ((rest : List ℕ) → inside ≡ item ∷ rest → ⊥) →
-      Refused capacity h (TakeItem item) inside put (Waits empty) shut
-  not_item item inside empty shut k other =
-      refuse capacity h (TakeItem item) inside put (Waits empty) shut (sides (call_of_put put) NoCall) k (refl, refl)
-      (λ s t d m.
-      let d' = with_consumer capacity inside put (Waits empty) shut s d (Took item) m.consumer.0 in
-      other (s.queue.items ++ left_by put s.producer) d'.items)
-
-  pub take_empty :
-      (inside : List ℕ) (shut : Bool) → Keeps capacity h inside put (Waits true) shut → length inside ≤ capacity + offered_by put →
-      Accepts capacity h TakeEmpty inside put Rests shut
-  take_empty inside shut k few =
-      accept capacity h TakeEmpty inside inside put put (Waits true) Rests shut shut k (refl, refl) (omega (arith, few)) k.put_ok tt
-      (λ s t d m.
-      let (ec, ec') = m.consumer in
-      let d' = with_consumer capacity inside put (Waits true) shut s d FoundEmpty ec in
-      described_at capacity inside put Rests shut t s.queue s.producer Resting m.queue m.producer ec'
-      (record { items = d'.items; room = d'.room; producer = d'.producer; consumer = tt }))
-      (λ t d told.
-      let ec : t.consumer ≡ Resting = rests_resting t.consumer t.queue d.consumer in
-      let d' = with_consumer capacity inside put Rests shut t d Resting ec in
-      happens capacity h (point t.queue t.producer FoundEmpty) t TakeEmpty
-      (k.sound (point t.queue t.producer FoundEmpty) (record { items = d'.items; room = d.room; producer = d.producer; consumer = refl }) told)
-      (record { queue = refl; producer = refl; consumer = (refl, ec) }))
-
-  pub not_empty :
-      (inside : List ℕ) (empty shut : Bool) → Keeps capacity h inside put (Waits empty) shut → (empty ≡ false) ⊎ (capacity + offered_by put < length inside) →
-      Refused capacity h TakeEmpty inside put (Waits empty) shut
-  not_empty inside empty shut k bad =
-      refuse capacity h TakeEmpty inside put (Waits empty) shut (sides (call_of_put put) NoCall) k (refl, refl)
-      (λ s t d m.
-      let d' = with_consumer capacity inside put (Waits empty) shut s d FoundEmpty m.consumer.0 in
-      elim bad [
-        | inl e ↦ (let f : empty ≡ true = d'.consumer in cc)
-        | inr l ↦ omega (
-          arith,
-          l,
-          d.room,
-          ap length d'.items,
-          length-append s.queue.items (left_by put s.producer),
-          few_left capacity inside (Waits empty) shut put s.producer s.queue.closed d.producer,
-        )
-      ])
-
-  -- a close has begun, so the queue may be closed
-  put_shut : (shut : Bool) (p : PutTurn) → has_closed p shut ≡ true → IsSoundPut capacity 0 p shut → IsSoundPut capacity 0 p true
-  put_shut shut Free e f = tt
-  put_shut shut (Offers offered full) e (o, f) = absurd (cc)
-  put_shut shut Late e f = refl
-  put_shut shut (Closes again) e f = λ a. refl
-
-  told_shut : (shut closed : Bool) (turn : PutTurn) (p : Producer) → closed ≡ true → FitsPut turn shut p closed → FitsPut turn true p closed
-  told_shut shut closed Free Idle c f = c
-  told_shut shut closed Free (Putting done left) c f = absurd f
-  told_shut shut closed Free (FoundFull items) c f = absurd f
-  told_shut shut closed Free FoundShut c f = absurd f
-  told_shut shut closed Free (Closing done) c f = absurd f
-  told_shut shut closed (Offers offered full) Idle c f = absurd f
-  told_shut shut closed (Offers offered full) (Putting done left) c f = f
-  told_shut shut closed (Offers offered full) (FoundFull items) c f = f
-  told_shut shut closed (Offers offered full) FoundShut c f = absurd f
-  told_shut shut closed (Offers offered full) (Closing done) c f = absurd f
-  told_shut shut closed Late Idle c f = absurd f
-  told_shut shut closed Late (Putting done left) c f = f
-  told_shut shut closed Late (FoundFull items) c f = absurd f
-  told_shut shut closed Late FoundShut c f = f
-  told_shut shut closed Late (Closing done) c f = absurd f
-  told_shut shut closed (Closes again) Idle c f = absurd f
-  told_shut shut closed (Closes again) (Putting done left) c f = absurd f
-  told_shut shut closed (Closes again) (FoundFull items) c f = absurd f
-  told_shut shut closed (Closes again) FoundShut c f = absurd f
-  told_shut shut closed (Closes again) (Closing done) c f = (f.0, λ e. c)
-
-  untold_shut : (shut closed : Bool) (turn : PutTurn) (p : Producer) → has_closed turn shut ≡ true → FitsPut turn true p closed → closed ≡ true → FitsPut turn shut p closed
-  untold_shut shut closed Free Idle e f c = f ∙ sym e
-  untold_shut shut closed Free (Putting done left) e f c = absurd f
-  untold_shut shut closed Free (FoundFull items) e f c = absurd f
-  untold_shut shut closed Free FoundShut e f c = absurd f
-  untold_shut shut closed Free (Closing done) e f c = absurd f
-  untold_shut shut closed (Offers offered full) Idle e f c = absurd f
-  untold_shut shut closed (Offers offered full) (Putting done left) e f c = f
-  untold_shut shut closed (Offers offered full) (FoundFull items) e f c = f
-  untold_shut shut closed (Offers offered full) FoundShut e f c = absurd f
-  untold_shut shut closed (Offers offered full) (Closing done) e f c = absurd f
-  untold_shut shut closed Late Idle e f c = absurd f
-  untold_shut shut closed Late (Putting done left) e f c = f
-  untold_shut shut closed Late (FoundFull items) e f c = absurd f
-  untold_shut shut closed Late FoundShut e f c = f
-  untold_shut shut closed Late (Closing done) e f c = absurd f
-  untold_shut shut closed (Closes again) Idle e f c = absurd f
-  untold_shut shut closed (Closes again) (Putting done left) e f c = absurd f
-  untold_shut shut closed (Closes again) (FoundFull items) e f c = absurd f
-  untold_shut shut closed (Closes again) FoundShut e f c = absurd f
-  untold_shut shut closed (Closes again) (Closing done) e f c = (f.0, λ z. c)
-
-  pub take_closed :
-      (empty shut : Bool) → Keeps capacity h [] put (Waits empty) shut → has_closed put shut ≡ true → Accepts capacity h TakeClosed [] put Rests true
-  take_closed empty shut k closed =
-      accept capacity h TakeClosed [] [] put put (Waits empty) Rests shut true k (refl, refl) (omega arith) (put_shut shut put closed k.put_ok) tt
-      (λ s t d m.
-      let (ec, ec') = m.consumer in
-      let d' = with_consumer capacity [] put (Waits empty) shut s d FoundClosed ec in
+      let d' = with_consumer capacity [] put (Waits wanted before ended) shut s d FoundClosed ec in
       described_at capacity [] put Rests true t s.queue s.producer Resting m.queue m.producer ec'
-      (record { items = d'.items; room = d'.room; producer = told_shut shut s.queue.closed put s.producer d'.consumer.1 d'.producer; consumer = tt }))
+      (record { items = d'.items; room = d'.room; producer = told_shut capacity shut s.queue.closed put s.producer d'.consumer.1 d'.producer; consumer = tt }))
       (λ t d told.
       let ec : t.consumer ≡ Resting = rests_resting t.consumer t.queue d.consumer in
       let d' = with_consumer capacity [] put Rests true t d Resting ec in
-      let is_closed : t.queue.closed ≡ true = shut_closed capacity [] Rests true put t.producer t.queue.closed (put_shut shut put closed k.put_ok) d.producer refl in
+      let is_closed : t.queue.closed ≡ true = shut_closed capacity [] Rests true 0 put t.producer t.queue.closed (put_shut shut put closed k.put_ok) d.producer refl in
       happens capacity h (point t.queue t.producer FoundClosed) t TakeClosed
       (k.sound (point t.queue t.producer FoundClosed)
       (record {
         items = d'.items;
         room = d.room;
-        producer = untold_shut shut t.queue.closed put t.producer closed d.producer is_closed;
+        producer = untold_shut capacity shut t.queue.closed put t.producer closed d.producer is_closed;
         consumer = (none_of t.queue.items (left_by put t.producer) d'.items, is_closed);
       }) told)
       (record { queue = refl; producer = refl; consumer = (refl, ec) }))
-    where
-      none_of : (xs ys : List ℕ) → [] ≡ xs ++ ys → xs ≡ []
-      none_of [] ys e = refl
-      none_of (x ∷ xs) ys e = absurd (cc)
-
-  -- a queue that is closed has no items left to come, and a close has begun
-  closed_left : (shut closed : Bool) (turn : PutTurn) (p : Producer) (n : ℕ) → IsSoundPut capacity n turn shut → FitsPut turn shut p closed → closed ≡ true → (left_by turn p ≡ []) × (has_closed turn shut ≡ true)
-  closed_left shut closed Free Idle n ok f c = (refl, sym f ∙ c)
-  closed_left shut closed Free (Putting done left) n ok f c = absurd f
-  closed_left shut closed Free (FoundFull items) n ok f c = absurd f
-  closed_left shut closed Free FoundShut n ok f c = absurd f
-  closed_left shut closed Free (Closing done) n ok f c = absurd f
-  closed_left shut closed (Offers offered full) Idle n ok f c = absurd f
-  closed_left shut closed (Offers offered full) (Putting done left) n ok (e, o) c = absurd (cc)
-  closed_left shut closed (Offers offered full) (FoundFull items) n ok (g, e, o) c = absurd (cc)
-  closed_left shut closed (Offers offered full) FoundShut n ok f c = absurd f
-  closed_left shut closed (Offers offered full) (Closing done) n ok f c = absurd f
-  closed_left shut closed Late p n ok f c = (refl, ok)
-  closed_left shut closed (Closes again) p n ok f c = (refl, refl)
 
   pub not_closed :
-      (inside : List ℕ) (empty shut : Bool) → Keeps capacity h inside put (Waits empty) shut → (0 < length inside) ⊎ (has_closed put shut ≡ false) →
-      Refused capacity h TakeClosed inside put (Waits empty) shut
-  not_closed inside empty shut k bad =
-      refuse capacity h TakeClosed inside put (Waits empty) shut (sides (call_of_put put) NoCall) k (refl, refl)
+      (inside : List ℕ) → Keeps capacity h inside put (Waits wanted before ended) shut → (0 < length inside) ⊎ (has_closed put shut ≡ false) →
+      Refused capacity h TakeClosed inside put (Waits wanted before ended) shut
+  not_closed inside k bad =
+      refuse capacity h TakeClosed inside put (Waits wanted before ended) shut (sides (call_of_put put) NoCall) k (wanted, refl, refl)
       (λ s t d m.
-      let d' = with_consumer capacity inside put (Waits empty) shut s d FoundClosed m.consumer.0 in
+      let d' = with_consumer capacity inside put (Waits wanted before ended) shut s d FoundClosed m.consumer.0 in
       let (none, closed) = d'.consumer in
-      let (left, begun) = closed_left shut s.queue.closed put s.producer (length inside) k.put_ok d.producer closed in
+      let (left, begun) = closed_left capacity shut s.queue.closed put s.producer (length inside) k.put_ok d.producer closed in
       elim bad [
         | inl l ↦ omega (arith, l, ap length d'.items, length-append s.queue.items (left_by put s.producer), ap length none, ap length left)
         | inr e ↦ cc
       ])
 
--- the next item, and those behind it
-pub next_first : (item : ℕ) (inside : List ℕ) → IsNext item inside → inside ≡ item ∷ drop 1 inside
-next_first item [] e = absurd e
-next_first item (x ∷ inside) e = ap (λ z. z ∷ inside) e
-
-pub is_next : (item : ℕ) (inside rest : List ℕ) → inside ≡ item ∷ rest → IsNext item inside
-is_next item inside rest e = subst (IsNext item) (sym e) refl
-
 pub no_more : (inside : List ℕ) → length inside ≡ 0 → inside ≡ []
 no_more [] e = refl
 no_more (x ∷ inside) e = absurd (omega (arith, e))
+
+-- one item more is next
+pub next_one :
+    (items inside : List ℕ) (i : ℕ) → i < length items → i < length inside → slice_index_or inside i 0 ≡ slice_index_or items i 0 → AreNext (take i items) inside →
+    AreNext (take (i + 1) items) inside
+next_one items inside i l m e ([], f) =
+    absurd (omega (arith, m, ap length f, length-append (take i items) [], length-take-le i items (omega (arith, l))))
+next_one items inside i l m e (y ∷ rest, f) =
+    let long : i ≡ length (take i items) = sym (length-take-le i items (omega (arith, l))) in
+    let at : slice_index_or inside i 0 ≡ y =
+    ap (λ z. slice_index_or z i 0) f ∙ (ap (λ z. slice_index_or (take i items ++ y ∷ rest) z 0) long ∙ get_or-append_seam (take i items) y rest 0) in
+    let same : slice_index_or items i 0 ≡ y = sym e ∙ at in
+    let more : take (i + 1) items ≡ take i items ++ y ∷ [] = take_more items i 0 l ∙ ap (λ z. take i items ++ z ∷ []) same in
+    (rest, f ∙ (sym (append_assoc (take i items) (y ∷ []) rest) ∙ ap (λ z. z ++ rest) (sym more)))

@@ -1,7 +1,7 @@
 -- Well-formed histories: one event more, and the calls that are under way behind a history.
-use Rattle.std.proofs.Common.{◌≡◌, ℕ, List, [], ◌∷◌, ◌++◌, refl, sym, ap, subst, ◌∙◌}
-use Rattle.queue_calls.specs.Queue.{Does, Enqueue, FindFull, FindShut, Close, Dequeue, FindEmpty, FindClosed}
-use Rattle.queue_calls.specs.Calls.{Event, PutBegin, PutStored, PutFull, PutClosed, CloseBegin, CloseEnd, TakeBegin, TakeItem, TakeEmpty, TakeClosed, Mark, Happens, Effect, Producer, Idle, Putting, FoundFull, FoundShut, Closing, Consumer, Resting, Taking, Took, FoundEmpty, FoundClosed, ProducerStep, ConsumerStep, Point, LeadTo, events_of, IsLinearizable}
+use Rattle.std.proofs.Common.{◌≡◌, ℕ, suc, ◌+◌, Bool, true, false, List, [], ◌∷◌, ◌++◌, length, refl, sym, ap, subst, ◌∙◌, arith, length-append}
+use Rattle.queue_calls.specs.Queue.{Capacity, Does, Enqueue, FindNoRoom, FindShut, Close, Dequeue, FindFewer, FindClosed}
+use Rattle.queue_calls.specs.Calls.{Event, PutBegin, PutStored, PutFull, PutShort, PutNothing, PutClosed, CloseBegin, CloseEnd, TakeBegin, TakeItems, TakeEmpty, TakeShort, TakeNothing, TakeClosed, Mark, Happens, Effect, Producer, Idle, Putting, FoundShut, Closing, Consumer, Resting, Taking, FoundClosed, short_of, ProducerStep, ConsumerStep, Point, LeadTo, events_of, IsLinearizable}
 use Rattle.queue_calls.specs.InTurn.{Call, NoCall, APut, AClose, ATake, Sides, sides, Turn, Turns, IsInTurn}
 
 pub one_turn_more : (h : List Event) (e : Event) (s t u : Sides) → Turns s h t → Turn t e u → Turns s (h ++ e ∷ []) u
@@ -13,16 +13,20 @@ last_turn [] e s u (n, f, r) = (s, refl, subst (λ z. Turn s e z) (sym r) f)
 last_turn (x ∷ h) e s u (n, f, r) = let (t, a, b) = last_turn h e n u r in (t, (n, f, a), b)
 
 same_turn : (e : Event) (s t u : Sides) → Turn s e t → Turn s e u → t ≡ u
-same_turn (PutBegin items) s t u a b = a.1 ∙ sym b.1
-same_turn (PutStored count) s t u a b = a.1 ∙ sym b.1
-same_turn PutFull s t u a b = a.1 ∙ sym b.1
-same_turn PutClosed s t u a b = a.1 ∙ sym b.1
+same_turn (PutBegin items) s t u a b = a.2 ∙ sym b.2
+same_turn (PutStored count) s t u a b = a.4 ∙ sym b.4
+same_turn PutFull s t u a b = a.2 ∙ sym b.2
+same_turn PutShort s t u a b = a.3 ∙ sym b.3
+same_turn PutNothing s t u a b = a.2 ∙ sym b.2
+same_turn PutClosed s t u a b = a.2 ∙ sym b.2
 same_turn CloseBegin s t u a b = a.1 ∙ sym b.1
 same_turn CloseEnd s t u a b = a.1 ∙ sym b.1
-same_turn TakeBegin s t u a b = a.1 ∙ sym b.1
-same_turn (TakeItem item) s t u a b = a.1 ∙ sym b.1
-same_turn TakeEmpty s t u a b = a.1 ∙ sym b.1
-same_turn TakeClosed s t u a b = a.1 ∙ sym b.1
+same_turn (TakeBegin wanted) s t u a b = a.2 ∙ sym b.2
+same_turn (TakeItems items) s t u a b = a.4 ∙ sym b.4
+same_turn TakeEmpty s t u a b = a.2 ∙ sym b.2
+same_turn TakeShort s t u a b = a.3 ∙ sym b.3
+same_turn TakeNothing s t u a b = a.2 ∙ sym b.2
+same_turn TakeClosed s t u a b = a.2 ∙ sym b.2
 
 pub same_turns : (h : List Event) (s t u : Sides) → Turns s h t → Turns s h u → t ≡ u
 same_turns [] s t u a b = a ∙ sym b
@@ -30,56 +34,160 @@ same_turns (x ∷ h) s t u (m, f, a) (n, g, b) =
     let same : m ≡ n = same_turn x s m n f g in
     same_turns h n t u (subst (λ z. Turns z h t) same a) b
 
--- what both sides have under way at a point
-abbrev pub call_of_producer : Producer → Call
-call_of_producer Idle = NoCall
-call_of_producer (Putting done left) = APut
-call_of_producer (FoundFull items) = APut
-call_of_producer FoundShut = APut
-call_of_producer (Closing done) = AClose
+-- what both sides have under way at a point: a side that found the queue closed no longer tells of how many items its call is
+abbrev HasPut : Producer → Call → Type 0
+HasPut Idle NoCall = Unit {0}
+HasPut (Putting lacked done left) (APut offered) = done + length left ≡ offered
+HasPut FoundShut (APut offered) = Unit {0}
+HasPut (Closing done) AClose = Unit {0}
+HasPut _ _ = ⊥
 
-abbrev pub call_of_consumer : Consumer → Call
-call_of_consumer Resting = NoCall
-call_of_consumer Taking = ATake
-call_of_consumer (Took item) = ATake
-call_of_consumer FoundEmpty = ATake
-call_of_consumer FoundClosed = ATake
+abbrev HasTake : Consumer → Call → Type 0
+HasTake Resting NoCall = Unit {0}
+HasTake (Taking lacked took left) (ATake wanted) = length took + left ≡ wanted
+HasTake FoundClosed (ATake wanted) = Unit {0}
+HasTake _ _ = ⊥
 
-abbrev pub sides_at : Producer → Consumer → Sides
-sides_at p c = sides (call_of_producer p) (call_of_consumer c)
+idle_has : (call : Call) → HasPut Idle call → call ≡ NoCall
+idle_has NoCall f = refl
+idle_has (APut n) f = absurd f
+idle_has AClose f = absurd f
+idle_has (ATake n) f = absurd f
+
+putting_has : (lacked done : ℕ) (left : List ℕ) (call : Call) → HasPut (Putting lacked done left) call → call ≡ APut (done + length left)
+putting_has lacked done left NoCall f = absurd f
+putting_has lacked done left (APut n) f = ap APut (sym f)
+putting_has lacked done left AClose f = absurd f
+putting_has lacked done left (ATake n) f = absurd f
+
+shut_has : (call : Call) → HasPut FoundShut call → (n : ℕ) × (call ≡ APut n)
+shut_has NoCall f = absurd f
+shut_has (APut n) f = (n, refl)
+shut_has AClose f = absurd f
+shut_has (ATake n) f = absurd f
+
+closing_has : (done : Bool) (call : Call) → HasPut (Closing done) call → call ≡ AClose
+closing_has done NoCall f = absurd f
+closing_has done (APut n) f = absurd f
+closing_has done AClose f = refl
+closing_has done (ATake n) f = absurd f
+
+resting_has : (call : Call) → HasTake Resting call → call ≡ NoCall
+resting_has NoCall f = refl
+resting_has (APut n) f = absurd f
+resting_has AClose f = absurd f
+resting_has (ATake n) f = absurd f
+
+taking_has : (lacked : ℕ) (took : List ℕ) (left : ℕ) (call : Call) → HasTake (Taking lacked took left) call → call ≡ ATake (length took + left)
+taking_has lacked took left NoCall f = absurd f
+taking_has lacked took left (APut n) f = absurd f
+taking_has lacked took left AClose f = absurd f
+taking_has lacked took left (ATake n) f = ap ATake (sym f)
+
+told_has : (call : Call) → HasTake FoundClosed call → (n : ℕ) × (call ≡ ATake n)
+told_has NoCall f = absurd f
+told_has (APut n) f = absurd f
+told_has AClose f = absurd f
+told_has (ATake n) f = (n, refl)
 
 -- an event leads from sides to sides in turn
-in_turn : (e : Event) (p p' : Producer) (c c' : Consumer) → ProducerStep p (Happens e) p' → ConsumerStep c (Happens e) c' → Turn (sides_at p c) e (sides_at p' c')
-in_turn (PutBegin items) p p' c c' (a, b) f = (ap call_of_producer a, cc (ap call_of_producer b, ap call_of_consumer f))
-in_turn (PutStored count) p p' c c' (left, l, a, b) f = (ap call_of_producer a, cc (ap call_of_producer b, ap call_of_consumer f))
-in_turn PutFull p p' c c' (items, a, b) f = (ap call_of_producer a, cc (ap call_of_producer b, ap call_of_consumer f))
-in_turn PutClosed p p' c c' (a, b) f = (ap call_of_producer a, cc (ap call_of_producer b, ap call_of_consumer f))
-in_turn CloseBegin p p' c c' (a, b) f = (ap call_of_producer a, cc (ap call_of_producer b, ap call_of_consumer f))
-in_turn CloseEnd p p' c c' (a, b) f = (ap call_of_producer a, cc (ap call_of_producer b, ap call_of_consumer f))
-in_turn TakeBegin p p' c c' f (a, b) = (ap call_of_consumer a, cc (ap call_of_producer f, ap call_of_consumer b))
-in_turn (TakeItem item) p p' c c' f (a, b) = (ap call_of_consumer a, cc (ap call_of_producer f, ap call_of_consumer b))
-in_turn TakeEmpty p p' c c' f (a, b) = (ap call_of_consumer a, cc (ap call_of_producer f, ap call_of_consumer b))
-in_turn TakeClosed p p' c c' f (a, b) = (ap call_of_consumer a, cc (ap call_of_producer f, ap call_of_consumer b))
+record Next (e : Event) (s : Sides) (p : Producer) (c : Consumer) : Type 0 where
+  to : Sides
+  turn : Turn s e to
+  put : HasPut p to.producer
+  take : HasTake c to.consumer
 
--- an operation leaves each side in its call
-same_sides : (d : Does) (p p' : Producer) (c c' : Consumer) → ProducerStep p (Effect d) p' → ConsumerStep c (Effect d) c' → sides_at p c ≡ sides_at p' c'
-same_sides (Enqueue item) p p' c c' (done, left, a, b) f = cc (ap call_of_producer a, ap call_of_producer b, ap call_of_consumer f)
-same_sides FindFull p p' c c' (items, a, b) f = cc (ap call_of_producer a, ap call_of_producer b, ap call_of_consumer f)
-same_sides FindShut p p' c c' (items, a, b) f = cc (ap call_of_producer a, ap call_of_producer b, ap call_of_consumer f)
-same_sides Close p p' c c' (a, b) f = cc (ap call_of_producer a, ap call_of_producer b, ap call_of_consumer f)
-same_sides (Dequeue item) p p' c c' f (a, b) = cc (ap call_of_producer f, ap call_of_consumer a, ap call_of_consumer b)
-same_sides FindEmpty p p' c c' f (a, b) = cc (ap call_of_producer f, ap call_of_consumer a, ap call_of_consumer b)
-same_sides FindClosed p p' c c' f (a, b) = cc (ap call_of_producer f, ap call_of_consumer a, ap call_of_consumer b)
+module _ (s : Sides) (p p' : Producer) (c c' : Consumer) (hp : HasPut p s.producer) (hc : HasTake c s.consumer) where
+  -- the producer's side is what the event leaves, and the consumer's as it was; and the other way round
+  by_put : (e : Event) (call : Call) → Turn s e (sides call s.consumer) → HasPut p' call → c' ≡ c → Next e s p' c'
+  by_put e call turn f same = record { to = sides call s.consumer; turn = turn; put = f; take = subst (λ z. HasTake z s.consumer) (sym same) hc }
 
-marks_in_turn : (capacity : ℕ) (marks : List Mark) (t : Point) → LeadTo capacity marks t → Turns (sides NoCall NoCall) (events_of marks) (sides_at t.producer t.consumer)
-marks_in_turn capacity [] t l = ap (λ (z : Point). sides_at z.producer z.consumer) l
-marks_in_turn capacity (Happens e ∷ marks) t (s, l, m) =
-    one_turn_more (events_of marks) e (sides NoCall NoCall) (sides_at s.producer s.consumer) (sides_at t.producer t.consumer) (marks_in_turn capacity marks s l)
-    (in_turn e s.producer t.producer s.consumer t.consumer m.producer m.consumer)
-marks_in_turn capacity (Effect d ∷ marks) t (s, l, m) =
-    subst (λ z. Turns (sides NoCall NoCall) (events_of marks) z) (same_sides d s.producer t.producer s.consumer t.consumer m.producer m.consumer) (marks_in_turn capacity marks s l)
+  by_take : (e : Event) (call : Call) → Turn s e (sides s.producer call) → HasTake c' call → p' ≡ p → Next e s p' c'
+  by_take e call turn f same = record { to = sides s.producer call; turn = turn; put = subst (λ z. HasPut z s.producer) (sym same) hp; take = f }
+
+  has_p : (q : Producer) → p ≡ q → HasPut q s.producer
+  has_p q e = subst (λ z. HasPut z s.producer) e hp
+
+  has_c : (d : Consumer) → c ≡ d → HasTake d s.consumer
+  has_c d e = subst (λ z. HasTake z s.consumer) e hc
+
+  left_p : (q : Producer) (call : Call) → p' ≡ q → HasPut q call → HasPut p' call
+  left_p q call e f = subst (λ z. HasPut z call) (sym e) f
+
+  left_c : (d : Consumer) (call : Call) → c' ≡ d → HasTake d call → HasTake c' call
+  left_c d call e f = subst (λ z. HasTake z call) (sym e) f
+
+  in_turn : (e : Event) → ProducerStep p (Happens e) p' → ConsumerStep c (Happens e) c' → Next e s p' c'
+  in_turn (PutBegin items) (a, some, b) f =
+      by_put (PutBegin items) (APut (length items)) (idle_has s.producer (has_p Idle a), some, refl) (left_p (Putting 0 0 items) (APut (length items)) b (omega arith)) f
+  in_turn (PutStored count) (left, some, a, b) f =
+      by_put (PutStored count) NoCall
+      (count + length left, putting_has (short_of count (length left)) count left s.producer (has_p (Putting (short_of count (length left)) count left) a), some, omega arith, refl) (left_p Idle NoCall b tt) f
+  in_turn PutFull (items, a, b) f = by_put PutFull NoCall (0 + length items, putting_has 1 0 items s.producer (has_p (Putting 1 0 items) a), refl) (left_p Idle NoCall b tt) f
+  in_turn PutShort (items, some, a, b) f =
+      by_put PutShort NoCall (0 + length items, putting_has (length items) 0 items s.producer (has_p (Putting (length items) 0 items) a), omega (arith, some), refl) (left_p Idle NoCall b tt) f
+  in_turn PutNothing (items, a, b) f = by_put PutNothing NoCall (0 + length items, putting_has 0 0 items s.producer (has_p (Putting 0 0 items) a), refl) (left_p Idle NoCall b tt) f
+  in_turn PutClosed (a, b) f = let (n, g) = shut_has s.producer (has_p FoundShut a) in by_put PutClosed NoCall (n, g, refl) (left_p Idle NoCall b tt) f
+  in_turn CloseBegin (a, b) f = by_put CloseBegin AClose (idle_has s.producer (has_p Idle a), refl) (left_p (Closing false) AClose b tt) f
+  in_turn CloseEnd (a, b) f = by_put CloseEnd NoCall (closing_has true s.producer (has_p (Closing true) a), refl) (left_p Idle NoCall b tt) f
+  in_turn (TakeBegin wanted) f (a, some, b) =
+      by_take (TakeBegin wanted) (ATake wanted) (resting_has s.consumer (has_c Resting a), some, refl) (left_c (Taking 0 [] wanted) (ATake wanted) b (omega arith)) f
+  in_turn (TakeItems items) f (left, some, a, b) =
+      by_take (TakeItems items) NoCall
+      (length items + left, taking_has (short_of (length items) left) items left s.consumer (has_c (Taking (short_of (length items) left) items left) a), some, omega arith, refl) (left_c Resting NoCall b tt) f
+  in_turn TakeEmpty f (wanted, a, b) = by_take TakeEmpty NoCall (0 + wanted, taking_has 1 [] wanted s.consumer (has_c (Taking 1 [] wanted) a), refl) (left_c Resting NoCall b tt) f
+  in_turn TakeShort f (wanted, some, a, b) =
+      by_take TakeShort NoCall (0 + wanted, taking_has wanted [] wanted s.consumer (has_c (Taking wanted [] wanted) a), omega (arith, some), refl) (left_c Resting NoCall b tt) f
+  in_turn TakeNothing f (wanted, a, b) = by_take TakeNothing NoCall (0 + wanted, taking_has 0 [] wanted s.consumer (has_c (Taking 0 [] wanted) a), refl) (left_c Resting NoCall b tt) f
+  in_turn TakeClosed f (a, b) = let (n, g) = told_has s.consumer (has_c FoundClosed a) in by_take TakeClosed NoCall (n, g, refl) (left_c Resting NoCall b tt) f
+
+  -- an operation leaves each side in its call
+  same_sides : (d : Does) → ProducerStep p (Effect d) p' → ConsumerStep c (Effect d) c' → HasPut p' s.producer × HasTake c' s.consumer
+  same_sides (Enqueue item) (lacked, done, left, a, b) f =
+      let g = putting_has lacked done (item ∷ left) s.producer (has_p (Putting lacked done (item ∷ left)) a) in
+      let G : Call → Type 0 = λ z. HasPut (Putting lacked (suc done) left) z in
+      (left_p _ s.producer b (subst G (sym g) (omega arith)), left_c c s.consumer f hc)
+  same_sides (FindNoRoom count) (items, a, b) f =
+      let g = putting_has 0 0 items s.producer (has_p (Putting 0 0 items) a) in
+      let G : Call → Type 0 = λ z. HasPut (Putting count 0 items) z in
+      (left_p _ s.producer b (subst G (sym g) refl), left_c c s.consumer f hc)
+  same_sides FindShut (items, a, b) f =
+      let g = putting_has 0 0 items s.producer (has_p (Putting 0 0 items) a) in
+      let G : Call → Type 0 = λ z. HasPut FoundShut z in
+      (left_p _ s.producer b (subst G (sym g) tt), left_c c s.consumer f hc)
+  same_sides Close (a, b) f =
+      let g = closing_has false s.producer (has_p (Closing false) a) in
+      let G : Call → Type 0 = λ z. HasPut (Closing true) z in
+      (left_p _ s.producer b (subst G (sym g) tt), left_c c s.consumer f hc)
+  same_sides (Dequeue item) f (lacked, took, left, a, b) =
+      let g = taking_has lacked took (suc left) s.consumer (has_c (Taking lacked took (suc left)) a) in
+      let G : Call → Type 0 = λ z. HasTake (Taking lacked (took ++ item ∷ []) left) z in
+      (left_p p s.producer f hp, left_c _ s.consumer b (subst G (sym g) (omega (arith, length-append took (item ∷ [])))))
+  same_sides (FindFewer count) f (wanted, a, b) =
+      let g = taking_has 0 [] wanted s.consumer (has_c (Taking 0 [] wanted) a) in
+      let G : Call → Type 0 = λ z. HasTake (Taking count [] wanted) z in
+      (left_p p s.producer f hp, left_c _ s.consumer b (subst G (sym g) refl))
+  same_sides FindClosed f (wanted, a, b) =
+      let g = taking_has 0 [] wanted s.consumer (has_c (Taking 0 [] wanted) a) in
+      let G : Call → Type 0 = λ z. HasTake FoundClosed z in
+      (left_p p s.producer f hp, left_c _ s.consumer b (subst G (sym g) tt))
+
+marks_in_turn :
+    (capacity : Capacity) (marks : List Mark) (t : Point) → LeadTo capacity marks t →
+    (s : Sides) × Turns (sides NoCall NoCall) (events_of marks) s × HasPut t.producer s.producer × HasTake t.consumer s.consumer
+marks_in_turn capacity [] t l =
+    (sides NoCall NoCall, refl, subst (λ (z : Point). HasPut z.producer NoCall) (sym l) tt, subst (λ (z : Point). HasTake z.consumer NoCall) (sym l) tt)
+marks_in_turn capacity (Happens e ∷ marks) t (u, l, m) =
+    let (s, turns, hp, hc) = marks_in_turn capacity marks u l in
+    let n : Next e s t.producer t.consumer = in_turn s u.producer t.producer u.consumer t.consumer hp hc e m.producer m.consumer in
+    (n.to, one_turn_more (events_of marks) e (sides NoCall NoCall) s n.to turns n.turn, n.put, n.take)
+marks_in_turn capacity (Effect d ∷ marks) t (u, l, m) =
+    let (s, turns, hp, hc) = marks_in_turn capacity marks u l in
+    let (hp', hc') = same_sides s u.producer t.producer u.consumer t.consumer hp hc d m.producer m.consumer in
+    (s, turns, hp', hc')
 
 -- a history that is linearizable is well formed
-pub linearizable_in_turn : (capacity : ℕ) (h : List Event) → IsLinearizable capacity h → IsInTurn h
+pub linearizable_in_turn : (capacity : Capacity) (h : List Event) → IsLinearizable capacity h → IsInTurn h
 linearizable_in_turn capacity h (t, r) =
-    (sides_at t.producer t.consumer, subst (λ z. Turns (sides NoCall NoCall) z (sides_at t.producer t.consumer)) r.events (marks_in_turn capacity r.marks t r.lead))
+    let (s, turns, hp, hc) = marks_in_turn capacity r.marks t r.lead in
+    (s, subst (λ z. Turns (sides NoCall NoCall) z s) r.events turns)

@@ -1,18 +1,20 @@
 -- What an auditor says of a history, event by event.
 use Rattle.std.specs.Prelude.{ℕ, ◌≡◌, List, [], ◌∷◌, ◌++◌, Result, MatchResult}
+use Rattle.queue_calls.specs.Queue.{Capacity}
 use Rattle.queue_calls.specs.Calls.{Event, PutBegin, IsLinearizable}
 use Rattle.queue_calls.specs.InTurn.{IsInTurn}
 use Rattle.queue_calls.specs.State.{Keeps}
+use Rattle.queue_calls.specs.Told.{meant}
 use Rattle.queue_calls.specs.declared.auditors.CallAuditor.{CallAuditor}
 use Rattle.queue_calls.specs.declared.faults.Fault.{Fault}
 use Rattle.queue_calls.specs.declared.faults.Fault.TheVariants.{OutOfTurn, NotLinearizable, OutOfMemory}
 
 -- the auditor has read this history
 abbrev pub Audits : {A : Type 0} → CallAuditor A → List Event → Type 0
-Audits a h = Keeps a.capacity h a.inside.items a.put a.take a.shut
+Audits a h = Keeps (meant a.capacity) h a.inside.items a.put a.take a.shut
 
 -- what a refusal says of the history with the event
-abbrev pub Refuses : Fault → ℕ → List Event → Event → Type 0
+abbrev pub Refuses : Fault → Capacity → List Event → Event → Type 0
 Refuses OutOfTurn capacity h event = ¬ IsInTurn (h ++ event ∷ []) × ¬ IsLinearizable capacity (h ++ event ∷ [])
 Refuses NotLinearizable capacity h event = IsInTurn (h ++ event ∷ []) × ¬ IsLinearizable capacity (h ++ event ∷ [])
 Refuses OutOfMemory capacity h event = (items : List ℕ) × (event ≡ PutBegin items)
@@ -23,5 +25,5 @@ abbrev pub Reads : {A : Type 0} → CallAuditor A → Event → Result Unit Faul
 Reads old event result new =
     (new.capacity ≡ old.capacity) ×
     ((h : List Event) → Audits old h →
-    MatchResult result (λ _. Audits new (h ++ event ∷ []) × IsLinearizable old.capacity (h ++ event ∷ []))
-    (λ fault. Audits new h × Refuses fault old.capacity h event))
+    MatchResult result (λ _. Audits new (h ++ event ∷ []) × IsLinearizable (meant old.capacity) (h ++ event ∷ []))
+    (λ fault. Audits new h × Refuses fault (meant old.capacity) h event))

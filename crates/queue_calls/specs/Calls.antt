@@ -1,19 +1,25 @@
 -- Histories of calls of a queue by one producer and one consumer, and linearizability (Herlihy and Wing, 1990): each operation of a
 -- call takes effect at one moment between the call's begin and its end, as if the queue's operations came one after the other.
-use Rattle.std.specs.Prelude.{◌≡◌, ℕ, suc, ◌<◌, Bool, true, false, List, [], ◌∷◌, ◌++◌}
-use Rattle.queue_calls.specs.Queue.{Does, Enqueue, FindFull, FindShut, Close, Dequeue, FindEmpty, FindClosed, Queue, queue, Step}
+use Rattle.std.specs.Prelude.{◌≡◌, ℕ, zero, suc, ◌<◌, Bool, true, false, List, [], ◌∷◌, ◌++◌, length}
+use Rattle.queue_calls.specs.Queue.{Capacity, Does, Enqueue, FindNoRoom, FindShut, Close, Dequeue, FindFewer, FindClosed, Queue, queue, Step}
 
--- an event of a history: a call begins, or it ends with an answer. A put offers items, of which so many of the first are stored.
+-- an event of a history: a call begins, or it ends with an answer. A put offers items. Of these so many of the first are stored; or
+-- none, as there is no room for one, no room for all of them, without a reason, or as the queue is closed. A take wants so many items.
+-- It takes these; or none, as there is none, fewer than it wants, without a reason, or as there is none and the queue is closed.
 pub data Event : Type 0 where
   PutBegin : (items : List ℕ) → Event
   PutStored : (count : ℕ) → Event
   PutFull : Event
+  PutShort : Event
+  PutNothing : Event
   PutClosed : Event
   CloseBegin : Event
   CloseEnd : Event
-  TakeBegin : Event
-  TakeItem : (item : ℕ) → Event
+  TakeBegin : (wanted : ℕ) → Event
+  TakeItems : (items : List ℕ) → Event
   TakeEmpty : Event
+  TakeShort : Event
+  TakeNothing : Event
   TakeClosed : Event
 
 -- what comes in the course of a history: an event, or an operation takes effect
@@ -21,65 +27,79 @@ pub data Mark : Type 0 where
   Happens : (event : Event) → Mark
   Effect : (does : Does) → Mark
 
--- what the producer is in: no call; a put that has stored so many items and has these left; a put of these items that found the
--- queue full; a put that found it closed; a close that has taken effect or not yet
+-- what the producer is in: no call; a put that found no room for so many items before its first one (0 where it found none), has
+-- stored so many and has these left; a put that found the queue closed; a close that has taken effect or not yet
 pub data Producer : Type 0 where
   Idle : Producer
-  Putting : (done : ℕ) (left : List ℕ) → Producer
-  FoundFull : (items : List ℕ) → Producer
+  Putting : (lacked done : ℕ) (left : List ℕ) → Producer
   FoundShut : Producer
   Closing : (done : Bool) → Producer
 
--- what the consumer is in: no call; a take; a take that took this item, found the queue empty, or found it empty and closed
+-- what the consumer is in: no call; a take that found fewer than so many items before its first one (0 where it found none fewer), took
+-- these and may take so many more; a take that found the queue empty and closed
 pub data Consumer : Type 0 where
   Resting : Consumer
-  Taking : Consumer
-  Took : (item : ℕ) → Consumer
-  FoundEmpty : Consumer
+  Taking : (lacked : ℕ) (took : List ℕ) (left : ℕ) → Consumer
   FoundClosed : Consumer
+
+-- the reason why a call passed so many items and left so many: where it left some, it found no room for one item more than it passed,
+-- or fewer items than one more
+abbrev pub short_of : ℕ → ℕ → ℕ
+short_of count zero = 0
+short_of count (suc left) = suc count
 
 -- the calls of the producer: each mark needs it to be in one thing, and leaves it in another
 abbrev pub ProducerStep : Producer → Mark → Producer → Type 0
-ProducerStep p (Happens (PutBegin items)) after = (p ≡ Idle) × (after ≡ Putting 0 items)
-ProducerStep p (Happens (PutStored count)) after = (left : List ℕ) × (0 < count) × (p ≡ Putting count left) × (after ≡ Idle)
-ProducerStep p (Happens PutFull) after = (items : List ℕ) × (p ≡ FoundFull items) × (after ≡ Idle)
+ProducerStep p (Happens (PutBegin items)) after = (p ≡ Idle) × (0 < length items) × (after ≡ Putting 0 0 items)
+ProducerStep p (Happens (PutStored count)) after = (left : List ℕ) × (0 < count) × (p ≡ Putting (short_of count (length left)) count left) × (after ≡ Idle)
+ProducerStep p (Happens PutFull) after = (items : List ℕ) × (p ≡ Putting 1 0 items) × (after ≡ Idle)
+ProducerStep p (Happens PutShort) after = (items : List ℕ) × (1 < length items) × (p ≡ Putting (length items) 0 items) × (after ≡ Idle)
+ProducerStep p (Happens PutNothing) after = (items : List ℕ) × (p ≡ Putting 0 0 items) × (after ≡ Idle)
 ProducerStep p (Happens PutClosed) after = (p ≡ FoundShut) × (after ≡ Idle)
 ProducerStep p (Happens CloseBegin) after = (p ≡ Idle) × (after ≡ Closing false)
 ProducerStep p (Happens CloseEnd) after = (p ≡ Closing true) × (after ≡ Idle)
-ProducerStep p (Happens TakeBegin) after = after ≡ p
-ProducerStep p (Happens (TakeItem item)) after = after ≡ p
+ProducerStep p (Happens (TakeBegin wanted)) after = after ≡ p
+ProducerStep p (Happens (TakeItems items)) after = after ≡ p
 ProducerStep p (Happens TakeEmpty) after = after ≡ p
+ProducerStep p (Happens TakeShort) after = after ≡ p
+ProducerStep p (Happens TakeNothing) after = after ≡ p
 ProducerStep p (Happens TakeClosed) after = after ≡ p
-ProducerStep p (Effect (Enqueue item)) after = (done : ℕ) × (left : List ℕ) × (p ≡ Putting done (item ∷ left)) × (after ≡ Putting (suc done) left)
-ProducerStep p (Effect FindFull) after = (items : List ℕ) × (p ≡ Putting 0 items) × (after ≡ FoundFull items)
-ProducerStep p (Effect FindShut) after = (items : List ℕ) × (p ≡ Putting 0 items) × (after ≡ FoundShut)
+ProducerStep p (Effect (Enqueue item)) after =
+    (lacked done : ℕ) × (left : List ℕ) × (p ≡ Putting lacked done (item ∷ left)) × (after ≡ Putting lacked (suc done) left)
+ProducerStep p (Effect (FindNoRoom count)) after = (items : List ℕ) × (p ≡ Putting 0 0 items) × (after ≡ Putting count 0 items)
+ProducerStep p (Effect FindShut) after = (items : List ℕ) × (p ≡ Putting 0 0 items) × (after ≡ FoundShut)
 ProducerStep p (Effect Close) after = (p ≡ Closing false) × (after ≡ Closing true)
 ProducerStep p (Effect (Dequeue item)) after = after ≡ p
-ProducerStep p (Effect FindEmpty) after = after ≡ p
+ProducerStep p (Effect (FindFewer count)) after = after ≡ p
 ProducerStep p (Effect FindClosed) after = after ≡ p
 
 -- the calls of the consumer
 abbrev pub ConsumerStep : Consumer → Mark → Consumer → Type 0
-ConsumerStep c (Happens TakeBegin) after = (c ≡ Resting) × (after ≡ Taking)
-ConsumerStep c (Happens (TakeItem item)) after = (c ≡ Took item) × (after ≡ Resting)
-ConsumerStep c (Happens TakeEmpty) after = (c ≡ FoundEmpty) × (after ≡ Resting)
+ConsumerStep c (Happens (TakeBegin wanted)) after = (c ≡ Resting) × (0 < wanted) × (after ≡ Taking 0 [] wanted)
+ConsumerStep c (Happens (TakeItems items)) after = (left : ℕ) × (0 < length items) × (c ≡ Taking (short_of (length items) left) items left) × (after ≡ Resting)
+ConsumerStep c (Happens TakeEmpty) after = (wanted : ℕ) × (c ≡ Taking 1 [] wanted) × (after ≡ Resting)
+ConsumerStep c (Happens TakeShort) after = (wanted : ℕ) × (1 < wanted) × (c ≡ Taking wanted [] wanted) × (after ≡ Resting)
+ConsumerStep c (Happens TakeNothing) after = (wanted : ℕ) × (c ≡ Taking 0 [] wanted) × (after ≡ Resting)
 ConsumerStep c (Happens TakeClosed) after = (c ≡ FoundClosed) × (after ≡ Resting)
 ConsumerStep c (Happens (PutBegin items)) after = after ≡ c
 ConsumerStep c (Happens (PutStored count)) after = after ≡ c
 ConsumerStep c (Happens PutFull) after = after ≡ c
+ConsumerStep c (Happens PutShort) after = after ≡ c
+ConsumerStep c (Happens PutNothing) after = after ≡ c
 ConsumerStep c (Happens PutClosed) after = after ≡ c
 ConsumerStep c (Happens CloseBegin) after = after ≡ c
 ConsumerStep c (Happens CloseEnd) after = after ≡ c
-ConsumerStep c (Effect (Dequeue item)) after = (c ≡ Taking) × (after ≡ Took item)
-ConsumerStep c (Effect FindEmpty) after = (c ≡ Taking) × (after ≡ FoundEmpty)
-ConsumerStep c (Effect FindClosed) after = (c ≡ Taking) × (after ≡ FoundClosed)
+ConsumerStep c (Effect (Dequeue item)) after =
+    (lacked : ℕ) × (took : List ℕ) × (left : ℕ) × (c ≡ Taking lacked took (suc left)) × (after ≡ Taking lacked (took ++ item ∷ []) left)
+ConsumerStep c (Effect (FindFewer count)) after = (wanted : ℕ) × (c ≡ Taking 0 [] wanted) × (after ≡ Taking count [] wanted)
+ConsumerStep c (Effect FindClosed) after = (wanted : ℕ) × (c ≡ Taking 0 [] wanted) × (after ≡ FoundClosed)
 ConsumerStep c (Effect (Enqueue item)) after = after ≡ c
-ConsumerStep c (Effect FindFull) after = after ≡ c
+ConsumerStep c (Effect (FindNoRoom count)) after = after ≡ c
 ConsumerStep c (Effect FindShut) after = after ≡ c
 ConsumerStep c (Effect Close) after = after ≡ c
 
 -- the queue changes by the operations alone
-abbrev pub QueueStep : ℕ → Queue → Mark → Queue → Type 0
+abbrev pub QueueStep : Capacity → Queue → Mark → Queue → Type 0
 QueueStep capacity q (Happens event) after = after ≡ q
 QueueStep capacity q (Effect does) after = Step capacity q does after
 
@@ -93,13 +113,13 @@ abbrev pub point : Queue → Producer → Consumer → Point
 point q p c = record { queue = q; producer = p; consumer = c }
 
 -- a mark leads from one point to another
-pub record Leads (capacity : ℕ) (s : Point) (mark : Mark) (t : Point) : Type 0 where
+pub record Leads (capacity : Capacity) (s : Point) (mark : Mark) (t : Point) : Type 0 where
   pub queue : QueueStep capacity s.queue mark t.queue
   pub producer : ProducerStep s.producer mark t.producer
   pub consumer : ConsumerStep s.consumer mark t.consumer
 
 -- marks lead to a point, from the empty open queue with no call under way; the last mark comes first in the list
-abbrev pub LeadTo : ℕ → List Mark → Point → Type 0
+abbrev pub LeadTo : Capacity → List Mark → Point → Type 0
 LeadTo capacity [] t = t ≡ point (queue [] false) Idle Resting
 LeadTo capacity (mark ∷ before) t = (s : Point) × LeadTo capacity before s × Leads capacity s mark t
 
@@ -110,12 +130,12 @@ events_of (Happens event ∷ before) = events_of before ++ event ∷ []
 events_of (Effect does ∷ before) = events_of before
 
 -- a history can lead to a point, where its operations take effect at some moments
-pub record CanLeadTo (capacity : ℕ) (h : List Event) (t : Point) : Type 0 where
+pub record CanLeadTo (capacity : Capacity) (h : List Event) (t : Point) : Type 0 where
   pub marks : List Mark
   pub events : events_of marks ≡ h
   pub lead : LeadTo capacity marks t
 
 -- A history is linearizable where there are moments at which its operations can take effect. A call under way at its end may have
 -- taken effect or not; a put under way, with any number of its first items.
-abbrev pub IsLinearizable : ℕ → List Event → Type 0
+abbrev pub IsLinearizable : Capacity → List Event → Type 0
 IsLinearizable capacity h = (t : Point) × CanLeadTo capacity h t

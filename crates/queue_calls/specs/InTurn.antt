@@ -1,13 +1,14 @@
--- Well-formed histories: each side has at most one call under way, and a call ends with an answer of its kind.
-use Rattle.std.specs.Prelude.{◌≡◌, List, [], ◌∷◌}
-use Rattle.queue_calls.specs.Calls.{Event, PutBegin, PutStored, PutFull, PutClosed, CloseBegin, CloseEnd, TakeBegin, TakeItem, TakeEmpty, TakeClosed}
+-- Well-formed histories: each side has at most one call under way, a put offers an item and a take wants one, and a call ends with an
+-- answer of its kind, within what it offered or wanted.
+use Rattle.std.specs.Prelude.{◌≡◌, ℕ, ◌<◌, ◌≤◌, List, [], ◌∷◌, length}
+use Rattle.queue_calls.specs.Calls.{Event, PutBegin, PutStored, PutFull, PutShort, PutNothing, PutClosed, CloseBegin, CloseEnd, TakeBegin, TakeItems, TakeEmpty, TakeShort, TakeNothing, TakeClosed}
 
--- what a side has under way
+-- what a side has under way: a put that offered so many items, a take that wants so many
 pub data Call : Type 0 where
   NoCall : Call
-  APut : Call
+  APut : (offered : ℕ) → Call
   AClose : Call
-  ATake : Call
+  ATake : (wanted : ℕ) → Call
 
 -- what both sides have
 pub record Sides : Type 0 where
@@ -19,16 +20,21 @@ sides p c = record { producer = p; consumer = c }
 
 -- an event in its turn: it needs the one side to have this under way, and leaves it that; the other side stays as it is
 abbrev pub Turn : Sides → Event → Sides → Type 0
-Turn s (PutBegin items) t = (s.producer ≡ NoCall) × (t ≡ sides APut s.consumer)
-Turn s (PutStored count) t = (s.producer ≡ APut) × (t ≡ sides NoCall s.consumer)
-Turn s PutFull t = (s.producer ≡ APut) × (t ≡ sides NoCall s.consumer)
-Turn s PutClosed t = (s.producer ≡ APut) × (t ≡ sides NoCall s.consumer)
+Turn s (PutBegin items) t = (s.producer ≡ NoCall) × (0 < length items) × (t ≡ sides (APut (length items)) s.consumer)
+Turn s (PutStored count) t = (offered : ℕ) × (s.producer ≡ APut offered) × (0 < count) × (count ≤ offered) × (t ≡ sides NoCall s.consumer)
+Turn s PutFull t = (offered : ℕ) × (s.producer ≡ APut offered) × (t ≡ sides NoCall s.consumer)
+Turn s PutShort t = (offered : ℕ) × (s.producer ≡ APut offered) × (1 < offered) × (t ≡ sides NoCall s.consumer)
+Turn s PutNothing t = (offered : ℕ) × (s.producer ≡ APut offered) × (t ≡ sides NoCall s.consumer)
+Turn s PutClosed t = (offered : ℕ) × (s.producer ≡ APut offered) × (t ≡ sides NoCall s.consumer)
 Turn s CloseBegin t = (s.producer ≡ NoCall) × (t ≡ sides AClose s.consumer)
 Turn s CloseEnd t = (s.producer ≡ AClose) × (t ≡ sides NoCall s.consumer)
-Turn s TakeBegin t = (s.consumer ≡ NoCall) × (t ≡ sides s.producer ATake)
-Turn s (TakeItem item) t = (s.consumer ≡ ATake) × (t ≡ sides s.producer NoCall)
-Turn s TakeEmpty t = (s.consumer ≡ ATake) × (t ≡ sides s.producer NoCall)
-Turn s TakeClosed t = (s.consumer ≡ ATake) × (t ≡ sides s.producer NoCall)
+Turn s (TakeBegin wanted) t = (s.consumer ≡ NoCall) × (0 < wanted) × (t ≡ sides s.producer (ATake wanted))
+Turn s (TakeItems items) t =
+    (wanted : ℕ) × (s.consumer ≡ ATake wanted) × (0 < length items) × (length items ≤ wanted) × (t ≡ sides s.producer NoCall)
+Turn s TakeEmpty t = (wanted : ℕ) × (s.consumer ≡ ATake wanted) × (t ≡ sides s.producer NoCall)
+Turn s TakeShort t = (wanted : ℕ) × (s.consumer ≡ ATake wanted) × (1 < wanted) × (t ≡ sides s.producer NoCall)
+Turn s TakeNothing t = (wanted : ℕ) × (s.consumer ≡ ATake wanted) × (t ≡ sides s.producer NoCall)
+Turn s TakeClosed t = (wanted : ℕ) × (s.consumer ≡ ATake wanted) × (t ≡ sides s.producer NoCall)
 
 -- events one after the other
 abbrev pub Turns : Sides → List Event → Sides → Type 0

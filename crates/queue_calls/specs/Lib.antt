@@ -6,3 +6,9 @@ pub mod Audits
 pub mod Told
 pub mod Order
 pub mod Laws
+pub mod Lines
+pub mod LineReading
+pub mod Causes
+pub mod Recordings
+pub mod RecordingStates
+pub mod RecordingLaws

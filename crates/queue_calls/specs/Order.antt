@@ -1,7 +1,7 @@
 -- Linearizability in the form of Herlihy and Wing: an order of all operations of the calls, which is legal and keeps real time.
 use Rattle.std.specs.Prelude.{◌≡◌, ◌⊎◌, ℕ, suc, ◌<◌, false, List, [], ◌∷◌, length, map}
-use Rattle.queue_calls.specs.Queue.{Does, Enqueue, FindFull, FindShut, Close, Dequeue, FindEmpty, FindClosed, queue, IsLegal}
-use Rattle.queue_calls.specs.Calls.{Event, PutBegin, PutStored, PutFull, PutClosed, CloseBegin, CloseEnd, TakeBegin, TakeItem, TakeEmpty, TakeClosed, Happens, Effect, Producer, Idle, Consumer, Resting, ProducerStep, ConsumerStep}
+use Rattle.queue_calls.specs.Queue.{Capacity, Does, Enqueue, FindNoRoom, FindShut, Close, Dequeue, FindFewer, FindClosed, queue, IsLegal}
+use Rattle.queue_calls.specs.Calls.{Event, PutBegin, PutStored, PutFull, PutShort, PutNothing, PutClosed, CloseBegin, CloseEnd, TakeBegin, TakeItems, TakeEmpty, TakeShort, TakeNothing, TakeClosed, Happens, Effect, Producer, Idle, Consumer, Resting, ProducerStep, ConsumerStep}
 
 pub data Side : Type 0 where
   P : Side
@@ -19,21 +19,25 @@ abbrev pub side_of : Event → Side
 side_of (PutBegin items) = P
 side_of (PutStored count) = P
 side_of PutFull = P
+side_of PutShort = P
+side_of PutNothing = P
 side_of PutClosed = P
 side_of CloseBegin = P
 side_of CloseEnd = P
-side_of TakeBegin = C
-side_of (TakeItem item) = C
+side_of (TakeBegin wanted) = C
+side_of (TakeItems items) = C
 side_of TakeEmpty = C
+side_of TakeShort = C
+side_of TakeNothing = C
 side_of TakeClosed = C
 
 abbrev pub doer_of : Does → Side
 doer_of (Enqueue item) = P
-doer_of FindFull = P
+doer_of (FindNoRoom count) = P
 doer_of FindShut = P
 doer_of Close = P
 doer_of (Dequeue item) = C
-doer_of FindEmpty = C
+doer_of (FindFewer count) = C
 doer_of FindClosed = C
 
 -- an event of a history, and its number in it
@@ -111,7 +115,7 @@ KeepsTime [] = Unit {0}
 KeepsTime (a ∷ order) = ((b : Operation) → IsAmong b order → ¬ (b.stop < a.start)) × KeepsTime order
 
 -- an order of the operations of both sides' calls
-pub record Linearization (capacity : ℕ) (h : List Event) : Type 0 where
+pub record Linearization (capacity : Capacity) (h : List Event) : Type 0 where
   pub puts : List Own
   pub takes : List Own
   pub put_events : events_in puts ≡ own_events P 0 h

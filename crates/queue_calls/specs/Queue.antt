@@ -1,16 +1,43 @@
--- The sequential specification of a bounded first-in first-out queue that can be closed.
-use Rattle.std.specs.Prelude.{◌≡◌, ℕ, ◌<◌, Bool, true, false, List, [], ◌∷◌, ◌++◌, length}
+-- The sequential specification of a first-in first-out queue that can be closed, bounded or not.
+use Rattle.std.specs.Prelude.{◌≡◌, ℕ, ◌+◌, ◌<◌, Bool, true, false, List, [], ◌∷◌, ◌++◌, length}
 
--- what an operation does: it puts an item in, finds the queue full, finds it closed, or closes it; or it takes an item out, finds
--- the queue empty, or finds it empty and closed
+-- how many items a queue may hold: any number; or never more than the most, where with the full number it may say that it has no room
+-- for one more
+pub data Capacity : Type 0 where
+  Unbounded : Capacity
+  Between : (full most : ℕ) → Capacity
+
+-- a queue of just so many
+abbrev pub exactly : ℕ → Capacity
+exactly b = Between b b
+
+-- a queue with so many items inside may have room for one more
+abbrev pub HasRoom : Capacity → ℕ → Type 0
+HasRoom Unbounded inside = Unit {0}
+HasRoom (Between full most) inside = inside < most
+
+-- a queue with so many items inside may say that it has no room for so many more
+abbrev pub LacksRoom : Capacity → (inside count : ℕ) → Type 0
+LacksRoom Unbounded inside count = ⊥
+LacksRoom (Between full most) inside count = full < inside + count
+
+-- what an operation does: it puts an item in, finds no room for so many items, finds the queue closed, or closes it; or it takes an
+-- item out, finds fewer than so many items, or finds the queue empty and closed
 pub data Does : Type 0 where
   Enqueue : (item : ℕ) → Does
-  FindFull : Does
+  FindNoRoom : (count : ℕ) → Does
   FindShut : Does
   Close : Does
   Dequeue : (item : ℕ) → Does
-  FindEmpty : Does
+  FindFewer : (count : ℕ) → Does
   FindClosed : Does
+
+-- it finds the queue full; it finds it empty
+abbrev pub FindFull : Does
+FindFull = FindNoRoom 1
+
+abbrev pub FindEmpty : Does
+FindEmpty = FindFewer 1
 
 -- a queue: the items in it, the oldest first, and whether it is closed
 pub record Queue : Type 0 where
@@ -20,17 +47,21 @@ pub record Queue : Type 0 where
 abbrev pub queue : List ℕ → Bool → Queue
 queue items closed = record { items = items; closed = closed }
 
+-- no item is in it, and none will come
+abbrev pub IsDrained : Queue → Type 0
+IsDrained q = (q.items ≡ []) × (q.closed ≡ true)
+
 -- at a queue of this capacity, what an operation needs, and the queue that it leaves
-abbrev pub Step : ℕ → Queue → Does → Queue → Type 0
-Step capacity q (Enqueue item) after = (length q.items < capacity) × (q.closed ≡ false) × (after ≡ queue (q.items ++ item ∷ []) false)
-Step capacity q FindFull after = (length q.items ≡ capacity) × (q.closed ≡ false) × (after ≡ q)
+abbrev pub Step : Capacity → Queue → Does → Queue → Type 0
+Step capacity q (Enqueue item) after = HasRoom capacity (length q.items) × (q.closed ≡ false) × (after ≡ queue (q.items ++ item ∷ []) false)
+Step capacity q (FindNoRoom count) after = LacksRoom capacity (length q.items) count × (q.closed ≡ false) × (after ≡ q)
 Step capacity q FindShut after = (q.closed ≡ true) × (after ≡ q)
 Step capacity q Close after = after ≡ queue q.items true
 Step capacity q (Dequeue item) after = (q.items ≡ item ∷ after.items) × (after.closed ≡ q.closed)
-Step capacity q FindEmpty after = (q.items ≡ []) × (q.closed ≡ false) × (after ≡ q)
-Step capacity q FindClosed after = (q.items ≡ []) × (q.closed ≡ true) × (after ≡ q)
+Step capacity q (FindFewer count) after = (length q.items < count) × (¬ IsDrained q) × (after ≡ q)
+Step capacity q FindClosed after = IsDrained q × (after ≡ q)
 
 -- operations that can come one after the other, from this queue on
-abbrev pub IsLegal : ℕ → Queue → List Does → Type 0
+abbrev pub IsLegal : Capacity → Queue → List Does → Type 0
 IsLegal capacity q [] = Unit {0}
 IsLegal capacity q (d ∷ operations) = (after : Queue) × Step capacity q d after × IsLegal capacity after operations

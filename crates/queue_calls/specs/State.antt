@@ -1,107 +1,129 @@
 -- What an auditor keeps of a history: it describes the points to which the history can lead.
-use Rattle.std.specs.Prelude.{◌≡◌, ℕ, ◌+◌, ◌<◌, ◌≤◌, ◌⊎◌, Bool, true, false, List, [], ◌∷◌, ◌++◌, length}
-use Rattle.queue_calls.specs.Queue.{Queue}
-use Rattle.queue_calls.specs.Calls.{Event, Producer, Idle, Putting, FoundFull, FoundShut, Closing, Consumer, Resting, Taking, Took, FoundEmpty, FoundClosed, Point, CanLeadTo}
+use Rattle.std.specs.Prelude.{◌≡◌, ℕ, ◌+◌, ◌-◌, ◌<◌, ◌≤◌, ◌⊎◌, Bool, true, false, List, [], ◌++◌, length}
+use Rattle.queue_calls.specs.Queue.{Capacity, Unbounded, Between, LacksRoom, Queue, IsDrained}
+use Rattle.queue_calls.specs.Calls.{Event, Producer, Idle, Putting, FoundShut, Closing, Consumer, Resting, Taking, FoundClosed, Point, CanLeadTo}
 use Rattle.queue_calls.specs.InTurn.{Call, NoCall, APut, AClose, ATake, Sides, sides, Turns}
 use Rattle.queue_calls.specs.declared.turns.PutTurn.{PutTurn}
 use Rattle.queue_calls.specs.declared.turns.PutTurn.TheVariants.{Free, Offers, Late, Closes}
 use Rattle.queue_calls.specs.declared.turns.TakeTurn.{TakeTurn}
 use Rattle.queue_calls.specs.declared.turns.TakeTurn.TheVariants.{Rests, Waits}
 
--- the item that the take under way took
+-- a capacity that a queue may have: it holds one item at least, and the most is no fewer than the full number
+abbrev pub IsProper : Capacity → Type 0
+IsProper Unbounded = Unit {0}
+IsProper (Between full most) = (0 < full) × (full ≤ most)
+
+-- a queue may have so many items inside
+abbrev pub Holds : Capacity → ℕ → Type 0
+Holds Unbounded inside = Unit {0}
+Holds (Between full most) inside = inside ≤ most
+
+-- the items that the take under way took
 abbrev pub taken_by : Consumer → List ℕ
 taken_by Resting = []
-taken_by Taking = []
-taken_by (Took item) = item ∷ []
-taken_by FoundEmpty = []
+taken_by (Taking lacked took left) = took
 taken_by FoundClosed = []
 
 -- the items that the put under way has left, where it began before a close had ended
 abbrev pub left_by : PutTurn → Producer → List ℕ
-left_by (Offers offered full) (Putting done left) = left
-left_by (Offers offered full) (FoundFull items) = items
+left_by (Offers offered before) (Putting lacked done left) = left
 left_by _ _ = []
 
+-- a put before which so many items were inside may have found no room for so many more; 0 where it found none
+abbrev pub MayLack : Capacity → (before lacked : ℕ) → Type 0
+MayLack capacity before lacked = (lacked ≡ 0) ⊎ LacksRoom capacity before lacked
+
+-- a take before which so many items were inside may have found fewer than so many, and more to come; 0 where it found none fewer
+abbrev pub MayFindFewer : (before : ℕ) (ended : Bool) (lacked : ℕ) → Type 0
+MayFindFewer before ended lacked = (lacked ≡ 0) ⊎ ((before < lacked) × (ended ≡ true → 0 < before))
+
 -- what the producer may be in
-abbrev pub FitsPut : PutTurn → Bool → Producer → Bool → Type 0
-FitsPut Free shut Idle closed = closed ≡ shut
-FitsPut (Offers offered full) shut (Putting done left) closed = (done + length left ≡ offered) × (closed ≡ false)
-FitsPut (Offers offered full) shut (FoundFull items) closed = (full ≡ true) × (length items ≡ offered) × (closed ≡ false)
-FitsPut Late shut (Putting done left) closed = (done ≡ 0) × (closed ≡ true)
-FitsPut Late shut FoundShut closed = closed ≡ true
-FitsPut (Closes again) shut (Closing done) closed = (again ≡ false → closed ≡ done) × (shut ≡ true → closed ≡ true)
-FitsPut _ _ _ _ = ⊥
+abbrev pub FitsPut : Capacity → PutTurn → Bool → Producer → Bool → Type 0
+FitsPut capacity Free shut Idle closed = closed ≡ shut
+FitsPut capacity (Offers offered before) shut (Putting lacked done left) closed = (done + length left ≡ offered) × (closed ≡ false) × MayLack capacity before lacked
+FitsPut capacity (Late offered) shut (Putting lacked done left) closed = (lacked ≡ 0) × (done ≡ 0) × (closed ≡ true)
+FitsPut capacity (Late offered) shut FoundShut closed = closed ≡ true
+FitsPut capacity (Closes again) shut (Closing done) closed = (again ≡ false → closed ≡ done) × (shut ≡ true → closed ≡ true)
+FitsPut _ _ _ _ _ = ⊥
 
 -- what the consumer may be in
 abbrev pub FitsTake : TakeTurn → Consumer → Queue → Type 0
 FitsTake Rests Resting q = Unit {0}
-FitsTake (Waits empty) Taking q = Unit {0}
-FitsTake (Waits empty) (Took item) q = Unit {0}
-FitsTake (Waits empty) FoundEmpty q = empty ≡ true
-FitsTake (Waits empty) FoundClosed q = (q.items ≡ []) × (q.closed ≡ true)
+FitsTake (Waits wanted before ended) (Taking lacked took left) q = (length took + left ≡ wanted) × MayFindFewer before ended lacked
+FitsTake (Waits wanted before ended) FoundClosed q = IsDrained q
 FitsTake _ _ _ = ⊥
 
 -- a point is described by what an auditor keeps: the items inside, with those offered by the put under way
-pub record Describes (capacity : ℕ) (inside : List ℕ) (put : PutTurn) (take : TakeTurn) (shut : Bool) (s : Point) : Type 0 where
+pub record Describes (capacity : Capacity) (inside : List ℕ) (put : PutTurn) (take : TakeTurn) (shut : Bool) (s : Point) : Type 0 where
   pub items : inside ≡ taken_by s.consumer ++ (s.queue.items ++ left_by put s.producer)
-  pub room : length s.queue.items ≤ capacity
-  pub producer : FitsPut put shut s.producer s.queue.closed
+  pub room : Holds capacity (length s.queue.items)
+  pub producer : FitsPut capacity put shut s.producer s.queue.closed
   pub consumer : FitsTake take s.consumer s.queue
 
 -- how many items the put under way offered, and how many the take under way may have taken
 abbrev pub offered_by : PutTurn → ℕ
-offered_by (Offers offered full) = offered
+offered_by (Offers offered before) = offered
 offered_by _ = 0
 
 abbrev pub asked_by : TakeTurn → ℕ
 asked_by Rests = 0
-asked_by (Waits empty) = 1
+asked_by (Waits wanted before ended) = wanted
 
 -- whether a close has begun
 abbrev pub has_closed : PutTurn → Bool → Bool
 has_closed (Closes again) shut = true
 has_closed _ shut = shut
 
-abbrev pub IsSoundPut : ℕ → ℕ → PutTurn → Bool → Type 0
-IsSoundPut capacity inside Free shut = Unit {0}
-IsSoundPut capacity inside (Offers offered full) shut = (shut ≡ false) × (full ≡ false → inside < capacity + offered)
-IsSoundPut capacity inside Late shut = shut ≡ true
-IsSoundPut capacity inside (Closes again) shut = again ≡ true → shut ≡ true
+-- what was inside before a put is no fewer than what is inside now but for its items
+abbrev pub IsSoundPut : ℕ → PutTurn → Bool → Type 0
+IsSoundPut inside Free shut = Unit {0}
+IsSoundPut inside (Offers offered before) shut = (shut ≡ false) × (inside ≤ before + offered)
+IsSoundPut inside (Late offered) shut = shut ≡ true
+IsSoundPut inside (Closes again) shut = again ≡ true → shut ≡ true
 
-abbrev pub IsSoundTake : ℕ → ℕ → TakeTurn → Bool → Type 0
+-- what was inside before a take, but for the items of a put under way, is inside now; and all of it, where a close had ended
+abbrev pub IsSoundTake : (offered inside : ℕ) → TakeTurn → Bool → Type 0
 IsSoundTake offered inside Rests shut = Unit {0}
-IsSoundTake offered inside (Waits empty) shut = empty ≡ false → (offered < inside) ⊎ (shut ≡ true)
+IsSoundTake offered inside (Waits wanted before ended) shut = (before ≤ inside - offered) × (ended ≡ true → (shut ≡ true) × (inside ≤ before))
 
--- what is kept tells the point: the items of a put that began after a close are not kept
-abbrev pub IsTold : PutTurn → Producer → Type 0
-IsTold Late (Putting done left) = ⊥
-IsTold _ _ = Unit {0}
+-- what is kept tells the point, with the items of a put that began after a close
+abbrev pub IsTold : List ℕ → PutTurn → Producer → Type 0
+IsTold late (Late offered) (Putting lacked done left) = left ≡ late
+IsTold late _ _ = Unit {0}
 
--- an item is the next one
-abbrev pub IsNext : ℕ → List ℕ → Type 0
-IsNext item [] = ⊥
-IsNext item (next ∷ inside) = next ≡ item
+-- items are the next ones
+abbrev pub AreNext : List ℕ → List ℕ → Type 0
+AreNext items inside = (rest : List ℕ) × (inside ≡ items ++ rest)
+
+-- the put under way can end without so many of its last items: they are inside, and the others can be in the queue or taken
+abbrev pub CanEndPut : Capacity → (inside asked rest : ℕ) → Type 0
+CanEndPut capacity inside asked rest = (rest ≤ inside) × Holds capacity ((inside - rest) - asked)
+
+-- the take under way can end with so many items: the others can be in the queue or left of the put under way
+abbrev pub CanEndTake : Capacity → (inside offered count : ℕ) → Type 0
+CanEndTake capacity inside offered count = Holds capacity ((inside - count) - offered)
 
 -- the calls under way
 abbrev pub call_of_put : PutTurn → Call
 call_of_put Free = NoCall
-call_of_put (Offers offered full) = APut
-call_of_put Late = APut
+call_of_put (Offers offered before) = APut offered
+call_of_put (Late offered) = APut offered
 call_of_put (Closes again) = AClose
 
 abbrev pub call_of_take : TakeTurn → Call
 call_of_take Rests = NoCall
-call_of_take (Waits empty) = ATake
+call_of_take (Waits wanted before ended) = ATake wanted
 
 abbrev pub sides_of : PutTurn → TakeTurn → Sides
 sides_of put take = sides (call_of_put put) (call_of_take take)
 
 -- after a history, what an auditor keeps describes just the points to which the history can lead, and there is one
-pub record Keeps (capacity : ℕ) (h : List Event) (inside : List ℕ) (put : PutTurn) (take : TakeTurn) (shut : Bool) : Type 0 where
-  pub has_room : 0 < capacity
+pub record Keeps (capacity : Capacity) (h : List Event) (inside : List ℕ) (put : PutTurn) (take : TakeTurn) (shut : Bool) : Type 0 where
+  pub proper : IsProper capacity
   pub turns : Turns (sides NoCall NoCall) h (sides_of put take)
-  pub few : length inside ≤ capacity + offered_by put + asked_by take
-  pub put_ok : IsSoundPut capacity (length inside) put shut
+  pub few : Holds capacity (length inside - (offered_by put + asked_by take))
+  pub put_ok : IsSoundPut (length inside) put shut
   pub take_ok : IsSoundTake (offered_by put) (length inside) take shut
-  pub sound : (s : Point) → Describes capacity inside put take shut s → IsTold put s.producer → CanLeadTo capacity h s
+  pub late : List ℕ
+  pub sound : (s : Point) → Describes capacity inside put take shut s → IsTold late put s.producer → CanLeadTo capacity h s
   pub complete : (s : Point) → CanLeadTo capacity h s → Describes capacity inside put take shut s

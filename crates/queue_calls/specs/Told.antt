@@ -1,17 +1,29 @@
--- The events that are told to an auditor.
+-- What is told to an auditor: a capacity, and events.
+use Rattle.queue_calls.specs.Queue as queues
 use Rattle.queue_calls.specs.Calls as calls
+use Rattle.queue_calls.specs.declared.capacities.Capacity.{Capacity}
+use Rattle.queue_calls.specs.declared.capacities.Capacity.TheVariants.{Unbounded, Between}
 use Rattle.queue_calls.specs.declared.events.Event.{Event}
-use Rattle.queue_calls.specs.declared.events.Event.TheVariants.{PutBegins, PutStored, PutFull, PutClosed, CloseBegins, CloseEnds, TakeBegins, TakeItem, TakeEmpty, TakeClosed}
+use Rattle.queue_calls.specs.declared.events.Event.TheVariants.{PutBegins, PutStored, PutFull, PutShort, PutNothing, PutClosed, CloseBegins, CloseEnds, TakeBegins, TakeItems, TakeEmpty, TakeShort, TakeNothing, TakeClosed}
+
+-- a capacity as one of a queue
+abbrev pub meant : Capacity → queues.Capacity
+meant Unbounded = queues.Unbounded
+meant (Between full most) = queues.Between full most
 
 -- an event as one of a history
 abbrev pub told : Event → calls.Event
 told (PutBegins items) = calls.PutBegin items.now
 told (PutStored count) = calls.PutStored count
 told PutFull = calls.PutFull
+told PutShort = calls.PutShort
+told PutNothing = calls.PutNothing
 told PutClosed = calls.PutClosed
 told CloseBegins = calls.CloseBegin
 told CloseEnds = calls.CloseEnd
-told TakeBegins = calls.TakeBegin
-told (TakeItem item) = calls.TakeItem item
+told (TakeBegins wanted) = calls.TakeBegin wanted
+told (TakeItems items) = calls.TakeItems items.now
 told TakeEmpty = calls.TakeEmpty
+told TakeShort = calls.TakeShort
+told TakeNothing = calls.TakeNothing
 told TakeClosed = calls.TakeClosed

@@ -1,27 +1,29 @@
 //! The auditor of a history.
-ghost use Rattle.std.specs.Prelude.{◌≡◌, ◌<◌, ◌++◌, ◌↔◌, IsTrue, List, [], if◌then◌else◌};
+ghost use Rattle.std.specs.Prelude.{◌≡◌, suc, ◌++◌, ◌↔◌, IsTrue, true, List, [], if◌then◌else◌, length, take, drop, ◌-◌};
 
+use crate::capacities::Capacity;
 use crate::events::Event;
 use crate::faults::Fault;
 use crate::turns::{PutTurn, TakeTurn};
 use std::alloc::Allocator;
 use std::collections::VecDeque;
 
-/// An auditor of a recorded history of calls of a bounded first-in first-out queue that can be closed, of one
-/// producer and one consumer, whatever queue it is.
+/// An auditor of a recorded history of calls of a first-in first-out queue that can be closed, of one producer and one
+/// consumer, whatever queue it is: bounded or not, of a capacity that it tells exactly or not.
 ///
 /// It reads the history event by event. It accepts an event where the history up to and with it is
 /// linearizable, and refuses it where it is not, so the first event that it refuses is the first place at
 /// which the history is not linearizable; nothing behind it mends that
 /// ([`beginning_is_linearizable`](crate::laws::beginning_is_linearizable)). A put of several items stores
-/// them one by one; a second close changes nothing; of a put that stores fewer items than it offered,
-/// nothing more is asked.
+/// them one by one, and a take of several takes them one by one; a second close changes nothing. A put that stores
+/// fewer items than it offered found no room for one more before it stored the first, and a take that takes fewer than
+/// it wanted found no more than these before it took the first.
 ///
 /// An event takes constant time, amortized, for each item that it tells, and the memory is that of the
 /// items inside and of those offered by the put under way.
 #[derive(Drop)]
 pub struct CallAuditor<A: Allocator> {
-    capacity: usize,
+    capacity: Capacity,
     // the items stored or offered and not yet taken, in order
     inside: VecDeque<u64, A>,
     put: PutTurn,
@@ -31,14 +33,18 @@ pub struct CallAuditor<A: Allocator> {
 }
 
 impl<A: Allocator> CallAuditor<A> {
-    ghost use Rattle.queue_calls.specs.Calls.{Event as AnEvent, IsLinearizable, PutBegin, PutStored, PutFull, PutClosed, CloseBegin, CloseEnd, TakeBegin, TakeItem, TakeEmpty, TakeClosed};
-    ghost use Rattle.queue_calls.specs.State.{offered_by, asked_by, has_closed, IsNext};
+    ghost use Rattle.queue_calls.specs.Queue.{LacksRoom};
+    ghost use Rattle.queue_calls.specs.Calls.{Event as AnEvent, IsLinearizable, PutBegin, PutStored, PutFull, PutShort, PutNothing, PutClosed, CloseBegin, CloseEnd, TakeBegin, TakeItems, TakeEmpty, TakeShort, TakeNothing, TakeClosed};
+    ghost use Rattle.queue_calls.specs.State.{IsProper, Holds, offered_by, asked_by, has_closed, AreNext, CanEndPut, CanEndTake};
     ghost use Rattle.queue_calls.specs.Audits.{Audits, Reads};
-    ghost use Rattle.queue_calls.specs.Told.{told};
+    ghost use Rattle.queue_calls.specs.Told.{meant, told};
+    ghost use Rattle.queue_calls.specs.declared.turns.PutTurn.TheVariants.{Free};
+    ghost use Rattle.queue_calls.specs.declared.turns.TakeTurn.TheVariants.{Rests};
 
-    /// An auditor of a queue of this capacity, at least 1, that has read no event yet.
-    pub fn new(alloc: A, capacity: usize) -> CallAuditor<A>
-        requires { 0 < capacity }
+    /// An auditor of a queue of this capacity that has read no event yet. A capacity between two numbers has a first one of
+    /// at least 1, and a second one that is no less.
+    pub fn new(alloc: A, capacity: Capacity) -> CallAuditor<A>
+        requires { IsProper (meant capacity) }
         ensures capacity { result.capacity ≡ capacity }
         ensures reads { Audits result [] }
     {
@@ -53,13 +59,13 @@ impl<A: Allocator> CallAuditor<A> {
 
     /// What it has read is linearizable.
     pub fn has_read(&self)
-        ensures { (h : List AnEvent) → Audits self.now h → IsLinearizable self.now.capacity h }
+        ensures { (h : List AnEvent) → Audits self.now h → IsLinearizable (meant self.now.capacity) h }
     {}
 
     /// Reads the next event of the history. It tells `OutOfTurn` where the event begins a call while one of
-    /// its side is under way, or answers a call that is not; else `NotLinearizable` where the history with
-    /// it is not linearizable; and `OutOfMemory` where a put begins and memory for its items ran out. Of a
-    /// refused event nothing is kept.
+    /// its side is under way, answers a call that is not, or tells a number out of its range; else `NotLinearizable`
+    /// where the history with it is not linearizable; and `OutOfMemory` where a put begins and memory for its items ran
+    /// out. Of a refused event nothing is kept.
     pub fn feed(&mut self, event: Event<'_>) -> Result<(), Fault>
         ensures { Reads self.old (told event.entry) result self.new }
     {
@@ -67,17 +73,21 @@ impl<A: Allocator> CallAuditor<A> {
             Event::PutBegins(items) => self.put_begins(items),
             Event::PutStored(count) => self.put_stored(count),
             Event::PutFull => self.put_full(),
+            Event::PutShort => self.put_short(),
+            Event::PutNothing => self.put_nothing(),
             Event::PutClosed => self.put_closed(),
             Event::CloseBegins => self.close_begins(),
             Event::CloseEnds => self.close_ends(),
-            Event::TakeBegins => self.take_begins(),
-            Event::TakeItem(item) => self.take_item(item),
+            Event::TakeBegins(wanted) => self.take_begins(wanted),
+            Event::TakeItems(items) => self.take_items(items),
             Event::TakeEmpty => self.take_empty(),
+            Event::TakeShort => self.take_short(),
+            Event::TakeNothing => self.take_nothing(),
             Event::TakeClosed => self.take_closed(),
         }
     }
 
-    /// A put of these items begins.
+    /// A put of these items begins, of one at least.
     pub fn put_begins(&mut self, items: &[u64]) -> Result<(), Fault>
         ensures { Reads self.old (PutBegin items.now) result self.new }
     {
@@ -85,22 +95,27 @@ impl<A: Allocator> CallAuditor<A> {
             PutTurn::Free => {}
             PutTurn::Offers {
                 offered: _,
-                full: _,
+                before: _,
             }
-            | PutTurn::Late
+            | PutTurn::Late { offered: _ }
             | PutTurn::Closes { again: _ } => return Err(Fault::OutOfTurn),
         }
+        if items.is_empty() {
+            return Err(Fault::OutOfTurn);
+        }
         if self.shut {
-            self.put = PutTurn::Late;
+            self.put = PutTurn::Late {
+                offered: items.len(),
+            };
             return Ok(());
         }
-        let full = self.capacity <= self.inside.len();
+        let before = self.inside.len();
         if !self.holds(items) {
             return Err(Fault::OutOfMemory);
         }
         self.put = PutTurn::Offers {
             offered: items.len(),
-            full,
+            before,
         };
         Ok(())
     }
@@ -123,49 +138,131 @@ impl<A: Allocator> CallAuditor<A> {
         true
     }
 
-    /// The put ends: so many of its first items were stored.
+    /// The put ends: so many of its first items were stored, one at least and no more than it offered.
     pub fn put_stored(&mut self, count: usize) -> Result<(), Fault>
         ensures { Reads self.old (PutStored count) result self.new }
     {
         match self.put {
-            PutTurn::Offers { offered, full: _ } => {
+            PutTurn::Offers { offered, before } => {
                 if count == 0 || offered < count {
+                    return Err(Fault::OutOfTurn);
+                }
+                if count < offered && !self.may_lack(before, count + 1) {
                     return Err(Fault::NotLinearizable);
                 }
-                let rest = offered - count;
-                if self.inside.len() < rest {
+                if !self.ends_put(offered - count) {
                     return Err(Fault::NotLinearizable);
                 }
-                let kept = self.inside.len() - rest;
-                if self.capacity < kept.saturating_sub(self.asked()) {
-                    return Err(Fault::NotLinearizable);
-                }
-                self.inside.truncate(kept);
-                self.put = PutTurn::Free;
                 Ok(())
             }
-            PutTurn::Late => Err(Fault::NotLinearizable),
+            PutTurn::Late { offered } => {
+                if count == 0 || offered < count {
+                    return Err(Fault::OutOfTurn);
+                }
+                Err(Fault::NotLinearizable)
+            }
             PutTurn::Free | PutTurn::Closes { again: _ } => Err(Fault::OutOfTurn),
         }
     }
 
-    /// The put ends: the queue was full, and none of its items was stored.
+    /// The put ends: the queue had no room for one item, and none was stored.
     pub fn put_full(&mut self) -> Result<(), Fault>
         ensures { Reads self.old PutFull result self.new }
     {
         match self.put {
-            PutTurn::Offers { offered, full } => {
-                if !full || self.inside.len() < offered {
+            PutTurn::Offers { offered, before } => {
+                if !self.may_lack(before, 1) || !self.ends_put(offered) {
                     return Err(Fault::NotLinearizable);
                 }
-                let kept = self.inside.len() - offered;
-                self.inside.truncate(kept);
+                Ok(())
+            }
+            PutTurn::Late { offered: _ } => Err(Fault::NotLinearizable),
+            PutTurn::Free | PutTurn::Closes { again: _ } => Err(Fault::OutOfTurn),
+        }
+    }
+
+    /// The put of several items ends: the queue had no room for all of them, and none was stored.
+    pub fn put_short(&mut self) -> Result<(), Fault>
+        ensures { Reads self.old PutShort result self.new }
+    {
+        match self.put {
+            PutTurn::Offers { offered, before } => {
+                if offered <= 1 {
+                    return Err(Fault::OutOfTurn);
+                }
+                if !self.may_lack(before, offered) || !self.ends_put(offered) {
+                    return Err(Fault::NotLinearizable);
+                }
+                Ok(())
+            }
+            PutTurn::Late { offered } => {
+                if offered <= 1 {
+                    return Err(Fault::OutOfTurn);
+                }
+                Err(Fault::NotLinearizable)
+            }
+            PutTurn::Free | PutTurn::Closes { again: _ } => Err(Fault::OutOfTurn),
+        }
+    }
+
+    /// The put ends: none of its items was stored, and no reason is told.
+    pub fn put_nothing(&mut self) -> Result<(), Fault>
+        ensures { Reads self.old PutNothing result self.new }
+    {
+        match self.put {
+            PutTurn::Offers { offered, before: _ } => {
+                if !self.ends_put(offered) {
+                    return Err(Fault::NotLinearizable);
+                }
+                Ok(())
+            }
+            PutTurn::Late { offered: _ } => {
                 self.put = PutTurn::Free;
                 Ok(())
             }
-            PutTurn::Late => Err(Fault::NotLinearizable),
             PutTurn::Free | PutTurn::Closes { again: _ } => Err(Fault::OutOfTurn),
         }
+    }
+
+    // Whether a queue with so many items inside may tell that it has no room for so many more.
+    fn may_lack(&self, inside: usize, count: usize) -> bool
+        ensures { IsTrue result ↔ LacksRoom (meant self.now.capacity) inside count }
+    {
+        match self.capacity {
+            Capacity::Unbounded => false,
+            Capacity::Between { full, most: _ } => full < inside || full - inside < count,
+        }
+    }
+
+    // Whether a queue may have so many items inside.
+    fn may_hold(&self, inside: usize) -> bool
+        ensures { IsTrue result ↔ Holds (meant self.now.capacity) inside }
+    {
+        match self.capacity {
+            Capacity::Unbounded => true,
+            Capacity::Between { full: _, most } => inside <= most,
+        }
+    }
+
+    // Ends the put without so many of its last items, where that can be.
+    fn ends_put(&mut self, rest: usize) -> bool
+        ensures ends { IsTrue result ↔ CanEndPut (meant self.old.capacity) (length self.old.inside.items) (asked_by self.old.take) rest }
+        ensures inside { self.new.inside.items ≡ (if result then take (length self.old.inside.items - rest) self.old.inside.items else self.old.inside.items) }
+        ensures put { self.new.put ≡ (if result then Free else self.old.put) }
+        ensures capacity { self.new.capacity ≡ self.old.capacity }
+        ensures take { self.new.take ≡ self.old.take }
+        ensures shut { self.new.shut ≡ self.old.shut }
+    {
+        if self.inside.len() < rest {
+            return false;
+        }
+        let kept = self.inside.len() - rest;
+        if !self.may_hold(kept.saturating_sub(self.asked())) {
+            return false;
+        }
+        self.inside.truncate(kept);
+        self.put = PutTurn::Free;
+        true
     }
 
     /// The put ends: the queue was closed, and none of its items was stored.
@@ -173,13 +270,13 @@ impl<A: Allocator> CallAuditor<A> {
         ensures { Reads self.old PutClosed result self.new }
     {
         match self.put {
-            PutTurn::Late => {
+            PutTurn::Late { offered: _ } => {
                 self.put = PutTurn::Free;
                 Ok(())
             }
             PutTurn::Offers {
                 offered: _,
-                full: _,
+                before: _,
             } => Err(Fault::NotLinearizable),
             PutTurn::Free | PutTurn::Closes { again: _ } => Err(Fault::OutOfTurn),
         }
@@ -196,9 +293,9 @@ impl<A: Allocator> CallAuditor<A> {
             }
             PutTurn::Offers {
                 offered: _,
-                full: _,
+                before: _,
             }
-            | PutTurn::Late
+            | PutTurn::Late { offered: _ }
             | PutTurn::Closes { again: _ } => Err(Fault::OutOfTurn),
         }
     }
@@ -216,64 +313,155 @@ impl<A: Allocator> CallAuditor<A> {
             PutTurn::Free
             | PutTurn::Offers {
                 offered: _,
-                full: _,
+                before: _,
             }
-            | PutTurn::Late => Err(Fault::OutOfTurn),
+            | PutTurn::Late { offered: _ } => Err(Fault::OutOfTurn),
         }
     }
 
-    /// A take begins.
-    pub fn take_begins(&mut self) -> Result<(), Fault>
-        ensures { Reads self.old TakeBegin result self.new }
+    /// A take of up to so many items begins, of one at least.
+    pub fn take_begins(&mut self, wanted: usize) -> Result<(), Fault>
+        ensures { Reads self.old (TakeBegin wanted) result self.new }
     {
         match self.take {
             TakeTurn::Rests => {
-                let empty = !self.shut && self.inside.len() <= self.offered();
-                self.take = TakeTurn::Waits { empty };
+                if wanted == 0 {
+                    return Err(Fault::OutOfTurn);
+                }
+                let before = self.inside.len().saturating_sub(self.offered());
+                self.take = TakeTurn::Waits {
+                    wanted,
+                    before,
+                    ended: self.shut,
+                };
                 Ok(())
             }
-            TakeTurn::Waits { empty: _ } => Err(Fault::OutOfTurn),
+            TakeTurn::Waits {
+                wanted: _,
+                before: _,
+                ended: _,
+            } => Err(Fault::OutOfTurn),
         }
     }
 
-    /// The take ends: it took this item.
-    pub fn take_item(&mut self, item: u64) -> Result<(), Fault>
-        ensures { Reads self.old (TakeItem item) result self.new }
+    /// The take ends: it took these items, one at least and no more than it wanted.
+    pub fn take_items(&mut self, items: &[u64]) -> Result<(), Fault>
+        ensures { Reads self.old (TakeItems items.now) result self.new }
     {
         match self.take {
             TakeTurn::Rests => Err(Fault::OutOfTurn),
-            TakeTurn::Waits { empty: _ } => {
-                if !self.is_next(item) {
+            TakeTurn::Waits {
+                wanted,
+                before,
+                ended: _,
+            } => {
+                if items.is_empty() || wanted < items.len() {
+                    return Err(Fault::OutOfTurn);
+                }
+                if items.len() < wanted && items.len() < before {
                     return Err(Fault::NotLinearizable);
                 }
-                let _item = self.inside.pop_front();
-                self.take = TakeTurn::Rests;
+                if !self.are_next(items) || !self.ends_take(items.len()) {
+                    return Err(Fault::NotLinearizable);
+                }
                 Ok(())
             }
         }
     }
 
-    // Whether this item is the next one to be taken.
-    fn is_next(&self, item: u64) -> bool
-        ensures { IsTrue result ↔ IsNext item self.now.inside.items }
+    // Whether these items are the next ones to be taken.
+    fn are_next(&self, items: &[u64]) -> bool
+        ensures { IsTrue result ↔ AreNext items.now self.now.inside.items }
     {
-        match self.inside.front() {
-            Some(next) => *next == item,
-            None => false,
+        for (index, item) in items.iter().enumerate() {
+            match self.inside.get(index) {
+                Some(next) => {
+                    if *next != *item {
+                        return false;
+                    }
+                }
+                None => return false,
+            }
         }
+        true
     }
 
-    /// The take ends: the queue was empty and open.
+    // Ends the take with so many items, the next ones, where that can be.
+    fn ends_take(&mut self, count: usize) -> bool
+        ensures ends { IsTrue result ↔ CanEndTake (meant self.old.capacity) (length self.old.inside.items) (offered_by self.old.put) count }
+        ensures inside { self.new.inside.items ≡ (if result then drop count self.old.inside.items else self.old.inside.items) }
+        ensures take { self.new.take ≡ (if result then Rests else self.old.take) }
+        ensures capacity { self.new.capacity ≡ self.old.capacity }
+        ensures put { self.new.put ≡ self.old.put }
+        ensures shut { self.new.shut ≡ self.old.shut }
+    {
+        let rest = self.inside.len().saturating_sub(count);
+        if !self.may_hold(rest.saturating_sub(self.offered())) {
+            return false;
+        }
+        for _ in 0..count {
+            let _item = self.inside.pop_front();
+        }
+        self.take = TakeTurn::Rests;
+        true
+    }
+
+    /// The take ends: the queue had no item, and some may come.
     pub fn take_empty(&mut self) -> Result<(), Fault>
         ensures { Reads self.old TakeEmpty result self.new }
     {
         match self.take {
             TakeTurn::Rests => Err(Fault::OutOfTurn),
-            TakeTurn::Waits { empty } => {
-                if !empty || self.capacity < self.inside.len().saturating_sub(self.offered()) {
+            TakeTurn::Waits {
+                wanted: _,
+                before,
+                ended,
+            } => {
+                if ended || before > 0 || !self.ends_take(0) {
                     return Err(Fault::NotLinearizable);
                 }
-                self.take = TakeTurn::Rests;
+                Ok(())
+            }
+        }
+    }
+
+    /// The take of several items ends: the queue had fewer than it wanted, though it was not empty and closed, and none was
+    /// taken.
+    pub fn take_short(&mut self) -> Result<(), Fault>
+        ensures { Reads self.old TakeShort result self.new }
+    {
+        match self.take {
+            TakeTurn::Rests => Err(Fault::OutOfTurn),
+            TakeTurn::Waits {
+                wanted,
+                before,
+                ended,
+            } => {
+                if wanted <= 1 {
+                    return Err(Fault::OutOfTurn);
+                }
+                if wanted <= before || ended && before == 0 || !self.ends_take(0) {
+                    return Err(Fault::NotLinearizable);
+                }
+                Ok(())
+            }
+        }
+    }
+
+    /// The take ends: no item was taken, and no reason is told.
+    pub fn take_nothing(&mut self) -> Result<(), Fault>
+        ensures { Reads self.old TakeNothing result self.new }
+    {
+        match self.take {
+            TakeTurn::Rests => Err(Fault::OutOfTurn),
+            TakeTurn::Waits {
+                wanted: _,
+                before: _,
+                ended: _,
+            } => {
+                if !self.ends_take(0) {
+                    return Err(Fault::NotLinearizable);
+                }
                 Ok(())
             }
         }
@@ -285,7 +473,11 @@ impl<A: Allocator> CallAuditor<A> {
     {
         match self.take {
             TakeTurn::Rests => Err(Fault::OutOfTurn),
-            TakeTurn::Waits { empty: _ } => {
+            TakeTurn::Waits {
+                wanted: _,
+                before: _,
+                ended: _,
+            } => {
                 if !self.inside.is_empty() || !self.is_closed() {
                     return Err(Fault::NotLinearizable);
                 }
@@ -305,19 +497,19 @@ impl<A: Allocator> CallAuditor<A> {
             PutTurn::Free
             | PutTurn::Offers {
                 offered: _,
-                full: _,
+                before: _,
             }
-            | PutTurn::Late => self.shut,
+            | PutTurn::Late { offered: _ } => self.shut,
         }
     }
 
-    // How many items the put under way offered.
+    // How many items the put under way offered, where it began before a close had ended.
     fn offered(&self) -> usize
         ensures { result ≡ offered_by self.now.put }
     {
         match self.put {
-            PutTurn::Offers { offered, full: _ } => offered,
-            PutTurn::Free | PutTurn::Late | PutTurn::Closes { again: _ } => 0,
+            PutTurn::Offers { offered, before: _ } => offered,
+            PutTurn::Free | PutTurn::Late { offered: _ } | PutTurn::Closes { again: _ } => 0,
         }
     }
 
@@ -327,7 +519,11 @@ impl<A: Allocator> CallAuditor<A> {
     {
         match self.take {
             TakeTurn::Rests => 0,
-            TakeTurn::Waits { empty: _ } => 1,
+            TakeTurn::Waits {
+                wanted,
+                before: _,
+                ended: _,
+            } => wanted,
         }
     }
 }

@@ -1,4 +1,5 @@
 //! What follows of the queue and of histories of its calls.
+ghost use Rattle.queue_calls.specs.RecordingLaws.{RecordingHasNoBadLine, RecordingIsOne};
 ghost use Rattle.queue_calls.specs.Laws.{BeginningIsLinearizable, MomentsAreOrders, OperationsLeadOneWay};
 
 /// An operation leaves one queue: the sequential specification lets it answer or not, and chooses nothing else. So
@@ -18,4 +19,14 @@ pub fn beginning_is_linearizable()
 /// keeps real time.
 pub fn moments_are_orders()
     ensures { MomentsAreOrders }
+{}
+
+/// A text is the recording of one history, of a queue of one capacity.
+pub fn recording_is_one()
+    ensures { RecordingIsOne }
+{}
+
+/// A recording has no bad line: no text is both read and refused.
+pub fn recording_has_no_bad_line()
+    ensures { RecordingHasNoBadLine }
 {}

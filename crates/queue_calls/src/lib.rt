@@ -4,11 +4,23 @@
 #![tactic(auto)]
 
 mod auditors;
+mod capacities;
+mod causes;
 mod events;
 mod faults;
 pub mod laws;
+mod lines;
+mod notes;
+mod recordings;
+mod reports;
 mod turns;
 
 pub use auditors::CallAuditor;
+pub use capacities::{Capacity, exactly};
+pub use causes::Cause;
 pub use events::Event;
 pub use faults::Fault;
+pub use lines::Word;
+pub use notes::TAKEN_LIMIT;
+pub use recordings::{CallsFinding, Recording, RecordingFault};
+pub use reports::Report;

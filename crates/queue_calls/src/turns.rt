@@ -5,10 +5,10 @@
 pub enum PutTurn {
     // no call
     Free,
-    // a put of so many items, which may find the queue full or not
-    Offers { offered: usize, full: bool },
-    // a put that began after a close had ended
-    Late,
+    // a put of so many items, before which so many were inside
+    Offers { offered: usize, before: usize },
+    // a put of so many items that began after a close had ended
+    Late { offered: usize },
     // a close, the first one or again
     Closes { again: bool },
 }
@@ -18,6 +18,11 @@ pub enum PutTurn {
 pub enum TakeTurn {
     // no call
     Rests,
-    // a take, which may find the queue empty and open or not
-    Waits { empty: bool },
+    // a take of up to so many items, before which so many were inside but for those of a put under way, and whether a close
+    // had ended then
+    Waits {
+        wanted: usize,
+        before: usize,
+        ended: bool,
+    },
 }

@@ -4,7 +4,8 @@ use Rattle.std.proofs.Common.{◌≡◌, ◌⊎◌, inl, inr, ℕ, suc, ◌+◌,
 use Rattle.bits_core.specs.declared.events.Side.TheVariants.{P, C}
 use Rattle.bits_core.specs.declared.events.Event.{Event}
 use Rattle.bits_core.specs.Made.{clock}
-use Rattle.queue_calls.specs.Queue.{Queue, queue, Step, IsLegal}
+use Rattle.std.proofs.lemmas.Bool.{false≢true}
+use Rattle.queue_calls.specs.Queue.{Queue, queue, exactly, Step, IsLegal}
 use Rattle.ring_core.specs.Linear.{Operation, done_by, of_side, EndsBefore}
 use Rattle.ring_core.proofs.Cuts.{at_most_or_above}
 use Rattle.ring_core.proofs.Turns.{In, Putting, Enqueues, Fulls, Closes, Taking, Dequeues, Empties, Ends, IsEnqueue, IsFull, IsClose, IsEmpty, IsEnd, PutOp, TakeOp, put_op, take_op, put_does, take_does, Tallies, PutFact, TakeFact, PutsTo, TakesTo, puts_to_itself, takes_to_itself, Needs, Must, May, NoMust, find_must, may}
@@ -89,7 +90,7 @@ pub record Ordered (h : List Event) (capacity : ℕ) (q : Queue) (xs : List PutO
   pub order : List Operation
   pub producer : of_side P order ≡ put_ops xs
   pub consumer : of_side C order ≡ take_ops ys
-  pub legal : IsLegal capacity q (done_by order)
+  pub legal : IsLegal (exactly capacity) q (done_by order)
   pub timely : IsTimely h order
   pub members : (o : Operation) → In o order → IsOf xs ys o
 
@@ -168,7 +169,7 @@ module _ (h : List Event) (capacity events stored taken : ℕ) (puts_begun puts_
 
   -- an operation of the producer first
   put_first :
-      (q after : Queue) (x : PutOp) (xs : List PutOp) (ys : List TakeOp) → Step capacity q (put_does x.kind) after → IsPut x →
+      (q after : Queue) (x : PutOp) (xs : List PutOp) (ys : List TakeOp) → Step (exactly capacity) q (put_does x.kind) after → IsPut x →
       ((x' : PutOp) → In x' xs → IsPut x' × PutsTo x x') → ((y : TakeOp) → In y ys → May h capacity x y) →
       Ordered h capacity after xs ys → Ordered h capacity q (x ∷ xs) ys
   put_first q after x xs ys step px behind mays r = record {
@@ -199,7 +200,7 @@ module _ (h : List Event) (capacity events stored taken : ℕ) (puts_begun puts_
 
   -- an operation of the consumer first
   take_first :
-      (q after : Queue) (y : TakeOp) (xs : List PutOp) (ys : List TakeOp) → Step capacity q (take_does y.kind) after → IsTake y →
+      (q after : Queue) (y : TakeOp) (xs : List PutOp) (ys : List TakeOp) → Step (exactly capacity) q (take_does y.kind) after → IsTake y →
       ((y' : TakeOp) → In y' ys → IsTake y' × TakesTo y y') → NoMust h capacity xs y →
       Ordered h capacity after xs ys → Ordered h capacity q xs (y ∷ ys)
   take_first q after y xs ys step qy behind none r = record {
@@ -339,7 +340,8 @@ module _ (h : List Event) (capacity events stored taken : ℕ) (puts_begun puts_
       absurd (omega (arith, (r.empties y (inl refl) tt).0, r.takes_numbered.0))
   take_step n start stop place Empties xs ys k [] closed r none next =
       let y : TakeOp = record { number = n; kind = Empties; start = start; stop = stop; place = place } in
-      take_first (queue [] closed) (queue [] closed) y xs ys (refl, (r.empties y (inl refl) tt).1, refl) (r.takes y (inl refl))
+      take_first (queue [] closed) (queue [] closed) y xs ys
+      (omega arith, (λ drained. false≢true (sym (r.empties y (inl refl) tt).1 ∙ drained.1)), refl) (r.takes y (inl refl))
       (λ y' i. (r.takes y' (inr i), r.takes_sorted.0 y' i)) none
       (next k [] closed (record {
         fits = r.fits;
@@ -361,7 +363,7 @@ module _ (h : List Event) (capacity events stored taken : ℕ) (puts_begun puts_
       absurd (omega (arith, r.puts_numbered, r.takes_numbered.0, (r.takes y (inl refl)).all tt))
   take_step n start stop place Ends [] ys k [] closed r none next =
       let y : TakeOp = record { number = n; kind = Ends; start = start; stop = stop; place = place } in
-      take_first (queue [] closed) (queue [] closed) y [] ys (refl, r.ends y (inl refl) tt, refl) (r.takes y (inl refl))
+      take_first (queue [] closed) (queue [] closed) y [] ys ((refl, r.ends y (inl refl) tt), refl) (r.takes y (inl refl))
       (λ y' i. (r.takes y' (inr i), r.takes_sorted.0 y' i)) none
       (next k [] closed (record {
         fits = r.fits;

@@ -1,7 +1,7 @@
 -- Linearizability (Herlihy and Wing, 1990): the calls of the two sides, which overlap, answer as the operations of a queue do
 -- that come one after the other, in an order that keeps the time of the calls.
 use Rattle.std.specs.Prelude.{◌≡◌, ℕ, suc, ◌+◌, ◌%◌, ◌≤◌, Bool, true, false, List, [], ◌∷◌, ◌++◌, length, filter, map, nat_le, if◌then◌else◌}
-use Rattle.queue_calls.specs.Queue.{Does, Enqueue, FindFull, Close, Dequeue, FindEmpty, FindClosed, queue, IsLegal}
+use Rattle.queue_calls.specs.Queue.{Does, Enqueue, FindFull, Close, Dequeue, FindEmpty, FindClosed, exactly, queue, IsLegal}
 use Rattle.bits_core.specs.declared.events.Side.{Side}
 use Rattle.bits_core.specs.declared.events.Side.TheVariants.{P, C}
 use Rattle.bits_core.specs.declared.events.Event.{Event}
@@ -96,7 +96,7 @@ KeepsTime h order = (a b : Operation) (front between rest : List Operation) → 
 pub record IsLinearization (shape : Shape) (h : List Event) (puts : Puts) (takes : Takes) (order : List Operation) : Type 0 where
   pub producer : of_side P order ≡ put_operations shape first_count 0 puts.puts puts.closes (length (own P h))
   pub consumer : of_side C order ≡ take_operations shape 0 0 takes.takes takes.end (length (own C h))
-  pub legal : IsLegal (capacity_of shape) (queue [] false) (done_by order)
+  pub legal : IsLegal (exactly (capacity_of shape)) (queue [] false) (done_by order)
   pub keeps_time : KeepsTime h order
 
 -- there is one

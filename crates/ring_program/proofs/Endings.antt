@@ -2,7 +2,7 @@
 use Rattle.std.proofs.Common.{◌≡◌, ℕ, List, Option, Some, None, Result, Ok, Err, IfErr, IfOk, IfSome, inl, inr}
 use Rattle.std.specs.Prelude.{OnErr}
 use Rattle.std.specs.Io.KnownBytes.{Appends}
-use Rattle.ring_program.specs.Answers.{AnswersWithin, EndsBy, EndsOn, IsCause, Refused, RefusedOn, status_of}
+use Rattle.ring_program.specs.Answers.{AnswersCalls, AnswersWithin, EndsBy, EndsCalls, EndsOn, IsCallsCause, IsCause, Refused, RefusedCalls, RefusedOn, status_of}
 use Rattle.ring_program.specs.declared.answers.Ending.{Ending}
 use Rattle.ring_program.specs.declared.command_line.Question.{Question}
 use Rattle.ring_program.specs.declared.faults.Refusal.{Refusal}
@@ -26,3 +26,12 @@ pub ends_on : (question : Question) (input before after : Option (List ℕ)) (r 
 ends_on question None before after r status written refused is one = tt
 ends_on question (Some bytes) before after r status written refused is one =
     ends_by (AnswersWithin question bytes) (IsCause question bytes) before after r status written refused is one
+
+-- the same, where it is known of each input that the reader may have
+pub ends_calls : (input before after : Option (List ℕ)) (r : Result Ending Refusal) (status : ℕ)
+    → IfSome input (λ bytes. IfOk r (IsWritten (AnswersCalls bytes) before after))
+    → IfSome input (λ bytes. IfErr r (RefusedCalls bytes before after))
+    → IfOk r (λ ending. status ≡ status_of ending) → OnErr r (status ≡ 1) → IfSome input (λ bytes. EndsCalls bytes before after status)
+ends_calls None before after r status written refused is one = tt
+ends_calls (Some bytes) before after r status written refused is one =
+    ends_by (AnswersCalls bytes) (IsCallsCause bytes) before after r status written refused is one

@@ -1,3 +1,4 @@
 mod PlayLemmas
+mod RecordingText
 mod Endings
 mod RunItems

@@ -11,10 +11,16 @@ use Rattle.bits_core.specs.declared.audits.Verdict.TheVariants.{Lawful, Fault}
 use Rattle.bits_core.specs.declared.events.Event.{Event}
 use Rattle.bits_core.specs.declared.shapes.Shape.{Shape}
 use Rattle.bits_core.specs.declared.shapes.ShapeFault.{ShapeFault}
-use Rattle.bits_core.specs.Shape.{HasBatch, IsRefusedBatch}
+use Rattle.bits_core.specs.Shape.{HasBatch, IsRefusedBatch, capacity_of}
 use Rattle.bits_core.specs.Made.{IsBeginning}
 use Rattle.bits_core.specs.declared.traces.TraceFault.{TraceFault}
 use Rattle.bits_core.specs.declared.traces.TraceFault.TheVariants as trace
+use Rattle.queue_calls.specs.Queue.{exactly}
+use Rattle.queue_calls.specs.Calls as queue_event
+use Rattle.queue_calls.specs.Recordings.{IsFindingOf, IsRecording, RefusesText}
+use Rattle.queue_calls.specs.declared.recordings.CallsFinding.{CallsFinding}
+use Rattle.queue_calls.specs.declared.recordings.CallsFinding.TheVariants as calls
+use Rattle.queue_calls.specs.declared.recordings.RecordingFault.{RecordingFault}
 use Rattle.ring_audit.specs.Audit.{IsFinding, SaysLinearizable, SaysSentence, Statement}
 use Rattle.ring_audit.specs.Audit as audit
 use Rattle.ring_audit.specs.declared.faults.AuditFault.TheVariants as finding
@@ -30,7 +36,7 @@ use Rattle.ring_program.specs.Reports.{Reports}
 use Rattle.ring_run.specs.Relays.{IsRelayed}
 use Rattle.ring_run.specs.declared.faults.RunFault.TheVariants as run
 use Rattle.ring_program.specs.Runs.{run_items}
-use Rattle.ring_program.specs.Texts.{Summary, audit_text_of, report_text_of, run_text_of, verdict_text_of}
+use Rattle.ring_program.specs.Texts.{Summary, audit_text_of, calls_text_of, relay_report_of, relay_text_of, report_text_of, verdict_text_of}
 use Rattle.ring_program.specs.declared.inputs.TheConstants.{INPUT_LIMIT}
 use Rattle.ring_program.specs.declared.answers.Ending.{Ending}
 use Rattle.ring_program.specs.declared.answers.Ending.TheVariants.{Done, FaultFound, LimitReached}
@@ -40,6 +46,8 @@ use Rattle.ring_program.specs.declared.command_line.Request.{Request}
 use Rattle.ring_program.specs.declared.command_line.Request.TheVariants.{OnInput}
 use Rattle.ring_program.specs.declared.command_line.Request.TheVariants as request
 use Rattle.ring_program.specs.declared.run_line.Run.{Run}
+use Rattle.ring_program.specs.declared.run_line.RunText.{RunText}
+use Rattle.ring_program.specs.declared.run_line.RunText.TheVariants.{Totals, Report, Recording}
 use Rattle.ring_program.specs.declared.faults.AppFault.TheVariants as app
 use Rattle.ring_program.specs.declared.faults.Refusal.{Refusal}
 use Rattle.ring_program.specs.declared.faults.Refusal.TheVariants as refusal
@@ -64,6 +72,19 @@ relay_ending_of false = LimitReached
 abbrev pub finding_ending_of : Statement → Ending
 finding_ending_of (audit.Lawful put taken told) = Done
 finding_ending_of (audit.Fault place kind) = FaultFound
+
+-- how an audit of recorded calls with this finding ends
+abbrev pub calls_ending_of : CallsFinding → Ending
+calls_ending_of (calls.Lawful report) = Done
+calls_ending_of (calls.OutOfTurn line) = FaultFound
+calls_ending_of (calls.NotLinearizable line cause) = FaultFound
+
+-- the input is a recording of calls, and the text and the ending are those of what is found of it
+pub record AnswersCalls (input text : List ℕ) (ending : Ending) : Type 0 where
+  pub found : CallsFinding
+  pub is_finding : IsFindingOf input found
+  pub words : text ≡ calls_text_of found
+  pub ends : ending ≡ calls_ending_of found
 
 -- the input is a trace, and the text and the ending are those of the verdict on its bits
 pub record AuditsBits (input text : List ℕ) (ending : Ending) : Type 0 where
@@ -110,9 +131,17 @@ pub record TracesScript (input text : List ℕ) (ending : Ending) : Type 0 where
   pub is_trace : IsTrace text content.shape history
   pub ends : ending ≡ Done
 
+-- the text of a run: how many items were put and taken, or that and what was counted and timed; or a recording of some calls of a
+-- queue of the ring's capacity
+abbrev pub TellsRun : RunText → Shape → ℕ → ℕ → ℕ → ℕ → ℕ → Bool → Option ℕ → List ℕ → Type 0
+TellsRun Totals shape put calls full taken empty closed time text = text ≡ relay_text_of put taken closed
+TellsRun Report shape put calls full taken empty closed time text = text ≡ relay_report_of put calls full taken empty closed time
+TellsRun Recording shape put calls full taken empty closed time text =
+    (events : List queue_event.Event) × IsRecording text (exactly (capacity_of shape)) events
+
 -- what came of a run, in a ring of the shape of its numbers: it is counted in one lawful history whose two sides follow their
 -- programs; the items taken are the first ones, in order, and all of them once the taker was told that the ring is closed.
--- The text has what the history counts, and some time that a clock told, or none
+-- The text has what the history counts, and some time that a clock told, or none; or it is a recording
 pub record AnswersRun (run : Run) (text : List ℕ) (ending : Ending) : Type 0 where
   pub shape : Shape
   pub put : ℕ
@@ -127,7 +156,7 @@ pub record AnswersRun (run : Run) (text : List ℕ) (ending : Ending) : Type 0 w
   pub prefix : IsBeginning taken (take put (run_items run))
   pub all : closed ≡ true → taken ≡ run_items run
   pub within : put ≤ length taken + run.capacity
-  pub words : text ≡ run_text_of run.report put calls full (length taken) empty closed time
+  pub words : TellsRun run.text shape put calls full (length taken) empty closed time text
   pub ends : ending ≡ relay_ending_of closed
 
 -- memory ran out, in the program, the trace, the audit, the script, the play or the run
@@ -182,6 +211,11 @@ IsShortage e = IsOutOfMemory e ⊎ (e ≡ refusal.App app.ReadFailed)
 abbrev pub IsCause : Question → List ℕ → Refusal → Type 0
 IsCause question input e = IsShortage e ⊎ (IsTooLarge input e ⊎ ((length input ≤ INPUT_LIMIT) × Refuses question input e))
 
+-- a true cause of a refusal of recorded calls: memory ran out, or a read failed, or the input is no recording
+unfoldable pub IsCallsCause : List ℕ → Refusal → Type 0
+IsCallsCause input e = (e ≡ refusal.App app.OutOfMemory) ⊎ ((e ≡ refusal.App app.ReadFailed)
+    ⊎ ((fault : RecordingFault) × (e ≡ refusal.Calls fault) × RefusesText fault input))
+
 -- what is answered to a question on an input that is not too large
 abbrev pub AnswersWithin : Question → List ℕ → List ℕ → Ending → Type 0
 AnswersWithin question input text ending = (length input ≤ INPUT_LIMIT) × Answers question input text ending
@@ -227,9 +261,17 @@ RefusedRun run = Refused (AnswersRun run) (IsRunCause run)
 abbrev pub EndsRun : Run → Option (List ℕ) → Option (List ℕ) → ℕ → Type 0
 EndsRun run = EndsBy (AnswersRun run) (IsRunCause run)
 
+-- how it ends on recorded calls
+abbrev pub RefusedCalls : List ℕ → Option (List ℕ) → Option (List ℕ) → Refusal → Type 0
+RefusedCalls input = Refused (AnswersCalls input) (IsCallsCause input)
+
+abbrev pub EndsCalls : List ℕ → Option (List ℕ) → Option (List ℕ) → ℕ → Type 0
+EndsCalls input = EndsBy (AnswersCalls input) (IsCallsCause input)
+
 -- how it ends on a request, where the reader tells that this is its input
 abbrev pub Ends : Request → Option (List ℕ) → Option (List ℕ) → Option (List ℕ) → ℕ → Type 0
 Ends (OnInput question) input before after status = IfSome input (λ bytes. EndsOn question bytes before after status)
+Ends request.Calls input before after status = IfSome input (λ bytes. EndsCalls bytes before after status)
 Ends (request.Run run) input before after status = EndsRun run before after status
 
 -- help or the version was asked for
@@ -280,6 +322,7 @@ IsStatusOn PlayTrace status = (status ≡ 0) ⊎ (status ≡ 1)
 -- of a request
 abbrev pub IsStatusOf : Request → ℕ → Type 0
 IsStatusOf (OnInput question) status = IsStatusOn question status
+IsStatusOf request.Calls status = (status ≡ 0) ⊎ ((status ≡ 1) ⊎ (status ≡ 3))
 IsStatusOf (request.Run run) status = (status ≡ 0) ⊎ (status ≡ 1)
 
 -- and of words that ask for this request or for nothing
@@ -287,8 +330,9 @@ abbrev pub IsStatus : Option Request → ℕ → Type 0
 IsStatus (Some asked) status = IsStatusOf asked status
 IsStatus None status = (status ≡ 0) ⊎ ((status ≡ 1) ⊎ (status ≡ 2))
 
--- the question that the words ask of an input, if any
-abbrev pub question_in : Option Request → Option Question
-question_in (Some (OnInput question)) = Some question
-question_in (Some (request.Run run)) = None
-question_in None = None
+-- the words ask nothing of an input
+abbrev pub AsksNoInput : Option Request → Type 0
+AsksNoInput (Some (OnInput question)) = ⊥
+AsksNoInput (Some request.Calls) = ⊥
+AsksNoInput (Some (request.Run run)) = Unit {0}
+AsksNoInput None = Unit {0}

@@ -15,15 +15,21 @@ use Rattle.ring_program.specs.declared.command_line.Request.TheVariants as reque
 use Rattle.ring_program.specs.declared.run_line.RingKind.{RingKind}
 use Rattle.ring_program.specs.declared.run_line.RingKind.TheVariants.{Flicker, Counter}
 use Rattle.ring_program.specs.declared.run_line.Run.{Run}
+use Rattle.ring_program.specs.declared.run_line.RunText.{RunText}
+use Rattle.ring_program.specs.declared.run_line.RunText.TheVariants.{Totals, Report, Recording}
 use Rattle.ring_program.specs.declared.run_line.TheConstants.{ITEM_LIMIT}
 
 -- `--bits`
 abbrev pub bits : Rule
 bits = record (new_rule (codes "bits")) { long = Some (codes "bits"); action = Some SetTrue }
 
--- `audit [--bits]`
+-- `--calls`
+abbrev pub calls : Rule
+calls = record (new_rule (codes "calls")) { long = Some (codes "calls"); action = Some SetTrue }
+
+-- `audit [--bits]` and `audit --calls`
 abbrev pub audit_command : App
-audit_command = with_rule (new_app (codes "audit")) bits
+audit_command = with_rule (with_rule (new_app (codes "audit")) bits) calls
 
 -- `--trace`
 abbrev pub trace : Rule
@@ -57,13 +63,17 @@ ring_rule = record (new_rule (codes "ring")) { long = Some (codes "ring"); actio
 abbrev pub report_rule : Rule
 report_rule = record (new_rule (codes "report")) { long = Some (codes "report"); action = Some SetTrue }
 
--- `run`, with the five options that have to be given, three that may be left out, and a flag
+-- `--record`
+abbrev pub record_rule : Rule
+record_rule = record (new_rule (codes "record")) { long = Some (codes "record"); action = Some SetTrue }
+
+-- `run`, with the five options that have to be given, three that may be left out, and two flags
 abbrev pub run_application : App
 run_application =
-    with_rule (with_rule (with_rule (with_rule (with_rule (with_rule (with_rule (with_rule (with_rule (new_app (codes "run"))
+    with_rule (with_rule (with_rule (with_rule (with_rule (with_rule (with_rule (with_rule (with_rule (with_rule (new_app (codes "run"))
     (required_rule (codes "capacity") largest)) (required_rule (codes "modulus") largest)) (required_rule (codes "width") largest))
     (required_rule (codes "count") ITEM_LIMIT)) (required_rule (codes "limit") largest)) (number_rule (codes "takes") largest)) batch_rule) ring_rule)
-    report_rule
+    report_rule) record_rule
 
 -- the program, which has a version, and of which one command has to be named
 unfoldable pub application : App
@@ -76,8 +86,15 @@ application =
 abbrev pub is_flag_given : Text → List Row → Bool
 is_flag_given id rows = option_map_or (λ t. bytes_eq t (codes "true")) (first_of id rows) false
 
-abbrev pub audit_question_of : List Row → Question
-audit_question_of rows = if is_flag_given (codes "bits") rows then AuditBits else Audit
+-- an audit is of bits or of calls, and not of both
+abbrev pub audit_request : Bool → Bool → Option Request
+audit_request true true = None
+audit_request true false = Some (OnInput AuditBits)
+audit_request false true = Some request.Calls
+audit_request false false = Some (OnInput Audit)
+
+abbrev pub audit_request_of : List Row → Option Request
+audit_request_of rows = audit_request (is_flag_given (codes "bits") rows) (is_flag_given (codes "calls") rows)
 
 abbrev pub play_question_of : List Row → Question
 play_question_of rows = if is_flag_given (codes "trace") rows then PlayTrace else Play
@@ -98,8 +115,18 @@ ring_in name = if bytes_eq name (codes "flicker") then Some Flicker else (if byt
 abbrev pub ring_given : List Row → Option RingKind
 ring_given rows = option_and_then ring_in (first_of (codes "ring") rows)
 
-abbrev pub run_of_numbers : RingKind → ℕ → ℕ → ℕ → ℕ → ℕ → ℕ → ℕ → Bool → Run
-run_of_numbers ring capacity modulus width batch count puts takes report = record {
+-- the text that was asked for, by whether a report and a recording were: not both
+abbrev pub text_asked : Bool → Bool → Option RunText
+text_asked true true = None
+text_asked true false = Some Report
+text_asked false true = Some Recording
+text_asked false false = Some Totals
+
+abbrev pub text_given : List Row → Option RunText
+text_given rows = text_asked (is_flag_given (codes "report") rows) (is_flag_given (codes "record") rows)
+
+abbrev pub run_of_numbers : RingKind → ℕ → ℕ → ℕ → ℕ → ℕ → ℕ → ℕ → RunText → Run
+run_of_numbers ring capacity modulus width batch count puts takes text = record {
   ring = ring;
   capacity = capacity;
   modulus = modulus;
@@ -107,22 +134,22 @@ run_of_numbers ring capacity modulus width batch count puts takes report = recor
   batch = batch;
   count = count;
   limits = record { puts = puts; takes = takes };
-  report = report;
+  text = text;
 }
 
--- what the options of `run` ask for: as many takes as puts, where nothing else is said, and a report where its flag was given
+-- what the options of `run` ask for: as many takes as puts, where nothing else is said
 abbrev pub run_in : List Row → Option Run
 run_in rows =
-    option_and_then (λ ring. option_and_then (λ capacity. option_and_then (λ modulus. option_and_then (λ width. option_and_then (λ batch. option_and_then (λ count.
-    option_map (λ puts. run_of_numbers ring capacity modulus width batch count puts (unwrap_or (number_given (codes "takes") rows) puts) (is_flag_given (codes "report") rows))
+    option_and_then (λ text. option_and_then (λ ring. option_and_then (λ capacity. option_and_then (λ modulus. option_and_then (λ width. option_and_then (λ batch. option_and_then (λ count.
+    option_map (λ puts. run_of_numbers ring capacity modulus width batch count puts (unwrap_or (number_given (codes "takes") rows) puts) text)
     (number_given (codes "limit") rows)) (number_given (codes "count") rows)) (number_given (codes "batch") rows))
-    (number_given (codes "width") rows)) (number_given (codes "modulus") rows)) (number_given (codes "capacity") rows)) (ring_given rows)
+    (number_given (codes "width") rows)) (number_given (codes "modulus") rows)) (number_given (codes "capacity") rows)) (ring_given rows)) (text_given rows)
 
 -- what the named command asks for
 abbrev pub request_in : Option (Text × List Row) → Option Request
 request_in None = None
 request_in (Some found) =
-    if bytes_eq found.0 (codes "audit") then Some (OnInput (audit_question_of found.1))
+    if bytes_eq found.0 (codes "audit") then audit_request_of found.1
     else (if bytes_eq found.0 (codes "play") then Some (OnInput (play_question_of found.1))
     else (if bytes_eq found.0 (codes "run") then option_map request.Run (run_in found.1) else None))
 
@@ -147,6 +174,12 @@ short_run = run_words (codes "64") []
 
 abbrev pub report_run : List Text
 report_run = run_words (codes "64") (codes "--report" ∷ [])
+
+abbrev pub record_run : List Text
+record_run = run_words (codes "64") (codes "--record" ∷ [])
+
+abbrev pub report_and_record : List Text
+report_and_record = run_words (codes "64") (codes "--report" ∷ codes "--record" ∷ [])
 
 abbrev pub big_run : List Text
 big_run = run_words (codes "1000001") []

@@ -6,6 +6,10 @@ use Rattle.bits_core.specs.declared.audits.Verdict.{Verdict}
 use Rattle.bits_core.specs.declared.audits.Verdict.TheVariants as bits
 use Rattle.bits_core.specs.declared.audits.Kind.{Kind}
 use Rattle.bits_core.specs.declared.events.Event.{Event}
+use Rattle.queue_calls.specs.Causes.{cause_words}
+use Rattle.queue_calls.specs.declared.recordings.CallsFinding.{CallsFinding}
+use Rattle.queue_calls.specs.declared.recordings.CallsFinding.TheVariants as calls
+use Rattle.queue_calls.specs.declared.reports.Report as calls_report
 use Rattle.ring_audit.specs.Audit.{Statement, Lawful, Fault}
 use Rattle.ring_player.specs.declared.worlds.Report.{Report}
 
@@ -50,6 +54,24 @@ lists_text_of put taken told = lawful_line ++ (list_line (codes "put") put ++ (l
 abbrev pub audit_text_of : Statement → List ℕ
 audit_text_of (Lawful put taken told) = lists_text_of put taken told
 audit_text_of (Fault place kind) = fault_line place kind
+
+-- ---- the text of a finding of recorded calls
+
+-- what a recording of a linearizable history has reached
+abbrev pub calls_report_text_of : calls_report.Report → List ℕ
+calls_report_text_of r = lawful_line ++ (count_line (codes "calls") r.calls ++ (count_line (codes "stored") r.stored
+    ++ (count_line (codes "taken") r.taken ++ (count_line (codes "full") r.full ++ (count_line (codes "empty") r.empty
+    ++ (count_line (codes "nothing") r.nothing ++ (told_line r.told ++ (list_line (codes "inside") (r.surely_inside ∷ r.perhaps_inside ∷ [])
+    ++ (count_line (codes "overlapped") r.overlapped ++ count_line (codes "open") r.under_way)))))))))
+
+-- the line of a fault of recorded calls
+abbrev pub calls_fault_line : ℕ → List ℕ → List ℕ
+calls_fault_line line words = codes "fault: line " ++ (decimal line ++ (codes ": " ++ (words ++ codes "\n")))
+
+abbrev pub calls_text_of : CallsFinding → List ℕ
+calls_text_of (calls.Lawful report) = calls_report_text_of report
+calls_text_of (calls.OutOfTurn line) = calls_fault_line line (codes "out of turn")
+calls_text_of (calls.NotLinearizable line cause) = calls_fault_line line (cause_words cause)
 
 -- ---- the text of a report
 
@@ -109,8 +131,3 @@ abbrev pub relay_report_of : ℕ → ℕ → ℕ → ℕ → ℕ → Bool → Op
 relay_report_of put calls full taken empty closed time =
     relay_text_of put taken closed ++ (count_line (codes "calls") calls ++ (count_line (codes "full") full
     ++ (count_line (codes "empty") empty ++ pace_line (option_and_then (pace_of taken) time))))
-
--- the text of a run: with a report, where one was asked for
-abbrev pub run_text_of : Bool → ℕ → ℕ → ℕ → ℕ → ℕ → Bool → Option ℕ → List ℕ
-run_text_of true put calls full taken empty closed time = relay_report_of put calls full taken empty closed time
-run_text_of false put calls full taken empty closed time = relay_text_of put taken closed

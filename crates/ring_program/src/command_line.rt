@@ -3,10 +3,10 @@ ghost use Rattle.std.specs.Prelude.{◌≡◌, ◌⊎◌, ◌∷◌, ℕ, List, 
 ghost use Rattle.clap.specs.Words.{HasKind, app_of, fault_of, found_of, kind_of, rows_of, subcommand_of, subcommand_rows_of};
 ghost use Rattle.clap.specs.declared.builder.command.Command.TheViews.{out-Command};
 ghost use Rattle.ring_program.specs.declared.run_line.RingKind.TheVariants as kind;
-ghost use Rattle.ring_program.specs.CommandLine.{application, audit_command, audit_question_of, big_run, long_run, play_command, play_question_of, report_run, request_in, request_of, run_of_numbers, short_run, torus_run};
+ghost use Rattle.ring_program.specs.CommandLine.{application, audit_command, audit_request_of, big_run, long_run, play_command, play_question_of, record_run, report_and_record, report_run, request_in, request_of, run_of_numbers, short_run, torus_run};
 
 use crate::options::is_given;
-use crate::run_line::{Run, run_command, run_found};
+use crate::run_line::{Run, RunText, run_command, run_found};
 use clap::error::ErrorKind;
 use clap::{Arg, ArgAction, ArgMatches, Command, Error};
 use std::alloc::{AllocError, Global};
@@ -15,7 +15,8 @@ use std::alloc::{AllocError, Global};
 const VERSION: &str = "0.1.0";
 
 // The usage, which is also told where a word of `audit` is wrong, such as the name of a file.
-const AUDIT_USAGE: &str = "lamport_ring audit [--bits] < TRACE";
+const AUDIT_USAGE: &str = "lamport_ring audit [--bits] < TRACE
+       lamport_ring audit --calls < CALLS";
 
 const AUDIT_HELP: &str = "\
 A trace has a line `shape CAPACITY MODULUS WIDTH`, with the batch behind these
@@ -33,13 +34,29 @@ and both sides follow the ring's programs, with the items put, the items taken
 and whether the consumer was told that the ring is closed. Else it is the first
 line at fault and why. With --bits the programs are left out, and the items too.
 
+With --calls the input is a recording of the calls of any queue of one producer
+and one consumer: a line `queue CAPACITY`, and then a line where each call
+begins and one where it ends, in the order in which they happened:
+
+  P put 5         side P begins to put item 5, or several: P put 5 6 7
+  P stored        its put ends, stored; or P full, or P closed
+  C take          side C begins to take an item, or up to Q: C take Q
+  C item 5        its take ends with item 5; or C empty, or C closed
+  P close         side P begins to close; P closed ends it
+
+The answer is `lawful` where the history is linearizable, with what it reached;
+else the first line with which it is not, and what speaks against it. The input
+may have any length. docs/FORMATS.md has the whole format.
+
 Examples:
   lamport_ring audit < examples/plain_path.trace
   lamport_ring audit --bits < examples/new_old_inversion.trace
+  lamport_ring audit --calls < examples/calls/plain.calls
 
 Exit status:
   0  the history is lawful
-  1  refused: the input is no trace, or could not be read, or the output failed
+  1  refused: the input is not of the format, or could not be read, or the
+     output failed
   2  the command line is wrong
   3  the audit found a fault";
 
@@ -77,6 +94,7 @@ Examples:
   lamport_ring play < examples/plain_path.json
   lamport_ring audit < examples/plain_path.trace
   lamport_ring audit --bits < examples/new_old_inversion.trace
+  lamport_ring audit --calls < examples/calls/plain.calls
   lamport_ring run --capacity 1 --modulus 3 --width 6 --count 64 \\
     --limit 1000000000
 
@@ -105,6 +123,8 @@ pub enum Question {
 pub enum Request {
     /// To read an input, and to answer of it.
     OnInput(Question),
+    /// `audit --calls`, which reads its input in pieces.
+    Calls,
     /// `run`, which reads no input.
     Run(Run),
 }
@@ -117,11 +137,18 @@ fn audit<'a>(alloc: Global) -> Result<Command<'a>, AllocError>
         .long("bits")
         .action(ArgAction::SetTrue)
         .help("Check the bits alone, not the programs of the two sides");
+    let calls = Arg::new(alloc, "calls")
+        .long("calls")
+        .action(ArgAction::SetTrue)
+        .help("Audit a recording of the calls of any queue");
     let command = Command::new(alloc, "audit")
-        .about("Audit a trace of a ring's accesses to safe bits, from standard input")
+        .about(
+            "Audit a trace of a ring's accesses to safe bits, or recorded calls, from standard input",
+        )
         .override_usage(AUDIT_USAGE)
         .after_help(AUDIT_HELP)
         .arg(bits)?;
+    let command = command.arg(calls)?;
     Ok(command)
 }
 
@@ -177,13 +204,15 @@ fn named<'m, 'a>(matches: &'m ArgMatches<'a>) -> Option<(&'a str, &'m ArgMatches
     matches.subcommand()
 }
 
-fn audit_question(matches: &ArgMatches<'_>) -> Question
-    ensures { result ≡ audit_question_of (rows_of (found_of matches.now)) }
+// What `audit` is asked for; nothing where it is both.
+fn audit_request(matches: &ArgMatches<'_>) -> Option<Request>
+    ensures { result ≡ audit_request_of (rows_of (found_of matches.now)) }
 {
-    if is_given(matches, "bits") {
-        Question::AuditBits
-    } else {
-        Question::Audit
+    match (is_given(matches, "bits"), is_given(matches, "calls")) {
+        (true, true) => None,
+        (true, false) => Some(Request::OnInput(Question::AuditBits)),
+        (false, true) => Some(Request::Calls),
+        (false, false) => Some(Request::OnInput(Question::Audit)),
     }
 }
 
@@ -202,7 +231,7 @@ fn request_found(matches: &ArgMatches<'_>) -> Option<Request>
 {
     let (name, inner) = named(matches)?;
     if name == "audit" {
-        Some(Request::OnInput(audit_question(inner)))
+        audit_request(inner)
     } else if name == "play" {
         Some(Request::OnInput(play_question(inner)))
     } else if name == "run" {
@@ -230,12 +259,16 @@ pub fn read_words<'a>(alloc: Global, words: &'a [&'a str]) -> Result<Option<Requ
 pub fn command_lines()
     ensures audit { (name : List ℕ) → request_of (name ∷ codes "audit" ∷ []) ≡ Some (Request.OnInput Question.Audit) }
     ensures audit_bits { (name : List ℕ) → request_of (name ∷ codes "audit" ∷ codes "--bits" ∷ []) ≡ Some (Request.OnInput Question.AuditBits) }
+    ensures audit_calls { (name : List ℕ) → request_of (name ∷ codes "audit" ∷ codes "--calls" ∷ []) ≡ Some Request.Calls }
+    ensures audit_both { (name : List ℕ) → request_of (name ∷ codes "audit" ∷ codes "--bits" ∷ codes "--calls" ∷ []) ≡ None }
     ensures twice { (name : List ℕ) → request_of (name ∷ codes "audit" ∷ codes "--bits" ∷ codes "--bits" ∷ []) ≡ None }
     ensures play { (name : List ℕ) → request_of (name ∷ codes "play" ∷ []) ≡ Some (Request.OnInput Question.Play) }
     ensures play_trace { (name : List ℕ) → request_of (name ∷ codes "play" ∷ codes "--trace" ∷ []) ≡ Some (Request.OnInput Question.PlayTrace) }
-    ensures run { (name : List ℕ) → request_of (name ∷ short_run) ≡ Some (Request.Run (run_of_numbers kind.Flicker 1 3 6 1 64 9 9 false)) }
-    ensures run_with_all { (name : List ℕ) → request_of (name ∷ long_run) ≡ Some (Request.Run (run_of_numbers kind.Counter 3 7 6 3 64 9 8 false)) }
-    ensures run_with_report { (name : List ℕ) → request_of (name ∷ report_run) ≡ Some (Request.Run (run_of_numbers kind.Flicker 1 3 6 1 64 9 9 true)) }
+    ensures run { (name : List ℕ) → request_of (name ∷ short_run) ≡ Some (Request.Run (run_of_numbers kind.Flicker 1 3 6 1 64 9 9 RunText.Totals)) }
+    ensures run_with_all { (name : List ℕ) → request_of (name ∷ long_run) ≡ Some (Request.Run (run_of_numbers kind.Counter 3 7 6 3 64 9 8 RunText.Totals)) }
+    ensures run_with_report { (name : List ℕ) → request_of (name ∷ report_run) ≡ Some (Request.Run (run_of_numbers kind.Flicker 1 3 6 1 64 9 9 RunText.Report)) }
+    ensures run_with_record { (name : List ℕ) → request_of (name ∷ record_run) ≡ Some (Request.Run (run_of_numbers kind.Flicker 1 3 6 1 64 9 9 RunText.Recording)) }
+    ensures run_with_both { (name : List ℕ) → request_of (name ∷ report_and_record) ≡ None }
     ensures lacking { (name : List ℕ) → request_of (name ∷ codes "run" ∷ []) ≡ None }
     ensures too_many { (name : List ℕ) → request_of (name ∷ big_run) ≡ None }
     ensures torus { (name : List ℕ) → request_of (name ∷ torus_run) ≡ None }

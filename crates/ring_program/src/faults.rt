@@ -2,6 +2,7 @@
 ghost use Rattle.std.specs.Prelude.{◌≡◌};
 
 use bits_core::{ShapeFault, TraceFault};
+use queue_calls::RecordingFault;
 use ring_audit::AuditFault;
 use ring_player::{PlayFault, ScriptFault};
 use ring_run::RunFault;
@@ -60,6 +61,9 @@ pub enum Refusal {
     /// The input is no trace.
     #[error(transparent)]
     Trace(TraceFault),
+    /// The input is no recording of calls.
+    #[error(transparent)]
+    Calls(RecordingFault),
     /// The audit of a trace stopped.
     #[error(transparent)]
     Audit(AuditFault),
@@ -94,6 +98,16 @@ impl From<TraceFault> for Refusal {
 
     fn from(fault: TraceFault) -> Refusal {
         Refusal::Trace(fault)
+    }
+}
+
+impl From<RecordingFault> for Refusal {
+    ghost use Rattle.ring_program.specs.declared.faults.Refusal.TheVariants.{Calls};
+
+    ghost from_gives = { λ fault e. e ≡ Calls fault };
+
+    fn from(fault: RecordingFault) -> Refusal {
+        Refusal::Calls(fault)
     }
 }
 

@@ -11,6 +11,7 @@ mod lines;
 mod mistakes;
 mod options;
 mod program;
+mod recordings;
 mod reports;
 mod run_line;
 mod runs;

@@ -61,10 +61,34 @@ fn ring_named<'a>(words: &[&'a str]) -> Option<&'a str> {
     words.get(place + 1).copied()
 }
 
-/// The words were taken, and name no command or no ring. Tells it, and gives the exit status.
+// The words ask for an audit of bits and of calls at once.
+fn asks_two_audits(words: &[&str]) -> bool {
+    words.get(1) == Some(&"audit") && words.contains(&"--bits") && words.contains(&"--calls")
+}
+
+// The words ask for a report and a recording of one run.
+fn asks_two_texts(words: &[&str]) -> bool {
+    words.get(1) == Some(&"run") && words.contains(&"--report") && words.contains(&"--record")
+}
+
+/// The words were taken, and name no command, no ring, two audits or two texts of a run. Tells it, and gives the exit status.
 pub fn unnamed<E: Write>(words: &[&str], err: &mut E) -> u8
     ensures { result ≡ 2 }
 {
+    if asks_two_texts(words) {
+        complain(
+            err,
+            "error: a run prints a report or a recording: --report and --record do not go together\n\nFor more information, try '--help'.\n",
+        );
+        return 2;
+    }
+    if asks_two_audits(words) {
+        complain(
+            err,
+            "error: an audit is of bits or of calls: --bits and --calls do not go together\n\nFor more information, try '--help'.\n",
+        );
+        return 2;
+    }
     match ring_named(words) {
         Some(name) => {
             let name = Told(name);

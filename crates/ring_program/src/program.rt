@@ -2,7 +2,7 @@
 ghost use Rattle.std.specs.Prelude.{◌≡◌, ◌≢◌, ◌≤◌, ◌⊎◌, List, ℕ, None, IfOk, IfErr, IfSome, IfNone, OnOk, OnErr, length, map, string_bytes, take};
 ghost use Rattle.std.specs.Io.KnownBytes.{Appends, Keeps};
 ghost use Rattle.clap.specs.Words.{fault_of, kind_of};
-ghost use Rattle.ring_program.specs.Answers.{Answers, AnswersWithin, AuditsBits, AuditsPrograms, Ends, EndsOn, EndsUnasked, Explains, IsCause, IsOutOfMemory, IsShortage, IsStatus, IsStatusOn, MayEnd, PlaysScript, RefusedOn, Refuses, RefusesScript, RefusesTrace, TracesScript, finding_ending_of, question_in, status_of, verdict_ending_of};
+ghost use Rattle.ring_program.specs.Answers.{Answers, AnswersWithin, AsksNoInput, AuditsBits, AuditsPrograms, Ends, EndsOn, EndsUnasked, Explains, IsCause, IsOutOfMemory, IsShortage, IsStatus, IsStatusOn, MayEnd, PlaysScript, RefusedOn, Refuses, RefusesScript, RefusesTrace, TracesScript, finding_ending_of, status_of, verdict_ending_of};
 ghost use Rattle.ring_audit.specs.Audit.{statement};
 ghost use Rattle.ring_program.specs.declared.inputs.TheConstants.{INPUT_LIMIT};
 ghost use Rattle.ring_program.specs.CommandLine.{application, request_of};
@@ -13,6 +13,7 @@ use crate::command_line::{Question, Request, read_words};
 use crate::faults::{AppFault, Refusal};
 use crate::inputs::load;
 use crate::mistakes::{tell_mistake, unnamed};
+use crate::recordings::answer_calls;
 use crate::reports::report_text;
 use crate::runs::answer_run;
 use crate::texts::{audit_text, verdict_text};
@@ -251,7 +252,7 @@ fn explain<A: Allocator, O: Write, E: Write>(
 /// The whole program: `words` are its name and its arguments, and the answer is the exit status.
 ///
 /// It reads the command line, then the whole input, then works, and writes the answer on `out` once
-/// it is complete; a run has no input, and none is read for it. Status 0 says that it is done, and 3 that
+/// it is complete; recorded calls are read in pieces, and not kept; a run has no input, and none is read for it. Status 0 says that it is done, and 3 that
 /// the audit found a fault. With status 1 it refuses and says why on `err`; then nothing was written on
 /// `out`, unless a write failed, or a run reached a limit, whose text is written all the same. With status 2
 /// the command line is wrong. Where the words ask for help or the version, that is written on `out`, and
@@ -269,7 +270,7 @@ pub fn execute<
     ensures unasked { IfNone (request_of (map (λ w. w.now) words.entry.now))
         (EndsUnasked (fault_of application (map (λ w. w.now) words.entry.now)) (O.contents out.old) (O.contents out.new) result) }
     // Where nothing is asked of an input, nothing is read.
-    ensures unread { IfNone (question_in (request_of (map (λ w. w.now) words.entry.now))) (input.new ≡ input.old) }
+    ensures unread { AsksNoInput (request_of (map (λ w. w.now) words.entry.now)) → input.new ≡ input.old }
     // The standard error gains nothing unless the program refuses, or the command line is wrong.
     ensures quiet { (result ≡ 1) ⊎ ((result ≡ 2) ⊎ (err.new ≡ err.old)) }
     // Whatever the reader and the writers do.
@@ -284,6 +285,7 @@ pub fn execute<
         Request::OnInput(question) => {
             answer_question(alloc, rt.alloc(), question, input, out, err)
         }
+        Request::Calls => answer_calls(alloc, input, out, err),
         Request::Run(run) => answer_run(rt, alloc, run, out, err),
     }
 }

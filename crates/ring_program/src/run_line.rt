@@ -2,7 +2,7 @@
 ghost use Rattle.std.specs.Prelude.{◌≡◌, IfOk, Some, false, option_map};
 ghost use Rattle.clap.specs.Words.{app_of, first_of, found_of, rows_of, rule_of};
 ghost use Rattle.clap.specs.declared.builder.command.Command.TheViews.{out-Command};
-ghost use Rattle.ring_program.specs.CommandLine.{batch_rule, number_rule, report_rule, required_rule, ring_given, ring_in, ring_rule, run_application, run_in};
+ghost use Rattle.ring_program.specs.CommandLine.{batch_rule, number_rule, record_rule, report_rule, required_rule, ring_given, ring_in, ring_rule, run_application, run_in, text_given};
 
 use crate::options::{is_given, number_found};
 use clap::builder::ValueParser;
@@ -16,7 +16,7 @@ pub const ITEM_LIMIT: u64 = 1_000_000;
 // The usage, in two lines under one another.
 const RUN_USAGE: &str = "\
 lamport_ring run --capacity B --modulus M --width W --count N --limit L
-       [--takes T] [--batch G] [--ring RING] [--report]";
+       [--takes T] [--batch G] [--ring RING] [--report | --record]";
 
 const RUN_HELP: &str = "\
 Two threads share a ring with no lock. One puts N items, the numbers 0, 1, ..
@@ -46,6 +46,10 @@ many of them found the ring full; `empty`, how many takes found it empty; and
 `items a second`, how many were taken, by the clock from just before the relay
 to just behind it, or `unknown` where the clock told no time.
 
+With --record the text is a recording of the calls of both sides, which
+`lamport_ring audit --calls` judges. It ends before the first line for which a
+side has no more room, which is behind some 2 million lines of either side.
+
 Examples:
   lamport_ring run --ring counter --capacity 8 --modulus 10 --width 16 \\
     --count 1000 --limit 1000000000
@@ -67,6 +71,17 @@ pub enum RingKind {
     Counter,
 }
 
+/// What the text of a run tells.
+#[derive(Clone, Copy, Debug, PartialEq, Eq)]
+pub enum RunText {
+    /// How many items were put and taken, and whether the taker was told that the ring is closed.
+    Totals,
+    /// That, and what was counted and timed.
+    Report,
+    /// The calls of both sides.
+    Recording,
+}
+
 /// What `run` is asked for.
 #[derive(Clone, Copy, Debug, PartialEq, Eq)]
 pub struct Run {
@@ -80,8 +95,8 @@ pub struct Run {
     pub count: u64,
     /// The most puts and takes.
     pub limits: Limits,
-    /// Whether the text has what was counted and timed.
-    pub report: bool,
+    /// What its text tells.
+    pub text: RunText,
 }
 
 // An option whose value is a number up to the most.
@@ -144,6 +159,17 @@ fn report_option<'a>(alloc: Global) -> Arg<'a>
         .help("Tell the calls, and the items a second")
 }
 
+// The flag of the recording.
+fn record_option<'a>(alloc: Global) -> Arg<'a>
+    ensures rule { rule_of result ≡ record_rule }
+    ensures local { result.global ≡ false }
+{
+    Arg::new(alloc, "record")
+        .long("record")
+        .action(ArgAction::SetTrue)
+        .help("Print a recording of the calls in place of the text")
+}
+
 /// The command.
 pub fn run_command<'a>(alloc: Global) -> Result<Command<'a>, AllocError>
     ensures made { IfOk result (λ command. app_of command ≡ run_application) }
@@ -171,6 +197,8 @@ pub fn run_command<'a>(alloc: Global) -> Result<Command<'a>, AllocError>
     let command = command.arg(ring)?;
     let report = report_option(alloc);
     let command = command.arg(report)?;
+    let record = record_option(alloc);
+    let command = command.arg(record)?;
     Ok(command)
 }
 
@@ -197,10 +225,23 @@ fn ring_found(matches: &ArgMatches<'_>) -> Option<RingKind>
     }
 }
 
+// The text that was asked for; nothing where it is two.
+fn text_found(matches: &ArgMatches<'_>) -> Option<RunText>
+    ensures { result ≡ text_given (rows_of (found_of matches.now)) }
+{
+    match (is_given(matches, "report"), is_given(matches, "record")) {
+        (true, true) => None,
+        (true, false) => Some(RunText::Report),
+        (false, true) => Some(RunText::Recording),
+        (false, false) => Some(RunText::Totals),
+    }
+}
+
 /// What the options ask for.
 pub fn run_found(matches: &ArgMatches<'_>) -> Option<Run>
     ensures { result ≡ run_in (rows_of (found_of matches.now)) }
 {
+    let text = text_found(matches)?;
     let ring = ring_found(matches)?;
     let capacity = number_found(matches, "capacity")?;
     let modulus = number_found(matches, "modulus")?;
@@ -212,7 +253,6 @@ pub fn run_found(matches: &ArgMatches<'_>) -> Option<Run>
         Some(takes) => takes,
         None => puts,
     };
-    let report = is_given(matches, "report");
     Some(Run {
         ring,
         capacity,
@@ -221,6 +261,6 @@ pub fn run_found(matches: &ArgMatches<'_>) -> Option<Run>
         batch,
         count,
         limits: Limits { puts, takes },
-        report,
+        text,
     })
 }

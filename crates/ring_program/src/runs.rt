@@ -4,23 +4,32 @@ ghost use Rattle.std.specs.Duration.{as_nanos};
 ghost use Rattle.std.specs.Io.KnownBytes.{Appends};
 ghost use Rattle.bits_core.specs.Made.{IsBeginning};
 ghost use Rattle.bits_core.specs.Shape.{AllFit, capacity_of};
+ghost use Rattle.queue_calls.specs.Calls.{Event};
+ghost use Rattle.queue_calls.specs.Queue.{exactly};
+ghost use Rattle.queue_calls.specs.Recordings.{IsRecording};
 ghost use Rattle.ring_run.specs.Relays.{IsRelayed};
-ghost use Rattle.ring_program.specs.Answers.{AnswersRun, EndsRun, IsOutOfMemory, IsRunCause, RefusedRun, relay_ending_of};
+ghost use Rattle.ring_program.specs.Answers.{AnswersRun, EndsRun, IsOutOfMemory, IsRunCause, RefusedRun, TellsRun, relay_ending_of};
 ghost use Rattle.ring_program.specs.Runs.{run_item, run_items};
-ghost use Rattle.ring_program.specs.Texts.{closed_line, pace_line, pace_of, relay_report_of, relay_text_of, run_text_of};
+ghost use Rattle.ring_program.specs.Texts.{closed_line, pace_line, pace_of, relay_report_of, relay_text_of};
 ghost use Rattle.ring_program.specs.declared.run_line.TheConstants.{ITEM_LIMIT};
 
 use crate::answers::{Answer, Ending, conclude, write_whole};
 use crate::faults::{AppFault, Refusal};
-use crate::lines::push_count;
-use crate::run_line::{RingKind, Run};
+use crate::lines::{push_count, push_list};
+use crate::run_line::{RingKind, Run, RunText};
 use bits_core::{Flip, Shape};
-use ring_run::{Limits, Outcome, RunFault, YieldGate, relay_counter, relay_flicker};
+use queue_calls::Word;
+use ring_run::{
+    Gate, Limits, Outcome, Recorder, RunFault, Slot, YieldGate, relay_counter, relay_flicker,
+};
 use std::alloc::Allocator;
 use std::io;
 use std::io::Write;
 use std::thread::Threads;
 use std::time::{Clock, Duration, Instant};
+
+/// How many lines of either side a recording has room for at most.
+const RECORDED: usize = 1 << 21;
 
 // An item of so many binary digits.
 fn run_item(width: u64, number: u64) -> u64
@@ -119,22 +128,63 @@ pub fn relay_report<A: Allocator, B: Allocator>(
     Ok(text)
 }
 
-// The text of a run: with a report, where one was asked for.
-fn run_text<A: Allocator, B: Allocator>(
+// What was recorded, as a recording of a queue of the ring's capacity.
+fn recording_text<A: Allocator + Copy>(
     alloc: A,
-    report: bool,
+    shape: &Shape,
+    recorder: &Recorder<'_>,
+) -> Result<String<A>, AppFault>
+    ensures text { IfOk result (λ text. (events : List Event) × IsRecording (string_bytes text) (exactly (capacity_of shape.now)) events) }
+    ensures memory { IfErr result (λ e. e ≡ AppFault.OutOfMemory) }
+{
+    let mut text = String::new(alloc);
+    push_list(&mut text, Word::Queue.text(), &[shape.capacity()])?;
+    let mut numbers = Vec::new(alloc);
+    let mut lines = recorder.lines();
+    'lines: for _ in 0..u64::MAX {
+        let Some(word) = lines.next(&mut numbers)? else {
+            return Ok(text);
+        };
+        push_list(&mut text, word.text(), numbers.as_slice())?;
+    }
+    Ok(text)
+}
+
+// The text of a run.
+fn run_text<A: Allocator + Copy, B: Allocator>(
+    alloc: A,
+    text: RunText,
+    shape: &Shape,
+    recorder: &Recorder<'_>,
     outcome: &Outcome<B>,
     time: Option<Duration>,
 ) -> Result<String<A>, AppFault>
-    ensures text { IfOk result (λ text. string_bytes text ≡ run_text_of report outcome.now.put outcome.now.calls outcome.now.full
-        (length outcome.now.taken.items) outcome.now.empty outcome.now.closed (option_map as_nanos time)) }
+    ensures text { IfOk result (λ told. TellsRun text shape.now outcome.now.put outcome.now.calls outcome.now.full
+        (length outcome.now.taken.items) outcome.now.empty outcome.now.closed (option_map as_nanos time) (string_bytes told)) }
     ensures memory { IfErr result (λ e. e ≡ AppFault.OutOfMemory) }
 {
-    if report {
-        relay_report(alloc, outcome, time)
-    } else {
-        relay_text(alloc, outcome)
+    match text {
+        RunText::Totals => relay_text(alloc, outcome),
+        RunText::Report => relay_report(alloc, outcome, time),
+        RunText::Recording => recording_text(alloc, shape, recorder),
     }
+}
+
+// Room for a recording of so many lines of one side.
+fn slots_for<A: Allocator>(alloc: A, text: RunText) -> Result<Vec<Slot, A>, AppFault>
+    ensures memory { IfErr result (λ e. e ≡ AppFault.OutOfMemory) }
+{
+    let count = match text {
+        RunText::Totals | RunText::Report => 0,
+        RunText::Recording => RECORDED,
+    };
+    let mut slots = Vec::with_capacity(alloc, count)?;
+    for _ in 0..count {
+        if slots.push(Slot::new()).is_err() {
+            return Err(AppFault::OutOfMemory);
+        }
+    }
+    Ok(slots)
 }
 
 // The time since the start, where the clock told both.
@@ -158,13 +208,14 @@ fn relay_ending(closed: bool) -> Ending
 
 // Relays the items through a new ring of this kind. Where its loads do not agree, an end of a flickering ring answers 0 and
 // 1 in turn.
-fn relay_through<R: Threads, A: Allocator + Copy>(
+fn relay_through<R: Threads, A: Allocator + Copy, G: Gate + Sync>(
     rt: &R,
     alloc: A,
     ring: RingKind,
     shape: Shape,
     items: &[u64],
     limits: Limits,
+    gate: &G,
 ) -> Result<Outcome<A>, RunFault>
     requires fit { AllFit shape items.now }
     ensures counted { IfOk result (λ r. IsRelayed shape items.now limits.puts limits.takes r.put r.calls r.full r.taken.items r.empty r.closed) }
@@ -181,9 +232,34 @@ fn relay_through<R: Threads, A: Allocator + Copy>(
             Flip::new(),
             items,
             limits,
-            &YieldGate,
+            gate,
         ),
-        RingKind::Counter => relay_counter(rt, alloc, shape, items, limits, &YieldGate),
+        RingKind::Counter => relay_counter(rt, alloc, shape, items, limits, gate),
+    }
+}
+
+// The same, with the calls recorded where that was asked for.
+fn relay_run<R: Threads, A: Allocator + Copy>(
+    rt: &R,
+    alloc: A,
+    run: &Run,
+    shape: Shape,
+    items: &[u64],
+    recorder: &Recorder<'_>,
+) -> Result<Outcome<A>, RunFault>
+    requires fit { AllFit shape items.now }
+    ensures counted { IfOk result (λ r. IsRelayed shape items.now run.now.limits.puts run.now.limits.takes r.put r.calls r.full r.taken.items r.empty r.closed) }
+    ensures prefix { IfOk result (λ r. IsBeginning r.taken.items (take r.put items.now)) }
+    ensures all { IfOk result (λ r. r.closed ≡ true → (r.put ≡ length items.now) × (r.taken.items ≡ items.now)) }
+    ensures within { IfOk result (λ r. r.put ≤ length r.taken.items + capacity_of shape) }
+{
+    match run.text {
+        RunText::Totals | RunText::Report => {
+            relay_through(rt, alloc, run.ring, shape, items, run.limits, &YieldGate)
+        }
+        RunText::Recording => {
+            relay_through(rt, alloc, run.ring, shape, items, run.limits, recorder)
+        }
     }
 }
 
@@ -200,10 +276,14 @@ fn run_answer<R: Threads + Clock, A: Allocator + Copy>(
 {
     let shape = Shape::with_batch(run.capacity, run.modulus, run.width, run.batch)?;
     let items = items_of(alloc, &run)?;
+    let puts = slots_for(alloc, run.text)?;
+    let takes = slots_for(alloc, run.text)?;
+    let recorder = Recorder::new(puts.as_slice(), takes.as_slice());
     let start = Instant::now(rt);
-    let outcome = relay_through(rt, alloc, run.ring, shape, items.as_slice(), run.limits)?;
+    let offered = items.as_slice();
+    let outcome = relay_run(rt, alloc, &run, shape, offered, &recorder)?;
     let time = time_since(rt, start);
-    let text = run_text(alloc, run.report, &outcome, time)?;
+    let text = run_text(alloc, run.text, &shape, &recorder, &outcome, time)?;
     let ending = relay_ending(outcome.closed);
     Ok(Answer { text, ending })
 }

@@ -1,6 +1,6 @@
 -- What a take that finds the ring empty says of the puts that its taker knows.
 use Rattle.std.proofs.lemmas.Bool.Decides.{nat_tests}
-use Rattle.std.proofs.Common.{◌≡◌, ◌⊎◌, inl, inr, ⊎_elim, ℕ, zero, suc, ◌+◌, ◌-◌, ◌*◌, ◌<◌, ◌≤◌, nat_le, if◌then◌else◌, Bool, true, false, Some, None, List, [], ◌∷◌, ◌++◌, length, take, refl, ap, sym, subst, ◌∙◌, arith, append-nil, append_assoc, length-append}
+use Rattle.std.proofs.Common.{◌≡◌, ⊎_elim, ℕ, zero, suc, ◌+◌, ◌-◌, ◌*◌, ◌<◌, ◌≤◌, nat_le, if◌then◌else◌, Bool, true, false, Some, None, List, [], ◌∷◌, ◌++◌, length, take, refl, ap, sym, subst, ◌∙◌, arith, append-nil, append_assoc, length-append}
 use Rattle.std.specs.Prelude.{slice_get}
 use native.Mathlib.Decide.{dec_lt}
 use Rattle.bits_core.specs.declared.events.Side.{Side}
@@ -10,12 +10,11 @@ use Rattle.bits_core.specs.declared.events.Event.{Event}
 use Rattle.bits_core.specs.declared.shapes.Shape.{Shape}
 use Rattle.bits_core.specs.Bits.{is_by}
 use Rattle.bits_core.specs.Intervals.{IsWrite}
-use Rattle.bits_core.specs.Shape.{width_of}
 use Rattle.bits_core.specs.Laws.{MadeIsAccess}
 use Rattle.bits_core.specs.Made.{Made, Write, events_of, own, clock, place_of, IsPlaceOf, IsBeginning}
 use Rattle.ring_core.specs.declared.consumers.TakeReply.TheVariants as reply
 use Rattle.ring_core.specs.Counts.{Count, first_count, past}
-use Rattle.ring_core.specs.Puts.{Put, Stored, Full, Puts, stored_in, stored_after, put_phrase, put_phrases, close_phrase, put_program}
+use Rattle.ring_core.specs.Puts.{Put, Stored, Full, Puts, stored_after, put_phrase, put_phrases, close_phrase, put_program}
 use Rattle.ring_core.specs.Takes.{Take, Item, ItemAfterClose, Empty, End, Open, Takes, taken_in, taken_after, take_phrase, take_phrases, end_phrase, take_program}
 use Rattle.ring_core.specs.Items.{events_in, items_taken, all_put, all_taken}
 use Rattle.ring_core.specs.CallsAt.{IsTakeAt, items_ended, puts_ended, takes_ended}

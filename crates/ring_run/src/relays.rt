@@ -69,7 +69,10 @@ fn put_in_order<E: PutEnd, G: Gate>(
     'puts: while put < items.len() && made < limit {
         gate.pass(Side::P, made);
         let next = put + next_batch(&shape, items.len() - put);
-        match putter.put_all(&items[put..next]) {
+        gate.put_begins(&items[put..next]);
+        let reply = putter.put_all(&items[put..next]);
+        gate.put_ended(&items[put..next], reply);
+        match reply {
             BatchReply::Stored(stored) => {
                 put += stored as usize;
                 made += 1;
@@ -82,7 +85,9 @@ fn put_in_order<E: PutEnd, G: Gate>(
         }
     }
     if put == items.len() {
+        gate.close_begins();
         putter.close();
+        gate.close_ended();
     }
     (put as u64, made, full)
 }
@@ -109,7 +114,10 @@ fn take_all<A: Allocator, E: TakeEnd, G: Gate>(
     let mut closed = false;
     'takes: while !closed && items.len() as u64 + empty < limit {
         gate.pass(Side::C, items.len() as u64 + empty);
-        match taker.take() {
+        gate.take_begins();
+        let reply = taker.take();
+        gate.take_ended(reply);
+        match reply {
             TakeReply::Item(item) => items.push(item)?,
             TakeReply::Empty => empty += 1,
             TakeReply::Closed => closed = true,
@@ -196,7 +204,7 @@ fn relay_into<R: Threads, A: Allocator, E: PutEnd + Send, F: TakeEnd + Send, G: 
 /// shape's batch has, goes on behind those that were stored, and closes behind the last; so a put that found the ring
 /// full is made again. The other side takes until it is told that the ring is closed. Neither makes more puts or takes
 /// than its limit (the close is not counted), and each passes the gate before each of them, with the number that it has
-/// made.
+/// made. The gate is told where each put, each take and the close begins and where it ends, by the thread that makes it.
 ///
 /// The ends have made no call yet, and every item has to fit the width. It takes memory for the items that are taken:
 /// before any call it makes room for as many as there are items, or takes by the limit where these are fewer.

@@ -1,4 +1,4 @@
-use queue_calls::{CallAuditor, Event, Fault};
+use queue_calls::{CallAuditor, Event, Fault, exactly};
 use refusing::Refusing;
 use std::alloc::AllocGlobal;
 use std::process::Abort;
@@ -7,11 +7,11 @@ use std::test::Fail;
 #[test]
 fn a_refused_growth_leaves_the_auditor(rt: HostRuntime) -> Result<(), Fail> {
     let alloc = Refusing::after(rt.alloc(), 0);
-    let mut auditor = CallAuditor::new(&alloc, 4);
+    let mut auditor = CallAuditor::new(&alloc, exactly(4));
     assert!(rt; auditor.feed(Event::PutBegins(&[1, 2, 3])) == Err(Fault::OutOfMemory));
     assert!(rt; auditor.feed(Event::PutBegins(&[1, 2, 3])) == Ok(()));
     assert!(rt; auditor.feed(Event::PutStored(3)) == Ok(()));
-    assert!(rt; auditor.feed(Event::TakeBegins) == Ok(()));
-    assert!(rt; auditor.feed(Event::TakeItem(1)) == Ok(()));
+    assert!(rt; auditor.feed(Event::TakeBegins(2)) == Ok(()));
+    assert!(rt; auditor.feed(Event::TakeItems(&[1, 2])) == Ok(()));
     Ok(())
 }

@@ -1,7 +1,9 @@
-//! Tests of the auditor of histories of calls.
+//! Tests of the auditor of histories of calls, and of the reader of recordings.
 #![tactic(auto)]
 
 #[cfg(test)]
 mod growths;
 #[cfg(test)]
 mod histories;
+#[cfg(test)]
+mod recordings;

@@ -312,7 +312,7 @@ const WORDS: [(&[&str], u8, &str); 8] = [
     (
         RUN_HELP,
         0,
-        "Usage: lamport_ring run --capacity B --modulus M --width W --count N --limit L\n       [--takes T] [--batch G] [--ring RING] [--report]\n",
+        "Usage: lamport_ring run --capacity B --modulus M --width W --count N --limit L\n       [--takes T] [--batch G] [--ring RING] [--report | --record]\n",
     ),
     (
         RUN_HELP,

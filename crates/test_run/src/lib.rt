@@ -17,6 +17,8 @@ mod observed;
 #[cfg(test)]
 mod oracles;
 #[cfg(test)]
+mod recordings;
+#[cfg(test)]
 mod relay_growths;
 #[cfg(test)]
 mod room;

@@ -1,11 +1,13 @@
 use Rattle.std.proofs.Common.{rules, ◌≡◌, ◌∙◌, ap, ap₂, codes}
 use Rattle.clap.specs.Simple.{app_of_fields}
 use Rattle.clap.specs.Words.{app_of, new_app, rule_of, with_rule}
-use Rattle.ring_program.specs.CommandLine.{bits}
+use Rattle.ring_program.specs.CommandLine.{bits, calls}
 use Rattle.ring_program.proofs.command_line.audit.Goals as goal
 
 pub returns-clause-made : goal.returns-clause-made
 returns-clause-made c =
     let bits_is : rule_of c.help-bits.result ≡ bits = search rules in
-    let named : app_of c.after_help.result ≡ new_app (codes "audit") = ap app_of_fields c.after_help.ensures ∙ ap app_of_fields c.override_usage.ensures ∙ ap app_of_fields c.about.ensures ∙ c.new-2.ensures.app in
-    c.in_ok-command.ensures.shape (search rules) ∙ ap₂ with_rule named bits_is
+    let named : app_of c.after_help.result ≡ new_app (codes "audit") = ap app_of_fields c.after_help.ensures ∙ ap app_of_fields c.override_usage.ensures ∙ ap app_of_fields c.about.ensures ∙ c.new-3.ensures.app in
+    let calls_is : rule_of c.help-calls.result ≡ calls = search rules in
+    let one : app_of c.in_ok-command.command ≡ with_rule (new_app (codes "audit")) bits = c.in_ok-command.ensures.shape (search rules) ∙ ap₂ with_rule named bits_is in
+    c.in_ok-command-2.ensures.shape (search rules) ∙ ap₂ with_rule one calls_is

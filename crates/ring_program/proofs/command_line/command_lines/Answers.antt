@@ -11,6 +11,14 @@ pub returns-clause-audit_bits : goal.returns-clause-audit_bits
 unfolding clap_on_literals application request_of
 returns-clause-audit_bits c name = refl
 
+pub returns-clause-audit_calls : goal.returns-clause-audit_calls
+unfolding clap_on_literals application request_of
+returns-clause-audit_calls c name = refl
+
+pub returns-clause-audit_both : goal.returns-clause-audit_both
+unfolding clap_on_literals application request_of
+returns-clause-audit_both c name = refl
+
 pub returns-clause-twice : goal.returns-clause-twice
 unfolding clap_on_literals application request_of
 returns-clause-twice c name = refl
@@ -50,3 +58,11 @@ returns-clause-torus c name = refl
 pub returns-clause-run_with_report : goal.returns-clause-run_with_report
 unfolding clap_on_literals application request_of
 returns-clause-run_with_report c name = refl
+
+pub returns-clause-run_with_record : goal.returns-clause-run_with_record
+unfolding clap_on_literals application request_of
+returns-clause-run_with_record c name = refl
+
+pub returns-clause-run_with_both : goal.returns-clause-run_with_both
+unfolding clap_on_literals application request_of
+returns-clause-run_with_both c name = refl

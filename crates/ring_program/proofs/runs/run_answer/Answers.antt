@@ -8,14 +8,14 @@ use Rattle.ring_program.specs.Runs.{run_items}
 use Rattle.ring_program.proofs.RunItems.{run_items_fit}
 use Rattle.ring_program.proofs.runs.run_answer.Goals as goal
 
-pub relay_through-requires : goal.relay_through-requires
-relay_through-requires g c =
-    let is = c.as_slice.ensures.value ∙ c.in_ok-items.ensures.items in
+pub relay_run-requires : goal.relay_run-requires
+relay_run-requires g c =
+    let is = c.as_slice-offered.ensures.value ∙ c.in_ok-items.ensures.items in
     record { fit = subst (AllFit c.in_ok-shape.shape) (sym is) (run_items_fit c.in_ok-shape.shape c.args.run c.in_ok-shape.ensures.width_is) }
 
 pub returns-clause-answered : goal.returns-clause-answered
 returns-clause-answered g c =
-    let is : c.as_slice.result.now ≡ run_items c.args.run = c.as_slice.ensures.value ∙ c.in_ok-items.ensures.items in
+    let is : c.as_slice-offered.result.now ≡ run_items c.args.run = c.as_slice-offered.ensures.value ∙ c.in_ok-items.ensures.items in
     let o = c.in_ok-outcome.outcome in
     let run = c.args.run in
     let told = c.in_ok-outcome.ensures in

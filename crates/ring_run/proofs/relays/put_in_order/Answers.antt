@@ -13,8 +13,8 @@ puts-init g c =
     let e = g.E.PutEnd.end c.args.putter.now in
     (c.requires.idle, record { ring = refl; side = refl; known = refl }, no_puts_are e.ring.shape e.list c.args.items.now c.requires.fresh, omega arith, omega arith, refl, refl, c.shape-shape.ensures.shape)
 
-pub put_all-requires-clause-batch : goal.put_all-requires-clause-batch
-put_all-requires-clause-batch g c =
+pub put_all-reply-requires-clause-batch : goal.put_all-reply-requires-clause-batch
+put_all-reply-requires-clause-batch g c =
     let b = g.E.PutEnd.end c.puts.putter in
     let i = c.puts.invariant in
     let n = c.next_batch.ensures in
@@ -27,7 +27,7 @@ put_all-requires-clause-batch g c =
 pub puts-preserved-in-Stored : goal.puts-preserved-in-Stored
 puts-preserved-in-Stored g c =
     let a = g.E.PutEnd.end c.puts.putter in
-    let b = g.E.PutEnd.end c.put_all.new.self in
+    let b = g.E.PutEnd.end c.put_all-reply.new.self in
     let i = c.puts.invariant in
     let s = c.in-Stored.ensures in
     let given : List ℕ = take (c.puts.put + c.next_batch.result - c.puts.put) (drop c.puts.put c.args.items.now) in
@@ -50,7 +50,7 @@ puts-preserved-in-Stored g c =
 pub puts-preserved : goal.puts-preserved
 puts-preserved g c =
     let a = g.E.PutEnd.end c.puts.putter in
-    let b = g.E.PutEnd.end c.put_all.new.self in
+    let b = g.E.PutEnd.end c.put_all-reply.new.self in
     let i = c.puts.invariant in
     let s = c.in-Full.ensures in
     let given : List ℕ = take (c.puts.put + c.next_batch.result - c.puts.put) (drop c.puts.put c.args.items.now) in

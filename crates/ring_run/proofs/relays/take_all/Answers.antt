@@ -19,7 +19,7 @@ takes-init g c =
 pub takes-preserved-in-Continue-1 : goal.takes-preserved-in-Continue-1
 takes-preserved-in-Continue-1 g c =
     let a = g.E.TakeEnd.end c.takes.taker in
-    let b = g.E.TakeEnd.end c.take.new.self in
+    let b = g.E.TakeEnd.end c.take-reply.new.self in
     let i = c.takes.invariant in
     let s = c.in-Item.ensures in
     let yet : c.takes.closed ≡ false = c.takes-test.true in
@@ -37,7 +37,7 @@ takes-preserved-in-Continue-1 g c =
 pub takes-preserved-in-Empty : goal.takes-preserved-in-Empty
 takes-preserved-in-Empty g c =
     let a = g.E.TakeEnd.end c.takes.taker in
-    let b = g.E.TakeEnd.end c.take.new.self in
+    let b = g.E.TakeEnd.end c.take-reply.new.self in
     let i = c.takes.invariant in
     let s = c.in-Empty.ensures in
     let yet : c.takes.closed ≡ false = c.takes-test.true in
@@ -55,7 +55,7 @@ takes-preserved-in-Empty g c =
 pub takes-preserved : goal.takes-preserved
 takes-preserved g c =
     let a = g.E.TakeEnd.end c.takes.taker in
-    let b = g.E.TakeEnd.end c.take.new.self in
+    let b = g.E.TakeEnd.end c.take-reply.new.self in
     let i = c.takes.invariant in
     let s = c.in-Closed.ensures in
     let yet : c.takes.closed ≡ false = c.takes-test.true in
@@ -72,7 +72,7 @@ takes-preserved g c =
 pub returns-in_err-push-in-Item-clause-fault : goal.returns-in_err-push-in-Item-clause-fault
 returns-in_err-push-in-Item-clause-fault g c =
     let a = g.E.TakeEnd.end c.takes.taker in
-    let b = g.E.TakeEnd.end c.take.new.self in
+    let b = g.E.TakeEnd.end c.take-reply.new.self in
     let i = c.takes.invariant in
     let s = c.in-Item.ensures in
     let yet : c.takes.closed ≡ false = c.takes-test.true in

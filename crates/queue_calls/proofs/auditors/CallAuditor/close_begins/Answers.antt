@@ -3,6 +3,7 @@ use Rattle.queue_calls.specs.Calls.{CloseBegin}
 use Rattle.queue_calls.specs.declared.turns.PutTurn.{PutTurn}
 use Rattle.queue_calls.specs.declared.turns.PutTurn.TheVariants.{Closes}
 use Rattle.queue_calls.specs.State.{Keeps}
+use Rattle.queue_calls.specs.Told.{meant}
 use Rattle.queue_calls.proofs.Keeping.{Accepts}
 use Rattle.queue_calls.proofs.Closing.{close_begin}
 use Rattle.queue_calls.proofs.OutOfTurn.{away_close, busy}
@@ -13,7 +14,7 @@ returns-in-Offers g c = (
   refl,
   λ h k.
       let s = c.args.self.now in
-      away_close s.capacity h s.inside.items s.put s.take s.shut k (busy s.put c.in-Offers.is),
+      away_close (meant s.capacity) h s.inside.items s.put s.take s.shut k (busy s.put c.in-Offers.is),
 )
 
 pub returns-in-Free : goal.returns-in-Free
@@ -21,6 +22,6 @@ returns-in-Free g c = (
   refl,
   λ h k.
       let s = c.args.self.now in
-      let F : PutTurn → Type 0 = λ z. Keeps s.capacity h s.inside.items z s.take s.shut → Accepts s.capacity h CloseBegin s.inside.items (Closes s.shut) s.take s.shut in
-      subst F (sym c.in-Free.is) (λ j. close_begin s.capacity h s.inside.items s.take s.shut j) k,
+      let F : PutTurn → Type 0 = λ z. Keeps (meant s.capacity) h s.inside.items z s.take s.shut → Accepts (meant s.capacity) h CloseBegin s.inside.items (Closes s.shut) s.take s.shut in
+      subst F (sym c.in-Free.is) (λ j. close_begin (meant s.capacity) h s.inside.items s.take s.shut j) k,
 )

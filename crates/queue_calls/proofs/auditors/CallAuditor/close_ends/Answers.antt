@@ -3,6 +3,7 @@ use Rattle.queue_calls.specs.Calls.{CloseEnd}
 use Rattle.queue_calls.specs.declared.turns.PutTurn.{PutTurn}
 use Rattle.queue_calls.specs.declared.turns.PutTurn.TheVariants.{Free}
 use Rattle.queue_calls.specs.State.{Keeps}
+use Rattle.queue_calls.specs.Told.{meant}
 use Rattle.queue_calls.proofs.Keeping.{Accepts}
 use Rattle.queue_calls.proofs.Closing.{close_end}
 use Rattle.queue_calls.proofs.OutOfTurn.{away_close_end, no_close}
@@ -13,7 +14,7 @@ returns-in-Free g c = (
   refl,
   λ h k.
       let s = c.args.self.now in
-      away_close_end s.capacity h s.inside.items s.put s.take s.shut k (no_close s.put c.in-Free.is),
+      away_close_end (meant s.capacity) h s.inside.items s.put s.take s.shut k (no_close s.put c.in-Free.is),
 )
 
 pub returns-in-Closes : goal.returns-in-Closes
@@ -22,6 +23,6 @@ returns-in-Closes g c = (
   λ h k.
       let s = c.args.self.now in
       let i = c.in-Closes.is in
-      let F : PutTurn → Type 0 = λ z. Keeps s.capacity h s.inside.items z s.take s.shut → Accepts s.capacity h CloseEnd s.inside.items Free s.take true in
-      subst F (sym i) (λ j. close_end s.capacity h s.inside.items s.take c.in-Closes.again s.shut j) k,
+      let F : PutTurn → Type 0 = λ z. Keeps (meant s.capacity) h s.inside.items z s.take s.shut → Accepts (meant s.capacity) h CloseEnd s.inside.items Free s.take true in
+      subst F (sym i) (λ j. close_end (meant s.capacity) h s.inside.items s.take c.in-Closes.again s.shut j) k,
 )

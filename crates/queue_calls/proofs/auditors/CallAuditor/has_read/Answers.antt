@@ -1,8 +1,9 @@
+use Rattle.queue_calls.specs.Told.{meant}
 use Rattle.queue_calls.proofs.Keeping.{some}
 use Rattle.queue_calls.proofs.auditors.CallAuditor.has_read.Goals as goal
 
 pub returns : goal.returns
 returns g c h k =
     let s = c.args.self.now in
-    let (t, d, told) = some s.capacity s.inside.items s.put s.take s.shut k.few k.put_ok in
-    (t, k.sound t d told)
+    let (t, d, told) = some (meant s.capacity) s.inside.items s.put s.take s.shut k.few in
+    (t, k.sound t d (told k.late))

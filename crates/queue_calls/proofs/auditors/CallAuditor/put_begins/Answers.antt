@@ -1,9 +1,11 @@
-use Rattle.std.proofs.Common.{refl, sym, subst, ◌∙◌, ◌++◌, [], ℕ, length, Bool, true, false, List, ◌∷◌, arith, leb, leb-true, leb-false}
+use Rattle.std.proofs.Common.{refl, inl, inr, sym, subst, ◌∙◌, ◌++◌, [], ℕ, length, Bool, true, false, List, ◌∷◌, arith, ◌≡◌, ◌≢◌, true-eqb, false-eqb}
 use Rattle.queue_calls.specs.Calls.{PutBegin}
+use Rattle.queue_calls.specs.declared.capacities.Capacity.{Capacity}
 use Rattle.queue_calls.specs.declared.turns.PutTurn.{PutTurn}
 use Rattle.queue_calls.specs.declared.turns.PutTurn.TheVariants.{Free, Offers, Late}
 use Rattle.queue_calls.specs.declared.turns.TakeTurn.{TakeTurn}
 use Rattle.queue_calls.specs.State.{Keeps}
+use Rattle.queue_calls.specs.Told.{meant}
 use Rattle.queue_calls.proofs.Keeping.{Accepts}
 use Rattle.queue_calls.proofs.PutBegins.{put_begin, late_begin}
 use Rattle.queue_calls.proofs.OutOfTurn.{away_begin, busy}
@@ -14,7 +16,15 @@ returns-in-Offers g c = (
   refl,
   λ h k.
       let s = c.args.self.now in
-      away_begin s.capacity h s.inside.items s.put s.take s.shut k c.args.items.now (busy s.put c.in-Offers.is),
+      away_begin (meant s.capacity) h s.inside.items s.put s.take s.shut k c.args.items.now (inl (busy s.put c.in-Offers.is)),
+)
+
+pub returns-then-is_empty : goal.returns-then-is_empty
+returns-then-is_empty g c = (
+  refl,
+  λ h k.
+      let s = c.args.self.now in
+      away_begin (meant s.capacity) h s.inside.items s.put s.take s.shut k c.args.items.now (inr (true-eqb (length c.args.items.now) 0 c.if-is_empty.ensures)),
 )
 
 pub returns-then-self : goal.returns-then-self
@@ -22,10 +32,12 @@ returns-then-self g c = (
   refl,
   λ h k.
       let s = c.args.self.now in
-      let G : PutTurn → Bool → Type 0 = λ z b. Keeps s.capacity h s.inside.items z s.take b in
-      let R : Bool → Type 0 = λ b. Accepts s.capacity h (PutBegin c.args.items.now) s.inside.items Late s.take b in
+      let items : List ℕ = c.args.items.now in
+      let G : PutTurn → Bool → Type 0 = λ z b. Keeps (meant s.capacity) h s.inside.items z s.take b in
+      let R : Bool → Type 0 = λ b. Accepts (meant s.capacity) h (PutBegin items) s.inside.items (Late (length items)) s.take b in
       let j : G Free true = subst (λ b. G Free b) c.if-self.true (subst (λ z. G z s.shut) c.in-Free.is k) in
-      subst R (sym c.if-self.true) (late_begin s.capacity h s.inside.items c.args.items.now s.take j),
+      let some : length items ≢ 0 = false-eqb (length items) 0 c.if-is_empty.ensures in
+      subst R (sym c.if-self.true) (late_begin (meant s.capacity) h s.inside.items items s.take j (omega (arith, some))),
 )
 
 pub returns : goal.returns
@@ -35,16 +47,17 @@ returns g c = (
       let s = c.args.self.now in
       let n = c.holds.new.self in
       let items : List ℕ = c.args.items.now in
-      let full : Bool = leb s.capacity c.len.result in
-      let G : PutTurn → Bool → Type 0 = λ z b. Keeps s.capacity h s.inside.items z s.take b in
-      let K : ℕ → List ℕ → TakeTurn → Bool → Type 0 = λ b l t z. Keeps b (h ++ PutBegin items ∷ []) l (Offers (length items) full) t z in
+      let before : ℕ = c.len-before.result in
+      let is_before : before ≡ length s.inside.items = omega (arith, c.len-before.ensures, s.inside.ok.0) in
+      let some : length items ≢ 0 = false-eqb (length items) 0 c.if-is_empty.ensures in
+      let G : PutTurn → Bool → Type 0 = λ z b. Keeps (meant s.capacity) h s.inside.items z s.take b in
+      let K : Capacity → List ℕ → ℕ → TakeTurn → Bool → Type 0 = λ b l i t z. Keeps (meant b) (h ++ PutBegin items ∷ []) l (Offers (length items) i) t z in
       let j : G Free false = subst (λ b. G Free b) c.if-self.false (subst (λ z. G z s.shut) c.in-Free.is k) in
-      let (a, b) = put_begin s.capacity h s.inside.items items s.take j full
-      (λ e. omega (arith, leb-true s.capacity c.len.result e, c.len.ensures, s.inside.ok.0))
-      (λ e. omega (arith, leb-false s.capacity c.len.result e, c.len.ensures, s.inside.ok.0)) in
-      let a1 : K s.capacity (s.inside.items ++ items) s.take n.shut = subst (λ z. K s.capacity (s.inside.items ++ items) s.take z) (sym (c.if-not-holds.ensures.shut ∙ c.if-self.false)) a in
-      let a2 : K s.capacity (s.inside.items ++ items) n.take n.shut = subst (λ z. K s.capacity (s.inside.items ++ items) z n.shut) (sym c.if-not-holds.ensures.take) a1 in
-      let a3 : K s.capacity n.inside.items n.take n.shut = subst (λ z. K s.capacity z n.take n.shut) (sym c.if-not-holds.ensures.inside) a2 in
-      let a4 : K n.capacity n.inside.items n.take n.shut = subst (λ z. K z n.inside.items n.take n.shut) (sym c.if-not-holds.ensures.capacity) a3 in
+      let (a, b) = put_begin (meant s.capacity) h s.inside.items items s.take j (omega (arith, some)) in
+      let a0 : K s.capacity (s.inside.items ++ items) before s.take false = subst (λ z. K s.capacity (s.inside.items ++ items) z s.take false) (sym is_before) a in
+      let a1 : K s.capacity (s.inside.items ++ items) before s.take n.shut = subst (λ z. K s.capacity (s.inside.items ++ items) before s.take z) (sym (c.if-not-holds.ensures.shut ∙ c.if-self.false)) a0 in
+      let a2 : K s.capacity (s.inside.items ++ items) before n.take n.shut = subst (λ z. K s.capacity (s.inside.items ++ items) before z n.shut) (sym c.if-not-holds.ensures.take) a1 in
+      let a3 : K s.capacity n.inside.items before n.take n.shut = subst (λ z. K s.capacity z before n.take n.shut) (sym c.if-not-holds.ensures.inside) a2 in
+      let a4 : K n.capacity n.inside.items before n.take n.shut = subst (λ z. K z n.inside.items before n.take n.shut) (sym c.if-not-holds.ensures.capacity) a3 in
       (a4, b),
 )

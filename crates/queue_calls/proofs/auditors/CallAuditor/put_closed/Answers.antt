@@ -3,6 +3,7 @@ use Rattle.queue_calls.specs.Calls.{PutClosed}
 use Rattle.queue_calls.specs.declared.turns.PutTurn.{PutTurn}
 use Rattle.queue_calls.specs.declared.turns.PutTurn.TheVariants.{Free}
 use Rattle.queue_calls.specs.State.{Keeps}
+use Rattle.queue_calls.specs.Told.{meant}
 use Rattle.queue_calls.proofs.Keeping.{Accepts, Refused}
 use Rattle.queue_calls.proofs.PutEnds.{put_closed, not_closed}
 use Rattle.queue_calls.proofs.OutOfTurn.{away_closed, no_put}
@@ -13,7 +14,7 @@ returns-in-Free g c = (
   refl,
   λ h k.
       let s = c.args.self.now in
-      away_closed s.capacity h s.inside.items s.put s.take s.shut k (no_put s.put c.in-Free.is),
+      away_closed (meant s.capacity) h s.inside.items s.put s.take s.shut k (λ n. no_put s.put n c.in-Free.is),
 )
 
 pub returns-in-Late : goal.returns-in-Late
@@ -21,8 +22,8 @@ returns-in-Late g c = (
   refl,
   λ h k.
       let s = c.args.self.now in
-      let F : PutTurn → Type 0 = λ z. Keeps s.capacity h s.inside.items z s.take s.shut → Accepts s.capacity h PutClosed s.inside.items Free s.take s.shut in
-      subst F (sym c.in-Late.is) (λ j. put_closed s.capacity h s.inside.items s.take s.shut j) k,
+      let F : PutTurn → Type 0 = λ z. Keeps (meant s.capacity) h s.inside.items z s.take s.shut → Accepts (meant s.capacity) h PutClosed s.inside.items Free s.take s.shut in
+      subst F (sym c.in-Late.is) (λ j. put_closed (meant s.capacity) h s.inside.items s.take s.shut c.in-Late.offered j) k,
 )
 
 pub returns-in-Offers : goal.returns-in-Offers
@@ -31,6 +32,6 @@ returns-in-Offers g c = (
   λ h k.
       let s = c.args.self.now in
       let i = c.in-Offers.is in
-      let F : PutTurn → Type 0 = λ z. Keeps s.capacity h s.inside.items z s.take s.shut → Refused s.capacity h PutClosed s.inside.items z s.take s.shut in
-      subst F (sym i) (λ j. not_closed s.capacity h s.inside.items s.take s.shut c.in-Offers.offered c.in-Offers.full j) k,
+      let F : PutTurn → Type 0 = λ z. Keeps (meant s.capacity) h s.inside.items z s.take s.shut → Refused (meant s.capacity) h PutClosed s.inside.items z s.take s.shut in
+      subst F (sym i) (λ j. not_closed (meant s.capacity) h s.inside.items s.take s.shut c.in-Offers.offered c.in-Offers.before j) k,
 )

@@ -1,20 +1,21 @@
-use Rattle.std.proofs.Common.{refl, inl, inr, sym, subst, ℕ, ◌-◌, Bool, true, List, arith}
+use Rattle.std.proofs.Common.{◌≡◌, inl, inr, true, false, refl, sym, ap, subst, ◌∙◌, [], ◌∷◌, ◌++◌, arith}
 use Rattle.queue_calls.specs.Calls.{PutFull}
 use Rattle.queue_calls.specs.declared.turns.PutTurn.{PutTurn}
-use Rattle.queue_calls.specs.declared.turns.PutTurn.TheVariants.{Free, Offers}
+use Rattle.queue_calls.specs.declared.turns.PutTurn.TheVariants.{Free}
 use Rattle.queue_calls.specs.State.{Keeps}
-use Rattle.queue_calls.proofs.Keeping.{Accepts, Refused}
+use Rattle.queue_calls.specs.Told.{meant}
+use Rattle.queue_calls.proofs.Keeping.{Refused, kept_as}
 use Rattle.queue_calls.proofs.PutEnds.{put_full, not_full, late_not_full}
 use Rattle.queue_calls.proofs.OutOfTurn.{away_full, no_put}
 use Rattle.queue_calls.proofs.auditors.CallAuditor.put_full.Goals as goal
-use Rattle.queue_calls.proofs.auditors.CallAuditor.put_full.Goals.{then-not-full-via-then-not-full, then-not-full-via-else-not-full+then-len-offered}
+use Rattle.queue_calls.proofs.auditors.CallAuditor.put_full.Goals.{then-not-may_lack-via-then-not-may_lack, then-not-may_lack-via-else-not-may_lack+then-not-ends_put}
 
 pub returns-in-Free : goal.returns-in-Free
 returns-in-Free g c = (
   refl,
   λ h k.
       let s = c.args.self.now in
-      away_full s.capacity h s.inside.items s.put s.take s.shut k (no_put s.put c.in-Free.is),
+      away_full (meant s.capacity) h s.inside.items s.put s.take s.shut k (λ n. no_put s.put n c.in-Free.is),
 )
 
 pub returns-in-Late : goal.returns-in-Late
@@ -22,34 +23,51 @@ returns-in-Late g c = (
   refl,
   λ h k.
       let s = c.args.self.now in
-      let F : PutTurn → Type 0 = λ z. Keeps s.capacity h s.inside.items z s.take s.shut → Refused s.capacity h PutFull s.inside.items z s.take s.shut in
-      subst F (sym c.in-Late.is) (λ j. late_not_full s.capacity h s.inside.items s.take s.shut j) k,
+      let F : PutTurn → Type 0 = λ z. Keeps (meant s.capacity) h s.inside.items z s.take s.shut → Refused (meant s.capacity) h PutFull s.inside.items z s.take s.shut in
+      subst F (sym c.in-Late.is) (λ j. late_not_full (meant s.capacity) h s.inside.items s.take s.shut c.in-Late.offered j) k,
 )
 
-pub returns-then-not-full : goal.returns-then-not-full
-returns-then-not-full g c = (
-  refl,
-  λ h k.
-      let s = c.args.self.now in
-      let F : PutTurn → Type 0 = λ z. Keeps s.capacity h s.inside.items z s.take s.shut → Refused s.capacity h PutFull s.inside.items z s.take s.shut in
-      subst F (sym c.in-Offers.is) (λ j. not_full s.capacity h s.inside.items s.take s.shut c.in-Offers.offered c.in-Offers.full j (elim c.then-not-full.branch [ then-not-full-via-then-not-full w ↦ inl w.if-not-full.true | then-not-full-via-else-not-full+then-len-offered w ↦ (let a = w.if-len-offered in inr (omega (arith, w.len.ensures, s.inside.ok.0, a.true))) ])) k,
-)
+pub returns-then-not-may_lack : goal.returns-then-not-may_lack
+returns-then-not-may_lack g c = elim c.then-not-may_lack.branch [
+  | then-not-may_lack-via-then-not-may_lack w ↦ (
+    ap (λ z. z.capacity) w.self-is,
+    λ h k.
+        let s = c.args.self.now in
+        let n = c.then-not-may_lack.self in
+        let F : PutTurn → Type 0 = λ z. Keeps (meant s.capacity) h s.inside.items z s.take s.shut in
+        let (a, b) = not_full (meant s.capacity) h s.inside.items s.take s.shut c.in-Offers.offered c.in-Offers.before (subst F c.in-Offers.is k)
+        (inl (λ f. elim f [ inl e ↦ omega (arith, e) | inr r ↦ (let x : false ≡ true = w.if-not-may_lack.ensures.1 r in cc) ])) in (
+          kept_as (meant s.capacity) (meant n.capacity) h s.inside.items n.inside.items s.put n.put s.take n.take s.shut n.shut (ap (λ z. meant z.capacity) w.self-is)
+              (ap (λ z. z.inside.items) w.self-is) (ap (λ z. z.put) w.self-is) (ap (λ z. z.take) w.self-is) (ap (λ z. z.shut) w.self-is) k,
+          b,
+        ),
+  )
+  | then-not-may_lack-via-else-not-may_lack+then-not-ends_put w ↦ (
+    ap (λ z. z.capacity) w.self-is ∙ w.if-not-ends_put.ensures.capacity,
+    λ h k.
+        let s = c.args.self.now in
+        let n = c.then-not-may_lack.self in
+        let e = w.if-not-ends_put.ensures in
+        let F : PutTurn → Type 0 = λ z. Keeps (meant s.capacity) h s.inside.items z s.take s.shut in
+        let (a, b) = not_full (meant s.capacity) h s.inside.items s.take s.shut c.in-Offers.offered c.in-Offers.before (subst F c.in-Offers.is k)
+        (inr (λ f. let x : false ≡ true = e.ends.1 f in cc)) in (
+          kept_as (meant s.capacity) (meant n.capacity) h s.inside.items n.inside.items s.put n.put s.take n.take s.shut n.shut
+              (ap (λ z. meant z.capacity) w.self-is ∙ ap meant e.capacity) (ap (λ z. z.inside.items) w.self-is ∙ e.inside) (ap (λ z. z.put) w.self-is ∙ e.put)
+              (ap (λ z. z.take) w.self-is ∙ e.take) (ap (λ z. z.shut) w.self-is ∙ e.shut) k,
+          b,
+        ),
+  )
+]
 
-pub returns-else-len-offered : goal.returns-else-len-offered
-returns-else-len-offered g c = (
-  refl,
+pub returns-else-not-ends_put : goal.returns-else-not-ends_put
+returns-else-not-ends_put g c = (
+  c.if-not-ends_put.ensures.capacity,
   λ h k.
       let s = c.args.self.now in
-      let i = c.in-Offers.is in
-      let F : PutTurn → Type 0 = λ z. Keeps s.capacity h s.inside.items z s.take s.shut → Accepts s.capacity h PutFull c.truncate.new.self.items Free s.take s.shut in
-      subst F (sym i)
-      (λ j.
-      let H : Bool → Type 0 = λ b. Keeps s.capacity h s.inside.items (Offers c.in-Offers.offered b) s.take s.shut in
-      let G : List ℕ → Type 0 = λ z. Accepts s.capacity h PutFull z Free s.take s.shut in
-      let j' : H true = subst H c.if-not-full.false j in
-      let kept : ℕ = c.len-in-Offers.result - c.in-Offers.offered in
-      subst G (sym c.truncate.ensures.items)
-      (put_full s.capacity h s.inside.items s.take s.shut c.in-Offers.offered kept j'
-      (omega (arith, c.len.ensures, c.len-in-Offers.ensures, s.inside.ok.0, c.if-len-offered.false))))
-      k,
+      let n = c.ends_put.new.self in
+      let e = c.if-not-ends_put.ensures in
+      let F : PutTurn → Type 0 = λ z. Keeps (meant s.capacity) h s.inside.items z s.take s.shut in
+      let (a, b) = put_full (meant s.capacity) h s.inside.items s.take s.shut c.in-Offers.offered c.in-Offers.before (subst F c.in-Offers.is k)
+      (inr (c.if-not-may_lack.ensures.0 refl)) (e.ends.0 refl) in
+      (kept_as (meant s.capacity) (meant n.capacity) (h ++ PutFull ∷ []) _ n.inside.items Free n.put s.take n.take s.shut n.shut (ap meant e.capacity) e.inside e.put e.take e.shut a, b),
 )

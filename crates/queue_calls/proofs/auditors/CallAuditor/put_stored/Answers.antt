@@ -1,28 +1,22 @@
-use Rattle.std.proofs.Common.{refl, inl, inr, sym, subst, ℕ, ◌-◌, List, arith}
+use Rattle.std.proofs.Common.{◌≡◌, inl, inr, suc, ◌+◌, ◌<◌, true, false, refl, sym, ap, subst, [], ◌∷◌, ◌++◌, arith}
+use Rattle.queue_calls.specs.Queue.{LacksRoom}
 use Rattle.queue_calls.specs.Calls.{PutStored}
 use Rattle.queue_calls.specs.declared.turns.PutTurn.{PutTurn}
 use Rattle.queue_calls.specs.declared.turns.PutTurn.TheVariants.{Free}
-use Rattle.queue_calls.specs.State.{Keeps}
-use Rattle.queue_calls.proofs.Keeping.{Accepts, Refused}
+use Rattle.queue_calls.specs.State.{Keeps, MayLack, call_of_put}
+use Rattle.queue_calls.specs.Told.{meant}
+use Rattle.queue_calls.proofs.Keeping.{Refused, kept_as}
 use Rattle.queue_calls.proofs.PutEnds.{put_stored, not_stored, late_not_stored}
-use Rattle.queue_calls.proofs.OutOfTurn.{away_stored, no_put}
+use Rattle.queue_calls.proofs.OutOfTurn.{away_stored, away_range, no_put}
 use Rattle.queue_calls.proofs.auditors.CallAuditor.put_stored.Goals as goal
+use Rattle.queue_calls.proofs.auditors.CallAuditor.put_stored.Goals.{else-count-offered-via-then-count-offered+else-not-may_lack, else-count-offered-via-else-count-offered}
 
 pub returns-in-Free : goal.returns-in-Free
 returns-in-Free g c = (
   refl,
   λ h k.
       let s = c.args.self.now in
-      away_stored s.capacity h s.inside.items s.put s.take s.shut k c.args.count (no_put s.put c.in-Free.is),
-)
-
-pub returns-in-Late : goal.returns-in-Late
-returns-in-Late g c = (
-  refl,
-  λ h k.
-      let s = c.args.self.now in
-      let F : PutTurn → Type 0 = λ z. Keeps s.capacity h s.inside.items z s.take s.shut → Refused s.capacity h (PutStored c.args.count) s.inside.items z s.take s.shut in
-      subst F (sym c.in-Late.is) (λ j. late_not_stored s.capacity h s.inside.items s.take s.shut c.args.count j) k,
+      away_stored (meant s.capacity) h s.inside.items s.put s.take s.shut k c.args.count (λ n. no_put s.put n c.in-Free.is),
 )
 
 pub returns-then-count-eq0 : goal.returns-then-count-eq0
@@ -30,39 +24,85 @@ returns-then-count-eq0 g c = (
   refl,
   λ h k.
       let s = c.args.self.now in
-      let F : PutTurn → Type 0 = λ z. Keeps s.capacity h s.inside.items z s.take s.shut → Refused s.capacity h (PutStored c.args.count) s.inside.items z s.take s.shut in
-      subst F (sym c.in-Offers.is) (λ j. not_stored s.capacity h s.inside.items s.take s.shut c.in-Offers.offered c.args.count c.in-Offers.full j (elim c.then-count-eq0.either [ inl a ↦ inl a | inr b ↦ inr (inl b.1) ])) k,
+      away_range (meant s.capacity) h s.inside.items s.put s.take s.shut k c.args.count c.in-Offers.offered (ap call_of_put c.in-Offers.is)
+      (elim c.then-count-eq0.either [ inl e ↦ inl (omega (arith, e)) | inr e ↦ inr (omega (arith, e.1)) ]),
 )
 
-pub returns-then-len-rest : goal.returns-then-len-rest
-returns-then-len-rest g c = (
+pub returns-then-count-eq0-2 : goal.returns-then-count-eq0-2
+returns-then-count-eq0-2 g c = (
   refl,
   λ h k.
       let s = c.args.self.now in
-      let F : PutTurn → Type 0 = λ z. Keeps s.capacity h s.inside.items z s.take s.shut → Refused s.capacity h (PutStored c.args.count) s.inside.items z s.take s.shut in
-      subst F (sym c.in-Offers.is) (λ j. not_stored s.capacity h s.inside.items s.take s.shut c.in-Offers.offered c.args.count c.in-Offers.full j (inr (inr (inl (omega (arith, c.len.ensures, s.inside.ok.0, c.if-len-rest.true)))))) k,
+      away_range (meant s.capacity) h s.inside.items s.put s.take s.shut k c.args.count c.in-Late.offered (ap call_of_put c.in-Late.is)
+      (elim c.then-count-eq0-2.either [ inl e ↦ inl (omega (arith, e)) | inr e ↦ inr (omega (arith, e.1)) ]),
 )
 
-pub returns-then-self-saturating_sub : goal.returns-then-self-saturating_sub
-returns-then-self-saturating_sub g c = (
+pub returns-else-offered-count-2 : goal.returns-else-offered-count-2
+returns-else-offered-count-2 g c = (
   refl,
   λ h k.
       let s = c.args.self.now in
-      let F : PutTurn → Type 0 = λ z. Keeps s.capacity h s.inside.items z s.take s.shut → Refused s.capacity h (PutStored c.args.count) s.inside.items z s.take s.shut in
-      subst F (sym c.in-Offers.is) (λ j. not_stored s.capacity h s.inside.items s.take s.shut c.in-Offers.offered c.args.count c.in-Offers.full j (inr (inr (inr (omega (arith, c.len.ensures, c.len-in-Offers.ensures, s.inside.ok.0, c.asked.ensures, c.saturating_sub.ensures, c.if-self-saturating_sub.true, c.if-offered-count.false, c.if-len-rest.false)))))) k,
+      let F : PutTurn → Type 0 = λ z. Keeps (meant s.capacity) h s.inside.items z s.take s.shut → Refused (meant s.capacity) h (PutStored c.args.count) s.inside.items z s.take s.shut in
+      subst F (sym c.in-Late.is)
+      (λ j.
+      late_not_stored (meant s.capacity) h s.inside.items s.take s.shut c.in-Late.offered j c.args.count (omega (arith, c.if-count-eq0-2.false))
+      (omega (arith, c.if-offered-count-2.false)))
+      k,
 )
 
-pub returns-else-self-saturating_sub : goal.returns-else-self-saturating_sub
-returns-else-self-saturating_sub g c = (
+pub returns-then-not-may_lack : goal.returns-then-not-may_lack
+returns-then-not-may_lack g c = (
   refl,
   λ h k.
       let s = c.args.self.now in
-      let F : PutTurn → Type 0 = λ z. Keeps s.capacity h s.inside.items z s.take s.shut → Accepts s.capacity h (PutStored c.args.count) c.truncate.new.self.items Free s.take s.shut in
-      let kept : ℕ = c.len-in-Offers.result - (c.in-Offers.offered - c.args.count) in
-      let G : List ℕ → Type 0 = λ z. Accepts s.capacity h (PutStored c.args.count) z Free s.take s.shut in
+      let F : PutTurn → Type 0 = λ z. Keeps (meant s.capacity) h s.inside.items z s.take s.shut → Refused (meant s.capacity) h (PutStored c.args.count) s.inside.items z s.take s.shut in
+      let one : suc c.args.count ≡ c.args.count + 1 = omega arith in
       subst F (sym c.in-Offers.is)
       (λ j.
-      subst G (sym c.truncate.ensures.items)
-      (put_stored s.capacity h s.inside.items s.take s.shut c.in-Offers.offered c.args.count kept c.in-Offers.full j (omega (arith, c.if-count-eq0.false)) (omega (arith, c.if-offered-count.false)) (omega (arith, c.len.ensures, c.len-in-Offers.ensures, s.inside.ok.0, c.if-offered-count.false, c.if-len-rest.false)) (omega (arith, c.len.ensures, c.len-in-Offers.ensures, s.inside.ok.0, c.asked.ensures, c.saturating_sub.ensures, c.if-self-saturating_sub.false))))
+      not_stored (meant s.capacity) h s.inside.items s.take s.shut c.in-Offers.offered c.in-Offers.before j c.args.count (omega (arith, c.if-count-eq0.false))
+      (omega (arith, c.if-offered-count.false))
+      (inl (
+        c.if-count-offered.true,
+        λ f. elim f [
+          | inl e ↦ omega (arith, e)
+          | inr r ↦ (let x : false ≡ true = c.if-not-may_lack.ensures.1 (subst (λ z. LacksRoom (meant s.capacity) c.in-Offers.before z) one r) in cc)
+        ],
+      )))
       k,
+)
+
+pub returns-then-not-ends_put : goal.returns-then-not-ends_put
+returns-then-not-ends_put g c = (
+  c.if-not-ends_put.ensures.capacity,
+  λ h k.
+      let s = c.args.self.now in
+      let n = c.ends_put.new.self in
+      let e = c.if-not-ends_put.ensures in
+      let F : PutTurn → Type 0 = λ z. Keeps (meant s.capacity) h s.inside.items z s.take s.shut in
+      let (a, b) = not_stored (meant s.capacity) h s.inside.items s.take s.shut c.in-Offers.offered c.in-Offers.before (subst F c.in-Offers.is k) c.args.count
+      (omega (arith, c.if-count-eq0.false)) (omega (arith, c.if-offered-count.false)) (inr (λ f. let x : false ≡ true = e.ends.1 f in cc)) in
+      (kept_as (meant s.capacity) (meant n.capacity) h s.inside.items n.inside.items s.put n.put s.take n.take s.shut n.shut (ap meant e.capacity) e.inside e.put e.take e.shut k, b),
+)
+
+pub returns-else-not-ends_put : goal.returns-else-not-ends_put
+returns-else-not-ends_put g c = (
+  c.if-not-ends_put.ensures.capacity,
+  λ h k.
+      let s = c.args.self.now in
+      let n = c.ends_put.new.self in
+      let e = c.if-not-ends_put.ensures in
+      let F : PutTurn → Type 0 = λ z. Keeps (meant s.capacity) h s.inside.items z s.take s.shut in
+      let one : c.args.count + 1 ≡ suc c.args.count = omega arith in
+      let lacks : c.args.count < c.in-Offers.offered → MayLack (meant s.capacity) c.in-Offers.before (suc c.args.count) =
+      λ l. elim c.else-count-offered.branch [
+        | else-count-offered-via-then-count-offered+else-not-may_lack w ↦
+            inr (subst (λ z. LacksRoom (meant s.capacity) c.in-Offers.before z) one (w.if-not-may_lack.ensures.0 refl))
+        | else-count-offered-via-else-count-offered w ↦ absurd (omega (arith, l, w.if-count-offered.false))
+      ] in
+      let (a, b) = put_stored (meant s.capacity) h s.inside.items s.take s.shut c.in-Offers.offered c.in-Offers.before (subst F c.in-Offers.is k) c.args.count
+      (omega (arith, c.if-count-eq0.false)) (omega (arith, c.if-offered-count.false)) lacks (e.ends.0 refl) in (
+        kept_as (meant s.capacity) (meant n.capacity) (h ++ PutStored c.args.count ∷ []) _ n.inside.items Free n.put s.take n.take s.shut n.shut (ap meant e.capacity) e.inside
+            e.put e.take e.shut a,
+        b,
+      ),
 )

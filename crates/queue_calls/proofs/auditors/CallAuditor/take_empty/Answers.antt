@@ -1,41 +1,44 @@
-use Rattle.std.proofs.Common.{refl, inl, inr, sym, subst, Bool, arith}
+use Rattle.std.proofs.Common.{◌≡◌, refl, ◌∙◌, inl, inr, true, false, arith}
 use Rattle.queue_calls.specs.Calls.{TakeEmpty}
-use Rattle.queue_calls.specs.declared.turns.TakeTurn.{TakeTurn}
+use Rattle.queue_calls.specs.Told.{meant}
 use Rattle.queue_calls.specs.declared.turns.TakeTurn.TheVariants.{Rests, Waits}
-use Rattle.queue_calls.specs.State.{Keeps}
-use Rattle.queue_calls.proofs.Keeping.{Accepts, Refused}
+use Rattle.queue_calls.proofs.Reading.{reads, refuses, parts_as}
 use Rattle.queue_calls.proofs.TakeEnds.{take_empty, not_empty}
 use Rattle.queue_calls.proofs.OutOfTurn.{away_empty, no_take}
 use Rattle.queue_calls.proofs.auditors.CallAuditor.take_empty.Goals as goal
-use Rattle.queue_calls.proofs.auditors.CallAuditor.take_empty.Goals.{then-not-empty-via-then-not-empty, then-not-empty-via-else-not-empty+then-self-saturating_sub}
+use Rattle.queue_calls.proofs.auditors.CallAuditor.take_empty.Goals.{then-ended-via-then-ended, then-ended-via-else-ended+then-before-gt0, then-ended-via-else-ended+else-before-gt0+then-not-ends_take}
 
 pub returns-in-Rests : goal.returns-in-Rests
-returns-in-Rests g c = (
-  refl,
-  λ h k.
-      let s = c.args.self.now in
-      away_empty s.capacity h s.inside.items s.put s.take s.shut k (no_take s.take c.in-Rests.is),
-)
+returns-in-Rests g c =
+    let s = c.args.self.now in
+    (refl, λ h k. away_empty (meant s.capacity) h s.inside.items s.put s.take s.shut k (λ n. no_take s.take n c.in-Rests.is))
 
-pub returns-then-not-empty : goal.returns-then-not-empty
-returns-then-not-empty g c = (
-  refl,
-  λ h k.
-      let s = c.args.self.now in
-      let F : TakeTurn → Type 0 = λ z. Keeps s.capacity h s.inside.items s.put z s.shut → Refused s.capacity h TakeEmpty s.inside.items s.put z s.shut in
-      subst F (sym c.in-Waits.is) (λ j. not_empty s.capacity h s.put s.inside.items c.in-Waits.empty s.shut j (elim c.then-not-empty.branch [ then-not-empty-via-then-not-empty w ↦ inl w.if-not-empty.true | then-not-empty-via-else-not-empty+then-self-saturating_sub w ↦ inr (omega (arith, w.len.ensures, s.inside.ok.0, w.offered.ensures, w.saturating_sub.ensures, w.if-self-saturating_sub.true)) ])) k,
-)
+pub returns-then-ended : goal.returns-then-ended
+returns-then-ended g c =
+    let s = c.args.self.now in
+    let w = c.in-Waits in
+    elim c.then-ended.branch [
+      | then-ended-via-then-ended b ↦
+          refuses s c.then-ended.self TakeEmpty s.capacity s.inside.items s.put (Waits w.wanted w.before w.ended) s.shut (refl, refl, refl, w.is, refl)
+          (parts_as c.then-ended.self s b.self-is (refl, refl, refl, w.is, refl))
+          (λ h k. not_empty (meant s.capacity) h s.put s.shut s.inside.items w.wanted w.before w.ended k (inl b.if-ended.true))
+      | then-ended-via-else-ended+then-before-gt0 b ↦
+          refuses s c.then-ended.self TakeEmpty s.capacity s.inside.items s.put (Waits w.wanted w.before w.ended) s.shut (refl, refl, refl, w.is, refl)
+          (parts_as c.then-ended.self s b.self-is (refl, refl, refl, w.is, refl))
+          (λ h k. not_empty (meant s.capacity) h s.put s.shut s.inside.items w.wanted w.before w.ended k (inr (inl b.if-before-gt0.true)))
+      | then-ended-via-else-ended+else-before-gt0+then-not-ends_take b ↦ (
+          let e = b.if-not-ends_take.ensures in
+          refuses s c.then-ended.self TakeEmpty s.capacity s.inside.items s.put (Waits w.wanted w.before w.ended) s.shut (refl, refl, refl, w.is, refl)
+          (parts_as c.then-ended.self b.ends_take.new.self b.self-is (e.capacity, e.inside, e.put, e.take ∙ w.is, e.shut))
+          (λ h k. not_empty (meant s.capacity) h s.put s.shut s.inside.items w.wanted w.before w.ended k (inr (inr (λ f. let z : false ≡ true = e.ends.1 f in cc)))))
+    ]
 
-pub returns-else-self-saturating_sub : goal.returns-else-self-saturating_sub
-returns-else-self-saturating_sub g c = (
-  refl,
-  λ h k.
-      let s = c.args.self.now in
-      let F : TakeTurn → Type 0 = λ z. Keeps s.capacity h s.inside.items s.put z s.shut → Accepts s.capacity h TakeEmpty s.inside.items s.put Rests s.shut in
-      let G : Bool → Type 0 = λ b. Keeps s.capacity h s.inside.items s.put (Waits b) s.shut in
-      subst F (sym c.in-Waits.is)
-      (λ j.
-      take_empty s.capacity h s.put s.inside.items s.shut (subst G c.if-not-empty.false j)
-      (omega (arith, c.len.ensures, s.inside.ok.0, c.offered.ensures, c.saturating_sub.ensures, c.if-self-saturating_sub.false)))
-      k,
-)
+pub returns-else-not-ends_take : goal.returns-else-not-ends_take
+returns-else-not-ends_take g c =
+    let s = c.args.self.now in
+    let w = c.in-Waits in
+    let e = c.if-not-ends_take.ensures in
+    reads s c.ends_take.new.self TakeEmpty s.capacity s.inside.items s.put (Waits w.wanted w.before w.ended) s.shut (refl, refl, refl, w.is, refl)
+    s.inside.items s.put Rests s.shut (e.capacity, e.inside, e.put, e.take, e.shut)
+    (λ h k.
+    take_empty (meant s.capacity) h s.put s.shut s.inside.items w.wanted w.before w.ended k c.if-ended.false (omega (arith, c.if-before-gt0.false)) (e.ends.0 refl))

@@ -1,0 +1,598 @@
+// The audit of recorded calls in plain Rust, to measure the program by and to compare it with; it shares no line with it. It reads a
+// recording on standard input, in pieces, and prints its one finding: `lawful` and a report (status 0), `fault: line L: ..` (status
+// 3), or `refused: calls line L is not a line of the format` (status 1). What it keeps is one line's numbers, the items offered
+// and not taken, and the last 65,536 that were taken.
+use std::collections::VecDeque;
+use std::io::{Read, Write, stdin, stdout};
+use std::process::exit;
+
+// How many taken items are looked back over for one that comes again.
+const BACK: usize = 65_536;
+
+// No word of the format is longer: 2^64 - 1 has 20 digits.
+const LONGEST: usize = 20;
+
+// What a line is, or what its first words are.
+#[derive(Clone, Copy, Default, PartialEq)]
+enum Kind {
+    #[default]
+    Start,
+    Producer,
+    Consumer,
+    Queue,
+    Put,
+    Stored,
+    Full,
+    PutShort,
+    PutNothing,
+    PutClosed,
+    Close,
+    Take,
+    Item,
+    Empty,
+    TakeShort,
+    TakeNothing,
+    TakeClosed,
+    Bad,
+}
+
+impl Kind {
+    // The line with one more word, which is no number.
+    fn with(self, word: &[u8]) -> Self {
+        match (self, word) {
+            (Kind::Start, b"queue") => Kind::Queue,
+            (Kind::Start, b"P") => Kind::Producer,
+            (Kind::Start, b"C") => Kind::Consumer,
+            (Kind::Producer, b"put") => Kind::Put,
+            (Kind::Producer, b"stored") => Kind::Stored,
+            (Kind::Producer, b"full") => Kind::Full,
+            (Kind::Producer, b"short") => Kind::PutShort,
+            (Kind::Producer, b"nothing") => Kind::PutNothing,
+            (Kind::Producer, b"closed") => Kind::PutClosed,
+            (Kind::Producer, b"close") => Kind::Close,
+            (Kind::Consumer, b"take") => Kind::Take,
+            (Kind::Consumer, b"item") => Kind::Item,
+            (Kind::Consumer, b"empty") => Kind::Empty,
+            (Kind::Consumer, b"short") => Kind::TakeShort,
+            (Kind::Consumer, b"nothing") => Kind::TakeNothing,
+            (Kind::Consumer, b"closed") => Kind::TakeClosed,
+            _ => Kind::Bad,
+        }
+    }
+
+    // How many numbers a line of this kind may have, at least and at most.
+    fn numbers(self) -> (usize, usize) {
+        match self {
+            Kind::Queue => (0, 2),
+            Kind::Put | Kind::Item => (1, usize::MAX),
+            Kind::Stored | Kind::Take => (0, 1),
+            Kind::Start | Kind::Producer | Kind::Consumer | Kind::Bad => (1, 0),
+            _ => (0, 0),
+        }
+    }
+}
+
+// A number in decimal: below 2^64, with no leading zero.
+fn number(word: &[u8]) -> Option<u64> {
+    if word.is_empty() || (word[0] == b'0' && word.len() > 1) || word.len() > LONGEST {
+        return None;
+    }
+    let short = word.len() < LONGEST;
+    word.iter().try_fold(0u64, |n, byte| {
+        let digit = u64::from(byte.wrapping_sub(b'0'));
+        match digit {
+            10.. => None,
+            _ if short => Some(10 * n + digit),
+            _ => n.checked_mul(10)?.checked_add(digit),
+        }
+    })
+}
+
+// What a line is that begins so, and where its second word ends: the most frequent ones, which then are not taken word by word.
+fn frequent(rest: &[u8]) -> Option<(Kind, usize)> {
+    match rest {
+        [b'P', b' ', b'p', b'u', b't', b' ', ..] => Some((Kind::Put, 5)),
+        [b'C', b' ', b'i', b't', b'e', b'm', b' ', ..] => Some((Kind::Item, 6)),
+        [b'C', b' ', b't', b'a', b'k', b'e', b'\n', ..] => Some((Kind::Take, 6)),
+        [b'P', b' ', b's', b't', b'o', b'r', b'e', b'd', b'\n', ..] => Some((Kind::Stored, 8)),
+        [b'C', b' ', b'e', b'm', b'p', b't', b'y', b'\n', ..] => Some((Kind::Empty, 7)),
+        [b'P', b' ', b'f', b'u', b'l', b'l', b'\n', ..] => Some((Kind::Full, 6)),
+        _ => None,
+    }
+}
+
+// The line that is being read: the words so far, and the beginning of a word that goes on in the next piece.
+#[derive(Default)]
+struct Line {
+    carried: [u8; LONGEST],
+    length: usize,
+    kind: Kind,
+    numbers: Vec<u64>,
+    // how many numbers there were, kept or not
+    counted: usize,
+    // a byte of it was there
+    begun: bool,
+}
+
+impl Line {
+    fn clear(&mut self) {
+        self.length = 0;
+        self.kind = Kind::Start;
+        self.numbers.clear();
+        self.counted = 0;
+        self.begun = false;
+    }
+
+    // The end of the words that are taken from this part of the piece: one word, or the first two of a frequent line.
+    fn take_words(&mut self, rest: &[u8], keeps: bool) -> Option<usize> {
+        if !self.begun
+            && let Some((kind, end)) = frequent(rest)
+        {
+            self.begun = true;
+            self.kind = kind;
+            return Some(end);
+        }
+        let end = rest.iter().position(|byte| matches!(byte, b' ' | b'\n'))?;
+        self.end_word(&rest[..end], keeps);
+        Some(end)
+    }
+
+    // The piece ends within a word.
+    fn carry(&mut self, part: &[u8]) {
+        self.begun |= !part.is_empty();
+        match self.carried.get_mut(self.length..self.length + part.len()) {
+            Some(room) => {
+                room.copy_from_slice(part);
+                self.length += part.len();
+            }
+            None => self.kind = Kind::Bad,
+        }
+    }
+
+    // A word ends, of which this part is new; a number of items is kept where `keeps`.
+    fn end_word(&mut self, part: &[u8], keeps: bool) {
+        self.begun = true;
+        if self.length == 0 {
+            return self.word(part, keeps);
+        }
+        self.carry(part);
+        let word = self.carried;
+        self.word(&word[..self.length], keeps);
+        self.length = 0;
+    }
+
+    fn word(&mut self, word: &[u8], keeps: bool) {
+        if !matches!(
+            self.kind,
+            Kind::Queue | Kind::Put | Kind::Stored | Kind::Take | Kind::Item
+        ) {
+            self.kind = self.kind.with(word);
+            return;
+        }
+        match number(word) {
+            Some(value) if self.counted < self.kind.numbers().1 => {
+                self.counted += 1;
+                if keeps || !matches!(self.kind, Kind::Put | Kind::Item) {
+                    self.numbers.push(value);
+                }
+            }
+            _ => self.kind = Kind::Bad,
+        }
+    }
+
+    // Whether this is a line of the format, as the first of a text or further on.
+    fn is_good(&self, first: bool) -> bool {
+        let (least, most) = self.kind.numbers();
+        first == (self.kind == Kind::Queue)
+            && (least..=most).contains(&self.counted)
+            && match (self.kind, &self.numbers[..]) {
+                (Kind::Queue, [capacity]) => *capacity >= 1,
+                (Kind::Queue, [low, high]) => 1 <= *low && low < high,
+                (Kind::Stored, [count]) => *count >= 1,
+                (Kind::Take, [count]) => *count >= 2,
+                _ => true,
+            }
+    }
+}
+
+// An item that a put offered and no take that ended has taken: the line at which the put began, and that at which it ended.
+struct Offered {
+    value: u64,
+    of: u64,
+    since: u64,
+}
+
+// What the producer is in.
+#[derive(Default)]
+enum PutTurn {
+    #[default]
+    Rests,
+    // the items of a put, whether a close had ended, and the count of taken items
+    Puts {
+        late: bool,
+        taken: u64,
+    },
+    Closes,
+}
+
+// A take under way: how many items it asked for; at its begin, the count of stored items and whether a close had ended.
+struct TakeTurn {
+    asked: u64,
+    stored: u64,
+    late: bool,
+}
+
+#[derive(Default)]
+struct Report {
+    calls: u64,
+    full: u64,
+    empty: u64,
+    nothing: u64,
+    low: u64,
+    high: u64,
+    overlapped: u64,
+}
+
+// What the lines so far have told. `u64::MAX` stands for a capacity that is not bounded: no count reaches it.
+#[derive(Default)]
+struct Audit {
+    // full from so many items on, and never more than so many
+    full_from: u64,
+    most: u64,
+    stored: u64,
+    taken: u64,
+    // the items number taken + 1 and on, up to those of the put under way
+    inside: VecDeque<Offered>,
+    // those of the put under way, taken or not
+    offers: Vec<u64>,
+    // the last items taken, each with the line of its take
+    back: VecDeque<(u64, u64)>,
+    put: PutTurn,
+    take: Option<TakeTurn>,
+    put_overlapped: bool,
+    take_overlapped: bool,
+    close_began: bool,
+    // where the first close ended
+    closed_at: Option<u64>,
+    told: bool,
+    report: Report,
+}
+
+type Verdict = Result<(), String>;
+
+fn out_of_turn() -> Verdict {
+    Err("out of turn".into())
+}
+
+impl Audit {
+    fn new(numbers: &[u64]) -> Self {
+        Audit {
+            full_from: numbers.first().copied().unwrap_or(u64::MAX),
+            most: numbers.last().copied().unwrap_or(u64::MAX),
+            ..Audit::default()
+        }
+    }
+
+    // Goes on by a line after the first.
+    fn line(&mut self, at: u64, kind: Kind, numbers: &[u64]) -> Verdict {
+        match kind {
+            Kind::Put | Kind::Close => self.begin_put(at, kind, numbers),
+            Kind::Take => self.begin_take(numbers),
+            Kind::Item | Kind::Empty | Kind::TakeShort | Kind::TakeNothing | Kind::TakeClosed => {
+                match self.take.take() {
+                    Some(turn) => self.end_take(at, kind, &turn, numbers),
+                    None => out_of_turn(),
+                }
+            }
+            _ => match std::mem::replace(&mut self.put, PutTurn::Rests) {
+                PutTurn::Rests => out_of_turn(),
+                PutTurn::Puts { late, taken } => {
+                    self.end_put(at, kind, late, taken, numbers.first().copied())
+                }
+                PutTurn::Closes if kind == Kind::PutClosed => {
+                    self.closed_at.get_or_insert(at);
+                    Ok(())
+                }
+                PutTurn::Closes => out_of_turn(),
+            },
+        }?;
+        // Surely inside is what ended puts stored, less what was taken or may be taken already.
+        let asked = self.take.as_ref().map_or(0, |turn| turn.asked);
+        let low = self.stored.saturating_sub(self.taken.saturating_add(asked));
+        self.report.low = self.report.low.max(low);
+        Ok(())
+    }
+
+    fn begin_put(&mut self, at: u64, kind: Kind, numbers: &[u64]) -> Verdict {
+        if !matches!(self.put, PutTurn::Rests) {
+            return out_of_turn();
+        }
+        if kind == Kind::Close {
+            self.close_began = true;
+            self.put = PutTurn::Closes;
+        } else {
+            // What a put offers that began after a close can never go in: it is not there to be taken.
+            let late = self.closed_at.is_some();
+            self.offers.clear();
+            self.offers.extend_from_slice(numbers);
+            if !late {
+                self.inside.extend(numbers.iter().map(|value| Offered {
+                    value: *value,
+                    of: at,
+                    since: 0,
+                }));
+            }
+            let taken = self.taken;
+            self.put = PutTurn::Puts { late, taken };
+            let high = (self.inside.len() as u64).min(self.most);
+            self.report.high = self.report.high.max(high);
+        }
+        self.put_overlapped = self.take.is_some();
+        if self.put_overlapped {
+            self.report.overlapped += 1 + u64::from(!self.take_overlapped);
+            self.take_overlapped = true;
+        }
+        self.report.calls += 1;
+        Ok(())
+    }
+
+    fn begin_take(&mut self, numbers: &[u64]) -> Verdict {
+        if self.take.is_some() {
+            return out_of_turn();
+        }
+        self.take = Some(TakeTurn {
+            asked: numbers.first().copied().unwrap_or(1),
+            stored: self.stored,
+            late: self.closed_at.is_some(),
+        });
+        self.take_overlapped = !matches!(self.put, PutTurn::Rests);
+        if self.take_overlapped {
+            self.report.overlapped += 1 + u64::from(!self.put_overlapped);
+            self.put_overlapped = true;
+        }
+        self.report.calls += 1;
+        Ok(())
+    }
+
+    // A put ends. It began after a close had ended, or not, and so many items had been taken then.
+    fn end_put(
+        &mut self,
+        at: u64,
+        kind: Kind,
+        late: bool,
+        taken: u64,
+        some: Option<u64>,
+    ) -> Verdict {
+        let offered = self.offers.len() as u64;
+        if kind == Kind::PutShort && offered == 1 || some.is_some_and(|count| count >= offered) {
+            return out_of_turn();
+        }
+        let count = match kind {
+            Kind::Stored => some.unwrap_or(offered),
+            _ => 0,
+        };
+        if kind == Kind::PutClosed {
+            return match late {
+                true => Ok(()),
+                false => Err("closed, but there was no close".into()),
+            };
+        }
+        if late && kind != Kind::PutNothing {
+            let word = if kind == Kind::Stored {
+                "stored"
+            } else {
+                "full"
+            };
+            return Err(format!(
+                "{word}, but closed at line {}",
+                self.closed_at.unwrap()
+            ));
+        }
+        let stored = self.stored + count;
+        if stored < self.taken {
+            let words = if count > 0 {
+                format!("only {count} stored")
+            } else {
+                "not stored".into()
+            };
+            return Err(format!(
+                "{words}, but item {} was taken",
+                self.offers[count as usize]
+            ));
+        }
+        let asked = self.take.as_ref().map_or(0, |turn| turn.asked);
+        let surely = stored.saturating_sub(self.taken.saturating_add(asked));
+        if count > 0 && surely > self.most {
+            return Err(format!("stored, but at least {surely} items are inside"));
+        }
+        // How many items the queue has to have been able to hold at some moment of the call, where it calls itself full.
+        let found = match kind {
+            Kind::PutShort => stored + offered - 1,
+            _ => stored,
+        };
+        let says_full = some.is_some() || kind == Kind::Full || kind == Kind::PutShort;
+        if says_full && found < taken.saturating_add(self.full_from) {
+            return Err(format!(
+                "full, but at most {} items were inside",
+                stored - taken
+            ));
+        }
+        if !late {
+            self.inside.truncate((stored - self.taken) as usize);
+            let first = self.stored.saturating_sub(self.taken) as usize;
+            self.inside
+                .range_mut(first..)
+                .for_each(|item| item.since = at);
+        }
+        self.stored = stored;
+        self.report.full += u64::from(says_full);
+        self.report.nothing += u64::from(kind == Kind::PutNothing);
+        Ok(())
+    }
+
+    fn end_take(&mut self, at: u64, kind: Kind, turn: &TakeTurn, values: &[u64]) -> Verdict {
+        let asked = turn.asked;
+        if kind == Kind::TakeShort && asked == 1 || values.len() as u64 > asked {
+            return out_of_turn();
+        }
+        if kind == Kind::TakeClosed {
+            if !self.close_began {
+                return Err("closed, but no close has begun".into());
+            }
+            self.none_since("closed", 0, self.stored)?;
+            self.told = true;
+            return Ok(());
+        }
+        let word = match kind {
+            Kind::Item => "item",
+            Kind::Empty => "empty",
+            Kind::TakeShort => "short",
+            _ => "nothing",
+        };
+        if self.told && kind != Kind::TakeNothing {
+            return Err(format!("{word}, but closed was told"));
+        }
+        for value in values {
+            self.take_one(at, *value)?;
+        }
+        match kind {
+            Kind::Item if (values.len() as u64) < asked => {
+                self.none_since("no more", 0, turn.stored)?
+            }
+            Kind::Empty => self.none_since(word, 0, turn.stored)?,
+            Kind::TakeShort => self.none_since(word, asked - 1, turn.stored)?,
+            _ => {}
+        }
+        let shut = turn.late
+            && (kind == Kind::Empty || kind == Kind::TakeShort && self.stored == self.taken);
+        if shut {
+            return Err(format!(
+                "{word}, but closed at line {}",
+                self.closed_at.unwrap()
+            ));
+        }
+        let inside = self.stored.saturating_sub(self.taken);
+        if inside > self.most {
+            return Err(format!("not taken, but {inside} items are inside"));
+        }
+        self.report.empty += u64::from(kind == Kind::Empty || kind == Kind::TakeShort);
+        self.report.nothing += u64::from(kind == Kind::TakeNothing);
+        Ok(())
+    }
+
+    // Of the first `stored` items no more than `few` are inside; else the next one behind these is told.
+    fn none_since(&self, word: &str, few: u64, stored: u64) -> Verdict {
+        if stored <= self.taken.saturating_add(few) {
+            return Ok(());
+        }
+        let Offered { value, since, .. } = self.inside[few as usize];
+        Err(format!(
+            "{word}, but item {value} was inside since line {since}"
+        ))
+    }
+
+    fn take_one(&mut self, at: u64, value: u64) -> Verdict {
+        match self.inside.front() {
+            Some(next) if next.value == value => {}
+            Some(next) if self.inside.iter().any(|item| item.value == value) => {
+                return Err(format!(
+                    "item {value}, but item {} of line {} is next",
+                    next.value, next.of
+                ));
+            }
+            _ => {
+                let found = self.back.iter().rev().find(|(taken, _)| *taken == value);
+                return Err(match found {
+                    Some((_, line)) => {
+                        format!("item {value} comes again, it was taken at line {line}")
+                    }
+                    None => format!("item {value} was not put"),
+                });
+            }
+        }
+        self.inside.pop_front();
+        self.taken += 1;
+        if self.back.len() == BACK {
+            self.back.pop_front();
+        }
+        self.back.push_back((value, at));
+        Ok(())
+    }
+
+    fn report(&self) -> String {
+        let Report {
+            calls,
+            full,
+            empty,
+            nothing,
+            low,
+            high,
+            overlapped,
+        } = self.report;
+        let (stored, taken) = (self.stored, self.taken);
+        let told = if self.told { "yes" } else { "no" };
+        let open = u8::from(!matches!(self.put, PutTurn::Rests)) + u8::from(self.take.is_some());
+        format!(
+            "lawful\ncalls {calls}\nstored {stored}\ntaken {taken}\nfull {full}\nempty {empty}\nnothing {nothing}\n\
+             told {told}\ninside {low} {high}\noverlapped {overlapped}\nopen {open}"
+        )
+    }
+}
+
+// Prints the finding, and ends.
+fn tell(finding: &str, status: i32) -> ! {
+    match writeln!(stdout(), "{finding}") {
+        Ok(()) => exit(status),
+        Err(_) => exit(1),
+    }
+}
+
+fn refuse(line: u64) -> ! {
+    tell(
+        &format!("refused: calls line {line} is not a line of the format"),
+        1,
+    )
+}
+
+fn main() {
+    let mut piece = vec![0; 1 << 16];
+    let mut line = Line::default();
+    let mut at = 1;
+    let mut audit: Option<Audit> = None;
+    let mut fault: Option<String> = None;
+    loop {
+        let size = stdin().read(&mut piece).expect("the input can be read");
+        if size == 0 {
+            break;
+        }
+        let mut rest = &piece[..size];
+        while let Some(end) = line.take_words(rest, fault.is_none()) {
+            if rest[end] == b'\n' {
+                if !line.is_good(at == 1) {
+                    refuse(at);
+                }
+                match &mut audit {
+                    None => audit = Some(Audit::new(&line.numbers)),
+                    Some(audit) if fault.is_none() => {
+                        let verdict = audit.line(at, line.kind, &line.numbers);
+                        fault = verdict
+                            .err()
+                            .map(|words| format!("fault: line {at}: {words}"));
+                    }
+                    // A line further on may be no line of the format, and then the whole is refused.
+                    Some(_) => {}
+                }
+                line.clear();
+                at += 1;
+            }
+            rest = &rest[end + 1..];
+        }
+        line.carry(rest);
+    }
+    match (audit, fault) {
+        (Some(_), _) if line.begun => refuse(at),
+        (None, _) => refuse(at),
+        (Some(_), Some(fault)) => tell(&fault, 3),
+        (Some(audit), None) => tell(&audit.report(), 0),
+    }
+}

@@ -1,0 +1,123 @@
+-- One more line behind lines, and lines that cannot stand behind them.
+use Rattle.std.proofs.Common.{◌≡◌, ◌≢◌, ℕ, suc, ◌+◌, Option, Some, None, List, [], ◌∷◌, ◌++◌, length, refl, ap, sym, subst, ◌∙◌, arith}
+use Rattle.std.specs.Prelude.{All}
+use Rattle.std.proofs.lemmas.List.Elements.{All-append, All-cons, All-head, All-nil, All-tail}
+use Rattle.std.proofs.lemmas.Option.{none-some}
+use Rattle.queue_calls.specs.Calls.{Event}
+use Rattle.queue_calls.specs.Lines.{IsLine}
+use Rattle.queue_calls.specs.Recordings.{Line, line, IsOfFormat, IsFurther, AreLines, capacity_told, event_told, begun_after, begun_behind, and_then, events_told}
+use Rattle.queue_calls.specs.RecordingStates.{HasHeard, HeardLines, GoesOn}
+use Rattle.queue_calls.specs.declared.lines.Word.{Word}
+use Rattle.queue_calls.specs.declared.lines.Word.TheVariants.{Queue, Put, Stored, Full, Short, PutNothing, PutClosed, Close, Take, Item, Empty, TakeShort, TakeNothing, TakeClosed}
+use Rattle.queue_calls.specs.declared.recordings.Begun.{Begun}
+use Rattle.queue_calls.specs.declared.recordings.Begun.TheVariants as begun
+use Rattle.queue_calls.specs.declared.recordings.Hearing.{Hearing}
+
+-- ---- events
+
+-- a line behind the first tells an event
+no_event : (b : Begun) (w : Word) (numbers : List ℕ) → event_told b w numbers ≡ None → w ≡ Queue
+no_event b Queue numbers e = refl
+no_event b Put numbers e = absurd (none-some _ (sym e))
+no_event b Stored numbers e = absurd (none-some _ (sym e))
+no_event b Full numbers e = absurd (none-some _ (sym e))
+no_event b Short numbers e = absurd (none-some _ (sym e))
+no_event b PutNothing numbers e = absurd (none-some _ (sym e))
+no_event b PutClosed numbers e = absurd (none-some _ (sym e))
+no_event b Close numbers e = absurd (none-some _ (sym e))
+no_event b Take numbers e = absurd (none-some _ (sym e))
+no_event b Item numbers e = absurd (none-some _ (sym e))
+no_event b Empty numbers e = absurd (none-some _ (sym e))
+no_event b TakeShort numbers e = absurd (none-some _ (sym e))
+no_event b TakeNothing numbers e = absurd (none-some _ (sym e))
+no_event b TakeClosed numbers e = absurd (none-some _ (sym e))
+
+not_first : (b : Begun) (w : Word) (numbers : List ℕ) (event : Event) → event_told b w numbers ≡ Some event → w ≢ Queue
+not_first b w numbers event e is = none-some event (sym (ap (λ (v : Word). event_told b v numbers) is) ∙ e)
+
+one_event : (b : Begun) (l : Line) → IsFurther l → (events : List Event) → length (and_then (event_told b l.word l.numbers) events) ≡ suc (length events)
+one_event b l further events =
+    elim (event_told b l.word l.numbers) as (λ o. event_told b l.word l.numbers ≡ o → length (and_then o events) ≡ suc (length events)) [
+      | None ↦ λ e. absurd (further.0 (no_event b l.word l.numbers e))
+      | Some event ↦ λ e. refl
+    ] refl
+
+-- as many events as lines
+pub as_many : (b : Begun) (lines : List Line) → All IsFurther lines → length (events_told b lines) ≡ length lines
+as_many b [] all = refl
+as_many b (l ∷ lines) all =
+    one_event b l (All-head IsFurther l lines all) (events_told (begun_after b l.word l.numbers) lines) ∙ ap suc (as_many (begun_after b l.word l.numbers) lines (All-tail IsFurther l lines all))
+
+and_then-append : (o : Option Event) (xs ys : List Event) → and_then o xs ++ ys ≡ and_then o (xs ++ ys)
+and_then-append None xs ys = refl
+and_then-append (Some event) xs ys = refl
+
+begun_more : (b : Begun) (lines : List Line) (l : Line) → begun_behind b (lines ++ l ∷ []) ≡ begun_after (begun_behind b lines) l.word l.numbers
+begun_more b [] l = refl
+begun_more b (x ∷ lines) l = begun_more (begun_after b x.word x.numbers) lines l
+
+events_more : (b : Begun) (lines : List Line) (l : Line) → events_told b (lines ++ l ∷ []) ≡ events_told b lines ++ and_then (event_told (begun_behind b lines) l.word l.numbers) []
+events_more b [] l = refl
+events_more b (x ∷ lines) l =
+    let after : Begun = begun_after b x.word x.numbers in
+    ap (and_then (event_told b x.word x.numbers)) (events_more after lines l) ∙ sym (and_then-append (event_told b x.word x.numbers) (events_told after lines) _)
+
+-- ---- lines
+
+-- the last of lines is of the format, and behind the first it is no other one
+All-last : (further : List Line) (l : Line) → All IsFurther (further ++ l ∷ []) → IsFurther l
+All-last [] l all = All-head IsFurther l [] all
+All-last (x ∷ further) l all = All-last further l (All-tail IsFurther x (further ++ l ∷ []) all)
+
+last_is : (before : List Line) (l : Line) → AreLines (before ++ l ∷ []) → IsOfFormat l
+last_is [] l are = are.1
+last_is (first ∷ further) l are = (All-last further l are.2).1
+
+pub is_line : (before : List Line) (bytes : List ℕ) (l : Line) → GoesOn before bytes l → IsLine bytes l.word l.numbers
+is_line before bytes l on =
+    let format = last_is before l on.0 in
+    record {
+      text = on.1;
+      allowed = format.0;
+      small = format.1;
+    }
+
+-- the first line
+pub first_line : (before : List Line) (bytes numbers : List ℕ) → before ≡ [] → IsLine bytes Queue numbers → GoesOn before bytes (line Queue numbers)
+first_line [] bytes numbers none is = ((refl, (is.allowed, is.small), All-nil IsFurther), is.text)
+first_line (l ∷ before) bytes numbers none is = absurd (omega (arith, ap length none))
+
+pub first_heard : {A : Type 0} (hearing : Hearing A) (before : List Line) (numbers : List ℕ) → before ≡ [] → hearing.begun ≡ begun.Nothing → HasHeard hearing (capacity_told numbers) []
+    → HeardLines (Some hearing) (before ++ line Queue numbers ∷ [])
+first_heard hearing [] numbers none rests heard = (numbers, [], refl, rests, heard)
+first_heard hearing (l ∷ before) numbers none rests heard = absurd (omega (arith, ap length none))
+
+-- a further line
+pub further_line : (before : List Line) (bytes first : List ℕ) (further : List Line) (b : Begun) (w : Word) (numbers : List ℕ) (event : Event) → before ≡ line Queue first ∷ further → AreLines before
+    → IsLine bytes w numbers → event_told b w numbers ≡ Some event → GoesOn before bytes (line w numbers)
+further_line before bytes first further b w numbers event parts are is tells =
+    let were : AreLines (line Queue first ∷ further) = subst AreLines parts are in
+    let last : IsFurther (line w numbers) = (not_first b w numbers event tells, (is.allowed, is.small)) in
+    let all : AreLines (line Queue first ∷ (further ++ line w numbers ∷ [])) = (refl, were.1, All-append IsFurther further (line w numbers ∷ []) were.2 (All-cons IsFurther (line w numbers) [] last (All-nil IsFurther))) in
+    (subst (λ (lines : List Line). AreLines (lines ++ line w numbers ∷ [])) (sym parts) all, is.text)
+
+pub count_is : (before : List Line) (first : List ℕ) (further : List Line) (b : Begun) (count line_number : ℕ) → before ≡ line Queue first ∷ further → AreLines before → count ≡ length before → line_number ≡ count + 1
+    → length (events_told b further) + 2 ≡ line_number
+count_is before first further b count line_number parts are is next =
+    let were : AreLines (line Queue first ∷ further) = subst AreLines parts are in
+    let many : length (events_told b further) ≡ length further = as_many b further were.2 in
+    let all : length before ≡ length further + 1 = ap length parts ∙ omega arith in
+    omega (arith, many, all, is, next)
+
+pub further_heard : {A : Type 0} (hearing : Hearing A) (before : List Line) (first : List ℕ) (further : List Line) (w : Word) (numbers : List ℕ) (event : Event) → before ≡ line Queue first ∷ further
+    → event_told (begun_behind begun.Nothing further) w numbers ≡ Some event → hearing.begun ≡ begun_after (begun_behind begun.Nothing further) w numbers
+    → HasHeard hearing (capacity_told first) (events_told begun.Nothing further ++ event ∷ []) → HeardLines (Some hearing) (before ++ line w numbers ∷ [])
+further_heard hearing before first further w numbers event parts tells behind heard =
+    let more : events_told begun.Nothing further ++ event ∷ [] ≡ events_told begun.Nothing (further ++ line w numbers ∷ []) =
+    sym (events_more begun.Nothing further (line w numbers) ∙ ap (λ (o : Option Event). events_told begun.Nothing further ++ and_then o []) tells) in (
+      first,
+      further ++ line w numbers ∷ [],
+      ap (λ (lines : List Line). lines ++ line w numbers ∷ []) parts,
+      behind ∙ sym (begun_more begun.Nothing further (line w numbers)),
+      subst (λ (events : List Event). HasHeard hearing (capacity_told first) events) more heard,
+    )

@@ -1,0 +1,92 @@
+-- The lines of a text are one list of lines.
+use Rattle.std.proofs.Common.{◌≡◌, ◌≢◌, ℕ, ◌+◌, List, [], ◌∷◌, ◌++◌, length, drop, refl, ap, ap₂, sym, subst, ◌∙◌, append_assoc, length-append, arith}
+use Rattle.std.specs.Prelude.{All}
+use Rattle.std.proofs.lemmas.List.{append-nil}
+use Rattle.std.proofs.lemmas.List.Elements.{All-cons, All-head, All-nil, All-tail}
+use Rattle.queue_calls.specs.Lines.{line_text, IsLine}
+use Rattle.queue_calls.specs.Recordings.{Line, line, text_of, lines_text, IsOfFormat, IsFurther, AreLines, capacity_told, events_told, IsBadLine}
+use Rattle.queue_calls.specs.RecordingLaws.{RecordingIsOne, RecordingHasNoBadLine}
+use Rattle.queue_calls.specs.declared.lines.Word.TheVariants.{Queue}
+use Rattle.queue_calls.specs.declared.recordings.Begun.TheVariants.{Nothing}
+use Rattle.queue_calls.proofs.LineLemmas.{line_same, line_no_feed}
+use Rattle.queue_calls.proofs.RecordingLemmas.{cut_same, line_and}
+
+-- lines as they have to be are of the format
+are_of_format : (lines : List Line) → AreLines lines → All IsOfFormat lines
+are_of_format [] are = All-nil IsOfFormat
+are_of_format (first ∷ further) are = All-cons IsOfFormat first further are.1 (λ k d inside. (are.2 k d inside).1)
+
+-- the line of its own text
+its_line : (l : Line) → IsOfFormat l → IsLine (line_text l.word l.numbers) l.word l.numbers
+its_line l is = record { text = refl; allowed = is.0; small = is.1 }
+
+-- one line at the front of a text
+front_same : (l m : Line) (a b : List ℕ) → IsOfFormat l → IsOfFormat m → text_of l ++ a ≡ text_of m ++ b → (l ≡ m) × (a ≡ b)
+front_same l m a b one other e =
+    let L : List ℕ = line_text l.word l.numbers in
+    let M : List ℕ = line_text m.word m.numbers in
+    let same = cut_same L M a b (line_no_feed L l.word l.numbers (its_line l one)) (line_no_feed M m.word m.numbers (its_line m other)) (sym (line_and l a) ∙ e ∙ line_and m b) in
+    let parts = line_same L l.word m.word l.numbers m.numbers (its_line l one) (record { text = same.0; allowed = other.0; small = other.1 }) in
+    (ap₂ line parts.0 parts.1, same.1)
+
+-- lines at the front of the text of lines are its first ones
+first_ones : (before all : List Line) (rest : List ℕ) → All IsOfFormat before → All IsOfFormat all → lines_text before ++ rest ≡ lines_text all
+    → (more : List Line) × (all ≡ before ++ more) × (rest ≡ lines_text more)
+first_ones [] all rest is are e = (all, refl, e)
+first_ones (l ∷ before) [] rest is are e =
+    let some : length ((text_of l ++ lines_text before) ++ rest) ≡ 0 = ap length e in
+    let one : length ((text_of l ++ lines_text before) ++ rest) ≡ length (text_of l ++ lines_text before) + length rest = length-append (text_of l ++ lines_text before) rest in
+    let two : length (text_of l ++ lines_text before) ≡ length (text_of l) + length (lines_text before) = length-append (text_of l) (lines_text before) in
+    let three : length (text_of l) ≡ length (line_text l.word l.numbers) + 1 = length-append (line_text l.word l.numbers) (10 ∷ []) in
+    absurd (omega (arith, some, one, two, three))
+first_ones (l ∷ before) (m ∷ all) rest is are e =
+    let same = front_same l m (lines_text before ++ rest) (lines_text all) (All-head IsOfFormat l before is) (All-head IsOfFormat m all are) (sym (append_assoc (text_of l) (lines_text before) rest) ∙ e) in
+    let later = first_ones before all rest (All-tail IsOfFormat l before is) (All-tail IsOfFormat m all are) same.1 in
+    (later.0, ap₂ (λ (x : Line) (xs : List Line). x ∷ xs) (sym same.0) later.1, later.2)
+
+no_lines : (lines : List Line) → [] ≡ lines_text lines → lines ≡ []
+no_lines [] e = refl
+no_lines (l ∷ lines) e =
+    let whole : length (text_of l ++ lines_text lines) ≡ length (text_of l) + length (lines_text lines) = length-append (text_of l) (lines_text lines) in
+    let one : length (text_of l) ≡ length (line_text l.word l.numbers) + 1 = length-append (line_text l.word l.numbers) (10 ∷ []) in
+    let none : 0 ≡ length (text_of l ++ lines_text lines) = ap length e in
+    absurd (omega (arith, whole, one, none))
+
+-- ---- one recording
+
+numbers_of_first : List Line → List ℕ
+numbers_of_first [] = []
+numbers_of_first (l ∷ lines) = l.numbers
+
+pub recording_is_one : RecordingIsOne
+unfolding numbers_of_first
+recording_is_one bytes capacity other events others one two =
+    let all : List Line = line Queue one.first ∷ one.further in
+    let too : List Line = line Queue two.first ∷ two.further in
+    let parts = first_ones all too [] (are_of_format all one.are) (are_of_format too two.are) (append-nil (lines_text all) ∙ sym one.text ∙ two.text) in
+    let same : too ≡ all = parts.1 ∙ ap (λ (t : List Line). all ++ t) (no_lines parts.0 parts.2) ∙ append-nil all in
+    let firsts : two.first ≡ one.first = ap numbers_of_first same in
+    let furthers : two.further ≡ one.further = ap (drop 1) same in
+    (one.tells_capacity ∙ ap capacity_told (sym firsts) ∙ sym two.tells_capacity, one.tells_events ∙ ap (events_told Nothing) (sym furthers) ∙ sym two.tells_events)
+
+-- ---- no bad line
+
+-- the first ones of lines as they have to be
+all_first : (xs ys : List Line) → All IsFurther (xs ++ ys) → All IsFurther xs
+all_first [] ys all = All-nil IsFurther
+all_first (x ∷ xs) ys all = All-cons IsFurther x xs (All-head IsFurther x (xs ++ ys) all) (all_first xs ys (All-tail IsFurther x (xs ++ ys) all))
+
+are_first : (before more : List Line) → AreLines (before ++ more) → AreLines before
+are_first [] more are = tt
+are_first (first ∷ further) more are = (are.0, are.1, all_first further more are.2)
+
+no_more : (bytes : List ℕ) (number : ℕ) (all : List Line) (bad : IsBadLine bytes number) (more : List Line) → AreLines all → all ≢ [] → all ≡ bad.before ++ more → bad.rest ≡ lines_text more → ⊥
+no_more bytes number all bad [] are some parts rest = some (parts ∙ append-nil bad.before ∙ bad.is_there rest)
+no_more bytes number all bad (l ∷ more) are some parts rest =
+    bad.is_bad l (lines_text more) (are_first (bad.before ++ l ∷ []) more (subst AreLines (parts ∙ sym (append_assoc bad.before (l ∷ []) more)) are)) rest
+
+pub recording_has_no_bad_line : RecordingHasNoBadLine
+recording_has_no_bad_line bytes capacity events number is bad =
+    let all : List Line = line Queue is.first ∷ is.further in
+    let parts = first_ones bad.before all bad.rest (are_of_format bad.before bad.are) (are_of_format all is.are) (sym bad.text ∙ is.text) in
+    no_more bytes number all bad parts.0 is.are (λ none. absurd (omega (arith, ap length none))) parts.1 parts.2

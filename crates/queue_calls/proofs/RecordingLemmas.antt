@@ -1,0 +1,109 @@
+-- The text of a recording, line by line: where a line ends, and what its end shows.
+use Rattle.std.proofs.Common.{◌≡◌, ◌≢◌, ℕ, ◌+◌, ◌-◌, ◌^◌, ◌≤◌, List, [], ◌∷◌, ◌++◌, length, get_or, drop, Some, refl, ap, ap₂, sym, subst, ◌∙◌, append_assoc, length-append, arith}
+use Rattle.std.proofs.lemmas.Grind.{flat_map-append}
+use Rattle.std.proofs.lemmas.List.{append-nil}
+use Rattle.std.proofs.lemmas.List.Elements.{All-append, All-head, All-tail}
+use Rattle.queue_calls.specs.Lines.{line_text}
+use Rattle.queue_calls.specs.Queue.{Capacity}
+use Rattle.queue_calls.specs.Calls.{Event}
+use Rattle.queue_calls.specs.Recordings.{Line, text_of, lines_text, AreLines, capacity_told, events_told, IsBadLine, RefusesText, IsFoundOf, IsFindingOf}
+use Rattle.queue_calls.specs.RecordingStates.{HasNoFeed, HeardLines, HasHeard, RefusesLine}
+use Rattle.queue_calls.specs.declared.recordings.Begun.TheVariants.{Nothing}
+use Rattle.queue_calls.specs.declared.recordings.CallsFinding.{CallsFinding}
+use Rattle.queue_calls.specs.declared.recordings.Hearing.{Hearing}
+use Rattle.queue_calls.specs.declared.recordings.RecordingFault.{RecordingFault}
+use Rattle.queue_calls.specs.declared.recordings.RecordingFault.TheVariants.{BadLine, TooLong, OutOfMemory}
+use Rattle.queue_calls.proofs.LineLemmas.{line_no_feed}
+use Rattle.queue_calls.proofs.HeardLines.{is_line}
+
+-- ---- line feeds
+
+-- where the first line feed is, is one place
+pub cut_same : (xs ys a b : List ℕ) → HasNoFeed xs → HasNoFeed ys → xs ++ 10 ∷ a ≡ ys ++ 10 ∷ b → (xs ≡ ys) × (a ≡ b)
+cut_same [] [] a b none free e = (refl, ap (λ (t : List ℕ). drop 1 t) e)
+cut_same [] (y ∷ ys) a b none free e = absurd (All-head (λ c. c ≢ 10) y ys free (sym (ap (λ (t : List ℕ). get_or t 0 0) e)))
+cut_same (x ∷ xs) [] a b none free e = absurd (All-head (λ c. c ≢ 10) x xs none (ap (λ (t : List ℕ). get_or t 0 0) e))
+cut_same (x ∷ xs) (y ∷ ys) a b none free e =
+    let later = cut_same xs ys a b (All-tail (λ c. c ≢ 10) x xs none) (All-tail (λ c. c ≢ 10) y ys free) (ap (λ (t : List ℕ). drop 1 t) e) in
+    (ap₂ (λ (c : ℕ) (t : List ℕ). c ∷ t) (ap (λ (t : List ℕ). get_or t 0 0) e) later.0, later.1)
+
+feedless : (xs ys b : List ℕ) → HasNoFeed xs → xs ≢ ys ++ 10 ∷ b
+feedless [] [] b none e = absurd (omega (arith, ap length e))
+feedless [] (y ∷ ys) b none e = absurd (omega (arith, ap length e))
+feedless (x ∷ xs) [] b none e = All-head (λ c. c ≢ 10) x xs none (ap (λ (t : List ℕ). get_or t 0 0) e)
+feedless (x ∷ xs) (y ∷ ys) b none e = feedless xs ys b (All-tail (λ c. c ≢ 10) x xs none) (ap (λ (t : List ℕ). drop 1 t) e)
+
+-- the text of a line, and what is behind it
+pub line_and : (l : Line) (more : List ℕ) → text_of l ++ more ≡ line_text l.word l.numbers ++ 10 ∷ more
+line_and l more = append_assoc (line_text l.word l.numbers) (10 ∷ []) more
+
+pub lines_more : (before : List Line) (l : Line) → lines_text (before ++ l ∷ []) ≡ lines_text before ++ text_of l
+lines_more before l = flat_map-append text_of before (l ∷ []) ∙ ap (λ (t : List ℕ). lines_text before ++ t) (append-nil (text_of l))
+
+-- a line has a byte
+many_bytes : (lines : List Line) → length lines ≤ length (lines_text lines)
+many_bytes [] = omega arith
+many_bytes (l ∷ lines) =
+    let whole : length (lines_text (l ∷ lines)) ≡ length (text_of l) + length (lines_text lines) = length-append (text_of l) (lines_text lines) in
+    let one : length (text_of l) ≡ length (line_text l.word l.numbers) + 1 = length-append (line_text l.word l.numbers) (10 ∷ []) in
+    omega (arith, whole, one, many_bytes lines)
+
+pub too_long : (before : List Line) (bytes more : List ℕ) → bytes ≡ lines_text before ++ more → 2 ^ 64 - 1 ≤ length before → 2 ^ 64 - 1 ≤ length bytes
+too_long before bytes more text long =
+    let whole : length bytes ≡ length (lines_text before) + length more = ap length text ∙ length-append (lines_text before) more in
+    omega (arith, whole, long, many_bytes before)
+
+-- ---- refusals
+
+-- the bytes of a line that ends, behind lines
+ended_text : (before : List Line) (bytes cut end more : List ℕ) → bytes ≡ lines_text before ++ cut → bytes ++ (end ++ 10 ∷ more) ≡ lines_text before ++ ((cut ++ end) ++ 10 ∷ more)
+ended_text before bytes cut end more text =
+    ap (λ (t : List ℕ). t ++ (end ++ 10 ∷ more)) text ∙ append_assoc (lines_text before) cut (end ++ 10 ∷ more)
+    ∙ ap (λ (t : List ℕ). lines_text before ++ t) (sym (append_assoc cut end (10 ∷ more)))
+
+pub end_refused : (fault : RecordingFault) (before : List Line) (bytes cut end more : List ℕ) → bytes ≡ lines_text before ++ cut → AreLines before → HasNoFeed cut → HasNoFeed end
+    → RefusesLine fault before (cut ++ end) → RefusesText fault (bytes ++ (end ++ 10 ∷ more))
+end_refused (BadLine number) before bytes cut end more text are none free refused = record {
+  before = before;
+  rest = (cut ++ end) ++ 10 ∷ more;
+  text = ended_text before bytes cut end more text;
+  are = are;
+  is_number = refused.0;
+  is_bad = λ l others on e.
+      let is = is_line before (line_text l.word l.numbers) l (on, refl) in
+      let same = cut_same (cut ++ end) (line_text l.word l.numbers) more others (All-append (λ c. c ≢ 10) cut end none free) (line_no_feed (line_text l.word l.numbers) l.word l.numbers is) (e ∙ line_and l others) in
+      refused.1 l (on, same.0);
+  is_there = λ nothing. absurd (omega (arith, sym (length-append (cut ++ end) (10 ∷ more)) ∙ ap length nothing));
+}
+end_refused TooLong before bytes cut end more text are none free refused = too_long before (bytes ++ (end ++ 10 ∷ more)) _ (ended_text before bytes cut end more text) (omega (arith, refused))
+end_refused OutOfMemory before bytes cut end more text are none free refused = tt
+
+-- at the end of the text
+pub cut_refused : (before : List Line) (bytes cut : List ℕ) (number : ℕ) → bytes ≡ lines_text before ++ cut → AreLines before → HasNoFeed cut → length before + 1 ≡ number → (cut ≡ [] → before ≡ []) → IsBadLine bytes number
+cut_refused before bytes cut number text are none is there = record {
+  before = before;
+  rest = cut;
+  text = text;
+  are = are;
+  is_number = is;
+  is_bad = λ l more on e. feedless cut (line_text l.word l.numbers) more none (e ∙ line_and l more);
+  is_there = there;
+}
+
+-- ---- findings
+
+pub found : {A : Type 0} (hearing : Hearing A) (finding : CallsFinding) (ended : List Line) (bytes cut : List ℕ) → bytes ≡ lines_text ended ++ cut → cut ≡ [] → AreLines ended → HeardLines (Some hearing) ended
+    → ((capacity : Capacity) (events : List Event) → HasHeard hearing capacity events → IsFoundOf capacity events finding) → IsFindingOf bytes finding
+found hearing finding ended bytes cut text none are heard finds = (
+  capacity_told heard.0,
+  events_told Nothing heard.1,
+  record {
+    first = heard.0;
+    further = heard.1;
+    text = text ∙ ap (λ (t : List ℕ). lines_text ended ++ t) none ∙ append-nil (lines_text ended) ∙ ap lines_text heard.2;
+    are = subst AreLines heard.2 are;
+    tells_capacity = refl;
+    tells_events = refl;
+  },
+  finds (capacity_told heard.0) (events_told Nothing heard.1) heard.4,
+)

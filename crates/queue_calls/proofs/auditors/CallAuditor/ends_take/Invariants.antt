@@ -1,0 +1,11 @@
+use Rattle.std.proofs.Common.{◌≡◌, drop}
+use Rattle.queue_calls.proofs.auditors.CallAuditor.ends_take.Given as goal
+
+abbrev pub invariant-loop : goal.invariant-loop
+invariant-loop g l = record {
+  inside : l.self.inside.items ≡ drop l.counter l.fn.self.inside.items;
+  capacity : l.self.capacity ≡ l.fn.self.capacity;
+  put : l.self.put ≡ l.fn.self.put;
+  take : l.self.take ≡ l.fn.self.take;
+  shut : l.self.shut ≡ l.fn.self.shut;
+}

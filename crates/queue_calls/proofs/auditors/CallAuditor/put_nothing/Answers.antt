@@ -1,0 +1,51 @@
+use Rattle.std.proofs.Common.{◌≡◌, true, false, refl, sym, ap, subst, [], ◌∷◌, ◌++◌}
+use Rattle.queue_calls.specs.Calls.{PutNothing}
+use Rattle.queue_calls.specs.declared.turns.PutTurn.{PutTurn}
+use Rattle.queue_calls.specs.declared.turns.PutTurn.TheVariants.{Free}
+use Rattle.queue_calls.specs.State.{Keeps}
+use Rattle.queue_calls.specs.Told.{meant}
+use Rattle.queue_calls.proofs.Keeping.{Accepts, kept_as}
+use Rattle.queue_calls.proofs.PutEnds.{put_nothing, not_nothing, late_nothing}
+use Rattle.queue_calls.proofs.OutOfTurn.{away_nothing, no_put}
+use Rattle.queue_calls.proofs.auditors.CallAuditor.put_nothing.Goals as goal
+
+pub returns-in-Free : goal.returns-in-Free
+returns-in-Free g c = (
+  refl,
+  λ h k.
+      let s = c.args.self.now in
+      away_nothing (meant s.capacity) h s.inside.items s.put s.take s.shut k (λ n. no_put s.put n c.in-Free.is),
+)
+
+pub returns-in-Late : goal.returns-in-Late
+returns-in-Late g c = (
+  refl,
+  λ h k.
+      let s = c.args.self.now in
+      let F : PutTurn → Type 0 = λ z. Keeps (meant s.capacity) h s.inside.items z s.take s.shut → Accepts (meant s.capacity) h PutNothing s.inside.items Free s.take s.shut in
+      subst F (sym c.in-Late.is) (λ j. late_nothing (meant s.capacity) h s.inside.items s.take s.shut c.in-Late.offered j) k,
+)
+
+pub returns-then-not-ends_put : goal.returns-then-not-ends_put
+returns-then-not-ends_put g c = (
+  c.if-not-ends_put.ensures.capacity,
+  λ h k.
+      let s = c.args.self.now in
+      let n = c.ends_put.new.self in
+      let e = c.if-not-ends_put.ensures in
+      let F : PutTurn → Type 0 = λ z. Keeps (meant s.capacity) h s.inside.items z s.take s.shut in
+      let (a, b) = not_nothing (meant s.capacity) h s.inside.items s.take s.shut c.in-Offers.offered c.in-Offers.before (subst F c.in-Offers.is k) (λ f. let x : false ≡ true = e.ends.1 f in cc) in
+      (kept_as (meant s.capacity) (meant n.capacity) h s.inside.items n.inside.items s.put n.put s.take n.take s.shut n.shut (ap meant e.capacity) e.inside e.put e.take e.shut k, b),
+)
+
+pub returns-else-not-ends_put : goal.returns-else-not-ends_put
+returns-else-not-ends_put g c = (
+  c.if-not-ends_put.ensures.capacity,
+  λ h k.
+      let s = c.args.self.now in
+      let n = c.ends_put.new.self in
+      let e = c.if-not-ends_put.ensures in
+      let F : PutTurn → Type 0 = λ z. Keeps (meant s.capacity) h s.inside.items z s.take s.shut in
+      let (a, b) = put_nothing (meant s.capacity) h s.inside.items s.take s.shut c.in-Offers.offered c.in-Offers.before (subst F c.in-Offers.is k) (e.ends.0 refl) in
+      (kept_as (meant s.capacity) (meant n.capacity) (h ++ PutNothing ∷ []) _ n.inside.items Free n.put s.take n.take s.shut n.shut (ap meant e.capacity) e.inside e.put e.take e.shut a, b),
+)

@@ -1,0 +1,89 @@
+use Rattle.std.proofs.Common.{◌≡◌, inl, inr, true, false, refl, sym, ap, subst, ◌∙◌, [], ◌∷◌, ◌++◌, arith}
+use Rattle.queue_calls.specs.Calls.{PutShort}
+use Rattle.queue_calls.specs.declared.turns.PutTurn.{PutTurn}
+use Rattle.queue_calls.specs.declared.turns.PutTurn.TheVariants.{Free}
+use Rattle.queue_calls.specs.State.{Keeps, call_of_put}
+use Rattle.queue_calls.specs.Told.{meant}
+use Rattle.queue_calls.proofs.Keeping.{Refused, kept_as}
+use Rattle.queue_calls.proofs.PutEnds.{put_short, not_short, late_not_short}
+use Rattle.queue_calls.proofs.OutOfTurn.{away_short, away_one, no_put}
+use Rattle.queue_calls.proofs.auditors.CallAuditor.put_short.Goals as goal
+use Rattle.queue_calls.proofs.auditors.CallAuditor.put_short.Goals.{then-not-may_lack-via-then-not-may_lack, then-not-may_lack-via-else-not-may_lack+then-not-ends_put}
+
+pub returns-in-Free : goal.returns-in-Free
+returns-in-Free g c = (
+  refl,
+  λ h k.
+      let s = c.args.self.now in
+      away_short (meant s.capacity) h s.inside.items s.put s.take s.shut k (λ n. no_put s.put n c.in-Free.is),
+)
+
+pub returns-else-offered-le1-2 : goal.returns-else-offered-le1-2
+returns-else-offered-le1-2 g c = (
+  refl,
+  λ h k.
+      let s = c.args.self.now in
+      let F : PutTurn → Type 0 = λ z. Keeps (meant s.capacity) h s.inside.items z s.take s.shut → Refused (meant s.capacity) h PutShort s.inside.items z s.take s.shut in
+      subst F (sym c.in-Late.is) (λ j. late_not_short (meant s.capacity) h s.inside.items s.take s.shut c.in-Late.offered j (omega (arith, c.if-offered-le1-2.false))) k,
+)
+
+pub returns-then-offered-le1 : goal.returns-then-offered-le1
+returns-then-offered-le1 g c = (
+  refl,
+  λ h k.
+      let s = c.args.self.now in
+      away_one (meant s.capacity) h s.inside.items s.put s.take s.shut k c.in-Offers.offered (ap call_of_put c.in-Offers.is) (omega (arith, c.if-offered-le1.true)),
+)
+
+pub returns-then-offered-le1-2 : goal.returns-then-offered-le1-2
+returns-then-offered-le1-2 g c = (
+  refl,
+  λ h k.
+      let s = c.args.self.now in
+      away_one (meant s.capacity) h s.inside.items s.put s.take s.shut k c.in-Late.offered (ap call_of_put c.in-Late.is) (omega (arith, c.if-offered-le1-2.true)),
+)
+
+pub returns-then-not-may_lack : goal.returns-then-not-may_lack
+returns-then-not-may_lack g c = elim c.then-not-may_lack.branch [
+  | then-not-may_lack-via-then-not-may_lack w ↦ (
+    ap (λ z. z.capacity) w.self-is,
+    λ h k.
+        let s = c.args.self.now in
+        let n = c.then-not-may_lack.self in
+        let F : PutTurn → Type 0 = λ z. Keeps (meant s.capacity) h s.inside.items z s.take s.shut in
+        let (a, b) = not_short (meant s.capacity) h s.inside.items s.take s.shut c.in-Offers.offered c.in-Offers.before (subst F c.in-Offers.is k)
+        (omega (arith, c.if-offered-le1.false)) (inl (λ f. elim f [ inl e ↦ omega (arith, e, c.if-offered-le1.false) | inr r ↦ (let x : false ≡ true = w.if-not-may_lack.ensures.1 r in cc) ])) in (
+          kept_as (meant s.capacity) (meant n.capacity) h s.inside.items n.inside.items s.put n.put s.take n.take s.shut n.shut (ap (λ z. meant z.capacity) w.self-is)
+              (ap (λ z. z.inside.items) w.self-is) (ap (λ z. z.put) w.self-is) (ap (λ z. z.take) w.self-is) (ap (λ z. z.shut) w.self-is) k,
+          b,
+        ),
+  )
+  | then-not-may_lack-via-else-not-may_lack+then-not-ends_put w ↦ (
+    ap (λ z. z.capacity) w.self-is ∙ w.if-not-ends_put.ensures.capacity,
+    λ h k.
+        let s = c.args.self.now in
+        let n = c.then-not-may_lack.self in
+        let e = w.if-not-ends_put.ensures in
+        let F : PutTurn → Type 0 = λ z. Keeps (meant s.capacity) h s.inside.items z s.take s.shut in
+        let (a, b) = not_short (meant s.capacity) h s.inside.items s.take s.shut c.in-Offers.offered c.in-Offers.before (subst F c.in-Offers.is k)
+        (omega (arith, c.if-offered-le1.false)) (inr (λ f. let x : false ≡ true = e.ends.1 f in cc)) in (
+          kept_as (meant s.capacity) (meant n.capacity) h s.inside.items n.inside.items s.put n.put s.take n.take s.shut n.shut
+              (ap (λ z. meant z.capacity) w.self-is ∙ ap meant e.capacity) (ap (λ z. z.inside.items) w.self-is ∙ e.inside) (ap (λ z. z.put) w.self-is ∙ e.put)
+              (ap (λ z. z.take) w.self-is ∙ e.take) (ap (λ z. z.shut) w.self-is ∙ e.shut) k,
+          b,
+        ),
+  )
+]
+
+pub returns-else-not-ends_put : goal.returns-else-not-ends_put
+returns-else-not-ends_put g c = (
+  c.if-not-ends_put.ensures.capacity,
+  λ h k.
+      let s = c.args.self.now in
+      let n = c.ends_put.new.self in
+      let e = c.if-not-ends_put.ensures in
+      let F : PutTurn → Type 0 = λ z. Keeps (meant s.capacity) h s.inside.items z s.take s.shut in
+      let (a, b) = put_short (meant s.capacity) h s.inside.items s.take s.shut c.in-Offers.offered c.in-Offers.before (subst F c.in-Offers.is k)
+      (omega (arith, c.if-offered-le1.false)) (inr (c.if-not-may_lack.ensures.0 refl)) (e.ends.0 refl) in
+      (kept_as (meant s.capacity) (meant n.capacity) (h ++ PutShort ∷ []) _ n.inside.items Free n.put s.take n.take s.shut n.shut (ap meant e.capacity) e.inside e.put e.take e.shut a, b),
+)

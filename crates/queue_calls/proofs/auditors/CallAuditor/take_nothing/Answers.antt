@@ -1,0 +1,31 @@
+use Rattle.std.proofs.Common.{◌≡◌, refl, ◌∙◌, true, false}
+use Rattle.queue_calls.specs.Calls.{TakeNothing}
+use Rattle.queue_calls.specs.Told.{meant}
+use Rattle.queue_calls.specs.declared.turns.TakeTurn.TheVariants.{Rests, Waits}
+use Rattle.queue_calls.proofs.Reading.{reads, refuses}
+use Rattle.queue_calls.proofs.TakeEnds.{take_nothing, not_nothing}
+use Rattle.queue_calls.proofs.OutOfTurn.{away_take_nothing, no_take}
+use Rattle.queue_calls.proofs.auditors.CallAuditor.take_nothing.Goals as goal
+
+pub returns-in-Rests : goal.returns-in-Rests
+returns-in-Rests g c =
+    let s = c.args.self.now in
+    (refl, λ h k. away_take_nothing (meant s.capacity) h s.inside.items s.put s.take s.shut k (λ n. no_take s.take n c.in-Rests.is))
+
+pub returns-then-not-ends_take : goal.returns-then-not-ends_take
+returns-then-not-ends_take g c =
+    let s = c.args.self.now in
+    let w = c.in-Waits in
+    let e = c.if-not-ends_take.ensures in
+    refuses s c.ends_take.new.self TakeNothing s.capacity s.inside.items s.put (Waits w.wanted w.before w.ended) s.shut (refl, refl, refl, w.is, refl)
+    (e.capacity, e.inside, e.put, e.take ∙ w.is, e.shut)
+    (λ h k. not_nothing (meant s.capacity) h s.put s.shut s.inside.items w.wanted w.before w.ended k (λ f. let b : false ≡ true = e.ends.1 f in cc))
+
+pub returns-else-not-ends_take : goal.returns-else-not-ends_take
+returns-else-not-ends_take g c =
+    let s = c.args.self.now in
+    let w = c.in-Waits in
+    let e = c.if-not-ends_take.ensures in
+    reads s c.ends_take.new.self TakeNothing s.capacity s.inside.items s.put (Waits w.wanted w.before w.ended) s.shut (refl, refl, refl, w.is, refl)
+    s.inside.items s.put Rests s.shut (e.capacity, e.inside, e.put, e.take, e.shut)
+    (λ h k. take_nothing (meant s.capacity) h s.put s.shut s.inside.items w.wanted w.before w.ended k (e.ends.0 refl))

@@ -1,0 +1,25 @@
+use Rattle.std.proofs.Common.{refl, sym, subst}
+use Rattle.std.proofs.lemmas.Bool.{false≢true}
+use Rattle.queue_calls.specs.Lines.{Allows}
+use Rattle.queue_calls.specs.LineReading.{ReadsNumbers}
+use Rattle.queue_calls.proofs.LineLemmas.{line_is, no_line_numbers, no_line_allowed}
+use Rattle.queue_calls.proofs.lines.read_line.Goals as goal
+use Rattle.queue_calls.proofs.lines.read_line.Goals.{else-branch-via-then-branch+else-allows, else-branch-via-else-branch}
+
+pub returns-then-allows-clause-line : goal.returns-then-allows-clause-line
+returns-then-allows-clause-line g c =
+    line_is c.args.bytes.now c.in-Some.rest.now c.in-Some.word c.read_numbers.new.numbers.items c.in-Some.ensures
+    (subst (λ t. ReadsNumbers c.in-Some.rest.now t c.read_numbers.new.numbers.items) c.if-branch.true c.in_ok-read_numbers.ensures)
+    (subst (λ ns. Allows c.in-Some.word ns) c.deref.ensures.value (c.if-allows.ensures.0 refl))
+
+pub returns-else-branch-clause-none : goal.returns-else-branch-clause-none
+returns-else-branch-clause-none g c none word told =
+    elim c.else-branch.branch [
+      | else-branch-via-then-branch+else-allows w ↦
+          no_line_allowed c.args.bytes.now c.in-Some.rest.now c.in-Some.word c.read_numbers.new.numbers.items c.in-Some.ensures
+          (subst (λ t. ReadsNumbers c.in-Some.rest.now t c.read_numbers.new.numbers.items) w.if-branch.true c.in_ok-read_numbers.ensures)
+          (λ allowed. false≢true (w.if-allows.ensures.1 (subst (λ ns. Allows c.in-Some.word ns) (sym w.deref.ensures.value) allowed))) word told
+      | else-branch-via-else-branch w ↦
+          no_line_numbers c.args.bytes.now c.in-Some.rest.now c.in-Some.word c.in-Some.ensures
+          (subst (λ t. ReadsNumbers c.in-Some.rest.now t c.read_numbers.new.numbers.items) w.if-branch.false c.in_ok-read_numbers.ensures) word told
+    ]

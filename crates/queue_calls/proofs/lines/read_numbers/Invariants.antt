@@ -1,0 +1,14 @@
+use Rattle.std.proofs.Common.{◌≡◌, ◌++◌, length, List, ℕ}
+use Rattle.queue_calls.specs.Lines.{AreSmall, numbers_text}
+use Rattle.queue_calls.proofs.lines.read_numbers.Given as goal
+
+-- the numbers so far and what is left are all; where all of it is numbers, what is left is
+abbrev pub invariant-loop-left : goal.invariant-loop-left
+invariant-loop-left g l = record {
+  text : l.bytes ≡ numbers_text l.numbers.items ++ l.left;
+  small : AreSmall l.numbers.items;
+  more : (told : List ℕ) → AreSmall told → l.bytes ≡ numbers_text told → (more : List ℕ) × AreSmall more × (l.left ≡ numbers_text more);
+}
+
+abbrev pub decreases-loop-left : goal.decreases-loop-left
+decreases-loop-left g l = length l.left

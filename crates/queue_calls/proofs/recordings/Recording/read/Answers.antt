@@ -1,0 +1,48 @@
+use Rattle.std.proofs.Common.{◌≡◌, ◌≢◌, ◌∙◌, ◌++◌, ◌∷◌, [], List, ℕ, ap, sym, subst, append_assoc, rules}
+use Rattle.std.proofs.lemmas.List.Elements.{All-append}
+use Rattle.queue_calls.specs.Recordings.{RefusesText, lines_text}
+use Rattle.queue_calls.specs.RecordingStates.{HasNoFeed, HasRead}
+use Rattle.queue_calls.proofs.recordings.Recording.read.Goals as goal
+
+-- a piece of which so much was read, and then a line
+line_read : (piece read rest end more : List ℕ) → piece ≡ read ++ rest → rest ≡ end ++ 10 ∷ more → piece ≡ (read ++ (end ++ 10 ∷ [])) ++ more
+line_read piece read rest end more one two =
+    one ∙ ap (λ (t : List ℕ). read ++ t) (two ∙ sym (append_assoc end (10 ∷ []) more)) ∙ sym (append_assoc read (end ++ 10 ∷ []) more)
+
+-- the bytes before and behind what ends a line
+line_refused : (bytes piece read rest end left more : List ℕ) → piece ≡ read ++ rest → rest ≡ end ++ 10 ∷ left → (bytes ++ read) ++ (end ++ 10 ∷ (left ++ more)) ≡ bytes ++ (piece ++ more)
+line_refused bytes piece read rest end left more one two =
+    append_assoc bytes read (end ++ 10 ∷ (left ++ more))
+    ∙ ap (λ (t : List ℕ). bytes ++ t) (ap (λ (t : List ℕ). read ++ t) (sym (append_assoc end (10 ∷ left) more) ∙ ap (λ (t : List ℕ). t ++ more) (sym two))
+    ∙ sym (append_assoc read rest more) ∙ ap (λ (t : List ℕ). t ++ more) (sym one))
+
+pub returns-in_err-read_end-clause-refused : goal.returns-in_err-read_end-clause-refused
+returns-in_err-read_end-clause-refused g c =
+    let read = c.loop-end.invariant in
+    let refused : (bytes more : List ℕ) → HasRead {A = g.row.A.Denot} c.args.self.now bytes → RefusesText c.in_err-read_end.field-0.0 (bytes ++ (c.args.piece.now ++ more)) =
+    λ bytes more has.
+    subst (RefusesText c.in_err-read_end.field-0.0) (line_refused bytes c.args.piece.now read.0 c.loop-end.rest.now c.in-Some.end.now c.in-Some.more.now more read.1 c.in-Some.ensures.1)
+    (c.in_err-read_end.ensures.refused (bytes ++ read.0) (c.in-Some.more.now ++ more) (read.2 bytes has)) in
+    search (rules, refused)
+
+pub loop-end-preserved : goal.loop-end-preserved
+loop-end-preserved g c =
+    let read = c.loop-end.invariant in
+    let line : List ℕ = c.in-Some.end.now ++ 10 ∷ [] in (
+      read.0 ++ line,
+      line_read c.args.piece.now read.0 c.loop-end.rest.now c.in-Some.end.now c.in-Some.more.now read.1 c.in-Some.ensures.1,
+      λ bytes has. subst (λ t. HasRead {A = g.row.A.Denot} c.read_end.new.self t) (append_assoc (bytes ++ read.0) c.in-Some.end.now (10 ∷ []) ∙ append_assoc bytes read.0 line) (c.in_ok-read_end.ensures.read (bytes ++ read.0) (read.2 bytes has)),
+    )
+
+pub returns-clause-read : goal.returns-clause-read
+returns-clause-read g c bytes has =
+    let read = c.loop-end.invariant in
+    let so_far = read.2 bytes has in
+    let cut : c.extend_from_slice.new.self.items ≡ c.loop-end.self.cut.items ++ c.loop-end.rest.now = c.in_ok-extend_from_slice.ensures.items in
+    record {
+      ended = so_far.ended;
+      text = ap (λ (t : List ℕ). bytes ++ t) read.1 ∙ sym (append_assoc bytes read.0 c.loop-end.rest.now) ∙ ap (λ (t : List ℕ). t ++ c.loop-end.rest.now) so_far.text
+          ∙ append_assoc (lines_text so_far.ended) c.loop-end.self.cut.items c.loop-end.rest.now ∙ ap (λ (t : List ℕ). lines_text so_far.ended ++ t) (sym cut);
+      no_feed = subst HasNoFeed (sym cut) (All-append (λ b. b ≢ 10) c.loop-end.self.cut.items c.loop-end.rest.now so_far.no_feed c.in_default.ensures);
+      lines = so_far.lines;
+    }

@@ -1,0 +1,61 @@
+-- What is kept of a recording that is being read.
+use Rattle.std.specs.Prelude.{◌≡◌, ◌≢◌, ℕ, ◌+◌, ◌-◌, ◌^◌, List, [], ◌∷◌, ◌++◌, Option, Some, None, length, All}
+use Rattle.queue_calls.specs.Queue.{Capacity}
+use Rattle.queue_calls.specs.Calls.{Event, IsLinearizable}
+use Rattle.queue_calls.specs.Audits.{Audits}
+use Rattle.queue_calls.specs.Told.{meant}
+use Rattle.queue_calls.specs.Lines.{line_text}
+use Rattle.queue_calls.specs.Recordings.{Line, line, lines_text, AreLines, capacity_told, events_told, begun_behind, IsFoundOf}
+use Rattle.queue_calls.specs.declared.lines.Word.TheVariants.{Queue}
+use Rattle.queue_calls.specs.declared.auditors.CallAuditor.{CallAuditor}
+use Rattle.queue_calls.specs.declared.recordings.Begun.TheVariants.{Nothing}
+use Rattle.queue_calls.specs.declared.recordings.CallsFinding.{CallsFinding}
+use Rattle.queue_calls.specs.declared.recordings.CallsFinding.TheVariants.{Lawful}
+use Rattle.queue_calls.specs.declared.recordings.RecordingFault.{RecordingFault}
+use Rattle.queue_calls.specs.declared.recordings.RecordingFault.TheVariants.{BadLine, TooLong, OutOfMemory}
+use Rattle.queue_calls.specs.declared.recordings.Hearing.{Hearing}
+use Rattle.queue_calls.specs.declared.recordings.Lines.{Lines}
+use Rattle.queue_calls.specs.declared.recordings.Recording.{Recording}
+
+-- no byte is a line feed
+abbrev pub HasNoFeed : List ℕ → Type 0
+HasNoFeed bytes = All (λ b. b ≢ 10) bytes
+
+-- the first fault of a history, or none so far
+abbrev pub IsFirstFault : {A : Type 0} → Option CallsFinding → CallAuditor A → Capacity → List Event → Type 0
+IsFirstFault None auditor capacity events = Audits auditor events × IsLinearizable capacity events
+IsFirstFault (Some (Lawful report)) auditor capacity events = ⊥
+IsFirstFault (Some fault) auditor capacity events = IsFoundOf capacity events fault
+
+-- these events were heard, of a queue of this capacity
+abbrev pub HasHeard : {A : Type 0} → Hearing A → Capacity → List Event → Type 0
+HasHeard hearing capacity events = (meant hearing.auditor.capacity ≡ capacity) × IsFirstFault hearing.fault hearing.auditor capacity events
+
+-- lines were heard
+abbrev pub HeardLines : {A : Type 0} → Option (Hearing A) → List Line → Type 0
+HeardLines None lines = lines ≡ []
+HeardLines (Some hearing) lines = (first : List ℕ) × (further : List Line) × (lines ≡ line Queue first ∷ further)
+    × (hearing.begun ≡ begun_behind Nothing further) × HasHeard hearing (capacity_told first) (events_told Nothing further)
+
+-- these lines have ended
+pub record HasLines {A : Type 0} (lines : Lines A) (ended : List Line) : Type 0 where
+  pub are : AreLines ended
+  pub count : lines.count ≡ length ended
+  pub heard : HeardLines lines.hearing ended
+
+-- bytes without a line feed are a line that goes on with lines
+abbrev pub GoesOn : List Line → List ℕ → Line → Type 0
+GoesOn before bytes l = AreLines (before ++ l ∷ []) × (bytes ≡ line_text l.word l.numbers)
+
+-- why a line is refused behind lines
+abbrev pub RefusesLine : RecordingFault → List Line → List ℕ → Type 0
+RefusesLine (BadLine number) before bytes = (length before + 1 ≡ number) × ((l : Line) → ¬ (GoesOn before bytes l))
+RefusesLine TooLong before bytes = length before ≡ 2 ^ 64 - 1
+RefusesLine OutOfMemory before bytes = Unit {0}
+
+-- these bytes were read
+pub record HasRead {A : Type 0} (recording : Recording A) (bytes : List ℕ) : Type 0 where
+  pub ended : List Line
+  pub text : bytes ≡ lines_text ended ++ recording.cut.items
+  pub no_feed : HasNoFeed recording.cut.items
+  pub lines : HasLines recording.lines ended

@@ -1,0 +1,150 @@
+-- The text of recorded calls, and what is found of it: a first line that tells the capacity, and further lines that tell the events.
+use Rattle.std.specs.Prelude.{◌≡◌, ◌≢◌, ℕ, ◌+◌, ◌-◌, ◌^◌, ◌≤◌, nat_lt, if◌then◌else◌, List, [], ◌∷◌, ◌++◌, Option, Some, None, length, codes, All, flat_map}
+use Rattle.queue_calls.specs.Queue.{Capacity, Unbounded, Between, exactly}
+use Rattle.queue_calls.specs.Calls.{Event, PutBegin, PutStored, PutFull, PutShort, PutNothing, PutClosed, CloseBegin, CloseEnd, TakeBegin, TakeItems, TakeEmpty, TakeShort, TakeNothing, TakeClosed, IsLinearizable}
+use Rattle.queue_calls.specs.InTurn.{IsInTurn}
+use Rattle.queue_calls.specs.Lines.{line_text, Allows, AreSmall}
+use Rattle.queue_calls.specs.declared.lines.Word.{Word}
+use Rattle.queue_calls.specs.declared.lines.Word.TheVariants as word
+use Rattle.queue_calls.specs.declared.recordings.Begun.{Begun}
+use Rattle.queue_calls.specs.declared.recordings.Begun.TheVariants as begun
+use Rattle.queue_calls.specs.declared.recordings.CallsFinding.{CallsFinding}
+use Rattle.queue_calls.specs.declared.recordings.CallsFinding.TheVariants.{Lawful, OutOfTurn, NotLinearizable}
+use Rattle.queue_calls.specs.declared.recordings.RecordingFault.{RecordingFault}
+use Rattle.queue_calls.specs.declared.recordings.RecordingFault.TheVariants.{BadLine, TooLong, OutOfMemory}
+
+-- a line: its word and its numbers
+pub record Line : Type 0 where
+  pub word : Word
+  pub numbers : List ℕ
+
+abbrev pub line : Word → List ℕ → Line
+line word numbers = record { word = word; numbers = numbers }
+
+-- its text, with its line feed, and that of lines
+abbrev pub text_of : Line → List ℕ
+text_of l = line_text l.word l.numbers ++ codes "\n"
+
+abbrev pub lines_text : List Line → List ℕ
+lines_text lines = flat_map text_of lines
+
+-- a line is of the format
+abbrev pub IsOfFormat : Line → Type 0
+IsOfFormat l = Allows l.word l.numbers × AreSmall l.numbers
+
+-- it may stand behind the first line
+abbrev pub IsFurther : Line → Type 0
+IsFurther l = (l.word ≢ word.Queue) × IsOfFormat l
+
+-- lines as they have to be: the first one tells the capacity, and no other one does
+abbrev pub AreLines : List Line → Type 0
+AreLines [] = Unit {0}
+AreLines (first ∷ further) = (first.word ≡ word.Queue) × IsOfFormat first × All IsFurther further
+
+-- the capacity that the numbers of the first line tell
+abbrev pub capacity_told : List ℕ → Capacity
+capacity_told [] = Unbounded
+capacity_told (most ∷ []) = exactly most
+capacity_told (full ∷ most ∷ more) = Between full most
+
+-- how many items a put stored that began last and has ended: all that it offered, or fewer; a number that says not fewer is out of
+-- turn, as 0 is
+abbrev pub stored_told : Begun → List ℕ → ℕ
+stored_told (begun.Put offered) [] = offered
+stored_told (begun.Put offered) (count ∷ more) = if nat_lt count offered then count else 0
+stored_told _ _ = 0
+
+-- how many items a take wants
+abbrev pub wanted_told : List ℕ → ℕ
+wanted_told [] = 1
+wanted_told (wanted ∷ more) = wanted
+
+-- what ends with the word `closed` of the producer
+abbrev pub closed_told : Begun → Event
+closed_told begun.Close = CloseEnd
+closed_told _ = PutClosed
+
+-- the event that a line behind the first tells, where the producer began this last
+abbrev pub event_told : Begun → Word → List ℕ → Option Event
+event_told b word.Queue numbers = None
+event_told b word.Put numbers = Some (PutBegin numbers)
+event_told b word.Stored numbers = Some (PutStored (stored_told b numbers))
+event_told b word.Full numbers = Some PutFull
+event_told b word.Short numbers = Some PutShort
+event_told b word.PutNothing numbers = Some PutNothing
+event_told b word.PutClosed numbers = Some (closed_told b)
+event_told b word.Close numbers = Some CloseBegin
+event_told b word.Take numbers = Some (TakeBegin (wanted_told numbers))
+event_told b word.Item numbers = Some (TakeItems numbers)
+event_told b word.Empty numbers = Some TakeEmpty
+event_told b word.TakeShort numbers = Some TakeShort
+event_told b word.TakeNothing numbers = Some TakeNothing
+event_told b word.TakeClosed numbers = Some TakeClosed
+
+-- what the producer began last, behind a line
+abbrev pub begun_after : Begun → Word → List ℕ → Begun
+begun_after b word.Put numbers = begun.Put (length numbers)
+begun_after b word.Close numbers = begun.Close
+begun_after b _ numbers = b
+
+-- behind lines
+abbrev pub begun_behind : Begun → List Line → Begun
+begun_behind b [] = b
+begun_behind b (l ∷ lines) = begun_behind (begun_after b l.word l.numbers) lines
+
+-- an event, where there is one, and others behind it
+abbrev pub and_then : Option Event → List Event → List Event
+and_then None events = events
+and_then (Some event) events = event ∷ events
+
+-- the events that lines tell
+abbrev pub events_told : Begun → List Line → List Event
+events_told b [] = []
+events_told b (l ∷ lines) = and_then (event_told b l.word l.numbers) (events_told (begun_after b l.word l.numbers) lines)
+
+-- the text is a recording of this history of a queue of this capacity
+pub record IsRecording (bytes : List ℕ) (capacity : Capacity) (events : List Event) : Type 0 where
+  pub first : List ℕ
+  pub further : List Line
+  pub text : bytes ≡ lines_text (line word.Queue first ∷ further)
+  pub are : AreLines (line word.Queue first ∷ further)
+  pub tells_capacity : capacity ≡ capacity_told first
+  pub tells_events : events ≡ events_told begun.Nothing further
+
+-- the line of this number is the first that is missing, unfinished, or not as it has to be: lines before it, and something behind
+-- them, or nothing before the first one, that does not begin with a line that may stand there
+pub record IsBadLine (bytes : List ℕ) (number : ℕ) : Type 0 where
+  pub before : List Line
+  pub rest : List ℕ
+  pub text : bytes ≡ lines_text before ++ rest
+  pub are : AreLines before
+  pub is_number : length before + 1 ≡ number
+  pub is_bad : (l : Line) (more : List ℕ) → AreLines (before ++ l ∷ []) → rest ≢ text_of l ++ more
+  pub is_there : rest ≡ [] → before ≡ []
+
+-- why bytes are no recording that is read to its end: a bad line; or so many bytes that their lines may be too many to be counted
+abbrev pub RefusesText : RecordingFault → List ℕ → Type 0
+RefusesText (BadLine number) bytes = IsBadLine bytes number
+RefusesText TooLong bytes = 2 ^ 64 - 1 ≤ length bytes
+RefusesText OutOfMemory bytes = Unit {0}
+
+-- the event of the line of this number is the first one with which the history is not linearizable
+pub record StopsAt (capacity : Capacity) (events : List Event) (number : ℕ) (Says : List Event → Type 0) : Type 0 where
+  pub before : List Event
+  pub event : Event
+  pub rest : List Event
+  pub parts : events ≡ before ++ event ∷ rest
+  pub is_number : length before + 2 ≡ number
+  pub so_far : IsLinearizable capacity before
+  pub stops : ¬ (IsLinearizable capacity (before ++ event ∷ []))
+  pub says : Says (before ++ event ∷ [])
+
+-- what is found of a history
+abbrev pub IsFoundOf : Capacity → List Event → CallsFinding → Type 0
+IsFoundOf capacity events (Lawful report) = IsLinearizable capacity events
+IsFoundOf capacity events (OutOfTurn number) = StopsAt capacity events number (λ h. ¬ (IsInTurn h))
+IsFoundOf capacity events (NotLinearizable number cause) = StopsAt capacity events number IsInTurn
+
+-- what is found of a text
+abbrev pub IsFindingOf : List ℕ → CallsFinding → Type 0
+IsFindingOf bytes finding = (capacity : Capacity) × (events : List Event) × IsRecording bytes capacity events × IsFoundOf capacity events finding

@@ -1,0 +1,23 @@
+//! How many items a queue may hold.
+ghost use Rattle.std.specs.Prelude.{◌≡◌};
+ghost use Rattle.queue_calls.specs.declared.capacities.Capacity.TheVariants.{Between};
+
+/// How many items a queue may hold.
+#[derive(Clone, Copy, PartialEq, Eq, Debug)]
+pub enum Capacity {
+    /// Any number: it never lacks room.
+    Unbounded,
+    /// Never more than `most`; and with `full` it may say that it has no room for one more. Queues that tell their
+    /// capacity inexactly are so; `full` is at least 1, and at most `most`.
+    Between { full: usize, most: usize },
+}
+
+/// The capacity of a queue that holds just so many items.
+pub fn exactly(capacity: usize) -> Capacity
+    ensures { result ≡ Between capacity capacity }
+{
+    Capacity::Between {
+        full: capacity,
+        most: capacity,
+    }
+}

@@ -1,0 +1,214 @@
+//! The lines of a recording's text.
+ghost use Rattle.std.specs.Prelude.{◌≡◌, ◌↔◌, IsTrue, None, IfOk, IfSome, ℕ, List, option_map};
+ghost use Rattle.queue_calls.specs.Lines.{Allows, IsLine, word_text};
+ghost use Rattle.queue_calls.specs.LineReading.{ReadsNumbers, after, number_after, number_at, put_word_at, take_word_at, word_at};
+
+use std::alloc::{AllocError, Allocator};
+
+/// The words that a line of a recording begins with.
+#[derive(Clone, Copy, PartialEq, Eq, Debug)]
+pub enum Word {
+    /// `queue`: what queue it is.
+    Queue,
+    /// `P put`: a put begins.
+    Put,
+    /// `P stored`: the put ends.
+    Stored,
+    /// `P full`: the put ends.
+    Full,
+    /// `P short`: the put ends.
+    Short,
+    /// `P nothing`: the put ends.
+    PutNothing,
+    /// `P closed`: the put or the close ends.
+    PutClosed,
+    /// `P close`: a close begins.
+    Close,
+    /// `C take`: a take begins.
+    Take,
+    /// `C item`: the take ends.
+    Item,
+    /// `C empty`: the take ends.
+    Empty,
+    /// `C short`: the take ends.
+    TakeShort,
+    /// `C nothing`: the take ends.
+    TakeNothing,
+    /// `C closed`: the take ends.
+    TakeClosed,
+}
+
+impl Word {
+    /// The word as it stands in a line.
+    pub fn text(self) -> &'static str
+        ensures { result.now ≡ word_text self }
+    {
+        match self {
+            Word::Queue => "queue",
+            Word::Put => "P put",
+            Word::Stored => "P stored",
+            Word::Full => "P full",
+            Word::Short => "P short",
+            Word::PutNothing => "P nothing",
+            Word::PutClosed => "P closed",
+            Word::Close => "P close",
+            Word::Take => "C take",
+            Word::Item => "C item",
+            Word::Empty => "C empty",
+            Word::TakeShort => "C short",
+            Word::TakeNothing => "C nothing",
+            Word::TakeClosed => "C closed",
+        }
+    }
+}
+
+/// Reads one line, without its line feed: its word, and in `numbers` its numbers in place of what was there. It is
+/// `None` where the bytes are no line of the format, and an error only where memory for the numbers ran out; `numbers`
+/// may then hold anything.
+pub fn read_line<A: Allocator>(
+    bytes: &[u8],
+    numbers: &mut Vec<u64, A>,
+) -> Result<Option<Word>, AllocError>
+    ensures line { IfOk result (λ read. IfSome read (λ word. IsLine bytes.now word numbers.new.items)) }
+    ensures none { IfOk result (λ read. read ≡ None → (word : Word) (told : List ℕ) → ¬ IsLine bytes.now word told) }
+{
+    let Some((word, rest)) = word_at(bytes) else {
+        return Ok(None);
+    };
+    if read_numbers(rest, numbers)? && allows(word, numbers) {
+        Ok(Some(word))
+    } else {
+        Ok(None)
+    }
+}
+
+// The word at the front, and the bytes behind it.
+fn word_at(bytes: &[u8]) -> Option<(Word, &[u8])>
+    ensures { option_map (λ x. (x.0, x.1.now)) result ≡ word_at bytes.now }
+{
+    if let Some(rest) = after(bytes, "queue") {
+        return Some((Word::Queue, rest));
+    }
+    if let Some(rest) = after(bytes, "P ") {
+        return put_word_at(rest);
+    }
+    let rest = after(bytes, "C ")?;
+    take_word_at(rest)
+}
+
+fn put_word_at(bytes: &[u8]) -> Option<(Word, &[u8])>
+    ensures { option_map (λ x. (x.0, x.1.now)) result ≡ put_word_at bytes.now }
+{
+    if let Some(rest) = after(bytes, "put") {
+        return Some((Word::Put, rest));
+    }
+    if let Some(rest) = after(bytes, "stored") {
+        return Some((Word::Stored, rest));
+    }
+    if let Some(rest) = after(bytes, "full") {
+        return Some((Word::Full, rest));
+    }
+    if let Some(rest) = after(bytes, "short") {
+        return Some((Word::Short, rest));
+    }
+    if let Some(rest) = after(bytes, "nothing") {
+        return Some((Word::PutNothing, rest));
+    }
+    if let Some(rest) = after(bytes, "closed") {
+        return Some((Word::PutClosed, rest));
+    }
+    let rest = after(bytes, "close")?;
+    Some((Word::Close, rest))
+}
+
+fn take_word_at(bytes: &[u8]) -> Option<(Word, &[u8])>
+    ensures { option_map (λ x. (x.0, x.1.now)) result ≡ take_word_at bytes.now }
+{
+    if let Some(rest) = after(bytes, "take") {
+        return Some((Word::Take, rest));
+    }
+    if let Some(rest) = after(bytes, "item") {
+        return Some((Word::Item, rest));
+    }
+    if let Some(rest) = after(bytes, "empty") {
+        return Some((Word::Empty, rest));
+    }
+    if let Some(rest) = after(bytes, "short") {
+        return Some((Word::TakeShort, rest));
+    }
+    if let Some(rest) = after(bytes, "nothing") {
+        return Some((Word::TakeNothing, rest));
+    }
+    let rest = after(bytes, "closed")?;
+    Some((Word::TakeClosed, rest))
+}
+
+// The bytes behind a text that stands at the front.
+fn after<'a>(bytes: &'a [u8], text: &str) -> Option<&'a [u8]>
+    ensures { option_map (λ rest. rest.now) result ≡ after text.now bytes.now }
+{
+    bytes.strip_prefix(text.as_bytes())
+}
+
+// Reads numbers with a space before each of them, and tells whether the bytes are such.
+fn read_numbers<A: Allocator>(bytes: &[u8], numbers: &mut Vec<u64, A>) -> Result<bool, AllocError>
+    ensures { IfOk result (λ read. ReadsNumbers bytes.now read numbers.new.items) }
+{
+    numbers.clear();
+    let mut left = bytes;
+    while !left.is_empty() {
+        let Some((number, rest)) = number_at(left) else {
+            return Ok(false);
+        };
+        numbers.push(number)?;
+        left = rest;
+    }
+    Ok(true)
+}
+
+// The number behind a space at the front, and the bytes behind it.
+#[tactic(auto, unfolding(crate::specs::LineReading::number_at, crate::specs::LineReading::digits_at))]
+fn number_at(bytes: &[u8]) -> Option<(u64, &[u8])>
+    ensures { option_map (λ x. (x.0, x.1.now)) result ≡ number_at bytes.now }
+{
+    let digits = after(bytes, " ")?;
+    let (first, rest) = digits.split_first()?;
+    if !first.is_ascii_digit() {
+        return None;
+    }
+    if *first == b'0' {
+        return Some((0, rest));
+    }
+    number_after(u64::from(*first - b'0'), rest)
+}
+
+// The number that goes on with the digits at the front, where it fits 64 bits, and the bytes behind them.
+fn number_after(begun: u64, bytes: &[u8]) -> Option<(u64, &[u8])>
+    ensures { option_map (λ x. (x.0, x.1.now)) result ≡ number_after begun bytes.now }
+{
+    let mut number = begun;
+    for (i, digit) in bytes.iter().enumerate() {
+        if !digit.is_ascii_digit() {
+            return Some((number, &bytes[i..]));
+        }
+        number = number
+            .checked_mul(10)?
+            .checked_add(u64::from(*digit - b'0'))?;
+    }
+    Some((number, &[]))
+}
+
+// Whether these numbers may stand behind the word.
+fn allows(word: Word, numbers: &[u64]) -> bool
+    ensures { IsTrue result ↔ Allows word numbers.now }
+{
+    match (word, numbers) {
+        (Word::Queue, [most]) => 1 <= *most,
+        (Word::Queue, [least, most]) => 1 <= *least && least < most,
+        (Word::Put | Word::Item, [_, ..]) => true,
+        (Word::Stored, [count]) => 1 <= *count,
+        (Word::Take, [count]) => 2 <= *count,
+        (Word::Put | Word::Item, []) => false,
+        (_, numbers) => numbers.is_empty(),
+    }
+}

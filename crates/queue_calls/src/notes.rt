@@ -1,0 +1,491 @@
+//! What the lines of a recording have told, beside what its auditor keeps: the numbers of the report, and what it takes to say
+//! what speaks against a line.
+
+use crate::capacities::Capacity;
+use crate::causes::Cause;
+use crate::events::Event;
+use crate::reports::Report;
+use std::alloc::{AllocError, Allocator};
+use std::collections::VecDeque;
+
+/// How many of the items taken last are looked through for one that comes again.
+pub const TAKEN_LIMIT: usize = 65_536;
+
+// An item that was offered and not taken, with the lines that began and ended its put; the latter is 0 until it comes.
+#[derive(Clone, Copy)]
+struct Offered {
+    item: u64,
+    offered_at: u64,
+    stored_at: u64,
+}
+
+// An item that was taken, with the line that ended its take.
+#[derive(Clone, Copy)]
+struct Taken {
+    item: u64,
+    taken_at: u64,
+}
+
+// A put under way: whether a close had ended before it, and how many items had been taken then.
+#[derive(Clone, Copy)]
+struct Putting {
+    late: bool,
+    taken: usize,
+}
+
+// A take under way: how many items it wants; and before it, how many had been stored, and whether a close had ended.
+#[derive(Clone, Copy)]
+struct Taking {
+    wanted: usize,
+    stored: usize,
+    late: bool,
+}
+
+// A side's call under way: what it is, and whether it has overlapped one of the other side.
+#[derive(Clone, Copy)]
+struct Call<T> {
+    of: T,
+    overlapped: bool,
+}
+
+#[derive(Drop)]
+pub struct Notes<A: Allocator> {
+    full: usize,
+    most: usize,
+    report: Report,
+    // the items that may be taken, in order: those stored, and those that the put under way offers
+    inside: VecDeque<Offered, A>,
+    // all items of the last put
+    offers: Vec<u64, A>,
+    // the items taken last
+    taken: VecDeque<Taken, A>,
+    // none where the call is a close
+    producer: Option<Call<Option<Putting>>>,
+    consumer: Option<Call<Taking>>,
+    has_close: bool,
+    // the line that ended the first close
+    closed_at: Option<u64>,
+}
+
+impl<A: Allocator + Copy> Notes<A> {
+    /// Nothing of a queue of this capacity; the largest number stands for none.
+    pub fn new(alloc: A, capacity: Capacity) -> Notes<A> {
+        let (full, most) = match capacity {
+            Capacity::Unbounded => (usize::MAX, usize::MAX),
+            Capacity::Between { full, most } => (full, most),
+        };
+        Notes {
+            full,
+            most,
+            report: Report {
+                calls: 0,
+                stored: 0,
+                taken: 0,
+                full: 0,
+                empty: 0,
+                nothing: 0,
+                told: false,
+                surely_inside: 0,
+                perhaps_inside: 0,
+                overlapped: 0,
+                under_way: 0,
+            },
+            inside: VecDeque::new(alloc),
+            offers: Vec::new(alloc),
+            taken: VecDeque::new(alloc),
+            producer: None,
+            consumer: None,
+            has_close: false,
+            closed_at: None,
+        }
+    }
+
+    /// The report on the lines so far.
+    pub fn report(&self) -> Report {
+        let mut report = self.report;
+        report.under_way = usize::from(self.producer.is_some())
+            + usize::from(self.consumer.is_some());
+        report
+    }
+
+    /// Notes an event, of this line, with which the history is linearizable.
+    pub fn note(&mut self, line: u64, event: Event<'_>) -> Result<(), AllocError> {
+        match event {
+            Event::PutBegins(items) => self.put_begins(line, items)?,
+            Event::PutStored(count) => {
+                if count < self.offers.len() {
+                    self.report.full = self.report.full.saturating_add(1);
+                }
+                self.put_ends(line, count);
+            }
+            Event::PutFull | Event::PutShort => {
+                self.report.full = self.report.full.saturating_add(1);
+                self.put_ends(line, 0);
+            }
+            Event::PutNothing => {
+                self.report.nothing = self.report.nothing.saturating_add(1);
+                self.put_ends(line, 0);
+            }
+            Event::PutClosed => self.producer = None,
+            Event::CloseBegins => {
+                self.has_close = true;
+                self.producer_begins(None);
+            }
+            Event::CloseEnds => {
+                self.closed_at = self.closed_at.or(Some(line));
+                self.producer = None;
+            }
+            Event::TakeBegins(wanted) => self.take_begins(wanted),
+            Event::TakeItems(items) => {
+                for item in items {
+                    self.take(line, *item)?;
+                }
+                self.consumer = None;
+            }
+            Event::TakeEmpty | Event::TakeShort => {
+                self.report.empty = self.report.empty.saturating_add(1);
+                self.consumer = None;
+            }
+            Event::TakeNothing => {
+                self.report.nothing = self.report.nothing.saturating_add(1);
+                self.consumer = None;
+            }
+            Event::TakeClosed => {
+                self.report.told = true;
+                self.consumer = None;
+            }
+        }
+        self.report.surely_inside = self.report.surely_inside.max(self.surely_inside());
+        Ok(())
+    }
+
+    // How many items are inside, whatever the take under way has taken.
+    fn surely_inside(&self) -> usize {
+        self.report
+            .stored
+            .saturating_sub(self.report.taken)
+            .saturating_sub(self.wanted())
+    }
+
+    // How many items the take under way wants.
+    fn wanted(&self) -> usize {
+        match self.consumer {
+            Some(call) => call.of.wanted,
+            None => 0,
+        }
+    }
+
+    fn put_begins(&mut self, line: u64, items: &[u64]) -> Result<(), AllocError> {
+        let late = self.closed_at.is_some();
+        self.offers.clear();
+        self.offers.extend_from_slice(items)?;
+        // What a put offers that began after a close had ended cannot go in.
+        if !late {
+            for item in items {
+                self.inside.push_back(Offered {
+                    item: *item,
+                    offered_at: line,
+                    stored_at: 0,
+                })?;
+            }
+        }
+        self.producer_begins(Some(Putting {
+            late,
+            taken: self.report.taken,
+        }));
+        let inside = self.inside.len().min(self.most);
+        self.report.perhaps_inside = self.report.perhaps_inside.max(inside);
+        Ok(())
+    }
+
+    fn producer_begins(&mut self, of: Option<Putting>) {
+        self.report.calls = self.report.calls.saturating_add(1);
+        let overlapped = match &mut self.consumer {
+            Some(call) => {
+                let more = if call.overlapped { 1 } else { 2 };
+                call.overlapped = true;
+                self.report.overlapped = self.report.overlapped.saturating_add(more);
+                true
+            }
+            None => false,
+        };
+        self.producer = Some(Call { of, overlapped });
+    }
+
+    fn take_begins(&mut self, wanted: usize) {
+        self.report.calls = self.report.calls.saturating_add(1);
+        let overlapped = match &mut self.producer {
+            Some(call) => {
+                let more = if call.overlapped { 1 } else { 2 };
+                call.overlapped = true;
+                self.report.overlapped = self.report.overlapped.saturating_add(more);
+                true
+            }
+            None => false,
+        };
+        self.consumer = Some(Call {
+            of: Taking {
+                wanted,
+                stored: self.report.stored,
+                late: self.closed_at.is_some(),
+            },
+            overlapped,
+        });
+    }
+
+    // The put ends; so many of its items were stored.
+    fn put_ends(&mut self, line: u64, count: usize) {
+        let before = self.report.stored.saturating_sub(self.report.taken);
+        self.report.stored = self.report.stored.saturating_add(count);
+        let after = self.report.stored.saturating_sub(self.report.taken);
+        // A late put has no items there.
+        if after < self.inside.len() {
+            self.inside.truncate(after);
+        }
+        for index in before..after {
+            if let Some(offered) = self.inside.get_mut(index) {
+                offered.stored_at = line;
+            }
+        }
+        self.producer = None;
+    }
+
+    fn take(&mut self, line: u64, item: u64) -> Result<(), AllocError> {
+        let _ = self.inside.pop_front();
+        self.report.taken = self.report.taken.saturating_add(1);
+        if TAKEN_LIMIT <= self.taken.len() {
+            let _ = self.taken.pop_front();
+        }
+        Ok(
+            self.taken.push_back(Taken {
+                item,
+                taken_at: line,
+            })?,
+        )
+    }
+
+    /// What speaks against an event, of this line, that comes in its turn, and with which the history is not linearizable.
+    pub fn cause(&self, line: u64, event: Event<'_>) -> Cause {
+        match event {
+            Event::PutStored(count) => self.stored_cause(count),
+            Event::PutFull | Event::PutShort => self.full_cause(),
+            Event::PutNothing => Cause::NotStoredButTaken(self.offer(0)),
+            Event::PutClosed => Cause::ClosedWithoutClose,
+            Event::TakeItems(items) => self.items_cause(line, items),
+            Event::TakeEmpty => self.empty_cause(),
+            Event::TakeShort => self.short_cause(),
+            Event::TakeNothing => self.not_taken(0),
+            Event::TakeClosed => self.closed_cause(),
+            // A call that begins takes nothing back, and a close may always end: these do not come here.
+            Event::PutBegins(_) | Event::CloseBegins | Event::CloseEnds | Event::TakeBegins(_) =>
+                self.not_taken(0),
+        }
+    }
+
+    // The item of this place in the put under way.
+    fn offer(&self, index: usize) -> u64 {
+        self.offers.get(index).copied().unwrap_or(0)
+    }
+
+    // The line that ended the first close, where the put under way began after it.
+    fn late_put(&self) -> Option<u64> {
+        match self.producer {
+            Some(
+                Call {
+                    of: Some(Putting { late: true, .. }),
+                    ..
+                },
+            ) => self.closed_at,
+            _ => None,
+        }
+    }
+
+    // How many items had been taken when the put under way began.
+    fn taken_before(&self) -> usize {
+        match self.producer {
+            Some(
+                Call {
+                    of: Some(putting),
+                    ..
+                },
+            ) => putting.taken,
+            _ => 0,
+        }
+    }
+
+    fn stored_cause(&self, count: usize) -> Cause {
+        if let Some(line) = self.late_put() {
+            return Cause::StoredAfterClose(line);
+        }
+        let stored = self.report.stored.saturating_add(count);
+        if stored < self.report.taken {
+            return Cause::OnlySomeStored {
+                count,
+                item: self.offer(count),
+            };
+        }
+        let inside = stored
+            .saturating_sub(self.report.taken)
+            .saturating_sub(self.wanted());
+        if self.most < inside {
+            return Cause::StoredTooMany(inside);
+        }
+        Cause::FullWithRoom(stored.saturating_sub(self.taken_before()))
+    }
+
+    // Of a put that stored nothing and found no room.
+    fn full_cause(&self) -> Cause {
+        if let Some(line) = self.late_put() {
+            return Cause::FullAfterClose(line);
+        }
+        if self.report.stored < self.report.taken {
+            return Cause::NotStoredButTaken(self.offer(0));
+        }
+        Cause::FullWithRoom(self.report.stored.saturating_sub(self.taken_before()))
+    }
+
+    fn items_cause(&self, line: u64, items: &[u64]) -> Cause {
+        if self.report.told {
+            return Cause::ItemAfterTold;
+        }
+        for (index, item) in items.iter().enumerate() {
+            match self.inside.get(index) {
+                Some(next) if next.item == *item => {}
+                Some(next) if self.is_inside_behind(index, *item) => {
+                    return Cause::NotNext {
+                        item: *item,
+                        next: next.item,
+                        offered_at: next.offered_at,
+                    };
+                }
+                _ if items[..index].contains(item) => {
+                    return Cause::ComesAgain {
+                        item: *item,
+                        taken_at: line,
+                    };
+                }
+                _ => return self.not_inside(*item),
+            }
+        }
+        if let Some(call) = self.consumer {
+            if self.report.taken.saturating_add(items.len()) < call.of.stored
+                && items.len() < call.of.wanted
+            {
+                if let Some(next) = self.inside.get(items.len()) {
+                    return Cause::NoMoreWhileInside {
+                        item: next.item,
+                        stored_at: next.stored_at,
+                    };
+                }
+            }
+        }
+        self.not_taken(items.len())
+    }
+
+    // Whether an item is inside or being put, at this place or behind it.
+    fn is_inside_behind(&self, index: usize, item: u64) -> bool {
+        self.inside
+            .iter()
+            .skip(index)
+            .any(|offered| offered.item == item)
+    }
+
+    // Of an item that is not inside, nor earlier in its line.
+    fn not_inside(&self, item: u64) -> Cause {
+        for taken in self.taken.iter().rev() {
+            if taken.item == item {
+                return Cause::ComesAgain {
+                    item,
+                    taken_at: taken.taken_at,
+                };
+            }
+        }
+        Cause::NotPut(item)
+    }
+
+    // Of a take that took too few: so many.
+    fn not_taken(&self, count: usize) -> Cause {
+        Cause::NotTaken(
+            self.report
+                .stored
+                .saturating_sub(self.report.taken)
+                .saturating_sub(count),
+        )
+    }
+
+    fn empty_cause(&self) -> Cause {
+        if self.report.told {
+            return Cause::EmptyAfterTold;
+        }
+        if let Some(
+            Offered {
+                item,
+                stored_at,
+                ..
+            },
+        ) = self.inside_before(0)
+        {
+            return Cause::EmptyWhileInside { item, stored_at };
+        }
+        match self.late_take() {
+            Some(line) => Cause::EmptyAfterClose(line),
+            None => self.not_taken(0),
+        }
+    }
+
+    fn short_cause(&self) -> Cause {
+        if self.report.told {
+            return Cause::ShortAfterTold;
+        }
+        if let Some(
+            Offered {
+                item,
+                stored_at,
+                ..
+            },
+        ) = self.inside_before(self.wanted().saturating_sub(1))
+        {
+            return Cause::ShortWhileInside { item, stored_at };
+        }
+        match self.late_take() {
+            Some(line) if self.report.stored == self.report.taken => Cause::ShortAfterClose(line),
+            _ => self.not_taken(0),
+        }
+    }
+
+    // The item of this place inside, where it was inside before the take under way.
+    fn inside_before(&self, index: usize) -> Option<Offered> {
+        match self.consumer {
+            Some(call) if self.report.taken.saturating_add(index) < call.of.stored => {
+                self.inside.get(index).copied()
+            }
+            _ => None,
+        }
+    }
+
+    // The line that ended the first close, where the take under way began after it.
+    fn late_take(&self) -> Option<u64> {
+        match self.consumer {
+            Some(
+                Call {
+                    of: Taking { late: true, .. },
+                    ..
+                },
+            ) => self.closed_at,
+            _ => None,
+        }
+    }
+
+    fn closed_cause(&self) -> Cause {
+        if !self.has_close {
+            return Cause::ClosedBeforeClose;
+        }
+        match self.inside.front() {
+            Some(offered) => Cause::ClosedWhileInside {
+                item: offered.item,
+                stored_at: offered.stored_at,
+            },
+            None => Cause::ClosedBeforeClose,
+        }
+    }
+}

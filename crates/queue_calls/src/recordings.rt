@@ -1,0 +1,334 @@
+//! The text of recorded calls, read in pieces, and what is found.
+ghost use Rattle.std.specs.Prelude.{◌≡◌, ◌+◌, List, [], ◌∷◌, ℕ, ◌++◌, IfErr, IfOk, OnOk, MatchOption, length, option_map};
+ghost use Rattle.queue_calls.specs.Calls.{Event as AnEvent};
+ghost use Rattle.queue_calls.specs.Queue.{Capacity as ACapacity};
+ghost use Rattle.queue_calls.specs.Told.{meant, told};
+ghost use Rattle.queue_calls.specs.State.{IsProper};
+ghost use Rattle.queue_calls.specs.Lines.{Allows};
+ghost use Rattle.queue_calls.specs.Recordings.{IsFindingOf, IsFoundOf, Line, RefusesText, begun_after, capacity_told, event_told, stored_told, wanted_told};
+ghost use Rattle.queue_calls.specs.RecordingStates.{GoesOn, HasHeard, HasLines, HasNoFeed, HasRead, RefusesLine};
+ghost use Rattle.queue_calls.specs.declared.lines.Word.TheVariants as word;
+
+use crate::auditors::CallAuditor;
+use crate::capacities::{Capacity, exactly};
+use crate::causes::Cause;
+use crate::events::Event;
+use crate::faults::Fault;
+use crate::lines::{Word, read_line};
+use crate::notes::Notes;
+use crate::reports::Report;
+use memchr::memchr;
+use std::alloc::{AllocError, Allocator};
+use thiserror::Error;
+
+/// What is found of a recording.
+#[derive(Clone, Copy, PartialEq, Eq, Debug)]
+pub enum CallsFinding {
+    /// The history is linearizable.
+    Lawful(Report),
+    /// The event of this line, counted from 1, is out of turn: a call begins while one of its side is under way; or one ends that
+    /// is not under way, or with more items than it offered or wanted.
+    OutOfTurn { line: u64 },
+    /// With the event of this line the history stops being linearizable.
+    NotLinearizable { line: u64, cause: Cause },
+}
+
+/// Why bytes are no recording.
+#[derive(Clone, Copy, PartialEq, Eq, Debug, Error)]
+pub enum RecordingFault {
+    /// This line, counted from 1, is missing or unfinished, or not of the format.
+    #[error("calls line {0} is not a line of the format")]
+    BadLine(u64),
+    /// There are more lines than a number of 64 bits counts.
+    #[error("calls have too many lines")]
+    TooLong,
+    /// Memory ran out.
+    #[error("out of memory")]
+    OutOfMemory,
+}
+
+impl From<AllocError> for RecordingFault {
+    ghost use Rattle.queue_calls.specs.declared.recordings.RecordingFault.TheVariants.{OutOfMemory};
+
+    ghost from_gives = { λ _ e. e ≡ OutOfMemory };
+
+    fn from(_error: AllocError) -> RecordingFault {
+        RecordingFault::OutOfMemory
+    }
+}
+
+// What the producer began last: it tells apart the two ends `P closed`, and how many items `P stored` says.
+#[derive(Clone, Copy)]
+pub enum Begun {
+    Nothing,
+    // a put of so many items
+    Put(usize),
+    Close,
+}
+
+// The history that the lines tell, with what is found of it so far.
+#[derive(Drop)]
+struct Hearing<A: Allocator> {
+    auditor: CallAuditor<A>,
+    notes: Notes<A>,
+    begun: Begun,
+    // the first fault
+    fault: Option<CallsFinding>,
+}
+
+// The capacity that the first line tells.
+fn capacity_told(numbers: &[u64]) -> Capacity
+    ensures { meant result ≡ capacity_told numbers.now }
+{
+    match numbers {
+        [] => Capacity::Unbounded,
+        [full] => exactly(*full as usize),
+        [full, most, ..] => Capacity::Between {
+            full: *full as usize,
+            most: *most as usize,
+        },
+    }
+}
+
+// The event that a line behind the first tells, where the producer began this last.
+fn event_told(begun: Begun, word: Word, numbers: &[u64]) -> Option<Event<'_>>
+    ensures { option_map told result ≡ event_told begun word numbers.now }
+{
+    Some(match word {
+        Word::Queue => return None,
+        Word::Put => Event::PutBegins(numbers),
+        Word::Stored => Event::PutStored(stored_told(begun, numbers)),
+        Word::Full => Event::PutFull,
+        Word::Short => Event::PutShort,
+        Word::PutNothing => Event::PutNothing,
+        Word::PutClosed => match begun {
+            Begun::Close => Event::CloseEnds,
+            Begun::Nothing | Begun::Put(_) => Event::PutClosed,
+        },
+        Word::Close => Event::CloseBegins,
+        Word::Take => Event::TakeBegins(wanted_told(numbers)),
+        Word::Item => Event::TakeItems(numbers),
+        Word::Empty => Event::TakeEmpty,
+        Word::TakeShort => Event::TakeShort,
+        Word::TakeNothing => Event::TakeNothing,
+        Word::TakeClosed => Event::TakeClosed,
+    })
+}
+
+// How many items were stored: all that the put offered, or fewer; a number that says not fewer is out of turn, as 0 is.
+fn stored_told(begun: Begun, numbers: &[u64]) -> usize
+    ensures { result ≡ stored_told begun numbers.now }
+{
+    let offered = match begun {
+        Begun::Put(offered) => offered,
+        Begun::Nothing | Begun::Close => 0,
+    };
+    match numbers.first() {
+        None => offered,
+        Some(number) if (*number as usize) < offered => *number as usize,
+        Some(_) => 0,
+    }
+}
+
+// How many items a take wants: 1 where the line has no number.
+fn wanted_told(numbers: &[u64]) -> usize
+    ensures { result ≡ wanted_told numbers.now }
+{
+    match numbers.first() {
+        None => 1,
+        Some(number) => *number as usize,
+    }
+}
+
+// What the producer began last, behind this line.
+fn begun_after(begun: Begun, word: Word, numbers: &[u64]) -> Begun
+    ensures { result ≡ begun_after begun word numbers.now }
+{
+    match word {
+        Word::Put => Begun::Put(numbers.len()),
+        Word::Close => Begun::Close,
+        _ => begun,
+    }
+}
+
+impl<A: Allocator + Copy> Hearing<A> {
+    ghost use Rattle.queue_calls.specs.declared.recordings.Begun.TheVariants.{Nothing};
+    ghost use Rattle.queue_calls.specs.declared.recordings.RecordingFault.TheVariants.{OutOfMemory};
+
+    fn new(alloc: A, numbers: &[u64]) -> Hearing<A>
+        requires { Allows word.Queue numbers.now }
+        ensures heard { HasHeard result (capacity_told numbers.now) [] }
+        ensures begun { result.begun ≡ Nothing }
+    {
+        let capacity = capacity_told(numbers);
+        Hearing {
+            auditor: CallAuditor::new(alloc, capacity),
+            notes: Notes::new(alloc, capacity),
+            begun: Begun::Nothing,
+            fault: None,
+        }
+    }
+
+    // Hears the event of a line; behind a fault nothing is asked of it.
+    fn hear(&mut self, line: u64, event: Event<'_>) -> Result<(), RecordingFault>
+        ensures heard { OnOk result ((capacity : ACapacity) (events : List AnEvent) → HasHeard self.old capacity events → length events + 2 ≡ line
+            → HasHeard self.new capacity (events ++ told event.entry ∷ [])) }
+        ensures refused { IfErr result (λ e. e ≡ OutOfMemory) }
+        ensures begun { self.new.begun ≡ self.old.begun }
+    {
+        if self.fault.is_some() {
+            return Ok(());
+        }
+        match self.auditor.feed(event) {
+            Ok(()) => Ok(self.notes.note(line, event)?),
+            Err(Fault::OutOfTurn) => {
+                self.fault = Some(CallsFinding::OutOfTurn { line });
+                Ok(())
+            }
+            Err(Fault::NotLinearizable) => {
+                let cause = self.notes.cause(line, event);
+                self.fault = Some(CallsFinding::NotLinearizable { line, cause });
+                Ok(())
+            }
+            Err(Fault::OutOfMemory) => Err(RecordingFault::OutOfMemory),
+        }
+    }
+
+    // What is found of the lines so far.
+    fn finding(&self) -> CallsFinding
+        ensures { (capacity : ACapacity) (events : List AnEvent) → HasHeard self.now capacity events → IsFoundOf capacity events result }
+    {
+        match self.fault {
+            Some(fault) => fault,
+            None => CallsFinding::Lawful(self.notes.report()),
+        }
+    }
+}
+
+// The lines that have ended.
+#[derive(Drop)]
+struct Lines<A: Allocator> {
+    alloc: A,
+    // the numbers of the last one
+    numbers: Vec<u64, A>,
+    // how many there are
+    count: u64,
+    // none before the first line
+    hearing: Option<Hearing<A>>,
+}
+
+impl<A: Allocator + Copy> Lines<A> {
+    // Reads one more line, without its line feed.
+    fn read(&mut self, line: &[u8]) -> Result<(), RecordingFault>
+        ensures read { OnOk result ((before : List Line) → HasLines self.old before → (l : Line) × GoesOn before line.now l × HasLines self.new (before ++ l ∷ [])) }
+        ensures refused { IfErr result (λ e. (before : List Line) → HasLines self.old before → RefusesLine e before line.now) }
+    {
+        let Some(count) = self.count.checked_add(1) else {
+            return Err(RecordingFault::TooLong);
+        };
+        self.count = count;
+        let Some(word) = read_line(line, &mut self.numbers)? else {
+            return Err(RecordingFault::BadLine(count));
+        };
+        let numbers = self.numbers.as_slice();
+        match &mut self.hearing {
+            Some(hearing) => {
+                let Some(event) = event_told(hearing.begun, word, numbers) else {
+                    return Err(RecordingFault::BadLine(count));
+                };
+                hearing.begun = begun_after(hearing.begun, word, numbers);
+                hearing.hear(count, event)
+            }
+            None => match word {
+                Word::Queue => {
+                    self.hearing = Some(Hearing::new(self.alloc, numbers));
+                    Ok(())
+                }
+                _ => Err(RecordingFault::BadLine(count)),
+            },
+        }
+    }
+}
+
+/// A recording of the calls of a queue, as far as it was read.
+///
+/// The text comes in pieces, cut anywhere, and is not kept: the memory is that of the items inside, of the longest line and of
+/// the last [`TAKEN_LIMIT`](crate::TAKEN_LIMIT) items taken. A piece takes time linear in its bytes.
+#[derive(Drop)]
+pub struct Recording<A: Allocator> {
+    lines: Lines<A>,
+    // the bytes of a line that has not ended
+    cut: Vec<u8, A>,
+}
+
+// The bytes before the first line feed, and those behind it.
+fn split_line(bytes: &[u8]) -> Option<(&[u8], &[u8])>
+    ensures { MatchOption result (HasNoFeed bytes.now) (λ x. HasNoFeed x.0.now × (bytes.now ≡ x.0.now ++ 10 ∷ x.1.now)) }
+{
+    let end = memchr(b'\n', bytes)?;
+    Some((&bytes[..end], &bytes[end + 1..]))
+}
+
+impl<A: Allocator + Copy> Recording<A> {
+    /// A recording of which nothing was read.
+    pub fn new(alloc: A) -> Recording<A>
+        ensures { HasRead result [] }
+    {
+        Recording {
+            lines: Lines {
+                alloc,
+                numbers: Vec::new(alloc),
+                count: 0,
+                hearing: None,
+            },
+            cut: Vec::new(alloc),
+        }
+    }
+
+    /// Reads the next piece of the text.
+    ///
+    /// `BadLine` at the first line that is not of the format, whatever comes behind it, and though the history has a
+    /// fault before it; `TooLong` past 2^64 - 1 lines; `OutOfMemory` where a growth was refused. A recording that gave one of these
+    /// is of no further use.
+    pub fn read(&mut self, piece: &[u8]) -> Result<(), RecordingFault>
+        ensures read { OnOk result ((bytes : List ℕ) → HasRead self.old bytes → HasRead self.new (bytes ++ piece.now)) }
+        ensures refused { IfErr result (λ e. (bytes more : List ℕ) → HasRead self.old bytes → RefusesText e (bytes ++ (piece.now ++ more))) }
+    {
+        let mut rest = piece;
+        while let Some((end, more)) = split_line(rest) {
+            self.read_end(end)?;
+            rest = more;
+        }
+        self.cut.extend_from_slice(rest)?;
+        Ok(())
+    }
+
+    // Reads the end of a line, without its line feed.
+    fn read_end(&mut self, end: &[u8]) -> Result<(), RecordingFault>
+        requires { HasNoFeed end.now }
+        ensures read { OnOk result ((bytes : List ℕ) → HasRead self.old bytes → HasRead self.new (bytes ++ end.now ++ 10 ∷ [])) }
+        ensures refused { IfErr result (λ e. (bytes more : List ℕ) → HasRead self.old bytes → RefusesText e (bytes ++ (end.now ++ 10 ∷ more))) }
+    {
+        if self.cut.is_empty() {
+            return self.lines.read(end);
+        }
+        self.cut.extend_from_slice(end)?;
+        self.lines.read(self.cut.as_slice())?;
+        self.cut.clear();
+        Ok(())
+    }
+
+    /// What is found, where the text ends here: `BadLine` where its last line has not ended, or there is none.
+    pub fn finding(&self) -> Result<CallsFinding, RecordingFault>
+        ensures found { IfOk result (λ finding. (bytes : List ℕ) → HasRead self.now bytes → IsFindingOf bytes finding) }
+        ensures refused { IfErr result (λ e. (bytes : List ℕ) → HasRead self.now bytes → RefusesText e bytes) }
+    {
+        match &self.lines.hearing {
+            Some(hearing) if self.cut.is_empty() => Ok(hearing.finding()),
+            _ => match self.lines.count.checked_add(1) {
+                Some(line) => Err(RecordingFault::BadLine(line)),
+                None => Err(RecordingFault::TooLong),
+            },
+        }
+    }
+}

@@ -1,0 +1,151 @@
+use queue_calls::{CallsFinding, Cause, Recording, RecordingFault, Report};
+use refusing::Refusing;
+use std::alloc::{AllocGlobal, Allocator};
+use std::process::Abort;
+use std::test::Fail;
+
+// A queue of 2 cells: a put of two items while a take is under way, one that is full, one of which a part is stored, a take of
+// several, an empty take, and the end.
+const TEXT: &[u8] = b"queue 2
+C take
+P put 7 8
+C item 7
+P stored
+P put 9 10
+P stored 1
+P put 11
+P full
+C take 3
+C item 8 9
+C take 3
+C empty
+P close
+P closed
+C take
+C closed
+";
+
+const REPORT: Report = Report {
+    calls: 8,
+    stored: 3,
+    taken: 3,
+    full: 2,
+    empty: 1,
+    nothing: 0,
+    told: true,
+    surely_inside: 2,
+    perhaps_inside: 2,
+    overlapped: 2,
+    under_way: 0,
+};
+
+// A text that is refused, and at which line.
+const REFUSED: [(&[u8], u64); 29] = [
+    (b"", 1),
+    (b"\n", 1),
+    (b"queue 8", 1),
+    (b"queue 0\n", 1),
+    (b"queue 08\n", 1),
+    (b"queue 2 2\n", 1),
+    (b"queue 0 2\n", 1),
+    (b"queue 1 2 3\n", 1),
+    (b"queue  8\n", 1),
+    (b" queue 8\n", 1),
+    (b"queue 8 \n", 1),
+    (b"queue 8\r\n", 1),
+    (b"queue 18446744073709551616\n", 1),
+    (b"P put 1\n", 1),
+    (b"queue 8\nqueue 8\n", 2),
+    (b"queue 8\n\n", 2),
+    (b"queue 8\nP put\n", 2),
+    (b"queue 8\nP put x\n", 2),
+    (b"queue 8\nP put -1\n", 2),
+    (b"queue 8\nP put 1\nP stored 0\n", 3),
+    (b"queue 8\nP put 1 2\nP stored 1 1\n", 3),
+    (b"queue 8\nP full 1\n", 2),
+    (b"queue 8\nP closes\n", 2),
+    (b"queue 8\nP\n", 2),
+    (b"queue 8\nC take 0\n", 2),
+    (b"queue 8\nC take 1\n", 2),
+    (b"queue 8\nC item\n", 2),
+    (b"queue 8\nC item 1\nC close\n", 3),
+    (b"queue 8\nC take", 2),
+];
+
+// What is found of a text that comes in two pieces.
+fn found_in_two<A: Allocator + Copy>(
+    alloc: A,
+    text: &[u8],
+    at: usize,
+) -> Result<CallsFinding, RecordingFault> {
+    let mut recording = Recording::new(alloc);
+    let (front, rest) = text.split_at(at.min(text.len()));
+    recording.read(front)?;
+    recording.read(rest)?;
+    recording.finding()
+}
+
+// What is found of a text that comes byte by byte.
+fn found_by_bytes<A: Allocator + Copy>(
+    alloc: A,
+    text: &[u8],
+) -> Result<CallsFinding, RecordingFault> {
+    let mut recording = Recording::new(alloc);
+    for byte in text.chunks(1) {
+        recording.read(byte)?;
+    }
+    recording.finding()
+}
+
+#[test]
+fn pieces_are_cut_anywhere(rt: HostRuntime) -> Result<(), Fail> {
+    let lawful = Ok(CallsFinding::Lawful(REPORT));
+    for at in 0..=TEXT.len() {
+        assert!(rt; found_in_two(rt.alloc(), TEXT, at) == lawful);
+    }
+    assert!(rt; found_by_bytes(rt.alloc(), TEXT) == lawful);
+    Ok(())
+}
+
+#[test]
+fn other_texts_are_refused_at_their_line(rt: HostRuntime) -> Result<(), Fail> {
+    for (text, line) in REFUSED {
+        let refused = Err(RecordingFault::BadLine(line));
+        assert!(rt; found_in_two(rt.alloc(), text, 0) == refused);
+        assert!(rt; found_by_bytes(rt.alloc(), text) == refused);
+    }
+    Ok(())
+}
+
+#[test]
+fn a_bad_line_is_refused_behind_a_fault(rt: HostRuntime) -> Result<(), Fail> {
+    let text = b"queue 8\nC take\nC item 1\nP put 01\n";
+    assert!(rt; found_in_two(rt.alloc(), text, 9) == Err(RecordingFault::BadLine(4)));
+    let text = b"queue 8\nC take\nC item 1\nP put 1\nC take\nC item 2\n";
+    let fault = Ok(CallsFinding::NotLinearizable {
+        line: 3,
+        cause: Cause::NotPut(1),
+    });
+    assert!(rt; found_in_two(rt.alloc(), text, 9) == fault);
+    let text = b"queue 8\nC take\nC take\n";
+    assert!(rt; found_in_two(rt.alloc(), text, 9) == Ok(CallsFinding::OutOfTurn { line: 3 }));
+    Ok(())
+}
+
+#[test]
+fn each_growth_may_be_refused(rt: HostRuntime) -> Result<(), Fail> {
+    let mut refusals: u32 = 0;
+    for count in 0..64 {
+        let alloc = Refusing::after(rt.alloc(), count);
+        let found = found_in_two(&alloc, TEXT, 20);
+        if alloc.has_refused() {
+            refusals = refusals.saturating_add(1);
+            assert!(rt; found == Err(RecordingFault::OutOfMemory));
+        } else {
+            assert!(rt; found == Ok(CallsFinding::Lawful(REPORT)));
+        }
+    }
+    // (the line that is cut, its numbers, the items inside, twice, those of the put, those taken)
+    assert!(rt; refusals >= 6);
+    Ok(())
+}

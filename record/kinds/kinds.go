@@ -1,0 +1,42 @@
+// kinds WORDS: each kind of event once, logs of so many words.
+package main
+
+import (
+	"math"
+	"os"
+	"strconv"
+)
+
+func main() {
+	words, _ := strconv.Atoi(os.Args[1])
+	rec := NewRingCalls(words)
+	rec.Put(5)
+	rec.Take()
+	rec.Stored()
+	rec.Item(5)
+	rec.Put(1, 2, 3)
+	rec.StoredOf(2, 3)
+	rec.Put(4)
+	rec.Full()
+	rec.Put(4, 5)
+	rec.PutShort()
+	rec.Put(6)
+	rec.PutNothing()
+	rec.TakeAll(3)
+	rec.TakeShort()
+	rec.TakeAll(3)
+	rec.Item(1, 2)
+	rec.Take()
+	rec.Empty()
+	rec.Take()
+	rec.TakeNothing()
+	rec.Close()
+	rec.Closed()
+	rec.Put(7, math.MaxUint64)
+	rec.Closed()
+	rec.Take()
+	rec.Told()
+	if rec.Write("queue 2", os.Stdout) != nil {
+		os.Exit(1)
+	}
+}

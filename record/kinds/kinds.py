@@ -1,0 +1,35 @@
+"""kinds WORDS: each kind of event once, logs of so many words."""
+import os
+import sys
+
+sys.path.insert(0, os.path.dirname(os.path.dirname(os.path.abspath(__file__))))
+import ring_calls
+
+rec = ring_calls.Recorder(int(sys.argv[1]))
+rec.put(5)
+rec.take()
+rec.stored()
+rec.item(5)
+rec.put(1, 2, 3)
+rec.stored_of(2, 3)
+rec.put(4)
+rec.full()
+rec.put(4, 5)
+rec.put_short()
+rec.put(6)
+rec.put_nothing()
+rec.take(3)
+rec.take_short()
+rec.take(3)
+rec.item(1, 2)
+rec.take()
+rec.empty()
+rec.take()
+rec.take_nothing()
+rec.close()
+rec.closed()
+rec.put(7, 2**64 - 1)
+rec.closed()
+rec.take()
+rec.told()
+rec.write("queue 2", sys.stdout)

@@ -1,0 +1,149 @@
+// ring_calls.go: records the calls of a queue with one producer and one consumer, for `lamport_ring audit --calls`.
+// Copy it into your package and name that in the next line.
+package main
+
+//	rec := NewRingCalls(1 << 24)                     room for so many words of 8 bytes on each side: a put with its end takes 5
+//	producer:  rec.Put(v);    if put(v) { rec.Stored() } else { rec.Full() }
+//	           rec.Close();   close(q);  rec.Closed()
+//	consumer:  rec.Take();    v, ok := take();  if ok { rec.Item(v) } else { rec.Empty() }       (rec.Told(): empty and closed)
+//	when both goroutines have ended:  rec.Write("queue 8", file)
+//
+// Why there is no false alarm: each begin takes the next ticket of one counter before the call, each end after it, so an interval
+// is only ever widened. Atomic operations of Go are sequentially consistent: where the ticket of an end is below that of a begin, the one
+// call happens before the other, and a right queue has to respect that. All other calls overlap in the recording. While recording nothing
+// is allocated and nothing locked; where a side has no more room the history is cut there, for both sides.
+
+import (
+	"bufio"
+	"fmt"
+	"io"
+	"math"
+	"sync/atomic"
+)
+
+// How a line of each kind begins; the first three are begins.
+var ringWords = [...]string{"P put", "P close", "C take", "P stored", "P full", "P short", "P nothing", "P closed",
+	"C item", "C empty", "C short", "C nothing", "C closed"}
+
+// Of each event its kind and how many numbers it has, its ticket, the numbers.
+type ringLog struct {
+	words []uint64
+	used  int
+	cut   uint64
+	_     [12]uint64
+}
+
+// RingCalls records the calls of one producer and one consumer.
+type RingCalls struct {
+	p, c   ringLog
+	ticket uint64
+}
+
+// NewRingCalls has room for so many words on each side.
+func NewRingCalls(words int) *RingCalls {
+	log := func() ringLog {
+		w := make([]uint64, words)
+		for i := range w {
+			w[i] = 1 // the pages are there before the recording begins
+		}
+		return ringLog{words: w, cut: math.MaxUint64}
+	}
+	return &RingCalls{p: log(), c: log()}
+}
+
+func (r *RingCalls) event(l *ringLog, kind uint64, numbers ...uint64) {
+	if l.cut != math.MaxUint64 {
+		return
+	}
+	ticket := atomic.AddUint64(&r.ticket, 1)
+	end := l.used + 2 + len(numbers)
+	if end > len(l.words) {
+		l.cut = ticket
+		return
+	}
+	l.words[l.used] = kind | uint64(len(numbers))<<8
+	l.words[l.used+1] = ticket
+	copy(l.words[l.used+2:end], numbers)
+	l.used = end
+}
+
+// The producer's: each before the call, or after it.
+func (r *RingCalls) Put(items ...uint64) { r.event(&r.p, 0, items...) }
+func (r *RingCalls) Close()              { r.event(&r.p, 1) }
+func (r *RingCalls) Stored()             { r.event(&r.p, 3) }
+func (r *RingCalls) Full()               { r.event(&r.p, 4) }
+
+// StoredOf: of the items offered the first ones were stored, as many as there was room for.
+func (r *RingCalls) StoredOf(stored, offered uint64) {
+	if stored == 0 {
+		r.Full()
+	} else if stored == offered {
+		r.Stored()
+	} else {
+		r.event(&r.p, 3, stored)
+	}
+}
+
+// PutShort: a put of all or nothing; of two items or more none was stored, there was not room for all.
+func (r *RingCalls) PutShort() { r.event(&r.p, 5) }
+
+// PutNothing: none was stored, and the call does not say why.
+func (r *RingCalls) PutNothing() { r.event(&r.p, 6) }
+
+// Closed: a close ends, or a put that found the queue closed.
+func (r *RingCalls) Closed() { r.event(&r.p, 7) }
+
+// The consumer's.
+func (r *RingCalls) Take() { r.event(&r.c, 2) }
+
+// TakeAll: at most so many items, from 1.
+func (r *RingCalls) TakeAll(most uint64) {
+	if most > 1 {
+		r.event(&r.c, 2, most)
+	} else {
+		r.Take()
+	}
+}
+func (r *RingCalls) Item(items ...uint64) { r.event(&r.c, 8, items...) }
+func (r *RingCalls) Empty()               { r.event(&r.c, 9) }
+
+// TakeShort: a take of all or nothing; of two items or more there were not enough.
+func (r *RingCalls) TakeShort()   { r.event(&r.c, 10) }
+func (r *RingCalls) TakeNothing() { r.event(&r.c, 11) }
+
+// Told: empty, and closed.
+func (r *RingCalls) Told() { r.event(&r.c, 12) }
+
+// Write writes the recording; head is its first line: "queue 8", "queue 1 512" or "queue".
+func (r *RingCalls) Write(head string, to io.Writer) error {
+	out := bufio.NewWriter(to)
+	cut := min64(r.p.cut, r.c.cut)
+	next := func(l *ringLog, at int) uint64 {
+		if at < l.used && l.words[at+1] < cut {
+			return l.words[at+1]
+		}
+		return math.MaxUint64
+	}
+	fmt.Fprintln(out, head)
+	for i, j := 0, 0; min64(next(&r.p, i), next(&r.c, j)) != math.MaxUint64; {
+		l, at := &r.p, &i
+		if next(&r.c, j) < next(&r.p, i) {
+			l, at = &r.c, &j
+		}
+		end := *at + 2 + int(l.words[*at]>>8)
+		out.WriteString(ringWords[l.words[*at]&255])
+		for _, v := range l.words[*at+2 : end] {
+			fmt.Fprint(out, " ", v)
+		}
+		out.WriteByte('\n')
+		*at = end
+	}
+	return out.Flush()
+}
+
+func min64(a, b uint64) uint64 {
+	if a < b {
+		return a
+	}
+	return b
+}

@@ -1,0 +1,146 @@
+/* ring_calls.h: records the calls of a queue with one producer and one consumer, for `lamport_ring audit --calls`.
+ * C11, and C++ from C++11; nothing but this file is needed.
+ *
+ *     ring_calls rec;
+ *     if (!ring_calls_init(&rec, 1 << 24)) ..      room for so many words of 8 bytes on each side: a put with its end takes 5
+ *     producer:  ring_calls_put(&rec, item);   int ok = my_put(q, item);
+ *                if (ok) ring_calls_stored(&rec); else ring_calls_full(&rec);
+ *                ring_calls_close(&rec);       my_close(q);                 ring_calls_closed(&rec);
+ *     consumer:  ring_calls_take(&rec);        int ok = my_take(q, &item);
+ *                if (ok) ring_calls_item(&rec, item); else ring_calls_empty(&rec);         (ring_calls_told: it was told closed)
+ *     when both threads were joined:  ring_calls_write(&rec, "queue 8", file);  ring_calls_free(&rec);
+ *
+ * Why there is no false alarm. Each begin takes the next ticket of one counter before the call, each end after it, so an
+ * interval is only ever widened. The counter is written by fetch_add alone. Where the ticket of an end is below that of a begin, the
+ * begin's fetch_add (acquire) reads from the release sequence that the end's fetch_add (release) heads: the one call happens before
+ * the other in the sense of C11, and a right queue has to respect that. All other calls overlap in the recording, and of these
+ * the audit permits either order. The price: a ticket orders calls that the queue itself perhaps does not, so a fence that is missing
+ * between calls that do not overlap can go unseen.
+ *
+ * While recording nothing is allocated and nothing locked. Where a side has no more room the history is cut, for both sides, at the
+ * ticket of the first event that was not kept: a first part of what happened, and a first part of a lawful history is lawful.
+ *
+ * RING_CALLS_TSC (x86, an invariant counter of cycles that all cores share) takes time stamps for tickets: no shared counter. The
+ * fences are needed: without mfence a store of the call may still wait in the store buffer at its end's stamp, without lfence a load of
+ * the call may come before its begin's stamp; without both there were false alarms. */
+#ifndef RING_CALLS_H
+#define RING_CALLS_H
+#include <stdint.h>
+#include <stdio.h>
+#include <stdlib.h>
+#include <string.h>
+#ifdef __cplusplus
+#include <atomic>
+#define RING_CALLS_STD(name) std::name
+typedef std::atomic<uint64_t> ring_calls_counter;
+#else
+#include <stdatomic.h>
+#define RING_CALLS_STD(name) name
+typedef _Atomic uint64_t ring_calls_counter;
+#endif
+#ifdef RING_CALLS_TSC
+#include <x86intrin.h>
+#endif
+
+enum {
+    RING_PUT, RING_CLOSE, RING_TAKE, RING_ENDS,
+    RING_STORED = RING_ENDS, RING_FULL, RING_PUT_SHORT, RING_PUT_NOTHING, RING_CLOSED,
+    RING_ITEM, RING_EMPTY, RING_TAKE_SHORT, RING_TAKE_NOTHING, RING_TOLD
+};
+
+/* The log of a side: of each event its kind and how many numbers it has, its ticket, the numbers. */
+typedef struct { uint64_t *words; size_t used, room; uint64_t cut; char apart[96]; } ring_calls_log;
+typedef struct { ring_calls_log p, c; ring_calls_counter next; char apart[120]; } ring_calls;
+
+/* Answers 0 where there is no memory. */
+static inline int ring_calls_init(ring_calls *r, size_t words) {
+    ring_calls_log *sides[2] = { &r->p, &r->c };
+    for (int i = 0; i < 2; i++) {
+        ring_calls_log *s = sides[i];
+        s->words = (uint64_t *)malloc(words * sizeof(uint64_t));
+        s->used = 0;
+        s->room = words;
+        s->cut = UINT64_MAX;
+        if (s->words) memset(s->words, 1, words * sizeof(uint64_t));    /* the pages are there before the recording begins */
+    }
+    RING_CALLS_STD(atomic_init)(&r->next, (uint64_t)0);
+    return r->p.words && r->c.words;
+}
+
+static inline void ring_calls_free(ring_calls *r) { free(r->p.words); free(r->c.words); }
+
+static inline uint64_t ring_calls_ticket(ring_calls *r, int kind) {
+#ifdef RING_CALLS_TSC
+    uint64_t t;
+    (void)r;
+    if (kind >= RING_ENDS) { _mm_mfence(); _mm_lfence(); }
+    t = __rdtsc();
+    _mm_lfence();
+    return t;
+#else
+    if (kind < RING_ENDS) return RING_CALLS_STD(atomic_fetch_add_explicit)(&r->next, (uint64_t)1, RING_CALLS_STD(memory_order_acquire));
+    return RING_CALLS_STD(atomic_fetch_add_explicit)(&r->next, (uint64_t)1, RING_CALLS_STD(memory_order_release));
+#endif
+}
+
+static inline void ring_calls_event(ring_calls *r, ring_calls_log *s, int kind, const uint64_t *numbers, size_t n) {
+    if (s->cut != UINT64_MAX) return;
+    uint64_t t = ring_calls_ticket(r, kind), *w = s->words + s->used;
+    if (s->room - s->used < n + 2) { s->cut = t; return; }
+    w[0] = (uint64_t)kind | (uint64_t)n << 8;
+    w[1] = t;
+    for (size_t i = 0; i < n; i++) w[2 + i] = numbers[i];
+    s->used += n + 2;
+}
+
+/* The producer's: each before the call, or after it. */
+static inline void ring_calls_put_all(ring_calls *r, const uint64_t *items, size_t n) { ring_calls_event(r, &r->p, RING_PUT, items, n); }
+static inline void ring_calls_put(ring_calls *r, uint64_t item) { ring_calls_put_all(r, &item, 1); }
+static inline void ring_calls_stored(ring_calls *r) { ring_calls_event(r, &r->p, RING_STORED, NULL, 0); }
+static inline void ring_calls_full(ring_calls *r) { ring_calls_event(r, &r->p, RING_FULL, NULL, 0); }
+/* of n items the first m were stored, for want of room for more */
+static inline void ring_calls_stored_of(ring_calls *r, uint64_t m, uint64_t n) {
+    if (m == 0) ring_calls_full(r); else ring_calls_event(r, &r->p, RING_STORED, &m, m < n);
+}
+/* a put of all or nothing: of two items or more none was stored, there was not room for all */
+static inline void ring_calls_put_short(ring_calls *r) { ring_calls_event(r, &r->p, RING_PUT_SHORT, NULL, 0); }
+/* none was stored, and the call does not say why */
+static inline void ring_calls_put_nothing(ring_calls *r) { ring_calls_event(r, &r->p, RING_PUT_NOTHING, NULL, 0); }
+static inline void ring_calls_close(ring_calls *r) { ring_calls_event(r, &r->p, RING_CLOSE, NULL, 0); }
+/* a close ends, or a put that found the queue closed */
+static inline void ring_calls_closed(ring_calls *r) { ring_calls_event(r, &r->p, RING_CLOSED, NULL, 0); }
+
+/* The consumer's. A take of at most n items, n from 1; its items, of which none is empty. */
+static inline void ring_calls_take_all(ring_calls *r, uint64_t n) { ring_calls_event(r, &r->c, RING_TAKE, &n, n > 1); }
+static inline void ring_calls_take(ring_calls *r) { ring_calls_take_all(r, 1); }
+static inline void ring_calls_items(ring_calls *r, const uint64_t *items, size_t n) { ring_calls_event(r, &r->c, n ? RING_ITEM : RING_EMPTY, items, n); }
+static inline void ring_calls_item(ring_calls *r, uint64_t item) { ring_calls_items(r, &item, 1); }
+static inline void ring_calls_empty(ring_calls *r) { ring_calls_event(r, &r->c, RING_EMPTY, NULL, 0); }
+/* a take of all or nothing: of two items or more there were not enough */
+static inline void ring_calls_take_short(ring_calls *r) { ring_calls_event(r, &r->c, RING_TAKE_SHORT, NULL, 0); }
+static inline void ring_calls_take_nothing(ring_calls *r) { ring_calls_event(r, &r->c, RING_TAKE_NOTHING, NULL, 0); }
+/* empty, and closed */
+static inline void ring_calls_told(ring_calls *r) { ring_calls_event(r, &r->c, RING_TOLD, NULL, 0); }
+
+/* Writes the recording; head is its first line: "queue 8", "queue 1 512" or "queue". Answers 0 where not all was written. */
+static inline int ring_calls_write(ring_calls *r, const char *head, FILE *out) {
+    static const char *const words[] = { "P put", "P close", "C take", "P stored", "P full", "P short", "P nothing", "P closed",
+                                         "C item", "C empty", "C short", "C nothing", "C closed" };
+    uint64_t cut = r->p.cut < r->c.cut ? r->p.cut : r->c.cut;
+    size_t i = 0, j = 0;
+    fprintf(out, "%s\n", head);
+    for (;;) {
+        const uint64_t *p = i < r->p.used && r->p.words[i + 1] < cut ? r->p.words + i : NULL;
+        const uint64_t *c = j < r->c.used && r->c.words[j + 1] < cut ? r->c.words + j : NULL;
+        if (!p && !c) return fflush(out) == 0 && !ferror(out);
+        /* of equal time stamps the begin comes first: the calls overlap */
+        int is_p = p && (!c || p[1] < c[1] || (p[1] == c[1] && (p[0] & 255) < RING_ENDS));
+        const uint64_t *w = is_p ? p : c;
+        size_t n = (size_t)(w[0] >> 8);
+        fputs(words[w[0] & 255], out);
+        for (size_t k = 0; k < n; k++) fprintf(out, " %llu", (unsigned long long)w[2 + k]);
+        fputc('\n', out);
+        if (is_p) i += n + 2; else j += n + 2;
+    }
+}
+#endif

@@ -1,0 +1,116 @@
+"""ring_calls.py: records the calls of a queue with one producer and one consumer thread, for `lamport_ring audit --calls`.
+
+    rec = Recorder(1 << 20)                                        room for so many numbers on each side: a put with its end takes 5
+    producer:  rec.put(v);   rec.stored() if my_put(v) else rec.full()
+               rec.close();  my_close();  rec.closed()
+    consumer:  rec.take();   v = my_take();  rec.item(v) if v is not None else rec.empty()             (rec.told(): empty and closed)
+    when both threads were joined:  rec.write('queue 8', file)
+
+Why there is no false alarm: each begin takes the next ticket of one counter before the call, each end after it, so an interval is only
+ever widened. next() of a count is one step of C under the interpreter's lock, and that lock orders the threads: where the ticket of an end
+is below that of a begin, the one call happens before the other. (A build without that lock needs a lock round next.) The logs are there
+before the recording begins, but CPython allocates its numbers as it goes. Where a side has no more room the history is cut there,
+for both sides: a first part of what happened."""
+import array
+import heapq
+import itertools
+
+WORDS = ("P put", "P close", "C take", "P stored", "P full", "P short", "P nothing", "P closed",
+         "C item", "C empty", "C short", "C nothing", "C closed")
+NEVER = 2**64 - 1
+
+
+class Log:
+    """Of each event its kind and how many numbers it has, its ticket, the numbers."""
+
+    def __init__(self, room):
+        self.words, self.used, self.cut = array.array("Q", bytes(8 * room)), 0, NEVER
+
+    def event(self, ticket, kind, numbers):
+        if self.cut == NEVER:
+            number, used = next(ticket), self.used
+            end = used + 2 + len(numbers)
+            if end > len(self.words):
+                self.cut = number
+                return
+            self.words[used] = kind | len(numbers) << 8
+            self.words[used + 1] = number
+            for place, value in enumerate(numbers, used + 2):
+                self.words[place] = value
+            self.used = end
+
+    def events(self, cut):
+        at = 0
+        while at < self.used and self.words[at + 1] < cut:
+            end = at + 2 + (self.words[at] >> 8)
+            yield self.words[at + 1], WORDS[self.words[at] & 255], self.words[at + 2:end]
+            at = end
+
+
+class Recorder:
+    def __init__(self, room):
+        self.ticket, self.puts, self.takes = itertools.count(), Log(room), Log(room)
+
+    def _p(self, kind, numbers=()):
+        self.puts.event(self.ticket, kind, numbers)
+
+    def _c(self, kind, numbers=()):
+        self.takes.event(self.ticket, kind, numbers)
+
+    def put(self, *items):
+        self._p(0, items)
+
+    def close(self):
+        self._p(1)
+
+    def stored(self):
+        self._p(3)
+
+    def stored_of(self, stored, offered):
+        """Of the items offered the first ones were stored, as many as there was room for."""
+        if stored == 0:
+            self.full()
+        else:
+            self._p(3, (stored,) if stored < offered else ())
+
+    def full(self):
+        self._p(4)
+
+    def put_short(self):
+        """A put of all or nothing: of two items or more none was stored, there was not room for all."""
+        self._p(5)
+
+    def put_nothing(self):
+        """None was stored, and the call does not say why."""
+        self._p(6)
+
+    def closed(self):
+        """A close ends, or a put that found the queue closed."""
+        self._p(7)
+
+    def take(self, most=1):
+        self._c(2, (most,) if most > 1 else ())
+
+    def item(self, *items):
+        self._c(8, items) if items else self.empty()
+
+    def empty(self):
+        self._c(9)
+
+    def take_short(self):
+        """A take of all or nothing: of two items or more there were not enough."""
+        self._c(10)
+
+    def take_nothing(self):
+        self._c(11)
+
+    def told(self):
+        """Empty, and closed."""
+        self._c(12)
+
+    def write(self, head, out):
+        """Writes the recording; head is its first line: "queue 8", "queue 1 512" or "queue"."""
+        cut = min(self.puts.cut, self.takes.cut)
+        out.write(head + "\n")
+        for _, words, numbers in heapq.merge(self.puts.events(cut), self.takes.events(cut), key=lambda event: event[0]):
+            out.write(" ".join([words, *map(str, numbers)]) + "\n")

@@ -1,0 +1,126 @@
+//! Records the calls of a queue with one producer and one consumer, for `lamport_ring audit --calls`. One module, std alone.
+//!
+//! ```text
+//! let clock = Clock::new();
+//! let (mut p, mut c) = (PutLog::new(&clock, 1 << 24), TakeLog::new(&clock, 1 << 24));     // words of 8 bytes for each side
+//! producer:  p.put(item);  if my_put(item) { p.stored() } else { p.full() }
+//!            p.close();    my_close();  p.closed();
+//! consumer:  c.take();     match my_take() { Ok(v) => c.item(v), Err(Empty) => c.empty(), Err(Closed) => c.closed() }
+//! when both threads were joined:  write_calls("queue 8", &p, &c, &mut file)?
+//! ```
+//!
+//! Why there is no false alarm: each begin takes the next ticket of one counter before the call, each end after it. Where the
+//! ticket of an end is below that of a begin, the begin's `fetch_add` (Acquire) reads from the release sequence that the end's (Release)
+//! heads: the one call happens before the other, and a right queue has to respect that. All other calls overlap in the recording. While
+//! recording nothing is allocated and nothing locked; where a side has no more room the history is cut there, for both sides.
+#![allow(dead_code)]
+use std::io::{self, Write};
+use std::sync::atomic::{AtomicU64, Ordering};
+
+/// The counter of tickets, on a cache line of its own.
+#[repr(align(128))]
+#[derive(Default)]
+pub struct Clock(AtomicU64);
+
+impl Clock {
+    pub fn new() -> Self {
+        Self::default()
+    }
+}
+
+// How a line of each kind begins; the first three are begins.
+const WORDS: [&str; 13] = [
+    "P put", "P close", "C take", "P stored", "P full", "P short", "P nothing", "P closed", "C item",
+    "C empty", "C short", "C nothing", "C closed",
+];
+const ENDS: u64 = 3;
+
+// Of each event its kind and how many numbers it has, its ticket, the numbers.
+struct Log<'a> {
+    clock: &'a Clock,
+    words: Vec<u64>,
+    cut: u64,
+}
+
+impl<'a> Log<'a> {
+    fn new(clock: &'a Clock, room: usize) -> Self {
+        let mut words = vec![1; room]; // the pages are there before the recording begins
+        words.clear();
+        Log { clock, words, cut: u64::MAX }
+    }
+
+    fn event(&mut self, kind: u64, numbers: &[u64]) {
+        if self.cut != u64::MAX {
+            return;
+        }
+        let order = if kind < ENDS { Ordering::Acquire } else { Ordering::Release };
+        let ticket = self.clock.0.fetch_add(1, order);
+        if self.words.capacity() - self.words.len() < numbers.len() + 2 {
+            self.cut = ticket;
+            return;
+        }
+        self.words.extend_from_slice(&[kind | (numbers.len() as u64) << 8, ticket]);
+        self.words.extend_from_slice(numbers);
+    }
+}
+
+/// The producer's log: a begin before each call, an end after it.
+pub struct PutLog<'a>(Log<'a>);
+
+impl<'a> PutLog<'a> {
+    pub fn new(clock: &'a Clock, words: usize) -> Self { PutLog(Log::new(clock, words)) }
+    pub fn put(&mut self, item: u64) { self.0.event(0, &[item]) }
+    pub fn put_all(&mut self, items: &[u64]) { self.0.event(0, items) }
+    pub fn close(&mut self) { self.0.event(1, &[]) }
+    pub fn stored(&mut self) { self.0.event(3, &[]) }
+    /// Of the items offered the first ones were stored, as many as there was room for.
+    pub fn stored_of(&mut self, stored: usize, offered: usize) {
+        match stored {
+            0 => self.full(),
+            _ if stored == offered => self.stored(),
+            _ => self.0.event(3, &[stored as u64]),
+        }
+    }
+    pub fn full(&mut self) { self.0.event(4, &[]) }
+    /// A put of all or nothing: of two items or more none was stored, there was not room for all.
+    pub fn short(&mut self) { self.0.event(5, &[]) }
+    /// None was stored, and the call does not say why.
+    pub fn nothing(&mut self) { self.0.event(6, &[]) }
+    /// A close ends, or a put that found the queue closed.
+    pub fn closed(&mut self) { self.0.event(7, &[]) }
+}
+
+/// The consumer's log.
+pub struct TakeLog<'a>(Log<'a>);
+
+impl<'a> TakeLog<'a> {
+    pub fn new(clock: &'a Clock, words: usize) -> Self { TakeLog(Log::new(clock, words)) }
+    pub fn take(&mut self) { self.0.event(2, &[]) }
+    /// At most so many items, from 1.
+    pub fn take_all(&mut self, most: usize) { if most > 1 { self.0.event(2, &[most as u64]) } else { self.take() } }
+    pub fn item(&mut self, item: u64) { self.0.event(8, &[item]) }
+    pub fn items(&mut self, items: &[u64]) { if items.is_empty() { self.empty() } else { self.0.event(8, items) } }
+    pub fn empty(&mut self) { self.0.event(9, &[]) }
+    /// A take of all or nothing: of two items or more there were not enough.
+    pub fn short(&mut self) { self.0.event(10, &[]) }
+    pub fn nothing(&mut self) { self.0.event(11, &[]) }
+    /// Empty, and closed.
+    pub fn closed(&mut self) { self.0.event(12, &[]) }
+}
+
+/// Writes the recording; head is its first line: "queue 8", "queue 1 512" or "queue".
+pub fn write_calls(head: &str, p: &PutLog, c: &TakeLog, out: &mut impl Write) -> io::Result<()> {
+    let cut = p.0.cut.min(c.0.cut);
+    let (mut puts, mut takes) = (&p.0.words[..], &c.0.words[..]);
+    let next = |words: &[u64]| words.get(1).copied().filter(|ticket| *ticket < cut).unwrap_or(u64::MAX);
+    writeln!(out, "{head}")?;
+    while next(puts).min(next(takes)) != u64::MAX {
+        let log = if next(puts) < next(takes) { &mut puts } else { &mut takes };
+        let end = 2 + (log[0] >> 8) as usize;
+        write!(out, "{}", WORDS[(log[0] & 255) as usize])?;
+        log[2..end].iter().try_for_each(|value| write!(out, " {value}"))?;
+        writeln!(out)?;
+        *log = &log[end..];
+    }
+    out.flush()
+}
