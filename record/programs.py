@@ -54,10 +54,8 @@ REAL = [
     Program("JavaQueues", "command -v javac", "apt-get install default-jdk-headless", "javac -Werror -d $ROOM/jdk RingCalls.java real/Relay.java real/JavaQueues.java", "java -cp $ROOM/jdk JavaQueues"),
     Program("JCTools", f"command -v javac && test -e {JCTOOLS}", "apt-get install default-jdk-headless libjctools-java",
             f"javac -Werror -cp {JCTOOLS} -d $ROOM/jctools RingCalls.java real/Relay.java real/JCTools.java", f"java -cp $ROOM/jctools:{JCTOOLS} JCTools"),
-    # (proved as it is built: a minute or two; a folder of its own, for it is no crate of this repository)
-    Program("rtrb", "command -v rt", "put the Rattle kit's rt on the PATH",
-            "mkdir -p $ROOM/rattle/record_rtrb/src && cp real/rtrb.rt $ROOM/rattle/record_rtrb/src/main.rt && cd $ROOM/rattle && echo 'record_rtrb: rtrb' >crates.txt && cd record_rtrb && rt run record_rtrb",
-            "$ROOM/rattle/record_rtrb/out/record_rtrb"),
+    # (proved as it is built: a minute or two)
+    Program("rtrb", "command -v rt", "put the Rattle kit's rt on the PATH", "cd ../crates/record_rtrb && rt run record_rtrb", "../crates/record_rtrb/out/record_rtrb"),
 ]
 
 BROKEN = Program("broken", "command -v g++", "apt-get install build-essential", f"{CPP} broken/ring.cpp -o $ROOM/ring", "$ROOM/ring")
