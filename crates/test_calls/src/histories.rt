@@ -1,3 +1,4 @@
+ghost use Rattle.std.specs.Prelude.{◌≡◌, true};
 ghost use Rattle.queue_calls.specs.State.{IsProper};
 ghost use Rattle.queue_calls.specs.Told.{meant};
 
