@@ -32,7 +32,7 @@ no_event b TakeShort numbers e = absurd (none-some _ (sym e))
 no_event b TakeNothing numbers e = absurd (none-some _ (sym e))
 no_event b TakeClosed numbers e = absurd (none-some _ (sym e))
 
-not_first : (b : Begun) (w : Word) (numbers : List ℕ) (event : Event) → event_told b w numbers ≡ Some event → w ≢ Queue
+pub not_first : (b : Begun) (w : Word) (numbers : List ℕ) (event : Event) → event_told b w numbers ≡ Some event → w ≢ Queue
 not_first b w numbers event e is = none-some event (sym (ap (λ (v : Word). event_told b v numbers) is) ∙ e)
 
 one_event : (b : Begun) (l : Line) → IsFurther l → (events : List Event) → length (and_then (event_told b l.word l.numbers) events) ≡ suc (length events)

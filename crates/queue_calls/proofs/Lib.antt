@@ -22,3 +22,6 @@ pub mod HearingLemmas
 pub mod HeardLines
 pub mod RecordingLemmas
 pub mod RecordingLaws
+pub mod CountedHistories
+pub mod CountsFollow
+pub mod Tellings

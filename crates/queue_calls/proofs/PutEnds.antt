@@ -28,7 +28,7 @@ whole_of xs a b n e =
     let front : take n xs ≡ a ++ b = e ∙ ap (λ z. a ++ z) (append-nil b) in
     sym (take-append-drop n xs) ∙ (ap (λ z. z ++ drop n xs) front ∙ append_assoc a b (drop n xs))
 
-few_taken : (turn : TakeTurn) (c : Consumer) (q : Queue) → FitsTake turn c q → length (taken_by c) ≤ asked_by turn
+pub few_taken : (turn : TakeTurn) (c : Consumer) (q : Queue) → FitsTake turn c q → length (taken_by c) ≤ asked_by turn
 few_taken Rests Resting q f = omega arith
 few_taken Rests (Taking lacked took left) q f = absurd f
 few_taken Rests FoundClosed q f = absurd f

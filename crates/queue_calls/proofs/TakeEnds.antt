@@ -226,7 +226,7 @@ module _ (capacity : Capacity) (shut closed : Bool) where
   untold_shut (Closes again) (Closing done) e f c = (f.0, λ z. c)
 
   -- a queue that is closed has no items left to come, and a close has begun
-  closed_left : (turn : PutTurn) (p : Producer) (n : ℕ) → IsSoundPut n turn shut → FitsPut capacity turn shut p closed → closed ≡ true → (left_by turn p ≡ []) × (has_closed turn shut ≡ true)
+  pub closed_left : (turn : PutTurn) (p : Producer) (n : ℕ) → IsSoundPut n turn shut → FitsPut capacity turn shut p closed → closed ≡ true → (left_by turn p ≡ []) × (has_closed turn shut ≡ true)
   closed_left Free Idle n ok f c = (refl, sym f ∙ c)
   closed_left Free (Putting lacked done left) n ok f c = absurd f
   closed_left Free FoundShut n ok f c = absurd f

@@ -5,6 +5,7 @@ pub mod State
 pub mod Audits
 pub mod Told
 pub mod Order
+pub mod Counting
 pub mod Laws
 pub mod Lines
 pub mod LineReading
@@ -12,3 +13,4 @@ pub mod Causes
 pub mod Recordings
 pub mod RecordingStates
 pub mod RecordingLaws
+pub mod Tellings

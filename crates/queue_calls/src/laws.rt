@@ -1,5 +1,7 @@
 //! What follows of the queue and of histories of its calls.
 ghost use Rattle.queue_calls.specs.RecordingLaws.{RecordingHasNoBadLine, RecordingIsOne};
+ghost use Rattle.queue_calls.specs.Counting.{CountedIsLinearizable, CountsAreExact};
+ghost use Rattle.queue_calls.specs.Tellings.{HistoryHasARecording, LinearizableIsInTurn};
 ghost use Rattle.queue_calls.specs.Laws.{BeginningIsLinearizable, MomentsAreOrders, OperationsLeadOneWay};
 
 /// An operation leaves one queue: the sequential specification lets it answer or not, and chooses nothing else. So
@@ -21,6 +23,18 @@ pub fn moments_are_orders()
     ensures { MomentsAreOrders }
 {}
 
+/// A history whose events can be counted one after the other is linearizable: the rules by which an auditor decides, said of
+/// histories, in place of moments or orders that have to be found.
+pub fn counted_is_linearizable()
+    ensures { CountedIsLinearizable }
+{}
+
+/// The events of a history can be counted one after the other just where it is linearizable: the rules refuse no history that
+/// has moments at which its operations can take effect.
+pub fn counts_are_exact()
+    ensures { CountsAreExact }
+{}
+
 /// A text is the recording of one history, of a queue of one capacity.
 pub fn recording_is_one()
     ensures { RecordingIsOne }
@@ -29,4 +43,15 @@ pub fn recording_is_one()
 /// A recording has no bad line: no text is both read and refused.
 pub fn recording_has_no_bad_line()
     ensures { RecordingHasNoBadLine }
+{}
+
+/// A linearizable history is well formed.
+pub fn linearizable_is_in_turn()
+    ensures { LinearizableIsInTurn }
+{}
+
+/// Each well-formed history has a recording: the lines that tell its events, behind that of the
+/// capacity.
+pub fn history_has_a_recording()
+    ensures { HistoryHasARecording }
 {}

@@ -1,0 +1,100 @@
+-- Histories whose events can be counted are linearizable.
+use Rattle.std.proofs.Common.{◌≡◌, inl, inr, ℕ, Bool, true, false, List, [], ◌∷◌, ◌++◌, length, refl, sym, subst, append_assoc}
+use Rattle.std.proofs.lemmas.List.{append-nil}
+use Rattle.queue_calls.specs.Queue.{Capacity}
+use Rattle.queue_calls.specs.Calls.{Event, PutBegin, PutStored, PutFull, PutShort, PutNothing, PutClosed, CloseBegin, CloseEnd, TakeBegin, TakeItems, TakeEmpty, TakeShort, TakeNothing, TakeClosed, IsLinearizable}
+use Rattle.queue_calls.specs.declared.turns.PutTurn.{PutTurn}
+use Rattle.queue_calls.specs.declared.turns.PutTurn.TheVariants.{Free, Offers, Late, Closes}
+use Rattle.queue_calls.specs.declared.turns.TakeTurn.{TakeTurn}
+use Rattle.queue_calls.specs.declared.turns.TakeTurn.TheVariants.{Rests, Waits}
+use Rattle.queue_calls.specs.State.{Keeps}
+use Rattle.queue_calls.specs.Counting.{Kept, kept, Counts, AreCounted, CountedIsLinearizable}
+use Rattle.queue_calls.proofs.Keeping.{some}
+use Rattle.queue_calls.proofs.PutBegins.{put_begin, late_begin}
+use Rattle.queue_calls.proofs.PutEnds.{put_stored, put_full, put_short, put_nothing, put_closed, late_nothing}
+use Rattle.queue_calls.proofs.Closing.{close_begin, close_end}
+use Rattle.queue_calls.proofs.TakeBegins.{take_begin, keeps_nothing}
+use Rattle.queue_calls.proofs.TakeEnds.{take_items, take_empty, take_short, take_nothing, take_closed}
+
+-- after a history this is kept
+abbrev pub Stands : Capacity → List Event → Kept → Type 0
+Stands capacity h k = Keeps capacity h k.inside k.put k.take k.shut
+
+-- what is kept, where it is told otherwise
+stands_as : (capacity : Capacity) (h : List Event) (k told : Kept) → k ≡ told → Stands capacity h told → Stands capacity h k
+stands_as capacity h k told e j = let F : Kept → Type 0 = λ z. Stands capacity h z in subst F (sym e) j
+
+module _ (capacity : Capacity) (h : List Event) (k : Kept) (j : Stands capacity h k) where
+  of_put : (put : PutTurn) → k.put ≡ put → Keeps capacity h k.inside put k.take k.shut
+  of_put put e = let F : PutTurn → Type 0 = λ z. Keeps capacity h k.inside z k.take k.shut in subst F e j
+
+  of_take : (turn : TakeTurn) → k.take ≡ turn → Keeps capacity h k.inside k.put turn k.shut
+  of_take turn e = let F : TakeTurn → Type 0 = λ z. Keeps capacity h k.inside k.put z k.shut in subst F e j
+
+  of_free : (shut : Bool) → k.put ≡ Free → k.shut ≡ shut → Keeps capacity h k.inside Free k.take shut
+  of_free shut e f = let F : Bool → Type 0 = λ z. Keeps capacity h k.inside Free k.take z in subst F f (of_put Free e)
+
+  of_none : (turn : TakeTurn) → k.take ≡ turn → k.inside ≡ [] → Keeps capacity h [] k.put turn k.shut
+  of_none turn e f = let F : List ℕ → Type 0 = λ z. Keeps capacity h z k.put turn k.shut in subst F f (of_take turn e)
+
+  -- an event that can be counted leaves what is kept
+  pub counts_keeps : (event : Event) (after : Kept) → Counts capacity k event after → Stands capacity (h ++ event ∷ []) after
+  counts_keeps (PutBegin items) after (free, items_come, begins) = elim begins [
+    | inl b ↦
+        stands_as capacity (h ++ PutBegin items ∷ []) after (kept (k.inside ++ items) (Offers (length items) (length k.inside)) k.take false) b.1
+        (put_begin capacity h k.inside items k.take (of_free false free b.0) items_come).0
+    | inr b ↦
+        stands_as capacity (h ++ PutBegin items ∷ []) after (kept k.inside (Late (length items)) k.take true) b.1
+        (late_begin capacity h k.inside items k.take (of_free true free b.0) items_come).0
+  ]
+  counts_keeps (PutStored count) after (offered, before, is, stored, few, lacks, ends) =
+      stands_as capacity (h ++ PutStored count ∷ []) after _ ends.1
+      (put_stored capacity h k.inside k.take k.shut offered before (of_put (Offers offered before) is) count stored few (λ l. inr (lacks l)) ends.0).0
+  counts_keeps PutFull after (offered, before, is, lacks, ends) =
+      stands_as capacity (h ++ PutFull ∷ []) after _ ends.1 (put_full capacity h k.inside k.take k.shut offered before (of_put (Offers offered before) is) (inr lacks) ends.0).0
+  counts_keeps PutShort after (offered, before, is, several, lacks, ends) =
+      stands_as capacity (h ++ PutShort ∷ []) after _ ends.1
+      (put_short capacity h k.inside k.take k.shut offered before (of_put (Offers offered before) is) several (inr lacks) ends.0).0
+  counts_keeps PutNothing after ends = elim ends [
+    | inl b ↦ (
+        let (offered, before, is, fit) = b in
+        stands_as capacity (h ++ PutNothing ∷ []) after _ fit.1 (put_nothing capacity h k.inside k.take k.shut offered before (of_put (Offers offered before) is) fit.0).0)
+    | inr b ↦ (
+        let (offered, is, e) = b in
+        stands_as capacity (h ++ PutNothing ∷ []) after _ e (late_nothing capacity h k.inside k.take k.shut offered (of_put (Late offered) is)).0)
+  ]
+  counts_keeps PutClosed after (offered, is, e) =
+      stands_as capacity (h ++ PutClosed ∷ []) after _ e (put_closed capacity h k.inside k.take k.shut offered (of_put (Late offered) is)).0
+  counts_keeps CloseBegin after (free, e) =
+      stands_as capacity (h ++ CloseBegin ∷ []) after _ e (close_begin capacity h k.inside k.take k.shut (of_put Free free)).0
+  counts_keeps CloseEnd after (again, is, e) =
+      stands_as capacity (h ++ CloseEnd ∷ []) after _ e (close_end capacity h k.inside k.take again k.shut (of_put (Closes again) is)).0
+  counts_keeps (TakeBegin wanted) after (rests, some_wanted, e) =
+      stands_as capacity (h ++ TakeBegin wanted ∷ []) after _ e (take_begin capacity h k.inside k.shut wanted some_wanted k.put (of_take Rests rests)).0
+  counts_keeps (TakeItems items) after (wanted, before, ended, is, items_come, few, lacks, next, ends) =
+      stands_as capacity (h ++ TakeItems items ∷ []) after _ ends.1
+      (take_items capacity h k.put k.shut k.inside wanted before ended (of_take (Waits wanted before ended) is) items items_come few lacks next ends.0).0
+  counts_keeps TakeEmpty after (wanted, before, is, none, ends) =
+      stands_as capacity (h ++ TakeEmpty ∷ []) after _ ends.1
+      (take_empty capacity h k.put k.shut k.inside wanted before false (of_take (Waits wanted before false) is) refl none ends.0).0
+  counts_keeps TakeShort after (wanted, before, ended, is, several, less, found, ends) =
+      stands_as capacity (h ++ TakeShort ∷ []) after _ ends.1
+      (take_short capacity h k.put k.shut k.inside wanted before ended (of_take (Waits wanted before ended) is) several less found ends.0).0
+  counts_keeps TakeNothing after (wanted, before, ended, is, ends) =
+      stands_as capacity (h ++ TakeNothing ∷ []) after _ ends.1
+      (take_nothing capacity h k.put k.shut k.inside wanted before ended (of_take (Waits wanted before ended) is) ends.0).0
+  counts_keeps TakeClosed after (wanted, before, ended, is, none, closed, e) =
+      stands_as capacity (h ++ TakeClosed ∷ []) after _ e
+      (take_closed capacity h k.put wanted before ended k.shut (of_none (Waits wanted before ended) is none) closed).0
+
+-- events that can be counted behind a history
+counted : (capacity : Capacity) (events h : List Event) (k : Kept) → Stands capacity h k → AreCounted capacity k events → IsLinearizable capacity (h ++ events)
+counted capacity [] h k j c =
+    let (t, d, told) = some capacity k.inside k.put k.take k.shut j.few in
+    subst (λ z. IsLinearizable capacity z) (sym (append-nil h)) (t, j.sound t d (told j.late))
+counted capacity (event ∷ events) h k j (after, now, later) =
+    subst (λ z. IsLinearizable capacity z) (append_assoc h (event ∷ []) events)
+    (counted capacity events (h ++ event ∷ []) after (counts_keeps capacity h k j event after now) later)
+
+pub counted_is_linearizable : CountedIsLinearizable
+counted_is_linearizable capacity h proper c = counted capacity h [] (kept [] Free Rests false) (keeps_nothing capacity proper) c

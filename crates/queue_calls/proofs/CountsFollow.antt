@@ -1,0 +1,255 @@
+-- The events of a linearizable history can be counted.
+use Rattle.std.proofs.Common.{◌≡◌, ◌⊎◌, inl, inr, ℕ, zero, suc, ◌+◌, ◌-◌, ◌<◌, ◌≤◌, Bool, true, false, List, [], ◌∷◌, ◌++◌, length, drop, refl, sym, ap, subst, ◌∙◌, arith, length-append, append_assoc}
+use Rattle.queue_calls.specs.Queue.{Capacity, LacksRoom, Queue, IsDrained}
+use Rattle.queue_calls.specs.Calls.{Event, PutBegin, PutStored, PutFull, PutShort, PutNothing, PutClosed, CloseBegin, CloseEnd, TakeBegin, TakeItems, TakeEmpty, TakeShort, TakeNothing, TakeClosed, Happens, Producer, Idle, Putting, FoundShut, Closing, Consumer, Resting, Taking, FoundClosed, short_of, Point, point, Leads, IsLinearizable}
+use Rattle.queue_calls.specs.declared.turns.PutTurn.{PutTurn}
+use Rattle.queue_calls.specs.declared.turns.PutTurn.TheVariants.{Free, Offers, Late, Closes}
+use Rattle.queue_calls.specs.declared.turns.TakeTurn.{TakeTurn}
+use Rattle.queue_calls.specs.declared.turns.TakeTurn.TheVariants.{Rests, Waits}
+use Rattle.queue_calls.specs.State.{taken_by, left_by, MayLack, MayFindFewer, FitsPut, FitsTake, Describes, offered_by, asked_by, IsSoundPut, AreNext, CanEndPut, CanEndTake}
+use Rattle.queue_calls.specs.Counting.{Kept, kept, without, Counts, AreCounted, CountsAreExact}
+use Rattle.queue_calls.proofs.Rooms.{holds_fewer}
+use Rattle.queue_calls.proofs.Points.{last_event, beginning}
+use Rattle.queue_calls.proofs.Effects.{few_left}
+use Rattle.queue_calls.proofs.Sides.{with_producer, with_consumer}
+use Rattle.queue_calls.proofs.PutEnds.{few_taken}
+use Rattle.queue_calls.proofs.TakeBegins.{keeps_nothing}
+use Rattle.queue_calls.proofs.TakeEnds.{closed_left}
+use Rattle.queue_calls.proofs.CountedHistories.{Stands, counts_keeps, counted_is_linearizable}
+
+shut_or_not : (b : Bool) → (b ≡ false) ⊎ (b ≡ true)
+shut_or_not false = inl refl
+shut_or_not true = inr refl
+
+-- a reason that was found, of a put that left some of its items, and of a take that wanted more than it took
+lacks_room : (capacity : Capacity) (before count : ℕ) → 0 < count → MayLack capacity before count → LacksRoom capacity before count
+lacks_room capacity before count l f = elim f [ inl e ↦ absurd (omega (arith, e, l)) | inr g ↦ g ]
+
+finds_fewer : (before count : ℕ) (ended : Bool) → 0 < count → MayFindFewer before ended count → (before < count) × (ended ≡ true → 0 < before)
+finds_fewer before count ended l f = elim f [ inl e ↦ absurd (omega (arith, e, l)) | inr g ↦ g ]
+
+short_of_more : (count left : ℕ) → 0 < left → short_of count left ≡ suc count
+short_of_more count zero l = absurd (omega (arith, l))
+short_of_more count (suc left) l = refl
+
+-- what a put that is under way tells of what is kept: it began before a close had ended, or after
+abbrev Tells : Capacity → List ℕ → PutTurn → TakeTurn → (lacked done : ℕ) → List ℕ → Type 0
+Tells capacity inside put take lacked done left =
+    ((offered before : ℕ) × (put ≡ Offers offered before) × (done + length left ≡ offered) × MayLack capacity before lacked ×
+    CanEndPut capacity (length inside) (asked_by take) (length left)) ⊎
+    ((offered : ℕ) × (put ≡ Late offered) × (lacked ≡ 0) × (done ≡ 0))
+
+module _ (capacity : Capacity) (inside : List ℕ) (take' : TakeTurn) (shut : Bool) (q : Queue) where
+  put_tells : (put : PutTurn) (c : Consumer) (lacked done : ℕ) (left : List ℕ) → Describes capacity inside put take' shut (point q (Putting lacked done left) c) → Tells capacity inside put take' lacked done left
+  put_tells Free c lacked done left d = absurd d.producer
+  put_tells (Offers offered before) c lacked done left d =
+      let long : length inside ≡ length (taken_by c) + (length q.items + length left) =
+      omega (arith, ap length d.items, length-append (taken_by c) (q.items ++ left), length-append q.items left) in
+      let few : length (taken_by c) ≤ asked_by take' = few_taken take' c q d.consumer in
+      inl (
+        offered,
+        before,
+        refl,
+        d.producer.0,
+        d.producer.2,
+        (omega (arith, long), holds_fewer capacity ((length inside - length left) - asked_by take') (length q.items) (omega (arith, long, few)) d.room),
+      )
+  put_tells (Late offered) c lacked done left d = inr (offered, refl, d.producer.0, d.producer.1)
+  put_tells (Closes again) c lacked done left d = absurd d.producer
+
+  idle_tells : (put : PutTurn) (closed : Bool) → FitsPut capacity put shut Idle closed → put ≡ Free
+  idle_tells Free closed f = refl
+  idle_tells (Offers offered before) closed f = absurd f
+  idle_tells (Late offered) closed f = absurd f
+  idle_tells (Closes again) closed f = absurd f
+
+  shut_tells : (put : PutTurn) (closed : Bool) → FitsPut capacity put shut FoundShut closed → (offered : ℕ) × (put ≡ Late offered)
+  shut_tells Free closed f = absurd f
+  shut_tells (Offers offered before) closed f = absurd f
+  shut_tells (Late offered) closed f = (offered, refl)
+  shut_tells (Closes again) closed f = absurd f
+
+  closing_tells : (put : PutTurn) (done closed : Bool) → FitsPut capacity put shut (Closing done) closed → (again : Bool) × (put ≡ Closes again)
+  closing_tells Free done closed f = absurd f
+  closing_tells (Offers offered before) done closed f = absurd f
+  closing_tells (Late offered) done closed f = absurd f
+  closing_tells (Closes again) done closed f = (again, refl)
+
+resting_tells : (take : TakeTurn) (q : Queue) → FitsTake take Resting q → take ≡ Rests
+resting_tells Rests q f = refl
+resting_tells (Waits wanted before ended) q f = absurd f
+
+taking_tells :
+    (take : TakeTurn) (q : Queue) (lacked : ℕ) (took : List ℕ) (left : ℕ) → FitsTake take (Taking lacked took left) q →
+    (wanted before : ℕ) × (ended : Bool) × (take ≡ Waits wanted before ended) × (length took + left ≡ wanted) × MayFindFewer before ended lacked
+taking_tells Rests q lacked took left f = absurd f
+taking_tells (Waits wanted before ended) q lacked took left f = (wanted, before, ended, refl, f.0, f.1)
+
+drained_tells : (take : TakeTurn) (q : Queue) → FitsTake take FoundClosed q → (wanted before : ℕ) × (ended : Bool) × (take ≡ Waits wanted before ended) × IsDrained q
+drained_tells Rests q f = absurd f
+drained_tells (Waits wanted before ended) q f = (wanted, before, ended, refl, f)
+
+-- a take took the next items, and can end with them
+can_end_take :
+    (capacity : Capacity) (inside : List ℕ) (put : PutTurn) (take : TakeTurn) (shut : Bool) (q : Queue) (p : Producer) (lacked : ℕ) (took : List ℕ) (left : ℕ) →
+    Describes capacity inside put take shut (point q p (Taking lacked took left)) → AreNext took inside × CanEndTake capacity (length inside) (offered_by put) (length took)
+can_end_take capacity inside put take shut q p lacked took left d =
+    let few : length (left_by put p) ≤ offered_by put = few_left capacity inside take shut put p q.closed d.producer in (
+      (q.items ++ left_by put p, d.items),
+      holds_fewer capacity ((length inside - length took) - offered_by put) (length q.items)
+          (omega (arith, ap length d.items, length-append took (q.items ++ left_by put p), length-append q.items (left_by put p), few)) d.room,
+    )
+
+-- an event that leads on from a point that is described can be counted
+module _ (capacity : Capacity) (k : Kept) (sound : IsSoundPut (length k.inside) k.put k.shut) (s t : Point) (d : Describes capacity k.inside k.put k.take k.shut s) where
+  abbrev CanCount : Event → Type 0
+  CanCount event = (after : Kept) × Counts capacity k event after
+
+  as_put : (p : Producer) → s.producer ≡ p → Describes capacity k.inside k.put k.take k.shut (point s.queue p s.consumer)
+  as_put p e = with_producer capacity k.inside k.put k.take k.shut s d p e
+
+  as_take : (c : Consumer) → s.consumer ≡ c → Describes capacity k.inside k.put k.take k.shut (point s.queue s.producer c)
+  as_take c e = with_consumer capacity k.inside k.put k.take k.shut s d c e
+
+  tells : (lacked done : ℕ) (left : List ℕ) → s.producer ≡ Putting lacked done left → Tells capacity k.inside k.put k.take lacked done left
+  tells lacked done left e = put_tells capacity k.inside k.take k.shut s.queue k.put s.consumer lacked done left (as_put (Putting lacked done left) e)
+
+  free : s.producer ≡ Idle → k.put ≡ Free
+  free e = idle_tells capacity k.inside k.take k.shut s.queue k.put s.queue.closed (as_put Idle e).producer
+
+  -- a put ends, told by how many items it has left
+  ends_put : (rest left : ℕ) → left ≡ rest → CanEndPut capacity (length k.inside) (asked_by k.take) left → CanEndPut capacity (length k.inside) (asked_by k.take) rest
+  ends_put rest left e f = let F : ℕ → Type 0 = λ z. CanEndPut capacity (length k.inside) (asked_by k.take) z in subst F e f
+
+  -- a take that took none ends
+  ends_none :
+      (lacked left : ℕ) → s.consumer ≡ Taking lacked [] left →
+      (before : ℕ) × (ended : Bool) × (k.take ≡ Waits left before ended) × MayFindFewer before ended lacked × CanEndTake capacity (length k.inside) (offered_by k.put) 0
+  ends_none lacked left e =
+      let d' = as_take (Taking lacked [] left) e in
+      let (wanted, before, ended, is, sum, fewer) = taking_tells k.take s.queue lacked [] left d'.consumer in
+      let same : wanted ≡ left = omega (arith, sum) in
+      (before, ended, is ∙ ap (λ z. Waits z before ended) same, fewer, (can_end_take capacity k.inside k.put k.take k.shut s.queue s.producer lacked [] left d').1)
+
+  pub leads_counts : (event : Event) → Leads capacity s (Happens event) t → CanCount event
+  leads_counts (PutBegin items) m =
+      let (ep, some, ep') = m.producer in
+      elim (shut_or_not k.shut) [
+        | inl e ↦ (kept (k.inside ++ items) (Offers (length items) (length k.inside)) k.take false, (free ep, some, inl (e, refl)))
+        | inr e ↦ (kept k.inside (Late (length items)) k.take true, (free ep, some, inr (e, refl)))
+      ]
+  leads_counts (PutStored count) m =
+      let (left, some, ep, ep') = m.producer in
+      elim (tells (short_of count (length left)) count left ep) [
+        | inl b ↦ (
+            let (offered, before, is, sum, lacks, fits) = b in
+            let F : ℕ → Type 0 = λ z. MayLack capacity before z in
+            let reason : count < offered → LacksRoom capacity before (suc count) =
+            λ l. lacks_room capacity before (suc count) (omega arith) (subst F (short_of_more count (length left) (omega (arith, l, sum))) lacks) in (
+              kept (without (offered - count) k.inside) Free k.take k.shut,
+              (offered, before, is, some, omega (arith, sum), reason, (ends_put (offered - count) (length left) (omega (arith, sum)) fits, refl)),
+            ))
+        | inr b ↦ (let (offered, is, none, nothing) = b in absurd (omega (arith, nothing, some)))
+      ]
+  leads_counts PutFull m =
+      let (items, ep, ep') = m.producer in
+      elim (tells 1 0 items ep) [
+        | inl b ↦ (
+            let (offered, before, is, sum, lacks, fits) = b in (
+              kept (without offered k.inside) Free k.take k.shut,
+              (offered, before, is, lacks_room capacity before 1 (omega arith) lacks, (ends_put offered (length items) (omega (arith, sum)) fits, refl)),
+            ))
+        | inr b ↦ (let (offered, is, none, nothing) = b in absurd (omega (arith, none)))
+      ]
+  leads_counts PutShort m =
+      let (items, several, ep, ep') = m.producer in
+      elim (tells (length items) 0 items ep) [
+        | inl b ↦ (
+            let (offered, before, is, sum, lacks, fits) = b in
+            let same : length items ≡ offered = omega (arith, sum) in
+            let F : ℕ → Type 0 = λ z. MayLack capacity before z in (
+              kept (without offered k.inside) Free k.take k.shut,
+              (
+                offered,
+                before,
+                is,
+                omega (arith, several, same),
+                lacks_room capacity before offered (omega (arith, several, same)) (subst F same lacks),
+                (ends_put offered (length items) same fits, refl),
+              ),
+            ))
+        | inr b ↦ (let (offered, is, none, nothing) = b in absurd (omega (arith, none, several)))
+      ]
+  leads_counts PutNothing m =
+      let (items, ep, ep') = m.producer in
+      elim (tells 0 0 items ep) [
+        | inl b ↦ (
+            let (offered, before, is, sum, lacks, fits) = b in
+            (kept (without offered k.inside) Free k.take k.shut, inl (offered, before, is, (ends_put offered (length items) (omega (arith, sum)) fits, refl))))
+        | inr b ↦ (let (offered, is, none, nothing) = b in (kept k.inside Free k.take k.shut, inr (offered, is, refl)))
+      ]
+  leads_counts PutClosed m =
+      let (offered, is) = shut_tells capacity k.inside k.take k.shut s.queue k.put s.queue.closed (as_put FoundShut m.producer.0).producer in
+      (kept k.inside Free k.take k.shut, (offered, is, refl))
+  leads_counts CloseBegin m = (kept k.inside (Closes k.shut) k.take k.shut, (free m.producer.0, refl))
+  leads_counts CloseEnd m =
+      let (again, is) = closing_tells capacity k.inside k.take k.shut s.queue k.put true s.queue.closed (as_put (Closing true) m.producer.0).producer in
+      (kept k.inside Free k.take true, (again, is, refl))
+  leads_counts (TakeBegin wanted) m =
+      let (ec, some, ec') = m.consumer in (
+        kept k.inside k.put (Waits wanted (length k.inside - offered_by k.put) k.shut) k.shut,
+        (resting_tells k.take s.queue (as_take Resting ec).consumer, some, refl),
+      )
+  leads_counts (TakeItems items) m =
+      let (left, some, ec, ec') = m.consumer in
+      let d' = as_take (Taking (short_of (length items) left) items left) ec in
+      let (wanted, before, ended, is, sum, fewer) = taking_tells k.take s.queue (short_of (length items) left) items left d'.consumer in
+      let (next, fits) = can_end_take capacity k.inside k.put k.take k.shut s.queue s.producer (short_of (length items) left) items left d' in
+      let F : ℕ → Type 0 = λ z. MayFindFewer before ended z in
+      let reason : length items < wanted → before ≤ length items =
+      λ l. let (less, _) = finds_fewer before (suc (length items)) ended (omega arith) (subst F (short_of_more (length items) left (omega (arith, l, sum))) fewer) in omega (arith, less) in
+      (kept (drop (length items) k.inside) k.put Rests k.shut, (wanted, before, ended, is, some, omega (arith, sum), reason, next, (fits, refl)))
+  leads_counts TakeEmpty m =
+      let (wanted, ec, ec') = m.consumer in
+      let (before, ended, is, fewer, fits) = ends_none 1 wanted ec in
+      let (less, found) = finds_fewer before 1 ended (omega arith) fewer in
+      elim (shut_or_not ended) [
+        | inl e ↦ (kept (drop 0 k.inside) k.put Rests k.shut, (wanted, before, is ∙ ap (λ z. Waits wanted before z) e, omega (arith, less), (fits, refl)))
+        | inr e ↦ absurd (omega (arith, less, found e))
+      ]
+  leads_counts TakeShort m =
+      let (wanted, several, ec, ec') = m.consumer in
+      let (before, ended, is, fewer, fits) = ends_none wanted wanted ec in
+      let (less, found) = finds_fewer before wanted ended (omega (arith, several)) fewer in
+      (kept (drop 0 k.inside) k.put Rests k.shut, (wanted, before, ended, is, several, less, found, (fits, refl)))
+  leads_counts TakeNothing m =
+      let (wanted, ec, ec') = m.consumer in
+      let (before, ended, is, fewer, fits) = ends_none 0 wanted ec in
+      (kept (drop 0 k.inside) k.put Rests k.shut, (wanted, before, ended, is, (fits, refl)))
+  leads_counts TakeClosed m =
+      let d' = as_take FoundClosed m.consumer.0 in
+      let (wanted, before, ended, is, drained) = drained_tells k.take s.queue d'.consumer in
+      let (left, begun) = closed_left capacity k.shut s.queue.closed k.put s.producer (length k.inside) sound d'.producer drained.1 in
+      let empty : k.inside ≡ [] = d'.items ∙ (ap (λ z. z ++ left_by k.put s.producer) drained.0 ∙ left) in
+      (kept [] k.put Rests true, (wanted, before, ended, is, empty, begun, refl))
+
+-- the last event of a linearizable history leads on from a point that is described
+abbrev LeadsOn : Capacity → Kept → Event → Type 0
+LeadsOn capacity k event = (s t : Point) × Describes capacity k.inside k.put k.take k.shut s × Leads capacity s (Happens event) t
+
+leads_on : (capacity : Capacity) (h : List Event) (k : Kept) (event : Event) → Stands capacity h k → IsLinearizable capacity (h ++ event ∷ []) → LeadsOn capacity k event
+leads_on capacity h k event j (t, r) = last_event capacity h event (λ _. LeadsOn capacity k event) (λ s u e p l. p) (λ s u q l. (s, u, j.complete s q, l)) t r
+
+counts_follow : (capacity : Capacity) (events h : List Event) (k : Kept) → Stands capacity h k → IsLinearizable capacity (h ++ events) → AreCounted capacity k events
+counts_follow capacity [] h k j l = tt
+counts_follow capacity (event ∷ events) h k j l =
+    let l' : IsLinearizable capacity ((h ++ event ∷ []) ++ events) = subst (λ z. IsLinearizable capacity z) (sym (append_assoc h (event ∷ []) events)) l in
+    let (s, t, d, m) = leads_on capacity h k event j (beginning capacity (h ++ event ∷ []) events l') in
+    let (after, now) = leads_counts capacity k j.put_ok s t d event m in
+    (after, now, counts_follow capacity events (h ++ event ∷ []) after (counts_keeps capacity h k j event after now) l')
+
+pub counts_are_exact : CountsAreExact
+counts_are_exact capacity h proper = (
+  counted_is_linearizable capacity h proper,
+  (λ l. counts_follow capacity h [] (kept [] Free Rests false) (keeps_nothing capacity proper) l),
+)

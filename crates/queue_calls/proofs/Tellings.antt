@@ -1,0 +1,119 @@
+-- The lines that tell a well-formed history are a recording of it.
+use Rattle.std.proofs.Common.{◌≡◌, ℕ, ◌^◌, ◌<◌, ◌≤◌, Bool, true, false, nat_lt, if◌then◌else◌, Some, List, [], ◌∷◌, length, refl, ap, sym, subst, ◌∙◌, arith}
+use Rattle.std.specs.Prelude.{All}
+use Rattle.std.proofs.lemmas.Bool.{ltb-true, ltb-false}
+use Rattle.std.proofs.lemmas.List.Elements.{All-cons, All-nil}
+use Rattle.queue_calls.specs.Calls.{Event, PutBegin, PutStored, PutFull, PutShort, PutNothing, PutClosed, CloseBegin, CloseEnd, TakeBegin, TakeItems, TakeEmpty, TakeShort, TakeNothing, TakeClosed}
+use Rattle.queue_calls.specs.InTurn.{Call, NoCall, APut, AClose, ATake, Sides, sides, Turn, Turns}
+use Rattle.queue_calls.specs.Lines.{AreSmall}
+use Rattle.queue_calls.specs.Recordings.{Line, line, IsOfFormat, IsFurther, event_told, begun_after, and_then, events_told}
+use Rattle.queue_calls.specs.Tellings.{line_of, lines_of, numbers_in, TellsSmall, HistoryHasARecording}
+use Rattle.queue_calls.specs.declared.lines.Word.TheVariants as word
+use Rattle.queue_calls.specs.declared.recordings.Begun.{Begun}
+use Rattle.queue_calls.specs.declared.recordings.Begun.TheVariants as begun
+use Rattle.queue_calls.proofs.HeardLines.{not_first}
+
+-- what the producer has under way it began last
+abbrev BeganLast : Begun → Call → Type 0
+BeganLast b NoCall = Unit {0}
+BeganLast b (APut offered) = b ≡ begun.Put offered
+BeganLast b AClose = b ≡ begun.Close
+BeganLast b (ATake wanted) = Unit {0}
+
+-- a line of the format tells an event
+abbrev Tells : Begun → Line → Event → Type 0
+Tells b l event = (event_told b l.word l.numbers ≡ Some event) × IsOfFormat l
+
+none_small : AreSmall []
+none_small = All-nil (λ n. n < 2 ^ 64)
+
+-- ---- one event
+
+-- a put that stored so many: the line tells how many only where they are fewer than it offered
+stored_tells : (count offered : ℕ) → 0 < count → count ≤ offered → AreSmall (count ∷ []) → Tells (begun.Put offered) (line_of (begun.Put offered) (PutStored count)) (PutStored count)
+stored_tells count offered some most small =
+    elim (nat_lt count offered) as (λ t. nat_lt count offered ≡ t → Tells (begun.Put offered) (line word.Stored (if t then count ∷ [] else [])) (PutStored count)) [
+      | true ↦ λ fewer. (ap (λ (t : Bool). Some (PutStored (if t then count else 0))) fewer, (some, small))
+      | false ↦ λ whole.
+          let least : offered ≤ count = ltb-false count offered whole in
+          let all : offered ≡ count = omega (arith, most, least) in
+          (ap (λ (n : ℕ). Some (PutStored n)) all, (tt, none_small))
+    ] refl
+
+-- a take: the line tells how many it wants only where they are several
+take_tells : (b : Begun) (wanted : ℕ) → 0 < wanted → AreSmall (wanted ∷ []) → Tells b (line_of b (TakeBegin wanted)) (TakeBegin wanted)
+take_tells b wanted some small =
+    elim (nat_lt 1 wanted) as (λ t. nat_lt 1 wanted ≡ t → Tells b (line word.Take (if t then wanted ∷ [] else [])) (TakeBegin wanted)) [
+      | true ↦ λ several. (refl, (ltb-true 1 wanted several, small))
+      | false ↦ λ single.
+          let most : wanted ≤ 1 = ltb-false 1 wanted single in
+          let one : 1 ≡ wanted = omega (arith, some, most) in
+          (ap (λ (n : ℕ). Some (TakeBegin n)) one, (tt, none_small))
+    ] refl
+
+-- the line of an event in its turn tells it
+line_tells : (b : Begun) (event : Event) (s t : Sides) → BeganLast b s.producer → Turn s event t → AreSmall (numbers_in event) → Tells b (line_of b event) event
+line_tells b (PutBegin []) s t began turn small = absurd (omega (arith, turn.1))
+line_tells b (PutBegin (item ∷ items)) s t began turn small = (refl, (tt, small))
+line_tells b (PutStored count) s t began turn small =
+    let put : b ≡ begun.Put turn.0 = subst (BeganLast b) turn.1 began in
+    subst (λ (x : Begun). Tells x (line_of x (PutStored count)) (PutStored count)) (sym put) (stored_tells count turn.0 turn.2 turn.3 small)
+line_tells b PutFull s t began turn small = (refl, (tt, none_small))
+line_tells b PutShort s t began turn small = (refl, (tt, none_small))
+line_tells b PutNothing s t began turn small = (refl, (tt, none_small))
+line_tells b PutClosed s t began turn small =
+    let put : b ≡ begun.Put turn.0 = subst (BeganLast b) turn.1 began in
+    subst (λ (x : Begun). Tells x (line_of x PutClosed) PutClosed) (sym put) (refl, (tt, none_small))
+line_tells b CloseBegin s t began turn small = (refl, (tt, none_small))
+line_tells b CloseEnd s t began turn small =
+    let close : b ≡ begun.Close = subst (BeganLast b) turn.0 began in
+    subst (λ (x : Begun). Tells x (line_of x CloseEnd) CloseEnd) (sym close) (refl, (tt, none_small))
+line_tells b (TakeBegin wanted) s t began turn small = take_tells b wanted turn.1 small
+line_tells b (TakeItems []) s t began turn small = absurd (omega (arith, turn.2))
+line_tells b (TakeItems (item ∷ items)) s t began turn small = (refl, (tt, small))
+line_tells b TakeEmpty s t began turn small = (refl, (tt, none_small))
+line_tells b TakeShort s t began turn small = (refl, (tt, none_small))
+line_tells b TakeNothing s t began turn small = (refl, (tt, none_small))
+line_tells b TakeClosed s t began turn small = (refl, (tt, none_small))
+
+-- behind it the producer again began last what it has under way
+began_behind : (b : Begun) (event : Event) (s t : Sides) → BeganLast b s.producer → Turn s event t → BeganLast (begun_after b (line_of b event).word (line_of b event).numbers) t.producer
+began_behind b (PutBegin items) s t began turn = subst (λ (x : Sides). BeganLast (begun.Put (length items)) x.producer) (sym turn.2) refl
+began_behind b (PutStored count) s t began turn = subst (λ (x : Sides). BeganLast b x.producer) (sym turn.4) tt
+began_behind b PutFull s t began turn = subst (λ (x : Sides). BeganLast b x.producer) (sym turn.2) tt
+began_behind b PutShort s t began turn = subst (λ (x : Sides). BeganLast b x.producer) (sym turn.3) tt
+began_behind b PutNothing s t began turn = subst (λ (x : Sides). BeganLast b x.producer) (sym turn.2) tt
+began_behind b PutClosed s t began turn = subst (λ (x : Sides). BeganLast b x.producer) (sym turn.2) tt
+began_behind b CloseBegin s t began turn = subst (λ (x : Sides). BeganLast begun.Close x.producer) (sym turn.1) refl
+began_behind b CloseEnd s t began turn = subst (λ (x : Sides). BeganLast b x.producer) (sym turn.1) tt
+began_behind b (TakeBegin wanted) s t began turn = subst (λ (x : Sides). BeganLast b x.producer) (sym turn.2) began
+began_behind b (TakeItems items) s t began turn = subst (λ (x : Sides). BeganLast b x.producer) (sym turn.4) began
+began_behind b TakeEmpty s t began turn = subst (λ (x : Sides). BeganLast b x.producer) (sym turn.2) began
+began_behind b TakeShort s t began turn = subst (λ (x : Sides). BeganLast b x.producer) (sym turn.3) began
+began_behind b TakeNothing s t began turn = subst (λ (x : Sides). BeganLast b x.producer) (sym turn.2) began
+began_behind b TakeClosed s t began turn = subst (λ (x : Sides). BeganLast b x.producer) (sym turn.2) began
+
+-- ---- a history
+
+lines_tell : (b : Begun) (h : List Event) (s t : Sides) → BeganLast b s.producer → Turns s h t → TellsSmall h → (h ≡ events_told b (lines_of b h)) × All IsFurther (lines_of b h)
+lines_tell b [] s t began turns small = (refl, All-nil IsFurther)
+lines_tell b (event ∷ h) s t began (next, turn, turns) small =
+    let l : Line = line_of b event in
+    let after : Begun = begun_after b l.word l.numbers in
+    let tells = line_tells b event s next began turn small.0 in
+    let later = lines_tell after h next t (began_behind b event s next began turn) turns small.1 in (
+      ap (λ (events : List Event). event ∷ events) later.0 ∙ sym (ap (λ o. and_then o (events_told after (lines_of after h))) tells.0),
+      All-cons IsFurther l (lines_of after h) (not_first b l.word l.numbers event tells.0, tells.1) later.1,
+    )
+
+pub history_has_a_recording : HistoryHasARecording
+history_has_a_recording most h some fits (t, turns) small =
+    let told = lines_tell begun.Nothing h (sides NoCall NoCall) t tt turns small in
+    record {
+      first = most ∷ [];
+      further = lines_of begun.Nothing h;
+      text = refl;
+      are = (refl, (some, All-cons (λ n. n < 2 ^ 64) most [] fits none_small), told.1);
+      tells_capacity = refl;
+      tells_events = told.0;
+    }

@@ -1,0 +1,77 @@
+-- Lawful by counting: what an auditor keeps of a history, and what each event needs it to be and makes of it. It keeps the items that
+-- are inside, with those offered by the put under way, which may have been stored; a history is lawful where each event can be counted.
+use Rattle.std.specs.Prelude.{◌≡◌, ◌⊎◌, ℕ, suc, ◌-◌, ◌<◌, ◌≤◌, Bool, true, false, List, [], ◌∷◌, ◌++◌, length, take, drop, ◌↔◌}
+use Rattle.queue_calls.specs.Queue.{Capacity, LacksRoom}
+use Rattle.queue_calls.specs.Calls.{Event, PutBegin, PutStored, PutFull, PutShort, PutNothing, PutClosed, CloseBegin, CloseEnd, TakeBegin, TakeItems, TakeEmpty, TakeShort, TakeNothing, TakeClosed, IsLinearizable}
+use Rattle.queue_calls.specs.State.{IsProper, AreNext, CanEndPut, CanEndTake, offered_by, asked_by, has_closed}
+use Rattle.queue_calls.specs.declared.turns.PutTurn.{PutTurn}
+use Rattle.queue_calls.specs.declared.turns.PutTurn.TheVariants.{Free, Offers, Late, Closes}
+use Rattle.queue_calls.specs.declared.turns.TakeTurn.{TakeTurn}
+use Rattle.queue_calls.specs.declared.turns.TakeTurn.TheVariants.{Rests, Waits}
+
+-- what is kept: the items inside, what each side has under way, and whether the queue is known to be closed
+pub record Kept : Type 0 where
+  pub inside : List ℕ
+  pub put : PutTurn
+  pub take : TakeTurn
+  pub shut : Bool
+
+abbrev pub kept : List ℕ → PutTurn → TakeTurn → Bool → Kept
+kept inside put take shut = record { inside = inside; put = put; take = take; shut = shut }
+
+-- the items inside without so many of the last
+abbrev pub without : ℕ → List ℕ → List ℕ
+without rest inside = take (length inside - rest) inside
+
+-- a put ends with so many of its items not stored
+abbrev pub EndsPut : Capacity → Kept → ℕ → Kept → Type 0
+EndsPut capacity k rest after = CanEndPut capacity (length k.inside) (asked_by k.take) rest × (after ≡ kept (without rest k.inside) Free k.take k.shut)
+
+-- a take ends with so many items
+abbrev pub EndsTake : Capacity → Kept → ℕ → Kept → Type 0
+EndsTake capacity k count after = CanEndTake capacity (length k.inside) (offered_by k.put) count × (after ≡ kept (drop count k.inside) k.put Rests k.shut)
+
+-- an event can be counted: what was kept, and what is then
+abbrev pub Counts : Capacity → Kept → Event → Kept → Type 0
+Counts capacity k (PutBegin items) after =
+    (k.put ≡ Free) × (0 < length items) ×
+    (((k.shut ≡ false) × (after ≡ kept (k.inside ++ items) (Offers (length items) (length k.inside)) k.take false)) ⊎
+    ((k.shut ≡ true) × (after ≡ kept k.inside (Late (length items)) k.take true)))
+Counts capacity k (PutStored count) after =
+    (offered before : ℕ) × (k.put ≡ Offers offered before) × (0 < count) × (count ≤ offered) × (count < offered → LacksRoom capacity before (suc count)) ×
+    EndsPut capacity k (offered - count) after
+Counts capacity k PutFull after = (offered before : ℕ) × (k.put ≡ Offers offered before) × LacksRoom capacity before 1 × EndsPut capacity k offered after
+Counts capacity k PutShort after =
+    (offered before : ℕ) × (k.put ≡ Offers offered before) × (1 < offered) × LacksRoom capacity before offered × EndsPut capacity k offered after
+Counts capacity k PutNothing after =
+    ((offered before : ℕ) × (k.put ≡ Offers offered before) × EndsPut capacity k offered after) ⊎
+    ((offered : ℕ) × (k.put ≡ Late offered) × (after ≡ kept k.inside Free k.take k.shut))
+Counts capacity k PutClosed after = (offered : ℕ) × (k.put ≡ Late offered) × (after ≡ kept k.inside Free k.take k.shut)
+Counts capacity k CloseBegin after = (k.put ≡ Free) × (after ≡ kept k.inside (Closes k.shut) k.take k.shut)
+Counts capacity k CloseEnd after = (again : Bool) × (k.put ≡ Closes again) × (after ≡ kept k.inside Free k.take true)
+Counts capacity k (TakeBegin wanted) after =
+    (k.take ≡ Rests) × (0 < wanted) × (after ≡ kept k.inside k.put (Waits wanted (length k.inside - offered_by k.put) k.shut) k.shut)
+Counts capacity k (TakeItems items) after =
+    (wanted before : ℕ) × (ended : Bool) × (k.take ≡ Waits wanted before ended) × (0 < length items) × (length items ≤ wanted) ×
+    (length items < wanted → before ≤ length items) × AreNext items k.inside × EndsTake capacity k (length items) after
+Counts capacity k TakeEmpty after =
+    (wanted before : ℕ) × (k.take ≡ Waits wanted before false) × (before ≡ 0) × EndsTake capacity k 0 after
+Counts capacity k TakeShort after =
+    (wanted before : ℕ) × (ended : Bool) × (k.take ≡ Waits wanted before ended) × (1 < wanted) × (before < wanted) × (ended ≡ true → 0 < before) × EndsTake capacity k 0 after
+Counts capacity k TakeNothing after = (wanted before : ℕ) × (ended : Bool) × (k.take ≡ Waits wanted before ended) × EndsTake capacity k 0 after
+Counts capacity k TakeClosed after =
+    (wanted before : ℕ) × (ended : Bool) × (k.take ≡ Waits wanted before ended) × (k.inside ≡ []) × (has_closed k.put k.shut ≡ true) ×
+    (after ≡ kept [] k.put Rests true)
+
+-- the events of a history can be counted, one after the other
+abbrev pub AreCounted : Capacity → Kept → List Event → Type 0
+AreCounted capacity k [] = Unit {0}
+AreCounted capacity k (event ∷ h) = (after : Kept) × Counts capacity k event after × AreCounted capacity after h
+
+-- what can be counted from nothing on is linearizable
+abbrev pub CountedIsLinearizable : Type 0
+CountedIsLinearizable = (capacity : Capacity) (h : List Event) → IsProper capacity → AreCounted capacity (kept [] Free Rests false) h → IsLinearizable capacity h
+
+-- and what is linearizable can be counted: the rules accept just those histories
+abbrev pub CountsAreExact : Type 0
+CountsAreExact = (capacity : Capacity) (h : List Event) → IsProper capacity → AreCounted capacity (kept [] Free Rests false) h ↔ IsLinearizable capacity h

@@ -1,0 +1,68 @@
+-- The lines that tell a history: each well-formed history has a recording.
+use Rattle.std.specs.Prelude.{ℕ, ◌^◌, ◌<◌, nat_lt, if◌then◌else◌, List, [], ◌∷◌}
+use Rattle.queue_calls.specs.Queue.{Capacity, exactly}
+use Rattle.queue_calls.specs.Calls.{Event, PutBegin, PutStored, PutFull, PutShort, PutNothing, PutClosed, CloseBegin, CloseEnd, TakeBegin, TakeItems, TakeEmpty, TakeShort, TakeNothing, TakeClosed, IsLinearizable}
+use Rattle.queue_calls.specs.InTurn.{IsInTurn}
+use Rattle.queue_calls.specs.Lines.{AreSmall}
+use Rattle.queue_calls.specs.Recordings.{Line, line, lines_text, begun_after, IsRecording}
+use Rattle.queue_calls.specs.declared.lines.Word.TheVariants as word
+use Rattle.queue_calls.specs.declared.recordings.Begun.{Begun}
+use Rattle.queue_calls.specs.declared.recordings.Begun.TheVariants as begun
+
+-- how many items the put that began last offered
+abbrev pub offered_last : Begun → ℕ
+offered_last (begun.Put offered) = offered
+offered_last _ = 0
+
+-- a number, where it is less than another
+abbrev pub if_fewer : ℕ → ℕ → List ℕ
+if_fewer count whole = (if nat_lt count whole then count ∷ [] else [])
+
+-- a number, where it is more than one
+abbrev pub if_several : ℕ → List ℕ
+if_several count = (if nat_lt 1 count then count ∷ [] else [])
+
+-- the line that tells an event, where the producer began this last
+abbrev pub line_of : Begun → Event → Line
+line_of b (PutBegin items) = line word.Put items
+line_of b (PutStored count) = line word.Stored (if_fewer count (offered_last b))
+line_of b PutFull = line word.Full []
+line_of b PutShort = line word.Short []
+line_of b PutNothing = line word.PutNothing []
+line_of b PutClosed = line word.PutClosed []
+line_of b CloseBegin = line word.Close []
+line_of b CloseEnd = line word.PutClosed []
+line_of b (TakeBegin wanted) = line word.Take (if_several wanted)
+line_of b (TakeItems items) = line word.Item items
+line_of b TakeEmpty = line word.Empty []
+line_of b TakeShort = line word.TakeShort []
+line_of b TakeNothing = line word.TakeNothing []
+line_of b TakeClosed = line word.TakeClosed []
+
+-- the lines that tell events
+abbrev pub lines_of : Begun → List Event → List Line
+lines_of b [] = []
+lines_of b (event ∷ h) = line_of b event ∷ lines_of (begun_after b (line_of b event).word (line_of b event).numbers) h
+
+-- the numbers that an event tells
+abbrev pub numbers_in : Event → List ℕ
+numbers_in (PutBegin items) = items
+numbers_in (PutStored count) = count ∷ []
+numbers_in (TakeBegin wanted) = wanted ∷ []
+numbers_in (TakeItems items) = items
+numbers_in _ = []
+
+-- those of a history fit 64 bits
+abbrev pub TellsSmall : List Event → Type 0
+TellsSmall [] = Unit {0}
+TellsSmall (event ∷ h) = AreSmall (numbers_in event) × TellsSmall h
+
+-- a well-formed history of a queue of just so many is told by a recording
+abbrev pub HistoryHasARecording : Type 0
+HistoryHasARecording =
+    (most : ℕ) (h : List Event) → 0 < most → most < 2 ^ 64 → IsInTurn h → TellsSmall h →
+    IsRecording (lines_text (line word.Queue (most ∷ []) ∷ lines_of begun.Nothing h)) (exactly most) h
+
+-- a linearizable history is well formed
+abbrev pub LinearizableIsInTurn : Type 0
+LinearizableIsInTurn = (capacity : Capacity) (h : List Event) → IsLinearizable capacity h → IsInTurn h
