@@ -69,3 +69,11 @@ pub mod TakeTurns
 pub mod TakeTurnFacts
 pub mod LinearRuns
 mod LinearExamples
+mod RecordedSpans
+mod RecordedCalls
+mod RecordedStates
+mod RecordedMoments
+mod RecordedPuts
+mod RecordedTakes
+mod RecordedRuns
+mod RecordedExamples

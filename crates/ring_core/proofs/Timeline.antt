@@ -319,7 +319,7 @@ if_false t xs e = rw e refl
 pub begun_items_cons : (y : Span) (ys : List Span) (i : ℕ) → before_count y < i → begun_items (y ∷ ys) i ≡ items_of y.outcome ++ begun_items ys (i - whole y)
 begun_items_cons y ys i l = ap (λ (l : List ℕ). l ++ begun_items ys (i - whole y)) (if_true _ (items_of y.outcome) (grind (arith, nat_tests)))
 
-ended_items_cons : (y : Span) (ys : List Span) (i : ℕ) → whole y ≤ i → ended_items (y ∷ ys) i ≡ items_of y.outcome ++ ended_items ys (i - whole y)
+pub ended_items_cons : (y : Span) (ys : List Span) (i : ℕ) → whole y ≤ i → ended_items (y ∷ ys) i ≡ items_of y.outcome ++ ended_items ys (i - whole y)
 ended_items_cons y ys i l = ap (λ (l : List ℕ). l ++ ended_items ys (i - whole y)) (if_true _ (items_of y.outcome) (grind (arith, nat_tests)))
 
 -- each count write that has begun is found with its item

@@ -20,4 +20,5 @@ pub mod GoingOn
 pub mod Ranges
 pub mod RingLaw
 pub mod Linear
+pub mod Recorded
 pub mod RunLaws

@@ -9,6 +9,7 @@ ghost use Rattle.ring_core.specs.OneCallMore.{ClosesByOneMore, EndsByOneMore, Pu
 ghost use Rattle.ring_core.specs.Over.{PutsOverAreRead, TakesOverAreRead};
 ghost use Rattle.ring_core.specs.PutParts.{CountsOn, ScansOn, ScansOrCloses, StoresOn, StoresOrCounts};
 ghost use Rattle.ring_core.specs.Readings.{PutsAreFirst, PutsAreRead, TakesAreFirst, TakesAreRead};
+ghost use Rattle.ring_core.specs.Recorded.{RecordedIsLinearizable};
 ghost use Rattle.ring_core.specs.RingLaw.{CellsAreQuiet, ClosedIsTrue, EmptyIsFresh, FillIsFresh, FullIsFresh, InEveryRun, IsWithin, TakenArePrefix, TakesMatchPuts, WordsAreQuiet};
 ghost use Rattle.ring_core.specs.Ranges.{PutsAreInRange, TakesAreInRange};
 ghost use Rattle.ring_core.specs.RunLaws.{ClosedStays, HasARun, PutsAreSeen, RunsByPut, RunsByTake, TakesAreSeen};
@@ -18,6 +19,7 @@ use bits_core::laws::{
     access_is_made, clock_counts_places, empty_is_lawful, lawful_by_one_more, made_is_access,
     own_changes, own_has_one_place, own_has_place,
 };
+use queue_calls::laws::counted_is_linearizable;
 use register_core::laws::{
     digits_tell_items, numbered_stay_within, reads_are_made, unary_has_one, unary_is_regular,
     word_is_safe, writes_are_made,
@@ -236,6 +238,24 @@ pub fn ring_is_linearizable()
     word_is_safe();
     reads_are_made();
     writes_are_made();
+}
+
+/// The calls of every run of the ring, as a recorder would tell them, are a linearizable history of a queue of the ring's
+/// capacity: an auditor of recorded calls accepts each event. A put may have been offered more items than it stored; it
+/// then found no room for one more before it stored the first. A call that is cut has begun and has not ended.
+pub fn recorded_is_linearizable()
+    ensures { RecordedIsLinearizable }
+{
+    own_has_place();
+    own_has_one_place();
+    clock_counts_places();
+    made_is_access();
+    access_is_made();
+    unary_is_regular();
+    word_is_safe();
+    reads_are_made();
+    writes_are_made();
+    counted_is_linearizable();
 }
 
 /// Once the consumer was told that the ring is closed, the items put and the items taken stay what they are in

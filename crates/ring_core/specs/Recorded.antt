@@ -1,0 +1,77 @@
+-- The calls of a history as a recorder next to its two sides would tell them: a call begins with the first of its own events, and ends
+-- with the last. They are the calls of a queue, with no bit in sight.
+use Rattle.std.specs.Prelude.{ℕ, suc, ◌-◌, ◌<◌, nat_eq, nat_lt, Bool, true, false, List, [], ◌∷◌, ◌++◌, length, if◌then◌else◌}
+use Rattle.queue_calls.specs.Queue.{exactly}
+use Rattle.queue_calls.specs.Calls as calls
+use Rattle.queue_calls.specs.Calls.{PutBegin, PutStored, PutFull, CloseBegin, CloseEnd, TakeBegin, TakeItems, TakeEmpty, TakeClosed}
+use Rattle.bits_core.specs.declared.events.Side.{Side}
+use Rattle.bits_core.specs.declared.events.Side.TheVariants.{P, C}
+use Rattle.bits_core.specs.declared.events.Event.{Event}
+use Rattle.bits_core.specs.declared.shapes.Shape.{Shape}
+use Rattle.bits_core.specs.Shape.{capacity_of}
+use Rattle.ring_core.specs.Counts.{Count, first_count}
+use Rattle.ring_core.specs.Puts.{Put, Stored, Full, Puts, IsPutOf, number_after, stored_after, put_phrase, close_phrase}
+use Rattle.ring_core.specs.Takes.{Take, Item, ItemAfterClose, Empty, End, Open, Closed, Takes, taken_after, take_phrase, end_phrase}
+use Rattle.ring_core.specs.Items.{events_in}
+use Rattle.ring_core.specs.RingLaw.{IsRun}
+
+-- how a put ends, and how a take does
+abbrev pub put_answer : Put → calls.Event
+put_answer (Stored seen items) = PutStored (length items)
+put_answer (Full seen) = PutFull
+
+abbrev pub take_answer : Take → calls.Event
+take_answer (Item seen item) = TakeItems (item ∷ [])
+take_answer (ItemAfterClose seen again item) = TakeItems (item ∷ [])
+take_answer (Empty seen) = TakeEmpty
+
+-- what event number i of a call tells, counted from 0, of a call that has so many
+abbrev pub call_told : (long : ℕ) → (begins ends : calls.Event) → ℕ → List calls.Event
+call_told long begins ends i = (if nat_eq i 0 then begins ∷ [] else if nat_eq (suc i) long then ends ∷ [] else [])
+
+-- or, where it comes behind that call, what the calls behind it tell
+abbrev pub told_or_behind : (long : ℕ) → (begins ends : calls.Event) → ℕ → List calls.Event → List calls.Event
+told_or_behind long begins ends i behind = (if nat_lt i long then call_told long begins ends i else behind)
+
+-- what the producer's own event number i tells, of puts from number j on, each of which is offered items by its number, and of the close
+-- behind them
+abbrev pub put_told : Shape → (ℕ → List ℕ) → ℕ → Count → List Put → Bool → ℕ → List calls.Event
+put_told shape offers j c [] false i = []
+put_told shape offers j c [] true i = told_or_behind (events_in (close_phrase true)) CloseBegin CloseEnd i []
+put_told shape offers j c (x ∷ puts) closes i =
+    told_or_behind (events_in (put_phrase shape c x)) (PutBegin (offers j)) (put_answer x) i
+    (put_told shape offers (suc j) (stored_after shape c x) puts closes (i - events_in (put_phrase shape c x)))
+
+-- what the consumer's own event number i tells; each take wants one item
+abbrev pub take_told : Shape → ℕ → List Take → End → ℕ → List calls.Event
+take_told shape k [] Open i = []
+take_told shape k [] (Closed seen again) i = told_or_behind (events_in (end_phrase (Closed seen again))) (TakeBegin 1) TakeClosed i []
+take_told shape k (x ∷ takes) end i =
+    told_or_behind (events_in (take_phrase shape k x)) (TakeBegin 1) (take_answer x) i
+    (take_told shape (taken_after k x) takes end (i - events_in (take_phrase shape k x)))
+
+-- one of two, by the side
+abbrev pub by_side : {A : Type 0} → Side → A → A → A
+by_side P put take = put
+by_side C put take = take
+
+-- the calls that events tell, behind p events of the producer and c of the consumer
+abbrev pub calls_told : (put_told take_told : ℕ → List calls.Event) → (p c : ℕ) → List Event → List calls.Event
+calls_told put_told take_told p c [] = []
+calls_told put_told take_told p c (e ∷ h) =
+    by_side e.side (put_told p) (take_told c) ++ calls_told put_told take_told (by_side e.side (suc p) p) (by_side e.side c (suc c)) h
+
+-- the recorded calls of a history; the last of a side may have begun and not ended
+abbrev pub recorded : Shape → (ℕ → List ℕ) → List Event → Puts → Takes → List calls.Event
+recorded shape offers h puts takes = calls_told (put_told shape offers 0 first_count puts.puts puts.closes) (take_told shape 0 takes.takes takes.end) 0 0 h
+
+-- each of these puts, from number j on and behind n items, is one of the items that it is offered
+abbrev pub AreOffered : Shape → (ℕ → List ℕ) → (j n : ℕ) → List Put → Type 0
+AreOffered shape offers j n [] = Unit {0}
+AreOffered shape offers j n (x ∷ puts) = (0 < length (offers j)) × IsPutOf shape n (offers j) x × AreOffered shape offers (suc j) (number_after n x) puts
+
+-- the recorded calls of every run are linearizable, as those of a queue of the ring's capacity
+abbrev pub RecordedIsLinearizable : Type 0
+RecordedIsLinearizable =
+    (shape : Shape) (offers : ℕ → List ℕ) (h : List Event) (puts : Puts) (takes : Takes) → IsRun shape h puts takes → AreOffered shape offers 0 0 puts.puts →
+    calls.IsLinearizable (exactly (capacity_of shape)) (recorded shape offers h puts takes)
