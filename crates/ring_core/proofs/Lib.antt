@@ -11,6 +11,8 @@ pub mod Cuts
 pub mod ItemsRead
 pub mod TakenRead
 mod Over
+mod TellsByOne
+mod RecordedByOne
 pub mod Following
 pub mod MachineParts
 pub mod NextParts

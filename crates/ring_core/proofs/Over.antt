@@ -17,7 +17,7 @@ use Rattle.ring_core.proofs.Following.{events_of-append, length-events}
 
 module _ {S X : Type 0} (events : S → X → ℕ) (after : S → X → S) where
   -- the events of these calls, and the state behind them
-  abbrev total : S → List X → ℕ
+  abbrev pub total : S → List X → ℕ
   total s [] = 0
   total s (x ∷ xs) = events s x + total (after s x) xs
 
@@ -87,7 +87,7 @@ first_puts : (shape : Shape) (n : ℕ) (xs ys : List Put) → ArePuts shape n (x
 first_puts shape n [] ys p = tt
 first_puts shape n (x ∷ xs) ys p = (p.0, first_puts shape (number_after n x) xs ys p.1)
 
-puts_total : (shape : Shape) (c : Count) (xs : List Put) → total (λ c x. events_in (put_phrase shape c x)) (stored_after shape) c xs ≡ 2 * length (put_phrases shape c xs)
+pub puts_total : (shape : Shape) (c : Count) (xs : List Put) → total (λ c x. events_in (put_phrase shape c x)) (stored_after shape) c xs ≡ 2 * length (put_phrases shape c xs)
 puts_total shape c [] = refl
 puts_total shape c (x ∷ xs) =
     omega (arith, puts_total shape (stored_after shape c x) xs, length-append (put_phrase shape c x) (put_phrases shape (stored_after shape c x) xs))
@@ -126,7 +126,7 @@ first_takes : (shape : Shape) (k : ℕ) (xs ys : List Take) (end : End) → AreT
 first_takes shape k [] ys end p = tt
 first_takes shape k (x ∷ xs) ys end p = (p.0, first_takes shape (taken_after k x) xs ys end p.1)
 
-takes_total : (shape : Shape) (k : ℕ) (xs : List Take) → total (λ k x. events_in (take_phrase shape k x)) taken_after k xs ≡ 2 * length (take_phrases shape k xs)
+pub takes_total : (shape : Shape) (k : ℕ) (xs : List Take) → total (λ k x. events_in (take_phrase shape k x)) taken_after k xs ≡ 2 * length (take_phrases shape k xs)
 takes_total shape k [] = refl
 takes_total shape k (x ∷ xs) =
     omega (arith, takes_total shape (taken_after k x) xs, length-append (take_phrase shape k x) (take_phrases shape (taken_after k x) xs))

@@ -21,4 +21,5 @@ pub mod Ranges
 pub mod RingLaw
 pub mod Linear
 pub mod Recorded
+pub mod RecordedByOne
 pub mod RunLaws

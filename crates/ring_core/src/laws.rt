@@ -10,6 +10,7 @@ ghost use Rattle.ring_core.specs.Over.{PutsOverAreRead, TakesOverAreRead};
 ghost use Rattle.ring_core.specs.PutParts.{CountsOn, ScansOn, ScansOrCloses, StoresOn, StoresOrCounts};
 ghost use Rattle.ring_core.specs.Readings.{PutsAreFirst, PutsAreRead, TakesAreFirst, TakesAreRead};
 ghost use Rattle.ring_core.specs.Recorded.{RecordedIsLinearizable};
+ghost use Rattle.ring_core.specs.RecordedByOne.{PutsTellByOne, TakesTellByOne};
 ghost use Rattle.ring_core.specs.RingLaw.{CellsAreQuiet, ClosedIsTrue, EmptyIsFresh, FillIsFresh, FullIsFresh, InEveryRun, IsWithin, TakenArePrefix, TakesMatchPuts, WordsAreQuiet};
 ghost use Rattle.ring_core.specs.Ranges.{PutsAreInRange, TakesAreInRange};
 ghost use Rattle.ring_core.specs.RunLaws.{ClosedStays, HasARun, PutsAreSeen, RunsByPut, RunsByTake, TakesAreSeen};
@@ -70,6 +71,13 @@ pub fn calls_over_are_read()
 {
     calls_are_first();
 }
+
+/// What one own event of a side tells of its calls, by the calls that are over before it and with it: it begins a call where
+/// those over before it have all events before it, ends one where one more is over with it, and tells nothing between.
+pub fn events_tell_by_one()
+    ensures puts { PutsTellByOne }
+    ensures takes { TakesTellByOne }
+{}
 
 /// Where the events of a side are those of whole calls, all items of these were put or taken, and as many are counted
 /// by the count writes that have begun.
