@@ -11,3 +11,5 @@ mod Steps
 mod Flickers
 mod WorldParts
 mod Fillings
+mod TellingSteps
+mod TellingMoves

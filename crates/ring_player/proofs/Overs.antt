@@ -1,10 +1,10 @@
 -- The calls that are over, where all but the last are.
-use Rattle.std.proofs.Common.{◌≡◌, ℕ, ◌+◌, ◌-◌, ◌*◌, ◌<◌, ◌≤◌, Bool, cond, List, [], ◌∷◌, ◌++◌, length, refl, ap, ap₂, arith, length-append}
-use Rattle.std.proofs.lemmas.Bool.{le-leb, lt-leb}
+use Rattle.std.proofs.Common.{◌≡◌, ℕ, ◌+◌, ◌-◌, ◌*◌, ◌<◌, ◌≤◌, Bool, true, false, cond, List, [], ◌∷◌, ◌++◌, length, refl, ap, ap₂, arith, length-append, nat_le}
+use Rattle.std.proofs.lemmas.Bool.{le-leb, leb-true, lt-leb}
 use Rattle.bits_core.specs.declared.shapes.Shape.{Shape}
 use Rattle.ring_core.specs.Counts.{Count}
 use Rattle.ring_core.specs.Items.{events_in}
-use Rattle.ring_core.specs.Over.{over}
+use Rattle.ring_core.specs.Over.{over, puts_over, takes_over}
 use Rattle.ring_core.specs.Puts.{Put, put_phrase, put_phrases, stored_after}
 use Rattle.ring_core.specs.Takes.{Take, take_phrase, take_phrases, taken_after}
 
@@ -22,6 +22,15 @@ module _ {S X : Type 0} (events : S → X → ℕ) (after : S → X → S) where
   cut_over s [] x t l m = ap (λ (b : Bool). cond b (x ∷ []) []) (lt-leb (events s x) t (omega (arith, m)))
   cut_over s (y ∷ xs) x t l m =
       ap₂ (λ (b : Bool) (r : List X). cond b (y ∷ r) []) (le-leb (events s y) t (omega (arith, l))) (cut_over (after s y) xs x (t - events s y) (omega (arith, l)) (omega (arith, m)))
+
+-- the calls that are over are the first ones
+pub over_front : {S X : Type 0} (events : S → X → ℕ) (after : S → X → S) (s : S) (xs : List X) (t : ℕ) → (rest : List X) × (xs ≡ over events after s xs t ++ rest)
+over_front {X = X} events after s [] t = ([], refl)
+over_front {X = X} events after s (x ∷ xs) t = by_test (over_front events after (after s x) xs (t - events s x)) (nat_le (events s x) t)
+  where
+    by_test : ((rest : List X) × (xs ≡ over events after (after s x) xs (t - events s x) ++ rest)) → (b : Bool) → (rest : List X) × (x ∷ xs ≡ cond b (x ∷ over events after (after s x) xs (t - events s x)) [] ++ rest)
+    by_test (rest, e) true = (rest, ap (λ l. x ∷ l) e)
+    by_test z false = (x ∷ xs, refl)
 
 puts_total : (shape : Shape) (c : Count) (xs : List Put) → total (λ c x. events_in (put_phrase shape c x)) (stored_after shape) c xs ≡ 2 * length (put_phrases shape c xs)
 puts_total shape c [] = refl
@@ -50,3 +59,22 @@ pub takes_cut_over :
     over (λ k x. events_in (take_phrase shape k x)) taken_after k (xs ++ x ∷ []) t ≡ xs
 takes_cut_over shape k xs x t l m =
     cut_over (λ k x. events_in (take_phrase shape k x)) taken_after k xs x t (omega (arith, l, takes_total shape k xs)) (omega (arith, m, takes_total shape k (xs ++ x ∷ [])))
+
+-- none is over before the first event
+over_within : {S X : Type 0} (events : S → X → ℕ) (after : S → X → S) (s : S) (xs : List X) (t : ℕ) → total events after s (over events after s xs t) ≤ t
+over_within events after s [] t = omega arith
+over_within {X = X} events after s (x ∷ xs) t = by_test (over_within events after (after s x) xs (t - events s x)) (nat_le (events s x) t) refl
+  where
+    by_test :
+        total events after (after s x) (over events after (after s x) xs (t - events s x)) ≤ t - events s x → (b : Bool) → nat_le (events s x) t ≡ b →
+        total events after s (cond b (x ∷ over events after (after s x) xs (t - events s x)) []) ≤ t
+    by_test l true e = omega (arith, l, leb-true (events s x) t e)
+    by_test l false e = omega arith
+
+pub none_over_puts : (shape : Shape) (c : Count) (xs : List Put) → events_in (put_phrases shape c (puts_over shape c xs 0)) ≡ 0
+none_over_puts shape c xs =
+    omega (arith, over_within (λ c x. events_in (put_phrase shape c x)) (stored_after shape) c xs 0, puts_total shape c (puts_over shape c xs 0))
+
+pub none_over_takes : (shape : Shape) (k : ℕ) (xs : List Take) → events_in (take_phrases shape k (takes_over shape k xs 0)) ≡ 0
+none_over_takes shape k xs =
+    omega (arith, over_within (λ k x. events_in (take_phrase shape k x)) taken_after k xs 0, takes_total shape k (takes_over shape k xs 0))

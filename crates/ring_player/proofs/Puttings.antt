@@ -42,13 +42,13 @@ fit-take shape zero (x ∷ xs) f = tt
 fit-take shape (suc n) [] f = tt
 fit-take shape (suc n) (x ∷ xs) f = (f.0, fit-take shape n xs f.1)
 
-left_some : (n : ℕ) (xs : List ℕ) → n < length xs → 1 ≤ length (drop n xs)
+pub left_some : (n : ℕ) (xs : List ℕ) → n < length xs → 1 ≤ length (drop n xs)
 left_some zero [] l = absurd (omega (arith, l))
 left_some zero (x ∷ xs) l = omega arith
 left_some (suc n) [] l = absurd (omega (arith, l))
 left_some (suc n) (x ∷ xs) l = left_some n xs (omega (arith, l))
 
-taken_some : (n : ℕ) (xs : List ℕ) → 1 ≤ n → 1 ≤ length xs → 1 ≤ length (take n xs)
+pub taken_some : (n : ℕ) (xs : List ℕ) → 1 ≤ n → 1 ≤ length xs → 1 ≤ length (take n xs)
 taken_some zero xs l m = absurd (omega (arith, l))
 taken_some (suc n) [] l m = absurd (omega (arith, m))
 taken_some (suc n) (x ∷ xs) l m = omega arith
@@ -79,7 +79,7 @@ attempts-more :
 attempts-more script n [] x m l is = (l, is, tt)
 attempts-more script n (y ∷ xs) x (l', is', m) l is = (l', is', attempts-more script (number_after n y) xs x m l is)
 
-stored-more : (n : ℕ) (xs : List puts.Put) (x : puts.Put) → stored_in n (xs ++ x ∷ []) ≡ number_after (stored_in n xs) x
+pub stored-more : (n : ℕ) (xs : List puts.Put) (x : puts.Put) → stored_in n (xs ++ x ∷ []) ≡ number_after (stored_in n xs) x
 stored-more n [] x = refl
 stored-more n (y ∷ xs) x = stored-more (number_after n y) xs x
 
@@ -391,7 +391,7 @@ counted_by : (n : ℕ) (x : puts.Put) → number_after n x ≡ n + stored_in_rep
 counted_by n (Stored seen items) = past_is n items
 counted_by n (Full seen) = omega arith
 
-fulls-more : (xs : List puts.Put) (x : puts.Put) → fulls xs + full_in_reply (Some (reply_to x)) ≡ fulls (xs ++ x ∷ [])
+pub fulls-more : (xs : List puts.Put) (x : puts.Put) → fulls xs + full_in_reply (Some (reply_to x)) ≡ fulls (xs ++ x ∷ [])
 fulls-more [] (Stored seen items) = refl
 fulls-more [] (Full seen) = refl
 fulls-more (Stored seen items ∷ xs) x = fulls-more xs x

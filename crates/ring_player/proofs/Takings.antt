@@ -43,13 +43,12 @@ taken_rises k [] (y ∷ ys) = omega (arith, after_more k y, taken_rises (taken_a
 taken_rises k (x ∷ xs) ys = taken_rises (taken_after k x) xs ys
 
 -- the items of one take more
-item_of : Take → List ℕ
+abbrev pub item_of : Take → List ℕ
 item_of (Item seen item) = item ∷ []
 item_of (ItemAfterClose seen again item) = item ∷ []
 item_of (Empty seen) = []
 
-all-more : (xs : List Take) (x : Take) → all_taken (xs ++ x ∷ []) ≡ all_taken xs ++ item_of x
-unfolding item_of
+pub all-more : (xs : List Take) (x : Take) → all_taken (xs ++ x ∷ []) ≡ all_taken xs ++ item_of x
 all-more [] (Item seen item) = refl
 all-more [] (ItemAfterClose seen again item) = refl
 all-more [] (Empty seen) = refl
@@ -274,7 +273,7 @@ told_by (Some (reply.Item item)) told = told
 told_by (Some reply.Empty) told = told
 told_by (Some reply.Closed) told = true
 
-empties-more : (xs : List Take) (x : Take) → empties xs + empty_in (Some (reply_to x)) ≡ empties (xs ++ x ∷ [])
+pub empties-more : (xs : List Take) (x : Take) → empties xs + empty_in (Some (reply_to x)) ≡ empties (xs ++ x ∷ [])
 empties-more [] (Item seen item) = refl
 empties-more [] (ItemAfterClose seen again item) = refl
 empties-more [] (Empty seen) = refl
@@ -283,7 +282,6 @@ empties-more (ItemAfterClose seen again item ∷ xs) x = empties-more xs x
 empties-more (Empty seen ∷ xs) x = omega (arith, empties-more xs x)
 
 kept_is : (x : Take) → kept_of (Some (reply_to x)) ≡ item_of x
-unfolding item_of
 kept_is (Item seen item) = refl
 kept_is (ItemAfterClose seen again item) = refl
 kept_is (Empty seen) = refl
@@ -507,6 +505,7 @@ taken_so_far script p taken told empty list o due s next is_due = by_due due is_
           begins = ([], append-nil (so_far C list o) ∙ es);
           items = taken_all shape 0 calls.takes (length (so_far C list o)) (omega (arith, size, program-parts calls)) ∙ sym s.taken_is;
           over = ap empties (takes_all_over shape 0 calls.takes (length (so_far C list o)) (omega (arith, size, program-parts calls))) ∙ sym s.empty_is;
+          ended = ap all_taken (takes_all_over shape 0 calls.takes (length (so_far C list o)) (omega (arith, size, program-parts calls))) ∙ sym s.taken_is;
           tells = (λ t. (tells_so calls.end (sym s.told_is ∙ t), omega (arith, size)), λ t. s.told_is ∙ tells_if calls.end t.0);
         }
     by_due None f true next = absurd next
@@ -523,6 +522,7 @@ taken_so_far script p taken told empty list o due s next is_due = by_due due is_
               (events_of C rest, sym (events-append C (list ++ answered a true ∷ []) rest) ∙ ap (events_of C) e);
           items = by_more more has.is_one_more longer ∙ sym s.taken_is;
           over = ap empties (over_more more has.is_one_more longer) ∙ sym s.empty_is;
+          ended = ap all_taken (over_more more has.is_one_more longer) ∙ sym s.taken_is;
           tells = (λ t. absurd (true_false (sym t ∙ open_tells_not)), λ t. absurd (omega (arith, t.1, longer, bounds)));
         }
       where

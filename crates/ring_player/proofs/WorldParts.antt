@@ -12,7 +12,7 @@ use Rattle.bits_core.specs.Laws.{FlickerIsByInterval, OpenChanges, OwnChanges}
 use Rattle.bits_core.specs.Made.{clock, own}
 use Rattle.bits_core.specs.Memory.{Recorded}
 use Rattle.bits_core.specs.Oracle.{turn}
-use Rattle.ring_player.specs.Actors.{IsAtTurn, IsMove, IsPlaying, so_far}
+use Rattle.ring_player.specs.Actors.{IsAtTurn, IsMove, IsPlaying, PutTally, so_far}
 use Rattle.ring_player.specs.Plays.{AreMoves, IsDone, IsPlayed, IsProgram, Plays, sides}
 use Rattle.std.specs.Prelude.{replicate, slice_index_or}
 use Rattle.std.proofs.lemmas.Bool.{cases_lt}
@@ -22,9 +22,9 @@ use Rattle.ring_script.specs.declared.schedules.Run.{Run}
 use Rattle.ring_script.specs.Schedule.{spelled}
 use Rattle.ring_script.specs.Content.{Content}
 use Rattle.ring_core.specs.Counts.{first_count}
-use Rattle.ring_core.specs.Items.{ItemsAreRead, items_put, items_put_in, items_taken, items_taken_in, TakenAreRead, ToldIn}
+use Rattle.ring_core.specs.Items.{ItemsAreRead, all_taken, items_put, items_put_in, items_taken, items_taken_in, TakenAreRead, ToldIn}
 use Rattle.ring_core.specs.Over.{empties, fulls, PutsOverAreRead, puts_over_in, TakesOverAreRead, takes_over_in}
-use Rattle.ring_core.specs.Puts.{FollowsPuts, Puts}
+use Rattle.ring_core.specs.Puts.{FollowsPuts, Puts, stored_in}
 use Rattle.ring_core.specs.Takes.{FollowsTakes, Takes}
 use Rattle.ring_player.specs.Headline.{EveryPlayFills, EveryPlayHolds, HoldsHeadline, IsPlayOf}
 use Rattle.ring_player.specs.SoFar.{PutSoFar, TakenSoFar}
@@ -177,20 +177,37 @@ empty_of read script cs h due stands taken told empty same p t takes follows =
 -- ---- what was put
 
 pub put_of :
-    ItemsAreRead → (script ps : Content) (h : List Event) (due : Option Access) (stands : Stands) (put : List ℕ) (full : ℕ) → ps ≡ script → (p : IsPlaying P h due stands) →
-    PutSoFar ps.shape (so_far P p.list (open_access P h)) put full → (puts : Puts) → FollowsPuts script.shape h puts → put ≡ items_put_in script.shape h puts
-put_of read script ps h due stands put full same p t puts follows =
-    let u : PutSoFar script.shape (own P h) put full = subst (λ (x : Content). PutSoFar x.shape (own P h) put full) same (subst (λ l. PutSoFar ps.shape l put full) (sym p.own_is) t) in
+    ItemsAreRead → (script ps : Content) (h : List Event) (due : Option Access) (stands : Stands) (put : List ℕ) (kept : PutTally) → ps ≡ script → (p : IsPlaying P h due stands) →
+    PutSoFar ps.shape (so_far P p.list (open_access P h)) put kept → (puts : Puts) → FollowsPuts script.shape h puts → put ≡ items_put_in script.shape h puts
+put_of read script ps h due stands put kept same p t puts follows =
+    let u : PutSoFar script.shape (own P h) put kept = subst (λ (x : Content). PutSoFar x.shape (own P h) put kept) same (subst (λ l. PutSoFar ps.shape l put kept) (sym p.own_is) t) in
     let mine : FollowsPuts script.shape h u.puts = record { are = u.are; events = u.begins } in
     sym u.items ∙ read script.shape h u.puts puts mine follows
 
 pub full_of :
-    PutsOverAreRead → (script ps : Content) (h : List Event) (due : Option Access) (stands : Stands) (put : List ℕ) (full : ℕ) → ps ≡ script → (p : IsPlaying P h due stands) →
-    PutSoFar ps.shape (so_far P p.list (open_access P h)) put full → (puts : Puts) → FollowsPuts script.shape h puts → full ≡ fulls (puts_over_in script.shape h puts)
-full_of read script ps h due stands put full same p t puts follows =
-    let u : PutSoFar script.shape (own P h) put full = subst (λ (x : Content). PutSoFar x.shape (own P h) put full) same (subst (λ l. PutSoFar ps.shape l put full) (sym p.own_is) t) in
+    PutsOverAreRead → (script ps : Content) (h : List Event) (due : Option Access) (stands : Stands) (put : List ℕ) (kept : PutTally) → ps ≡ script → (p : IsPlaying P h due stands) →
+    PutSoFar ps.shape (so_far P p.list (open_access P h)) put kept → (puts : Puts) → FollowsPuts script.shape h puts → kept.full ≡ fulls (puts_over_in script.shape h puts)
+full_of read script ps h due stands put kept same p t puts follows =
+    let u : PutSoFar script.shape (own P h) put kept = subst (λ (x : Content). PutSoFar x.shape (own P h) put kept) same (subst (λ l. PutSoFar ps.shape l put kept) (sym p.own_is) t) in
     let mine : FollowsPuts script.shape h u.puts = record { are = u.are; events = u.begins } in
     sym u.over ∙ ap fulls (read script.shape h u.puts puts mine follows)
+
+pub stored_of :
+    PutsOverAreRead → (script ps : Content) (h : List Event) (due : Option Access) (stands : Stands) (put : List ℕ) (kept : PutTally) → ps ≡ script → (p : IsPlaying P h due stands) →
+    PutSoFar ps.shape (so_far P p.list (open_access P h)) put kept → (puts : Puts) → FollowsPuts script.shape h puts → kept.stored ≡ stored_in 0 (puts_over_in script.shape h puts)
+stored_of read script ps h due stands put kept same p t puts follows =
+    let u : PutSoFar script.shape (own P h) put kept = subst (λ (x : Content). PutSoFar x.shape (own P h) put kept) same (subst (λ l. PutSoFar ps.shape l put kept) (sym p.own_is) t) in
+    let mine : FollowsPuts script.shape h u.puts = record { are = u.are; events = u.begins } in
+    sym u.stored ∙ ap (stored_in 0) (read script.shape h u.puts puts mine follows)
+
+pub ended_of :
+    TakesOverAreRead → (script cs : Content) (h : List Event) (due : Option Access) (stands : Stands) (taken : List ℕ) (told : Bool) (empty : ℕ) → cs ≡ script → (p : IsPlaying C h due stands) →
+    TakenSoFar cs.shape (so_far C p.list (open_access C h)) taken told empty → (takes : Takes) → FollowsTakes script.shape h takes → taken ≡ all_taken (takes_over_in script.shape h takes)
+ended_of read script cs h due stands taken told empty same p t takes follows =
+    let u : TakenSoFar script.shape (own C h) taken told empty =
+    subst (λ (x : Content). TakenSoFar x.shape (own C h) taken told empty) same (subst (λ l. TakenSoFar cs.shape l taken told empty) (sym p.own_is) t) in
+    let mine : FollowsTakes script.shape h u.takes = record { are = u.are; events = u.begins } in
+    sym u.ended ∙ ap all_taken (read script.shape h u.takes takes mine follows)
 
 -- ---- no more items were taken than put
 
@@ -198,11 +215,11 @@ clock_end : (s : Side) (h : List Event) → clock s h (length h) ≡ length (own
 clock_end s h = ap (λ l. length (own s l)) (take-length h)
 
 pub few_of :
-    (script ps cs : Content) (h : List Event) (pd cd : Option Access) (pt ct : Stands) (put taken : List ℕ) (full : ℕ) (told : Bool) (empty : ℕ) → ps ≡ script → cs ≡ script →
-    (p : IsPlaying P h pd pt) → (t : IsPlaying C h cd ct) → PutSoFar ps.shape (so_far P p.list (open_access P h)) put full →
+    (script ps cs : Content) (h : List Event) (pd cd : Option Access) (pt ct : Stands) (put taken : List ℕ) (kept : PutTally) (told : Bool) (empty : ℕ) → ps ≡ script → cs ≡ script →
+    (p : IsPlaying P h pd pt) → (t : IsPlaying C h cd ct) → PutSoFar ps.shape (so_far P p.list (open_access P h)) put kept →
     TakenSoFar cs.shape (so_far C t.list (open_access C h)) taken told empty → HoldsHeadline script h → length taken ≤ length put
-few_of script ps cs h pd cd pt ct put taken full told empty same_p same_c p t puts takes holds =
-    let u : PutSoFar script.shape (own P h) put full = subst (λ (x : Content). PutSoFar x.shape (own P h) put full) same_p (subst (λ l. PutSoFar ps.shape l put full) (sym p.own_is) puts) in
+few_of script ps cs h pd cd pt ct put taken kept told empty same_p same_c p t puts takes holds =
+    let u : PutSoFar script.shape (own P h) put kept = subst (λ (x : Content). PutSoFar x.shape (own P h) put kept) same_p (subst (λ l. PutSoFar ps.shape l put kept) (sym p.own_is) puts) in
     let v : TakenSoFar script.shape (own C h) taken told empty =
     subst (λ (x : Content). TakenSoFar x.shape (own C h) taken told empty) same_c (subst (λ l. TakenSoFar cs.shape l taken told empty) (sym t.own_is) takes) in
     let (rest, is) = (holds u.puts v.takes (record { are = u.are; events = u.begins }) (record { are = v.are; events = v.begins })).prefix (length h) in

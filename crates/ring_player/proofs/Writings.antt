@@ -17,7 +17,7 @@ use Rattle.ring_core.specs.Over.{fulls, puts_over}
 use Rattle.ring_core.specs.ProducerCalls.{HasCallMore, room_in}
 use Rattle.ring_core.specs.ProducerState.{Call, call_of, Close, ProducerState, Put}
 use Rattle.ring_core.specs.Puts as puts
-use Rattle.ring_core.specs.Puts.{accesses_before_count, ArePuts, close_phrase, Full, put_phrase, put_phrases, put_program, Puts, Stored, stored_after}
+use Rattle.ring_core.specs.Puts.{accesses_before_count, ArePuts, close_phrase, Full, put_phrase, put_phrases, put_program, Puts, Stored, stored_after, stored_in}
 use Rattle.ring_script.specs.Content.{Content}
 use Rattle.ring_player.specs.Actors.{begun, digits_by, digits_in, HasWritten, IsAsked, IsPutting, items_begun, put_once, PutTally, so_far, with_open}
 use Rattle.ring_player.specs.Plays.{AreAttempts, ArePutsOf, offered}
@@ -165,10 +165,11 @@ with_open_length list (Some a) = (
 
 -- by one reading
 reading_so_far :
-    CountsShowNumbers → CountsAreWritten → (script : Content) (digits put full : ℕ) (list : List Made) (o : Option Access) → HasWritten script digits put list o → (more : Puts) → ArePutsOf script more →
+    CountsShowNumbers → CountsAreWritten → (script : Content) (digits put : ℕ) (kept : PutTally) (list : List Made) (o : Option Access) → HasWritten script digits put list o → (more : Puts) → ArePutsOf script more →
     IsBeginning (with_open list o) (put_program script.shape more) → IsBeginning (so_far P list o) (events_of P (put_program script.shape more)) →
-    fulls (puts_over script.shape first_count more.puts (length (so_far P list o))) ≡ full → PutSoFar script.shape (so_far P list o) (take put script.items) full
-reading_so_far numbers written script digits put full list o s more asked begins events over =
+    (ended : List puts.Put) → puts_over script.shape first_count more.puts (length (so_far P list o)) ≡ ended → kept.full ≡ fulls ended → kept.stored ≡ stored_in 0 ended →
+    PutSoFar script.shape (so_far P list o) (take put script.items) kept
+reading_so_far numbers written script digits put kept list o s more asked begins events ended over full stored =
     let shape : Shape = script.shape in
     let t : ℕ = length (so_far P list o) in
     let bounds = with_open_length list o in
@@ -186,12 +187,13 @@ reading_so_far numbers written script digits put full list o s more asked begins
       are = asked.are;
       begins = events;
       items = begin_take (items_put shape first_count more.puts t) script.items first ∙ ap (λ n. take n script.items) (sym count);
-      over = over;
+      over = ap fulls over ∙ sym full;
+      stored = ap (stored_in 0) over ∙ sym stored;
     }
 
 pub put_so_far :
     CountsShowNumbers → CountsAreWritten → (script : Content) (p : ProducerState) (kept : PutTally) (digits put : ℕ) (list : List Made) (o due : Option Access) → IsPutting script p kept list o →
-    HasWritten script digits put list o → NextPut p due → ((a : Access) → o ≡ Some a → due ≡ Some a) → PutSoFar script.shape (so_far P list o) (take put script.items) kept.full
+    HasWritten script digits put list o → NextPut p due → ((a : Access) → o ≡ Some a → due ≡ Some a) → PutSoFar script.shape (so_far P list o) (take put script.items) kept
 put_so_far numbers written script p kept digits put list o due s h next is_due = by_due due is_due (call_of p) s.asked (next_in script p kept list o due s next)
   where
     calls : Puts
@@ -244,13 +246,13 @@ put_so_far numbers written script p kept digits put list o due s h next is_due =
 
     by_due :
         (due : Option Access) → ((a : Access) → o ≡ Some a → due ≡ Some a) → (c : Option Call) → IsAsked script calls c → IsNextPut shape calls c list due →
-        PutSoFar shape (so_far P list o) (take put script.items) kept.full
+        PutSoFar shape (so_far P list o) (take put script.items) kept
     by_due None f None asked whole =
         let none : o ≡ None = no_open o f in
         let made : with_open list o ≡ put_program shape calls = ap (with_open list) none ∙ whole in
         let es : so_far P list o ≡ events_of P (put_program shape calls) = ap (so_far P list) none ∙ ap (events_of P) whole in
-        reading_so_far numbers written script digits put kept.full list o h calls (of_calls asked) ([], append-nil (with_open list o) ∙ made) ([], append-nil (so_far P list o) ∙ es)
-        (ap fulls (puts_all_over shape first_count calls.puts (length (so_far P list o)) come) ∙ sym s.filled)
+        reading_so_far numbers written script digits put kept list o h calls (of_calls asked) ([], append-nil (with_open list o) ∙ made) ([], append-nil (so_far P list o) ∙ es)
+        calls.puts (puts_all_over shape first_count calls.puts (length (so_far P list o)) come) s.filled s.counted
     by_due None f (Some c) asked next = absurd next
     by_due (Some a) f None asked next = absurd next
     by_due (Some a) f (Some c) asked next =
@@ -259,7 +261,7 @@ put_so_far numbers written script p kept digits put list o due s h next is_due =
         let whole : IsBeginning (list ++ answered a true ∷ []) (put_program shape more) = (rest, e) in
         let whole_events : IsBeginning (events_of P (list ++ answered a true ∷ [])) (events_of P (put_program shape more)) =
         (events_of P rest, sym (events-append P (list ++ answered a true ∷ []) rest) ∙ ap (events_of P) e) in
-        reading_so_far numbers written script digits put kept.full list o h more (calls_asked script c calls more s.attempts asked has)
+        reading_so_far numbers written script digits put kept list o h more (calls_asked script c calls more s.attempts asked has)
         (begins-trans (with_open list o) (list ++ answered a true ∷ []) (put_program shape more) (open_begins o a f) whole)
         (begins-trans (so_far P list o) (events_of P (list ++ answered a true ∷ [])) (events_of P (put_program shape more)) (events_begin o a f) whole_events)
-        (ap fulls (over_more c more has longer) ∙ sym s.filled)
+        calls.puts (over_more c more has longer) s.filled s.counted

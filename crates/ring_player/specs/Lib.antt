@@ -4,3 +4,4 @@ pub mod Laws
 pub mod Actors
 pub mod SoFar
 pub mod Worlds
+pub mod Tellings

@@ -5,18 +5,20 @@ use Rattle.bits_core.specs.declared.events.Side.TheVariants.{P, C}
 use Rattle.bits_core.specs.declared.shapes.Shape.{Shape}
 use Rattle.bits_core.specs.Made.{events_of, IsBeginning}
 use Rattle.ring_core.specs.Counts.{first_count}
-use Rattle.ring_core.specs.Items.{IsTold, items_put, items_taken}
+use Rattle.ring_core.specs.Items.{IsTold, all_taken, items_put, items_taken}
 use Rattle.ring_core.specs.Over.{empties, fulls, puts_over, takes_over}
-use Rattle.ring_core.specs.Puts.{ArePuts, put_program, Puts}
+use Rattle.ring_core.specs.Puts.{ArePuts, put_program, Puts, stored_in}
 use Rattle.ring_core.specs.Takes.{AreTakes, take_program, Takes}
+use Rattle.ring_player.specs.Actors.{PutTally}
 
--- the items that were put, and how many puts found the ring full
-pub record PutSoFar (shape : Shape) (events : List Event) (put : List ℕ) (full : ℕ) : Type 0 where
+-- the items that were put, how many items the puts that are over stored, and how many of these found the ring full
+pub record PutSoFar (shape : Shape) (events : List Event) (put : List ℕ) (kept : PutTally) : Type 0 where
   pub puts : Puts
   pub are : ArePuts shape 0 puts.puts
   pub begins : IsBeginning events (events_of P (put_program shape puts))
   pub items : items_put shape first_count puts.puts (length events) ≡ put
-  pub over : fulls (puts_over shape first_count puts.puts (length events)) ≡ full
+  pub over : fulls (puts_over shape first_count puts.puts (length events)) ≡ kept.full
+  pub stored : stored_in 0 (puts_over shape first_count puts.puts (length events)) ≡ kept.stored
 
 -- the items that were taken, whether a take was told that the ring is closed, and how many found it empty
 pub record TakenSoFar (shape : Shape) (events : List Event) (taken : List ℕ) (told : Bool) (empty : ℕ) : Type 0 where
@@ -26,3 +28,4 @@ pub record TakenSoFar (shape : Shape) (events : List Event) (taken : List ℕ) (
   pub items : items_taken shape 0 takes.takes (length events) ≡ taken
   pub tells : (told ≡ true) ↔ IsTold shape takes (length events)
   pub over : empties (takes_over shape 0 takes.takes (length events)) ≡ empty
+  pub ended : all_taken (takes_over shape 0 takes.takes (length events)) ≡ taken

@@ -6,8 +6,10 @@ mod faults;
 pub mod laws;
 mod putting;
 mod taking;
+mod tellings;
 mod worlds;
 
 pub use faults::PlayFault;
 pub use ring_script::{Field, ITEM_LIMIT, LETTER_LIMIT, Script, ScriptFault, ScriptRef};
+pub use tellings::{Told, play_calls};
 pub use worlds::{Report, World, play, play_first};

@@ -111,6 +111,13 @@ impl<'a> PutActor<'a> {
         }
     }
 
+    /// How many items the puts that are over stored.
+    pub fn stored(&self) -> usize
+        ensures { result ≡ self.now.stored }
+    {
+        self.stored
+    }
+
     /// How many puts found the ring full.
     pub fn full(&self) -> u64
         ensures { result ≡ self.now.full }
@@ -120,7 +127,7 @@ impl<'a> PutActor<'a> {
 
     /// What the accesses so far have put.
     pub fn look(&self)
-        ensures { (list : List Made) (opened : Option Access) → IsPutting (content_of self.now.script) self.now.producer (record { stored = self.now.stored; full = self.now.full }) list opened → HasWritten (content_of self.now.script) self.now.digits self.now.put list opened → ((a : Access) → opened ≡ Some a → due_put self.now.producer ≡ Some a) → PutSoFar (content_of self.now.script).shape (so_far side_is.P list opened) (take self.now.put (content_of self.now.script).items) self.now.full }
+        ensures { (list : List Made) (opened : Option Access) → IsPutting (content_of self.now.script) self.now.producer (record { stored = self.now.stored; full = self.now.full }) list opened → HasWritten (content_of self.now.script) self.now.digits self.now.put list opened → ((a : Access) → opened ≡ Some a → due_put self.now.producer ≡ Some a) → PutSoFar (content_of self.now.script).shape (so_far side_is.P list opened) (take self.now.put (content_of self.now.script).items) (record { stored = self.now.stored; full = self.now.full }) }
     {
         counts_are_written();
         self.producer.next();

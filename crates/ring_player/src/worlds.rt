@@ -3,10 +3,10 @@ ghost use Rattle.std.specs.Prelude.{◌≡◌, ◌↔◌, ◌⊎◌, ◌<◌, �
 ghost use Rattle.bits_core.specs.declared.events.Side.{Side};
 ghost use Rattle.bits_core.specs.declared.events.Side.TheVariants as side_is;
 ghost use Rattle.bits_core.specs.Memory.{flicker_count};
-ghost use Rattle.ring_core.specs.Items.{ToldIn, items_put_in, items_taken_in};
+ghost use Rattle.ring_core.specs.Items.{ToldIn, all_taken, items_put_in, items_taken_in};
 ghost use Rattle.ring_core.specs.Linear.{EachReadingIsLinearizable};
 ghost use Rattle.ring_core.specs.Over.{empties, fulls, puts_over_in, takes_over_in};
-ghost use Rattle.ring_core.specs.Puts.{FollowsPuts, Puts};
+ghost use Rattle.ring_core.specs.Puts.{FollowsPuts, Puts, stored_in};
 ghost use Rattle.ring_core.specs.Takes.{FollowsTakes, Takes};
 ghost use Rattle.ring_player.specs.Actors.{IsMove};
 ghost use Rattle.ring_player.specs.Headline.{IsPlayOf};
@@ -131,6 +131,24 @@ impl<'a, E: Store<Event>, T: Store<u64>> World<'a, E, T> {
         ensures { result ≡ flicker_count self.now.history }
     {
         self.memory.flickers()
+    }
+
+    /// How many items the puts that have ended stored.
+    pub fn stored(&self) -> usize
+        ensures { (puts : Puts) → FollowsPuts self.now.script.shape self.now.history puts → result ≡ stored_in 0 (puts_over_in self.now.script.shape self.now.history puts) }
+    {
+        calls_over_are_read();
+        self.producer.look();
+        self.producer.stored()
+    }
+
+    /// The items that the takes which have ended took.
+    pub fn ended_items(&self) -> &[u64]
+        ensures { (takes : Takes) → FollowsTakes self.now.script.shape self.now.history takes → result.now ≡ all_taken (takes_over_in self.now.script.shape self.now.history takes) }
+    {
+        calls_over_are_read();
+        self.consumer.look();
+        self.consumer.taken()
     }
 
     /// How many puts have ended that found the ring full.

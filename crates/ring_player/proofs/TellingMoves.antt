@@ -1,0 +1,303 @@
+-- What is told of a history with one event more, whichever calls it is read as.
+use Rattle.std.proofs.Common.{◌≡◌, ℕ, suc, ◌+◌, ◌<◌, Bool, true, false, if◌then◌else◌, Option, Some, None, List, [], ◌∷◌, ◌++◌, length, take, refl, sym, ap, ap₂, subst, ◌∙◌, arith, append-nil, append_assoc, length-append}
+use Rattle.std.specs.Prelude.{◌↔◌, replicate}
+use Rattle.std.proofs.lemmas.List.{map-append, replicate-append-replicate}
+use Rattle.bits_core.specs.Bits.{other}
+use Rattle.bits_core.specs.Laws.{OwnChanges}
+use Rattle.bits_core.specs.Made.{IsBeginning, own}
+use Rattle.bits_core.specs.Shape.{batch_of, capacity_of}
+use Rattle.bits_core.specs.declared.events.Event.{Event}
+use Rattle.bits_core.specs.declared.events.Side.{Side}
+use Rattle.bits_core.specs.declared.events.Side.TheVariants.{P, C}
+use Rattle.queue_calls.specs.Calls as calls
+use Rattle.queue_calls.specs.Calls.{IsLinearizable}
+use Rattle.queue_calls.specs.Queue.{exactly}
+use Rattle.ring_core.specs.Counts.{first_count}
+use Rattle.ring_core.specs.Items.{all_taken, events_in, IsTold, ToldIn}
+use Rattle.ring_core.specs.Over.{empties, fulls, puts_over, puts_over_in, takes_over, takes_over_in}
+use Rattle.ring_core.specs.Puts.{FollowsPuts, IsPutOf, Put, Puts, number_after, put_program, stored_in}
+use Rattle.ring_core.specs.Recorded.{AreOffered, by_side, calls_told, put_told, RecordedIsLinearizable, take_told}
+use Rattle.ring_core.specs.Takes.{FollowsTakes, Takes, take_program}
+use Rattle.ring_player.specs.Actors.{IsMove, PutTally}
+use Rattle.ring_player.specs.Headline.{IsPlayOf}
+use Rattle.ring_player.specs.Plays.{AreAttempts, offered, Plays}
+use Rattle.ring_player.specs.Tellings.{AreAt, event_of, events_of as events_told, IsPutAt, IsReading, IsTakeAt, listed, offers_of, RecordsPlay, SaysPut, SaysTake, TakeTally, TellsCalls, told_in}
+use Rattle.ring_player.specs.declared.tellings.PutStage.{PutStage}
+use Rattle.ring_player.specs.declared.tellings.PutStage.TheVariants as put
+use Rattle.ring_player.specs.declared.tellings.TakeStage.{TakeStage}
+use Rattle.ring_player.specs.declared.tellings.TakeStage.TheVariants as taking
+use Rattle.ring_player.specs.declared.tellings.Told.{Told}
+use Rattle.ring_script.specs.Content.{Content}
+use Rattle.ring_player.proofs.Moves.{by_side as is_by_side, length-events, not_by, own_by, own_other}
+use Rattle.ring_player.proofs.Overs.{none_over_puts, none_over_takes}
+use Rattle.ring_player.proofs.Puttings.{left_some, stored-more, taken_some}
+use Rattle.ring_player.proofs.TellingSteps.{take_front}
+
+-- ---- one event more
+
+abbrev Telling : Type 0
+Telling = ℕ → List calls.Event
+
+own_first : (s : Side) (x : Event) (h : List Event) → x.side ≡ s → length (own s (x ∷ h)) ≡ suc (length (own s h))
+own_first s x h e = ap (λ (t : Bool). length (if t then x ∷ own s h else own s h)) (is_by_side s x e)
+
+own_not_first : (s : Side) (x : Event) (h : List Event) → x.side ≡ s → length (own (other s) (x ∷ h)) ≡ length (own (other s) h)
+own_not_first s x h e = ap (λ (t : Bool). length (if t then x ∷ own (other s) h else own (other s) h)) (not_by s x e)
+
+-- what the last event tells, behind so many of the two sides
+abbrev last_told : Telling → Telling → (p c : ℕ) → List Event → Event → List calls.Event
+last_told f g p c h e = by_side e.side (f (p + length (own P h))) (g (c + length (own C h)))
+
+told-more : (f g : Telling) (p c : ℕ) (h : List Event) (e : Event) → calls_told f g p c (h ++ e ∷ []) ≡ calls_told f g p c h ++ last_told f g p c h e
+told-more f g p c [] e =
+    append-nil (by_side e.side (f p) (g c)) ∙ ap₂ (λ (n : ℕ) (m : ℕ). by_side e.side (f n) (g m)) (omega arith) (omega arith)
+told-more f g p c (x ∷ h) e = by_first (λ a b. told-more f g a b h e) x.side refl
+  where
+    now : List calls.Event
+    now = by_side x.side (f p) (g c)
+
+    by_first : ((a b : ℕ) → calls_told f g a b (h ++ e ∷ []) ≡ calls_told f g a b h ++ last_told f g a b h e) → (s : Side) → x.side ≡ s → calls_told f g p c ((x ∷ h) ++ e ∷ []) ≡ calls_told f g p c (x ∷ h) ++ last_told f g p c (x ∷ h) e
+    by_first more P is =
+        let later : calls_told f g (by_side x.side (suc p) p) (by_side x.side c (suc c)) (h ++ e ∷ []) ≡
+        calls_told f g (by_side x.side (suc p) p) (by_side x.side c (suc c)) h ++ last_told f g (suc p) c h e =
+        more (by_side x.side (suc p) p) (by_side x.side c (suc c))
+        ∙ ap (λ s. calls_told f g (by_side x.side (suc p) p) (by_side x.side c (suc c)) h ++ last_told f g (by_side s (suc p) p) (by_side s c (suc c)) h e) is in
+        let place : last_told f g (suc p) c h e ≡ last_told f g p c (x ∷ h) e =
+        ap₂ (λ (n : ℕ) (m : ℕ). by_side e.side (f n) (g m)) (omega (arith, own_first P x h is)) (omega (arith, own_not_first P x h is)) in
+        ap (λ l. now ++ l) (later ∙ ap (λ l. calls_told f g (by_side x.side (suc p) p) (by_side x.side c (suc c)) h ++ l) place)
+        ∙ sym (append_assoc now (calls_told f g (by_side x.side (suc p) p) (by_side x.side c (suc c)) h) (last_told f g p c (x ∷ h) e))
+    by_first more C is =
+        let later : calls_told f g (by_side x.side (suc p) p) (by_side x.side c (suc c)) (h ++ e ∷ []) ≡
+        calls_told f g (by_side x.side (suc p) p) (by_side x.side c (suc c)) h ++ last_told f g p (suc c) h e =
+        more (by_side x.side (suc p) p) (by_side x.side c (suc c))
+        ∙ ap (λ s. calls_told f g (by_side x.side (suc p) p) (by_side x.side c (suc c)) h ++ last_told f g (by_side s (suc p) p) (by_side s c (suc c)) h e) is in
+        let place : last_told f g p (suc c) h e ≡ last_told f g p c (x ∷ h) e =
+        ap₂ (λ (n : ℕ) (m : ℕ). by_side e.side (f n) (g m)) (omega (arith, own_not_first C x h is)) (omega (arith, own_first C x h is)) in
+        ap (λ l. now ++ l) (later ∙ ap (λ l. calls_told f g (by_side x.side (suc p) p) (by_side x.side c (suc c)) h ++ l) place)
+        ∙ sym (append_assoc now (calls_told f g (by_side x.side (suc p) p) (by_side x.side c (suc c)) h) (last_told f g p c (x ∷ h) e))
+
+told-last :
+    (f g : Telling) (h : List Event) (e : Event) →
+    calls_told f g 0 0 (h ++ e ∷ []) ≡ calls_told f g 0 0 h ++ by_side e.side (f (length (own P h))) (g (length (own C h)))
+told-last f g h e =
+    told-more f g 0 0 h e ∙ ap (λ l. calls_told f g 0 0 h ++ l) (ap₂ (λ (n : ℕ) (m : ℕ). by_side e.side (f n) (g m)) (omega arith) (omega arith))
+
+-- ---- what is told of it
+
+module _ (owns : OwnChanges) (script : Content) (h h' : List Event) (e : Event) (is : h' ≡ h ++ e ∷ []) where
+  begins_own : (s : Side) → e.side ≡ s → (es : List Event) → IsBeginning (own s h') es → IsBeginning (own s h) es
+  begins_own s by es (rest, f) =
+      (e ∷ rest, sym (append_assoc (own s h) (e ∷ []) rest) ∙ ap (λ l. l ++ rest) (sym (ap (own s) is ∙ own_by owns s h e by)) ∙ f)
+
+  begins_other : (s : Side) → e.side ≡ s → (es : List Event) → IsBeginning (own (other s) h') es → IsBeginning (own (other s) h) es
+  begins_other s by es b = subst (λ l. IsBeginning l es) (ap (own (other s)) is ∙ own_other owns s h e by) b
+
+  module _ (by : e.side ≡ P) (stage next : PutStage) (t : TakeStage) (items : ℕ) (before now : PutTally) (told : Option Told) where
+    put_reading : (puts : Puts) (takes : Takes) → IsReading script h' puts takes → IsReading script h puts takes
+    put_reading puts takes r = record {
+      asked = r.asked;
+      puts_follow = record { are = r.puts_follow.are; events = begins_own P by _ r.puts_follow.events };
+      takes_follow = record { are = r.takes_follow.are; events = begins_other P by _ r.takes_follow.events };
+    }
+
+    one_put_more : length (own P h') ≡ suc (length (own P h))
+    one_put_more = omega (arith, ap length (ap (own P) is ∙ own_by owns P h e by), length-append (own P h) (e ∷ []))
+
+    put_few : (puts : Puts) → FollowsPuts script.shape h' puts → length (own P h) < events_in (put_program script.shape puts)
+    put_few puts f =
+        let (rest, b) = f.events in
+        omega (arith, one_put_more, ap length b, length-append (own P h') rest, length-events P (put_program script.shape puts))
+
+    pub put_moves :
+        SaysPut stage items before now next told → items ≡ length script.items → AreAt stage t script h →
+        ((puts : Puts) → FollowsPuts script.shape h puts → before.stored ≡ stored_in 0 (puts_over_in script.shape h puts)) →
+        ((puts : Puts) → FollowsPuts script.shape h puts → before.full ≡ fulls (puts_over_in script.shape h puts)) →
+        ((puts : Puts) → FollowsPuts script.shape h' puts → now.stored ≡ stored_in 0 (puts_over_in script.shape h' puts)) →
+        ((puts : Puts) → FollowsPuts script.shape h' puts → now.full ≡ fulls (puts_over_in script.shape h' puts)) →
+        AreAt next t script h' × ((events : List calls.Event) → TellsCalls script h events → TellsCalls script h' (events ++ told_in script told))
+    put_moves says all at stored full stored' full' = (
+      (λ puts takes r. (
+        subst (IsPutAt next script puts) (sym one_put_more) (said puts takes r).1,
+        subst (λ l. IsTakeAt t script takes (length l)) (sym (ap (own C) is ∙ own_other owns P h e by)) (at puts takes (put_reading puts takes r)).1,
+      )),
+      (λ events tells puts takes r.
+          let f : Telling = put_told script.shape (offers_of script puts) 0 first_count puts.puts puts.closes in
+          let g : Telling = take_told script.shape 0 takes.takes takes.end in
+          ap₂ (λ (a : List calls.Event) (b : List calls.Event). a ++ b) (tells puts takes (put_reading puts takes r))
+          ((said puts takes r).0 ∙ sym (ap (λ s. by_side s (f (length (own P h))) (g (length (own C h)))) by))
+          ∙ sym (told-last f g h e) ∙ ap (calls_told f g 0 0) (sym is)),
+    )
+      where
+        said :
+            (puts : Puts) (takes : Takes) → IsReading script h' puts takes →
+            (told_in script told ≡ put_told script.shape (offers_of script puts) 0 first_count puts.puts puts.closes (length (own P h))) × IsPutAt next script puts (suc (length (own P h)))
+        said puts takes r =
+            let r' = put_reading puts takes r in
+            says script puts (length (own P h)) r.asked all (put_few puts r.puts_follow) (at puts takes r').0 (stored puts r'.puts_follow, full puts r'.puts_follow) (
+              stored' puts r.puts_follow ∙ ap (λ n. stored_in 0 (puts_over script.shape first_count puts.puts n)) one_put_more,
+              full' puts r.puts_follow ∙ ap (λ n. fulls (puts_over script.shape first_count puts.puts n)) one_put_more,
+            )
+
+  module _ (by : e.side ≡ C) (stage : PutStage) (t next : TakeStage) (taken empty : ℕ) (before now : TakeTally) (told : Option Told) where
+    take_reading : (puts : Puts) (takes : Takes) → IsReading script h' puts takes → IsReading script h puts takes
+    take_reading puts takes r = record {
+      asked = r.asked;
+      puts_follow = record { are = r.puts_follow.are; events = begins_other C by _ r.puts_follow.events };
+      takes_follow = record { are = r.takes_follow.are; events = begins_own C by _ r.takes_follow.events };
+    }
+
+    one_take_more : length (own C h') ≡ suc (length (own C h))
+    one_take_more = omega (arith, ap length (ap (own C) is ∙ own_by owns C h e by), length-append (own C h) (e ∷ []))
+
+    take_few : (takes : Takes) → FollowsTakes script.shape h' takes → length (own C h) < events_in (take_program script.shape takes)
+    take_few takes f =
+        let (rest, b) = f.events in
+        omega (arith, one_take_more, ap length b, length-append (own C h') rest, length-events C (take_program script.shape takes))
+
+    -- what is counted of takes in a history
+    abbrev pub IsCounted : List Event → TakeTally → Type 0
+    IsCounted es kept =
+        (takes : Takes) → FollowsTakes script.shape es takes →
+        (kept.taken ≡ all_taken (takes_over_in script.shape es takes)) × (kept.empty ≡ empties (takes_over_in script.shape es takes)) ×
+        ((kept.told ≡ true) ↔ ToldIn script.shape es takes)
+
+    pub take_moves :
+        SaysTake t taken empty now next told → taken ≡ length before.taken → empty ≡ before.empty → AreAt stage t script h → IsCounted h before → IsCounted h' now →
+        AreAt stage next script h' × ((events : List calls.Event) → TellsCalls script h events → TellsCalls script h' (events ++ told_in script told))
+    take_moves says same_taken same_empty at counted counted' = (
+      (λ puts takes r. (
+        subst (λ l. IsPutAt stage script puts (length l)) (sym (ap (own P) is ∙ own_other owns C h e by)) (at puts takes (take_reading puts takes r)).0,
+        subst (IsTakeAt next script takes) (sym one_take_more) (said puts takes r).1,
+      )),
+      (λ events tells puts takes r.
+          let f : Telling = put_told script.shape (offers_of script puts) 0 first_count puts.puts puts.closes in
+          let g : Telling = take_told script.shape 0 takes.takes takes.end in
+          ap₂ (λ (a : List calls.Event) (b : List calls.Event). a ++ b) (tells puts takes (take_reading puts takes r))
+          ((said puts takes r).0 ∙ sym (ap (λ s. by_side s (f (length (own P h))) (g (length (own C h)))) by))
+          ∙ sym (told-last f g h e) ∙ ap (calls_told f g 0 0) (sym is)),
+    )
+      where
+        said :
+            (puts : Puts) (takes : Takes) → IsReading script h' puts takes →
+            (told_in script told ≡ take_told script.shape 0 takes.takes takes.end (length (own C h))) × IsTakeAt next script takes (suc (length (own C h)))
+        said puts takes r =
+            let r' = take_reading puts takes r in
+            let (now_taken, now_empty, now_told) = counted' takes r.takes_follow in
+            says script takes (length (own C h)) before same_taken same_empty (take_few takes r.takes_follow) (at puts takes r').1 (counted takes r'.takes_follow) (
+              now_taken ∙ ap (λ n. all_taken (takes_over script.shape 0 takes.takes n)) one_take_more,
+              now_empty ∙ ap (λ n. empties (takes_over script.shape 0 takes.takes n)) one_take_more,
+              subst (λ n. (now.told ≡ true) ↔ IsTold script.shape takes n) one_take_more now_told,
+            )
+
+-- nothing was told of nothing
+pub nothing_told : (script : Content) → TellsCalls script [] []
+nothing_told script puts takes r = refl
+
+pub at_first : (script : Content) → AreAt put.Between taking.Between script []
+at_first script puts takes r = (none_over_puts script.shape first_count puts.puts, none_over_takes script.shape 0 takes.takes)
+
+-- ---- the play
+
+-- each put of the script is one of the items that the world offers it
+offered_all :
+    (script : Content) (puts : Puts) (front xs : List Put) (j n : ℕ) → puts.puts ≡ front ++ xs → j ≡ length front → n ≡ stored_in 0 front → AreAttempts script n xs →
+    AreOffered script.shape (offers_of script puts) j n xs
+offered_all script puts front [] j n e f g m = tt
+offered_all script puts front (x ∷ xs) j n e f g (l, of, m) =
+    let here : offered script n ≡ offers_of script puts j =
+    ap (offered script) (g ∙ ap (stored_in 0) (sym (take_front front (x ∷ xs)) ∙ ap₂ (λ (i : ℕ) (l : List Put). take i l) (sym f) (sym e))) in (
+      subst (λ l. 0 < length l) here (taken_some (batch_of script.shape) _ script.shape.has_batch (left_some n script.items l)),
+      subst (λ l. IsPutOf script.shape n l x) here of,
+      offered_all script puts (front ++ x ∷ []) xs (suc j) (number_after n x) (e ∙ sym (append_assoc front (x ∷ []) xs))
+          (omega (arith, f, length-append front (x ∷ []))) (ap (λ k. number_after k x) g ∙ sym (stored-more 0 front x)) m,
+    )
+
+-- what is told of a play is a linearizable history
+pub records :
+    RecordedIsLinearizable → (script : Content) (letters : List Side) (h : List Event) (told : List Told) → IsPlayOf script letters h → TellsCalls script h (events_told script told) →
+    RecordsPlay script h told
+records law script letters h told play tells =
+    let (puts, asked, begins) = play.plays.played.puts in
+    let (takes, are, begins') = play.plays.played.takes in
+    let r : IsReading script h puts takes = record { asked = asked; puts_follow = record { are = asked.are; events = begins }; takes_follow = record { are = are; events = begins' } } in
+    record {
+      tells = tells;
+      linearizable = subst (IsLinearizable (exactly (capacity_of script.shape))) (sym (tells puts takes r))
+          (law script.shape (offers_of script puts) h puts takes (record { lawful = play.plays.played.lawful; puts_follow = r.puts_follow; takes_follow = r.takes_follow })
+          (offered_all script puts [] puts.puts 0 0 refl refl refl asked.attempts));
+    }
+
+-- ---- one step of the world
+
+abbrev pub ArePutsCounted : Content → List Event → PutTally → Type 0
+ArePutsCounted script h kept =
+    ((puts : Puts) → FollowsPuts script.shape h puts → kept.stored ≡ stored_in 0 (puts_over_in script.shape h puts)) ×
+    ((puts : Puts) → FollowsPuts script.shape h puts → kept.full ≡ fulls (puts_over_in script.shape h puts))
+
+-- the stages behind it, and what is told with it
+abbrev pub Stepped : Content → Content → List Event → List Event → PutStage → TakeStage → Option Told → Type 0
+Stepped script script' h h' stage t told =
+    AreAt stage t script' h' × ((events : List calls.Event) → TellsCalls script h events → TellsCalls script' h' (events ++ told_in script told))
+
+pub put_stepped :
+    OwnChanges → (script script' : Content) (h h' : List Event) (stage next : PutStage) (t : TakeStage) (items : ℕ) (before now : PutTally) (told : Option Told) → script' ≡ script →
+    IsMove script P true h h' → SaysPut stage items before now next told → items ≡ length script.items → AreAt stage t script h → ArePutsCounted script h before →
+    ArePutsCounted script' h' now → Stepped script script' h h' next t told
+put_stepped owns script script' h h' stage next t items before now told same (e, is, by, not) says all at counted counted' =
+    let (stored', full') = subst (λ s. ArePutsCounted s h' now) same counted' in
+    subst (λ s. Stepped script s h h' next t told) (sym same)
+    (put_moves owns script h h' e is by stage next t items before now told says all at counted.0 counted.1 stored' full')
+
+abbrev pub AreTakesCounted : Content → List Event → TakeTally → Type 0
+AreTakesCounted script h kept =
+    (takes : Takes) → FollowsTakes script.shape h takes →
+    (kept.taken ≡ all_taken (takes_over_in script.shape h takes)) × (kept.empty ≡ empties (takes_over_in script.shape h takes)) ×
+    ((kept.told ≡ true) ↔ ToldIn script.shape h takes)
+
+pub take_stepped :
+    OwnChanges → (script script' : Content) (h h' : List Event) (stage : PutStage) (t next : TakeStage) (taken empty : ℕ) (before now : TakeTally) (told : Option Told) → script' ≡ script →
+    IsMove script C true h h' → SaysTake t taken empty now next told → taken ≡ length before.taken → empty ≡ before.empty → AreAt stage t script h → AreTakesCounted script h before →
+    AreTakesCounted script' h' now → Stepped script script' h h' stage next told
+take_stepped owns script script' h h' stage t next taken empty before now told same (e, is, by, not) says same_taken same_empty at counted counted' =
+    subst (λ s. Stepped script s h h' stage next told) (sym same)
+    (take_moves owns script h h' e is by stage t next taken empty before now told says same_taken same_empty at counted (subst (λ s. AreTakesCounted s h' now) same counted'))
+
+-- where the side was done
+pub not_stepped :
+    (script script' : Content) (h h' : List Event) (side : Side) (stage : PutStage) (t : TakeStage) (moved : Bool) → script' ≡ script → IsMove script side moved h h' → moved ≡ false →
+    AreAt stage t script h → Stepped script script' h h' stage t None
+not_stepped script script' h h' side stage t moved same m is at =
+    let still : h' ≡ h = (subst (λ b. IsMove script side b h h') is m).0 in
+    subst (λ s. Stepped script s h h' stage t None) (sym same)
+    (subst (λ l. Stepped script script h l stage t None) (sym still) (at, (λ events tells. subst (TellsCalls script h) (sym (append-nil events)) tells)))
+
+-- what was told, and with one event more
+pub told_with : (script : Content) (told : List Told) (event : Option Told) → events_told script (told ++ listed event) ≡ events_told script told ++ told_in script event
+told_with script told None = ap (events_told script) (append-nil told) ∙ sym (append-nil (events_told script told))
+told_with script told (Some x) = map-append (event_of script) told (x ∷ [])
+
+pub tells_with :
+    (script script' : Content) (h h' : List Event) (told told' : List Told) (event : Option Told) → script' ≡ script →
+    ((events : List calls.Event) → TellsCalls script h events → TellsCalls script' h' (events ++ told_in script event)) → told' ≡ told ++ listed event →
+    TellsCalls script h (events_told script told) → TellsCalls script' h' (events_told script' told')
+tells_with script script' h h' told told' event same step more tells =
+    subst (TellsCalls script' h') (sym (ap₂ events_told same more ∙ told_with script told event)) (step (events_told script told) tells)
+
+pub letters_with :
+    (script script' first : Content) (h first_h h' : List Event) (s : Side) (n : ℕ) → script' ≡ script → script ≡ first →
+    ((letters : List Side) → Plays script letters h → Plays script' (letters ++ s ∷ []) h') →
+    ((letters : List Side) → Plays first letters first_h → Plays first (letters ++ replicate n s) h) →
+    (letters : List Side) → Plays first letters first_h → Plays first (letters ++ replicate (n + 1) s) h'
+letters_with script script' first h first_h h' s n same was step before letters p =
+    subst (λ l. Plays first l h') (append_assoc letters (replicate n s) (s ∷ []) ∙ ap (λ l. letters ++ l) (replicate-append-replicate n 1 s))
+    (subst (λ t. Plays t ((letters ++ replicate n s) ++ s ∷ []) h') (same ∙ was)
+    (step (letters ++ replicate n s) (subst (λ t. Plays t (letters ++ replicate n s) h) (sym was) (before letters p))))
+
+-- the play of a world
+pub play_records :
+    RecordedIsLinearizable → (script first : Content) (letters : List Side) (h : List Event) (told : List Told) → script ≡ first → IsPlayOf script letters h → Plays first first.letters h →
+    TellsCalls script h (events_told script told) → (x : List Event) × IsPlayOf first first.letters x × RecordsPlay first x told
+play_records law script first letters h told same play plays tells =
+    let p : IsPlayOf first letters h = subst (λ s. IsPlayOf s letters h) same play in
+    let whole : IsPlayOf first first.letters h = record { plays = plays; headline = p.headline; batches = p.batches } in
+    (h, whole, records law first first.letters h told whole (subst (λ s. TellsCalls s h (events_told s told)) same tells))

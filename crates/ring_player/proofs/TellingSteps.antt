@@ -1,0 +1,247 @@
+-- What one event of a side tells of its calls, by the stage that the side is in and by what is counted of the calls that are over.
+use Rattle.std.proofs.Common.{◌≡◌, ◌⊎◌, inl, inr, ℕ, suc, ◌+◌, ◌-◌, ◌<◌, ◌≤◌, true, List, [], ◌∷◌, ◌++◌, length, take, refl, sym, ap, subst, ◌∙◌, arith, append-nil, append_assoc, length-append}
+use Rattle.bits_core.specs.declared.shapes.Shape.{Shape}
+use Rattle.queue_calls.specs.Calls as calls
+use Rattle.ring_core.specs.Counts.{first_count}
+use Rattle.ring_core.specs.Items.{all_taken, events_in, IsTold}
+use Rattle.ring_core.specs.Over.{empties, fulls, puts_over, takes_over}
+use Rattle.ring_core.specs.Puts.{ArePuts, Full, IsPut, number_after, Put, Puts, put_phrases, put_program, close_phrase, Stored, stored_in}
+use Rattle.ring_core.specs.Recorded.{put_answer, put_told, take_answer, take_told}
+use Rattle.ring_core.specs.RecordedByOne.{events_of_puts, events_of_takes, PutTells, PutsTellByOne, TakeTells, TakesTellByOne}
+use Rattle.ring_core.specs.Takes.{Empty, Item, ItemAfterClose, Take, Takes, take_program}
+use Rattle.ring_player.specs.Plays.{AreAttempts, ArePutsOf, offered}
+use Rattle.ring_player.specs.Tellings.{IsPutAt, IsTakeAt, offers_of}
+use Rattle.ring_player.specs.declared.tellings.PutStage.TheVariants as put
+use Rattle.ring_player.specs.declared.tellings.TakeStage.TheVariants as taking
+use Rattle.ring_script.specs.Content.{Content}
+use Rattle.ring_player.proofs.Headlines.{past_is}
+use Rattle.ring_player.proofs.Overs.{over_front}
+use Rattle.ring_player.proofs.Puttings.{fulls-more, stored-more}
+use Rattle.ring_player.proofs.Takings.{all-more, empties-more, item_of}
+
+-- ---- lists
+
+next_of : {A : Type 0} (xs ys : List A) → length xs < length (xs ++ ys) → (y : A) × (rest : List A) × (ys ≡ y ∷ rest)
+next_of xs [] l = absurd (omega (arith, l, length-append xs []))
+next_of xs (y ∷ ys) l = (y, ys, refl)
+
+pub take_front : {A : Type 0} (xs ys : List A) → take (length xs) (xs ++ ys) ≡ xs
+take_front [] [] = refl
+take_front [] (y ∷ ys) = refl
+take_front (x ∷ xs) ys = ap (λ l. x ∷ l) (take_front xs ys)
+
+-- ---- puts
+
+attempt_at :
+    (script : Content) (n : ℕ) (xs : List Put) (x : Put) (ys : List Put) → AreAttempts script n (xs ++ x ∷ ys) → stored_in n xs < length script.items
+attempt_at script n [] x ys m = m.0
+attempt_at script n (y ∷ xs) x ys m = attempt_at script (number_after n y) xs x ys m.2
+
+put_at : (shape : Shape) (n : ℕ) (xs : List Put) (x : Put) (ys : List Put) → ArePuts shape n (xs ++ x ∷ ys) → IsPut shape (stored_in n xs) x
+put_at shape n [] x ys m = m.0
+put_at shape n (y ∷ xs) x ys m = put_at shape (number_after n y) xs x ys m.1
+
+module _ (law : PutsTellByOne) (script : Content) (puts : Puts) (i : ℕ) (asked : ArePutsOf script puts) (few : i < events_in (put_program script.shape puts)) where
+  abbrev shape : Shape
+  shape = script.shape
+
+  abbrev before : List Put
+  before = puts_over shape first_count puts.puts i
+
+  abbrev after : List Put
+  after = puts_over shape first_count puts.puts (suc i)
+
+  abbrev told : List calls.Event
+  told = put_told shape (offers_of script puts) 0 first_count puts.puts puts.closes i
+
+  tells : PutTells shape (offers_of script puts) puts i before after told
+  tells = law shape (offers_of script puts) puts i few
+
+  front : (rest : List Put) × (puts.puts ≡ before ++ rest)
+  front = over_front _ _ first_count puts.puts i
+
+  front_after : (rest : List Put) × (puts.puts ≡ after ++ rest)
+  front_after = over_front _ _ first_count puts.puts (suc i)
+
+  offer_is : offers_of script puts (length before) ≡ offered script (stored_in 0 before)
+  offer_is =
+      let (rest, e) = front in
+      ap (λ l. offered script (stored_in 0 l)) (ap (λ l. take (length before) l) e ∙ take_front before rest)
+
+  -- where a put is next, there is an item for it
+  next_item : length before < length puts.puts → stored_in 0 before < length script.items
+  next_item l =
+      let (rest, e) = front in
+      let (x, more, f) = next_of before rest (omega (arith, l, ap length e)) in
+      attempt_at script 0 before x more (subst (AreAttempts script 0) (e ∙ ap (λ r. before ++ r) f) asked.attempts)
+
+  none_next : before ≡ puts.puts → puts.closes ≡ true → stored_in 0 before ≡ length script.items
+  none_next e c = ap (stored_in 0) e ∙ (asked.closes c).1
+
+  pub put_begins :
+      (stored : ℕ) → IsPutAt put.Between script puts i → stored ≡ stored_in 0 before → stored < length script.items →
+      (calls.PutBegin (offered script stored) ∷ [] ≡ told) × IsPutAt put.Putting script puts (suc i)
+  put_begins stored e is l = elim tells [
+    | inl z ↦ elim z.2 [
+      | inl w ↦ (
+        ap (λ n. calls.PutBegin (offered script n) ∷ []) is ∙ ap (λ l. calls.PutBegin l ∷ []) (sym offer_is) ∙ sym w.1,
+        (omega (arith, z.1, ap (events_of_puts shape) z.0), omega (arith, w.0, ap length z.0)),
+      )
+      | inr w ↦ absurd (omega (arith, l, is, none_next w.0 w.1))
+    ]
+    | inr y ↦ absurd (elim y [
+      | inl z ↦ let (x, is', less, ends, t) = z in omega (arith, less, e)
+      | inr v ↦ elim v [ inl z ↦ omega (arith, z.3, e) | inr z ↦ omega (arith, z.1, e) ]
+    ])
+  ]
+
+  pub close_begins :
+      (stored : ℕ) → IsPutAt put.Between script puts i → stored ≡ stored_in 0 before → length script.items ≤ stored →
+      (calls.CloseBegin ∷ [] ≡ told) × IsPutAt put.Closing script puts (suc i)
+  close_begins stored e is l = elim tells [
+    | inl z ↦ elim z.2 [
+      | inl w ↦ absurd (omega (arith, l, is, next_item w.0))
+      | inr w ↦ (sym w.2, (z.0 ∙ w.0, w.1, omega (arith, z.1, ap (events_of_puts shape) w.0)))
+    ]
+    | inr y ↦ absurd (elim y [
+      | inl z ↦ let (x, is', less, ends, t) = z in omega (arith, less, e)
+      | inr v ↦ elim v [ inl z ↦ omega (arith, z.3, e) | inr z ↦ omega (arith, z.1, e) ]
+    ])
+  ]
+
+  -- a put goes on, or it ends, by what is counted
+  pub put_goes :
+      (stored full stored' full' : ℕ) → IsPutAt put.Putting script puts i → stored ≡ stored_in 0 before → full ≡ fulls before → stored' ≡ stored_in 0 after → full' ≡ fulls after →
+      ((stored < stored') × (calls.PutStored (stored' - stored) ∷ [] ≡ told) × IsPutAt put.Between script puts (suc i)) ⊎
+      (((stored' ≤ stored) × (full < full') × (calls.PutFull ∷ [] ≡ told) × IsPutAt put.Between script puts (suc i)) ⊎
+      ((stored' ≤ stored) × (full' ≤ full) × ([] ≡ told) × IsPutAt put.Putting script puts (suc i)))
+  put_goes stored full stored' full' at is_stored is_full now_stored now_full = elim tells [
+    | inl z ↦ absurd (omega (arith, at.0, z.1))
+    | inr y ↦ elim y [
+      | inl z ↦ (let (x, is, less, ends, t) = z in by_put x is ends t (is_put x is))
+      | inr v ↦ elim v [
+        | inl z ↦ absurd (omega (arith, at.1, ap length z.1))
+        | inr z ↦ inr (inr (
+          omega (arith, is_stored, now_stored, ap (stored_in 0) z.0),
+          omega (arith, is_full, now_full, ap fulls z.0),
+          sym z.3,
+          (omega (arith, z.1, ap (events_of_puts shape) z.0), omega (arith, at.1, ap length z.0)),
+        ))
+      ]
+    ]
+  ]
+    where
+      is_put : (x : Put) → after ≡ before ++ x ∷ [] → IsPut shape (stored_in 0 before) x
+      is_put x is =
+          let (rest, e) = front_after in
+          put_at shape 0 before x rest (subst (ArePuts shape 0) (e ∙ ap (λ l. l ++ rest) is ∙ append_assoc before (x ∷ []) rest) asked.are)
+
+      by_put :
+          (x : Put) → after ≡ before ++ x ∷ [] → suc i ≡ events_of_puts shape after → told ≡ put_answer x ∷ [] → IsPut shape (stored_in 0 before) x →
+          ((stored < stored') × (calls.PutStored (stored' - stored) ∷ [] ≡ told) × IsPutAt put.Between script puts (suc i)) ⊎
+          (((stored' ≤ stored) × (full < full') × (calls.PutFull ∷ [] ≡ told) × IsPutAt put.Between script puts (suc i)) ⊎
+          ((stored' ≤ stored) × (full' ≤ full) × ([] ≡ told) × IsPutAt put.Putting script puts (suc i)))
+      by_put (Stored seen items) is ends t p =
+          let more : stored' ≡ stored + length items =
+          omega (arith, now_stored, ap (stored_in 0) is, stored-more 0 before (Stored seen items), past_is (stored_in 0 before) items, is_stored) in
+          inl (omega (arith, more, p.2.some), ap (λ n. calls.PutStored n ∷ []) (omega (arith, more)) ∙ sym t, sym ends)
+      by_put (Full seen) is ends t p =
+          inr (inl (
+            omega (arith, now_stored, ap (stored_in 0) is, stored-more 0 before (Full seen), is_stored),
+            omega (arith, now_full, ap fulls is, fulls-more before (Full seen), is_full),
+            sym t,
+            sym ends,
+          ))
+
+  pub close_ends : IsPutAt put.Closing script puts i → (calls.CloseEnd ∷ [] ≡ told) × IsPutAt put.Closed script puts (suc i)
+  close_ends at = elim tells [
+    | inl z ↦ absurd (omega (arith, z.1, at.2, ap (events_of_puts shape) at.0))
+    | inr y ↦ elim y [
+      | inl z ↦ (
+          let (x, is, less, ends, t) = z in
+          let (rest, e) = front_after in
+          absurd (omega (arith, ap length is, length-append before (x ∷ []), ap length at.0, ap length e, length-append after rest)))
+      | inr v ↦ elim v [
+        | inl z ↦ (sym z.5, omega (arith, z.4))
+        | inr z ↦ absurd (omega (arith, z.2 at.1, at.2, whole))
+      ]
+    ]
+  ]
+    where
+      whole : events_in (put_program shape puts) ≡ events_of_puts shape puts.puts + 2
+      whole = omega (arith, length-append (put_phrases shape first_count puts.puts) (close_phrase puts.closes), ap (λ b. length (close_phrase b)) at.1)
+
+  pub closed_is_last : IsPutAt put.Closed script puts i → ⊥
+  closed_is_last at = omega (arith, at, few)
+
+-- ---- takes
+
+module _ (law : TakesTellByOne) (script : Content) (takes : Takes) (i : ℕ) (few : i < events_in (take_program script.shape takes)) where
+  abbrev shape_of : Shape
+  shape_of = script.shape
+
+  abbrev over_before : List Take
+  over_before = takes_over shape_of 0 takes.takes i
+
+  abbrev over_after : List Take
+  over_after = takes_over shape_of 0 takes.takes (suc i)
+
+  abbrev told_of : List calls.Event
+  told_of = take_told shape_of 0 takes.takes takes.end i
+
+  take_tells : TakeTells shape_of takes i over_before over_after told_of
+  take_tells = law shape_of takes i few
+
+  pub take_begins : IsTakeAt taking.Between script takes i → (calls.TakeBegin 1 ∷ [] ≡ told_of) × IsTakeAt taking.Taking script takes (suc i)
+  take_begins e = elim take_tells [
+    | inl z ↦ (sym z.2, omega (arith, z.1, ap (events_of_takes shape_of) z.0))
+    | inr y ↦ absurd (elim y [
+      | inl z ↦ let (x, is, less, ends, t) = z in omega (arith, less, e)
+      | inr v ↦ elim v [ inl z ↦ omega (arith, z.2, e) | inr z ↦ omega (arith, z.1, e) ]
+    ])
+  ]
+
+  -- the items taken with one take more
+  abbrev Ends : List ℕ → List ℕ → ℕ → ℕ → Type 0
+  Ends taken taken' empty empty' =
+      ((item : ℕ) × (taken' ≡ taken ++ item ∷ []) × (calls.TakeItems (item ∷ []) ∷ [] ≡ told_of) × IsTakeAt taking.Between script takes (suc i)) ⊎
+      ((taken' ≡ taken) × (empty < empty') × (calls.TakeEmpty ∷ [] ≡ told_of) × IsTakeAt taking.Between script takes (suc i))
+
+  -- a take goes on, or it ends, by what is counted
+  pub take_goes :
+      (taken taken' : List ℕ) (empty empty' : ℕ) → IsTakeAt taking.Taking script takes i → taken ≡ all_taken over_before → empty ≡ empties over_before → taken' ≡ all_taken over_after →
+      empty' ≡ empties over_after →
+      Ends taken taken' empty empty' ⊎
+      ((taken' ≡ taken) × (empty' ≤ empty) ×
+      ((IsTold shape_of takes (suc i) × (calls.TakeClosed ∷ [] ≡ told_of) × IsTakeAt taking.Told script takes (suc i)) ⊎
+      ((¬ IsTold shape_of takes (suc i)) × ([] ≡ told_of) × IsTakeAt taking.Taking script takes (suc i))))
+  take_goes taken taken' empty empty' at is_taken is_empty now_taken now_empty = elim take_tells [
+    | inl z ↦ absurd (omega (arith, at, z.1))
+    | inr y ↦ elim y [
+      | inl z ↦ (let (x, is, less, ends, t) = z in inl (by_take x is ends t))
+      | inr v ↦ elim v [
+        | inl z ↦ inr (
+          now_taken ∙ ap all_taken z.0 ∙ sym is_taken,
+          omega (arith, now_empty, ap empties z.0, is_empty),
+          inl ((z.1, omega (arith, z.3)), sym z.4, omega (arith, z.3)),
+        )
+        | inr z ↦ inr (
+          now_taken ∙ ap all_taken z.0 ∙ sym is_taken,
+          omega (arith, now_empty, ap empties z.0, is_empty),
+          inr ((λ t. absurd (omega (arith, z.2 t.0, t.1))), sym z.3, omega (arith, z.1, ap (events_of_takes shape_of) z.0)),
+        )
+      ]
+    ]
+  ]
+    where
+      more : (x : Take) → over_after ≡ over_before ++ x ∷ [] → taken' ≡ taken ++ item_of x
+      more x is = now_taken ∙ ap all_taken is ∙ all-more over_before x ∙ ap (λ l. l ++ item_of x) (sym is_taken)
+
+      by_take : (x : Take) → over_after ≡ over_before ++ x ∷ [] → suc i ≡ events_of_takes shape_of over_after → told_of ≡ take_answer x ∷ [] → Ends taken taken' empty empty'
+      by_take (Item seen item) is ends t = inl (item, more (Item seen item) is, sym t, sym ends)
+      by_take (ItemAfterClose seen again item) is ends t = inl (item, more (ItemAfterClose seen again item) is, sym t, sym ends)
+      by_take (Empty seen) is ends t =
+          inr (more (Empty seen) is ∙ append-nil taken, omega (arith, now_empty, ap empties is, empties-more over_before (Empty seen), is_empty), sym t, sym ends)
+
+  pub told_is_last : IsTakeAt taking.Told script takes i → ⊥
+  told_is_last at = omega (arith, at, few)

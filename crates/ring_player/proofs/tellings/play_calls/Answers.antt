@@ -1,0 +1,68 @@
+use Rattle.std.proofs.Common.{◌≡◌, ℕ, ◌+◌, List, length, ◌++◌, [], take, sym, ap, subst, ◌∙◌, arith}
+use Rattle.std.specs.Prelude.{replicate, slice_index_or}
+use Rattle.std.proofs.lemmas.List.{take_all}
+use Rattle.bits_core.specs.declared.events.Event.{Event}
+use Rattle.bits_core.specs.declared.events.Side.{Side}
+use Rattle.bits_core.specs.declared.events.Side.TheVariants.{P}
+use Rattle.ring_script.specs.declared.schedules.Run.{Run}
+use Rattle.ring_script.specs.Schedule.{spelled}
+use Rattle.ring_script.specs.Content.{Content}
+use Rattle.ring_player.specs.Plays.{Plays, sides}
+use Rattle.ring_player.specs.Tellings.{AreAt, TellsCalls, events_of}
+use Rattle.ring_player.specs.declared.tellings.PutStage.TheVariants as put
+use Rattle.ring_player.specs.declared.tellings.TakeStage.TheVariants as taking
+use Rattle.ring_player.specs.declared.tellings.Told.{Told}
+use Rattle.ring_player.proofs.TellingMoves.{at_first, nothing_told, play_records}
+use Rattle.ring_player.proofs.WorldParts.{spelled-more, spelled-none}
+use Rattle.ring_player.proofs.tellings.play_calls.Goals as goal
+
+pub loop-run-init : goal.loop-run-init
+loop-run-init g c =
+    let w = c.new-world.result in
+    record {
+      script = c.new-world.ensures.script;
+      all = c.runs-run-items.ensures ∙ ap (λ (s : Content). s.letters) c.as_ref-script.ensures;
+      at = subst (AreAt put.Between taking.Between w.script) (sym c.new-world.ensures.empty) (at_first w.script);
+      told = subst (λ (t : List Told). TellsCalls w.script w.history (events_of w.script t)) (sym c.new-told.ensures.items)
+          (subst (λ h. TellsCalls w.script h []) (sym c.new-world.ensures.empty) (nothing_told w.script));
+      plays = subst (λ (l : List Side). Plays c.args.script.now l w.history) (sym spelled-none)
+          (subst (λ (s : Content). Plays s [] w.history) c.new-world.ensures.script
+          (subst (λ (h : List Event). Plays w.script (sides h) w.history) c.new-world.ensures.empty c.history.ensures.plays.plays));
+    }
+
+pub repeat_told-requires-clause-items : goal.repeat_told-requires-clause-items
+repeat_told-requires-clause-items g c =
+    ap length c.items-items.ensures.value ∙ ap (λ (s : Content). length s.items) (c.as_ref-script.ensures ∙ sym c.loop-run.invariant.script)
+
+pub repeat_told-requires-clause-at : goal.repeat_told-requires-clause-at
+repeat_told-requires-clause-at g c = c.loop-run.invariant.at
+
+pub repeat_told-requires-clause-told : goal.repeat_told-requires-clause-told
+repeat_told-requires-clause-told g c = c.loop-run.invariant.told
+
+pub loop-run-preserved : goal.loop-run-preserved
+loop-run-preserved g c =
+    let runs : List Run = c.runs-run-items.result.now in
+    let i : ℕ = c.loop-run.run-index in
+    let none : Run = record { side = P; count = 0 } in
+    let one : Run = slice_index_or runs i none in
+    let before : List Side = spelled (take i runs) in
+    let after : spelled (take (i + 1) runs) ≡ before ++ replicate one.count one.side = spelled-more runs i none c.loop-run-test.true in
+    let l = c.loop-run.invariant in
+    let on = c.in_ok-repeat_told.ensures.letters before (subst (λ (s : Content). Plays s before c.loop-run.world.history) (sym l.script) l.plays) in
+    record {
+      script = c.in_ok-repeat_told.ensures.script ∙ l.script;
+      all = l.all;
+      at = c.in_ok-repeat_told.ensures.at;
+      told = c.in_ok-repeat_told.ensures.told;
+      plays = subst (λ (t : List Side). Plays c.args.script.now t c.repeat_told.new.world.history) (sym after)
+          (subst (λ (s : Content). Plays s (before ++ replicate one.count one.side) c.repeat_told.new.world.history) l.script on);
+    }
+
+pub returns : goal.returns
+returns g c =
+    let l = c.loop-run.invariant in
+    let runs : List Run = c.runs-run-items.result.now in
+    let whole : spelled (take c.loop-run.run-index runs) ≡ c.args.script.now.letters = ap spelled (take_all c.loop-run.run-index runs (omega (arith, c.loop-run-test.false))) ∙ l.all in
+    play_records c.recorded_is_linearizable.ensures c.loop-run.world.script c.args.script.now (sides c.loop-run.world.history) c.loop-run.world.history c.loop-run.told.items l.script
+    c.history-2.ensures.plays (subst (λ (t : List Side). Plays c.args.script.now t c.loop-run.world.history) whole l.plays) l.told

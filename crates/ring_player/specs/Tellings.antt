@@ -1,0 +1,122 @@
+-- The calls of a play, as a recorder would tell them.
+use Rattle.std.specs.Prelude.{◌≡◌, ◌↔◌, ℕ, suc, ◌<◌, ◌≤◌, Bool, true, Option, Some, None, List, [], ◌∷◌, length, map, take}
+use Rattle.bits_core.specs.declared.events.Event.{Event}
+use Rattle.bits_core.specs.declared.events.Side.TheVariants.{P, C}
+use Rattle.bits_core.specs.Made.{own}
+use Rattle.bits_core.specs.Shape.{capacity_of}
+use Rattle.queue_calls.specs.Calls as calls
+use Rattle.queue_calls.specs.Calls.{IsLinearizable}
+use Rattle.queue_calls.specs.Queue.{exactly}
+use Rattle.ring_core.specs.Counts.{first_count}
+use Rattle.ring_core.specs.Items.{all_taken, events_in, IsTold}
+use Rattle.ring_core.specs.Over.{empties, fulls, puts_over, takes_over}
+use Rattle.ring_core.specs.Puts.{FollowsPuts, Puts, put_program, stored_in}
+use Rattle.ring_core.specs.Recorded.{put_told, recorded, take_told}
+use Rattle.ring_core.specs.RecordedByOne.{events_of_puts, events_of_takes}
+use Rattle.ring_core.specs.Takes.{FollowsTakes, Takes, take_program}
+use Rattle.ring_player.specs.Actors.{PutTally}
+use Rattle.ring_player.specs.Plays.{ArePutsOf, offered}
+use Rattle.ring_player.specs.declared.tellings.PutStage.{PutStage}
+use Rattle.ring_player.specs.declared.tellings.PutStage.TheVariants as put
+use Rattle.ring_player.specs.declared.tellings.TakeStage.{TakeStage}
+use Rattle.ring_player.specs.declared.tellings.TakeStage.TheVariants as taking
+use Rattle.ring_player.specs.declared.tellings.Told.{Told}
+use Rattle.ring_player.specs.declared.tellings.Told.TheVariants.{PutBegins, PutStored, PutFull, CloseBegins, CloseEnds, TakeBegins, TakeItem, TakeEmpty, TakeClosed}
+use Rattle.ring_script.specs.Content.{Content}
+
+-- a reading of a history as calls that the script asks for
+pub record IsReading (script : Content) (h : List Event) (puts : Puts) (takes : Takes) : Type 0 where
+  pub asked : ArePutsOf script puts
+  pub puts_follow : FollowsPuts script.shape h puts
+  pub takes_follow : FollowsTakes script.shape h takes
+
+-- what the world offers to each of these puts, by its number: the next items behind those that the puts before it stored
+abbrev pub offers_of : Content → Puts → ℕ → List ℕ
+offers_of script puts j = offered script (stored_in 0 (take j puts.puts))
+
+-- the events are the recorded calls of the history, whichever calls it is read as
+abbrev pub TellsCalls : Content → List Event → List calls.Event → Type 0
+TellsCalls script h events = (puts : Puts) (takes : Takes) → IsReading script h puts takes → events ≡ recorded script.shape (offers_of script puts) h puts takes
+
+-- what is told, as an event of calls
+abbrev pub event_of : Content → Told → calls.Event
+event_of script (PutBegins stored) = calls.PutBegin (offered script stored)
+event_of script (PutStored count) = calls.PutStored count
+event_of script PutFull = calls.PutFull
+event_of script CloseBegins = calls.CloseBegin
+event_of script CloseEnds = calls.CloseEnd
+event_of script TakeBegins = calls.TakeBegin 1
+event_of script (TakeItem item) = calls.TakeItems (item ∷ [])
+event_of script TakeEmpty = calls.TakeEmpty
+event_of script TakeClosed = calls.TakeClosed
+
+abbrev pub events_of : Content → List Told → List calls.Event
+events_of script told = map (event_of script) told
+
+-- what is told of a play is the recording of its calls, and a linearizable history of a queue of the ring's capacity
+pub record RecordsPlay (script : Content) (h : List Event) (told : List Told) : Type 0 where
+  pub tells : TellsCalls script h (events_of script told)
+  pub linearizable : IsLinearizable (exactly (capacity_of script.shape)) (events_of script told)
+
+-- ---- where a side is in its calls, behind i own events
+
+-- between two calls; in a put, with one to come; in the close; behind it
+abbrev pub IsPutAt : PutStage → Content → Puts → ℕ → Type 0
+IsPutAt put.Between script puts i = events_of_puts script.shape (puts_over script.shape first_count puts.puts i) ≡ i
+IsPutAt put.Putting script puts i =
+    (events_of_puts script.shape (puts_over script.shape first_count puts.puts i) < i) ×
+    (length (puts_over script.shape first_count puts.puts i) < length puts.puts)
+IsPutAt put.Closing script puts i =
+    (puts_over script.shape first_count puts.puts i ≡ puts.puts) × (puts.closes ≡ true) × (i ≡ suc (events_of_puts script.shape puts.puts))
+IsPutAt put.Closed script puts i = events_in (put_program script.shape puts) ≤ i
+
+abbrev pub IsTakeAt : TakeStage → Content → Takes → ℕ → Type 0
+IsTakeAt taking.Between script takes i = events_of_takes script.shape (takes_over script.shape 0 takes.takes i) ≡ i
+IsTakeAt taking.Taking script takes i = events_of_takes script.shape (takes_over script.shape 0 takes.takes i) < i
+IsTakeAt taking.Told script takes i = events_in (take_program script.shape takes) ≤ i
+
+-- whichever calls the history is read as
+abbrev pub AreAt : PutStage → TakeStage → Content → List Event → Type 0
+AreAt p t script h =
+    (puts : Puts) (takes : Takes) → IsReading script h puts takes → IsPutAt p script puts (length (own P h)) × IsTakeAt t script takes (length (own C h))
+
+-- ---- one event more
+
+-- what an option tells
+abbrev pub told_in : Content → Option Told → List calls.Event
+told_in script None = []
+told_in script (Some told) = event_of script told ∷ []
+
+-- the puts that are over within i own events stored so many items, and so many of them found the ring full
+abbrev pub IsPutTally : Content → Puts → ℕ → PutTally → Type 0
+IsPutTally script puts i kept =
+    (kept.stored ≡ stored_in 0 (puts_over script.shape first_count puts.puts i)) × (kept.full ≡ fulls (puts_over script.shape first_count puts.puts i))
+
+abbrev pub listed : Option Told → List Told
+listed None = []
+listed (Some told) = told ∷ []
+
+-- what is told of an event of the producer, by its stage and by the puts that are over before it and with it
+abbrev pub SaysPut : PutStage → (items : ℕ) → (before now : PutTally) → PutStage → Option Told → Type 0
+SaysPut stage items before now next told =
+    (script : Content) (puts : Puts) (i : ℕ) → ArePutsOf script puts → items ≡ length script.items → i < events_in (put_program script.shape puts) →
+    IsPutAt stage script puts i → IsPutTally script puts i before → IsPutTally script puts (suc i) now →
+    (told_in script told ≡ put_told script.shape (offers_of script puts) 0 first_count puts.puts puts.closes i) × IsPutAt next script puts (suc i)
+
+-- the takes that are over within i own events took these items, so many of them found the ring empty, and whether one was told that the
+-- ring is closed
+pub record TakeTally : Type 0 where
+  pub taken : List ℕ
+  pub empty : ℕ
+  pub told : Bool
+
+abbrev pub IsTakeTally : Content → Takes → ℕ → TakeTally → Type 0
+IsTakeTally script takes i kept =
+    (kept.taken ≡ all_taken (takes_over script.shape 0 takes.takes i)) × (kept.empty ≡ empties (takes_over script.shape 0 takes.takes i)) ×
+    ((kept.told ≡ true) ↔ IsTold script.shape takes i)
+
+abbrev pub SaysTake : TakeStage → (taken : ℕ) → (empty : ℕ) → (now : TakeTally) → TakeStage → Option Told → Type 0
+SaysTake stage taken empty now next told =
+    (script : Content) (takes : Takes) (i : ℕ) (before : TakeTally) → taken ≡ length before.taken → empty ≡ before.empty → i < events_in (take_program script.shape takes) →
+    IsTakeAt stage script takes i → IsTakeTally script takes i before → IsTakeTally script takes (suc i) now →
+    (told_in script told ≡ take_told script.shape 0 takes.takes takes.end i) × IsTakeAt next script takes (suc i)

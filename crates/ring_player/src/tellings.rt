@@ -1,0 +1,334 @@
+//! The calls of a play, one after the other, as a recorder would tell them.
+ghost use Rattle.std.specs.Prelude.{◌≡◌, IfOk, OnOk, List, [], ◌∷◌, ◌++◌, length, replicate};
+ghost use Rattle.bits_core.specs.declared.events.Event.{Event as AnEvent};
+ghost use Rattle.bits_core.specs.declared.events.Side.{Side};
+ghost use Rattle.bits_core.specs.declared.events.Side.TheVariants as side_is;
+ghost use Rattle.queue_calls.specs.Calls.{Event as ACall};
+ghost use Rattle.ring_core.specs.Over.{fulls, puts_over_in};
+ghost use Rattle.ring_core.specs.Puts.{FollowsPuts, Puts, stored_in};
+ghost use Rattle.ring_player.specs.Headline.{IsPlayOf};
+ghost use Rattle.ring_player.specs.Plays.{Plays};
+ghost use Rattle.ring_player.specs.Tellings.{AreAt, RecordsPlay, SaysPut, SaysTake, TellsCalls, events_of, listed, told_in};
+
+use crate::faults::PlayFault;
+use crate::worlds::World;
+use bits_core::laws::own_changes;
+use bits_core::{Event, Side, Store};
+use ring_core::laws::{events_tell_by_one, recorded_is_linearizable};
+use ring_script::Script;
+use std::alloc::{AllocError, Allocator};
+
+/// What an event of a play tells of a call: it begins, with its first own event, or it ends, with its last.
+#[derive(Clone, Copy, PartialEq, Eq, Debug)]
+pub enum Told {
+    /// A put begins, behind so many stored items of the script. It is offered those that follow, as many as a batch may have.
+    PutBegins(usize),
+    /// A put ends that stored so many items.
+    PutStored(usize),
+    /// A put ends that found the ring full.
+    PutFull,
+    /// A close begins.
+    CloseBegins,
+    /// A close ends.
+    CloseEnds,
+    /// A take of one item begins.
+    TakeBegins,
+    /// A take ends that took this item.
+    TakeItem(u64),
+    /// A take ends that found the ring empty.
+    TakeEmpty,
+    /// A take ends that was told that the ring is closed.
+    TakeClosed,
+}
+
+// Where the producer is in its calls: between two, in a put, in the close, behind it.
+#[derive(Clone, Copy, PartialEq, Eq, Debug)]
+pub enum PutStage {
+    Between,
+    Putting,
+    Closing,
+    Closed,
+}
+
+// Where the consumer is: between two calls, in a take, behind one that was told that the ring is closed.
+#[derive(Clone, Copy, PartialEq, Eq, Debug)]
+pub enum TakeStage {
+    Between,
+    Taking,
+    Told,
+}
+
+// What was counted of the puts that are over: the items that they stored, and how many found the ring full.
+#[derive(Clone, Copy, PartialEq, Eq, Debug)]
+struct PutCount {
+    stored: usize,
+    full: u64,
+}
+
+// The stage behind an event of the producer, and what the event tells.
+#[derive(Clone, Copy, PartialEq, Eq, Debug)]
+struct PutSaid {
+    next: PutStage,
+    told: Option<Told>,
+}
+
+// What an event of the producer tells, by the stage before it and the counts before it and with it, of a script of so many items.
+fn put_says(stage: PutStage, items: usize, before: PutCount, now: PutCount) -> PutSaid
+    ensures { SaysPut stage items (record { stored = before.stored; full = before.full }) (record { stored = now.stored; full = now.full }) result.next result.told }
+{
+    events_tell_by_one();
+    match stage {
+        PutStage::Between => {
+            if before.stored < items {
+                PutSaid {
+                    next: PutStage::Putting,
+                    told: Some(Told::PutBegins(before.stored)),
+                }
+            } else {
+                PutSaid {
+                    next: PutStage::Closing,
+                    told: Some(Told::CloseBegins),
+                }
+            }
+        }
+        PutStage::Putting => {
+            if before.stored < now.stored {
+                PutSaid {
+                    next: PutStage::Between,
+                    told: Some(Told::PutStored(now.stored - before.stored)),
+                }
+            } else if before.full < now.full {
+                PutSaid {
+                    next: PutStage::Between,
+                    told: Some(Told::PutFull),
+                }
+            } else {
+                PutSaid {
+                    next: PutStage::Putting,
+                    told: None,
+                }
+            }
+        }
+        PutStage::Closing => PutSaid {
+            next: PutStage::Closed,
+            told: Some(Told::CloseEnds),
+        },
+        PutStage::Closed => PutSaid {
+            next: PutStage::Closed,
+            told: None,
+        },
+    }
+}
+
+// The stage behind an event of the consumer, and what the event tells.
+#[derive(Clone, Copy, PartialEq, Eq, Debug)]
+struct TakeSaid {
+    next: TakeStage,
+    told: Option<Told>,
+}
+
+// What an event of the consumer tells, by the stage before it, how many takes had taken an item and found the ring empty, and what
+// takes have taken, found and told with it.
+fn take_says(
+    stage: TakeStage,
+    taken: usize,
+    empty: u64,
+    taken_now: &[u64],
+    empty_now: u64,
+    told_now: bool,
+) -> TakeSaid
+    ensures { SaysTake stage taken empty (record { taken = taken_now.now; empty = empty_now; told = told_now }) result.next result.told }
+{
+    events_tell_by_one();
+    match stage {
+        TakeStage::Between => TakeSaid {
+            next: TakeStage::Taking,
+            told: Some(Told::TakeBegins),
+        },
+        TakeStage::Taking => {
+            if taken < taken_now.len() {
+                TakeSaid {
+                    next: TakeStage::Between,
+                    told: Some(Told::TakeItem(taken_now[taken])),
+                }
+            } else if empty < empty_now {
+                TakeSaid {
+                    next: TakeStage::Between,
+                    told: Some(Told::TakeEmpty),
+                }
+            } else if told_now {
+                TakeSaid {
+                    next: TakeStage::Told,
+                    told: Some(Told::TakeClosed),
+                }
+            } else {
+                TakeSaid {
+                    next: TakeStage::Taking,
+                    told: None,
+                }
+            }
+        }
+        TakeStage::Told => TakeSaid {
+            next: TakeStage::Told,
+            told: None,
+        },
+    }
+}
+
+// Where both sides are.
+#[derive(Clone, Copy, PartialEq, Eq, Debug)]
+struct Stages {
+    put: PutStage,
+    take: TakeStage,
+}
+
+// What was counted of the puts that are over.
+fn put_count<E: Store<Event>, T: Store<u64>>(world: &World<'_, E, T>) -> PutCount
+    ensures stored { (puts : Puts) → FollowsPuts world.now.script.shape world.now.history puts → result.stored ≡ stored_in 0 (puts_over_in world.now.script.shape world.now.history puts) }
+    ensures full { (puts : Puts) → FollowsPuts world.now.script.shape world.now.history puts → result.full ≡ fulls (puts_over_in world.now.script.shape world.now.history puts) }
+{
+    PutCount {
+        stored: world.stored(),
+        full: world.full(),
+    }
+}
+
+// One step of the producer, and what its event tells, if any.
+fn put_step<E: Store<Event>, T: Store<u64>>(
+    world: &mut World<'_, E, T>,
+    at: &mut Stages,
+    items: usize,
+) -> Result<Option<Told>, PlayFault>
+    requires items { items ≡ length world.old.script.items }
+    requires at { AreAt at.old.put at.old.take world.old.script world.old.history }
+    ensures script { world.new.script ≡ world.old.script }
+    ensures at { OnOk result (AreAt at.new.put at.new.take world.new.script world.new.history) }
+    ensures told { IfOk result (λ told. (events : List ACall) → TellsCalls world.old.script world.old.history events → TellsCalls world.new.script world.new.history (events ++ told_in world.old.script told)) }
+    ensures letters { OnOk result ((letters : List Side) → Plays world.old.script letters world.old.history → Plays world.new.script (letters ++ side_is.P ∷ []) world.new.history) }
+{
+    own_changes();
+    let before = put_count(world);
+    let moved = world.step(Side::P)?;
+    if !moved {
+        return Ok(None);
+    }
+    let now = put_count(world);
+    let said = put_says(at.put, items, before, now);
+    at.put = said.next;
+    Ok(said.told)
+}
+
+// One step of the consumer, and what its event tells, if any.
+fn take_step<E: Store<Event>, T: Store<u64>>(
+    world: &mut World<'_, E, T>,
+    at: &mut Stages,
+) -> Result<Option<Told>, PlayFault>
+    requires at { AreAt at.old.put at.old.take world.old.script world.old.history }
+    ensures script { world.new.script ≡ world.old.script }
+    ensures at { OnOk result (AreAt at.new.put at.new.take world.new.script world.new.history) }
+    ensures told { IfOk result (λ told. (events : List ACall) → TellsCalls world.old.script world.old.history events → TellsCalls world.new.script world.new.history (events ++ told_in world.old.script told)) }
+    ensures letters { OnOk result ((letters : List Side) → Plays world.old.script letters world.old.history → Plays world.new.script (letters ++ side_is.C ∷ []) world.new.history) }
+{
+    own_changes();
+    let told = world.told();
+    let taken = world.ended_items().len();
+    let empty = world.empty();
+    let moved = world.step(Side::C)?;
+    if !moved {
+        return Ok(None);
+    }
+    let empty_now = world.empty();
+    let told_now = world.told();
+    let said = take_says(
+        at.take,
+        taken,
+        empty,
+        world.ended_items(),
+        empty_now,
+        told_now,
+    );
+    at.take = said.next;
+    Ok(said.told)
+}
+
+// One step of a side, and what its event tells, if any.
+fn step_told<E: Store<Event>, T: Store<u64>>(
+    world: &mut World<'_, E, T>,
+    at: &mut Stages,
+    side: Side,
+    items: usize,
+) -> Result<Option<Told>, PlayFault>
+    requires items { items ≡ length world.old.script.items }
+    requires at { AreAt at.old.put at.old.take world.old.script world.old.history }
+    ensures script { world.new.script ≡ world.old.script }
+    ensures at { OnOk result (AreAt at.new.put at.new.take world.new.script world.new.history) }
+    ensures told { IfOk result (λ told. (events : List ACall) → TellsCalls world.old.script world.old.history events → TellsCalls world.new.script world.new.history (events ++ told_in world.old.script told)) }
+    ensures letters { OnOk result ((letters : List Side) → Plays world.old.script letters world.old.history → Plays world.new.script (letters ++ side ∷ []) world.new.history) }
+{
+    match side {
+        Side::P => put_step(world, at, items),
+        Side::C => take_step(world, at),
+    }
+}
+
+// Adds what was told, if anything.
+fn add<A: Allocator>(told: &mut Vec<Told, A>, event: Option<Told>) -> Result<(), AllocError>
+    ensures { OnOk result (told.new.items ≡ told.old.items ++ listed event) }
+{
+    match event {
+        Some(event) => Ok(told.push(event)?),
+        None => Ok(()),
+    }
+}
+
+// Makes so many steps of one side, and tells what their events tell.
+fn repeat_told<E: Store<Event>, T: Store<u64>, A: Allocator>(
+    world: &mut World<'_, E, T>,
+    at: &mut Stages,
+    told: &mut Vec<Told, A>,
+    side: Side,
+    count: u64,
+    items: usize,
+) -> Result<(), PlayFault>
+    requires items { items ≡ length world.old.script.items }
+    requires at { AreAt at.old.put at.old.take world.old.script world.old.history }
+    requires told { TellsCalls world.old.script world.old.history (events_of world.old.script told.old.items) }
+    ensures script { world.new.script ≡ world.old.script }
+    ensures at { OnOk result (AreAt at.new.put at.new.take world.new.script world.new.history) }
+    ensures told { OnOk result (TellsCalls world.new.script world.new.history (events_of world.new.script told.new.items)) }
+    ensures letters { OnOk result ((letters : List Side) → Plays world.old.script letters world.old.history → Plays world.old.script (letters ++ replicate count side) world.new.history) }
+{
+    for made in 0..count {
+        let event = step_told(world, at, side, items)?;
+        add(told, event)?;
+    }
+    Ok(())
+}
+
+/// Plays a script, and tells the begin and the end of each call: a call that is cut has begun and has not ended. What is told is
+/// the recording of the play's calls whichever calls its events are read as, and a linearizable history of a queue of the
+/// ring's capacity.
+///
+/// `OutOfMemory` tells that memory ran out.
+pub fn play_calls<A: Allocator + Copy, B: Allocator>(
+    alloc: A,
+    script: &Script<B>,
+) -> Result<Vec<Told, A>, PlayFault>
+    ensures { IfOk result (λ told. (h : List AnEvent) × IsPlayOf script.now script.now.letters h × RecordsPlay script.now h told.items) }
+{
+    recorded_is_linearizable();
+    let mut world = World::new(alloc, script);
+    let mut at = Stages {
+        put: PutStage::Between,
+        take: TakeStage::Between,
+    };
+    let mut told = Vec::new(alloc);
+    let script = script.as_ref();
+    let items = script.items().len();
+    world.history();
+    for run in script.runs() {
+        repeat_told(&mut world, &mut at, &mut told, run.side, run.count, items)?;
+    }
+    world.history();
+    Ok(told)
+}
