@@ -2,3 +2,4 @@ mod PlayLemmas
 mod RecordingText
 mod Endings
 mod RunItems
+mod TellingText

@@ -18,7 +18,7 @@ use Rattle.ring_program.specs.Texts.{list_line}
 abbrev pub IsTextSoFar : ℕ → List ℕ → Type 0
 IsTextSoFar capacity text = (further : List Line) × All IsFurther further × (text ≡ lines_text (line Queue (capacity ∷ []) ∷ further))
 
-line_is : (w : Word) (numbers : List ℕ) → list_line (word_text w) numbers ≡ text_of (line w numbers)
+pub line_is : (w : Word) (numbers : List ℕ) → list_line (word_text w) numbers ≡ text_of (line w numbers)
 line_is w numbers = sym (append_assoc (word_text w) (numbers_text numbers) (codes "\n"))
 
 -- a line was pushed behind others
@@ -47,7 +47,7 @@ goes_on text before word items numbers capacity read w found further word_is ite
       pushed text before word items numbers w (line Queue (capacity ∷ []) ∷ lines) word_is items_are front is,
     )
 
-one_small : (n : ℕ) → n < 2 ^ 64 → AreSmall (n ∷ [])
+pub one_small : (n : ℕ) → n < 2 ^ 64 → AreSmall (n ∷ [])
 one_small n small = All-cons (λ m. m < 2 ^ 64) n [] small (All-nil (λ m. m < 2 ^ 64))
 
 pub is_recording : (text : List ℕ) (n capacity : ℕ) → n ≡ capacity → 0 < n → n ≤ 64 → IsTextSoFar capacity text → (events : List Event) × IsRecording text (exactly capacity) events

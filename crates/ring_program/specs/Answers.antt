@@ -26,6 +26,8 @@ use Rattle.ring_audit.specs.Audit as audit
 use Rattle.ring_audit.specs.declared.faults.AuditFault.TheVariants as finding
 use Rattle.ring_core.specs.Linear.{EachReadingIsLinearizable}
 use Rattle.ring_player.specs.Headline.{IsPlayOf}
+use Rattle.ring_player.specs.Tellings.{RecordsPlay, events_of}
+use Rattle.ring_player.specs.declared.tellings.Told as play_told
 use Rattle.ring_player.specs.declared.faults.PlayFault.TheVariants as play
 use Rattle.ring_script.specs.Faults.{IsScriptFault}
 use Rattle.ring_script.specs.Content.{Content}
@@ -41,7 +43,7 @@ use Rattle.ring_program.specs.declared.inputs.TheConstants.{INPUT_LIMIT}
 use Rattle.ring_program.specs.declared.answers.Ending.{Ending}
 use Rattle.ring_program.specs.declared.answers.Ending.TheVariants.{Done, FaultFound, LimitReached}
 use Rattle.ring_program.specs.declared.command_line.Question.{Question}
-use Rattle.ring_program.specs.declared.command_line.Question.TheVariants.{Audit, AuditBits, Play, PlayTrace}
+use Rattle.ring_program.specs.declared.command_line.Question.TheVariants.{Audit, AuditBits, Play, PlayTrace, PlayCalls}
 use Rattle.ring_program.specs.declared.command_line.Request.{Request}
 use Rattle.ring_program.specs.declared.command_line.Request.TheVariants.{OnInput}
 use Rattle.ring_program.specs.declared.command_line.Request.TheVariants as request
@@ -131,6 +133,18 @@ pub record TracesScript (input text : List ℕ) (ending : Ending) : Type 0 where
   pub is_trace : IsTrace text content.shape history
   pub ends : ending ≡ Done
 
+-- the input is a script, and the text is a recording of the calls of its play, by a queue of the ring's capacity: a linearizable
+-- history
+pub record RecordsScript (input text : List ℕ) (ending : Ending) : Type 0 where
+  pub content : Content
+  pub history : List Event
+  pub told : List play_told.Told
+  pub is_script : IsScript input content
+  pub plays : IsPlayOf content content.letters history
+  pub records : RecordsPlay content history told
+  pub is_recording : IsRecording text (exactly (capacity_of content.shape)) (events_of content told)
+  pub ends : ending ≡ Done
+
 -- the text of a run: how many items were put and taken, or that and what was counted and timed; or a recording of some calls of a
 -- queue of the ring's capacity
 abbrev pub TellsRun : RunText → Shape → ℕ → ℕ → ℕ → ℕ → ℕ → Bool → Option ℕ → List ℕ → Type 0
@@ -176,6 +190,7 @@ Answers Audit input text ending = AuditsPrograms input text ending
 Answers AuditBits input text ending = AuditsBits input text ending
 Answers Play input text ending = PlaysScript input text ending
 Answers PlayTrace input text ending = TracesScript input text ending
+Answers PlayCalls input text ending = RecordsScript input text ending
 
 -- how a question that was answered may end: an audit alone may have found a fault
 abbrev pub MayEnd : Question → Ending → Type 0
@@ -183,6 +198,7 @@ MayEnd Audit ending = (ending ≡ Done) ⊎ (ending ≡ FaultFound)
 MayEnd AuditBits ending = (ending ≡ Done) ⊎ (ending ≡ FaultFound)
 MayEnd Play ending = ending ≡ Done
 MayEnd PlayTrace ending = ending ≡ Done
+MayEnd PlayCalls ending = ending ≡ Done
 
 -- the input is no trace, for this cause
 abbrev pub RefusesTrace : List ℕ → Refusal → Type 0
@@ -198,6 +214,7 @@ Refuses Audit input e = RefusesTrace input e
 Refuses AuditBits input e = RefusesTrace input e
 Refuses Play input e = RefusesScript input e
 Refuses PlayTrace input e = RefusesScript input e
+Refuses PlayCalls input e = RefusesScript input e
 
 -- more bytes came than an input may have
 abbrev pub IsTooLarge : List ℕ → Refusal → Type 0
@@ -318,6 +335,7 @@ IsStatusOn Audit status = (status ≡ 0) ⊎ ((status ≡ 1) ⊎ (status ≡ 3))
 IsStatusOn AuditBits status = (status ≡ 0) ⊎ ((status ≡ 1) ⊎ (status ≡ 3))
 IsStatusOn Play status = (status ≡ 0) ⊎ (status ≡ 1)
 IsStatusOn PlayTrace status = (status ≡ 0) ⊎ (status ≡ 1)
+IsStatusOn PlayCalls status = (status ≡ 0) ⊎ (status ≡ 1)
 
 -- of a request
 abbrev pub IsStatusOf : Request → ℕ → Type 0

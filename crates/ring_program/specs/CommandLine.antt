@@ -8,7 +8,7 @@ use Rattle.clap.specs.ValueTests.{is_unsigned_in}
 use Rattle.clap.specs.declared.builder.value_parser.ValueParser.TheVariants.{Unsigned}
 use Rattle.std.specs.Str.Parse.{digits_value, without_leading_plus}
 use Rattle.ring_program.specs.declared.command_line.Question.{Question}
-use Rattle.ring_program.specs.declared.command_line.Question.TheVariants.{Audit, AuditBits, Play, PlayTrace}
+use Rattle.ring_program.specs.declared.command_line.Question.TheVariants.{Audit, AuditBits, Play, PlayTrace, PlayCalls}
 use Rattle.ring_program.specs.declared.command_line.Request.{Request}
 use Rattle.ring_program.specs.declared.command_line.Request.TheVariants.{OnInput}
 use Rattle.ring_program.specs.declared.command_line.Request.TheVariants as request
@@ -35,9 +35,9 @@ audit_command = with_rule (with_rule (new_app (codes "audit")) bits) calls
 abbrev pub trace : Rule
 trace = record (new_rule (codes "trace")) { long = Some (codes "trace"); action = Some SetTrue }
 
--- `play [--trace]`
+-- `play [--trace | --calls]`
 abbrev pub play_command : App
-play_command = with_rule (new_app (codes "play")) trace
+play_command = with_rule (with_rule (new_app (codes "play")) trace) calls
 
 -- an option whose value is a number up to the most
 abbrev pub number_rule : Text → ℕ → Rule
@@ -96,8 +96,15 @@ audit_request false false = Some (OnInput Audit)
 abbrev pub audit_request_of : List Row → Option Request
 audit_request_of rows = audit_request (is_flag_given (codes "bits") rows) (is_flag_given (codes "calls") rows)
 
-abbrev pub play_question_of : List Row → Question
-play_question_of rows = if is_flag_given (codes "trace") rows then PlayTrace else Play
+-- a play prints a trace or its calls, and not both
+abbrev pub play_request : Bool → Bool → Option Request
+play_request true true = None
+play_request true false = Some (OnInput PlayTrace)
+play_request false true = Some (OnInput PlayCalls)
+play_request false false = Some (OnInput Play)
+
+abbrev pub play_request_of : List Row → Option Request
+play_request_of rows = play_request (is_flag_given (codes "trace") rows) (is_flag_given (codes "calls") rows)
 
 -- the number that a text writes in decimal, where it writes one of 64 bits
 abbrev pub number_in : Text → Option ℕ
@@ -150,7 +157,7 @@ abbrev pub request_in : Option (Text × List Row) → Option Request
 request_in None = None
 request_in (Some found) =
     if bytes_eq found.0 (codes "audit") then audit_request_of found.1
-    else (if bytes_eq found.0 (codes "play") then Some (OnInput (play_question_of found.1))
+    else (if bytes_eq found.0 (codes "play") then play_request_of found.1
     else (if bytes_eq found.0 (codes "run") then option_map request.Run (run_in found.1) else None))
 
 -- a request stands only where the words have no fault

@@ -3,7 +3,7 @@ ghost use Rattle.std.specs.Prelude.{◌≡◌, ◌⊎◌, ◌∷◌, ℕ, List, 
 ghost use Rattle.clap.specs.Words.{HasKind, app_of, fault_of, found_of, kind_of, rows_of, subcommand_of, subcommand_rows_of};
 ghost use Rattle.clap.specs.declared.builder.command.Command.TheViews.{out-Command};
 ghost use Rattle.ring_program.specs.declared.run_line.RingKind.TheVariants as kind;
-ghost use Rattle.ring_program.specs.CommandLine.{application, audit_command, audit_request_of, big_run, long_run, play_command, play_question_of, record_run, report_and_record, report_run, request_in, request_of, run_of_numbers, short_run, torus_run};
+ghost use Rattle.ring_program.specs.CommandLine.{application, audit_command, audit_request_of, big_run, long_run, play_command, play_request_of, record_run, report_and_record, report_run, request_in, request_of, run_of_numbers, short_run, torus_run};
 
 use crate::options::is_given;
 use crate::run_line::{Run, RunText, run_command, run_found};
@@ -60,7 +60,7 @@ Exit status:
   2  the command line is wrong
   3  the audit found a fault";
 
-const PLAY_USAGE: &str = "lamport_ring play [--trace] < SCRIPT";
+const PLAY_USAGE: &str = "lamport_ring play [--trace|--calls] < SCRIPT";
 
 const PLAY_HELP: &str = "\
 A script is a JSON object:
@@ -83,6 +83,7 @@ full, how many takes found it empty, and how many reads a write overlapped.
 Examples:
   lamport_ring play < examples/plain_path.json
   lamport_ring play --trace < examples/plain_path.json | lamport_ring audit
+  lamport_ring play --calls < examples/plain_path.json | lamport_ring audit --calls
 
 Exit status:
   0  the script was played
@@ -116,6 +117,8 @@ pub enum Question {
     Play,
     /// `play --trace`
     PlayTrace,
+    /// `play --calls`
+    PlayCalls,
 }
 
 /// What the words ask for.
@@ -160,11 +163,16 @@ fn play<'a>(alloc: Global) -> Result<Command<'a>, AllocError>
         .long("trace")
         .action(ArgAction::SetTrue)
         .help("Print the whole history, as a trace, in place of the report");
+    let calls = Arg::new(alloc, "calls")
+        .long("calls")
+        .action(ArgAction::SetTrue)
+        .help("Print the calls of the play, as recorded calls, in place of the report");
     let command = Command::new(alloc, "play")
         .about("Play a script of the ring's two sides, from standard input")
         .override_usage(PLAY_USAGE)
         .after_help(PLAY_HELP)
         .arg(trace)?;
+    let command = command.arg(calls)?;
     Ok(command)
 }
 
@@ -216,13 +224,15 @@ fn audit_request(matches: &ArgMatches<'_>) -> Option<Request>
     }
 }
 
-fn play_question(matches: &ArgMatches<'_>) -> Question
-    ensures { result ≡ play_question_of (rows_of (found_of matches.now)) }
+// What `play` is asked for; nothing where it is both.
+fn play_request(matches: &ArgMatches<'_>) -> Option<Request>
+    ensures { result ≡ play_request_of (rows_of (found_of matches.now)) }
 {
-    if is_given(matches, "trace") {
-        Question::PlayTrace
-    } else {
-        Question::Play
+    match (is_given(matches, "trace"), is_given(matches, "calls")) {
+        (true, true) => None,
+        (true, false) => Some(Request::OnInput(Question::PlayTrace)),
+        (false, true) => Some(Request::OnInput(Question::PlayCalls)),
+        (false, false) => Some(Request::OnInput(Question::Play)),
     }
 }
 
@@ -233,7 +243,7 @@ fn request_found(matches: &ArgMatches<'_>) -> Option<Request>
     if name == "audit" {
         audit_request(inner)
     } else if name == "play" {
-        Some(Request::OnInput(play_question(inner)))
+        play_request(inner)
     } else if name == "run" {
         Some(Request::Run(run_found(inner)?))
     } else {
@@ -264,6 +274,8 @@ pub fn command_lines()
     ensures twice { (name : List ℕ) → request_of (name ∷ codes "audit" ∷ codes "--bits" ∷ codes "--bits" ∷ []) ≡ None }
     ensures play { (name : List ℕ) → request_of (name ∷ codes "play" ∷ []) ≡ Some (Request.OnInput Question.Play) }
     ensures play_trace { (name : List ℕ) → request_of (name ∷ codes "play" ∷ codes "--trace" ∷ []) ≡ Some (Request.OnInput Question.PlayTrace) }
+    ensures play_calls { (name : List ℕ) → request_of (name ∷ codes "play" ∷ codes "--calls" ∷ []) ≡ Some (Request.OnInput Question.PlayCalls) }
+    ensures play_both { (name : List ℕ) → request_of (name ∷ codes "play" ∷ codes "--trace" ∷ codes "--calls" ∷ []) ≡ None }
     ensures run { (name : List ℕ) → request_of (name ∷ short_run) ≡ Some (Request.Run (run_of_numbers kind.Flicker 1 3 6 1 64 9 9 RunText.Totals)) }
     ensures run_with_all { (name : List ℕ) → request_of (name ∷ long_run) ≡ Some (Request.Run (run_of_numbers kind.Counter 3 7 6 3 64 9 8 RunText.Totals)) }
     ensures run_with_report { (name : List ℕ) → request_of (name ∷ report_run) ≡ Some (Request.Run (run_of_numbers kind.Flicker 1 3 6 1 64 9 9 RunText.Report)) }

@@ -15,6 +15,7 @@ mod recordings;
 mod reports;
 mod run_line;
 mod runs;
+mod tellings;
 mod texts;
 mod trace_lines;
 

@@ -66,12 +66,17 @@ fn asks_two_audits(words: &[&str]) -> bool {
     words.get(1) == Some(&"audit") && words.contains(&"--bits") && words.contains(&"--calls")
 }
 
+// The words ask for the trace and the calls of one play.
+fn asks_two_plays(words: &[&str]) -> bool {
+    words.get(1) == Some(&"play") && words.contains(&"--trace") && words.contains(&"--calls")
+}
+
 // The words ask for a report and a recording of one run.
 fn asks_two_texts(words: &[&str]) -> bool {
     words.get(1) == Some(&"run") && words.contains(&"--report") && words.contains(&"--record")
 }
 
-/// The words were taken, and name no command, no ring, two audits or two texts of a run. Tells it, and gives the exit status.
+/// The words were taken, and name no command, no ring, two audits, or two texts of a play or of a run. Tells it, and gives the exit status.
 pub fn unnamed<E: Write>(words: &[&str], err: &mut E) -> u8
     ensures { result ≡ 2 }
 {
@@ -79,6 +84,13 @@ pub fn unnamed<E: Write>(words: &[&str], err: &mut E) -> u8
         complain(
             err,
             "error: a run prints a report or a recording: --report and --record do not go together\n\nFor more information, try '--help'.\n",
+        );
+        return 2;
+    }
+    if asks_two_plays(words) {
+        complain(
+            err,
+            "error: a play prints a trace or its calls: --trace and --calls do not go together\n\nFor more information, try '--help'.\n",
         );
         return 2;
     }

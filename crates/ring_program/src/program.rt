@@ -2,7 +2,7 @@
 ghost use Rattle.std.specs.Prelude.{◌≡◌, ◌≢◌, ◌≤◌, ◌⊎◌, List, ℕ, None, IfOk, IfErr, IfSome, IfNone, OnOk, OnErr, length, map, string_bytes, take};
 ghost use Rattle.std.specs.Io.KnownBytes.{Appends, Keeps};
 ghost use Rattle.clap.specs.Words.{fault_of, kind_of};
-ghost use Rattle.ring_program.specs.Answers.{Answers, AnswersWithin, AsksNoInput, AuditsBits, AuditsPrograms, Ends, EndsOn, EndsUnasked, Explains, IsCause, IsOutOfMemory, IsShortage, IsStatus, IsStatusOn, MayEnd, PlaysScript, RefusedOn, Refuses, RefusesScript, RefusesTrace, TracesScript, finding_ending_of, status_of, verdict_ending_of};
+ghost use Rattle.ring_program.specs.Answers.{Answers, AnswersWithin, AsksNoInput, AuditsBits, AuditsPrograms, Ends, EndsOn, EndsUnasked, Explains, IsCause, IsOutOfMemory, IsShortage, IsStatus, IsStatusOn, MayEnd, PlaysScript, RefusedOn, Refuses, RefusesScript, RecordsScript, RefusesTrace, TracesScript, finding_ending_of, status_of, verdict_ending_of};
 ghost use Rattle.ring_audit.specs.Audit.{statement};
 ghost use Rattle.ring_program.specs.declared.inputs.TheConstants.{INPUT_LIMIT};
 ghost use Rattle.ring_program.specs.CommandLine.{application, request_of};
@@ -16,12 +16,13 @@ use crate::mistakes::{tell_mistake, unnamed};
 use crate::recordings::answer_calls;
 use crate::reports::report_text;
 use crate::runs::answer_run;
+use crate::tellings::calls_text;
 use crate::texts::{audit_text, verdict_text};
 use bits_core::{Verdict, audit_bits, read_trace, write_trace};
 use clap::Error;
 use clap::error::ErrorKind;
 use ring_audit::{Finding, audit};
-use ring_player::{Script, play};
+use ring_player::{Script, play, play_calls};
 use std::alloc::{AllocGlobal, Allocator, Global};
 use std::io::{Read, Write};
 use std::thread::Threads;
@@ -117,6 +118,26 @@ fn trace_answer<A: Allocator + Copy>(
     })
 }
 
+// The answer of `play --calls` on an input.
+#[tactic(auto, unfolding(crate::specs::Answers::IsOutOfMemory))]
+fn telling_answer<A: Allocator + Copy>(
+    alloc: A,
+    json: Global,
+    input: &[u8],
+) -> Result<Answer<A>, Refusal>
+    ensures answered { IfOk result (λ answer. RecordsScript input.now (string_bytes answer.text) answer.ending) }
+    ensures refused { IfErr result (λ e. IsOutOfMemory e ⊎ RefusesScript input.now e) }
+    ensures unwritten { IfErr result (λ e. e ≢ Refusal.App AppFault.WriteFailed) }
+{
+    let script = Script::read_in(alloc, json, input)?;
+    let told = play_calls(alloc, &script)?;
+    let text = calls_text(alloc, &script, told.as_slice())?;
+    Ok(Answer {
+        text,
+        ending: Ending::Done,
+    })
+}
+
 // The answer to a question on an input.
 fn answer_to<A: Allocator + Copy>(
     alloc: A,
@@ -134,6 +155,7 @@ fn answer_to<A: Allocator + Copy>(
         Question::AuditBits => audit_bits_answer(alloc, input),
         Question::Play => play_answer(alloc, json, input),
         Question::PlayTrace => trace_answer(alloc, json, input),
+        Question::PlayCalls => telling_answer(alloc, json, input),
     }
 }
 

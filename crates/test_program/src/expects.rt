@@ -23,6 +23,8 @@ pub const PLAY: &[&str] = &["lamport_ring", "play"];
 
 pub const TRACE: &[&str] = &["lamport_ring", "play", "--trace"];
 
+pub const CALLS: &[&str] = &["lamport_ring", "play", "--calls"];
+
 /// A run on the reader ends with this status, and has written these texts.
 pub fn expect_run_on<R: Read>(
     rt: &(impl Abort + AllocGlobal + Threads + Clock),
@@ -197,6 +199,16 @@ pub fn expect_plays(
             let mut bytes = script.as_bytes();
             expect_run_on(rt, TRACE, &mut bytes, 0, trace, "");
         }
+    }
+}
+
+/// The calls of each script's play are these.
+pub fn expect_calls(
+    rt: &(impl Abort + AllocGlobal + Threads + Clock),
+    rows: &[(&'static str, &'static str)],
+) {
+    for (script, calls) in rows {
+        expect_run_on(rt, CALLS, &mut script.as_bytes(), 0, calls, "");
     }
 }
 

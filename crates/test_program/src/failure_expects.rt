@@ -19,6 +19,8 @@ pub const PLAY: &[&str] = &["lamport_ring", "play"];
 
 pub const TRACE: &[&str] = &["lamport_ring", "play", "--trace"];
 
+pub const CALLS: &[&str] = &["lamport_ring", "play", "--calls"];
+
 /// A run on a reader that fails after so many reads ends with this status and these texts.
 pub fn expect_read(
     rt: &(impl Abort + AllocGlobal + Threads + Clock),

@@ -1,5 +1,5 @@
 use crate::failure_expects::{
-    AUDIT, BITS, Growing, PLAY, TRACE, Told, expect_failed_reads, expect_failed_writes,
+    AUDIT, BITS, CALLS, Growing, PLAY, TRACE, Told, expect_failed_reads, expect_failed_writes,
     expect_read, expect_refused_finding, expect_refused_growths, expect_refused_load,
     expect_refused_or_right, expect_refused_report, expect_refused_text, expect_refused_trace,
     expect_told_at_each_growth, expect_unheard, expect_written,
@@ -17,6 +17,8 @@ const PLAIN: &str =
     "{\"capacity\":1,\"modulus\":3,\"width\":1,\"items\":[1],\"takes\":1,\"close\":false,\"schedule\":\"P8C10\",\"oracle\":\"1\"}";
 
 const PLAIN_REPORT: &str = "events 18\nput 1\ntaken 1\ntold no\nfull 0\nempty 0\nflicker 0\n";
+
+const PLAIN_CALLS: &str = "queue 1\nP put 1\nP stored\nC take\nC item 1\n";
 
 const PLAIN_TRACE: &str = "\
 shape 1 3 1
@@ -85,6 +87,7 @@ fn stops_at_a_failed_write_or_flush(rt: HostRuntime) {
     expect_failed_writes(&rt, AUDIT, PLAIN_TRACE.as_bytes(), 0, found);
     expect_failed_writes(&rt, PLAY, PLAIN.as_bytes(), 0, PLAIN_REPORT.len());
     expect_failed_writes(&rt, TRACE, PLAIN.as_bytes(), 0, PLAIN_TRACE.len());
+    expect_failed_writes(&rt, CALLS, PLAIN.as_bytes(), 0, PLAIN_CALLS.len());
     expect_failed_writes(&rt, RELAY, b"", 0, "put 8\ntaken 8\nclosed yes\n".len());
     expect_failed_writes(&rt, VERSION, b"", 0, "lamport_ring 0.1.0\n".len());
     expect_written(&rt, HELP, b"", HaltingWriter::after(100), 1, 100);
@@ -167,6 +170,8 @@ fn a_play_is_refused_or_right_at_each_growth(rt: HostRuntime) {
     // the input, the items, the letters, the oracle, the events, the items taken and the text
     expect_refused_or_right(&rt, PLAY, PLAIN.as_bytes(), PLAIN_REPORT, 7);
     expect_refused_or_right(&rt, TRACE, PLAIN.as_bytes(), PLAIN_TRACE, 7);
+    // the input, the items, the letters, what is told and the text
+    expect_refused_or_right(&rt, CALLS, PLAIN.as_bytes(), PLAIN_CALLS, 5);
 }
 
 #[test]

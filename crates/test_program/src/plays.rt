@@ -1,4 +1,6 @@
-use crate::expects::{expect_lawful_plays, expect_plays, expect_refusal_words, expect_report};
+use crate::expects::{
+    expect_calls, expect_lawful_plays, expect_plays, expect_refusal_words, expect_report,
+};
 use bits_core::ShapeFault;
 use ring_audit::AuditFault;
 use ring_player::{PlayFault, ScriptFault};
@@ -121,6 +123,55 @@ const PLAYS: [(&str, &str, Option<&str>); 9] = [
 #[test]
 fn tells_the_report_and_the_trace_of_a_play(rt: HostRuntime) {
     expect_plays(&rt, &PLAYS);
+}
+
+const CALLS: [(&str, &str); 9] = [
+    (PLAIN, "queue 1\nP put 1\nP stored\nC take\nC item 1\n"),
+    // no letter: no call
+    (
+        "{\"capacity\":1,\"modulus\":3,\"width\":1,\"items\":[1],\"takes\":1,\"close\":false,\"schedule\":\"\",\"oracle\":\"\"}",
+        "queue 1\n",
+    ),
+    // a put is under way to the end: its item is taken, and then a take finds none
+    (
+        SEEN_OLD,
+        "queue 1\nP put 1\nC take\nC item 1\nC take\nC empty\n",
+    ),
+    // a put finds the ring full
+    (
+        "{\"capacity\":1,\"modulus\":3,\"width\":1,\"items\":[1,1],\"takes\":0,\"close\":false,\"schedule\":\"P10\",\"oracle\":\"\"}",
+        "queue 1\nP put 1\nP stored\nP put 1\nP full\n",
+    ),
+    // a batch that is stored, one that is cut short, and one that finds the ring full: it offers what is left
+    (
+        "{\"capacity\":3,\"modulus\":6,\"width\":1,\"items\":[1,0,1,1],\"takes\":0,\"close\":false,\"schedule\":\"P20\",\"oracle\":\"\",\"batch\":2}",
+        "queue 3\nP put 1 0\nP stored\nP put 1 1\nP stored 1\nP put 1\nP full\n",
+    ),
+    // a batch whose put does not end
+    (
+        BATCH,
+        "queue 3\nP put 1 0 1\nC take\nC item 1\nC take\nC item 0\nC take\nC item 1\nC take\nC empty\n",
+    ),
+    // a take that begins before the put, and one that is told that the ring is closed
+    (
+        CLOSED,
+        "queue 1\nC take\nP put 1\nP stored\nP close\nP closed\nC item 1\nC take\nC closed\n",
+    ),
+    // a close that does not end, and a take that is cut
+    (
+        "{\"capacity\":1,\"modulus\":3,\"width\":1,\"items\":[],\"takes\":1,\"close\":true,\"schedule\":\"P1C5\",\"oracle\":\"1\"}",
+        "queue 1\nP close\nC take\n",
+    ),
+    // a take that is cut where its item is gone: the next put finds room
+    (
+        "{\"capacity\":1,\"modulus\":3,\"width\":1,\"items\":[1,0,1],\"takes\":2,\"close\":false,\"schedule\":\"P8C9P12\",\"oracle\":\"01\"}",
+        "queue 1\nP put 1\nP stored\nC take\nP put 0\nP stored\nP put 1\nP full\n",
+    ),
+];
+
+#[test]
+fn tells_the_calls_of_a_play(rt: HostRuntime) {
+    expect_calls(&rt, &CALLS);
 }
 
 const FOUND: [(&str, &str); 4] = [

@@ -1,4 +1,4 @@
-use crate::expects::{AUDIT, BITS, PLAY, TRACE, expect_refusals};
+use crate::expects::{AUDIT, BITS, CALLS, PLAY, TRACE, expect_refusals};
 
 const TRACES: [(&[u8], &str); 47] = [
     // no text
@@ -315,5 +315,5 @@ const SCRIPTS: [(&[u8], &str); 27] = [
 
 #[test]
 fn says_what_is_wrong_in_a_script(rt: HostRuntime) {
-    expect_refusals(&rt, &[PLAY, TRACE], &SCRIPTS);
+    expect_refusals(&rt, &[PLAY, TRACE, CALLS], &SCRIPTS);
 }

@@ -64,7 +64,7 @@ fn tells_the_verdict(rt: HostRuntime) {
 }
 
 // What the words ask for decides the status.
-const STATUSES: [(&[&str], u8); 21] = [
+const STATUSES: [(&[&str], u8); 25] = [
     (&["lamport_ring", "audit", "--bits", "--bits"], 2),
     (&["lamport_ring", "audit", "--bits=true"], 2),
     (&["lamport_ring", "audit", "x"], 2),
@@ -73,6 +73,10 @@ const STATUSES: [(&[&str], u8); 21] = [
     (&["lamport_ring", "play", "--bits"], 2),
     (&["lamport_ring", "play", "--trace", "--trace"], 2),
     (&["lamport_ring", "play", "--trace=true"], 2),
+    (&["lamport_ring", "play", "--calls", "--calls"], 2),
+    (&["lamport_ring", "play", "--calls=true"], 2),
+    (&["lamport_ring", "play", "--trace", "--calls"], 2),
+    (&["lamport_ring", "play", "--calls", "--trace"], 2),
     (&["lamport_ring", "play", "x.json"], 2),
     (&["lamport_ring", "go"], 2),
     (&["lamport_ring"], 2),
@@ -105,7 +109,10 @@ const AUDIT_EXAMPLE: &str = "  lamport_ring audit < examples/plain_path.trace\n"
 
 const PLAY_EXAMPLE: &str = "  lamport_ring play < examples/plain_path.json\n";
 
-const WORDS: [(&[&str], u8, &str); 24] = [
+const CALLS_EXAMPLE: &str =
+    "  lamport_ring play --calls < examples/plain_path.json | lamport_ring audit --calls\n";
+
+const WORDS: [(&[&str], u8, &str); 28] = [
     (HELP, 0, EXAMPLE),
     (HELP, 0, PLAY_EXAMPLE),
     (HELP, 0, AUDIT_EXAMPLE),
@@ -146,7 +153,13 @@ const WORDS: [(&[&str], u8, &str); 24] = [
     (
         PLAY_HELP,
         0,
-        "Usage: lamport_ring play [--trace] < SCRIPT\n",
+        "Usage: lamport_ring play [--trace|--calls] < SCRIPT\n",
+    ),
+    (PLAY_HELP, 0, CALLS_EXAMPLE),
+    (
+        PLAY_HELP,
+        0,
+        "Print the calls of the play, as recorded calls, in place of the report\n",
     ),
     (PLAY_HELP, 0, "from standard input\n"),
     (PLAY_HELP, 0, "  0  the script was played\n"),
@@ -160,7 +173,17 @@ const WORDS: [(&[&str], u8, &str); 24] = [
     (
         &["lamport_ring", "play", "x.json"],
         2,
-        "error: unexpected argument 'x.json' found\n\nUsage: lamport_ring play [--trace] < SCRIPT\n",
+        "error: unexpected argument 'x.json' found\n\nUsage: lamport_ring play [--trace|--calls] < SCRIPT\n",
+    ),
+    (
+        &["lamport_ring", "play", "--trace", "--calls"],
+        2,
+        "error: a play prints a trace or its calls: --trace and --calls do not go together\n",
+    ),
+    (
+        &["lamport_ring", "audit", "--bits", "--calls"],
+        2,
+        "error: an audit is of bits or of calls: --bits and --calls do not go together\n",
     ),
     (&["lamport_ring"], 2, "Usage: lamport_ring <COMMAND>\n"),
     (&["lamport_ring", "-V"], 0, "lamport_ring 0.1.0\n"),

@@ -39,6 +39,14 @@ pub returns-clause-play_trace : goal.returns-clause-play_trace
 unfolding clap_on_literals application request_of
 returns-clause-play_trace c name = refl
 
+pub returns-clause-play_calls : goal.returns-clause-play_calls
+unfolding clap_on_literals application request_of
+returns-clause-play_calls c name = refl
+
+pub returns-clause-play_both : goal.returns-clause-play_both
+unfolding clap_on_literals application request_of
+returns-clause-play_both c name = refl
+
 pub returns-clause-run : goal.returns-clause-run
 unfolding clap_on_literals application request_of
 returns-clause-run c name = refl

@@ -5,7 +5,7 @@ use Rattle.clap.specs.declared.error.kind.ErrorKind.{ErrorKind}
 use Rattle.clap.specs.declared.error.kind.ErrorKind.TheVariants as kind
 use Rattle.ring_program.specs.Answers.{Ends, EndsUnasked, Explains, IsCallsCause, IsHelp, IsOutOfMemory, IsShortage, IsStatus, IsStatusOf, IsStatusOn, NoMemory, Shown}
 use Rattle.ring_program.specs.declared.command_line.Question.{Question}
-use Rattle.ring_program.specs.declared.command_line.Question.TheVariants.{Audit, AuditBits, Play, PlayTrace}
+use Rattle.ring_program.specs.declared.command_line.Question.TheVariants.{Audit, AuditBits, Play, PlayTrace, PlayCalls}
 use Rattle.ring_program.specs.declared.command_line.Request.{Request}
 use Rattle.ring_program.specs.declared.command_line.Request.TheVariants.{OnInput, Calls, Run}
 use Rattle.ring_program.specs.declared.faults.AppFault.TheVariants as app
@@ -64,6 +64,7 @@ refused_on Audit status is = inr (inl is)
 refused_on AuditBits status is = inr (inl is)
 refused_on Play status is = inr is
 refused_on PlayTrace status is = inr is
+refused_on PlayCalls status is = inr is
 
 refused_status : (r : Request) (status : ℕ) → status ≡ 1 → IsStatusOf r status
 refused_status (OnInput question) status is = refused_on question status is

@@ -1,0 +1,65 @@
+-- The text of the calls that a play told, line by line.
+use Rattle.std.proofs.Common.{◌≡◌, ◌∙◌, ℕ, ◌<◌, ◌≤◌, ◌^◌, List, [], ◌∷◌, ◌++◌, refl, ap, ap₂, sym, subst, append_assoc, take, drop, length, arith}
+use Rattle.std.proofs.lemmas.List.{append-nil, drop_min, take_min, take_rest}
+use Rattle.std.specs.Prelude.{min}
+use Rattle.std.proofs.Math.Pow.{pow_mono}
+use Rattle.std.proofs.lemmas.List.Elements.{All-drop, All-take, All-weaker}
+use Rattle.std.specs.Prelude.{All}
+use Rattle.queue_calls.specs.Calls.{Event}
+use Rattle.queue_calls.specs.InTurn.{IsInTurn}
+use Rattle.queue_calls.specs.Lines.{AreSmall, word_text}
+use Rattle.queue_calls.specs.Queue.{exactly}
+use Rattle.queue_calls.specs.Recordings.{IsRecording, begun_after, line, lines_text, text_of}
+use Rattle.queue_calls.specs.Tellings.{HistoryHasARecording, TellsSmall, line_of, lines_of, numbers_in, offered_last}
+use Rattle.queue_calls.specs.declared.lines.Word.TheVariants.{Queue}
+use Rattle.queue_calls.specs.declared.recordings.Begun.{Begun}
+use Rattle.queue_calls.specs.declared.recordings.Begun.TheVariants as begun
+use Rattle.ring_program.specs.Texts.{list_line}
+use Rattle.ring_program.proofs.RecordingText.{line_is}
+
+-- Behind a line that tells this capacity, the lines so far and those of the events that are left are those of the history; its numbers
+-- are small, where those of the events that are left are
+abbrev pub IsToldSoFar : ℕ → List Event → List Event → ℕ → List ℕ → Type 0
+IsToldSoFar capacity h rest offers text =
+    (b : Begun) × (offers ≡ offered_last b) × (lines_text (line Queue (capacity ∷ []) ∷ lines_of begun.Nothing h) ≡ text ++ lines_text (lines_of b rest))
+    × (TellsSmall rest → TellsSmall h)
+
+pub telling_begins : (capacity n : ℕ) (h : List Event) (text before word : List ℕ) → before ≡ [] → word ≡ word_text Queue → n ≡ capacity
+    → text ≡ before ++ list_line word (n ∷ []) → IsToldSoFar capacity h h 0 text
+telling_begins capacity n h text before word none word_is same is = (
+  begun.Nothing,
+  refl,
+  ap (λ (t : List ℕ). t ++ lines_text (lines_of begun.Nothing h))
+  (sym (is ∙ ap₂ (λ (a : List ℕ) (b : List ℕ). a ++ b) none (ap₂ list_line word_is (ap (λ (k : ℕ). k ∷ []) same) ∙ line_is Queue (capacity ∷ [])))),
+  λ small. small,
+)
+
+pub telling_goes_on : (capacity : ℕ) (h : List Event) (event : Event) (rest : List Event) (offers : ℕ) (text : List ℕ) (offers_after : ℕ) (after : List ℕ)
+    → ((b : Begun) → offers ≡ offered_last b → after ≡ text ++ text_of (line_of b event))
+    → ((b : Begun) → offers ≡ offered_last b → offers_after ≡ offered_last (begun_after b (line_of b event).word (line_of b event).numbers))
+    → AreSmall (numbers_in event) → IsToldSoFar capacity h (event ∷ rest) offers text → IsToldSoFar capacity h rest offers_after after
+telling_goes_on capacity h event rest offers text offers_after after pushed offers_are small (b, is, whole, smalls) =
+    let l = line_of b event in
+    let next : Begun = begun_after b l.word l.numbers in (
+      next,
+      offers_are b is,
+      whole ∙ sym (append_assoc text (text_of l) (lines_text (lines_of next rest))) ∙ ap (λ (t : List ℕ). t ++ lines_text (lines_of next rest)) (sym (pushed b is)),
+      λ others. smalls (small, others),
+    )
+
+pub telling_ends : (capacity : ℕ) (h : List Event) (offers : ℕ) (text : List ℕ) → 0 < capacity → capacity ≤ 64 → HistoryHasARecording → IsInTurn h
+    → IsToldSoFar capacity h [] offers text → IsRecording text (exactly capacity) h
+telling_ends capacity h offers text some few law in_turn (b, is, whole, smalls) =
+    subst (λ (t : List ℕ). IsRecording t (exactly capacity) h) (whole ∙ append-nil text)
+    (law capacity h some (omega (arith, few)) in_turn (smalls tt))
+
+-- the items that a put is offered, as two parts of a slice
+pub part_offered : (items : List ℕ) (stored batch : ℕ) (further : List ℕ) → further ≡ take (length items - min stored (length items)) (drop (min stored (length items)) items)
+    → take (min batch (length further)) further ≡ take batch (drop stored items)
+part_offered items stored batch further is =
+    take_min batch further ∙ ap (take batch) (is ∙ take_rest items (min stored (length items)) ∙ drop_min stored items)
+
+pub offered_small : (width : ℕ) (items : List ℕ) (stored batch : ℕ) → width ≤ 64 → All (λ item. item < 2 ^ width) items → AreSmall (take batch (drop stored items))
+offered_small width items stored batch few fit =
+    let small : AreSmall items = All-weaker (λ (n : ℕ). n < 2 ^ width) (λ n. n < 2 ^ 64) (λ n fits. omega (arith, fits, pow_mono few)) items fit in
+    All-take (λ n. n < 2 ^ 64) batch (drop stored items) (All-drop (λ n. n < 2 ^ 64) stored items small)
