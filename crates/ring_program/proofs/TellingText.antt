@@ -1,10 +1,6 @@
 -- The text of the calls that a play told, line by line.
-use Rattle.std.proofs.Common.{◌≡◌, ◌∙◌, ℕ, ◌<◌, ◌≤◌, ◌^◌, List, [], ◌∷◌, ◌++◌, refl, ap, ap₂, sym, subst, append_assoc, take, drop, length, arith}
-use Rattle.std.proofs.lemmas.List.{append-nil, drop_min, take_min, take_rest}
-use Rattle.std.specs.Prelude.{min}
-use Rattle.std.proofs.Math.Pow.{pow_mono}
-use Rattle.std.proofs.lemmas.List.Elements.{All-drop, All-take, All-weaker}
-use Rattle.std.specs.Prelude.{All}
+use Rattle.std.proofs.Common.{◌≡◌, ◌∙◌, ℕ, ◌<◌, ◌≤◌, ◌^◌, List, [], ◌∷◌, ◌++◌, refl, ap, ap₂, sym, subst, append_assoc, arith}
+use Rattle.std.proofs.lemmas.List.{append-nil}
 use Rattle.queue_calls.specs.Calls.{Event}
 use Rattle.queue_calls.specs.InTurn.{IsInTurn}
 use Rattle.queue_calls.specs.Lines.{AreSmall, word_text}
@@ -30,7 +26,7 @@ telling_begins capacity n h text before word none word_is same is = (
   begun.Nothing,
   refl,
   ap (λ (t : List ℕ). t ++ lines_text (lines_of begun.Nothing h))
-  (sym (is ∙ ap₂ (λ (a : List ℕ) (b : List ℕ). a ++ b) none (ap₂ list_line word_is (ap (λ (k : ℕ). k ∷ []) same) ∙ line_is Queue (capacity ∷ [])))),
+      (sym (is ∙ ap₂ (λ (a : List ℕ) (b : List ℕ). a ++ b) none (ap₂ list_line word_is (ap (λ (k : ℕ). k ∷ []) same) ∙ line_is Queue (capacity ∷ [])))),
   λ small. small,
 )
 
@@ -47,19 +43,8 @@ telling_goes_on capacity h event rest offers text offers_after after pushed offe
       λ others. smalls (small, others),
     )
 
-pub telling_ends : (capacity : ℕ) (h : List Event) (offers : ℕ) (text : List ℕ) → 0 < capacity → capacity ≤ 64 → HistoryHasARecording → IsInTurn h
+pub telling_ends : (capacity n : ℕ) (h : List Event) (offers : ℕ) (text : List ℕ) → n ≡ capacity → 0 < n → n ≤ 64 → HistoryHasARecording → IsInTurn h
     → IsToldSoFar capacity h [] offers text → IsRecording text (exactly capacity) h
-telling_ends capacity h offers text some few law in_turn (b, is, whole, smalls) =
+telling_ends capacity n h offers text same some few law in_turn (b, is, whole, smalls) =
     subst (λ (t : List ℕ). IsRecording t (exactly capacity) h) (whole ∙ append-nil text)
-    (law capacity h some (omega (arith, few)) in_turn (smalls tt))
-
--- the items that a put is offered, as two parts of a slice
-pub part_offered : (items : List ℕ) (stored batch : ℕ) (further : List ℕ) → further ≡ take (length items - min stored (length items)) (drop (min stored (length items)) items)
-    → take (min batch (length further)) further ≡ take batch (drop stored items)
-part_offered items stored batch further is =
-    take_min batch further ∙ ap (take batch) (is ∙ take_rest items (min stored (length items)) ∙ drop_min stored items)
-
-pub offered_small : (width : ℕ) (items : List ℕ) (stored batch : ℕ) → width ≤ 64 → All (λ item. item < 2 ^ width) items → AreSmall (take batch (drop stored items))
-offered_small width items stored batch few fit =
-    let small : AreSmall items = All-weaker (λ (n : ℕ). n < 2 ^ width) (λ n. n < 2 ^ 64) (λ n fits. omega (arith, fits, pow_mono few)) items fit in
-    All-take (λ n. n < 2 ^ 64) batch (drop stored items) (All-drop (λ n. n < 2 ^ 64) stored items small)
+    (law capacity h (omega (arith, same, some)) (omega (arith, same, few)) in_turn (smalls tt))
