@@ -1,18 +1,31 @@
 #!/usr/bin/env python3
-"""Copies the examples to page/examples and writes the page as one file that needs no server, page/lamport_ring.html."""
+"""Copies the examples to page/examples and writes the page as one file that needs no server, page/lamport_ring.html.
+
+    page/pack.py            with the module that page/build made, or else with that of the page that stands there
+    page/pack.py --check    writes nothing; says where the page that stands there is not what these sources give
+"""
 import base64
 import hashlib
 import json
 import os
 import re
 import shutil
+import subprocess
+import sys
 
 PAGE = os.path.dirname(os.path.abspath(__file__))
-EXAMPLES = os.path.join(os.path.dirname(PAGE), "examples")
+TOP = os.path.dirname(PAGE)
+EXAMPLES = os.path.join(TOP, "examples")
+SHIPPED = "lamport_ring.html"
 FIRST = ["new_old_inversion", "plain_path"]  # what the page begins with
 LEFT_OUT = {  # scripts of more events or letters than a picture is for; an item that JavaScript has no number for
     "a_million_idle_letters", "a_million_letters_full", "items_999", "largest_shape"}
 SCRIPTS = ["module.js", "picture.js", "script.js", "page.js"]
+MADE_OF = re.compile(rb'<meta name="made-of" content="([^"]*)">')
+
+
+def has(name):
+    return os.path.exists(os.path.join(PAGE, name))
 
 
 def read(name):
@@ -20,39 +33,72 @@ def read(name):
         return file.read()
 
 
-def write(name, text):
-    with open(os.path.join(PAGE, name), "w", encoding="utf-8") as file:
-        file.write(text)
-    print(f"page/{name}", len(text.encode()), "bytes")
+# ---- the module ----------------------------------------------------------------------------------------------------------
 
 
-def copy_examples():
-    shutil.rmtree(os.path.join(PAGE, "examples"), ignore_errors=True)
-    os.mkdir(os.path.join(PAGE, "examples"))
-    names = {"traces": [], "scripts": []}
+def built():
+    """The module that page/build made, and the words for what it was made of; or None."""
+    return (read("ring_page.wasm"), read("ring_page.from").decode().strip()) if has("ring_page.wasm") and has("ring_page.from") else None
+
+
+def shipped():
+    """The same of the page that stands there."""
+    if not has(SHIPPED):
+        return None
+    page = read(SHIPPED)
+    module, made_of = re.search(rb'"ring_page.wasm": "([^"]*)"', page), MADE_OF.search(page)
+    return (base64.b64decode(module[1]), made_of[1].decode()) if module and made_of else None
+
+
+def sources_sum():
+    """The sum of the sources that the module is to be made of, as page/build takes it."""
+    words = '. "$top/tools/building.sh"; export LC_ALL=C; sources_sum $(crates_below ring_page)'
+    return subprocess.run(["sh", "-c", words], env={**os.environ, "top": TOP}, check=True, capture_output=True, text=True).stdout.strip()
+
+
+# ---- the page ------------------------------------------------------------------------------------------------------------
+
+
+def examples():
+    """The files of the examples, and the list of their names."""
+    files, names = {}, {"traces": [], "scripts": []}
     for file in sorted(os.listdir(EXAMPLES)):
         name, kind = os.path.splitext(file)
         if kind not in (".trace", ".json") or kind == ".json" and name in LEFT_OUT:
             continue
-        shutil.copy(os.path.join(EXAMPLES, file), os.path.join(PAGE, "examples", file))
+        with open(os.path.join(EXAMPLES, file), "rb") as data:
+            files[f"examples/{file}"] = data.read()
         names["traces" if kind == ".trace" else "scripts"].append(name)
     for list_ in names.values():
         list_.sort(key=lambda name: (name not in FIRST[:1], name not in FIRST, name))
-    write("examples.json", json.dumps(names, indent=1) + "\n")
-    print("scripts left out:", ", ".join(sorted(LEFT_OUT)))
+    return {"examples.json": (json.dumps(names, indent=1) + "\n").encode(), **files}
 
 
-def one_file():
+def lay_out():
+    """Writes the files that index.html asks a server for, and tells the module and what it was made of."""
+    made = built() or shipped()
+    if not made:
+        sys.exit("page/pack.py: there is no module: run page/build")
+    shutil.rmtree(os.path.join(PAGE, "examples"), ignore_errors=True)
+    os.mkdir(os.path.join(PAGE, "examples"))
+    for name, data in {"ring_page.wasm": made[0], "ring_page.from": made[1].encode() + b"\n", **examples()}.items():
+        with open(os.path.join(PAGE, name), "wb") as file:
+            file.write(data)
+    return made
+
+
+def one_file(module, made_of):
     """The page with its style, its scripts in one, and its files; the policy allows these by their hashes and no others."""
-    files = ["examples.json", "ring_page.wasm"] + [f"examples/{file}" for file in sorted(os.listdir(os.path.join(PAGE, "examples")))]
-    kept = "globalThis.ringFiles = " + json.dumps({name: base64.b64encode(read(name)).decode() for name in files}, indent=0) + ";\n"
+    files = {"ring_page.wasm": module, **examples()}
+    kept = "globalThis.ringFiles = " + json.dumps({name: base64.b64encode(it).decode() for name, it in sorted(files.items())}, indent=0) + ";\n"
     script = "\n".join(read(name).decode() for name in SCRIPTS)
     script = re.sub(r"^import .*\n", "", script, flags=re.M)
     script = re.sub(r"^export ", "", script, flags=re.M)
-    names = re.findall(r"^(?:const|let|class|function|async function) (\w+)", script, flags=re.M)
+    names = re.findall(r"^(?:const|let|class|function\*?|async function) (\w+)", script, flags=re.M)
     assert len(set(names)) == len(names), "a name stands in two scripts"
     style = read("page.css").decode()
     assert not any(it in text for it in ("</script", "<!--") for text in (kept, script)) and "</" not in style
+    assert not re.search('["<>&]', made_of), made_of
 
     def hash_of(text):
         return "'sha256-" + base64.b64encode(hashlib.sha256(text.encode()).digest()).decode() + "'"
@@ -62,6 +108,7 @@ def one_file():
         ("script-src 'self'", f"script-src {hash_of(kept)} {hash_of(script)}"),
         ("connect-src 'self'; ", ""),
         ("style-src 'self'", f"style-src {hash_of(style)}"),
+        ('<meta name="made-of" content="">', f'<meta name="made-of" content="{made_of}">'),
         (" From the disk, open lamport_ring.html.", ""),
         ("comes from a server and runs", "runs"),
         ('<link rel="stylesheet" href="page.css">', f"<style>{style}</style>"),
@@ -69,8 +116,40 @@ def one_file():
     ]:
         assert page.count(old) == 1, old
         page = page.replace(old, new)
-    write("lamport_ring.html", page)
+    return page.encode()
 
 
-copy_examples()
-one_file()
+def wrongs():
+    """What is wrong with the page that stands there, a line each."""
+    if not has(SHIPPED):
+        return [f"page/{SHIPPED} is not there: run page/build"]
+    stands, kept, made = read(SHIPPED), shipped(), built()
+    if kept is None:
+        return [f"page/{SHIPPED} has no module, or does not say what it was made of: run page/build"]
+    lines, module = [], kept[0]
+    if sources_sum() not in kept[1]:
+        lines.append(f"page/{SHIPPED} was made of other crates ({kept[1]}; here {sources_sum()}): run page/build")
+    if made and made[0] != module:
+        lines.append(f"page/ring_page.wasm is not the module in page/{SHIPPED}: run page/build, or remove it")
+    fresh = one_file(*kept)
+    if fresh != stands:
+        at = next((i for i, (a, b) in enumerate(zip(fresh, stands)) if a != b), min(len(fresh), len(stands)))
+        line = stands[:at].count(b"\n")
+        lines.append(f"page/{SHIPPED} is not what page/pack.py makes of these sources, from its line {line + 1} on, byte {at}: run page/pack.py")
+    return lines
+
+
+def main():
+    if sys.argv[1:] == ["--check"]:
+        found = wrongs()
+        print("".join(line + "\n" for line in found), end="")
+        sys.exit(bool(found))
+    page = one_file(*lay_out())
+    with open(os.path.join(PAGE, SHIPPED), "wb") as file:
+        file.write(page)
+    print("scripts left out:", ", ".join(sorted(LEFT_OUT)))
+    print(f"page/{SHIPPED}", len(page), "bytes")
+
+
+if __name__ == "__main__":
+    main()
