@@ -20,7 +20,7 @@ SHIPPED = "lamport_ring.html"
 FIRST = ["new_old_inversion", "plain_path"]  # what the page begins with
 LEFT_OUT = {  # scripts of more events or letters than a picture is for; an item that JavaScript has no number for
     "a_million_idle_letters", "a_million_letters_full", "items_999", "largest_shape"}
-SCRIPTS = ["module.js", "picture.js", "script.js", "page.js"]
+SCRIPTS = ["module.js", "picture.js", "script.js", "plays.js", "places.js", "lessons.js", "page.js"]
 MADE_OF = re.compile(rb'<meta name="made-of" content="([^"]*)">')
 
 
@@ -59,18 +59,56 @@ def sources_sum():
 # ---- the page ------------------------------------------------------------------------------------------------------------
 
 
+def stories():
+    """The paragraphs of examples/README.md on each script and trace, without its drawings: the picture stands there."""
+    found, names = {}, []
+    with open(os.path.join(EXAMPLES, "README.md"), encoding="utf-8") as file:
+        text = file.read()
+    text = text[text.index("\n## Scripts\n"):text.index("\n## Calls\n")]
+    for part in re.sub(r"^```.*?^```$", "", text, flags=re.M | re.S).split("\n\n"):
+        part = " ".join(part.split())
+        head = re.match(r"((?:\*\*\w+\*\*(?:, )?)+): ", part)
+        if head:
+            names = re.findall(r"\*\*(\w+)\*\*", head[1])
+            part = part[head.end():]
+        elif part.startswith("#"):
+            names = []
+        for name in names if part else []:
+            found.setdefault(name, []).append(part[0].upper() + part[1:] if head and not re.match("`|[a-z]\\d", part) else part)
+    return found
+
+
+def lessons():
+    """The lessons in their order, of page/lessons.txt; an example that has none there comes last, without a question."""
+    told, list_, chapter = stories(), [], ""
+    for line in read("lessons.txt").decode().splitlines():
+        kind, _, words = line.strip().partition(" ")
+        if kind == "#":
+            chapter = words
+        elif kind in ("trace", "script"):
+            list_.append({"chapter": chapter, "mode": kind, "name": words, "story": told.get(words, []), "question": "", "answer": ""})
+        elif kind in ("?", "!"):
+            list_[-1]["question" if kind == "?" else "answer"] = words
+        else:
+            assert not line.strip(), line
+    return list_
+
+
 def examples():
     """The files of the examples, and the list of their names."""
-    files, names = {}, {"traces": [], "scripts": []}
+    files, names = {}, {"traces": [], "scripts": [], "lessons": lessons()}
     for file in sorted(os.listdir(EXAMPLES)):
         name, kind = os.path.splitext(file)
         if kind not in (".trace", ".json") or kind == ".json" and name in LEFT_OUT:
             continue
         with open(os.path.join(EXAMPLES, file), "rb") as data:
             files[f"examples/{file}"] = data.read()
-        names["traces" if kind == ".trace" else "scripts"].append(name)
-    for list_ in names.values():
-        list_.sort(key=lambda name: (name not in FIRST[:1], name not in FIRST, name))
+        mode = "trace" if kind == ".trace" else "script"
+        names[mode + "s"].append(name)
+        if not any((it["mode"], it["name"]) == (mode, name) for it in names["lessons"]):
+            names["lessons"].append({"chapter": "More", "mode": mode, "name": name, "story": stories().get(name, []), "question": "", "answer": ""})
+    for mode in ("traces", "scripts"):
+        names[mode].sort(key=lambda name: (name not in FIRST[:1], name not in FIRST, name))
     return {"examples.json": (json.dumps(names, indent=1) + "\n").encode(), **files}
 
 

@@ -1,11 +1,15 @@
 // The page: a text in the editor, the proved module's word on it, and its picture.
+import { lessonOptions, showLesson } from "./lessons.js";
 import { openModule, traceOf } from "./module.js";
-import { picture, styleOf } from "./picture.js";
+import { picture, styleWithin } from "./picture.js";
+import { excerpt, placeOf } from "./places.js";
+import { LISTED_LETTERS, MOST_MOMENTS, lettersOf, momentsOf } from "./plays.js";
 import { laidOut, readScript } from "./script.js";
 
-const MOST_MOMENTS = 100; // replies that are listed
-const LISTED_LETTERS = 20000; // letters of a script whose replies are listed
+const HEADING = 34; // of a picture, its verdict
 const LONG = 1.2; // so much higher than the window a picture is scrolled, and not shrunk
+const MOST_LINKED = 500000; // characters of a text that a link has
+const MOST_BYTES = 4000000; // of a file that is opened
 
 const $ = id => document.getElementById(id);
 const node = (name, text, className = "") => Object.assign(document.createElement(name), {textContent: text, className});
@@ -23,8 +27,9 @@ const textOf = async name => new TextDecoder().decode(await fileOf(name));
 // ---- what is shown -----------------------------------------------------------------------------------------------------
 
 let module; // the proved module's calls
-let examples; // the names of the shipped {traces, scripts}
+let examples; // the names of the shipped {traces, scripts}, and the lessons
 const paper = new CSSStyleSheet(); // the style of pictures
+const isSmall = matchMedia("(max-width: 52rem)"); // as in page.css
 
 const page = {
   mode: "trace", // or "script"
@@ -33,22 +38,26 @@ const page = {
   theme: "", // "light", "dark", or "" as the system is set
   left: {trace: null, script: null}, // what was shown in a mode that was left: {text, example, shown}
   drawn: null, // what the picture was made of
+  place: null, // where in the text stands what is refused
 };
 
 let whole = {}; // what the module says of the whole text: {refused}, or of its events
 
-// The two kinds of text: `read` asks the module for the whole, `at` for as much as is shown, with what `draw` takes.
+// The two kinds of text: `read` asks the module for the whole, `at` for as much as is shown, with what `draw` takes. One
+// numbering is of a kind: a trace has lines, of which the shape's is the first; a script has letters.
 const views = {
   trace: {
     read: text => module.audit(text),
     most: () => whole.events.length,
     // A beginning of a trace is a trace of its own, and its verdict is asked for.
     at(shown, text) {
-      const lines = text.split("\n").slice(0, shown + 1);
-      const it = shown < whole.events.length ? module.audit(lines.join("\n") + "\n") : whole;
-      return {...it, note: "audit of the bits", fault: it.place, mood: it.place === null ? "good" : "bad", line: it.place === null ? 0 : it.place + 2};
+      let past = text.indexOf("\n");
+      for (let line = 0; line < shown; line++) past = text.indexOf("\n", past + 1);
+      const it = shown < whole.events.length ? module.audit(text.slice(0, past + 1)) : whole;
+      return {...it, note: "audit of the bits", fault: it.place, mood: it.place === null ? "good" : "bad", line: it.place === null ? 0 : it.place + 2,
+        step: shown ? stepWords(it.events[shown - 1], `line ${shown + 1}`, it.place === null || shown - 1 < it.place) : ""};
     },
-    unit: "event",
+    place: shown => `line ${shown + 1} / ${whole.events.length + 1}`,
   },
   script: {
     read(text) {
@@ -58,39 +67,27 @@ const views = {
       if (none.refused) return none;
       const all = module.play(script, none.letters);
       if (all.refused) return all;
-      return {...all, script, moments: momentsOf(letters => module.play(script, letters, false).report, all)};
+      return {...all, script, numbers: lettersOf(script.schedule, all.events),
+        moments: momentsOf(letters => module.play(script, letters, false).report, all)};
     },
     most: () => whole.letters,
     at(shown) {
-      const it = shown < whole.letters ? module.play(whole.script, shown) : whole;
-      return {...it, fault: null, mood: "", line: 0, words: `played ${shown} of ${whole.letters} letters`};
+      const it = shown < whole.letters ? module.play(whole.script, shown) : whole, last = it.events.length - 1;
+      const step = whole.numbers[last] === shown ? stepWords(it.events[last], `letter ${shown}`, true) : shown ? `letter ${shown}: no event, its side is done` : "";
+      return {...it, fault: null, mood: "", line: 0, words: `played ${shown} of ${whole.letters} letters`,
+        counted: "letter", numbers: whole.numbers, total: whole.letters, step};
     },
-    unit: "letter",
+    place: shown => `letter ${shown} / ${whole.letters}`,
   },
 };
 
-// The replies of a play, and the letters that brought them: {letter, side, words}. What a report counts only grows from
-// letter to letter, so nothing came between two letters whose reports are the same.
-function momentsOf(reportAt, {letters, report}) {
-  const moments = [];
-  const weight = it => it.put.length + it.taken.length + it.full + it.empty + (it.told ? 1 : 0);
-  const look = (low, before, high, after) => {
-    if (weight(before) === weight(after) || moments.length > MOST_MOMENTS) return;
-    if (high - low > 1) {
-      const middle = Math.floor((low + high) / 2), between = reportAt(middle);
-      look(low, before, middle, between);
-      look(middle, between, high, after);
-      return;
-    }
-    const put = after.put.slice(before.put.length), taken = after.taken.slice(before.taken.length);
-    if (put.length) moments.push({letter: high, words: `P puts ${put.join(" ")}`});
-    if (after.full > before.full) moments.push({letter: high, words: "P finds it full"});
-    if (taken.length) moments.push({letter: high, words: `C has taken ${taken.join(" ")}`});
-    if (after.empty > before.empty) moments.push({letter: high, words: "C finds it empty"});
-    if (after.told && !before.told) moments.push({letter: high, words: "C is told: closed"});
-  };
-  if (letters <= LISTED_LETTERS) look(0, reportAt(0), letters, report);
-  return moments;
+// What an event is, and what the module tells of the moment just after it, where it tells of it.
+function stepWords({side, act, bit, value, held, overlapped, clashes}, where, isTold) {
+  const words = `${where}: ${side} ${act} ${bit}${value === undefined ? "" : ` ${value}`}`;
+  if (!isTold) return words;
+  if (act === "got") return words + (overlapped ? ", and a write overlaps the read: any answer is permitted" : `, no write overlaps the read: ${bit} holds ${held}`);
+  if (clashes) return `${words}, while a ${act === "read" ? "write" : "read"} of ${bit} is open`;
+  return act === "wrote" ? `${words}, ${bit} holds ${held}` : words;
 }
 
 // ---- showing it --------------------------------------------------------------------------------------------------------
@@ -111,44 +108,92 @@ function read() {
   show();
 }
 
-// Shows as much as is asked for.
-function show() {
+// Shows as much as is asked for; `isStep` where it is another part of the same text.
+function show(isStep = false) {
   const view = views[page.mode], text = $("text").value;
   const most = whole.refused ? 0 : view.most(), shown = Math.min(page.shown, most);
   const it = whole.refused ? whole : orStopped(() => view.at(shown, text));
   page.drawn = it.refused ? null : {...it, whole: whole.events, wholeFault: whole.place ?? null, waves: $("waves").value};
+  page.place = it.refused ? placeOf(page.mode, text, it) : null;
   $("shown").max = most;
   $("shown").value = shown;
-  $("place").textContent = it.refused ? "" : `${view.unit} ${shown} / ${most}`;
+  $("place").textContent = it.refused ? "" : view.place(shown);
+  $("shown").setAttribute("aria-valuetext", $("place").textContent);
   $("verdict").textContent = it.refused ? `refused: ${it.refused}` : it.words;
   $("verdict").className = it.refused ? "refused" : it.mood;
+  $("why").textContent = it.refused ? page.place?.cause ?? "" : it.why ?? "";
+  $("step").textContent = it.refused ? "" : it.step;
   document.title = it.refused ? "refused" : it.words;
+  refuse(it.refused);
   draw();
-  if (document.body.classList.contains("long")) [...$("picture").querySelectorAll(".flag, .line")].at(-1)?.scrollIntoView({block: "center"});
+  if (document.body.classList.contains("long") && !isSmall.matches || isStep) center([...$("picture").querySelectorAll(".flag, .line")].at(-1));
   if (page.mode === "trace") number(text, it.line, it.refused ? Infinity : shown + 1);
   else report(it, shown);
+  showLesson(examples.lessons, examples.lessons.findIndex(it => it.mode === page.mode && it.name === page.example));
   link(shown, most);
 }
 
+// Of a text that is refused: its place, a sample of the format, and the last picture.
+function refuse(isRefused) {
+  $("refusal").hidden = !isRefused;
+  if (isRefused) {
+    if ($("picture").firstElementChild?.localName === "svg") $("last").lastElementChild.replaceChildren($("picture").firstElementChild);
+    const it = page.place && excerpt($("text").value, page.place);
+    $("excerpt").replaceChildren(...(it ? [`line ${it.line}, column ${it.column}: `, it.before, node("mark", it.at || "␣"), it.after] : []));
+    $("excerpt").hidden = $("find").hidden = !it;
+    const sample = $(`${page.mode}format`).cloneNode(true);
+    sample.removeAttribute("id");
+    $("sample").replaceChildren(sample);
+  }
+  $("last").hidden = !isRefused || !$("last").querySelector("svg");
+}
+
 function draw() {
-  const frame = $("picture");
+  const frame = $("picture"), focused = frame.contains(document.activeElement) ? document.activeElement.dataset.line : null;
   $("save").disabled = page.drawn === null;
   document.body.classList.remove("long");
   if (page.drawn === null) return frame.replaceChildren();
   const room = document.querySelector("main");
-  const aspect = (room.clientHeight - 20) / (room.clientWidth - 20);
-  const drawing = new DOMParser().parseFromString(picture({...page.drawn, aspect}), "image/svg+xml").documentElement;
+  const aspect = isSmall.matches ? 0.9 : (room.clientHeight - 20) / (room.clientWidth - 20);
+  const text = picture({...page.drawn, why: "", aspect}); // the verdict and its reason stand above the picture
+  const drawing = new DOMParser().parseFromString(text, "image/svg+xml").documentElement;
   const {width, height} = drawing.viewBox.baseVal;
+  drawing.setAttribute("viewBox", `0 ${HEADING} ${width} ${height - HEADING}`);
   document.body.classList.toggle("long", height / width > aspect * LONG);
   frame.replaceChildren(document.adoptNode(drawing));
+  reach(frame.querySelector(`[data-line="${focused}"]`), focused !== null);
 }
 
-// The numbers of the lines: the bad one marked, those that are not shown yet pale.
+// The bars are reached by the tabulator, which stops at one of them, and by the arrows up and down.
+function reach(bar, isFocused) {
+  const bars = [...$("picture").querySelectorAll("[data-line]")], one = bar ?? bars.at(-1);
+  $("picture").firstElementChild.setAttribute("role", "group");
+  for (const it of bars) {
+    it.setAttribute("tabindex", it === one ? 0 : -1);
+    it.setAttribute("role", page.mode === "trace" ? "button" : "img");
+    it.setAttribute("aria-label", it.querySelector("title").textContent);
+  }
+  if (isFocused) one?.focus({preventScroll: true});
+}
+
+// Scrolls the picture, and nothing round it, to a part of it.
+function center(part) {
+  const box = document.querySelector("main"), [it, room] = [part, box].map(it => it?.getBoundingClientRect());
+  if (it) box.scrollBy({top: it.top + it.height / 2 - room.top - room.height / 2, left: it.left + it.width / 2 - room.left - room.width / 2});
+}
+
+// The numbers of the lines: the bad one marked, those that are not shown yet pale, by a veil over them.
+let inGutter = ""; // what the numbers were written for
 function number(text, bad, shown) {
-  const lines = text.split("\n").length - (text.endsWith("\n") ? 1 : 0);
-  const run = (from, to) => Array.from({length: Math.max(0, Math.min(to, lines) - from + 1)}, (_, i) => from + i + "\n").join("");
-  const first = run(1, bad ? bad - 1 : shown), rest = bad ? run(bad + 1, shown) : "";
-  $("numbers").replaceChildren(first, ...(bad && bad <= lines ? [node("b", bad), "\n"] : []), rest, node("i", run(shown + 1, lines)));
+  let lines = text === "" || text.endsWith("\n") ? 0 : 1;
+  for (let at = text.indexOf("\n"); at >= 0; at = text.indexOf("\n", at + 1)) lines++;
+  lines = Math.max(lines, 1);
+  $("veil").style.marginTop = `calc(.7rem + ${Math.min(shown, lines) * 1.5}em)`;
+  if (inGutter === `${lines} ${bad}`) return;
+  inGutter = `${lines} ${bad}`;
+  const run = (from, to) => Array.from({length: Math.max(0, to - from + 1)}, (_, i) => from + i + "\n").join("");
+  const marked = bad && bad <= lines;
+  $("numbers").replaceChildren(run(1, marked ? bad - 1 : lines), ...(marked ? [node("b", bad), "\n", run(bad + 1, lines)] : []));
   $("text").style.height = `${lines * 1.5 + 3}em`;
 }
 
@@ -182,7 +227,7 @@ function report(it, shown) {
 
 function stepTo(shown) {
   page.shown = Math.max(0, Math.min(shown, Number($("shown").max)));
-  show();
+  show(true);
   if (page.mode === "trace") reveal(page.shown + 1);
 }
 const step = by => stepTo(Number($("shown").value) + by);
@@ -203,11 +248,13 @@ function setMode(mode) {
   document.querySelector(`input[name=mode][value=${mode}]`).checked = true;
   $("text").setAttribute("aria-label", mode);
   $("report").hidden = mode !== "script";
-  if (mode === "script") $("text").style.height = "";
+  if (mode === "script") $("text").style.height = inGutter = "";
 }
 
-// Puts a text into the editor, that of an example or another's.
-function setText(mode, {text, example = "", shown = Infinity}) {
+// Puts a text into the editor, that of an example or another's; `isNew` where the browser's Back is to bring back what was there.
+function setText(mode, {text, example = "", shown = Infinity}, isNew = false) {
+  if (isNew) leave();
+  $("note").textContent = "";
   setMode(mode);
   page.example = example;
   page.shown = shown;
@@ -219,66 +266,138 @@ function setText(mode, {text, example = "", shown = Infinity}) {
 }
 
 let asked = 0; // so that of several examples that are asked for at once the last is shown
-async function load(mode, example, shown = Infinity) {
+async function load(mode, example, shown = Infinity, isNew = false) {
   const mine = ++asked, text = await textOf(`examples/${example}.${mode === "trace" ? "trace" : "json"}`);
-  if (mine === asked) setText(mode, {text: mode === "script" ? laidOut(text) : text, example, shown});
+  if (mine === asked) setText(mode, {text: mode === "script" ? laidOut(text) : text, example, shown}, isNew);
+}
+
+// Opens a file: a script begins with a brace. (An editor of the browser has no carriage returns.)
+async function openFile(file) {
+  if (file.size > MOST_BYTES) return $("note").textContent = `${file.name} has ${file.size} bytes; this page opens files of at most ${MOST_BYTES}`;
+  ++asked;
+  const given = new TextDecoder("utf-8", {ignoreBOM: true}).decode(await file.arrayBuffer()), text = given.replace(/\r\n?/g, "\n");
+  setText(/^\s*\{/.test(text) ? "script" : "trace", {text}, true);
+  $("note").textContent = `${file.name}${given === text ? "" : ", without its carriage returns"}`;
 }
 
 function setTheme(theme) {
   page.theme = theme;
   document.documentElement.className = theme;
-  paper.replaceSync(styleOf(theme));
+  paper.replaceSync(styleWithin(theme));
 }
 
-// The link to this moment: #example=NAME&shown=N&theme=dark&bits=all, with script=NAME for a script. It is written a little
-// later, since browsers refuse a page that writes too many.
-let linking;
-function link(shown, most) {
-  const parts = new URLSearchParams();
+// The link to this moment: #example=NAME&shown=N&theme=dark&bits=all, with script=NAME for a script; trace=TEXT and play=TEXT have
+// a text that is no example's. It is written a little later, since browsers refuse a page that writes too many.
+let linking, linked = null, isLeft = false;
+function linkTo(shown, most) {
+  const parts = new URLSearchParams(), text = $("text").value, isLong = text.length > MOST_LINKED;
   if (page.example) parts.set(page.mode === "trace" ? "example" : "script", page.example);
-  if (page.example && shown < most) parts.set("shown", shown);
+  else if (!isLong) parts.set(page.mode === "trace" ? "trace" : "play", text);
+  if (!page.example && isLong) $("note").textContent = "This text is too long for a link: keep it in a file.";
+  if (!isLong && shown < most) parts.set("shown", shown);
   if (page.theme) parts.set("theme", page.theme);
   if ($("waves").value !== "some") parts.set("bits", $("waves").value);
+  return `#${parts}`;
+}
+
+function link(shown, most) {
   clearTimeout(linking);
-  linking = setTimeout(() => history.replaceState(null, "", `#${parts}`), 100);
+  linked = [shown, most];
+  if (isLeft) history.pushState(null, "", linkTo(...linked));
+  else linking = setTimeout(writeLink, 100);
+  if (isLeft) linked = null;
+  isLeft = false;
+}
+
+function writeLink() {
+  clearTimeout(linking);
+  if (linked !== null) history.replaceState(null, "", linkTo(...linked));
+  linked = null;
+}
+
+// What is shown next is a new place of the browser's history.
+function leave() {
+  writeLink();
+  isLeft = true;
 }
 
 async function follow() {
   clearTimeout(linking);
+  linked = null;
   const parts = new URLSearchParams(location.hash.slice(1)), {traces, scripts} = examples;
-  const [theme, bits, shown] = ["theme", "bits", "shown"].map(name => parts.get(name));
+  const [theme, bits, given, trace, play] = ["theme", "bits", "shown", "trace", "play"].map(name => parts.get(name));
   setTheme(["light", "dark"].includes(theme) ? theme : "");
   $("waves").value = ["some", "all", "none"].includes(bits) ? bits : "some";
-  const most = /^\d+$/.test(shown ?? "") ? Number(shown) : Infinity;
-  if (scripts.includes(parts.get("script"))) await load("script", parts.get("script"), most);
-  else await load("trace", traces.includes(parts.get("example")) ? parts.get("example") : traces[0], most);
+  const shown = /^\d+$/.test(given ?? "") ? Number(given) : Infinity;
+  if (scripts.includes(parts.get("script"))) return load("script", parts.get("script"), shown);
+  if (traces.includes(parts.get("example"))) return load("trace", parts.get("example"), shown);
+  ++asked;
+  if (trace !== null) setText("trace", {text: trace, shown});
+  else if (play !== null) setText("script", {text: play, shown});
+  else await load("trace", traces[0], shown);
 }
 
 // ---- what the reader does ----------------------------------------------------------------------------------------------
 
+// Selects a stretch of the text in the editor.
+function select({from, to}) {
+  $("text").focus({preventScroll: true});
+  $("text").setSelectionRange(from, to);
+  if (page.mode === "trace") reveal($("text").value.slice(0, from).split("\n").length);
+}
+
+// Selects the line of a bar.
+function selectLine(bar) {
+  if (!bar || page.mode !== "trace") return;
+  const line = Number(bar.dataset.line), lines = $("text").value.split("\n");
+  const from = lines.slice(0, line - 1).join("\n").length + 1;
+  select({from, to: from + lines[line - 1].length});
+}
+
+// The lesson before or behind that which is shown.
+function turn(by) {
+  const {lessons} = examples, it = lessons[lessons.findIndex(it => it.mode === page.mode && it.name === page.example) + by];
+  if (it) load(it.mode, it.name, Infinity, true);
+}
+
 function listen() {
-  const groups = [["trace", "Traces", examples.traces], ["script", "Scripts", examples.scripts]];
-  $("example").append(Object.assign(new Option("your own", ""), {hidden: true}), ...groups.map(([mode, label, names]) => {
-    const group = Object.assign(document.createElement("optgroup"), {label});
-    group.append(...names.map(name => new Option(name.replaceAll("_", " "), `${mode} ${name}`)));
-    return group;
-  }));
-  $("example").onchange = () => load(...$("example").value.split(" "));
+  $("example").append(Object.assign(new Option("your own", ""), {hidden: true}), ...lessonOptions(examples.lessons));
+  $("example").onchange = () => load(...$("example").value.split(" "), Infinity, true);
+  $("previous").onclick = () => turn(-1);
+  $("next").onclick = () => turn(1);
   for (const radio of document.querySelectorAll("input[name=mode]")) radio.onchange = () => {
     const left = page.left[radio.value];
-    if (left) setText(radio.value, left);
-    else load(radio.value, examples[`${radio.value}s`][0]);
+    if (left) setText(radio.value, left, true);
+    else load(radio.value, examples[`${radio.value}s`][0], Infinity, true);
   };
   $("text").oninput = () => {
+    if (page.example) leave();
     page.example = "";
     $("example").value = "";
+    $("note").textContent = "";
     page.shown = Infinity;
     read();
   };
+  $("open").onclick = () => $("file").click();
+  $("file").onchange = () => {
+    const [file] = $("file").files;
+    if (file) openFile(file);
+    $("file").value = "";
+  };
+  const hasFile = event => event.dataTransfer?.types.includes("Files");
+  addEventListener("dragover", event => hasFile(event) && event.preventDefault());
+  addEventListener("drop", event => {
+    if (!hasFile(event)) return;
+    event.preventDefault();
+    openFile(event.dataTransfer.files[0]);
+  });
+  $("find").onclick = () => select(page.place);
+  $("ask").onclick = () => $("help").showModal();
+  $("close").onclick = () => $("help").close();
   $("shown").oninput = () => stepTo(Number($("shown").value));
   $("back").onclick = () => step(-1);
   $("on").onclick = () => step(1);
-  $("waves").onchange = show;
+  $("waves").onchange = () => show();
   $("theme").onclick = () => {
     const isDark = page.theme ? page.theme === "dark" : matchMedia("(prefers-color-scheme: dark)").matches;
     setTheme(isDark ? "light" : "dark");
@@ -291,20 +410,23 @@ function listen() {
     anchor.click();
     setTimeout(() => URL.revokeObjectURL(anchor.href), 1000);
   };
-  $("astrace").onclick = () => setText("trace", {text: traceOf(page.drawn.shape, page.drawn.events)});
-  // A bar that is clicked selects its line of the trace.
-  $("picture").onclick = event => {
-    const bar = event.target.closest("[data-line]");
-    if (!bar || page.mode !== "trace") return;
-    const line = Number(bar.dataset.line), lines = $("text").value.split("\n");
-    const from = lines.slice(0, line - 1).join("\n").length + 1;
-    $("text").focus({preventScroll: true});
-    $("text").setSelectionRange(from, from + lines[line - 1].length);
-    reveal(line);
+  $("astrace").onclick = () => setText("trace", {text: traceOf(page.drawn.shape, page.drawn.events)}, true);
+  $("picture").onclick = event => selectLine(event.target.closest("[data-line]"));
+  $("picture").onkeydown = event => {
+    const bars = [...$("picture").querySelectorAll("[data-line]")], at = bars.indexOf(event.target.closest("[data-line]"));
+    const to = {ArrowDown: at + 1, ArrowUp: at - 1}[event.key];
+    if (at < 0 || event.ctrlKey || event.altKey || event.metaKey) return;
+    if (to !== undefined) {
+      reach(bars[to] ?? bars[at], true);
+      center(document.activeElement);
+    } else if (event.key === "Enter" || event.key === " ") selectLine(bars[at]);
+    else return;
+    event.preventDefault();
   };
   addEventListener("keydown", event => {
-    if (event.ctrlKey || event.altKey || event.metaKey || event.target.closest("textarea, input, select")) return;
-    const key = {ArrowLeft: () => step(-1), ArrowRight: () => step(1), Home: () => stepTo(0), End: () => stepTo(Infinity)}[event.key];
+    if (event.ctrlKey || event.altKey || event.metaKey || event.target.closest("textarea, input, select, dialog")) return;
+    const key = {ArrowLeft: () => step(-1), ArrowRight: () => step(1), Home: () => stepTo(0), End: () => stepTo(Infinity),
+      "?": () => $("help").showModal()}[event.key];
     if (!key) return;
     event.preventDefault();
     key();

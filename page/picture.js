@@ -44,18 +44,20 @@ export function waveOf(first, events, accesses, count, past) {
 
 const MOST_WAVES = 5;
 
-// The first events of the bits whose waves are drawn. "some": those of overlapped reads and of the fault, or else those
-// that are written; where these are many, that of the fault.
+// The first events of the bits whose waves are drawn, and of how many these are. "some": those of overlapped reads and of
+// the fault, or else those that are written, five of them at most, that of the fault first.
 function wavesOf(events, fault, choice) {
   const told = events.slice(0, fault ?? events.length), firsts = new Map();
   for (const it of told) if (!firsts.has(it.bit)) firsts.set(it.bit, it);
   const bits = isChosen => [...new Set(told.filter(isChosen).map(it => it.bit))].map(bit => firsts.get(bit)).sort((a, b) => a.rank - b.rank);
-  if (choice === "none") return [];
-  if (choice === "all") return bits(() => true);
+  if (choice === "none") return {drawn: [], of: 0};
+  const all = bits(() => true);
+  if (choice === "all") return {drawn: all, of: all.length};
   const isFaulty = it => fault !== null && it.bit === events[fault].bit;
   const clashing = bits(it => it.clashes || it.overlapped || isFaulty(it));
   const chosen = clashing.length ? clashing : bits(it => it.act === "write");
-  return chosen.length <= MOST_WAVES ? chosen : bits(isFaulty);
+  const first = new Set([...bits(isFaulty), ...chosen].slice(0, MOST_WAVES));
+  return {drawn: chosen.filter(it => first.has(it)), of: chosen.length};
 }
 
 // ---- the layout ------------------------------------------------------------------------------------------------------
@@ -123,6 +125,14 @@ ${families}
 .ring .flag{fill:${it.bad}}.ring .flagwords,.ring .line.bad{fill:${it.bg}}`;
 }
 
+const FORCED = {bg: "Canvas", band: "Canvas", ink: "CanvasText", dim: "CanvasText", grid: "GrayText", s: "CanvasText", r: "CanvasText",
+  x: "CanvasText", c: "CanvasText", may: "Highlight", mayInk: "CanvasText", shade: 0.4, good: "CanvasText", bad: "CanvasText"};
+
+// The style sheet of pictures within the page: on paper they are light, and a system that forces its colours has them.
+export const styleWithin = theme => `${styleOf(theme)}
+@media print{${paints(LIGHT)}}
+@media (forced-colors:active){${paints(FORCED)}.ring{forced-color-adjust:none}.ring .flag{fill:CanvasText}}`;
+
 // The style sheet of pictures: light, dark, or as the reader's system is set.
 export function styleOf(theme) {
   if (theme) return FORMS + paints(theme === "dark" ? DARK : LIGHT);
@@ -136,10 +146,12 @@ const escape = text => String(text).replace(/&/g, "&amp;").replace(/</g, "&lt;")
 
 // The picture of `events`, of which the one at place `fault` is at fault (null: none is), in a frame with room for the
 // events `whole`. `words` is its heading, of the mood "good", "bad" or none, `note` stands below it; `kind` and `why` tell of the fault. `waves` is
-// "some", "all" or "none". The style sheet is in the picture where `theme` is given.
+// "some", "all" or "none". The events have the numbers of their lines, or else `numbers`, which count what is `counted` up to `total`.
+// The style sheet is in the picture where `theme` is given.
 export function picture({shape, events, whole = events, fault = null, wholeFault = fault, words, note = "", mood = "", kind = "",
-  why = "", waves = "some", aspect = 9 / 16, theme}) {
-  const waveBits = wavesOf(whole, wholeFault, waves);
+  why = "", waves = "some", counted = "line", numbers = null, total = whole.length + 1, aspect = 9 / 16, theme}) {
+  const {drawn: waveBits, of: wavesInAll} = wavesOf(whole, wholeFault, waves);
+  const numberOf = place => numbers ? numbers[place] : place + 2;
   const head = HEAD + (wholeFault === null ? 0 : WHY);
   const {tall, rows, each, unit, width} = layout(whole.length, waveBits.length, head, aspect);
   const {accesses, strays} = accessesOf(events);
@@ -179,7 +191,8 @@ export function picture({shape, events, whole = events, fault = null, wholeFault
           `<text class="lane" x="38" y="${y + lane(side) + 22}">${side}</text>`);
         if (row === first) out.push(`<text class="who" x="38" y="${y + lane(side) + 38}">${side === "P" ? "producer" : "consumer"}</text>`);
       }
-      for (let i = 0; i < ends; i++) out.push(`<path class="grid" d="M${x(i)} ${y + P_BAR - 6}V${y + C_BAR + BAR + 6}"/>`);
+      const lines = Array.from({length: ends}, (_, i) => `M${x(i)} ${y + P_BAR - 6}V${y + C_BAR + BAR + 6}`);
+      if (ends) out.push(`<path class="grid" d="${lines.join("")}"/>`);
     }
   };
 
@@ -195,12 +208,15 @@ export function picture({shape, events, whole = events, fault = null, wholeFault
 
   // The lines of the trace, each tied to the lane of its side.
   const drawLines = () => {
+    const ties = [];
     for (let place = first * each; place < Math.min(past * each, count); place++) {
       const y = top(rowOf(place)), at = x(place);
       const [from, to] = events[place].side === "P" ? [P_BAR + BAR + 2, RULER - 12] : [RULER + 4, C_BAR - 2];
-      out.push(`<path class="tie" d="M${at} ${y + from}V${y + to}"/>`);
-      if (place !== fault) out.push(`<text class="line" x="${at}" y="${y + RULER}">${place + 2}</text>`);
+      ties.push(`M${at} ${y + from}V${y + to}`);
+      const isWide = String(numberOf(place)).length > 5 && place % 2; // of two numbers that have no room side by side, one
+      if (place !== fault && !isWide) out.push(`<text class="line" x="${at}" y="${y + RULER}">${numberOf(place)}</text>`);
     }
+    if (ties.length) out.push(`<path class="tie" d="${ties.join("")}"/>`);
   };
 
   const drawAccess = it => {
@@ -210,7 +226,7 @@ export function picture({shape, events, whole = events, fault = null, wholeFault
     const classes = [it.isWrite ? "write" : "read", it.family, it.overlapped && "free", isFault && "fault",
       fault !== null && it.begin > fault && "pale"].filter(Boolean).join(" ");
     const does = it.isWrite ? `writes ${it.value} to ${it.bit}` : it.ended ? `reads ${it.bit}: ${it.value}` : `reads ${it.bit}`;
-    const when = it.ended ? `lines ${it.begin + 2} to ${it.end + 2}` : `from line ${it.begin + 2}, open`;
+    const when = it.ended ? `${counted}s ${numberOf(it.begin)} to ${numberOf(it.end)}` : `from ${counted} ${numberOf(it.begin)}, open`;
     out.push(`<g class="${classes}" data-line="${it.begin + 2}"><title>${it.side} ${does}, ${when}</title>`);
     for (const {y: rowTop, from, to, begins, ends} of parts) {
       const y = rowTop + lane(it.side), [quarter, half, most, low] = [1, 2, 3, 4].map(n => y + n * BAR / 4);
@@ -231,7 +247,7 @@ export function picture({shape, events, whole = events, fault = null, wholeFault
     if (!isDrawn(rowOf(it.place))) return;
     const y = top(rowOf(it.place)), at = x(it.place), bar = y + lane(it.side);
     const classes = ["read", it.family, it.place === fault ? "fault" : "pale"].join(" ");
-    out.push(`<g class="${classes}"><title>${it.side} ${it.act} ${it.bit}, line ${it.place + 2}: ends nothing</title>`,
+    out.push(`<g class="${classes}"><title>${it.side} ${it.act} ${it.bit}, ${counted} ${numberOf(it.place)}: ends nothing</title>`,
       `<path d="M${at - 10} ${bar}H${at}V${bar + BAR}H${at - 10}"/><text class="bit" x="${at}" y="${y + name(it.side)}">${it.bit}</text></g>`);
   };
 
@@ -268,7 +284,8 @@ export function picture({shape, events, whole = events, fault = null, wholeFault
   const drawHead = () => {
     const parts = [...(note ? [escape(note)] : []), `capacity ${shape.capacity}`, `modulus ${shape.modulus}`, `width ${shape.width}`];
     if (shape.batch > 1) parts.push(`batch ${shape.batch}`);
-    if (past - first < rows) parts.push(`lines ${first * each + 2} to ${Math.min(past * each, whole.length) + 1} of ${whole.length + 1}`);
+    if (past - first < rows) parts.push(`${counted}s ${numberOf(first * each)} to ${numberOf(Math.min(past * each, whole.length) - 1)} of ${total}`);
+    if (wavesInAll > MOST_WAVES) parts.push(waveBits.length < wavesInAll ? `waveforms of ${waveBits.length} of ${wavesInAll} bits` : `waveforms of all ${wavesInAll} bits`);
     out.push(`<text class="verdict ${mood}" x="${LEFT - 10}" y="30">${escape(words)}</text>`,
       `<text class="title" x="${LEFT - 10}" y="52">${parts.join(" · ")}</text>`);
     if (why) out.push(`<text class="title bad" x="${LEFT - 10}" y="${52 + WHY}">${escape(why)}</text>`);

@@ -1,0 +1,237 @@
+"""Tests of how the page is used, for page/test: own texts, lessons, sizes, numbers. Each takes the page, a `same` that compares and a folder."""
+import json
+import os
+import time
+import urllib.parse
+
+import pack
+
+SIZES = [(390, 844, 1), (683, 384, 2), (1366, 768, 1), (1920, 1080, 1)]  # the second is 1366 at 200 %
+BLOCK = "P write s0 0\nC read s0\nC got s0 1\nP wrote s0\n"
+
+
+def resize(page, wide=None, high=None, scale=1):
+    metrics = {"width": wide or 0, "height": high or 0, "deviceScaleFactor": scale if wide else 0, "mobile": False}
+    page.browser.post("/goog/cdp/execute", cmd="Emulation.setDeviceMetricsOverride" if wide else "Emulation.clearDeviceMetricsOverride", params=metrics if wide else {})
+
+
+def media(page, kind="", **features):
+    named = [{"name": name.replace("_", "-"), "value": value} for name, value in features.items()]
+    page.browser.post("/goog/cdp/execute", cmd="Emulation.setEmulatedMedia", params={"media": kind, "features": named})
+
+
+def words(page, id_):
+    return page.browser.run("return document.getElementById(arguments[0]).textContent", id_)
+
+
+def seen(page, id_):
+    return page.browser.run("return document.getElementById(arguments[0]).checkVisibility()", id_)
+
+
+def test_own(page, same, folder):
+    trace, script = "shape 1 3 1\nP write s0 1\nC read s0\nC got s0 0\n", '{"<img src=x>":"&amp;+% \u00e9"}'
+    page.open("example=plain_path")
+    page.write(trace)
+    same("an own trace", [page.title(), page.linked("trace")], ["lawful", trace])
+    page.browser.post("/back")
+    page.browser.until("Back brings the example", "return document.getElementById('example').value === 'trace plain_path'")
+    page.browser.post("/forward")
+    page.browser.until("Forward brings the own trace", "return document.getElementById('text').value === arguments[0]", trace)
+    page.browser.press("left")
+    link = page.hash()
+    page.open(link[1:])
+    same("a link with an own trace", [page.text(), page.title(), page.hash(), words(page, "place")], [trace, "lawful", link, "line 3 / 4"])
+    page.open("play=" + urllib.parse.quote(script))
+    same("a link with a script", [page.text(), page.words(), page.linked("play")], [script, "refused: script has an unknown field", script])
+    page.open("trace=" + urllib.parse.quote("<img src=x onerror=document.title=1><script>document.title=2</script>"))
+    same("a link is no markup", [page.title(), page.count("img, #excerpt *:not(mark)")], ["refused", 0])
+    page.open("example=plain_path")
+    page.click("next")
+    page.browser.until("the next lesson", "return document.getElementById('example').value !== 'trace plain_path'")
+    page.browser.post("/back")
+    page.browser.until("Back brings the lesson", "return document.getElementById('example').value === 'trace plain_path'")
+
+    # files
+    for name, text, mode in [("own.trace", trace, "trace"), ("own.json", pack.examples()["examples/two_cells.json"].decode(), "script"), ("crlf.txt", trace.replace("\n", "\r\n"), "trace")]:
+        with open(os.path.join(folder, name), "w", encoding="utf-8", newline="") as file:
+            file.write(text)
+        element = page.browser.post("/element", using="css selector", value="#file")
+        page.browser.post(f"/element/{next(iter(element.values()))}/value", text=os.path.join(folder, name))
+        page.browser.until(f"{name} is opened", "return document.getElementById('note').textContent.startsWith(arguments[0])", name)
+        same(f"{name}", [page.text(), page.browser.run("return document.querySelector('input[name=mode]:checked').value")], [text.replace("\r", ""), mode])
+    same("carriage returns are told", words(page, "note"), "crlf.txt, without its carriage returns")
+    page.browser.run("""const data = new DataTransfer();
+        data.items.add(new File([arguments[0]], "dropped.trace"));
+        document.body.dispatchEvent(new DragEvent("drop", {dataTransfer: data, bubbles: true, cancelable: true}))""", trace + "C read s0\n")
+    page.browser.until("a file is dropped", "return document.getElementById('note').textContent === 'dropped.trace'")
+    same("its text", page.text(), trace + "C read s0\n")
+    page.write("P" * 600000)
+    same("a text too long for a link", [page.linked("trace"), "too long" in words(page, "note")], [None, True])
+
+
+def test_refusals(page, same, _):
+    page.open("example=new_old_inversion")
+    bars = page.count("#picture [data-line]")
+    page.write("shape 1 3 1\nP write s0 0\nC raed s0\nC got s0 1\n")
+    same("the last picture is kept", [page.count("#last [data-line]"), page.count("#picture *"), seen(page, "last")], [bars, 0, True])
+    same("the place", words(page, "excerpt"), "line 3, column 1: C raed s0")
+    same("a sample", page.browser.run("return document.querySelector('#sample dt').textContent"), "shape 1 3 1")
+    page.click("find")
+    selected = "const it = document.getElementById('text'); return it.value.slice(it.selectionStart, it.selectionEnd)"
+    same("it is selected", page.browser.run(selected), "C raed s0")
+    page.write("shape 1 3 1\nP write s0 0\nC read s0\nC got s0 1\n")
+    same("mended", [seen(page, "last"), seen(page, "refusal"), page.title()], [False, False, "lawful"])
+    whole = json.loads(pack.examples()["examples/plain_path.json"])
+    page.open("script=plain_path")
+    for text, place, sample in [(json.dumps({**whole, "schedule": "P8X"}), "X", "{"), (json.dumps({**whole, "items": [1, 0, 2]}), "2", "{"),
+                                (json.dumps({**whole, "oracle": "012"}), "2", "{"), ('{"capacity" 1}', "1", "{"), ('{"capacity":[1,]}', "]", "{"),
+                                (json.dumps({**whole, "takes": "one"}), '"takes": "one"', "{"), ('{"a":1', "", "{"), ("[1]x", "x", "{")]:
+        page.write(text)
+        page.click("find")
+        same(f"the place in {text}", page.browser.run(selected), place)
+        same(f"a sample beside {text}", page.browser.run("return document.querySelector('#sample pre').textContent").startswith(sample), True)
+    page.open("")
+    page.browser.run("document.activeElement.blur()")
+    page.browser.press("?")
+    same("help", [seen(page, "help"), all(it in words(page, "help") for it in ("Home, End", "P write s0 0", "schedule"))], [True, True])
+    page.browser.press("escape")
+    same("help is closed", seen(page, "help"), False)
+    # the samples are of the format
+    lines = page.browser.run("return [...document.querySelectorAll('#traceformat dt')].map(it => it.textContent)")
+    page.write("\n".join(lines[:1] + lines[2:4] + lines[1:2] + lines[4:]) + "\n")
+    same("the sample of a trace", page.title(), "lawful")
+    page.browser.run("document.querySelector('input[value=script]').click()")
+    page.browser.until("a script", "return document.body.classList.contains('script')")
+    page.write(page.browser.run("return document.querySelector('#scriptformat pre').textContent"))
+    same("the sample of a script", page.title(), "played 18 of 18 letters")
+
+
+def test_lessons(page, same, _):
+    told, lessons = pack.stories(), pack.lessons()
+    names = json.loads(pack.examples()["examples.json"])
+    same("each example has one lesson", sorted((it["mode"], it["name"]) for it in lessons),
+         sorted([("trace", it) for it in names["traces"]] + [("script", it) for it in names["scripts"]]))
+    page.open("")
+    for at, it in enumerate(lessons):
+        page.browser.until(f"lesson {at + 1}", "return document.getElementById('example').value === arguments[0]", f"{it['mode']} {it['name']}")
+        same(f"lesson {at + 1}", words(page, "which"), f"{at + 1} of {len(lessons)} · {it['chapter']}")
+        same(f"story of {it['name']}", page.browser.run("return [...document.querySelectorAll('#story p')].map(it => it.textContent)"),
+             [text.replace("`", "") for text in told[it["name"]]])
+        same(f"question of {it['name']}", [words(page, "question"), words(page, "answer"), page.browser.run("return document.getElementById('answer').checkVisibility()")],
+             [it["question"].replace("`", ""), it["answer"].replace("`", ""), False])
+        same(f"{it['name']} has all three", all([it["question"], it["answer"], told[it["name"]]]), True)
+        if at == 0:
+            page.click("question")
+            same("the answer unfolds", page.browser.run("return document.getElementById('answer').checkVisibility()"), True)
+        if at + 1 < len(lessons):
+            page.click("next")
+    same("the last", page.browser.run("return document.getElementById('next').disabled"), True)
+    page.click("previous")
+    page.browser.until("the one before", "return document.getElementById('which').textContent.startsWith('31 ')")
+    page.write("shape 1 3 1\n")
+    same("no lesson beside an own text", seen(page, "lesson"), False)
+
+
+def test_sizes(page, same, _):
+    for wide, high, scale in SIZES:
+        resize(page, wide, high, scale)
+        for theme in ("light", "dark"):
+            for asked in ("example=stale_read_after_inversion", "script=five_items", "example=batch_count_comes_back", "trace=x"):
+                page.open(f"{asked}&theme={theme}")
+                what = f"{wide} {theme} {asked}"
+                box = page.browser.run("""const it = document.getElementById("verdict").getBoundingClientRect(), all = document.documentElement;
+                    const above = [...document.querySelectorAll("button, select, svg, textarea")].filter(of => of.checkVisibility() && of.getBoundingClientRect().top < it.top).length;
+                    return [scrollX, scrollY, document.querySelector("main").scrollLeft, all.scrollWidth <= innerWidth, it.top >= 0 && it.bottom <= innerHeight / 2 && it.height > 10, innerWidth > 832 || above === 0]""")
+                same(f"the verdict is seen first, {what}", box, [0, 0, 0, True, True, True])
+                same(f"its ground, {what}", page.browser.run("return getComputedStyle(document.body).backgroundColor"), "rgb(255, 255, 255)" if theme == "light" else "rgb(17, 21, 26)")
+    resize(page)
+    page.open("example=new_old_inversion&theme=dark")
+    media(page, "print")
+    ground = "return getComputedStyle(document.querySelector('#picture .bg')).fill"
+    same("on paper", [seen(page, "text"), seen(page, "verdict"), seen(page, "story"), page.browser.run(ground)], [False, True, True, "rgb(255, 255, 255)"])
+    media(page, forced_colors="active")
+    same("forced colours", page.browser.run("""const of = (name, what) => getComputedStyle(document.querySelector(name))[what], it = document.createElement("i");
+        document.body.append(it);
+        it.style.color = "CanvasText";
+        const text = getComputedStyle(it).color;
+        it.remove();
+        return [of("#picture .write path", "fill") === text, of("#picture .lane", "fill") === text, of("#picture .bg", "fill") !== text]"""), [True, True, True])
+    media(page)
+
+
+def test_reach(page, same, _):
+    """Each bar is reached by keys, and what it is, the step and the reason of a fault are told."""
+    page.open("example=stale_read_after_inversion")
+    told = page.browser.run("return ['verdict', 'why', 'step'].map(id => document.getElementById(id).getAttribute('role'))")
+    same("what is announced", told, ["status"] * 3)
+    same("the reason", words(page, "why"), "no write overlaps the read, so it has to answer what the bit held")
+    same("the step", words(page, "step"), "line 9: C got s0 1")
+    page.browser.press("left")
+    same("no reason", [words(page, "why"), words(page, "step")], ["", "line 8: C read s0"])
+    page.browser.press("left", "left")
+    same("a step that may answer anything", words(page, "step"), "line 6: C got s0 1, and a write overlaps the read: any answer is permitted")
+    page.browser.press("end")
+    page.browser.run("document.querySelector('#picture [tabindex=\"0\"]').focus()")
+    names = []
+    for _ in range(4):
+        names.append(page.browser.run("return document.activeElement.dataset.line + ' ' + document.activeElement.getAttribute('aria-label')"))
+        page.browser.press("up")
+    same("bars", names, ["8 C reads s0: 1, lines 8 to 9", "5 C reads s0: 1, lines 5 to 6", "3 C reads s0: 0, lines 3 to 4", "2 P writes 0 to s0, lines 2 to 7"])
+    page.browser.press("down", "enter")
+    same("the line of a bar", page.browser.run("const it = document.getElementById('text'); return it.value.slice(it.selectionStart, it.selectionEnd)"), "C read s0")
+    page.open("example=plain_path")
+    page.browser.run("document.querySelector('#picture [tabindex=\"0\"]').focus()")
+    page.browser.press("left")
+    same("the focus stays", page.browser.run("return document.activeElement.dataset.line"), "18")
+
+
+def test_waves(page, same, _):
+    """More than five waveforms are drawn, or left out, only where that is said."""
+    title = "return document.querySelector('#picture .title').textContent"
+    for name, bits, drawn, said in [("plain_path", "some", 5, ""), ("batch_count_comes_back", "all", 9, "waveforms of all 9 bits")]:
+        page.open(f"example={name}&bits={bits}")
+        rows = page.browser.run("return new Set([...document.querySelectorAll('#picture .wavename')].map(it => it.textContent)).size")
+        same(f"waveforms of {name}", [rows, "waveforms" in page.browser.run(title), said in page.browser.run(title)], [drawn, bool(said), True])
+    page.write("shape 1 8 1\n" + "".join(f"P write s{i} 1\nP wrote s{i}\n" for i in range(8)))
+    same("five of eight", [page.count("#picture .wavename"), "waveforms of 5 of 8 bits" in page.browser.run(title)], [5, True])
+
+
+def test_numbers(page, same, _):
+    lines = "return [...document.querySelectorAll('#picture .line')].map(it => Number(it.textContent)).sort((a, b) => a - b)"
+    page.open("example=plain_path")
+    same("a trace counts lines", page.browser.run(lines), list(range(2, 20)))
+    same("to its last", words(page, "place"), "line 19 / 19")
+    for name, last in [("plain_path", 18), ("idle_letters", 34)]:
+        page.open(f"script={name}")
+        same(f"{name} counts letters", page.browser.run(lines), list(range(1, last + 1)))
+    same("a letter of no event", [words(page, "place"), words(page, "step")], ["letter 42 / 42", "letter 42: no event, its side is done"])
+    page.browser.run("document.querySelector('#moments button').click()")
+    page.write(json.dumps({**json.loads(page.text()), "schedule": "C2P14C22"}))
+    same("letters that a side let pass", page.browser.run(lines), [*range(1, 13), *range(17, 39)])
+    same("its replies", page.browser.run("return [...document.querySelectorAll('#moments span:first-child')].map(it => it.textContent)"),
+         ["letter 9", "letter 28", "letter 38"])
+
+
+STEP = """const times = [], hold = it => it;
+for (let i = 0; i < 15; i++) {
+  const before = performance.now();
+  document.getElementById(i % 3 === 2 ? "on" : "back").click();
+  document.body.getBoundingClientRect();
+  times.push(performance.now() - before);
+}
+return times.sort((a, b) => a - b);"""
+
+
+def test_speed(page, same, _):
+    """A step of 10,000 events, with its layout; other work on the machine is no matter of the page, so the best third counts."""
+    page.open("example=plain_path")
+    page.write("shape 1 3 1\n" + BLOCK * 2500)
+    trace = page.browser.run(STEP)
+    page.open("script=plain_path")
+    page.write(json.dumps({**json.loads(page.text()), "items": [1] * 999, "takes": 999, "schedule": "P5000C5000"}))
+    play = page.browser.run(STEP)
+    print(f"a step of 10,000 events: {trace[5]:.0f} ms, of a play {play[5]:.0f} ms")
+    same("10,000 events step in 100 ms", [trace[5] < 100, play[5] < 100], [True, True])
+
+
+TESTS = [test_own, test_refusals, test_lessons, test_sizes, test_reach, test_waves, test_numbers, test_speed]
