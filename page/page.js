@@ -8,7 +8,7 @@ import { laidOut, readScript } from "./script.js";
 
 const HEADING = 34; // of a picture, its verdict
 const LONG = 1.2; // so much higher than the window a picture is scrolled, and not shrunk
-const MOST_LINKED = 500000; // characters of a text that a link has
+const MOST_LINKED = 200000; // characters of a text that a link has
 const MOST_BYTES = 4000000; // of a file that is opened
 
 const $ = id => document.getElementById(id);
