@@ -125,11 +125,11 @@ function show(isStep = false) {
   $("step").textContent = it.refused ? "" : it.step;
   document.title = it.refused ? "refused" : it.words;
   refuse(it.refused);
+  showLesson(examples.lessons, examples.lessons.findIndex(it => it.mode === page.mode && it.name === page.example));
   draw();
   if (document.body.classList.contains("long") && !isSmall.matches || isStep) center([...$("picture").querySelectorAll(".flag, .line")].at(-1));
   if (page.mode === "trace") number(text, it.line, it.refused ? Infinity : shown + 1);
   else report(it, shown);
-  showLesson(examples.lessons, examples.lessons.findIndex(it => it.mode === page.mode && it.name === page.example));
   link(shown, most);
 }
 
