@@ -47,7 +47,7 @@ goes_on text before word items numbers capacity read w found further word_is ite
       pushed text before word items numbers w (line Queue (capacity ∷ []) ∷ lines) word_is items_are front is,
     )
 
-pub one_small : (n : ℕ) → n < 2 ^ 64 → AreSmall (n ∷ [])
+one_small : (n : ℕ) → n < 2 ^ 64 → AreSmall (n ∷ [])
 one_small n small = All-cons (λ m. m < 2 ^ 64) n [] small (All-nil (λ m. m < 2 ^ 64))
 
 pub is_recording : (text : List ℕ) (n capacity : ℕ) → n ≡ capacity → 0 < n → n ≤ 64 → IsTextSoFar capacity text → (events : List Event) × IsRecording text (exactly capacity) events

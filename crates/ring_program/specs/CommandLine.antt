@@ -7,7 +7,6 @@ use Rattle.clap.specs.declared.builder.action.ArgAction.TheVariants.{Set, SetTru
 use Rattle.clap.specs.ValueTests.{is_unsigned_in}
 use Rattle.clap.specs.declared.builder.value_parser.ValueParser.TheVariants.{Unsigned}
 use Rattle.std.specs.Str.Parse.{digits_value, without_leading_plus}
-use Rattle.ring_program.specs.declared.command_line.Question.{Question}
 use Rattle.ring_program.specs.declared.command_line.Question.TheVariants.{Audit, AuditBits, Play, PlayTrace, PlayCalls}
 use Rattle.ring_program.specs.declared.command_line.Request.{Request}
 use Rattle.ring_program.specs.declared.command_line.Request.TheVariants.{OnInput}
