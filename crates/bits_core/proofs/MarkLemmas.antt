@@ -24,7 +24,7 @@ use Rattle.bits_core.specs.Shape.{belongs}
 use Rattle.bits_core.specs.History.{open_access, open_write, held, held_at_begin, is_overlapped}
 use Rattle.bits_core.specs.Lawful.{IsLawful}
 use Rattle.bits_core.specs.Steps.{FitsOpen, MayFollow, EachMayFollow}
-use Rattle.bits_core.specs.Marks.{AreMarks, IsInTable, IsMark, beside, idle, is_read_of, mark_of, place_of, seat_of, settled, value_ended, with_mark, with_value}
+use Rattle.bits_core.specs.Marks.{AreMarks, IsInTable, IsMark, beside, idle, is_read_of, side_mark, table_place, seat_of, settled, value_ended, with_mark, with_value}
 use Rattle.bits_core.specs.Open.{IsOpenRight}
 use Rattle.bits_core.proofs.Changes.{AllByDoer, AllByDoer-lawful, same_bit-true, same_side-same, open_write-push, held-push, held_at_begin-push, is_overlapped-push}
 use Rattle.bits_core.proofs.Histories.{open_access-push}
@@ -51,14 +51,14 @@ IsInTable-belongs shape (Cell j i) has =
     let digit : i < shape.width = ltb-true i shape.width parts.1 in
     (omega (arith, shape.few_cells), omega (arith, shape.few_digits))
 
-place-within : (b : Bit) → IsInTable b → place_of b < 4609
+place-within : (b : Bit) → IsInTable b → table_place b < 4609
 place-within (S i) room = omega arith
 place-within (R i) room = omega arith
 place-within X room = omega arith
 place-within (Cell j i) room = omega arith
 
 -- two bits stand in two places
-places-apart : (b c : Bit) → IsInTable b → IsInTable c → same_bit b c ≡ false → place_of b ≢ place_of c
+places-apart : (b c : Bit) → IsInTable b → IsInTable c → same_bit b c ≡ false → table_place b ≢ table_place c
 places-apart (S i) (S j) p q apart = λ e. grind (arith, nat_tests)
 places-apart (S i) (R j) p q apart = λ e. omega arith
 places-apart (S i) X p q apart = λ e. omega arith
@@ -81,11 +81,11 @@ places-apart (Cell i l) (Cell j k) p q apart = λ e.
 
 -- a value is set, and all others are as they were
 set-values : (values : List Bool) (c b : Bit) (v : Bool) → length values ≡ 4609 → IsInTable c → IsInTable b
-    → get_or (set values (place_of c) v) (place_of b) false ≡ (if same_bit b c then v else get_or values (place_of b) false)
+    → get_or (set values (table_place c) v) (table_place b) false ≡ (if same_bit b c then v else get_or values (table_place b) false)
 set-values values c b v size room there =
-    elim (same_bit b c) as (λ t. same_bit b c ≡ t → get_or (set values (place_of c) v) (place_of b) false ≡ cond t v (get_or values (place_of b) false)) [
-      | true ↦ λ same. rw (same_bit-true b c same) (get_or-set_same values (place_of c) v false (omega (arith, size, place-within c room)))
-      | false ↦ λ apart. get_or-set_other values (place_of c) (place_of b) v false (places-apart b c there room apart)
+    elim (same_bit b c) as (λ t. same_bit b c ≡ t → get_or (set values (table_place c) v) (table_place b) false ≡ cond t v (get_or values (table_place b) false)) [
+      | true ↦ λ same. rw (same_bit-true b c same) (get_or-set_same values (table_place c) v false (omega (arith, size, place-within c room)))
+      | false ↦ λ apart. get_or-set_other values (table_place c) (table_place b) v false (places-apart b c there room apart)
     ] refl
 
 not_zero : (i : ℕ) → false ≡ first_value (S (suc i))
@@ -93,7 +93,7 @@ not_zero i = grind (arith, nat_tests)
 
 -- the table of the first values
 pub first_values-at : (none : List Bool) → length none ≡ 4609 → ((k : ℕ) → k < 4609 → get_or none k false ≡ false)
-    → (b : Bit) → IsInTable b → get_or (set (set none 0 true) 256 true) (place_of b) false ≡ first_value b
+    → (b : Bit) → IsInTable b → get_or (set (set none 0 true) 256 true) (table_place b) false ≡ first_value b
 first_values-at none size all (S zero) room = get_or-set_other (set none 0 true) 256 0 true false (λ e. omega arith) ∙ get_or-set_same none 0 true false (omega (arith, size))
 first_values-at none size all (S (suc i)) room = get_or-set_other (set none 0 true) 256 (suc i) true false (λ e. omega arith) ∙ get_or-set_other none 0 (suc i) true false (λ e. omega arith) ∙ all (suc i) (omega arith) ∙ not_zero i
 first_values-at none size all (R zero) room = get_or-set_same (set none 0 true) 256 true false (omega (arith, size, length-set none 0 true))
@@ -101,14 +101,14 @@ first_values-at none size all (R (suc i)) room = get_or-set_other (set none 0 tr
 first_values-at none size all X room = get_or-set_other (set none 0 true) 256 512 true false (λ e. omega arith) ∙ get_or-set_other none 0 512 true false (λ e. omega arith) ∙ all 512 (omega arith)
 first_values-at none size all (Cell j i) room = get_or-set_other (set none 0 true) 256 (513 + 64 * j + i) true false (λ e. omega arith) ∙ get_or-set_other none 0 (513 + 64 * j + i) true false (λ e. omega arith) ∙ all (513 + 64 * j + i) (omega arith)
 
-pub AreMarks-empty : (values : List Bool) → length values ≡ 4609 → ((b : Bit) → IsInTable b → get_or values (place_of b) false ≡ first_value b)
+pub AreMarks-empty : (values : List Bool) → length values ≡ 4609 → ((b : Bit) → IsInTable b → get_or values (table_place b) false ≡ first_value b)
     → (shape : Shape) → AreMarks shape [] (record { values = values; sides = idle ∷ idle ∷ [] })
 AreMarks-empty values size first shape = record {
   lawful = empty_is_lawful shape;
   size = size;
   seats = refl;
   values = first;
-  sides = λ s. elim s as (λ t. IsMark t [] (mark_of t (record { values = values; sides = idle ∷ idle ∷ [] }))) [
+  sides = λ s. elim s as (λ t. IsMark t [] (side_mark t (record { values = values; sides = idle ∷ idle ∷ [] }))) [
     | P ↦ record { opened_is = refl; overlapped_is = λ b e. absurd (none-some (Read b) e) }
     | C ↦ record { opened_is = refl; overlapped_is = λ b e. absurd (none-some (Read b) e) }
   ];
@@ -167,15 +167,15 @@ quiet_holds shape b h lawful none =
 
 -- so the marks have what an open read has to answer
 pub settled-is : (shape : Shape) (h : List Event) (s : Side) (b : Bit) (marks : Marks) → AreMarks shape h marks → open_access s h ≡ Some (Read b) → IsInTable b
-    → (if (mark_of s marks).overlapped then None else Some (get_or marks.values (place_of b) false)) ≡ settled s b h
+    → (if (side_mark s marks).overlapped then None else Some (get_or marks.values (table_place b) false)) ≡ settled s b h
 settled-is shape h s b marks are reads room =
     let mark = are.sides s in
-    let tells : (mark_of s marks).overlapped ≡ is_overlapped s b h = mark.overlapped_is b (mark.opened_is ∙ reads) in
+    let tells : (side_mark s marks).overlapped ≡ is_overlapped s b h = mark.overlapped_is b (mark.opened_is ∙ reads) in
     let right : IsOpenRight shape s (Read b) = open_right shape h s (Read b) are.lawful reads in
-    let value : is_overlapped s b h ≡ false → get_or marks.values (place_of b) false ≡ held_at_begin s b h = λ none.
+    let value : is_overlapped s b h ≡ false → get_or marks.values (table_place b) false ≡ held_at_begin s b h = λ none.
     are.values b room ∙ sym (subst (λ r. is_overlapped r b h ≡ false → held_at_begin r b h ≡ held b h) (sym right.1) (quiet_holds shape b h are.lawful) none) in
-    ap (λ t. if t then None else Some (get_or marks.values (place_of b) false)) tells ∙
-    elim (is_overlapped s b h) as (λ t. is_overlapped s b h ≡ t → (if t then None else Some (get_or marks.values (place_of b) false)) ≡ (if t then None else Some (held_at_begin s b h))) [
+    ap (λ t. if t then None else Some (get_or marks.values (table_place b) false)) tells ∙
+    elim (is_overlapped s b h) as (λ t. is_overlapped s b h ≡ t → (if t then None else Some (get_or marks.values (table_place b) false)) ≡ (if t then None else Some (held_at_begin s b h))) [
       | true ↦ λ e. refl
       | false ↦ λ e. ap Some (value e)
     ] refl
@@ -261,19 +261,19 @@ mark-beside s h e mark before other is opened overlapped = record {
 -- what is kept of an event
 pub record HasRecorded (before : Marks) (e : Event) (marks : Marks) : Type 0 where
   pub seats_are : length marks.sides ≡ 2
-  pub values_are : marks.values ≡ with_value before.values e.bit (value_ended e.act (mark_of e.side before).opened)
-  pub own_opened : (mark_of e.side marks).opened ≡ begun_by e
-  pub own_overlapped : (b : Bit) → begun_by e ≡ Some (Read b) → (mark_of e.side marks).overlapped ≡ is_some (value_written b (mark_of (writer b) before).opened)
-  pub other_opened : (mark_of (other e.side) marks).opened ≡ (mark_of (other e.side) before).opened
-  pub other_overlapped : (b : Bit) → (mark_of (other e.side) before).opened ≡ Some (Read b) → (mark_of (other e.side) marks).overlapped ≡ ((mark_of (other e.side) before).overlapped || is_some (write_of b e))
+  pub values_are : marks.values ≡ with_value before.values e.bit (value_ended e.act (side_mark e.side before).opened)
+  pub own_opened : (side_mark e.side marks).opened ≡ begun_by e
+  pub own_overlapped : (b : Bit) → begun_by e ≡ Some (Read b) → (side_mark e.side marks).overlapped ≡ is_some (value_written b (side_mark (writer b) before).opened)
+  pub other_opened : (side_mark (other e.side) marks).opened ≡ (side_mark (other e.side) before).opened
+  pub other_overlapped : (b : Bit) → (side_mark (other e.side) before).opened ≡ Some (Read b) → (side_mark (other e.side) marks).overlapped ≡ ((side_mark (other e.side) before).overlapped || is_some (write_of b e))
 
 with_value-size : (values : List Bool) (b : Bit) (o : Option Bool) → length (with_value values b o) ≡ length values
 with_value-size values b None = refl
-with_value-size values b (Some v) = length-set values (place_of b) v
+with_value-size values b (Some v) = length-set values (table_place b) v
 
 with_value-at : (values : List Bool) (c b : Bit) (o : Option Bool) → length values ≡ 4609 → IsInTable c → IsInTable b
-    → get_or (with_value values c o) (place_of b) false ≡ cond (same_bit b c) (unwrap_or o (get_or values (place_of b) false)) (get_or values (place_of b) false)
-with_value-at values c b None size room there = sym (both (same_bit b c) (get_or values (place_of b) false))
+    → get_or (with_value values c o) (table_place b) false ≡ cond (same_bit b c) (unwrap_or o (get_or values (table_place b) false)) (get_or values (table_place b) false)
+with_value-at values c b None size room there = sym (both (same_bit b c) (get_or values (table_place b) false))
 with_value-at values c b (Some v) size room there = set-values values c b v size room there
 
 by_other : (s : Side) → same_side (other s) s ≡ false
@@ -284,13 +284,13 @@ module _ (shape : Shape) (h : List Event) (e : Event) (before marks : Marks) (ar
   room : IsInTable e.bit
   room = IsInTable-belongs shape e.bit follows.right_side.in_shape
 
-  own_mark : IsMark e.side (h ++ e ∷ []) (mark_of e.side marks)
-  own_mark = mark-own h e (mark_of e.side marks) kept.own_opened (λ b reads. kept.own_overlapped b reads ∙ ap (λ o. is_some (value_written b o)) (are.sides (writer b)).opened_is)
+  own_mark : IsMark e.side (h ++ e ∷ []) (side_mark e.side marks)
+  own_mark = mark-own h e (side_mark e.side marks) kept.own_opened (λ b reads. kept.own_overlapped b reads ∙ ap (λ o. is_some (value_written b o)) (are.sides (writer b)).opened_is)
 
-  other_mark : IsMark (other e.side) (h ++ e ∷ []) (mark_of (other e.side) marks)
-  other_mark = mark-beside (other e.side) h e (mark_of (other e.side) marks) (mark_of (other e.side) before) (by_other e.side) (are.sides (other e.side)) kept.other_opened kept.other_overlapped
+  other_mark : IsMark (other e.side) (h ++ e ∷ []) (side_mark (other e.side) marks)
+  other_mark = mark-beside (other e.side) h e (side_mark (other e.side) marks) (side_mark (other e.side) before) (by_other e.side) (are.sides (other e.side)) kept.other_opened kept.other_overlapped
 
-  each_mark : (s t : Side) → IsMark s (h ++ e ∷ []) (mark_of s marks) → IsMark (other s) (h ++ e ∷ []) (mark_of (other s) marks) → IsMark t (h ++ e ∷ []) (mark_of t marks)
+  each_mark : (s t : Side) → IsMark s (h ++ e ∷ []) (side_mark s marks) → IsMark (other s) (h ++ e ∷ []) (side_mark (other s) marks) → IsMark t (h ++ e ∷ []) (side_mark t marks)
   each_mark P P own beside = own
   each_mark P C own beside = beside
   each_mark C P own beside = beside
@@ -299,12 +299,12 @@ module _ (shape : Shape) (h : List Event) (e : Event) (before marks : Marks) (ar
   pub AreMarks-push : AreMarks shape (h ++ e ∷ []) marks
   AreMarks-push = record {
     lawful = (lawful_by_one_more shape h e).1 (are.lawful, follows);
-    size = ap length kept.values_are ∙ with_value-size before.values e.bit (value_ended e.act (mark_of e.side before).opened) ∙ are.size;
+    size = ap length kept.values_are ∙ with_value-size before.values e.bit (value_ended e.act (side_mark e.side before).opened) ∙ are.size;
     seats = kept.seats_are;
     values = λ b there.
-        let ended : Option Bool = value_ended e.act (mark_of e.side before).opened in
-        let old : get_or before.values (place_of b) false ≡ held b h = are.values b there in
-        ap (λ values. get_or values (place_of b) false) kept.values_are
+        let ended : Option Bool = value_ended e.act (side_mark e.side before).opened in
+        let old : get_or before.values (table_place b) false ≡ held b h = are.values b there in
+        ap (λ values. get_or values (table_place b) false) kept.values_are
         ∙ with_value-at before.values e.bit b ended are.size room there
         ∙ ap (λ v. cond (same_bit b e.bit) (unwrap_or ended v) v) old
         ∙ ap (λ o. cond (same_bit b e.bit) (unwrap_or (value_ended e.act o) (held b h)) (held b h)) (are.sides e.side).opened_is
@@ -314,11 +314,11 @@ module _ (shape : Shape) (h : List Event) (e : Event) (before marks : Marks) (ar
 
 -- ---- what each act leaves
 
-with_mark-own : (marks : Marks) (s : Side) (mark : SideMark) → length marks.sides ≡ 2 → mark_of s (with_mark marks s mark) ≡ mark
+with_mark-own : (marks : Marks) (s : Side) (mark : SideMark) → length marks.sides ≡ 2 → side_mark s (with_mark marks s mark) ≡ mark
 with_mark-own marks P mark seats = get_or-set_same marks.sides 0 mark idle (omega (arith, seats))
 with_mark-own marks C mark seats = get_or-set_same marks.sides 1 mark idle (omega (arith, seats))
 
-with_mark-other : (marks : Marks) (s : Side) (mark : SideMark) → mark_of (other s) (with_mark marks s mark) ≡ mark_of (other s) marks
+with_mark-other : (marks : Marks) (s : Side) (mark : SideMark) → side_mark (other s) (with_mark marks s mark) ≡ side_mark (other s) marks
 with_mark-other marks P mark = get_or-set_other marks.sides 0 1 mark idle (λ e. omega arith)
 with_mark-other marks C mark = get_or-set_other marks.sides 1 0 mark idle (λ e. omega arith)
 
@@ -331,7 +331,7 @@ or_none true = refl
 or_none false = refl
 
 module _ (before : Marks) (s : Side) (b : Bit) (seats : length before.sides ≡ 2) where
-  pub reads : (overlapped : Bool) → overlapped ≡ is_some (value_written b (mark_of (writer b) before).opened)
+  pub reads : (overlapped : Bool) → overlapped ≡ is_some (value_written b (side_mark (writer b) before).opened)
       → HasRecorded before (record { side = s; bit = b; act = ReadBegin }) (with_mark before s (record { opened = Some (Read b); overlapped = overlapped }))
   reads overlapped is =
       let mark : SideMark = record { opened = Some (Read b); overlapped = overlapped } in
@@ -343,9 +343,9 @@ module _ (before : Marks) (s : Side) (b : Bit) (seats : length before.sides ≡ 
         own_opened = ap (λ m. m.opened) own;
         own_overlapped = λ c reads.
             let same : b ≡ c = cc in
-            ap (λ m. m.overlapped) own ∙ is ∙ ap (λ x. is_some (value_written x (mark_of (writer x) before).opened)) same;
+            ap (λ m. m.overlapped) own ∙ is ∙ ap (λ x. is_some (value_written x (side_mark (writer x) before).opened)) same;
         other_opened = ap (λ m. m.opened) other_one;
-        other_overlapped = λ c reads. ap (λ m. m.overlapped) other_one ∙ or_none (mark_of (other s) before).overlapped;
+        other_overlapped = λ c reads. ap (λ m. m.overlapped) other_one ∙ or_none (side_mark (other s) before).overlapped;
       }
 
   pub answers : (v : Bool) → HasRecorded before (record { side = s; bit = b; act = ReadEnd v }) (with_mark before s idle)
@@ -358,18 +358,18 @@ module _ (before : Marks) (s : Side) (b : Bit) (seats : length before.sides ≡ 
         own_opened = ap (λ m. m.opened) own;
         own_overlapped = λ c reads. absurd (none-some (Read c) reads);
         other_opened = ap (λ m. m.opened) other_one;
-        other_overlapped = λ c reads. ap (λ m. m.overlapped) other_one ∙ or_none (mark_of (other s) before).overlapped;
+        other_overlapped = λ c reads. ap (λ m. m.overlapped) other_one ∙ or_none (side_mark (other s) before).overlapped;
       }
 
   pub writes : (v : Bool) → HasRecorded before (record { side = s; bit = b; act = WriteBegin v })
-      (with_mark (with_mark before (other s) (beside (mark_of (other s) before) b)) s (record { opened = Some (Write b v); overlapped = false }))
+      (with_mark (with_mark before (other s) (beside (side_mark (other s) before) b)) s (record { opened = Some (Write b v); overlapped = false }))
   writes v =
       let mark : SideMark = record { opened = Some (Write b v); overlapped = false } in
-      let reader_mark : SideMark = beside (mark_of (other s) before) b in
+      let reader_mark : SideMark = beside (side_mark (other s) before) b in
       let middle : Marks = with_mark before (other s) reader_mark in
       let size : length middle.sides ≡ 2 = length-set before.sides (seat_of (other s)) reader_mark ∙ seats in
       let own = with_mark-own middle s mark size in
-      let other_one : mark_of (other s) (with_mark middle s mark) ≡ reader_mark = with_mark-other middle s mark ∙ with_mark-own before (other s) reader_mark seats in
+      let other_one : side_mark (other s) (with_mark middle s mark) ≡ reader_mark = with_mark-other middle s mark ∙ with_mark-own before (other s) reader_mark seats in
       record {
         seats_are = length-set middle.sides (seat_of s) mark ∙ size;
         values_are = refl;
@@ -377,14 +377,14 @@ module _ (before : Marks) (s : Side) (b : Bit) (seats : length before.sides ≡ 
         own_overlapped = λ c reads. cc;
         other_opened = ap (λ m. m.opened) other_one;
         other_overlapped = λ c reads.
-            ap (λ m. m.overlapped) other_one ∙ ap (λ (o : Option Access). (mark_of (other s) before).overlapped || is_read_of b o) reads
-            ∙ ap (λ t. (mark_of (other s) before).overlapped || t) (is_some_if (same_bit c b) v);
+            ap (λ m. m.overlapped) other_one ∙ ap (λ (o : Option Access). (side_mark (other s) before).overlapped || is_read_of b o) reads
+            ∙ ap (λ t. (side_mark (other s) before).overlapped || t) (is_some_if (same_bit c b) v);
       }
 
   pub wrote : HasRecorded before (record { side = s; bit = b; act = WriteEnd })
-      (with_mark (record before { values = with_value before.values b (value_ended WriteEnd (mark_of s before).opened) }) s idle)
+      (with_mark (record before { values = with_value before.values b (value_ended WriteEnd (side_mark s before).opened) }) s idle)
   wrote =
-      let middle : Marks = record before { values = with_value before.values b (value_ended WriteEnd (mark_of s before).opened) } in
+      let middle : Marks = record before { values = with_value before.values b (value_ended WriteEnd (side_mark s before).opened) } in
       let own = with_mark-own middle s idle seats in
       let other_one = with_mark-other middle s idle in
       record {
@@ -393,7 +393,7 @@ module _ (before : Marks) (s : Side) (b : Bit) (seats : length before.sides ≡ 
         own_opened = ap (λ m. m.opened) own;
         own_overlapped = λ c reads. absurd (none-some (Read c) reads);
         other_opened = ap (λ m. m.opened) other_one;
-        other_overlapped = λ c reads. ap (λ m. m.overlapped) other_one ∙ or_none (mark_of (other s) before).overlapped;
+        other_overlapped = λ c reads. ap (λ m. m.overlapped) other_one ∙ or_none (side_mark (other s) before).overlapped;
       }
 
 pub recorded : (shape : Shape) (h : List Event) (e : Event) (before marks made : Marks) (a : Act) → AreMarks shape h before → MayFollow shape h e

@@ -12,7 +12,7 @@ use Rattle.bits_core.specs.declared.shapes.Shape.{Shape}
 use Rattle.bits_core.specs.Shape.{batch_of, belongs, capacity_of, modulus_of, width_of}
 use Rattle.bits_core.specs.TraceText.{act_text, bit_text, event_line, shape_line, side_text, trace_text, value_text}
 use Rattle.bits_core.specs.TraceReading.{event_at, shape_at}
-use Rattle.bits_core.specs.Trace.{AreOfShape, BeginsWithEvent, GoesOn, HasNoEvent, HasShapeLine}
+use Rattle.bits_core.specs.Trace.{AreOfShape, BeginsWithEvent, IsTraceAndMore, HasNoEvent, HasShapeLine}
 use Rattle.bits_core.proofs.TraceLines.{event_at-again, small_indices, shape_at-again}
 
 -- the line of an event that stands at the front is read
@@ -55,6 +55,6 @@ line_takes e rest = omega (arith, length-append (event_line e) rest, some_byte e
 
 -- ---- what stops a reading
 
-pub goes_on_at : (bytes : List ℕ) (shape : Shape) (events : List Event) (rest : List ℕ) → bytes ≡ trace_text shape events ++ rest → AreOfShape shape events → (length rest == 0) ≡ false → GoesOn bytes shape events rest
+pub goes_on_at : (bytes : List ℕ) (shape : Shape) (events : List Event) (rest : List ℕ) → bytes ≡ trace_text shape events ++ rest → AreOfShape shape events → (length rest == 0) ≡ false → IsTraceAndMore bytes shape events rest
 goes_on_at bytes shape events rest text of_shape more =
     record { text = text; of_shape = of_shape; more = λ nothing. false≢true (sym more ∙ ap (λ (t : List ℕ). length t == 0) nothing) }

@@ -16,7 +16,7 @@ use Rattle.bits_core.specs.declared.traces.TraceFault.TheVariants.{BadShape, Bad
 use Rattle.bits_core.specs.Shape.{IsRefusedBatch, batch_of, belongs, capacity_of, modulus_of, width_of}
 use Rattle.bits_core.specs.TraceText.{event_line, shape_line, trace_text}
 use Rattle.bits_core.specs.TraceReading.{event_at, shape_at}
-use Rattle.bits_core.specs.Trace.{AreOfShape, BeginsWithShape, GoesOn, HasMore, HasNoEvent, HasBadLine, HasBadShape, HasShapeLine, IsTooLong, IsTrace, IsTraceFault}
+use Rattle.bits_core.specs.Trace.{AreOfShape, BeginsWithShape, IsTraceAndMore, HasMore, HasNoEvent, HasBadLine, HasBadShape, HasShapeLine, IsTooLong, IsTrace, IsTraceFault}
 use Rattle.bits_core.proofs.TraceLines.{event_at-again, shape_at-again, small_indices}
 use Rattle.bits_core.proofs.TraceLemmas.{line_takes}
 
@@ -154,7 +154,7 @@ record Read (bytes : List ℕ) (s : Shape) (es : List Event) (rest : List ℕ) :
   pub text : bytes ≡ trace_text s es ++ rest
   pub each : EachOf s es
 
-Read-from : (bytes : List ℕ) (s : Shape) (es : List Event) (rest : List ℕ) → GoesOn bytes s es rest → Read bytes s es rest
+Read-from : (bytes : List ℕ) (s : Shape) (es : List Event) (rest : List ℕ) → IsTraceAndMore bytes s es rest → Read bytes s es rest
 Read-from bytes s es rest g = record { text = g.text; each = EachOf-from s es g.of_shape }
 
 Read-whole : (bytes : List ℕ) (s : Shape) (es : List Event) → IsTrace bytes s es → Read bytes s es []
@@ -255,7 +255,7 @@ too_long_no_trace bytes t fs a b =
     more_is_left (x ∷ more) e none = omega arith
 
 -- the line of the shape that a fault further on comes after
-line_before : (bytes : List ℕ) (s : Shape) (es : List Event) (rest : List ℕ) → GoesOn bytes s es rest → HasShapeLine bytes (capacity_of s) (modulus_of s) (width_of s) (batch_of s)
+line_before : (bytes : List ℕ) (s : Shape) (es : List Event) (rest : List ℕ) → IsTraceAndMore bytes s es rest → HasShapeLine bytes (capacity_of s) (modulus_of s) (width_of s) (batch_of s)
 line_before bytes s es rest g = shape_has_line bytes s (lines es ++ rest) (text_begins bytes s es rest g.text)
 
 bad_shape_once : (bytes : List ℕ) (f g : ShapeFault) → HasBadShape bytes f → HasBadShape bytes g → f ≡ g
@@ -266,7 +266,7 @@ bad_shape_once bytes f g a b =
     let r3 = subst (λ (n : ℕ). IsRefusedBatch b.capacity b.modulus n a.batch f) same.width r2 in
     one_refusal b.capacity b.modulus b.width b.batch f g (subst (λ (n : ℕ). IsRefusedBatch b.capacity b.modulus b.width n f) same.batch r3) b.refused
 
-bad_shape_stops : (bytes : List ℕ) (f : ShapeFault) (s : Shape) (es : List Event) (rest : List ℕ) → HasBadShape bytes f → ¬ GoesOn bytes s es rest
+bad_shape_stops : (bytes : List ℕ) (f : ShapeFault) (s : Shape) (es : List Event) (rest : List ℕ) → HasBadShape bytes f → ¬ IsTraceAndMore bytes s es rest
 bad_shape_stops bytes f s es rest a g = shape_not_bad bytes s (lines es ++ rest) f (text_begins bytes s es rest g.text) a
 
 -- bytes with a fault are no trace

@@ -13,7 +13,7 @@ use Rattle.bits_core.specs.declared.traces.TraceFault.TheVariants.{BadShape, Bad
 use Rattle.bits_core.specs.Shape.{HasBatch, IsRefusedBatch, belongs}
 use Rattle.bits_core.specs.TraceText.{event_line, shape_line, trace_text}
 use Rattle.bits_core.specs.TraceReading.{event_at, shape_at}
-use Rattle.bits_core.specs.Trace.{AreOfShape, GoesOn, IsTrace, IsTraceFault}
+use Rattle.bits_core.specs.Trace.{AreOfShape, IsTraceAndMore, IsTrace, IsTraceFault}
 use Rattle.bits_core.specs.Laws.{TraceOrFault}
 use Rattle.bits_core.proofs.TraceLines.{BeginsShape, bad_numbers, begins_numbers, event_at-text, shape_at-text}
 use Rattle.bits_core.proofs.TraceLemmas.{AreOfShape-push, length-push, line_takes, no_event_read, no_shape_read, other_event_read, text_more}
@@ -71,7 +71,7 @@ shape_told c m w g = elim (in_range 0 c 64) [
 
 -- what stands behind events is told, where what stands behind one event more is
 next_line :
-    (bytes : List ℕ) (shape : Shape) (events : List Event) (rest : List ℕ) → GoesOn bytes shape events rest → length events < EVENT_LIMIT →
+    (bytes : List ℕ) (shape : Shape) (events : List Event) (rest : List ℕ) → IsTraceAndMore bytes shape events rest → length events < EVENT_LIMIT →
     ((e : Event) (others : List ℕ) → length others < length rest → bytes ≡ trace_text shape (events ++ e ∷ []) ++ others → AreOfShape shape (events ++ e ∷ []) → Told bytes) →
     (r : Option (Event × List ℕ)) → event_at rest ≡ r → Told bytes
 next_line bytes shape events rest goes_on room further None none =
@@ -103,7 +103,7 @@ lines_told n bytes shape events [] short text of_shape within =
     inl (shape, events, record { text = text ∙ append-nil (trace_text shape events); of_shape = of_shape; within = within })
 lines_told zero bytes shape events (b ∷ rest) short text of_shape within = absurd (omega arith)
 lines_told (suc n) bytes shape events (b ∷ rest) short text of_shape within =
-    let goes_on : GoesOn bytes shape events (b ∷ rest) = record { text = text; of_shape = of_shape; more = λ nothing. omega (arith, ap length nothing) } in
+    let goes_on : IsTraceAndMore bytes shape events (b ∷ rest) = record { text = text; of_shape = of_shape; more = λ nothing. omega (arith, ap length nothing) } in
     elim (cases_lt (length events) EVENT_LIMIT) [
       | inl room ↦ next_line bytes shape events (b ∷ rest) goes_on room
           (λ e others shorter text_then of_shape_then.

@@ -33,6 +33,11 @@ abbrev pub end_event : Side → Made → Event
 end_event s (Read b v) = record { side = s; bit = b; act = ReadEnd v }
 end_event s (Write b v) = record { side = s; bit = b; act = WriteEnd }
 
+-- the event with which a side begins an access
+abbrev pub opening_event : Side → Access → Event
+opening_event s (access.Read b) = record { side = s; bit = b; act = ReadBegin }
+opening_event s (access.Write b v) = record { side = s; bit = b; act = WriteBegin v }
+
 -- the events of accesses that a side made one after the other
 abbrev pub events_of : Side → List Made → List Event
 events_of s [] = []

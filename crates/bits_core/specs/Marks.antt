@@ -25,16 +25,16 @@ IsInTable X = Unit {0}
 IsInTable (Cell j i) = (j < 64) × (i < 64)
 
 -- where a bit's value stands in it
-abbrev pub place_of : Bit → ℕ
-place_of (S i) = i
-place_of (R i) = 256 + i
-place_of X = 512
-place_of (Cell j i) = 513 + 64 * j + i
+abbrev pub table_place : Bit → ℕ
+table_place (S i) = i
+table_place (R i) = 256 + i
+table_place X = 512
+table_place (Cell j i) = 513 + 64 * j + i
 
 -- the table with a value written to a bit, where there is one
 abbrev pub with_value : List Bool → Bit → Option Bool → List Bool
 with_value values b None = values
-with_value values b (Some v) = slice_set values (place_of b) v
+with_value values b (Some v) = slice_set values (table_place b) v
 
 -- where a side's mark stands
 abbrev pub seat_of : Side → ℕ
@@ -44,8 +44,8 @@ seat_of C = 1
 abbrev pub idle : SideMark
 idle = record { opened = None; overlapped = false }
 
-abbrev pub mark_of : Side → Marks → SideMark
-mark_of s marks = slice_index_or marks.sides (seat_of s) idle
+abbrev pub side_mark : Side → Marks → SideMark
+side_mark s marks = slice_index_or marks.sides (seat_of s) idle
 
 -- the marks with another one of a side
 abbrev pub with_mark : Marks → Side → SideMark → Marks
@@ -79,5 +79,5 @@ pub record AreMarks (shape : Shape) (h : List Event) (marks : Marks) : Type 0 wh
   pub lawful : IsLawful shape h
   pub size : length marks.values ≡ BIT_COUNT
   pub seats : length marks.sides ≡ 2
-  pub values : (b : Bit) → IsInTable b → slice_index_or marks.values (place_of b) false ≡ held b h
-  pub sides : (s : Side) → IsMark s h (mark_of s marks)
+  pub values : (b : Bit) → IsInTable b → slice_index_or marks.values (table_place b) false ≡ held b h
+  pub sides : (s : Side) → IsMark s h (side_mark s marks)

@@ -14,18 +14,18 @@ use Rattle.bits_core.specs.Open.{bit_of}
 
 -- a memory: its shape, the history of the accesses to it, how many of its answers were asked of an oracle, and for how many events
 -- in all there is room at least
-pub record Recorded : Type 0 where
+pub record MemoryState : Type 0 where
   pub shape : Shape
   pub events : List Event
   pub flickers : ℕ
   pub room : ℕ
 
 -- nothing has happened
-abbrev pub unused : Shape → ℕ → Recorded
+abbrev pub unused : Shape → ℕ → MemoryState
 unused shape room = record { shape = shape; events = []; flickers = 0; room = room }
 
 -- one event more
-abbrev pub with_event : Recorded → Side → Bit → Act → Recorded
+abbrev pub with_event : MemoryState → Side → Bit → Act → MemoryState
 with_event m s b a = record m { events = m.events ++ record { side = s; bit = b; act = a } ∷ [] }
 
 -- ---- the open read of a side
@@ -43,7 +43,7 @@ abbrev pub held_for_read : Side → List Event → Bool
 held_for_read s h = held_at_begin s (open_bit s h) h
 
 -- the side's open read ends with this answer
-abbrev pub with_answer : Recorded → Side → Bool → Recorded
+abbrev pub with_answer : MemoryState → Side → Bool → MemoryState
 with_answer m s v = record {
   shape = m.shape;
   events = m.events ++ record { side = s; bit = open_bit s m.events; act = ReadEnd v } ∷ [];

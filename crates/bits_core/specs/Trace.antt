@@ -57,7 +57,7 @@ abbrev pub HasNoEvent : Shape → List ℕ → Type 0
 HasNoEvent shape bytes = (e : Event) (rest : List ℕ) → ¬ BeginsWithEvent shape bytes e rest
 
 -- the bytes are the text of a shape and of events of it, and then something more
-pub record GoesOn (bytes : List ℕ) (shape : Shape) (events : List Event) (rest : List ℕ) : Type 0 where
+pub record IsTraceAndMore (bytes : List ℕ) (shape : Shape) (events : List Event) (rest : List ℕ) : Type 0 where
   pub text : bytes ≡ trace_text shape events ++ rest
   pub of_shape : AreOfShape shape events
   pub more : rest ≢ []
@@ -75,7 +75,7 @@ pub record IsTooLong (bytes : List ℕ) : Type 0 where
   pub shape : Shape
   pub events : List Event
   pub rest : List ℕ
-  pub goes_on : GoesOn bytes shape events rest
+  pub goes_on : IsTraceAndMore bytes shape events rest
   pub full : length events ≡ EVENT_LIMIT
 
 -- fewer events than that are followed by something that does not begin with the line of an event
@@ -83,7 +83,7 @@ pub record HasBadLine (bytes : List ℕ) (line : ℕ) : Type 0 where
   pub shape : Shape
   pub events : List Event
   pub rest : List ℕ
-  pub goes_on : GoesOn bytes shape events rest
+  pub goes_on : IsTraceAndMore bytes shape events rest
   pub room : length events < EVENT_LIMIT
   pub no_event : HasNoEvent shape rest
   pub number : line ≡ length events + 2

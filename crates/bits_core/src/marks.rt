@@ -8,7 +8,7 @@ ghost use Rattle.bits_core.specs.Bits.{same_bit, first_value, value_written};
 ghost use Rattle.bits_core.specs.History.{held, open_access};
 ghost use Rattle.bits_core.specs.Steps.{MayFollow};
 ghost use Rattle.bits_core.specs.Seen.{clashes, is_clash};
-ghost use Rattle.bits_core.specs.Marks.{AreMarks, IsInTable, beside, is_read_of, mark_of, place_of, seat_of, settled, value_ended, with_mark, with_value};
+ghost use Rattle.bits_core.specs.Marks.{AreMarks, IsInTable, beside, is_read_of, side_mark, table_place, seat_of, settled, value_ended, with_mark, with_value};
 
 use crate::events::{Access, Act, Bit, Event, Side};
 
@@ -41,7 +41,7 @@ const IDLE: SideMark = SideMark {
 // Where the value of a bit stands in the table.
 fn place(bit: Bit) -> usize
     requires { IsInTable bit }
-    ensures at { result ≡ place_of bit }
+    ensures at { result ≡ table_place bit }
     ensures within { result < BIT_COUNT }
 {
     match bit {
@@ -63,7 +63,7 @@ fn no_values() -> [bool; BIT_COUNT]
 // The values before any event.
 fn first_values() -> [bool; BIT_COUNT]
     ensures size { length result ≡ BIT_COUNT }
-    ensures first { (b : Bit) → IsInTable b → slice_index_or result (place_of b) false ≡ first_value b }
+    ensures first { (b : Bit) → IsInTable b → slice_index_or result (table_place b) false ≡ first_value b }
 {
     let mut values = no_values();
     values[0] = true;
@@ -172,7 +172,7 @@ impl Marks {
 
     // The mark of a side.
     fn of(&self, side: Side) -> SideMark
-        ensures { result ≡ mark_of side self.now }
+        ensures { result ≡ side_mark side self.now }
     {
         self.sides[seat(side)]
     }
@@ -186,7 +186,7 @@ impl Marks {
 
     /// The access that the side has open.
     pub fn open_access(&self, side: Side) -> Option<Access>
-        ensures mark { result ≡ (mark_of side self.now).opened }
+        ensures mark { result ≡ (side_mark side self.now).opened }
         ensures access { (shape : Shape) (past : List Event) → AreMarks shape past self.now → result ≡ open_access side past }
     {
         self.of(side).opened

@@ -66,9 +66,9 @@ pub struct Memory<S: Store<Event>> {
 
 impl<S: Store<Event>> Model for Memory<S> {
     ghost use Rattle.bits_core.specs.Marks.{AreMarks};
-    ghost use Rattle.bits_core.specs.Memory.{Recorded, IsRecord};
+    ghost use Rattle.bits_core.specs.Memory.{MemoryState, IsRecord};
 
-    ghost Value = { Recorded };
+    ghost Value = { MemoryState };
 
     ghost view = { λ m. record { shape = m.shape; events = S.items m.events; flickers = m.flickers; room = S.room m.events } };
 

@@ -3,7 +3,7 @@ use Rattle.std.proofs.Common.{◌≡◌, ℕ, suc, ◌+◌, ◌≤◌, Bool, fal
 use Rattle.std.proofs.lemmas.List.{append-nil}
 use Rattle.queue_calls.specs.Queue.{Capacity, queue, Enqueue, Dequeue}
 use Rattle.queue_calls.specs.Calls.{Event, Producer, Putting, Consumer, Taking, Point, point, CanLeadTo}
-use Rattle.queue_calls.specs.State.{IsProper, Holds}
+use Rattle.queue_calls.specs.State.{IsProper, MayHold}
 use Rattle.queue_calls.proofs.Rooms.{holds_fewer, room_for_one, room_at_first}
 use Rattle.queue_calls.proofs.Points.{goes}
 
@@ -28,7 +28,7 @@ module _ (capacity : Capacity) (h : List Event) where
 
   -- the items of a put are stored one after the other
   pub enqueues :
-      (c : Consumer) (lacked : ℕ) (done left : List ℕ) (items : List ℕ) (n : ℕ) → Holds capacity (length items + length done) →
+      (c : Consumer) (lacked : ℕ) (done left : List ℕ) (items : List ℕ) (n : ℕ) → MayHold capacity (length items + length done) →
       Leads (point (queue items false) (Putting lacked n (done ++ left)) c) → Leads (point (queue (items ++ done) false) (Putting lacked (n + length done) left) c)
   enqueues c lacked [] left items n l r =
       let none : n ≡ n + 0 = omega arith in
@@ -71,7 +71,7 @@ module _ (capacity : Capacity) (h : List Event) where
   -- then items of the put are stored
   pub moves :
       IsProper capacity → (lacked found : ℕ) (items offered took more items' left : List ℕ) (n n' wanted : ℕ) → items ++ offered ≡ more ++ (items' ++ left) →
-      length left ≤ length offered → n' + length left ≡ n + length offered → Holds capacity (length items') →
+      length left ≤ length offered → n' + length left ≡ n + length offered → MayHold capacity (length items') →
       Leads (point (queue items false) (Putting lacked n offered) (Taking found took (length more + wanted))) →
       Leads (point (queue items' false) (Putting lacked n' left) (Taking found (took ++ more) wanted))
   moves proper lacked found items offered took [] items' left n n' wanted e l sum room r =

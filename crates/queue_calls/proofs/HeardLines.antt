@@ -6,7 +6,7 @@ use Rattle.std.proofs.lemmas.Option.{none-some}
 use Rattle.queue_calls.specs.Calls.{Event}
 use Rattle.queue_calls.specs.Lines.{IsLine}
 use Rattle.queue_calls.specs.Recordings.{Line, line, IsOfFormat, IsFurther, AreLines, capacity_told, event_told, begun_after, begun_behind, and_then, events_told}
-use Rattle.queue_calls.specs.RecordingStates.{HasHeard, HeardLines, GoesOn}
+use Rattle.queue_calls.specs.RecordingStates.{HasHeard, HeardLines, ContinuesLines}
 use Rattle.queue_calls.specs.declared.lines.Word.{Word}
 use Rattle.queue_calls.specs.declared.lines.Word.TheVariants.{Queue, Put, Stored, Full, Short, PutNothing, PutClosed, Close, Take, Item, Empty, TakeShort, TakeNothing, TakeClosed}
 use Rattle.queue_calls.specs.declared.recordings.Begun.{Begun}
@@ -73,7 +73,7 @@ last_is : (before : List Line) (l : Line) → AreLines (before ++ l ∷ []) → 
 last_is [] l are = are.1
 last_is (first ∷ further) l are = (All-last further l are.2).1
 
-pub is_line : (before : List Line) (bytes : List ℕ) (l : Line) → GoesOn before bytes l → IsLine bytes l.word l.numbers
+pub is_line : (before : List Line) (bytes : List ℕ) (l : Line) → ContinuesLines before bytes l → IsLine bytes l.word l.numbers
 is_line before bytes l on =
     let format = last_is before l on.0 in
     record {
@@ -83,7 +83,7 @@ is_line before bytes l on =
     }
 
 -- the first line
-pub first_line : (before : List Line) (bytes numbers : List ℕ) → before ≡ [] → IsLine bytes Queue numbers → GoesOn before bytes (line Queue numbers)
+pub first_line : (before : List Line) (bytes numbers : List ℕ) → before ≡ [] → IsLine bytes Queue numbers → ContinuesLines before bytes (line Queue numbers)
 first_line [] bytes numbers none is = ((refl, (is.allowed, is.small), All-nil IsFurther), is.text)
 first_line (l ∷ before) bytes numbers none is = absurd (omega (arith, ap length none))
 
@@ -94,7 +94,7 @@ first_heard hearing (l ∷ before) numbers none rests heard = absurd (omega (ari
 
 -- a further line
 pub further_line : (before : List Line) (bytes first : List ℕ) (further : List Line) (b : Begun) (w : Word) (numbers : List ℕ) (event : Event) → before ≡ line Queue first ∷ further → AreLines before
-    → IsLine bytes w numbers → event_told b w numbers ≡ Some event → GoesOn before bytes (line w numbers)
+    → IsLine bytes w numbers → event_told b w numbers ≡ Some event → ContinuesLines before bytes (line w numbers)
 further_line before bytes first further b w numbers event parts are is tells =
     let were : AreLines (line Queue first ∷ further) = subst AreLines parts are in
     let last : IsFurther (line w numbers) = (not_first b w numbers event tells, (is.allowed, is.small)) in

@@ -8,7 +8,7 @@ use Rattle.queue_calls.specs.State.{IsProper}
 use Rattle.queue_calls.specs.Audits.{Audits}
 use Rattle.queue_calls.specs.Lines.{Allows}
 use Rattle.queue_calls.specs.Recordings.{capacity_told, StopsAt}
-use Rattle.queue_calls.specs.RecordingStates.{IsFirstFault}
+use Rattle.queue_calls.specs.RecordingStates.{IsFaultSoFar}
 use Rattle.queue_calls.specs.declared.lines.Word.TheVariants as word
 use Rattle.queue_calls.specs.declared.auditors.CallAuditor.{CallAuditor}
 use Rattle.queue_calls.specs.declared.recordings.CallsFinding.{CallsFinding}
@@ -39,14 +39,14 @@ stops_before capacity events event number Says at = record {
 }
 
 pub fault_stays : {A : Type 0} (fault : Option CallsFinding) (auditor : CallAuditor A) (capacity : Capacity) (events : List Event) (event : Event) → is_some fault ≡ true
-    → IsFirstFault fault auditor capacity events → IsFirstFault fault auditor capacity (events ++ event ∷ [])
+    → IsFaultSoFar fault auditor capacity events → IsFaultSoFar fault auditor capacity (events ++ event ∷ [])
 fault_stays None auditor capacity events event some is = absurd (false≢true some)
 fault_stays (Some (Lawful report)) auditor capacity events event some is = is
 fault_stays (Some (OutOfTurn number)) auditor capacity events event some is = stops_before capacity events event number _ is
 fault_stays (Some (NotLinearizable number cause)) auditor capacity events event some is = stops_before capacity events event number _ is
 
 pub no_fault : {A : Type 0} (fault : Option CallsFinding) (auditor : CallAuditor A) (capacity : Capacity) (events : List Event) → is_some fault ≡ false
-    → IsFirstFault fault auditor capacity events → Audits auditor events × IsLinearizable capacity events
+    → IsFaultSoFar fault auditor capacity events → Audits auditor events × IsLinearizable capacity events
 no_fault None auditor capacity events none is = is
 no_fault (Some fault) auditor capacity events none is = absurd (false≢true (sym none))
 

@@ -7,8 +7,8 @@ use Rattle.queue_calls.specs.declared.turns.PutTurn.{PutTurn}
 use Rattle.queue_calls.specs.declared.turns.PutTurn.TheVariants.{Free, Offers, Late, Closes}
 use Rattle.queue_calls.specs.declared.turns.TakeTurn.{TakeTurn}
 use Rattle.queue_calls.specs.declared.turns.TakeTurn.TheVariants.{Rests, Waits}
-use Rattle.queue_calls.specs.State.{Holds, taken_by, FitsTake, Describes, offered_by, asked_by, IsSoundPut, IsSoundTake, IsTold, Keeps, sides_of}
-use Rattle.queue_calls.specs.InTurn.{NoCall, Sides, sides, Turn, IsInTurn}
+use Rattle.queue_calls.specs.State.{MayHold, taken_by, FitsTake, Describes, offered_by, asked_by, IsSoundPut, IsSoundTake, TellsPoint, Keeps, sides_of}
+use Rattle.queue_calls.specs.InTurn.{NoCall, Sides, sides, MovesSides, CallsAreInTurn}
 use Rattle.queue_calls.proofs.Rooms.{holds_fewer, holds_none}
 use Rattle.queue_calls.proofs.TurnLemmas.{one_turn_more, last_turn, same_turns, linearizable_in_turn}
 use Rattle.queue_calls.proofs.Points.{last_event}
@@ -34,11 +34,11 @@ split xs n l = record {
 
 -- some point that is described, whatever items a put after a close has
 abbrev pub Some : Capacity → List ℕ → PutTurn → TakeTurn → Bool → Type 0
-Some capacity inside put take shut = (s : Point) × Describes capacity inside put take shut s × ((late : List ℕ) → IsTold late put s.producer)
+Some capacity inside put take shut = (s : Point) × Describes capacity inside put take shut s × ((late : List ℕ) → TellsPoint late put s.producer)
 
 some_put :
     (capacity : Capacity) (inside rest : List ℕ) (put : PutTurn) (take : TakeTurn) (shut : Bool) (c : Consumer) →
-    ((q : Queue) → FitsTake take c q) → inside ≡ taken_by c ++ rest → Holds capacity (length rest - offered_by put) → Some capacity inside put take shut
+    ((q : Queue) → FitsTake take c q) → inside ≡ taken_by c ++ rest → MayHold capacity (length rest - offered_by put) → Some capacity inside put take shut
 some_put capacity inside rest Free take shut c fits e l = (
   point (queue rest shut) Idle c,
   record {
@@ -89,7 +89,7 @@ some_put capacity inside rest (Closes again) take shut c fits e l = (
 )
 
 pub some :
-    (capacity : Capacity) (inside : List ℕ) (put : PutTurn) (take : TakeTurn) (shut : Bool) → Holds capacity (length inside - (offered_by put + asked_by take)) →
+    (capacity : Capacity) (inside : List ℕ) (put : PutTurn) (take : TakeTurn) (shut : Bool) → MayHold capacity (length inside - (offered_by put + asked_by take)) →
     Some capacity inside put take shut
 some capacity inside put Rests shut l =
     some_put capacity inside inside put Rests shut Resting (λ q. tt) refl
@@ -113,18 +113,18 @@ Accepts capacity h e inside put take shut = Keeps capacity (h ++ e ∷ []) insid
 
 -- it refuses an event that is in turn, where no point follows; or one that is out of turn
 abbrev pub Refused : Capacity → List Event → Event → List ℕ → PutTurn → TakeTurn → Bool → Type 0
-Refused capacity h e inside put take shut = Keeps capacity h inside put take shut × (IsInTurn (h ++ e ∷ []) × ¬ IsLinearizable capacity (h ++ e ∷ []))
+Refused capacity h e inside put take shut = Keeps capacity h inside put take shut × (CallsAreInTurn (h ++ e ∷ []) × ¬ IsLinearizable capacity (h ++ e ∷ []))
 
 abbrev pub TurnedAway : Capacity → List Event → Event → List ℕ → PutTurn → TakeTurn → Bool → Type 0
-TurnedAway capacity h e inside put take shut = Keeps capacity h inside put take shut × (¬ IsInTurn (h ++ e ∷ []) × ¬ IsLinearizable capacity (h ++ e ∷ []))
+TurnedAway capacity h e inside put take shut = Keeps capacity h inside put take shut × (¬ CallsAreInTurn (h ++ e ∷ []) × ¬ IsLinearizable capacity (h ++ e ∷ []))
 
 -- it accepts where what it keeps describes just the points that follow
 pub accept :
     (capacity : Capacity) (h : List Event) (e : Event) (inside inside' : List ℕ) (put put' : PutTurn) (take take' : TakeTurn) (shut shut' : Bool) (late : List ℕ) →
-    Keeps capacity h inside put take shut → Turn (sides_of put take) e (sides_of put' take') → Holds capacity (length inside' - (offered_by put' + asked_by take')) →
+    Keeps capacity h inside put take shut → MovesSides (sides_of put take) e (sides_of put' take') → MayHold capacity (length inside' - (offered_by put' + asked_by take')) →
     IsSoundPut (length inside') put' shut' → IsSoundTake (offered_by put') (length inside') take' shut' →
     ((s t : Point) → Describes capacity inside put take shut s → Leads capacity s (Happens e) t → Describes capacity inside' put' take' shut' t) →
-    ((t : Point) → Describes capacity inside' put' take' shut' t → IsTold late put' t.producer → CanLeadTo capacity (h ++ e ∷ []) t) →
+    ((t : Point) → Describes capacity inside' put' take' shut' t → TellsPoint late put' t.producer → CanLeadTo capacity (h ++ e ∷ []) t) →
     Accepts capacity h e inside' put' take' shut'
 accept capacity h e inside inside' put put' take take' shut shut' late k turn few ok took after before = (
   record {
@@ -145,7 +145,7 @@ accept capacity h e inside inside' put put' take take' shut shut' late k turn fe
 
 pub refuse :
     (capacity : Capacity) (h : List Event) (e : Event) (inside : List ℕ) (put : PutTurn) (take : TakeTurn) (shut : Bool) (next : Sides) →
-    Keeps capacity h inside put take shut → Turn (sides_of put take) e next →
+    Keeps capacity h inside put take shut → MovesSides (sides_of put take) e next →
     ((s t : Point) → Describes capacity inside put take shut s → Leads capacity s (Happens e) t → ⊥) → Refused capacity h e inside put take shut
 refuse capacity h e inside put take shut next k turn none = (
   k,
@@ -157,13 +157,13 @@ refuse capacity h e inside put take shut next k turn none = (
 
 pub turn_away :
     (capacity : Capacity) (h : List Event) (e : Event) (inside : List ℕ) (put : PutTurn) (take : TakeTurn) (shut : Bool) →
-    Keeps capacity h inside put take shut → ((next : Sides) → Turn (sides_of put take) e next → ⊥) → TurnedAway capacity h e inside put take shut
+    Keeps capacity h inside put take shut → ((next : Sides) → MovesSides (sides_of put take) e next → ⊥) → TurnedAway capacity h e inside put take shut
 turn_away capacity h e inside put take shut k none =
-    let never : ¬ IsInTurn (h ++ e ∷ []) =
+    let never : ¬ CallsAreInTurn (h ++ e ∷ []) =
     λ z. let (t, r) = z in
     let (s, before, last) = last_turn h e (sides NoCall NoCall) t r in
     let same : s ≡ sides_of put take = same_turns h (sides NoCall NoCall) s (sides_of put take) before k.turns in
-    none t (subst (λ x. Turn x e t) same last) in
+    none t (subst (λ x. MovesSides x e t) same last) in
     (k, (never, (λ l. never (linearizable_in_turn capacity (h ++ e ∷ []) l))))
 
 -- what is kept, where its parts are told otherwise

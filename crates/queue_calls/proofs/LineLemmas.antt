@@ -9,7 +9,7 @@ use Rattle.std.proofs.lemmas.Option.{none-some, same_Some}
 use Rattle.queue_calls.specs.declared.lines.Word.{Word}
 use Rattle.queue_calls.specs.declared.lines.Word.TheVariants.{Queue, Put, Stored, Full, Short, PutNothing, PutClosed, Close, Take, Item, Empty, TakeShort, TakeNothing, TakeClosed}
 use Rattle.queue_calls.specs.Lines.{word_text, numbers_text, line_text, Allows, AreSmall, IsLine}
-use Rattle.queue_calls.specs.LineReading.{after, then_or_else, named, put_word_at, take_word_at, word_at, number_at}
+use Rattle.queue_calls.specs.LineReading.{bytes_behind, then_or_else, word_or, put_word_at, take_word_at, line_word_at, spaced_number}
 use Rattle.queue_calls.proofs.LineReadings.{after-text, then_or_else-some, number_at-again}
 
 -- ---- the word
@@ -19,9 +19,9 @@ abbrev Tells : List ℕ → List ℕ → Word × List ℕ → Type 0
 Tells front bytes x = front ++ bytes ≡ word_text x.0 ++ x.1
 
 named-text : (front : List ℕ) (w : Word) (text bytes : List ℕ) (other : Option (Word × List ℕ)) (x : Word × List ℕ) → front ++ text ≡ word_text w
-    → (other ≡ Some x → Tells front bytes x) → named w text bytes other ≡ Some x → Tells front bytes x
+    → (other ≡ Some x → Tells front bytes x) → word_or w text bytes other ≡ Some x → Tells front bytes x
 named-text front w text bytes other x is later e =
-    elim (then_or_else-some (after text bytes) (λ rest. Some (w, rest)) other x e) [
+    elim (then_or_else-some (bytes_behind text bytes) (λ rest. Some (w, rest)) other x e) [
       | inl k ↦ subst (λ (y : Word × List ℕ). Tells front bytes y) (same_Some (w, k.0) x k.2)
           (ap (λ (t : List ℕ). front ++ t) (after-text text bytes k.0 k.1) ∙ sym (append_assoc front text k.0) ∙ ap (λ (t : List ℕ). t ++ k.0) is)
       | inr k ↦ later k
@@ -46,20 +46,20 @@ take_word_at-text bytes x =
 
 -- the words of a side
 side-text : (front bytes : List ℕ) (reads : List ℕ → Option (Word × List ℕ)) (other : Option (Word × List ℕ)) (x : Word × List ℕ)
-    → ((rest : List ℕ) → reads rest ≡ Some x → Tells front rest x) → (other ≡ Some x → Tells [] bytes x) → then_or_else (after front bytes) reads other ≡ Some x → Tells [] bytes x
+    → ((rest : List ℕ) → reads rest ≡ Some x → Tells front rest x) → (other ≡ Some x → Tells [] bytes x) → then_or_else (bytes_behind front bytes) reads other ≡ Some x → Tells [] bytes x
 side-text front bytes reads other x is later e =
-    elim (then_or_else-some (after front bytes) reads other x e) [
+    elim (then_or_else-some (bytes_behind front bytes) reads other x e) [
       | inl k ↦ after-text front bytes k.0 k.1 ∙ is k.0 k.2
       | inr k ↦ later k
     ]
 
-word_at-text : (bytes : List ℕ) (x : Word × List ℕ) → word_at bytes ≡ Some x → bytes ≡ word_text x.0 ++ x.1
+word_at-text : (bytes : List ℕ) (x : Word × List ℕ) → line_word_at bytes ≡ Some x → bytes ≡ word_text x.0 ++ x.1
 word_at-text bytes x =
     named-text [] Queue (codes "queue") bytes _ x refl
     (side-text (codes "P ") bytes put_word_at _ x (λ rest. put_word_at-text rest x)
     (side-text (codes "C ") bytes take_word_at None x (λ rest. take_word_at-text rest x) (no_word [] bytes x)))
 
-word_at-again : (w : Word) (numbers : List ℕ) → word_at (line_text w numbers) ≡ Some (w, numbers_text numbers)
+word_at-again : (w : Word) (numbers : List ℕ) → line_word_at (line_text w numbers) ≡ Some (w, numbers_text numbers)
 word_at-again Queue numbers = refl
 word_at-again Put numbers = refl
 word_at-again Stored numbers = refl
@@ -84,13 +84,13 @@ numbers_same [] (n ∷ other) small too e = absurd (omega (arith, ap length e))
 numbers_same (m ∷ one) [] small too e = absurd (omega (arith, ap length e))
 numbers_same (m ∷ one) (n ∷ other) small too e =
     let same : (m, numbers_text one) ≡ (n, numbers_text other) = same_Some (m, numbers_text one) (n, numbers_text other)
-    (sym (number_at-again m one (All-head (λ k. k < 2 ^ 64) m one small)) ∙ ap number_at e ∙ number_at-again n other (All-head (λ k. k < 2 ^ 64) n other too)) in
+    (sym (number_at-again m one (All-head (λ k. k < 2 ^ 64) m one small)) ∙ ap spaced_number e ∙ number_at-again n other (All-head (λ k. k < 2 ^ 64) n other too)) in
     ap₂ (λ (k : ℕ) (t : List ℕ). k ∷ t) (ap (λ (y : ℕ × List ℕ). y.0) same)
     (numbers_same one other (All-tail (λ k. k < 2 ^ 64) m one small) (All-tail (λ k. k < 2 ^ 64) n other too) (ap (λ (y : ℕ × List ℕ). y.1) same))
 
 -- ---- the line
 
-pub line_is : (bytes rest : List ℕ) (w : Word) (numbers : List ℕ) → Some (w, rest) ≡ word_at bytes → (rest ≡ numbers_text numbers) × AreSmall numbers → Allows w numbers → IsLine bytes w numbers
+pub line_is : (bytes rest : List ℕ) (w : Word) (numbers : List ℕ) → Some (w, rest) ≡ line_word_at bytes → (rest ≡ numbers_text numbers) × AreSmall numbers → Allows w numbers → IsLine bytes w numbers
 line_is bytes rest w numbers read are allowed = record {
   text = word_at-text bytes (w, rest) (sym read) ∙ ap (λ (t : List ℕ). word_text w ++ t) are.0;
   allowed = allowed;
@@ -98,21 +98,21 @@ line_is bytes rest w numbers read are allowed = record {
 }
 
 -- what is read of a line
-read_of_line : (bytes : List ℕ) (w : Word) (numbers : List ℕ) → IsLine bytes w numbers → word_at bytes ≡ Some (w, numbers_text numbers)
-read_of_line bytes w numbers is = ap word_at is.text ∙ word_at-again w numbers
+read_of_line : (bytes : List ℕ) (w : Word) (numbers : List ℕ) → IsLine bytes w numbers → line_word_at bytes ≡ Some (w, numbers_text numbers)
+read_of_line bytes w numbers is = ap line_word_at is.text ∙ word_at-again w numbers
 
-pub no_line_word : (bytes : List ℕ) → None ≡ word_at bytes → (w : Word) (told : List ℕ) → ¬ (IsLine bytes w told)
+pub no_line_word : (bytes : List ℕ) → None ≡ line_word_at bytes → (w : Word) (told : List ℕ) → ¬ (IsLine bytes w told)
 no_line_word bytes read w told is = none-some (w, numbers_text told) (read ∙ read_of_line bytes w told is)
 
 -- what is behind its word
-behind : (bytes rest : List ℕ) (w : Word) → Some (w, rest) ≡ word_at bytes → (other : Word) (told : List ℕ) → IsLine bytes other told → ◌≡◌ {A = Word × List ℕ} (w, rest) (other, numbers_text told)
+behind : (bytes rest : List ℕ) (w : Word) → Some (w, rest) ≡ line_word_at bytes → (other : Word) (told : List ℕ) → IsLine bytes other told → ◌≡◌ {A = Word × List ℕ} (w, rest) (other, numbers_text told)
 behind bytes rest w read other told is = same_Some (w, rest) (other, numbers_text told) (read ∙ read_of_line bytes other told is)
 
-pub no_line_numbers : (bytes rest : List ℕ) (w : Word) → Some (w, rest) ≡ word_at bytes → ((told : List ℕ) → AreSmall told → ¬ (rest ≡ numbers_text told))
+pub no_line_numbers : (bytes rest : List ℕ) (w : Word) → Some (w, rest) ≡ line_word_at bytes → ((told : List ℕ) → AreSmall told → ¬ (rest ≡ numbers_text told))
     → (other : Word) (told : List ℕ) → ¬ (IsLine bytes other told)
 no_line_numbers bytes rest w read none other told is = none told is.small (ap (λ (y : Word × List ℕ). y.1) (behind bytes rest w read other told is))
 
-pub no_line_allowed : (bytes rest : List ℕ) (w : Word) (numbers : List ℕ) → Some (w, rest) ≡ word_at bytes → (rest ≡ numbers_text numbers) × AreSmall numbers → ¬ (Allows w numbers)
+pub no_line_allowed : (bytes rest : List ℕ) (w : Word) (numbers : List ℕ) → Some (w, rest) ≡ line_word_at bytes → (rest ≡ numbers_text numbers) × AreSmall numbers → ¬ (Allows w numbers)
     → (other : Word) (told : List ℕ) → ¬ (IsLine bytes other told)
 no_line_allowed bytes rest w numbers read are none other told is =
     let same = behind bytes rest w read other told is in

@@ -8,39 +8,39 @@ use Rattle.std.proofs.lemmas.Bool.{eq-eqb, eqb-true, false≢true}
 use Rattle.std.proofs.lemmas.Bool.Decides.{nat_tests}
 use Rattle.std.proofs.lemmas.Fmt.{decimal_by_steps, decimal_digit, decimal_step}
 use Rattle.std.proofs.lemmas.Option.{none-some, same_Some}
-use Rattle.queue_calls.specs.LineReading.{number_after, digits_at}
+use Rattle.queue_calls.specs.LineReading.{digits_behind, digits_at}
 
 -- a digit more, where the number fits; and where it does not, where a byte is no digit, and at the end
-digit_more : (n b : ℕ) (rest : List ℕ) → is_ascii_digit b ≡ true → 10 * n + (b - 48) < 2 ^ 64 → number_after n (b ∷ rest) ≡ number_after (10 * n + (b - 48)) rest
-unfolding number_after
+digit_more : (n b : ℕ) (rest : List ℕ) → is_ascii_digit b ≡ true → 10 * n + (b - 48) < 2 ^ 64 → digits_behind n (b ∷ rest) ≡ digits_behind (10 * n + (b - 48)) rest
+unfolding digits_behind
 digit_more n b rest digit small =
     let fits : nat_lt (10 * n + (b - 48)) (2 ^ 64) ≡ true = grind (arith, nat_tests) in
     rw (digit, fits) refl
 
 pub number_more : (text : List ℕ) (k n : ℕ) → k < length text → is_ascii_digit (get_or text k 0) ≡ true → 10 * n + (get_or text k 0 - 48) < 2 ^ 64
-    → number_after n (drop k text) ≡ number_after (10 * n + (get_or text k 0 - 48)) (drop (k + 1) text)
-number_more text k n inside digit small = at_drop_more (number_after n) text k 0 inside ∙ digit_more n (get_or text k 0) (drop (k + 1) text) digit small
+    → digits_behind n (drop k text) ≡ digits_behind (10 * n + (get_or text k 0 - 48)) (drop (k + 1) text)
+number_more text k n inside digit small = at_drop_more (digits_behind n) text k 0 inside ∙ digit_more n (get_or text k 0) (drop (k + 1) text) digit small
 
 pub number_large : (text : List ℕ) (k n : ℕ) → k < length text → is_ascii_digit (get_or text k 0) ≡ true → 2 ^ 64 ≤ 10 * n + (get_or text k 0 - 48)
-    → number_after n (drop k text) ≡ None
-unfolding number_after
+    → digits_behind n (drop k text) ≡ None
+unfolding digits_behind
 number_large text k n inside digit large =
     let over : nat_lt (10 * n + (get_or text k 0 - 48)) (2 ^ 64) ≡ false = grind (arith, nat_tests) in
-    at_drop_more (number_after n) text k 0 inside ∙ rw (digit, over) refl
+    at_drop_more (digits_behind n) text k 0 inside ∙ rw (digit, over) refl
 
-pub number_other : (text : List ℕ) (k n : ℕ) → k < length text → is_ascii_digit (get_or text k 0) ≡ false → number_after n (drop k text) ≡ Some (n, drop k text)
-unfolding number_after
+pub number_other : (text : List ℕ) (k n : ℕ) → k < length text → is_ascii_digit (get_or text k 0) ≡ false → digits_behind n (drop k text) ≡ Some (n, drop k text)
+unfolding digits_behind
 number_other text k n inside other =
     let here : drop k text ≡ get_or text k 0 ∷ drop (k + 1) text = at_drop_more (λ t. t) text k 0 inside in
-    at_drop_more (number_after n) text k 0 inside ∙ rw other (ap (λ (t : List ℕ). Some (n, t)) (sym here))
+    at_drop_more (digits_behind n) text k 0 inside ∙ rw other (ap (λ (t : List ℕ). Some (n, t)) (sym here))
 
 -- the rest of a slice
 pub rest_from : (text : List ℕ) (k : ℕ) → take (length text - k) (drop k text) ≡ drop k text
 rest_from text k = ap (λ (n : ℕ). take n (drop k text)) (sym (length-drop k text)) ∙ take-length (drop k text)
 
-pub number_end : (text : List ℕ) (k n : ℕ) → length text ≤ k → number_after n (drop k text) ≡ Some (n, [])
-unfolding number_after
-number_end text k n end = at_drop_all (number_after n) text k end
+pub number_end : (text : List ℕ) (k n : ℕ) → length text ≤ k → digits_behind n (drop k text) ≡ Some (n, [])
+unfolding digits_behind
+number_end text k n end = at_drop_all (digits_behind n) text k end
 
 -- the byte of a digit
 pub digit_range : (b : ℕ) → is_ascii_digit b ≡ true → (48 ≤ b) × (b ≤ 57)
@@ -58,15 +58,15 @@ abbrev pub Begins : List ℕ → ℕ × List ℕ → Type 0
 Begins bytes x = (bytes ≡ decimal x.0 ++ x.1) × (x.0 < 2 ^ 64)
 
 -- the digits that are read are those of the number
-number_after-text : (n : ℕ) (bytes : List ℕ) (x : ℕ × List ℕ) → 0 < n → n < 2 ^ 64 → number_after n bytes ≡ Some x → Begins (decimal n ++ bytes) x
-unfolding number_after
+number_after-text : (n : ℕ) (bytes : List ℕ) (x : ℕ × List ℕ) → 0 < n → n < 2 ^ 64 → digits_behind n bytes ≡ Some x → Begins (decimal n ++ bytes) x
+unfolding digits_behind
 number_after-text n [] x some small e = subst (λ (y : ℕ × List ℕ). Begins (decimal n ++ []) y) (same_Some (n, []) x e) (refl, small)
 number_after-text n (b ∷ rest) x some small e =
     let goal : Type 0 = Begins (decimal n ++ b ∷ rest) x in
-    elim (is_ascii_digit b) as (λ t. is_ascii_digit b ≡ t → cond t (cond (nat_lt (10 * n + (b - 48)) (2 ^ 64)) (number_after (10 * n + (b - 48)) rest) None) (Some (n, b ∷ rest)) ≡ Some x → goal) [
+    elim (is_ascii_digit b) as (λ t. is_ascii_digit b ≡ t → cond t (cond (nat_lt (10 * n + (b - 48)) (2 ^ 64)) (digits_behind (10 * n + (b - 48)) rest) None) (Some (n, b ∷ rest)) ≡ Some x → goal) [
       | false ↦ λ digit k. subst (λ (y : ℕ × List ℕ). Begins (decimal n ++ b ∷ rest) y) (same_Some (n, b ∷ rest) x k) (refl, small)
       | true ↦ λ digit k.
-          elim (nat_lt (10 * n + (b - 48)) (2 ^ 64)) as (λ t. nat_lt (10 * n + (b - 48)) (2 ^ 64) ≡ t → cond t (number_after (10 * n + (b - 48)) rest) None ≡ Some x → goal) [
+          elim (nat_lt (10 * n + (b - 48)) (2 ^ 64)) as (λ t. nat_lt (10 * n + (b - 48)) (2 ^ 64) ≡ t → cond t (digits_behind (10 * n + (b - 48)) rest) None ≡ Some x → goal) [
             | false ↦ λ fits j. absurd (none-some x j)
             | true ↦ λ fits j.
                 let range : (48 ≤ b) × (b ≤ 57) = digit_range b digit in
@@ -84,11 +84,11 @@ pub digits_at-text : (bytes : List ℕ) (x : ℕ × List ℕ) → digits_at byte
 unfolding digits_at
 digits_at-text [] x e = absurd (none-some x e)
 digits_at-text (b ∷ rest) x e =
-    elim (is_ascii_digit b) as (λ t. is_ascii_digit b ≡ t → cond t (cond (b == 48) (Some (0, rest)) (number_after (b - 48) rest)) None ≡ Some x → Begins (b ∷ rest) x) [
+    elim (is_ascii_digit b) as (λ t. is_ascii_digit b ≡ t → cond t (cond (b == 48) (Some (0, rest)) (digits_behind (b - 48) rest)) None ≡ Some x → Begins (b ∷ rest) x) [
       | false ↦ λ digit k. absurd (none-some x k)
       | true ↦ λ digit k.
           let range : (48 ≤ b) × (b ≤ 57) = digit_range b digit in
-          elim (b == 48) as (λ t. (b == 48) ≡ t → cond t (Some (0, rest)) (number_after (b - 48) rest) ≡ Some x → Begins (b ∷ rest) x) [
+          elim (b == 48) as (λ t. (b == 48) ≡ t → cond t (Some (0, rest)) (digits_behind (b - 48) rest) ≡ Some x → Begins (b ∷ rest) x) [
             | true ↦ λ zero_is j.
                 let byte : b ≡ 48 = eqb-true b 48 zero_is in
                 subst (λ (y : ℕ × List ℕ). Begins (b ∷ rest) y) (same_Some (0, rest) x j) (ap (λ (c : ℕ). c ∷ rest) byte ∙ ap (λ (t : List ℕ). t ++ rest) (sym (decimal_digit 0 (omega arith))), omega arith)
@@ -105,14 +105,14 @@ abbrev pub EndsDigits : List ℕ → Type 0
 EndsDigits [] = Unit {0}
 EndsDigits (b ∷ rest) = is_ascii_digit b ≡ false
 
-number_after-ended : (n : ℕ) (rest : List ℕ) → EndsDigits rest → number_after n rest ≡ Some (n, rest)
-unfolding number_after
+number_after-ended : (n : ℕ) (rest : List ℕ) → EndsDigits rest → digits_behind n rest ≡ Some (n, rest)
+unfolding digits_behind
 number_after-ended n [] ends = refl
 number_after-ended n (b ∷ rest) ends = rw ends refl
 
 -- the digits of a number from 1 are read as this number
 abbrev ReadsDigits : ℕ → List ℕ → Type 0
-ReadsDigits n ds = (rest : List ℕ) → 0 < n → n < 2 ^ 64 → digits_at (ds ++ rest) ≡ number_after n rest
+ReadsDigits n ds = (rest : List ℕ) → 0 < n → n < 2 ^ 64 → digits_at (ds ++ rest) ≡ digits_behind n rest
 
 reads_one : (n : ℕ) → n < 10 → ReadsDigits n ((48 + n) ∷ [])
 unfolding digits_at
@@ -128,7 +128,7 @@ reads_more n ds two before rest some small =
     let digit : is_ascii_digit (48 + d) ≡ true = grind (arith, nat_tests) in
     let value : 10 * (n / 10) + (48 + d - 48) ≡ n = omega arith in
     ap digits_at (append_assoc ds ((48 + d) ∷ []) rest) ∙ before ((48 + d) ∷ rest) (omega arith) (omega arith)
-    ∙ digit_more (n / 10) (48 + d) rest digit (omega (arith, value)) ∙ ap (λ (m : ℕ). number_after m rest) value
+    ∙ digit_more (n / 10) (48 + d) rest digit (omega (arith, value)) ∙ ap (λ (m : ℕ). digits_behind m rest) value
 
 reads_digits : (n : ℕ) → n < 2 ^ 64 → ReadsDigits n (decimal n)
 reads_digits n small = decimal_by_steps ReadsDigits reads_one reads_more n small

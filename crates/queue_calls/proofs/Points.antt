@@ -2,7 +2,7 @@
 use Rattle.std.proofs.Common.{◌≡◌, false, List, [], ◌∷◌, ◌++◌, length, refl, sym, ap, subst, arith, length-append, append_assoc}
 use Rattle.std.proofs.lemmas.List.{append-nil}
 use Rattle.queue_calls.specs.Queue.{Capacity, Does, queue}
-use Rattle.queue_calls.specs.Calls.{Event, Mark, Happens, Effect, Idle, Resting, Point, point, Leads, LeadTo, events_of, CanLeadTo, IsLinearizable}
+use Rattle.queue_calls.specs.Calls.{Event, Mark, Happens, Effect, Idle, Resting, Point, point, Leads, LeadTo, events_among, CanLeadTo, IsLinearizable}
 
 -- where there is no event yet
 pub start : (capacity : Capacity) → CanLeadTo capacity [] (point (queue [] false) Idle Resting)
@@ -24,10 +24,10 @@ Stays capacity P = (s t : Point) (d : Does) → P s → Leads capacity s (Effect
 
 only_start_marks :
     (capacity : Capacity) (P : Point → Type 0) → Stays capacity P → P (point (queue [] false) Idle Resting) →
-    (marks : List Mark) (t : Point) → events_of marks ≡ [] → LeadTo capacity marks t → P t
+    (marks : List Mark) (t : Point) → events_among marks ≡ [] → LeadTo capacity marks t → P t
 only_start_marks capacity P stays p [] t e l = subst P (sym l) p
 only_start_marks capacity P stays p (Happens x ∷ marks) t e l =
-    absurd (omega (arith, ap length e, length-append (events_of marks) (x ∷ [])))
+    absurd (omega (arith, ap length e, length-append (events_among marks) (x ∷ [])))
 only_start_marks capacity P stays p (Effect d ∷ marks) t e (s, l, m) = stays s t d (only_start_marks capacity P stays p marks s e l) m
 
 pub only_start :
@@ -47,10 +47,10 @@ same_last (a ∷ xs) (b ∷ ys) x y e =
 last_event_marks :
     (capacity : Capacity) (h : List Event) (e : Event) (P : Point → Type 0) → Stays capacity P →
     ((s t : Point) → CanLeadTo capacity h s → Leads capacity s (Happens e) t → P t) →
-    (marks : List Mark) (t : Point) → events_of marks ≡ h ++ e ∷ [] → LeadTo capacity marks t → P t
+    (marks : List Mark) (t : Point) → events_among marks ≡ h ++ e ∷ [] → LeadTo capacity marks t → P t
 last_event_marks capacity h e P stays step [] t f l = absurd (omega (arith, ap length f, length-append h (e ∷ [])))
 last_event_marks capacity h e P stays step (Happens x ∷ marks) t f (s, l, m) =
-    let (before, last) = same_last (events_of marks) h x e f in
+    let (before, last) = same_last (events_among marks) h x e f in
     step s t (record { marks = marks; events = before; lead = l }) (subst (λ z. Leads capacity s (Happens z) t) last m)
 last_event_marks capacity h e P stays step (Effect d ∷ marks) t f (s, l, m) = stays s t d (last_event_marks capacity h e P stays step marks s f l) m
 

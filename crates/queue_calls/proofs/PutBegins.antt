@@ -6,7 +6,7 @@ use Rattle.queue_calls.specs.Calls.{Event, PutBegin, Producer, Idle, Putting, Fo
 use Rattle.queue_calls.specs.declared.turns.PutTurn.TheVariants.{Free, Offers, Late}
 use Rattle.queue_calls.specs.declared.turns.TakeTurn.{TakeTurn}
 use Rattle.queue_calls.specs.declared.turns.TakeTurn.TheVariants.{Rests, Waits}
-use Rattle.queue_calls.specs.State.{Holds, taken_by, MayLack, FitsTake, Describes, asked_by, IsSoundTake, IsTold, Keeps}
+use Rattle.queue_calls.specs.State.{MayHold, taken_by, MayLack, FitsTake, Describes, asked_by, IsSoundTake, TellsPoint, Keeps}
 use Rattle.queue_calls.proofs.Rooms.{holds_fewer, over, over_holds, over_least, over_few, over_lacks}
 use Rattle.queue_calls.proofs.Points.{goes, happens}
 use Rattle.queue_calls.proofs.Effects.{described_at, fits_while_open, fits_alike}
@@ -52,7 +52,7 @@ module _ (capacity : Capacity) (h : List Event) (inside items : List ℕ) (take'
   After t = CanLeadTo capacity (h ++ PutBegin items ∷ []) t
 
   -- a point before the put, and that behind its begin
-  begun : (xs : List ℕ) (c : Consumer) → inside ≡ taken_by c ++ xs → Holds capacity (length xs) → FitsTake take' c (queue xs false) → After (point (queue xs false) (Putting 0 0 items) c)
+  begun : (xs : List ℕ) (c : Consumer) → inside ≡ taken_by c ++ xs → MayHold capacity (length xs) → FitsTake take' c (queue xs false) → After (point (queue xs false) (Putting 0 0 items) c)
   begun xs c e l f =
       happens capacity h (point (queue xs false) Idle c) (point (queue xs false) (Putting 0 0 items) c) (PutBegin items)
       (k.sound (point (queue xs false) Idle c) (record { items = e ∙ ap (λ z. taken_by c ++ z) (sym (append-nil xs)); room = l; producer = refl; consumer = f }) tt)
@@ -69,7 +69,7 @@ module _ (capacity : Capacity) (h : List Event) (inside items : List ℕ) (take'
 
   -- with no take under way
   rested :
-      (xs left : List ℕ) (lacked m : ℕ) → inside ++ items ≡ xs ++ left → m + length left ≡ length items → MayLack capacity (length inside) lacked → Holds capacity (length xs) →
+      (xs left : List ℕ) (lacked m : ℕ) → inside ++ items ≡ xs ++ left → m + length left ≡ length items → MayLack capacity (length inside) lacked → MayHold capacity (length xs) →
       FitsTake take' Resting (queue xs false) → After (point (queue xs false) (Putting lacked m left) Resting)
   rested xs left lacked m e sum lacks room fits =
       let s : Stored inside items xs left = stored inside items xs left e (omega (arith, sum)) in
@@ -93,7 +93,7 @@ module _ (capacity : Capacity) (h : List Event) (inside items : List ℕ) (take'
   -- with a take under way: it took what the queue cannot have, the put found no room, and then both went on
   took :
       (xs left : List ℕ) (lacked m found : ℕ) (taken : List ℕ) (wanted : ℕ) → inside ++ items ≡ taken ++ (xs ++ left) → m + length left ≡ length items →
-      MayLack capacity (length inside) lacked → Holds capacity (length xs) → FitsTake take' (Taking found taken wanted) (queue xs false) →
+      MayLack capacity (length inside) lacked → MayHold capacity (length xs) → FitsTake take' (Taking found taken wanted) (queue xs false) →
       After (point (queue xs false) (Putting lacked m left) (Taking found taken wanted))
   took xs left lacked m found taken wanted e sum lacks room fits =
       let n : ℕ = over capacity (length inside) in
@@ -161,14 +161,14 @@ module _ (capacity : Capacity) (h : List Event) (inside items : List ℕ) (take'
   abbrev Leading : Point → Type 0
   Leading t = CanLeadTo capacity (h ++ PutBegin items ∷ []) t
 
-  late_begun : (q : Queue) (c : Consumer) → inside ≡ taken_by c ++ (q.items ++ []) → Holds capacity (length q.items) → q.closed ≡ true → FitsTake take' c q → Leading (point q (Putting 0 0 items) c)
+  late_begun : (q : Queue) (c : Consumer) → inside ≡ taken_by c ++ (q.items ++ []) → MayHold capacity (length q.items) → q.closed ≡ true → FitsTake take' c q → Leading (point q (Putting 0 0 items) c)
   late_begun q c e l closed f =
       happens capacity h (point q Idle c) (point q (Putting 0 0 items) c) (PutBegin items)
       (k.sound (point q Idle c) (record { items = e; room = l; producer = closed; consumer = f }) tt)
       (record { queue = refl; producer = (refl, some, refl); consumer = refl })
 
   late_points :
-      (q : Queue) (p : Producer) (c : Consumer) → Describes capacity inside (Late (length items)) take' true (point q p c) → IsTold items (Late (length items)) p → Leading (point q p c)
+      (q : Queue) (p : Producer) (c : Consumer) → Describes capacity inside (Late (length items)) take' true (point q p c) → TellsPoint items (Late (length items)) p → Leading (point q p c)
   late_points q Idle c d told = absurd d.producer
   late_points q (Putting lacked m left) c d told =
       let (none, nothing, closed) = d.producer in

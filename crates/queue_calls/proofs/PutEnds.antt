@@ -8,7 +8,7 @@ use Rattle.queue_calls.specs.declared.turns.PutTurn.TheVariants.{Free, Offers, L
 use Rattle.queue_calls.specs.declared.turns.TakeTurn.{TakeTurn}
 use Rattle.queue_calls.specs.declared.turns.TakeTurn.TheVariants.{Rests, Waits}
 use Rattle.queue_calls.specs.State.{taken_by, FitsTake, asked_by, IsSoundTake, MayLack, CanEndPut, Keeps, call_of_take}
-use Rattle.queue_calls.specs.InTurn.{NoCall, APut, sides, Turn}
+use Rattle.queue_calls.specs.InTurn.{NoCall, APut, sides, MovesSides}
 use Rattle.queue_calls.proofs.Rooms.{holds_fewer}
 use Rattle.queue_calls.proofs.Points.{happens}
 use Rattle.queue_calls.proofs.Effects.{described_at}
@@ -61,7 +61,7 @@ module _ (capacity : Capacity) (h : List Event) (inside : List ℕ) (take' : Tak
 
   module _ (e : Event) (offered before done rest : ℕ) (lack : ℕ → ℕ) (ends : Ends e done lack) (k : Keeps capacity h inside (Offers offered before) take' shut) (sum : done + rest ≡ offered) where
     accepts :
-        Turn (sides (APut offered) (call_of_take take')) e (sides NoCall (call_of_take take')) → ((left : List ℕ) → length left ≡ rest → ProducerStep (Putting (lack (length left)) done left) (Happens e) Idle) →
+        MovesSides (sides (APut offered) (call_of_take take')) e (sides NoCall (call_of_take take')) → ((left : List ℕ) → length left ≡ rest → ProducerStep (Putting (lack (length left)) done left) (Happens e) Idle) →
         MayLack capacity before (lack rest) → CanEndPut capacity (length inside) (asked_by take') rest → Accepts capacity h e (take (length inside - rest) inside) Free take' shut
     accepts turn back lacks fits =
         let kept : ℕ = length inside - rest in
@@ -96,7 +96,7 @@ module _ (capacity : Capacity) (h : List Event) (inside : List ℕ) (take' : Tak
         (record { queue = refl; producer = step; consumer = ends.rests t.consumer }))
 
     refuses :
-        Turn (sides (APut offered) (call_of_take take')) e (sides NoCall (call_of_take take')) →
+        MovesSides (sides (APut offered) (call_of_take take')) e (sides NoCall (call_of_take take')) →
         (MayLack capacity before (lack rest) → ⊥) ⊎ (CanEndPut capacity (length inside) (asked_by take') rest → ⊥) → Refused capacity h e inside (Offers offered before) take' shut
     refuses turn bad =
         refuse capacity h e inside (Offers offered before) take' shut (sides NoCall (call_of_take take')) k turn

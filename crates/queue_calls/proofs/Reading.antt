@@ -1,7 +1,7 @@
 -- What an auditor answers, from what it keeps.
 use Rattle.std.proofs.Common.{◌≡◌, ℕ, Bool, List, [], ◌∷◌, ◌++◌, sym, subst, ◌∙◌}
 use Rattle.queue_calls.specs.Calls.{Event, IsLinearizable}
-use Rattle.queue_calls.specs.InTurn.{IsInTurn}
+use Rattle.queue_calls.specs.InTurn.{CallsAreInTurn}
 use Rattle.queue_calls.specs.Audits.{Audits}
 use Rattle.queue_calls.specs.State.{Keeps}
 use Rattle.queue_calls.specs.Told.{meant}
@@ -54,7 +54,7 @@ module _ {A : Type 0} (old new : CallAuditor A) (e : Event) (capacity : Capacity
 
   pub refuses :
       HasParts new capacity inside put take shut → ((h : List Event) → Keeps (meant capacity) h inside put take shut → Refused (meant capacity) h e inside put take shut) →
-      (new.capacity ≡ old.capacity) × ((h : List Event) → Audits old h → Audits new h × (IsInTurn (h ++ e ∷ []) × ¬ IsLinearizable (meant old.capacity) (h ++ e ∷ [])))
+      (new.capacity ≡ old.capacity) × ((h : List Event) → Audits old h → Audits new h × (CallsAreInTurn (h ++ e ∷ []) × ¬ IsLinearizable (meant old.capacity) (h ++ e ∷ [])))
   refuses has refused = (
     has.0 ∙ sym had.0,
     λ h k.
@@ -64,7 +64,7 @@ module _ {A : Type 0} (old new : CallAuditor A) (e : Event) (capacity : Capacity
 
   pub turns_away :
       HasParts new capacity inside put take shut → ((h : List Event) → Keeps (meant capacity) h inside put take shut → TurnedAway (meant capacity) h e inside put take shut) →
-      (new.capacity ≡ old.capacity) × ((h : List Event) → Audits old h → Audits new h × (¬ IsInTurn (h ++ e ∷ []) × ¬ IsLinearizable (meant old.capacity) (h ++ e ∷ [])))
+      (new.capacity ≡ old.capacity) × ((h : List Event) → Audits old h → Audits new h × (¬ CallsAreInTurn (h ++ e ∷ []) × ¬ IsLinearizable (meant old.capacity) (h ++ e ∷ [])))
   turns_away has away = (
     has.0 ∙ sym had.0,
     λ h k.

@@ -6,7 +6,7 @@ use Rattle.queue_calls.specs.Calls.{Event, TakeBegin, Producer, Idle, Putting, F
 use Rattle.queue_calls.specs.declared.turns.PutTurn.{PutTurn}
 use Rattle.queue_calls.specs.declared.turns.PutTurn.TheVariants.{Free, Offers, Late, Closes}
 use Rattle.queue_calls.specs.declared.turns.TakeTurn.TheVariants.{Rests, Waits}
-use Rattle.queue_calls.specs.State.{IsProper, Holds, taken_by, left_by, MayLack, MayFindFewer, FitsPut, Describes, offered_by, IsSoundPut, IsTold, Keeps}
+use Rattle.queue_calls.specs.State.{IsProper, MayHold, taken_by, left_by, MayLack, MayFindFewer, FitsPut, Describes, offered_by, IsSoundPut, TellsPoint, Keeps}
 use Rattle.queue_calls.proofs.Rooms.{holds_fewer, holds_none}
 use Rattle.queue_calls.proofs.Points.{start, goes, happens, only_start}
 use Rattle.queue_calls.proofs.Effects.{described_at, stays}
@@ -24,7 +24,7 @@ module _ (capacity : Capacity) (h : List Event) (inside : List ℕ) (shut : Bool
 
   module _ (put : PutTurn) (k : Keeps capacity h inside put Rests shut) where
     -- a point before the take, and that behind its begin
-    begun : (q : Queue) (p : Producer) → inside ≡ q.items ++ left_by put p → Holds capacity (length q.items) → FitsPut capacity put shut p q.closed → IsTold k.late put p → After (point q p (Taking 0 [] wanted))
+    begun : (q : Queue) (p : Producer) → inside ≡ q.items ++ left_by put p → MayHold capacity (length q.items) → FitsPut capacity put shut p q.closed → TellsPoint k.late put p → After (point q p (Taking 0 [] wanted))
     begun q p e l f told =
         happens capacity h (point q p Resting) (point q p (Taking 0 [] wanted)) (TakeBegin wanted)
         (k.sound (point q p Resting) (record { items = e; room = l; producer = f; consumer = tt }) told)
@@ -42,7 +42,7 @@ module _ (capacity : Capacity) (h : List Event) (inside : List ℕ) (shut : Bool
 
     -- it was told that the queue is closed
     told_closed :
-        (q : Queue) (p : Producer) → inside ≡ q.items ++ left_by put p → Holds capacity (length q.items) → FitsPut capacity put shut p q.closed → IsTold k.late put p → IsDrained q →
+        (q : Queue) (p : Producer) → inside ≡ q.items ++ left_by put p → MayHold capacity (length q.items) → FitsPut capacity put shut p q.closed → TellsPoint k.late put p → IsDrained q →
         After (point q p FoundClosed)
     told_closed q p e l f told none =
         goes capacity (h ++ TakeBegin wanted ∷ []) (point q p (Taking 0 [] wanted)) (point q p FoundClosed) FindClosed (begun q p e l f told)
@@ -51,12 +51,12 @@ module _ (capacity : Capacity) (h : List Event) (inside : List ℕ) (shut : Bool
     -- no item can come: all that is inside is in the queue
     took_inside :
         (xs : List ℕ) (closed : Bool) (p : Producer) (found : ℕ) (taken : List ℕ) (left : ℕ) → offered_by put ≡ 0 → left_by put p ≡ [] → inside ≡ taken ++ (xs ++ left_by put p) →
-        FitsPut capacity put shut p closed → IsTold k.late put p → length taken + left ≡ wanted → (found ≡ 0) ⊎ ((length inside < found) × (closed ≡ true → 0 < length inside)) →
+        FitsPut capacity put shut p closed → TellsPoint k.late put p → length taken + left ≡ wanted → (found ≡ 0) ⊎ ((length inside < found) × (closed ≡ true → 0 < length inside)) →
         After (point (queue xs closed) p (Taking found taken left))
     took_inside xs closed p found taken left none nothing e f told sum lacks =
         let short : inside ≡ taken ++ xs = e ∙ (ap (λ z. taken ++ (xs ++ z)) nothing ∙ ap (λ z. taken ++ z) (append-nil xs)) in
         let whole : inside ≡ inside ++ left_by put p = sym (append-nil inside) ∙ ap (λ z. inside ++ z) (sym nothing) in
-        let room : Holds capacity (length inside) = holds_fewer capacity (length inside) (length inside - (offered_by put + 0)) (omega (arith, none)) k.few in
+        let room : MayHold capacity (length inside) = holds_fewer capacity (length inside) (length inside - (offered_by put + 0)) (omega (arith, none)) k.few in
         let lacks' : (found ≡ 0) ⊎ ((length inside < found) × (¬ IsDrained (queue inside closed))) =
         elim lacks [ inl z ↦ inl z | inr l ↦ inr (l.0, not_drained inside closed l.1) ] in
         let r0 : After (point (queue inside closed) p (Taking found [] wanted)) =
@@ -70,7 +70,7 @@ module _ (capacity : Capacity) (h : List Event) (inside : List ℕ) (shut : Bool
   module _ (offered before : ℕ) (k : Keeps capacity h inside (Offers offered before) Rests shut) where
     took_from :
         (front back : List ℕ) (done : ℕ) → inside ≡ front ++ back → done + length back ≡ offered → length front ≡ length inside - offered →
-        (xs left : List ℕ) (lacked m found : ℕ) (taken : List ℕ) (rest : ℕ) → inside ≡ taken ++ (xs ++ left) → Holds capacity (length xs) → m + length left ≡ offered → length left ≤ length back →
+        (xs left : List ℕ) (lacked m found : ℕ) (taken : List ℕ) (rest : ℕ) → inside ≡ taken ++ (xs ++ left) → MayHold capacity (length xs) → m + length left ≡ offered → length left ≤ length back →
         MayLack capacity before lacked → length taken + rest ≡ wanted → (found ≡ 0) ⊎ (length inside - offered < found) →
         After (point (queue xs false) (Putting lacked m left) (Taking found taken rest))
     took_from front back done parts sum long xs left lacked m found taken rest e room sum' few lacks total finds =
@@ -85,7 +85,7 @@ module _ (capacity : Capacity) (h : List Event) (inside : List ℕ) (shut : Bool
         moves capacity (h ++ TakeBegin wanted ∷ []) k.proper lacked found front back [] taken xs left done m rest (sym parts ∙ e) few (omega (arith, sum, sum')) room r2
 
     took_of_put :
-        (xs left : List ℕ) (lacked m found : ℕ) (taken : List ℕ) (rest : ℕ) → inside ≡ taken ++ (xs ++ left) → Holds capacity (length xs) → m + length left ≡ offered →
+        (xs left : List ℕ) (lacked m found : ℕ) (taken : List ℕ) (rest : ℕ) → inside ≡ taken ++ (xs ++ left) → MayHold capacity (length xs) → m + length left ≡ offered →
         MayLack capacity before lacked → length taken + rest ≡ wanted → (found ≡ 0) ⊎ (length inside - offered < found) →
         After (point (queue xs false) (Putting lacked m left) (Taking found taken rest))
     took_of_put xs left lacked m found taken rest e room sum lacks total finds =
@@ -108,7 +108,7 @@ module _ (capacity : Capacity) (h : List Event) (inside : List ℕ) (shut : Bool
 
   took_at :
       (put : PutTurn) (k : Keeps capacity h inside put Rests shut) (xs : List ℕ) (closed : Bool) (p : Producer) (found : ℕ) (taken : List ℕ) (left : ℕ) → inside ≡ taken ++ (xs ++ left_by put p) →
-      Holds capacity (length xs) → FitsPut capacity put shut p closed → IsTold k.late put p → length taken + left ≡ wanted → MayFindFewer (Before put) shut found →
+      MayHold capacity (length xs) → FitsPut capacity put shut p closed → TellsPoint k.late put p → length taken + left ≡ wanted → MayFindFewer (Before put) shut found →
       After (point (queue xs closed) p (Taking found taken left))
   took_at Free k xs closed Idle found taken left e room f told sum lacks =
       took_inside Free k xs closed Idle found taken left refl refl e f told sum (finds_open Free found closed refl (λ c. sym f ∙ c) lacks)
@@ -146,7 +146,7 @@ module _ (capacity : Capacity) (h : List Event) (inside : List ℕ) (shut : Bool
 
   module _ (put : PutTurn) (k : Keeps capacity h inside put Rests shut) where
     points :
-        (xs : List ℕ) (closed : Bool) (p : Producer) (c : Consumer) → Describes capacity inside put (Waits wanted (Before put) shut) shut (point (queue xs closed) p c) → IsTold k.late put p →
+        (xs : List ℕ) (closed : Bool) (p : Producer) (c : Consumer) → Describes capacity inside put (Waits wanted (Before put) shut) shut (point (queue xs closed) p c) → TellsPoint k.late put p →
         After (point (queue xs closed) p c)
     points xs closed p Resting d told = absurd d.consumer
     points xs closed p (Taking found taken left) d told = took_at put k xs closed p found taken left d.items d.room d.producer told d.consumer.0 d.consumer.1

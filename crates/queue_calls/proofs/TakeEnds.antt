@@ -7,8 +7,8 @@ use Rattle.queue_calls.specs.Calls.{Event, TakeItems, TakeEmpty, TakeShort, Take
 use Rattle.queue_calls.specs.declared.turns.PutTurn.{PutTurn}
 use Rattle.queue_calls.specs.declared.turns.PutTurn.TheVariants.{Free, Offers, Late, Closes}
 use Rattle.queue_calls.specs.declared.turns.TakeTurn.TheVariants.{Rests, Waits}
-use Rattle.queue_calls.specs.State.{Holds, left_by, has_closed, FitsPut, offered_by, IsSoundPut, MayFindFewer, AreNext, CanEndTake, Keeps, call_of_put}
-use Rattle.queue_calls.specs.InTurn.{NoCall, ATake, sides, Turn}
+use Rattle.queue_calls.specs.State.{MayHold, left_by, has_closed, FitsPut, offered_by, IsSoundPut, MayFindFewer, AreNext, CanEndTake, Keeps, call_of_put}
+use Rattle.queue_calls.specs.InTurn.{NoCall, ATake, sides, MovesSides}
 use Rattle.queue_calls.proofs.Rooms.{holds_fewer, holds_none}
 use Rattle.queue_calls.proofs.Points.{happens}
 use Rattle.queue_calls.proofs.Effects.{described_at, few_left, shut_closed}
@@ -49,8 +49,8 @@ module _ (capacity : Capacity) (h : List Event) (put : PutTurn) (shut : Bool) wh
   module _ (e : Event) (wanted before : ℕ) (ended : Bool) (took inside : List ℕ) (rest : ℕ) (lack : ℕ → ℕ) (ends : Ends e took lack)
       (k : Keeps capacity h (took ++ inside) put (Waits wanted before ended) shut) (sum : length took + rest ≡ wanted) where
     accepts :
-        Turn (sides (call_of_put put) (ATake wanted)) e (sides (call_of_put put) NoCall) → ConsumerStep (Taking (lack rest) took rest) (Happens e) Resting →
-        MayFindFewer before ended (lack rest) → Holds capacity (length inside - offered_by put) → Accepts capacity h e inside put Rests shut
+        MovesSides (sides (call_of_put put) (ATake wanted)) e (sides (call_of_put put) NoCall) → ConsumerStep (Taking (lack rest) took rest) (Happens e) Resting →
+        MayFindFewer before ended (lack rest) → MayHold capacity (length inside - offered_by put) → Accepts capacity h e inside put Rests shut
     accepts turn back lacks fits =
         accept capacity h e (took ++ inside) inside put put (Waits wanted before ended) Rests shut shut k.late k turn
         (holds_fewer capacity (length inside - (offered_by put + 0)) (length inside - offered_by put) (omega arith) fits)
@@ -72,7 +72,7 @@ module _ (capacity : Capacity) (h : List Event) (put : PutTurn) (shut : Bool) wh
   module _ (e : Event) (wanted before : ℕ) (ended : Bool) (took inside : List ℕ) (rest : ℕ) (lack : ℕ → ℕ) (ends : Ends e took lack)
       (k : Keeps capacity h inside put (Waits wanted before ended) shut) (sum : length took + rest ≡ wanted) where
     refuses :
-        Turn (sides (call_of_put put) (ATake wanted)) e (sides (call_of_put put) NoCall) →
+        MovesSides (sides (call_of_put put) (ATake wanted)) e (sides (call_of_put put) NoCall) →
         (MayFindFewer before ended (lack rest) → AreNext took inside → CanEndTake capacity (length inside) (offered_by put) (length took) → ⊥) →
         Refused capacity h e inside put (Waits wanted before ended) shut
     refuses turn bad =
@@ -108,7 +108,7 @@ module _ (capacity : Capacity) (h : List Event) (put : PutTurn) (shut : Bool) wh
   fewer before count ended l f = elim f [ inl e ↦ absurd (omega (arith, e, l)) | inr g ↦ g ]
 
   module _ (inside : List ℕ) (wanted before : ℕ) (ended : Bool) (k : Keeps capacity h inside put (Waits wanted before ended) shut) where
-    all_fit : CanEndTake capacity (length inside) (offered_by put) 0 → Holds capacity (length inside - offered_by put)
+    all_fit : CanEndTake capacity (length inside) (offered_by put) 0 → MayHold capacity (length inside - offered_by put)
     all_fit fits = holds_fewer capacity (length inside - offered_by put) ((length inside - 0) - offered_by put) (omega arith) fits
 
     pub take_items :

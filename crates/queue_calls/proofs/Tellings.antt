@@ -4,7 +4,7 @@ use Rattle.std.specs.Prelude.{All}
 use Rattle.std.proofs.lemmas.Bool.{ltb-true, ltb-false}
 use Rattle.std.proofs.lemmas.List.Elements.{All-cons, All-nil}
 use Rattle.queue_calls.specs.Calls.{Event, PutBegin, PutStored, PutFull, PutShort, PutNothing, PutClosed, CloseBegin, CloseEnd, TakeBegin, TakeItems, TakeEmpty, TakeShort, TakeNothing, TakeClosed}
-use Rattle.queue_calls.specs.InTurn.{Call, NoCall, APut, AClose, ATake, Sides, sides, Turn, Turns}
+use Rattle.queue_calls.specs.InTurn.{UnderWay, NoCall, APut, AClose, ATake, Sides, sides, MovesSides, Turns}
 use Rattle.queue_calls.specs.Lines.{AreSmall}
 use Rattle.queue_calls.specs.Recordings.{Line, line, IsOfFormat, IsFurther, event_told, begun_after, and_then, events_told}
 use Rattle.queue_calls.specs.Tellings.{line_of, lines_of, numbers_in, TellsSmall, HistoryHasARecording}
@@ -14,7 +14,7 @@ use Rattle.queue_calls.specs.declared.recordings.Begun.TheVariants as begun
 use Rattle.queue_calls.proofs.HeardLines.{not_first}
 
 -- what the producer has under way it began last
-abbrev BeganLast : Begun → Call → Type 0
+abbrev BeganLast : Begun → UnderWay → Type 0
 BeganLast b NoCall = Unit {0}
 BeganLast b (APut offered) = b ≡ begun.Put offered
 BeganLast b AClose = b ≡ begun.Close
@@ -52,7 +52,7 @@ take_tells b wanted some small =
     ] refl
 
 -- the line of an event in its turn tells it
-line_tells : (b : Begun) (event : Event) (s t : Sides) → BeganLast b s.producer → Turn s event t → AreSmall (numbers_in event) → Tells b (line_of b event) event
+line_tells : (b : Begun) (event : Event) (s t : Sides) → BeganLast b s.producer → MovesSides s event t → AreSmall (numbers_in event) → Tells b (line_of b event) event
 line_tells b (PutBegin []) s t began turn small = absurd (omega (arith, turn.1))
 line_tells b (PutBegin (item ∷ items)) s t began turn small = (refl, (tt, small))
 line_tells b (PutStored count) s t began turn small =
@@ -77,7 +77,7 @@ line_tells b TakeNothing s t began turn small = (refl, (tt, none_small))
 line_tells b TakeClosed s t began turn small = (refl, (tt, none_small))
 
 -- behind it the producer again began last what it has under way
-began_behind : (b : Begun) (event : Event) (s t : Sides) → BeganLast b s.producer → Turn s event t → BeganLast (begun_after b (line_of b event).word (line_of b event).numbers) t.producer
+began_behind : (b : Begun) (event : Event) (s t : Sides) → BeganLast b s.producer → MovesSides s event t → BeganLast (begun_after b (line_of b event).word (line_of b event).numbers) t.producer
 began_behind b (PutBegin items) s t began turn = subst (λ (x : Sides). BeganLast (begun.Put (length items)) x.producer) (sym turn.2) refl
 began_behind b (PutStored count) s t began turn = subst (λ (x : Sides). BeganLast b x.producer) (sym turn.4) tt
 began_behind b PutFull s t began turn = subst (λ (x : Sides). BeganLast b x.producer) (sym turn.2) tt

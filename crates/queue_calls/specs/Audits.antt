@@ -2,7 +2,7 @@
 use Rattle.std.specs.Prelude.{ℕ, ◌≡◌, List, [], ◌∷◌, ◌++◌, Result, MatchResult}
 use Rattle.queue_calls.specs.Queue.{Capacity}
 use Rattle.queue_calls.specs.Calls.{Event, PutBegin, IsLinearizable}
-use Rattle.queue_calls.specs.InTurn.{IsInTurn}
+use Rattle.queue_calls.specs.InTurn.{CallsAreInTurn}
 use Rattle.queue_calls.specs.State.{Keeps}
 use Rattle.queue_calls.specs.Told.{meant}
 use Rattle.queue_calls.specs.declared.auditors.CallAuditor.{CallAuditor}
@@ -14,10 +14,10 @@ abbrev pub Audits : {A : Type 0} → CallAuditor A → List Event → Type 0
 Audits a h = Keeps (meant a.capacity) h a.inside.items a.put a.take a.shut
 
 -- what a refusal says of the history with the event
-abbrev pub Refuses : Fault → Capacity → List Event → Event → Type 0
-Refuses OutOfTurn capacity h event = ¬ IsInTurn (h ++ event ∷ []) × ¬ IsLinearizable capacity (h ++ event ∷ [])
-Refuses NotLinearizable capacity h event = IsInTurn (h ++ event ∷ []) × ¬ IsLinearizable capacity (h ++ event ∷ [])
-Refuses OutOfMemory capacity h event = (items : List ℕ) × (event ≡ PutBegin items)
+abbrev pub RefusesEvent : Fault → Capacity → List Event → Event → Type 0
+RefusesEvent OutOfTurn capacity h event = ¬ CallsAreInTurn (h ++ event ∷ []) × ¬ IsLinearizable capacity (h ++ event ∷ [])
+RefusesEvent NotLinearizable capacity h event = CallsAreInTurn (h ++ event ∷ []) × ¬ IsLinearizable capacity (h ++ event ∷ [])
+RefusesEvent OutOfMemory capacity h event = (items : List ℕ) × (event ≡ PutBegin items)
 
 -- Behind each history that it has read, an auditor reads an event: it accepts where the history with the event is linearizable, and
 -- has then read that; it refuses, but for want of memory at a put's begin, where it is not, and has then read what it had.
@@ -26,4 +26,4 @@ Reads old event result new =
     (new.capacity ≡ old.capacity) ×
     ((h : List Event) → Audits old h →
     MatchResult result (λ _. Audits new (h ++ event ∷ []) × IsLinearizable (meant old.capacity) (h ++ event ∷ []))
-    (λ fault. Audits new h × Refuses fault (meant old.capacity) h event))
+    (λ fault. Audits new h × RefusesEvent fault (meant old.capacity) h event))

@@ -124,15 +124,15 @@ LeadTo capacity [] t = t ≡ point (queue [] false) Idle Resting
 LeadTo capacity (mark ∷ before) t = (s : Point) × LeadTo capacity before s × Leads capacity s mark t
 
 -- the events among marks
-abbrev pub events_of : List Mark → List Event
-events_of [] = []
-events_of (Happens event ∷ before) = events_of before ++ event ∷ []
-events_of (Effect does ∷ before) = events_of before
+abbrev pub events_among : List Mark → List Event
+events_among [] = []
+events_among (Happens event ∷ before) = events_among before ++ event ∷ []
+events_among (Effect does ∷ before) = events_among before
 
 -- a history can lead to a point, where its operations take effect at some moments
 pub record CanLeadTo (capacity : Capacity) (h : List Event) (t : Point) : Type 0 where
   pub marks : List Mark
-  pub events : events_of marks ≡ h
+  pub events : events_among marks ≡ h
   pub lead : LeadTo capacity marks t
 
 -- A history is linearizable where there are moments at which its operations can take effect. A call under way at its end may have

@@ -4,43 +4,43 @@ use Rattle.std.specs.Prelude.{◌≡◌, ℕ, ◌<◌, ◌≤◌, List, [], ◌�
 use Rattle.queue_calls.specs.Calls.{Event, PutBegin, PutStored, PutFull, PutShort, PutNothing, PutClosed, CloseBegin, CloseEnd, TakeBegin, TakeItems, TakeEmpty, TakeShort, TakeNothing, TakeClosed}
 
 -- what a side has under way: a put that offered so many items, a take that wants so many
-pub data Call : Type 0 where
-  NoCall : Call
-  APut : (offered : ℕ) → Call
-  AClose : Call
-  ATake : (wanted : ℕ) → Call
+pub data UnderWay : Type 0 where
+  NoCall : UnderWay
+  APut : (offered : ℕ) → UnderWay
+  AClose : UnderWay
+  ATake : (wanted : ℕ) → UnderWay
 
 -- what both sides have
 pub record Sides : Type 0 where
-  pub producer : Call
-  pub consumer : Call
+  pub producer : UnderWay
+  pub consumer : UnderWay
 
-abbrev pub sides : Call → Call → Sides
+abbrev pub sides : UnderWay → UnderWay → Sides
 sides p c = record { producer = p; consumer = c }
 
 -- an event in its turn: it needs the one side to have this under way, and leaves it that; the other side stays as it is
-abbrev pub Turn : Sides → Event → Sides → Type 0
-Turn s (PutBegin items) t = (s.producer ≡ NoCall) × (0 < length items) × (t ≡ sides (APut (length items)) s.consumer)
-Turn s (PutStored count) t = (offered : ℕ) × (s.producer ≡ APut offered) × (0 < count) × (count ≤ offered) × (t ≡ sides NoCall s.consumer)
-Turn s PutFull t = (offered : ℕ) × (s.producer ≡ APut offered) × (t ≡ sides NoCall s.consumer)
-Turn s PutShort t = (offered : ℕ) × (s.producer ≡ APut offered) × (1 < offered) × (t ≡ sides NoCall s.consumer)
-Turn s PutNothing t = (offered : ℕ) × (s.producer ≡ APut offered) × (t ≡ sides NoCall s.consumer)
-Turn s PutClosed t = (offered : ℕ) × (s.producer ≡ APut offered) × (t ≡ sides NoCall s.consumer)
-Turn s CloseBegin t = (s.producer ≡ NoCall) × (t ≡ sides AClose s.consumer)
-Turn s CloseEnd t = (s.producer ≡ AClose) × (t ≡ sides NoCall s.consumer)
-Turn s (TakeBegin wanted) t = (s.consumer ≡ NoCall) × (0 < wanted) × (t ≡ sides s.producer (ATake wanted))
-Turn s (TakeItems items) t =
+abbrev pub MovesSides : Sides → Event → Sides → Type 0
+MovesSides s (PutBegin items) t = (s.producer ≡ NoCall) × (0 < length items) × (t ≡ sides (APut (length items)) s.consumer)
+MovesSides s (PutStored count) t = (offered : ℕ) × (s.producer ≡ APut offered) × (0 < count) × (count ≤ offered) × (t ≡ sides NoCall s.consumer)
+MovesSides s PutFull t = (offered : ℕ) × (s.producer ≡ APut offered) × (t ≡ sides NoCall s.consumer)
+MovesSides s PutShort t = (offered : ℕ) × (s.producer ≡ APut offered) × (1 < offered) × (t ≡ sides NoCall s.consumer)
+MovesSides s PutNothing t = (offered : ℕ) × (s.producer ≡ APut offered) × (t ≡ sides NoCall s.consumer)
+MovesSides s PutClosed t = (offered : ℕ) × (s.producer ≡ APut offered) × (t ≡ sides NoCall s.consumer)
+MovesSides s CloseBegin t = (s.producer ≡ NoCall) × (t ≡ sides AClose s.consumer)
+MovesSides s CloseEnd t = (s.producer ≡ AClose) × (t ≡ sides NoCall s.consumer)
+MovesSides s (TakeBegin wanted) t = (s.consumer ≡ NoCall) × (0 < wanted) × (t ≡ sides s.producer (ATake wanted))
+MovesSides s (TakeItems items) t =
     (wanted : ℕ) × (s.consumer ≡ ATake wanted) × (0 < length items) × (length items ≤ wanted) × (t ≡ sides s.producer NoCall)
-Turn s TakeEmpty t = (wanted : ℕ) × (s.consumer ≡ ATake wanted) × (t ≡ sides s.producer NoCall)
-Turn s TakeShort t = (wanted : ℕ) × (s.consumer ≡ ATake wanted) × (1 < wanted) × (t ≡ sides s.producer NoCall)
-Turn s TakeNothing t = (wanted : ℕ) × (s.consumer ≡ ATake wanted) × (t ≡ sides s.producer NoCall)
-Turn s TakeClosed t = (wanted : ℕ) × (s.consumer ≡ ATake wanted) × (t ≡ sides s.producer NoCall)
+MovesSides s TakeEmpty t = (wanted : ℕ) × (s.consumer ≡ ATake wanted) × (t ≡ sides s.producer NoCall)
+MovesSides s TakeShort t = (wanted : ℕ) × (s.consumer ≡ ATake wanted) × (1 < wanted) × (t ≡ sides s.producer NoCall)
+MovesSides s TakeNothing t = (wanted : ℕ) × (s.consumer ≡ ATake wanted) × (t ≡ sides s.producer NoCall)
+MovesSides s TakeClosed t = (wanted : ℕ) × (s.consumer ≡ ATake wanted) × (t ≡ sides s.producer NoCall)
 
 -- events one after the other
 abbrev pub Turns : Sides → List Event → Sides → Type 0
 Turns s [] t = t ≡ s
-Turns s (event ∷ h) t = (next : Sides) × Turn s event next × Turns next h t
+Turns s (event ∷ h) t = (next : Sides) × MovesSides s event next × Turns next h t
 
 -- a history is well formed
-abbrev pub IsInTurn : List Event → Type 0
-IsInTurn h = (t : Sides) × Turns (sides NoCall NoCall) h t
+abbrev pub CallsAreInTurn : List Event → Type 0
+CallsAreInTurn h = (t : Sides) × Turns (sides NoCall NoCall) h t

@@ -7,8 +7,8 @@ use Rattle.queue_calls.specs.declared.lines.Word.TheVariants.{Queue, Put, Stored
 use Rattle.queue_calls.specs.Lines.{numbers_text, AreSmall}
 
 -- the bytes behind a text
-abbrev pub after : List ℕ → List ℕ → Option (List ℕ)
-after text bytes = if bytes_eq (take (length text) bytes) text then Some (drop (length text) bytes) else None
+abbrev pub bytes_behind : List ℕ → List ℕ → Option (List ℕ)
+bytes_behind text bytes = if bytes_eq (take (length text) bytes) text then Some (drop (length text) bytes) else None
 
 -- what the bytes behind a text are read as, where there is the text, or else what is read without it
 abbrev pub then_or_else : {B : Type 0} → Option (List ℕ) → (List ℕ → Option B) → Option B → Option B
@@ -16,19 +16,19 @@ then_or_else (Some rest) f other = f rest
 then_or_else None f other = other
 
 -- this word, where its text stands, or else another
-abbrev pub named : Word → List ℕ → List ℕ → Option (Word × List ℕ) → Option (Word × List ℕ)
-named word text bytes other = then_or_else (after text bytes) (λ rest. Some (word, rest)) other
+abbrev pub word_or : Word → List ℕ → List ℕ → Option (Word × List ℕ) → Option (Word × List ℕ)
+word_or word text bytes other = then_or_else (bytes_behind text bytes) (λ rest. Some (word, rest)) other
 
 abbrev pub put_word_at : List ℕ → Option (Word × List ℕ)
-put_word_at bytes = named Put (codes "put") bytes (named Stored (codes "stored") bytes (named Full (codes "full") bytes (named Short (codes "short") bytes
-    (named PutNothing (codes "nothing") bytes (named PutClosed (codes "closed") bytes (named Close (codes "close") bytes None))))))
+put_word_at bytes = word_or Put (codes "put") bytes (word_or Stored (codes "stored") bytes (word_or Full (codes "full") bytes (word_or Short (codes "short") bytes
+    (word_or PutNothing (codes "nothing") bytes (word_or PutClosed (codes "closed") bytes (word_or Close (codes "close") bytes None))))))
 
 abbrev pub take_word_at : List ℕ → Option (Word × List ℕ)
-take_word_at bytes = named Take (codes "take") bytes (named Item (codes "item") bytes (named Empty (codes "empty") bytes
-    (named TakeShort (codes "short") bytes (named TakeNothing (codes "nothing") bytes (named TakeClosed (codes "closed") bytes None)))))
+take_word_at bytes = word_or Take (codes "take") bytes (word_or Item (codes "item") bytes (word_or Empty (codes "empty") bytes
+    (word_or TakeShort (codes "short") bytes (word_or TakeNothing (codes "nothing") bytes (word_or TakeClosed (codes "closed") bytes None)))))
 
-abbrev pub word_at : List ℕ → Option (Word × List ℕ)
-word_at bytes = named Queue (codes "queue") bytes (then_or_else (after (codes "P ") bytes) put_word_at (then_or_else (after (codes "C ") bytes) take_word_at None))
+abbrev pub line_word_at : List ℕ → Option (Word × List ℕ)
+line_word_at bytes = word_or Queue (codes "queue") bytes (then_or_else (bytes_behind (codes "P ") bytes) put_word_at (then_or_else (bytes_behind (codes "C ") bytes) take_word_at None))
 
 -- whether bytes were read as numbers, and which these are
 abbrev pub ReadsNumbers : List ℕ → Bool → List ℕ → Type 0
@@ -36,15 +36,15 @@ ReadsNumbers bytes true numbers = (bytes ≡ numbers_text numbers) × AreSmall n
 ReadsNumbers bytes false numbers = (told : List ℕ) → AreSmall told → ¬ (bytes ≡ numbers_text told)
 
 -- a number that goes on with the digits at the front, where it fits 64 bits, and the bytes behind them
-unfoldable pub number_after : ℕ → List ℕ → Option (ℕ × List ℕ)
-number_after n [] = Some (n, [])
-number_after n (b ∷ rest) = if is_ascii_digit b then (if nat_lt (10 * n + (b - 48)) (2 ^ 64) then number_after (10 * n + (b - 48)) rest else None) else Some (n, b ∷ rest)
+unfoldable pub digits_behind : ℕ → List ℕ → Option (ℕ × List ℕ)
+digits_behind n [] = Some (n, [])
+digits_behind n (b ∷ rest) = if is_ascii_digit b then (if nat_lt (10 * n + (b - 48)) (2 ^ 64) then digits_behind (10 * n + (b - 48)) rest else None) else Some (n, b ∷ rest)
 
 -- a number that does not begin with 0, or 0
 unfoldable pub digits_at : List ℕ → Option (ℕ × List ℕ)
 digits_at [] = None
-digits_at (b ∷ rest) = if is_ascii_digit b then (if b == 48 then Some (0, rest) else number_after (b - 48) rest) else None
+digits_at (b ∷ rest) = if is_ascii_digit b then (if b == 48 then Some (0, rest) else digits_behind (b - 48) rest) else None
 
 -- a number behind a space
-unfoldable pub number_at : List ℕ → Option (ℕ × List ℕ)
-number_at bytes = then_or_else (after (codes " ") bytes) digits_at None
+unfoldable pub spaced_number : List ℕ → Option (ℕ × List ℕ)
+spaced_number bytes = then_or_else (bytes_behind (codes " ") bytes) digits_at None

@@ -54,76 +54,76 @@ own_events s n [] = []
 own_events s n (e ∷ h) = pick s (side_of e) (numbered n e ∷ own_events s (suc n) h) (own_events s (suc n) h)
 
 -- the calls of a side: its events, and the operations between them
-pub data Own : Type 0 where
-  Comes : (event : Numbered) → Own
-  Makes : (does : Does) → Own
+pub data OwnStep : Type 0 where
+  Comes : (event : Numbered) → OwnStep
+  Makes : (does : Does) → OwnStep
 
-abbrev pub events_in : List Own → List Numbered
-events_in [] = []
-events_in (Comes e ∷ calls) = e ∷ events_in calls
-events_in (Makes d ∷ calls) = events_in calls
+abbrev pub numbered_in : List OwnStep → List Numbered
+numbered_in [] = []
+numbered_in (Comes e ∷ calls) = e ∷ numbered_in calls
+numbered_in (Makes d ∷ calls) = numbered_in calls
 
 -- they are calls of the producer, from this on; and of the consumer
-abbrev pub ArePuts : Producer → List Own → Type 0
-ArePuts p [] = Unit {0}
-ArePuts p (Comes e ∷ calls) = (after : Producer) × ProducerStep p (Happens e.event) after × ArePuts after calls
-ArePuts p (Makes d ∷ calls) = (after : Producer) × (doer_of d ≡ P) × ProducerStep p (Effect d) after × ArePuts after calls
+abbrev pub AreProducerCalls : Producer → List OwnStep → Type 0
+AreProducerCalls p [] = Unit {0}
+AreProducerCalls p (Comes e ∷ calls) = (after : Producer) × ProducerStep p (Happens e.event) after × AreProducerCalls after calls
+AreProducerCalls p (Makes d ∷ calls) = (after : Producer) × (doer_of d ≡ P) × ProducerStep p (Effect d) after × AreProducerCalls after calls
 
-abbrev pub AreTakes : Consumer → List Own → Type 0
-AreTakes c [] = Unit {0}
-AreTakes c (Comes e ∷ calls) = (after : Consumer) × ConsumerStep c (Happens e.event) after × AreTakes after calls
-AreTakes c (Makes d ∷ calls) = (after : Consumer) × (doer_of d ≡ C) × ConsumerStep c (Effect d) after × AreTakes after calls
+abbrev pub AreConsumerCalls : Consumer → List OwnStep → Type 0
+AreConsumerCalls c [] = Unit {0}
+AreConsumerCalls c (Comes e ∷ calls) = (after : Consumer) × ConsumerStep c (Happens e.event) after × AreConsumerCalls after calls
+AreConsumerCalls c (Makes d ∷ calls) = (after : Consumer) × (doer_of d ≡ C) × ConsumerStep c (Effect d) after × AreConsumerCalls after calls
 
 -- an operation, and the numbers of the events with which its call begins and ends
-pub record Operation : Type 0 where
+pub record RecordedOperation : Type 0 where
   pub side : Side
   pub does : Does
   pub start : ℕ
   pub stop : ℕ
 
-abbrev pub operation : Side → Does → ℕ → ℕ → Operation
-operation s d start stop = record { side = s; does = d; start = start; stop = stop }
+abbrev pub recorded_operation : Side → Does → ℕ → ℕ → RecordedOperation
+recorded_operation s d start stop = record { side = s; does = d; start = start; stop = stop }
 
 -- the number of the next event, or of the end of the history
-abbrev pub next_event : ℕ → List Own → ℕ
+abbrev pub next_event : ℕ → List OwnStep → ℕ
 next_event end [] = end
 next_event end (Comes e ∷ calls) = e.number
 next_event end (Makes d ∷ calls) = next_event end calls
 
 -- the operations of calls, behind the event of this number
-abbrev pub operations : Side → (end start : ℕ) → List Own → List Operation
-operations s end start [] = []
-operations s end start (Comes e ∷ calls) = operations s end e.number calls
-operations s end start (Makes d ∷ calls) = operation s d start (next_event end calls) ∷ operations s end start calls
+abbrev pub recorded_operations : Side → (end start : ℕ) → List OwnStep → List RecordedOperation
+recorded_operations s end start [] = []
+recorded_operations s end start (Comes e ∷ calls) = recorded_operations s end e.number calls
+recorded_operations s end start (Makes d ∷ calls) = recorded_operation s d start (next_event end calls) ∷ recorded_operations s end start calls
 
 -- the operations of one side
-abbrev pub of_side : Side → List Operation → List Operation
-of_side s [] = []
-of_side s (o ∷ order) = pick s o.side (o ∷ of_side s order) (of_side s order)
+abbrev pub recorded_of_side : Side → List RecordedOperation → List RecordedOperation
+recorded_of_side s [] = []
+recorded_of_side s (o ∷ order) = pick s o.side (o ∷ recorded_of_side s order) (recorded_of_side s order)
 
 -- what operations do
-abbrev pub done_by : List Operation → List Does
-done_by order = map (λ o. o.does) order
+abbrev pub recorded_does : List RecordedOperation → List Does
+recorded_does order = map (λ o. o.does) order
 
 -- no operation stands behind one before which its call had ended
-abbrev pub IsAmong : Operation → List Operation → Type 0
+abbrev pub IsAmong : RecordedOperation → List RecordedOperation → Type 0
 IsAmong o [] = ⊥
 IsAmong o (x ∷ order) = (o ≡ x) ⊎ IsAmong o order
 
-abbrev pub KeepsTime : List Operation → Type 0
-KeepsTime [] = Unit {0}
-KeepsTime (a ∷ order) = ((b : Operation) → IsAmong b order → ¬ (b.stop < a.start)) × KeepsTime order
+abbrev pub KeepsRecordedTime : List RecordedOperation → Type 0
+KeepsRecordedTime [] = Unit {0}
+KeepsRecordedTime (a ∷ order) = ((b : RecordedOperation) → IsAmong b order → ¬ (b.stop < a.start)) × KeepsRecordedTime order
 
 -- an order of the operations of both sides' calls
 pub record Linearization (capacity : Capacity) (h : List Event) : Type 0 where
-  pub puts : List Own
-  pub takes : List Own
-  pub put_events : events_in puts ≡ own_events P 0 h
-  pub take_events : events_in takes ≡ own_events C 0 h
-  pub are_puts : ArePuts Idle puts
-  pub are_takes : AreTakes Resting takes
-  pub order : List Operation
-  pub producer : of_side P order ≡ operations P (length h) 0 puts
-  pub consumer : of_side C order ≡ operations C (length h) 0 takes
-  pub legal : IsLegal capacity (queue [] false) (done_by order)
-  pub keeps_time : KeepsTime order
+  pub puts : List OwnStep
+  pub takes : List OwnStep
+  pub put_events : numbered_in puts ≡ own_events P 0 h
+  pub take_events : numbered_in takes ≡ own_events C 0 h
+  pub are_puts : AreProducerCalls Idle puts
+  pub are_takes : AreConsumerCalls Resting takes
+  pub order : List RecordedOperation
+  pub producer : recorded_of_side P order ≡ recorded_operations P (length h) 0 puts
+  pub consumer : recorded_of_side C order ≡ recorded_operations C (length h) 0 takes
+  pub legal : IsLegal capacity (queue [] false) (recorded_does order)
+  pub keeps_time : KeepsRecordedTime order

@@ -22,14 +22,14 @@ abbrev pub HasNoFeed : List ℕ → Type 0
 HasNoFeed bytes = All (λ b. b ≢ 10) bytes
 
 -- the first fault of a history, or none so far
-abbrev pub IsFirstFault : {A : Type 0} → Option CallsFinding → CallAuditor A → Capacity → List Event → Type 0
-IsFirstFault None auditor capacity events = Audits auditor events × IsLinearizable capacity events
-IsFirstFault (Some (Lawful report)) auditor capacity events = ⊥
-IsFirstFault (Some fault) auditor capacity events = IsFoundOf capacity events fault
+abbrev pub IsFaultSoFar : {A : Type 0} → Option CallsFinding → CallAuditor A → Capacity → List Event → Type 0
+IsFaultSoFar None auditor capacity events = Audits auditor events × IsLinearizable capacity events
+IsFaultSoFar (Some (Lawful report)) auditor capacity events = ⊥
+IsFaultSoFar (Some fault) auditor capacity events = IsFoundOf capacity events fault
 
 -- these events were heard, of a queue of this capacity
 abbrev pub HasHeard : {A : Type 0} → Hearing A → Capacity → List Event → Type 0
-HasHeard hearing capacity events = (meant hearing.auditor.capacity ≡ capacity) × IsFirstFault hearing.fault hearing.auditor capacity events
+HasHeard hearing capacity events = (meant hearing.auditor.capacity ≡ capacity) × IsFaultSoFar hearing.fault hearing.auditor capacity events
 
 -- lines were heard
 abbrev pub HeardLines : {A : Type 0} → Option (Hearing A) → List Line → Type 0
@@ -44,12 +44,12 @@ pub record HasLines {A : Type 0} (lines : Lines A) (ended : List Line) : Type 0 
   pub heard : HeardLines lines.hearing ended
 
 -- bytes without a line feed are a line that goes on with lines
-abbrev pub GoesOn : List Line → List ℕ → Line → Type 0
-GoesOn before bytes l = AreLines (before ++ l ∷ []) × (bytes ≡ line_text l.word l.numbers)
+abbrev pub ContinuesLines : List Line → List ℕ → Line → Type 0
+ContinuesLines before bytes l = AreLines (before ++ l ∷ []) × (bytes ≡ line_text l.word l.numbers)
 
 -- why a line is refused behind lines
 abbrev pub RefusesLine : RecordingFault → List Line → List ℕ → Type 0
-RefusesLine (BadLine number) before bytes = (length before + 1 ≡ number) × ((l : Line) → ¬ (GoesOn before bytes l))
+RefusesLine (BadLine number) before bytes = (length before + 1 ≡ number) × ((l : Line) → ¬ (ContinuesLines before bytes l))
 RefusesLine TooLong before bytes = length before ≡ 2 ^ 64 - 1
 RefusesLine OutOfMemory before bytes = Unit {0}
 

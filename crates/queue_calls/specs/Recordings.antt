@@ -2,7 +2,7 @@
 use Rattle.std.specs.Prelude.{◌≡◌, ◌≢◌, ℕ, ◌+◌, ◌-◌, ◌^◌, ◌≤◌, nat_lt, if◌then◌else◌, List, [], ◌∷◌, ◌++◌, Option, Some, None, length, codes, All, flat_map}
 use Rattle.queue_calls.specs.Queue.{Capacity, Unbounded, Between, exactly}
 use Rattle.queue_calls.specs.Calls.{Event, PutBegin, PutStored, PutFull, PutShort, PutNothing, PutClosed, CloseBegin, CloseEnd, TakeBegin, TakeItems, TakeEmpty, TakeShort, TakeNothing, TakeClosed, IsLinearizable}
-use Rattle.queue_calls.specs.InTurn.{IsInTurn}
+use Rattle.queue_calls.specs.InTurn.{CallsAreInTurn}
 use Rattle.queue_calls.specs.Lines.{line_text, Allows, AreSmall}
 use Rattle.queue_calls.specs.declared.lines.Word.{Word}
 use Rattle.queue_calls.specs.declared.lines.Word.TheVariants as word
@@ -142,8 +142,8 @@ pub record StopsAt (capacity : Capacity) (events : List Event) (number : ℕ) (S
 -- what is found of a history
 abbrev pub IsFoundOf : Capacity → List Event → CallsFinding → Type 0
 IsFoundOf capacity events (Lawful report) = IsLinearizable capacity events
-IsFoundOf capacity events (OutOfTurn number) = StopsAt capacity events number (λ h. ¬ (IsInTurn h))
-IsFoundOf capacity events (NotLinearizable number cause) = StopsAt capacity events number IsInTurn
+IsFoundOf capacity events (OutOfTurn number) = StopsAt capacity events number (λ h. ¬ (CallsAreInTurn h))
+IsFoundOf capacity events (NotLinearizable number cause) = StopsAt capacity events number CallsAreInTurn
 
 -- what is found of a text
 abbrev pub IsFindingOf : List ℕ → CallsFinding → Type 0

@@ -2,7 +2,7 @@
 use Rattle.std.specs.Prelude.{◌≡◌, ℕ, ◌+◌, ◌-◌, ◌<◌, ◌≤◌, ◌⊎◌, Bool, true, false, List, [], ◌++◌, length}
 use Rattle.queue_calls.specs.Queue.{Capacity, Unbounded, Between, LacksRoom, Queue, IsDrained}
 use Rattle.queue_calls.specs.Calls.{Event, Producer, Idle, Putting, FoundShut, Closing, Consumer, Resting, Taking, FoundClosed, Point, CanLeadTo}
-use Rattle.queue_calls.specs.InTurn.{Call, NoCall, APut, AClose, ATake, Sides, sides, Turns}
+use Rattle.queue_calls.specs.InTurn.{UnderWay, NoCall, APut, AClose, ATake, Sides, sides, Turns}
 use Rattle.queue_calls.specs.declared.turns.PutTurn.{PutTurn}
 use Rattle.queue_calls.specs.declared.turns.PutTurn.TheVariants.{Free, Offers, Late, Closes}
 use Rattle.queue_calls.specs.declared.turns.TakeTurn.{TakeTurn}
@@ -14,9 +14,9 @@ IsProper Unbounded = Unit {0}
 IsProper (Between full most) = (0 < full) × (full ≤ most)
 
 -- a queue may have so many items inside
-abbrev pub Holds : Capacity → ℕ → Type 0
-Holds Unbounded inside = Unit {0}
-Holds (Between full most) inside = inside ≤ most
+abbrev pub MayHold : Capacity → ℕ → Type 0
+MayHold Unbounded inside = Unit {0}
+MayHold (Between full most) inside = inside ≤ most
 
 -- the items that the take under way took
 abbrev pub taken_by : Consumer → List ℕ
@@ -56,7 +56,7 @@ FitsTake _ _ _ = ⊥
 -- a point is described by what an auditor keeps: the items inside, with those offered by the put under way
 pub record Describes (capacity : Capacity) (inside : List ℕ) (put : PutTurn) (take : TakeTurn) (shut : Bool) (s : Point) : Type 0 where
   pub items : inside ≡ taken_by s.consumer ++ (s.queue.items ++ left_by put s.producer)
-  pub room : Holds capacity (length s.queue.items)
+  pub room : MayHold capacity (length s.queue.items)
   pub producer : FitsPut capacity put shut s.producer s.queue.closed
   pub consumer : FitsTake take s.consumer s.queue
 
@@ -87,9 +87,9 @@ IsSoundTake offered inside Rests shut = Unit {0}
 IsSoundTake offered inside (Waits wanted before ended) shut = (before ≤ inside - offered) × (ended ≡ true → (shut ≡ true) × (inside ≤ before))
 
 -- what is kept tells the point, with the items of a put that began after a close
-abbrev pub IsTold : List ℕ → PutTurn → Producer → Type 0
-IsTold late (Late offered) (Putting lacked done left) = left ≡ late
-IsTold late _ _ = Unit {0}
+abbrev pub TellsPoint : List ℕ → PutTurn → Producer → Type 0
+TellsPoint late (Late offered) (Putting lacked done left) = left ≡ late
+TellsPoint late _ _ = Unit {0}
 
 -- items are the next ones
 abbrev pub AreNext : List ℕ → List ℕ → Type 0
@@ -97,20 +97,20 @@ AreNext items inside = (rest : List ℕ) × (inside ≡ items ++ rest)
 
 -- the put under way can end without so many of its last items: they are inside, and the others can be in the queue or taken
 abbrev pub CanEndPut : Capacity → (inside asked rest : ℕ) → Type 0
-CanEndPut capacity inside asked rest = (rest ≤ inside) × Holds capacity ((inside - rest) - asked)
+CanEndPut capacity inside asked rest = (rest ≤ inside) × MayHold capacity ((inside - rest) - asked)
 
 -- the take under way can end with so many items: the others can be in the queue or left of the put under way
 abbrev pub CanEndTake : Capacity → (inside offered count : ℕ) → Type 0
-CanEndTake capacity inside offered count = Holds capacity ((inside - count) - offered)
+CanEndTake capacity inside offered count = MayHold capacity ((inside - count) - offered)
 
 -- the calls under way
-abbrev pub call_of_put : PutTurn → Call
+abbrev pub call_of_put : PutTurn → UnderWay
 call_of_put Free = NoCall
 call_of_put (Offers offered before) = APut offered
 call_of_put (Late offered) = APut offered
 call_of_put (Closes again) = AClose
 
-abbrev pub call_of_take : TakeTurn → Call
+abbrev pub call_of_take : TakeTurn → UnderWay
 call_of_take Rests = NoCall
 call_of_take (Waits wanted before ended) = ATake wanted
 
@@ -121,9 +121,9 @@ sides_of put take = sides (call_of_put put) (call_of_take take)
 pub record Keeps (capacity : Capacity) (h : List Event) (inside : List ℕ) (put : PutTurn) (take : TakeTurn) (shut : Bool) : Type 0 where
   pub proper : IsProper capacity
   pub turns : Turns (sides NoCall NoCall) h (sides_of put take)
-  pub few : Holds capacity (length inside - (offered_by put + asked_by take))
+  pub few : MayHold capacity (length inside - (offered_by put + asked_by take))
   pub put_ok : IsSoundPut (length inside) put shut
   pub take_ok : IsSoundTake (offered_by put) (length inside) take shut
   pub late : List ℕ
-  pub sound : (s : Point) → Describes capacity inside put take shut s → IsTold late put s.producer → CanLeadTo capacity h s
+  pub sound : (s : Point) → Describes capacity inside put take shut s → TellsPoint late put s.producer → CanLeadTo capacity h s
   pub complete : (s : Point) → CanLeadTo capacity h s → Describes capacity inside put take shut s

@@ -2,7 +2,7 @@
 use Rattle.std.specs.Prelude.{ℕ, ◌^◌, ◌<◌, nat_lt, if◌then◌else◌, List, [], ◌∷◌}
 use Rattle.queue_calls.specs.Queue.{Capacity, exactly}
 use Rattle.queue_calls.specs.Calls.{Event, PutBegin, PutStored, PutFull, PutShort, PutNothing, PutClosed, CloseBegin, CloseEnd, TakeBegin, TakeItems, TakeEmpty, TakeShort, TakeNothing, TakeClosed, IsLinearizable}
-use Rattle.queue_calls.specs.InTurn.{IsInTurn}
+use Rattle.queue_calls.specs.InTurn.{CallsAreInTurn}
 use Rattle.queue_calls.specs.Lines.{AreSmall}
 use Rattle.queue_calls.specs.Recordings.{Line, line, lines_text, begun_after, IsRecording}
 use Rattle.queue_calls.specs.declared.lines.Word.TheVariants as word
@@ -60,9 +60,9 @@ TellsSmall (event ∷ h) = AreSmall (numbers_in event) × TellsSmall h
 -- a well-formed history of a queue of just so many is told by a recording
 abbrev pub HistoryHasARecording : Type 0
 HistoryHasARecording =
-    (most : ℕ) (h : List Event) → 0 < most → most < 2 ^ 64 → IsInTurn h → TellsSmall h →
+    (most : ℕ) (h : List Event) → 0 < most → most < 2 ^ 64 → CallsAreInTurn h → TellsSmall h →
     IsRecording (lines_text (line word.Queue (most ∷ []) ∷ lines_of begun.Nothing h)) (exactly most) h
 
 -- a linearizable history is well formed
 abbrev pub LinearizableIsInTurn : Type 0
-LinearizableIsInTurn = (capacity : Capacity) (h : List Event) → IsLinearizable capacity h → IsInTurn h
+LinearizableIsInTurn = (capacity : Capacity) (h : List Event) → IsLinearizable capacity h → CallsAreInTurn h

@@ -35,7 +35,7 @@ pub struct CallAuditor<A: Allocator> {
 impl<A: Allocator> CallAuditor<A> {
     ghost use Rattle.queue_calls.specs.Queue.{LacksRoom};
     ghost use Rattle.queue_calls.specs.Calls.{Event as AnEvent, IsLinearizable, PutBegin, PutStored, PutFull, PutShort, PutNothing, PutClosed, CloseBegin, CloseEnd, TakeBegin, TakeItems, TakeEmpty, TakeShort, TakeNothing, TakeClosed};
-    ghost use Rattle.queue_calls.specs.State.{IsProper, Holds, offered_by, asked_by, has_closed, AreNext, CanEndPut, CanEndTake};
+    ghost use Rattle.queue_calls.specs.State.{IsProper, MayHold, offered_by, asked_by, has_closed, AreNext, CanEndPut, CanEndTake};
     ghost use Rattle.queue_calls.specs.Audits.{Audits, Reads};
     ghost use Rattle.queue_calls.specs.Told.{meant, told};
     ghost use Rattle.queue_calls.specs.declared.turns.PutTurn.TheVariants.{Free};
@@ -236,7 +236,7 @@ impl<A: Allocator> CallAuditor<A> {
 
     // Whether a queue may have so many items inside.
     fn may_hold(&self, inside: usize) -> bool
-        ensures { IsTrue result ↔ Holds (meant self.now.capacity) inside }
+        ensures { IsTrue result ↔ MayHold (meant self.now.capacity) inside }
     {
         match self.capacity {
             Capacity::Unbounded => true,

@@ -1,7 +1,7 @@
 //! The lines of a recording's text.
 ghost use Rattle.std.specs.Prelude.{◌≡◌, ◌↔◌, IsTrue, None, IfOk, IfSome, ℕ, List, option_map};
 ghost use Rattle.queue_calls.specs.Lines.{Allows, IsLine, word_text};
-ghost use Rattle.queue_calls.specs.LineReading.{ReadsNumbers, after, number_after, number_at, put_word_at, take_word_at, word_at};
+ghost use Rattle.queue_calls.specs.LineReading.{ReadsNumbers, bytes_behind, digits_behind, spaced_number, put_word_at, take_word_at, line_word_at};
 
 use std::alloc::{AllocError, Allocator};
 
@@ -84,7 +84,7 @@ pub fn read_line<A: Allocator>(
 
 // The word at the front, and the bytes behind it.
 fn word_at(bytes: &[u8]) -> Option<(Word, &[u8])>
-    ensures { option_map (λ x. (x.0, x.1.now)) result ≡ word_at bytes.now }
+    ensures { option_map (λ x. (x.0, x.1.now)) result ≡ line_word_at bytes.now }
 {
     if let Some(rest) = after(bytes, "queue") {
         return Some((Word::Queue, rest));
@@ -145,7 +145,7 @@ fn take_word_at(bytes: &[u8]) -> Option<(Word, &[u8])>
 
 // The bytes behind a text that stands at the front.
 fn after<'a>(bytes: &'a [u8], text: &str) -> Option<&'a [u8]>
-    ensures { option_map (λ rest. rest.now) result ≡ after text.now bytes.now }
+    ensures { option_map (λ rest. rest.now) result ≡ bytes_behind text.now bytes.now }
 {
     bytes.strip_prefix(text.as_bytes())
 }
@@ -167,9 +167,9 @@ fn read_numbers<A: Allocator>(bytes: &[u8], numbers: &mut Vec<u64, A>) -> Result
 }
 
 // The number behind a space at the front, and the bytes behind it.
-#[tactic(auto, unfolding(crate::specs::LineReading::number_at, crate::specs::LineReading::digits_at))]
+#[tactic(auto, unfolding(crate::specs::LineReading::spaced_number, crate::specs::LineReading::digits_at))]
 fn number_at(bytes: &[u8]) -> Option<(u64, &[u8])>
-    ensures { option_map (λ x. (x.0, x.1.now)) result ≡ number_at bytes.now }
+    ensures { option_map (λ x. (x.0, x.1.now)) result ≡ spaced_number bytes.now }
 {
     let digits = after(bytes, " ")?;
     let (first, rest) = digits.split_first()?;
@@ -184,7 +184,7 @@ fn number_at(bytes: &[u8]) -> Option<(u64, &[u8])>
 
 // The number that goes on with the digits at the front, where it fits 64 bits, and the bytes behind them.
 fn number_after(begun: u64, bytes: &[u8]) -> Option<(u64, &[u8])>
-    ensures { option_map (λ x. (x.0, x.1.now)) result ≡ number_after begun bytes.now }
+    ensures { option_map (λ x. (x.0, x.1.now)) result ≡ digits_behind begun bytes.now }
 {
     let mut number = begun;
     for (i, digit) in bytes.iter().enumerate() {

@@ -6,7 +6,7 @@ ghost use Rattle.queue_calls.specs.Told.{meant, told};
 ghost use Rattle.queue_calls.specs.State.{IsProper};
 ghost use Rattle.queue_calls.specs.Lines.{Allows};
 ghost use Rattle.queue_calls.specs.Recordings.{IsFindingOf, IsFoundOf, Line, RefusesText, begun_after, capacity_told, event_told, stored_told, wanted_told};
-ghost use Rattle.queue_calls.specs.RecordingStates.{GoesOn, HasHeard, HasLines, HasNoFeed, HasRead, RefusesLine};
+ghost use Rattle.queue_calls.specs.RecordingStates.{ContinuesLines, HasHeard, HasLines, HasNoFeed, HasRead, RefusesLine};
 ghost use Rattle.queue_calls.specs.declared.lines.Word.TheVariants as word;
 
 use crate::auditors::CallAuditor;
@@ -220,7 +220,7 @@ struct Lines<A: Allocator> {
 impl<A: Allocator + Copy> Lines<A> {
     // Reads one more line, without its line feed.
     fn read(&mut self, line: &[u8]) -> Result<(), RecordingFault>
-        ensures read { OnOk result ((before : List Line) → HasLines self.old before → (l : Line) × GoesOn before line.now l × HasLines self.new (before ++ l ∷ [])) }
+        ensures read { OnOk result ((before : List Line) → HasLines self.old before → (l : Line) × ContinuesLines before line.now l × HasLines self.new (before ++ l ∷ [])) }
         ensures refused { IfErr result (λ e. (before : List Line) → HasLines self.old before → RefusesLine e before line.now) }
     {
         let Some(count) = self.count.checked_add(1) else {

@@ -2,7 +2,7 @@
 use Rattle.std.proofs.Common.{◌≡◌, ℕ, zero, suc, ◌+◌, ◌-◌, ◌<◌, ◌≤◌, Bool, true, false, not, List, sym, ap, subst, arith, zero-le, le_trans, ◌∙◌, ◌⊎◌, inl, inr}
 use Rattle.std.proofs.lemmas.Bool.{cases_lt}
 use Rattle.register_core.proofs.WriterMoments.{Windows}
-use Rattle.register_core.specs.Unary.{UnaryWrite, numbered_value, ended, begun}
+use Rattle.register_core.specs.Unary.{UnaryWrite, numbered_value, ended, begun_writes}
 use Rattle.register_core.proofs.Moments.{differs, is_or_not, Chain, bits_of, Chain-changes, Chain-rest, begun-mono, ended-begun}
 
 -- a moment from t on and before j at which f turns from x
@@ -43,8 +43,8 @@ module _ (us : List UnaryWrite) (bits : ℕ → Bool) (v : ℕ) (chain : Chain v
     pub number : ℕ
     pub over : moment ≤ from
     pub not_overwritten : least ≤ number
-    pub first_then : number ≤ begun us (suc moment)
-    pub has_begun : number ≤ begun us till
+    pub first_then : number ≤ begun_writes us (suc moment)
+    pub has_begun : number ≤ begun_writes us till
     pub reaches : i ≤ numbered_value v us number
     pub clear : (k : ℕ) → i ≤ k → k < numbered_value v us number → bits_of bits us moment k ≡ false
     pub is_set : bits_of bits us moment (numbered_value v us number) ≡ true
@@ -73,7 +73,7 @@ module _ (us : List UnaryWrite) (bits : ℕ → Bool) (v : ℕ) (chain : Chain v
       let c = Chain-changes us v bits r.moment i true chain r.old r.new in
       record {
         moment = r.moment;
-        number = begun us (suc r.moment);
+        number = begun_writes us (suc r.moment);
         over = omega (arith, r.before);
         not_overwritten =
             le_trans old.not_overwritten
@@ -114,7 +114,7 @@ module _ (us : List UnaryWrite) (bits : ℕ → Bool) (v : ℕ) (chain : Chain v
   pub record Found (least till c : ℕ) : Type 0 where
     pub number : ℕ
     pub not_overwritten : least ≤ number
-    pub has_begun : number ≤ begun us till
+    pub has_begun : number ≤ begun_writes us till
     pub has_value : numbered_value v us number ≡ c
 
   found_set :
@@ -123,7 +123,7 @@ module _ (us : List UnaryWrite) (bits : ℕ → Bool) (v : ℕ) (chain : Chain v
   found_set least c from till old t in_window r =
       let w = Chain-changes us v bits r.moment c false chain r.old r.new in
       record {
-        number = begun us (suc r.moment);
+        number = begun_writes us (suc r.moment);
         not_overwritten =
             le_trans old.not_overwritten
             (le_trans old.first_then (begun-mono us (suc old.moment) (suc r.moment) (omega (arith, r.after))));
@@ -172,7 +172,7 @@ module _ (us : List UnaryWrite) (bits : ℕ → Bool) (v : ℕ) (chain : Chain v
 
   pub above_scan :
       (from till : ℕ → ℕ) (c : ℕ) → Windows c from till → ((i : ℕ) → i < c → Reads from till i false) →
-      Reads from till c false → (n : ℕ) × (n ≤ begun us (till c)) × (c < numbered_value v us n)
+      Reads from till c false → (n : ℕ) × (n ≤ begun_writes us (till c)) × (c < numbered_value v us n)
   above_scan from till c windows below r =
       let last = covers_next (ended us (from 0)) c (from c) (till c) (till c) (till c)
       (covers_to from till c windows below c (omega arith))

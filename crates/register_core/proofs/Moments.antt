@@ -4,7 +4,7 @@ use Rattle.std.proofs.lemmas.Bool.Decides.{nat_tests}
 use Rattle.std.proofs.lemmas.Bool.{cases_lt, leb-true}
 use Rattle.std.proofs.Math.Seq.{take-append-add}
 use Rattle.register_core.specs.Row.{RowWrite, bits_with, bits_after}
-use Rattle.register_core.specs.Unary.{UnaryWrite, unary_phrase, unary_writes, row_writes, numbered, numbered_value, ended, begun}
+use Rattle.register_core.specs.Unary.{UnaryWrite, unary_phrase, unary_writes, row_writes, having_writes, numbered_value, ended, begun_writes}
 use Rattle.register_core.proofs.Rows.{bits_after-append}
 use Rattle.register_core.proofs.Phrase.{Shows, Allowed, Run, phrase-run}
 
@@ -20,26 +20,26 @@ Run-shows v bits (w ∷ writes) run = Run-shows v (bits_with bits w) writes run.
 
 numbered_step :
     (v w : ℕ) (bits : ℕ → Bool) (writes : List RowWrite) (values : List ℕ) → Shows v bits → Run w bits writes →
-    ((v' : ℕ) (bits' : ℕ → Bool) → Shows v' bits' → Chain v' bits' (numbered (unary_writes bits' values))) →
-    Chain v bits (numbered (record { value = w; writes = writes } ∷ unary_writes (bits_after bits writes) values))
+    ((v' : ℕ) (bits' : ℕ → Bool) → Shows v' bits' → Chain v' bits' (having_writes (unary_writes bits' values))) →
+    Chain v bits (having_writes (record { value = w; writes = writes } ∷ unary_writes (bits_after bits writes) values))
 numbered_step v w bits [] values shows run rest = rest v bits shows
 numbered_step v w bits (x ∷ writes) values shows run rest =
     (shows, run, omega arith, rest w (bits_after bits (x ∷ writes)) (Run-shows w bits (x ∷ writes) run))
 
 pub numbered-chain :
-    (values : List ℕ) (v : ℕ) (bits : ℕ → Bool) → Shows v bits → Chain v bits (numbered (unary_writes bits values))
+    (values : List ℕ) (v : ℕ) (bits : ℕ → Bool) → Shows v bits → Chain v bits (having_writes (unary_writes bits values))
 numbered-chain [] v bits shows = shows
 numbered-chain (w ∷ values) v bits shows =
     numbered_step v w bits (unary_phrase bits w) values shows (phrase-run bits w) (numbered-chain values)
 
 numbered_writes : (w : ℕ) (writes : List RowWrite) (us : List UnaryWrite) →
-    row_writes (numbered us) ≡ row_writes us →
-    row_writes (numbered (record { value = w; writes = writes } ∷ us)) ≡ writes ++ row_writes us
+    row_writes (having_writes us) ≡ row_writes us →
+    row_writes (having_writes (record { value = w; writes = writes } ∷ us)) ≡ writes ++ row_writes us
 numbered_writes w [] us e = e
 numbered_writes w (x ∷ writes) us e = ap (λ r. x ∷ (writes ++ r)) e
 
 -- the numbered unary writes have all the bit writes
-pub row_writes-numbered : (us : List UnaryWrite) → row_writes (numbered us) ≡ row_writes us
+pub row_writes-numbered : (us : List UnaryWrite) → row_writes (having_writes us) ≡ row_writes us
 row_writes-numbered [] = refl
 row_writes-numbered (u ∷ us) = numbered_writes u.value u.writes us (row_writes-numbered us)
 
@@ -90,18 +90,18 @@ bits_of-later u us bits t =
     ap (λ r. bits_after bits r) (take-append-add u.writes (row_writes us) t) ∙
     bits_after-append u.writes (take t (row_writes us)) bits
 
-pub begun-zero : (us : List UnaryWrite) → begun us zero ≡ 0
+pub begun-zero : (us : List UnaryWrite) → begun_writes us zero ≡ 0
 begun-zero [] = refl
 begun-zero (u ∷ us) = refl
 
 begun-later :
     (u : UnaryWrite) (us : List UnaryWrite) (t : ℕ) →
-    begun (u ∷ us) (suc (length u.writes + t)) ≡ suc (begun us (suc t))
+    begun_writes (u ∷ us) (suc (length u.writes + t)) ≡ suc (begun_writes us (suc t))
 begun-later u us t =
     let e : suc (length u.writes + t) - length u.writes ≡ suc t = omega arith in
-    ap (λ n. suc (begun us n)) e
+    ap (λ n. suc (begun_writes us n)) e
 
-pub begun-mono : (us : List UnaryWrite) (s t : ℕ) → s ≤ t → begun us s ≤ begun us t
+pub begun-mono : (us : List UnaryWrite) (s t : ℕ) → s ≤ t → begun_writes us s ≤ begun_writes us t
 begun-mono [] s t h = zero-le
 begun-mono (u ∷ us) zero t h = zero-le
 begun-mono (u ∷ us) (suc s) zero h = absurd (omega arith)
@@ -112,15 +112,15 @@ begun-mono (u ∷ us) (suc s) (suc t) h =
 abbrev ChangeAt : ℕ → (ℕ → Bool) → List UnaryWrite → ℕ → ℕ → Bool → Type 0
 ChangeAt v bits us t i x =
     bits_of bits us t i ≡ x → bits_of bits us (suc t) i ≡ not x →
-    Changes (numbered_value v us (begun us (suc t))) (bits_of bits us t) i x
+    Changes (numbered_value v us (begun_writes us (suc t))) (bits_of bits us t) i x
 
 within :
     (u : UnaryWrite) (us : List UnaryWrite) (v : ℕ) (bits : ℕ → Bool) (t i : ℕ) (x : Bool) →
     Run u.value bits u.writes → t < length u.writes → ChangeAt v bits (u ∷ us) t i x
 within u us v bits t i x run fits old new =
     let e : suc t - length u.writes ≡ 0 = omega arith in
-    let n : begun us (suc t - length u.writes) ≡ 0 = ap (begun us) e ∙ begun-zero us in
-    let m : u.value ≡ numbered_value u.value us (begun us (suc t - length u.writes)) =
+    let n : begun_writes us (suc t - length u.writes) ≡ 0 = ap (begun_writes us) e ∙ begun-zero us in
+    let m : u.value ≡ numbered_value u.value us (begun_writes us (suc t - length u.writes)) =
     ap (λ k. numbered_value u.value us k) (sym n) in
     subst (λ k. Changes k (bits_of bits (u ∷ us) t) i x) m
     (Run-changes u.writes (row_writes us) u.value bits t i x run fits old new)
@@ -134,10 +134,10 @@ later u us v bits t i x rest old new =
     let s : suc (length u.writes + t) ≡ length u.writes + suc t = omega arith in
     let b : bits_of bits (u ∷ us) (suc (length u.writes + t)) ≡ bits_of (bits_after bits u.writes) us (suc t) =
     ap (λ k. bits_of bits (u ∷ us) k) s ∙ bits_of-later u us bits (suc t) in
-    let n : begun us (suc t) ≡ begun us (suc (length u.writes + t) - length u.writes) =
-    ap (λ k. begun us k) (omega arith) in
+    let n : begun_writes us (suc t) ≡ begun_writes us (suc (length u.writes + t) - length u.writes) =
+    ap (λ k. begun_writes us k) (omega arith) in
     subst (λ k. Changes k (bits_of bits (u ∷ us) (length u.writes + t)) i x) (ap (λ k. numbered_value u.value us k) n)
-    (subst (λ f. Changes (numbered_value u.value us (begun us (suc t))) f i x) (sym a)
+    (subst (λ f. Changes (numbered_value u.value us (begun_writes us (suc t))) f i x) (sym a)
     (rest (ap (λ f. f i) (sym a) ∙ old) (ap (λ f. f i) (sym b) ∙ new)))
 
 pub Chain-changes :
@@ -168,7 +168,7 @@ ended-none u us t e = ap (λ b. cond b (suc (ended us (t - length u.writes))) 0)
 pub record Rest (v : ℕ) (bits : ℕ → Bool) (us : List UnaryWrite) (a : ℕ) : Type 0 where
   pub moment : ℕ
   pub in_time : moment ≤ a
-  pub ended_then : ended us a ≤ begun us (suc moment)
+  pub ended_then : ended us a ≤ begun_writes us (suc moment)
   pub shows : Shows (numbered_value v us (ended us a)) (bits_of bits us moment)
 
 rest_step :
@@ -205,14 +205,14 @@ Chain-rest (u ∷ us) v bits a chain =
 
 ended_begun_step :
     (u : UnaryWrite) (us : List UnaryWrite) (t : ℕ) → 0 < length u.writes →
-    ended us (t - length u.writes) ≤ begun us (t - length u.writes) → (b : Bool) → leb (length u.writes) t ≡ b →
-    ended (u ∷ us) t ≤ begun (u ∷ us) t
+    ended us (t - length u.writes) ≤ begun_writes us (t - length u.writes) → (b : Bool) → leb (length u.writes) t ≡ b →
+    ended (u ∷ us) t ≤ begun_writes (u ∷ us) t
 ended_begun_step u us zero some rest true e = let h = leb-true (length u.writes) zero e in absurd (omega arith)
 ended_begun_step u us (suc t) some rest true e = omega (arith, rest, ended-later u us (suc t) e)
 ended_begun_step u us t some rest false e = omega (arith, ended-none u us t e)
 
 pub ended-begun :
-    (us : List UnaryWrite) (v : ℕ) (bits : ℕ → Bool) (t : ℕ) → Chain v bits us → ended us t ≤ begun us t
+    (us : List UnaryWrite) (v : ℕ) (bits : ℕ → Bool) (t : ℕ) → Chain v bits us → ended us t ≤ begun_writes us t
 ended-begun [] v bits t chain = zero-le
 ended-begun (u ∷ us) v bits t chain =
     ended_begun_step u us t chain.2

@@ -1,7 +1,7 @@
 -- The law of the unary register by moments, from what its scan finds.
 use Rattle.std.proofs.Common.{ℕ, zero, suc, ◌≤◌, Bool, true, false, List, [], ◌∷◌, All, refl, ap, arith, suc-le-suc, ◌∙◌, take}
 use Rattle.register_core.specs.Row.{RowWrite, first_bits, bits_after}
-use Rattle.register_core.specs.Unary.{UnaryWrite, unary_phrase, unary_writes, writes_of, numbered, numbered_of, numbered_value}
+use Rattle.register_core.specs.Unary.{UnaryWrite, unary_phrase, unary_writes, writes_of, having_writes, numbered_of, numbered_value}
 use Rattle.register_core.specs.UnaryLaw.{NumberedStayWithin}
 use Rattle.register_core.proofs.WriterMoments.{Answered, MomentsAreRegular, MomentsHaveOne, BitsAreRegular}
 use Rattle.register_core.proofs.Phrase.{Shows}
@@ -38,15 +38,15 @@ moments-are_regular values c from till scan answer =
 
 value_step :
     (v w last : ℕ) (writes : List RowWrite) (us : List UnaryWrite) → v ≤ last → w ≤ last →
-    ((v' : ℕ) → v' ≤ last → (n : ℕ) → numbered_value v' (numbered us) n ≤ last) →
-    (n : ℕ) → numbered_value v (numbered (record { value = w; writes = writes } ∷ us)) n ≤ last
+    ((v' : ℕ) → v' ≤ last → (n : ℕ) → numbered_value v' (having_writes us) n ≤ last) →
+    (n : ℕ) → numbered_value v (having_writes (record { value = w; writes = writes } ∷ us)) n ≤ last
 value_step v w last [] us fits fits' rest n = rest v fits n
 value_step v w last (x ∷ writes) us fits fits' rest zero = fits
 value_step v w last (x ∷ writes) us fits fits' rest (suc n) = rest w fits' n
 
 value_le :
     (values : List ℕ) (last : ℕ) (bits : ℕ → Bool) → All (λ v. v ≤ last) values →
-    (v : ℕ) → v ≤ last → (n : ℕ) → numbered_value v (numbered (unary_writes bits values)) n ≤ last
+    (v : ℕ) → v ≤ last → (n : ℕ) → numbered_value v (having_writes (unary_writes bits values)) n ≤ last
 value_le [] last bits all v fits zero = fits
 value_le [] last bits all v fits (suc n) = fits
 value_le (w ∷ values) last bits all v fits n =

@@ -1,7 +1,7 @@
 -- The unary register by moments of its writer: at moment t the first t bit writes of the row have ended.
 use Rattle.std.specs.Prelude.{◌≡◌, ℕ, suc, ◌<◌, ◌≤◌, ◌⊎◌, Bool, true, false, Some, List, take, slice_get}
 use Rattle.register_core.specs.Row.{RowWrite, first_bits, bits_after}
-use Rattle.register_core.specs.Unary.{writes_of, numbered_of, numbered_value, ended, begun}
+use Rattle.register_core.specs.Unary.{writes_of, numbered_of, numbered_value, ended, begun_writes}
 
 -- the bits of the row after the first t of the writes
 abbrev pub bits_at : List RowWrite → ℕ → ℕ → Bool
@@ -38,7 +38,7 @@ pub record ScannedTo (writes : List RowWrite) (from till : ℕ → ℕ) (c : ℕ
 pub record WrittenBetween (values : List ℕ) (a b c : ℕ) : Type 0 where
   pub number : ℕ
   pub not_overwritten : ended (numbered_of values) a ≤ number
-  pub has_begun : number ≤ begun (numbered_of values) b
+  pub has_begun : number ≤ begun_writes (numbered_of values) b
   pub has_value : numbered_value 0 (numbered_of values) number ≡ c
 
 -- a scan gives the value of a write whose number lies from those that had ended where it began to those that had begun
@@ -54,7 +54,7 @@ MomentsAreRegular =
 abbrev pub MomentsHaveOne : Type 0
 MomentsHaveOne =
     (values : List ℕ) (last : ℕ) (from till : ℕ → ℕ) →
-    ((n : ℕ) → n ≤ begun (numbered_of values) (till last) → numbered_value 0 (numbered_of values) n ≤ last) →
+    ((n : ℕ) → n ≤ begun_writes (numbered_of values) (till last) → numbered_value 0 (numbered_of values) n ≤ last) →
     ScannedTo (writes_of values) from till last → ¬ Answered (writes_of values) from till last false
 
 -- each bit write of a unary write changes its bit, so a read gives what its bit held at a moment of its window

@@ -36,12 +36,12 @@ has_write [] = false
 has_write (w ∷ writes) = true
 
 -- the numbered unary writes: those that have a bit write
-abbrev pub numbered : List UnaryWrite → List UnaryWrite
-numbered us = filter (λ u. has_write u.writes) us
+abbrev pub having_writes : List UnaryWrite → List UnaryWrite
+having_writes us = filter (λ u. has_write u.writes) us
 
 -- the numbered unary writes of these values to a new row
 abbrev pub numbered_of : List ℕ → List UnaryWrite
-numbered_of values = numbered (unary_writes first_bits values)
+numbered_of values = having_writes (unary_writes first_bits values)
 
 -- the value of write number n: number 0 is the first value, and the others count from 1
 abbrev pub numbered_value : ℕ → List UnaryWrite → ℕ → ℕ
@@ -55,7 +55,7 @@ ended [] t = 0
 ended (u ∷ us) t = cond (nat_le (length u.writes) t) (suc (ended us (t - length u.writes))) 0
 
 -- how many of these unary writes, one after the other, have a bit write among the first t
-abbrev pub begun : List UnaryWrite → ℕ → ℕ
-begun [] t = 0
-begun (u ∷ us) zero = 0
-begun (u ∷ us) (suc t) = suc (begun us (suc t - length u.writes))
+abbrev pub begun_writes : List UnaryWrite → ℕ → ℕ
+begun_writes [] t = 0
+begun_writes (u ∷ us) zero = 0
+begun_writes (u ∷ us) (suc t) = suc (begun_writes us (suc t - length u.writes))

@@ -12,7 +12,7 @@ use Rattle.bits_core.specs.Intervals.{IsRead}
 use Rattle.bits_core.specs.Lawful.{IsLawful}
 use Rattle.bits_core.specs.Made.{IsBeginning}
 use Rattle.register_core.specs.Row.{RowWrite, row_bit, row_write}
-use Rattle.register_core.specs.Unary.{writes_of, numbered_of, numbered_value, ended, begun}
+use Rattle.register_core.specs.Unary.{writes_of, numbered_of, numbered_value, ended, begun_writes}
 
 -- the number of a bit of the count that a side writes
 abbrev pub number_in_count : Side → Bit → Option ℕ
@@ -45,7 +45,7 @@ abbrev pub ended_before : Side → List Event → List ℕ → ℕ → ℕ
 ended_before s h values place = ended (numbered_of values) (length (count_ended s (take place h)))
 
 abbrev pub begun_before : Side → List Event → List ℕ → ℕ → ℕ
-begun_before s h values place = begun (numbered_of values) (length (count_begun s (take place h)))
+begun_before s h values place = begun_writes (numbered_of values) (length (count_begun s (take place h)))
 
 -- reads of the first n bits of the count that a side writes, one after the other, that all answered 0, and the place where
 -- the next read begins

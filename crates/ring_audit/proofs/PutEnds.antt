@@ -10,20 +10,20 @@ use Rattle.bits_core.specs.declared.events.Access.TheVariants as begins
 use Rattle.bits_core.specs.declared.events.Event.{Event}
 use Rattle.bits_core.specs.declared.shapes.Shape.{Shape}
 use Rattle.bits_core.specs.Shape.{AllFit, capacity_of, modulus_of, width_of, batch_of}
-use Rattle.bits_core.specs.Made.{Made, Read, Write, access_of, end_event, events_of, IsBeginning}
+use Rattle.bits_core.specs.Made.{Made, Read, Write, access_of, end_event, events_of, IsBeginning, opening_event}
 use Rattle.register_core.specs.Row.{RowWrite, row_bit, writes_in}
 use Rattle.register_core.specs.Word.{digit, digit_writes, word_write, word_read}
 use Rattle.register_core.specs.WordState.{ReaderStands, BeginsRead, IsNextRead, due_read}
 use Rattle.register_core.specs.UnaryState.{due_writes}
 use Rattle.register_core.specs.ScanState.{zero_reads, scan_phrase, row_read_by, due_scan}
-use Rattle.ring_core.specs.Counts.{LeavesRoom, distance, past, Count, IsCount, first_count, batch_phrase}
+use Rattle.ring_core.specs.Counts.{LeavesRoom, distance, number_past, Count, IsCount, first_count, batch_phrase}
 use Rattle.ring_core.specs.Puts.{Put, Puts, Stored, Full, stored_after, stored_count, words_phrase, put_phrase, put_phrases, close_phrase, accesses_before_count, IsPut, ArePuts}
 use Rattle.ring_core.specs.Items.{events_in, items_put, all_put}
 use Rattle.ring_core.specs.CountWrites.{CountsAreWritten, CountsShowNumbers}
 use Rattle.ring_core.specs.PutParts.{count_behind}
 use Rattle.ring_audit.specs.declared.puts.Stage.{Stage}
 use Rattle.ring_audit.specs.declared.puts.Stage.TheVariants.{Resting, Scanning, Choosing, Storing, Counting, Closing, Closed}
-use Rattle.ring_audit.specs.Sides.{opening_event, open_events}
+use Rattle.ring_audit.specs.Sides.{open_events}
 use Rattle.ring_audit.specs.PutReading.{PutReading, IsPutReading, IsReaderAt, IsMost, InCount, PutsStand, WerePut}
 use Rattle.ring_audit.proofs.Beginnings.{begin_is, events_of-append, length-events}
 use Rattle.ring_audit.proofs.Readers.{at_rest, open-short, open-long}
@@ -233,12 +233,12 @@ one_more shape n seen room stored item may some fit fits =
 storing_phrase :
     (shape : Shape) (c : Count) (seen : ℕ) (stored : List ℕ) (item : ℕ) (first second : List RowWrite) → digit_writes item (width_of shape) ≡ first ++ second →
     put_phrase shape c (Stored seen (stored ++ item ∷ [])) ≡
-    (scan_phrase (row_read_by P) seen ++ (words_phrase shape c.number stored ++ writes_in (Cell (past c.number stored % capacity_of shape)) first)) ++
-    (writes_in (Cell (past c.number stored % capacity_of shape)) second ++ batch_phrase shape P c (stored ++ item ∷ []))
+    (scan_phrase (row_read_by P) seen ++ (words_phrase shape c.number stored ++ writes_in (Cell (number_past c.number stored % capacity_of shape)) first)) ++
+    (writes_in (Cell (number_past c.number stored % capacity_of shape)) second ++ batch_phrase shape P c (stored ++ item ∷ []))
 storing_phrase shape c seen stored item first second e =
     let scan : List Made = scan_phrase (row_read_by P) seen in
     let words : List Made = words_phrase shape c.number stored in
-    let cell : ℕ = past c.number stored % capacity_of shape in
+    let cell : ℕ = number_past c.number stored % capacity_of shape in
     let count : List Made = batch_phrase shape P c (stored ++ item ∷ []) in
     let a : List Made = writes_in (Cell cell) first in
     let b : List Made = writes_in (Cell cell) second in
@@ -252,10 +252,10 @@ storing_phrase shape c seen stored item first second e =
 late_word :
     (shape : Shape) (c : Count) (seen : ℕ) (stored : List ℕ) (item t : ℕ) (part behind_it : List Made) (first second : List RowWrite) → t ≤ suc (events_in part) →
     digit_writes item (width_of shape) ≡ first ++ second → 1 ≤ length second →
-    part ≡ scan_phrase (row_read_by P) seen ++ (words_phrase shape c.number stored ++ writes_in (Cell (past c.number stored % capacity_of shape)) first) →
+    part ≡ scan_phrase (row_read_by P) seen ++ (words_phrase shape c.number stored ++ writes_in (Cell (number_past c.number stored % capacity_of shape)) first) →
     items_put shape c (Stored seen (stored ++ item ∷ []) ∷ []) t ≡ []
 late_word shape c seen stored item t part behind_it first second high e some part_is =
-    let cell : ℕ = past c.number stored % capacity_of shape in
+    let cell : ℕ = number_past c.number stored % capacity_of shape in
     let scan : List Made = scan_phrase (row_read_by P) seen in
     let words : List Made = words_phrase shape c.number stored in
     let head : List Made = accesses_before_count shape c.number seen (stored ++ item ∷ []) in
@@ -280,7 +280,7 @@ choosing_put law shape r es items stored st stage (none, idle) =
     let c : Count = count_behind shape st.puts in
     let scan : List Made = scan_phrase (row_read_by P) s.seen in
     let words : List Made = words_phrase shape c.number stored in
-    let cell : ℕ = past c.number stored % capacity_of shape in
+    let cell : ℕ = number_past c.number stored % capacity_of shape in
     let items_are : items ≡ all_put st.puts ++ [] = s.items_are ∙ sym (append-nil (all_put st.puts)) in
     elim (zero_or_more r.room) [
       | inl no_room ↦
@@ -316,7 +316,7 @@ storing_put law shape r es items stored st stage (idle, width_is, cell_same, bel
     let c : Count = count_behind shape st.puts in
     let scan : List Made = scan_phrase (row_read_by P) s.seen in
     let words : List Made = words_phrase shape c.number stored in
-    let cell : ℕ = past c.number stored % capacity_of shape in
+    let cell : ℕ = number_past c.number stored % capacity_of shape in
     let n : ℕ = r.word.read in
     let first : List RowWrite = digit_writes r.word.value n in
     let here : RowWrite = record { bit = n; value = v } in

@@ -16,7 +16,7 @@ use Rattle.register_core.specs.Word.{digit, digit_writes, digit_reads, word_writ
 use Rattle.register_core.specs.WordState.{ReaderState, ReaderStands, read_digit}
 use Rattle.register_core.specs.UnaryState.{UnaryState, due_writes, due_unary, first_access, UnaryStands}
 use Rattle.register_core.specs.ScanState.{scan_phrase, row_read_by}
-use Rattle.ring_core.specs.Counts.{past, Count, first_count, count_bits, batch_phrase}
+use Rattle.ring_core.specs.Counts.{number_past, Count, first_count, count_bits, batch_phrase}
 use Rattle.ring_core.specs.Puts.{Put, Stored, stored_after, words_phrase, put_phrases}
 use Rattle.ring_core.specs.PutParts.{count_behind}
 use Rattle.ring_audit.specs.declared.puts.Stage.TheVariants.{Resting, Choosing, Storing, Counting}
@@ -131,16 +131,16 @@ ends_digit shape r es items stored word a v w st some is cell stage fed goes =
       );
     }
 
-past-push : (n : ℕ) (l : List ℕ) (x : ℕ) → past n (l ++ x ∷ []) ≡ suc (past n l)
+past-push : (n : ℕ) (l : List ℕ) (x : ℕ) → number_past n (l ++ x ∷ []) ≡ suc (number_past n l)
 past-push n [] x = refl
 past-push n (y ∷ l) x = past-push (suc n) l x
 
 pub words-push :
-    (shape : Shape) (n : ℕ) (l : List ℕ) (x : ℕ) → words_phrase shape n (l ++ x ∷ []) ≡ words_phrase shape n l ++ word_write (width_of shape) (past n l % capacity_of shape) x
+    (shape : Shape) (n : ℕ) (l : List ℕ) (x : ℕ) → words_phrase shape n (l ++ x ∷ []) ≡ words_phrase shape n l ++ word_write (width_of shape) (number_past n l % capacity_of shape) x
 words-push shape n [] x = append-nil (word_write (width_of shape) (n % capacity_of shape) x)
 words-push shape n (y ∷ l) x =
     let word : List Made = word_write (width_of shape) (n % capacity_of shape) y in
-    ap (λ z. word ++ z) (words-push shape (suc n) l x) ∙ sym (append_assoc word (words_phrase shape (suc n) l) (word_write (width_of shape) (past (suc n) l % capacity_of shape) x))
+    ap (λ z. word ++ z) (words-push shape (suc n) l x) ∙ sym (append_assoc word (words_phrase shape (suc n) l) (word_write (width_of shape) (number_past (suc n) l % capacity_of shape) x))
 
 pub fit-push : (shape : Shape) (l : List ℕ) (x : ℕ) → AllFit shape l → x < 2 ^ width_of shape → AllFit shape (l ++ x ∷ [])
 fit-push shape [] x f g = (g, record {})
@@ -180,8 +180,8 @@ ends_word shape r es items stored word a v w item cell_on next_on st some is cel
           seen = s.seen;
           may = subst (IsMost shape n s.seen) long s.may;
           fit = fit-push shape stored item s.fit (subst (λ z. z < 2 ^ width_of shape) (sym item_is) (subst (λ k. word.value < 2 ^ k) whole stands.fits));
-          next_is = next_up ∙ next_mod (modulus_of shape) r.next (past n stored) s.next_is ∙ ap (λ z. z % modulus_of shape) (sym (past-push n stored item));
-          cell_is = cell_up ∙ next_mod (capacity_of shape) r.cell (past n stored) s.cell_is ∙ ap (λ z. z % capacity_of shape) (sym (past-push n stored item));
+          next_is = next_up ∙ next_mod (modulus_of shape) r.next (number_past n stored) s.next_is ∙ ap (λ z. z % modulus_of shape) (sym (past-push n stored item));
+          cell_is = cell_up ∙ next_mod (capacity_of shape) r.cell (number_past n stored) s.cell_is ∙ ap (λ z. z % capacity_of shape) (sym (past-push n stored item));
           some_is = sym (has-push stored item);
           holds = s.holds;
           items_are = s.items_are;

@@ -10,14 +10,14 @@ use Rattle.bits_core.specs.declared.events.Access.TheVariants as begins
 use Rattle.bits_core.specs.declared.events.Event.{Event}
 use Rattle.bits_core.specs.declared.shapes.Shape.{Shape}
 use Rattle.bits_core.specs.Shape.{capacity_of, modulus_of, width_of}
-use Rattle.bits_core.specs.Made.{Made, Read, Write, access_of, answered, begin_event, end_event, events_of}
+use Rattle.bits_core.specs.Made.{Made, Read, Write, access_of, answered, begin_event, end_event, events_of, opening_event}
 use Rattle.register_core.specs.Row.{RowWrite, row_bit, first_bits, bits_after, writes_in}
 use Rattle.register_core.specs.Word.{digit_writes}
 use Rattle.register_core.specs.WordState.{ReaderState, due_read}
 use Rattle.register_core.specs.Unary.{unary_phrase}
 use Rattle.register_core.specs.UnaryState.{UnaryState, bit_in, due_writes, due_unary, first_access}
 use Rattle.register_core.specs.ScanState.{ScanState, LastIsDue, zero_reads, scan_phrase, row_read_by, due_scan}
-use Rattle.ring_core.specs.Counts.{LeavesRoom, past, Count, first_count, count_bits}
+use Rattle.ring_core.specs.Counts.{LeavesRoom, number_past, Count, first_count, count_bits}
 use Rattle.ring_core.specs.Puts.{Puts, words_phrase, put_phrases, put_program}
 use Rattle.ring_core.specs.Calls.{IsScanning}
 use Rattle.ring_core.specs.PutParts.{GoesBehind, count_behind, count_access, ScansOrCloses, ScansOn, StoresOrCounts, StoresOn, CountsOn}
@@ -26,7 +26,7 @@ use Rattle.ring_core.specs.Readings.{PutsAreFirst}
 use Rattle.ring_audit.specs.declared.puts.PutStep.{PutStep}
 use Rattle.ring_audit.specs.declared.puts.Stage.{Stage}
 use Rattle.ring_audit.specs.declared.puts.Stage.TheVariants.{Resting, Scanning, Choosing, Storing, Counting, Closed}
-use Rattle.ring_audit.specs.Sides.{opening_event, AreOfPuts}
+use Rattle.ring_audit.specs.Sides.{AreOfPuts}
 use Rattle.ring_audit.specs.PutReading.{PutReading, IsPutReading, HasReadPut, IsReaderAt, RowHolds, IsMost, has_items, MadeWhile, PutsStand}
 use Rattle.ring_audit.proofs.Readers as readers
 use Rattle.ring_audit.proofs.Beginnings.{begin_is, access_is, same_access, same_made, GoesOnWith, GoesOnBy, events_of-append}
@@ -139,7 +139,7 @@ row_bits row bits side h =
 
 -- what is due once the count of these items is asked for
 pub count_due :
-    (shape : Shape) (row : UnaryState) (c : Count) (items : List ℕ) (next : ℕ) → row.side ≡ P → RowHolds row c.bits → next ≡ past c.number items % modulus_of shape →
+    (shape : Shape) (row : UnaryState) (c : Count) (items : List ℕ) (next : ℕ) → row.side ≡ P → RowHolds row c.bits → next ≡ number_past c.number items % modulus_of shape →
     due_writes (record row { value = next }) ≡ count_bits shape c items
 count_due shape row c items next side h e = ap (λ f. unary_phrase f next) (row_bits row c.bits side h) ∙ ap (unary_phrase c.bits) e
 
@@ -189,7 +189,7 @@ no_digit law shape r es items stored a st none stage below some wrong of_puts =
         let c : Count = count_behind shape st.puts in
         let scan : List Made = scan_phrase (row_read_by P) s.seen in
         let words : List Made = words_phrase shape c.number stored in
-        let digits : List Made = writes_in (Cell (past c.number stored % capacity_of shape)) (digit_writes r.word.value (suc read)) in
+        let digits : List Made = writes_in (Cell (number_past c.number stored % capacity_of shape)) (digit_writes r.word.value (suc read)) in
         let on = rest_on shape r es items stored st (opening_event P a) none of_puts in
         let is_a : access_of on.next ≡ a = same_access P a on.next on.begins in
         let front : List Made = put_phrases shape first_count st.puts in

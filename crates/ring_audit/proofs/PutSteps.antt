@@ -7,7 +7,7 @@ use Rattle.bits_core.specs.declared.events.Access.TheVariants as begins
 use Rattle.bits_core.specs.declared.events.Event.{Event}
 use Rattle.bits_core.specs.declared.shapes.Shape.{Shape}
 use Rattle.bits_core.specs.Shape.{capacity_of, modulus_of, batch_of}
-use Rattle.bits_core.specs.Made.{Made, Read, answered, end_event}
+use Rattle.bits_core.specs.Made.{Made, Read, answered, end_event, opening_event}
 use Rattle.register_core.specs.Row.{row_bit, writes_in}
 use Rattle.register_core.specs.Word.{digit_writes}
 use Rattle.register_core.specs.WordState.{ReaderState, ReaderStands}
@@ -18,7 +18,6 @@ use Rattle.ring_core.specs.Puts.{Put, Stored, Full, stored_after, stored_count, 
 use Rattle.ring_core.specs.Items.{all_put}
 use Rattle.ring_core.specs.PutParts.{count_behind}
 use Rattle.ring_audit.specs.declared.puts.Stage.TheVariants.{Resting, Scanning, Choosing, Storing, Counting, Closing, Closed}
-use Rattle.ring_audit.specs.Sides.{opening_event}
 use Rattle.ring_audit.specs.PutReading.{PutReading, RowHolds, IsMost, has_items, AtRest, MadeWhile, PutsStand}
 use Rattle.ring_audit.proofs.Readers.{opened, ended}
 use Rattle.ring_audit.proofs.PutReads.{made_at, count_due}

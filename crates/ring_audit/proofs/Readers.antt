@@ -4,8 +4,8 @@ use Rattle.bits_core.specs.declared.events.Side.{Side}
 use Rattle.bits_core.specs.declared.events.Access.{Access}
 use Rattle.bits_core.specs.declared.events.Event.{Event}
 use Rattle.bits_core.specs.Bits.{begun_by}
-use Rattle.bits_core.specs.Made.{Made, access_of, answered, end_event, events_of, IsBeginning}
-use Rattle.ring_audit.specs.Sides.{opening_event, open_events, EndsSo}
+use Rattle.bits_core.specs.Made.{Made, access_of, answered, end_event, events_of, IsBeginning, opening_event}
+use Rattle.ring_audit.specs.Sides.{open_events, EndsSo}
 use Rattle.ring_audit.proofs.Beginnings.{begin_is, access_is, answer_is, begun_is, ended_is, same_access, GoesOnWith, next_begins, GoesOnBy, next_ends, events_of-append, length-events}
 
 -- ---- what was read

@@ -11,7 +11,7 @@ use Rattle.ring_audit.specs.declared.puts.PutStep.TheVariants as p
 use Rattle.ring_audit.specs.declared.takes.TakeStep.TheVariants as c
 use Rattle.ring_audit.specs.Sides.{AreOfPuts, AreOfTakes}
 use Rattle.ring_audit.specs.PutReading.{PutReading, PutsStand, HasReadPut}
-use Rattle.ring_audit.specs.TakeReading.{TakeReading, TakesStand, HasRead}
+use Rattle.ring_audit.specs.TakeReading.{TakeReading, TakesStand, HasReadTake}
 use Rattle.ring_audit.specs.Reading.{Reading, ReadingStands, BothFollow}
 
 pub own_more : OwnChanges → (s t : Side) (h : List Event) (e : Event) → e.side ≡ t → own s (h ++ e ∷ []) ≡ (if same_side s t then own s h ++ e ∷ [] else own s h)
@@ -64,13 +64,13 @@ put_counts changes shape r new e counted by read all h st = record {
 -- ---- an event of the consumer
 
 pub take_stops :
-    OwnChanges → (shape : Shape) (r : Reading) (new : TakeReading) (e : Event) → e.side ≡ C → HasRead shape r.takes new e c.Stops →
+    OwnChanges → (shape : Shape) (r : Reading) (new : TakeReading) (e : Event) → e.side ≡ C → HasReadTake shape r.takes new e c.Stops →
     (h : List Event) → ReadingStands shape r h → BothFollow shape (h ++ e ∷ []) → ⊥
 take_stops changes shape r new e by read h st (of_puts, of_takes) =
     read (own C h) r.taken st.takes_stand (subst (AreOfTakes shape) (own_more changes C C h e by) of_takes)
 
 pub take_goes :
-    OwnChanges → (shape : Shape) (r : Reading) (new : TakeReading) (e : Event) → e.side ≡ C → HasRead shape r.takes new e c.GoesOn →
+    OwnChanges → (shape : Shape) (r : Reading) (new : TakeReading) (e : Event) → e.side ≡ C → HasReadTake shape r.takes new e c.GoesOn →
     (h : List Event) → ReadingStands shape r h → ReadingStands shape (record r { takes = new }) (h ++ e ∷ [])
 take_goes changes shape r new e by read h st = record {
   items = st.items;
@@ -82,7 +82,7 @@ take_goes changes shape r new e by read h st = record {
 }
 
 pub take_takes :
-    OwnChanges → (shape : Shape) (r : Reading) (new : TakeReading) (e : Event) (item : ℕ) (taken : List ℕ) → e.side ≡ C → HasRead shape r.takes new e (c.Takes item) →
+    OwnChanges → (shape : Shape) (r : Reading) (new : TakeReading) (e : Event) (item : ℕ) (taken : List ℕ) → e.side ≡ C → HasReadTake shape r.takes new e (c.Takes item) →
     taken ≡ r.taken ++ item ∷ [] → (h : List Event) → ReadingStands shape r h → ReadingStands shape (record r { takes = new; taken = taken }) (h ++ e ∷ [])
 take_takes changes shape r new e item taken by read more h st = record {
   items = st.items;

@@ -8,7 +8,7 @@ use Rattle.bits_core.specs.declared.shapes.Shape.{Shape}
 use Rattle.bits_core.specs.Made.{clock, own, IsBeginning}
 use Rattle.ring_core.specs.Counts.{first_count}
 use Rattle.ring_core.specs.Items.{items_put, items_taken, IsTold}
-use Rattle.ring_core.specs.Linear.{IsLinearizable}
+use Rattle.ring_core.specs.Linear.{IsLinearizableRun}
 use Rattle.ring_core.specs.RingLaw.{InEveryRun, RingLaw}
 use Rattle.ring_core.specs.RunLaws.{ClosedStays}
 use Rattle.ring_audit.specs.Audit.{IsFound, MeetsSentence, Statement, Lawful, Fault, IsFinding, SaysLinearizable, SaysSentence}
@@ -37,6 +37,6 @@ pub says_sentence : InEveryRun RingLaw → ClosedStays → (shape : Shape) (h : 
 says_sentence holds stays shape h (Lawful put taken told) found = sentence holds stays shape h put taken told found
 says_sentence holds stays shape h (Fault place kind) found = record {}
 
-pub says_linearizable : InEveryRun IsLinearizable → (shape : Shape) (h : List Event) (f : Statement) → SaysLinearizable shape h f
+pub says_linearizable : InEveryRun IsLinearizableRun → (shape : Shape) (h : List Event) (f : Statement) → SaysLinearizable shape h f
 says_linearizable holds shape h (Lawful put taken told) = holds shape h
 says_linearizable holds shape h (Fault place kind) = record {}

@@ -5,7 +5,7 @@ use Rattle.bits_core.specs.declared.events.Side.TheVariants.{C}
 use Rattle.bits_core.specs.declared.events.Access.{Access}
 use Rattle.bits_core.specs.declared.events.Event.{Event}
 use Rattle.bits_core.specs.declared.shapes.Shape.{Shape}
-use Rattle.bits_core.specs.Made.{Made, answered, end_event, events_of, IsBeginning}
+use Rattle.bits_core.specs.Made.{Made, answered, end_event, events_of, IsBeginning, opening_event}
 use Rattle.ring_core.specs.declared.consumers.TakeReply.{TakeReply}
 use Rattle.ring_core.specs.declared.consumers.TakeReply.TheVariants as replies
 use Rattle.ring_core.specs.declared.consumers.Stage.{Stage}
@@ -13,8 +13,8 @@ use Rattle.ring_core.specs.declared.consumers.Stage.TheVariants.{Idle, Scanning,
 use Rattle.ring_core.specs.Takes.{Take, Item, ItemAfterClose, Empty, Takes, End, Open, Closed, taken_after, taken_in, take_phrase, take_phrases, end_phrase, take_program, AreTakes}
 use Rattle.ring_core.specs.Items.{all_taken, events_in, items_taken, Tells, IsTold}
 use Rattle.ring_core.specs.ConsumerState.{ConsumerState, due_take, takes_at, is_taking}
-use Rattle.ring_core.specs.ConsumerCalls.{ConsumerStands, MadeAt, HasTakeMore, TakeGoesOn, IsReply, last_reply, reply_at_end}
-use Rattle.ring_audit.specs.Sides.{opening_event, open_events}
+use Rattle.ring_core.specs.ConsumerCalls.{ConsumerStands, ConsumerMadeAt, HasTakeMore, TakeGoesOn, IsReplyToTake, last_take_reply, reply_at_end}
+use Rattle.ring_audit.specs.Sides.{open_events}
 use Rattle.ring_audit.specs.TakeReading.{IsTakeReading, TakesStand, WereTaken, tells_closed}
 use Rattle.ring_audit.proofs.Readers.{open-short, open-long}
 use Rattle.ring_audit.proofs.Beginnings.{begin_is, access_is, events_of-append, length-events}
@@ -75,7 +75,7 @@ items-behind shape k (x ∷ xs) ys t l =
 
 -- ---- replies
 
-last-not_closed : (first : Option TakeReply) (xs : List Take) → tells_closed first ≡ false → tells_closed (last_reply first xs) ≡ false
+last-not_closed : (first : Option TakeReply) (xs : List Take) → tells_closed first ≡ false → tells_closed (last_take_reply first xs) ≡ false
 last-not_closed first [] e = e
 last-not_closed first (Item seen item ∷ xs) e = last-not_closed (Some (replies.Item item)) xs refl
 last-not_closed first (ItemAfterClose seen again item ∷ xs) e = last-not_closed (Some (replies.Item item)) xs refl
@@ -92,14 +92,14 @@ says_not false told e no_one = (λ is. absurd (cc), λ t. absurd (no_one t))
 told-over : (shape : Shape) (calls : Takes) (end : End) (t : ℕ) → calls.end ≡ end → events_in (take_program shape calls) ≤ t →
     SaysTold (tells_closed (reply_at_end end calls.takes)) (IsTold shape calls t)
 told-over shape calls Open t e l =
-    says_not (tells_closed (last_reply None calls.takes)) (IsTold shape calls t) (last-not_closed None calls.takes refl) (λ told. subst Tells e told.0)
+    says_not (tells_closed (last_take_reply None calls.takes)) (IsTold shape calls t) (last-not_closed None calls.takes refl) (λ told. subst Tells e told.0)
 told-over shape calls (Closed seen again) t e l = (λ is. (subst Tells (sym e) (record {}), l), λ told. refl)
 
 -- ---- the take under way
 
 -- its accesses come behind those of the takes
 front_at :
-    (st : Stage) (p : ConsumerState) (calls : Takes) (k : ℕ) (made : List Made) → MadeAt st p calls k made → takes_at st ≡ true →
+    (st : Stage) (p : ConsumerState) (calls : Takes) (k : ℕ) (made : List Made) → ConsumerMadeAt st p calls k made → takes_at st ≡ true →
     (part : List Made) × (made ≡ take_phrases p.shape 0 calls.takes ++ part)
 front_at Idle p calls k made is e = absurd (cc)
 front_at Scanning p calls k made (rests, reads, stands, is) e = (reads, is)
@@ -159,10 +159,10 @@ taken_at :
     (shape : Shape) (p : ConsumerState) (o : Option Access) (es : List Event) (items : List ℕ) (due : Option Access) (reply : Option TakeReply) →
     (st : TakesStand shape (record { consumer = p; open_access = o }) es items) → ((a : Access) → o ≡ Some a → due ≡ Some a) →
     ((a : Access) → due ≡ Some a → (is_taking p ≡ true) × TakeGoesOn shape st.calls st.made a) →
-    (due ≡ None → (is_taking p ≡ false) × (st.made ≡ take_program shape st.calls)) → IsReply st.calls (is_taking p) reply → WereTaken shape es items (tells_closed reply)
+    (due ≡ None → (is_taking p ≡ false) × (st.made ≡ take_program shape st.calls)) → IsReplyToTake st.calls (is_taking p) reply → WereTaken shape es items (tells_closed reply)
 taken_at shape p o es items None reply st is_due goes rests replied =
     let (idle, made_is) = rests refl in
-    let answers : IsReply st.calls false reply = subst (λ b. IsReply st.calls b reply) idle replied in
+    let answers : IsReplyToTake st.calls false reply = subst (λ b. IsReplyToTake st.calls b reply) idle replied in
     let none : o ≡ None = no_open o is_due in
     let program : List Made = take_program shape st.calls in
     let es_is : es ≡ events_of C program =
@@ -185,7 +185,7 @@ taken_at shape p o es items None reply st is_due goes rests replied =
     no_open (Some a) f = let clash : None ≡ Some a = f a refl in absurd (cc)
 taken_at shape p o es items (Some a) reply st is_due goes rests replied =
     let (is, on) = goes a refl in
-    let answers : IsReply st.calls true reply = subst (λ b. IsReply st.calls b reply) is replied in
+    let answers : IsReplyToTake st.calls true reply = subst (λ b. IsReplyToTake st.calls b reply) is replied in
     let (more, has, (rest, f)) = on true (λ last. refl) in
     let program : take_program shape more ≡ st.made ++ answered a true ∷ rest = sym f ∙ append_assoc st.made (answered a true ∷ []) rest in
     let same : (b : Access) → o ≡ Some b → b ≡ a = λ b e. (let both : Some a ≡ Some b = is_due b e in cc) in
@@ -210,7 +210,7 @@ pub has_taken :
     (p : ConsumerState) (o : Option Access) (due : Option Access) (reply : Option TakeReply) → IsTakeReading (record { consumer = p; open_access = o }) → due ≡ due_take p →
     ((calls : Takes) (made : List Made) (a : Access) → ConsumerStands p calls made → due ≡ Some a → (is_taking p ≡ true) × TakeGoesOn p.shape calls made a) →
     ((calls : Takes) (made : List Made) → ConsumerStands p calls made → due ≡ None → (is_taking p ≡ false) × (made ≡ take_program p.shape calls)) →
-    ((calls : Takes) (made : List Made) → ConsumerStands p calls made → IsReply calls (is_taking p) reply) →
+    ((calls : Takes) (made : List Made) → ConsumerStands p calls made → IsReplyToTake calls (is_taking p) reply) →
     (es : List Event) (items : List ℕ) → TakesStand p.shape (record { consumer = p; open_access = o }) es items → WereTaken p.shape es items (tells_closed reply)
 has_taken p o due reply is due_is goes rests replies_so es items st =
     taken_at p.shape p o es items due reply st (λ a e. due_is ∙ is.is_due a e) (λ a e. goes st.calls st.made a st.stands e) (λ e. rests st.calls st.made st.stands e)

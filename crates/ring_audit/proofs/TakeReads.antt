@@ -5,7 +5,7 @@ use Rattle.bits_core.specs.declared.events.Access.{Access}
 use Rattle.bits_core.specs.declared.events.Access.TheVariants as begins
 use Rattle.bits_core.specs.declared.events.Event.{Event}
 use Rattle.bits_core.specs.declared.shapes.Shape.{Shape}
-use Rattle.bits_core.specs.Made.{Made, Read, access_of, answered, begin_event, end_event, events_of}
+use Rattle.bits_core.specs.Made.{Made, Read, access_of, answered, begin_event, end_event, events_of, opening_event}
 use Rattle.register_core.specs.ScanState.{row_read_by}
 use Rattle.ring_core.specs.declared.consumers.TakeReply.{TakeReply}
 use Rattle.ring_core.specs.Calls.{LastBitIsDue}
@@ -15,9 +15,9 @@ use Rattle.ring_core.specs.GoingOn.{TakesGoOnAlike, LastTakesReadOne}
 use Rattle.ring_core.specs.Readings.{TakesAreFirst}
 use Rattle.ring_core.specs.declared.consumers.Stage.{Stage}
 use Rattle.ring_core.specs.declared.consumers.Stage.TheVariants.{Idle, Scanning, Checking, Rescanning, Loading, Counting}
-use Rattle.ring_core.specs.ConsumerState.{ConsumerState, due_at, due_take, takes_at, is_taking}
-use Rattle.ring_core.specs.ConsumerCalls.{TakeGoesOn, ConsumerStands, tells}
-use Rattle.ring_audit.specs.Sides.{opening_event, AreOfTakes}
+use Rattle.ring_core.specs.ConsumerState.{ConsumerState, consumer_due_at, due_take, takes_at, is_taking}
+use Rattle.ring_core.specs.ConsumerCalls.{TakeGoesOn, ConsumerStands, ends_closed}
+use Rattle.ring_audit.specs.Sides.{AreOfTakes}
 use Rattle.ring_audit.specs.TakeReading.{TakeReading, TakesStand}
 use Rattle.ring_audit.proofs.Readers as readers
 use Rattle.ring_audit.proofs.Beginnings.{begin_is, access_is, same_access, same_made, GoesOnWith, GoesOnBy, events_of-append}
@@ -52,7 +52,7 @@ zero_at_last one shape r es items a st some due (i, reads, last) of_takes =
     absurd (cc)
 
 -- a take is under way while an access is due
-due_at-takes : (st : Stage) (p : ConsumerState) (a : Access) → due_at st p ≡ Some a → takes_at st ≡ true
+due_at-takes : (st : Stage) (p : ConsumerState) (a : Access) → consumer_due_at st p ≡ Some a → takes_at st ≡ true
 due_at-takes Idle p a e = absurd (cc)
 due_at-takes Scanning p a e = refl
 due_at-takes Checking p a e = refl
@@ -64,7 +64,7 @@ pub due_takes : (p : ConsumerState) (a : Access) → due_take p ≡ Some a → i
 due_takes p a e = due_at-takes p.stage p a e
 
 -- the last take was told that the ring is closed
-pub told-tells : (end : End) → tells end ≡ true → Tells end
+pub told-tells : (end : End) → ends_closed end ≡ true → Tells end
 told-tells Open e = absurd (cc)
 told-tells (Closed seen again) e = record {}
 

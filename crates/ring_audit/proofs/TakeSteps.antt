@@ -9,21 +9,21 @@ use Rattle.ring_core.specs.declared.consumers.TakeReply.{TakeReply}
 use Rattle.ring_core.specs.declared.consumers.TakeReply.TheVariants as replies
 use Rattle.ring_core.specs.Takes.{Takes}
 use Rattle.ring_core.specs.ConsumerState.{ConsumerState, due_take, is_taking}
-use Rattle.ring_core.specs.ConsumerCalls.{ConsumerStands, HasMoved, IsReply, IsAfter}
-use Rattle.ring_audit.specs.TakeReading.{TakeReading, TakesStand, HasRead, step_by}
+use Rattle.ring_core.specs.ConsumerCalls.{ConsumerStands, ConsumerHasMoved, IsReplyToTake, IsAfterTake}
+use Rattle.ring_audit.specs.TakeReading.{TakeReading, TakesStand, HasReadTake, step_by}
 use Rattle.ring_audit.proofs.Readers.{ended}
 use Rattle.ring_audit.proofs.TakeItems.{replied, items-after}
 use Rattle.ring_audit.proofs.TakeReads.{due_takes}
 
 pub finish_goes_on :
     (shape : Shape) (old new : ConsumerState) (a : Access) (v : Bool) (reply : Option TakeReply) → due_take old ≡ Some a → new.shape ≡ old.shape →
-    ((calls : Takes) (made : List Made) (access : Access) → ConsumerStands old calls made → due_take old ≡ Some access → HasMoved old new calls (made ++ answered access v ∷ [])) →
-    ((calls : Takes) (made : List Made) → ConsumerStands new calls made → IsReply calls (is_taking new) reply) →
+    ((calls : Takes) (made : List Made) (access : Access) → ConsumerStands old calls made → due_take old ≡ Some access → ConsumerHasMoved old new calls (made ++ answered access v ∷ [])) →
+    ((calls : Takes) (made : List Made) → ConsumerStands new calls made → IsReplyToTake calls (is_taking new) reply) →
     (es : List Event) (items : List ℕ) → TakesStand shape (record { consumer = old; open_access = Some a }) es items →
     TakesStand shape (record { consumer = new; open_access = None }) (es ++ end_event C (answered a v) ∷ []) (items ++ replied reply)
 finish_goes_on shape old new a v reply due same moves replies es items st =
     let (more, stands, after) = moves st.calls st.made a st.stands due in
-    let after_one : IsAfter old.shape true (is_taking new) st.calls more = subst (λ b. IsAfter old.shape b (is_taking new) st.calls more) (due_takes old a due) after in
+    let after_one : IsAfterTake old.shape true (is_taking new) st.calls more = subst (λ b. IsAfterTake old.shape b (is_taking new) st.calls more) (due_takes old a due) after in
     record {
       calls = more;
       made = st.made ++ answered a v ∷ [];
@@ -38,7 +38,7 @@ finish_goes_on shape old new a v reply due same moves replies es items st =
 pub has_read :
     (shape : Shape) (old new : TakeReading) (e : Event) (reply : Option TakeReply) →
     ((es : List Event) (items : List ℕ) → TakesStand shape old es items → TakesStand shape new (es ++ e ∷ []) (items ++ replied reply)) →
-    HasRead shape old new e (step_by reply)
+    HasReadTake shape old new e (step_by reply)
 has_read shape old new e None on = λ es items st. subst (TakesStand shape new (es ++ e ∷ [])) (append-nil items) (on es items st)
 has_read shape old new e (Some (replies.Item item)) on = on
 has_read shape old new e (Some replies.Empty) on = λ es items st. subst (TakesStand shape new (es ++ e ∷ [])) (append-nil items) (on es items st)

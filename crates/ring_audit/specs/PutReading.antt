@@ -13,7 +13,7 @@ use Rattle.register_core.specs.Word.{digit_writes}
 use Rattle.register_core.specs.WordState.{ReaderState, ReaderStands}
 use Rattle.register_core.specs.ScanState.{ScanState, zero_reads, scan_phrase, row_read_by, due_scan}
 use Rattle.register_core.specs.UnaryState.{UnaryState, due_unary, due_writes, UnaryStands}
-use Rattle.ring_core.specs.Counts.{LeavesRoomFor, past, first_count, count_bits}
+use Rattle.ring_core.specs.Counts.{LeavesRoomFor, number_past, first_count, count_bits}
 use Rattle.ring_core.specs.Puts.{Put, Stored, Puts, words_phrase, put_phrases, put_program, IsPut, ArePuts}
 use Rattle.ring_core.specs.PutParts.{count_behind}
 use Rattle.ring_core.specs.Items.{items_put, all_put}
@@ -94,8 +94,8 @@ pub record InPut (shape : Shape) (r : PutReading) (puts : List Put) (items store
   pub seen : ℕ
   pub may : IsMost shape (count_behind shape puts).number seen (length stored + r.room)
   pub fit : AllFit shape stored
-  pub next_is : r.next ≡ past (count_behind shape puts).number stored % modulus_of shape
-  pub cell_is : r.cell ≡ past (count_behind shape puts).number stored % capacity_of shape
+  pub next_is : r.next ≡ number_past (count_behind shape puts).number stored % modulus_of shape
+  pub cell_is : r.cell ≡ number_past (count_behind shape puts).number stored % capacity_of shape
   pub some_is : r.some ≡ has_items stored
   pub holds : RowHolds r.row (count_behind shape puts).bits
   pub items_are : items ≡ all_put puts
@@ -105,8 +105,8 @@ pub record InCount (shape : Shape) (r : PutReading) (puts : List Put) (items sto
   pub seen : ℕ
   pub batch : List ℕ
   pub is_put : IsPut shape (count_behind shape puts).number (Stored seen batch)
-  pub next_is : r.next ≡ past (count_behind shape puts).number batch % modulus_of shape
-  pub cell_is : r.cell ≡ past (count_behind shape puts).number batch % capacity_of shape
+  pub next_is : r.next ≡ number_past (count_behind shape puts).number batch % modulus_of shape
+  pub cell_is : r.cell ≡ number_past (count_behind shape puts).number batch % capacity_of shape
   pub writes : List RowWrite
   pub holds : RowHolds r.row (bits_after (count_behind shape puts).bits writes)
   pub parts : count_bits shape (count_behind shape puts) batch ≡ writes ++ due_writes r.row

@@ -8,14 +8,9 @@ use Rattle.bits_core.specs.declared.events.Bit.{Bit}
 use Rattle.bits_core.specs.declared.events.Access.TheVariants as begins
 use Rattle.bits_core.specs.declared.events.Event.{Event}
 use Rattle.bits_core.specs.declared.shapes.Shape.{Shape}
-use Rattle.bits_core.specs.Made.{answered, end_event, events_of, IsBeginning}
+use Rattle.bits_core.specs.Made.{answered, end_event, events_of, IsBeginning, opening_event}
 use Rattle.ring_core.specs.Puts.{Puts, put_program, ArePuts}
 use Rattle.ring_core.specs.Takes.{Takes, take_program, AreTakes}
-
--- the event with which a side begins an access
-abbrev pub opening_event : Side → Access → Event
-opening_event s (begins.Read b) = record { side = s; bit = b; act = ReadBegin }
-opening_event s (begins.Write b v) = record { side = s; bit = b; act = WriteBegin v }
 
 -- the begin of the access that is open
 abbrev pub open_events : Side → Option Access → List Event

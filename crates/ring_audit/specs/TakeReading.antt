@@ -53,10 +53,10 @@ tells_closed (Some replies.Empty) = false
 tells_closed (Some replies.Closed) = true
 
 -- An event more: where the reader stops, the events are no beginning of those of any calls; else it stands after them.
-abbrev pub HasRead : Shape → TakeReading → TakeReading → Event → TakeStep → Type 0
-HasRead shape old new e Stops = (es : List Event) (items : List ℕ) → TakesStand shape old es items → ¬ AreOfTakes shape (es ++ e ∷ [])
-HasRead shape old new e GoesOn = (es : List Event) (items : List ℕ) → TakesStand shape old es items → TakesStand shape new (es ++ e ∷ []) items
-HasRead shape old new e (TakesItem item) = (es : List Event) (items : List ℕ) → TakesStand shape old es items → TakesStand shape new (es ++ e ∷ []) (items ++ item ∷ [])
+abbrev pub HasReadTake : Shape → TakeReading → TakeReading → Event → TakeStep → Type 0
+HasReadTake shape old new e Stops = (es : List Event) (items : List ℕ) → TakesStand shape old es items → ¬ AreOfTakes shape (es ++ e ∷ [])
+HasReadTake shape old new e GoesOn = (es : List Event) (items : List ℕ) → TakesStand shape old es items → TakesStand shape new (es ++ e ∷ []) items
+HasReadTake shape old new e (TakesItem item) = (es : List Event) (items : List ℕ) → TakesStand shape old es items → TakesStand shape new (es ++ e ∷ []) (items ++ item ∷ [])
 
 -- the events are a beginning of those of calls, by which these items were taken and this was told
 pub record WereTaken (shape : Shape) (es : List Event) (items : List ℕ) (told : Bool) : Type 0 where

@@ -3,10 +3,9 @@ ghost use Rattle.std.specs.Prelude.{◌≡◌, ◌≢◌, ◌≤◌, ◌<◌, �
 ghost use Rattle.bits_core.specs.declared.events.Side.TheVariants.{P};
 ghost use Rattle.bits_core.specs.declared.events.Bit.TheVariants.{Cell};
 ghost use Rattle.bits_core.specs.declared.events.Event.{Event as AnEvent};
-ghost use Rattle.bits_core.specs.Made.{answered, end_event};
+ghost use Rattle.bits_core.specs.Made.{answered, end_event, opening_event};
 ghost use Rattle.bits_core.specs.Shape.{modulus_of, batch_of};
 ghost use Rattle.ring_core.specs.Counts.{LeavesRoom, LeavesRoomFor};
-ghost use Rattle.ring_audit.specs.Sides.{opening_event};
 ghost use Rattle.ring_audit.specs.PutReading.{PutsStand, HasReadPut, WerePut};
 
 use crate::sides::{answer_to, begun_by, is_same, told_by, writes_next};

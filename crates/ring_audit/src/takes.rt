@@ -3,10 +3,10 @@ ghost use Rattle.std.specs.Prelude.{◌≡◌, ◌≢◌, ◌++◌, ◌∷◌, [
 ghost use Rattle.bits_core.specs.declared.events.Side.TheVariants.{C};
 ghost use Rattle.bits_core.specs.declared.events.Event.{Event as AnEvent};
 ghost use Rattle.bits_core.specs.declared.events.Access.{Access as AnAccess};
-ghost use Rattle.bits_core.specs.Made.{answered, end_event};
+ghost use Rattle.bits_core.specs.Made.{answered, end_event, opening_event};
 ghost use Rattle.ring_core.specs.ConsumerState.{due_take};
-ghost use Rattle.ring_audit.specs.Sides.{opening_event, AreOfTakes};
-ghost use Rattle.ring_audit.specs.TakeReading.{TakesStand, HasRead, WereTaken, step_by, tells_closed};
+ghost use Rattle.ring_audit.specs.Sides.{AreOfTakes};
+ghost use Rattle.ring_audit.specs.TakeReading.{TakesStand, HasReadTake, WereTaken, step_by, tells_closed};
 
 use crate::sides::{answer_to, begun_by, is_same};
 use bits_core::{Access, Event, Shape};
@@ -58,7 +58,7 @@ impl TakeReader {
     pub fn read(&mut self, event: Event) -> TakeStep
         requires { event.side ≡ C }
         ensures shape { self.new.consumer.shape ≡ self.old.consumer.shape }
-        ensures read { HasRead self.old.consumer.shape self.old self.new event result }
+        ensures read { HasReadTake self.old.consumer.shape self.old self.new event result }
     {
         match begun_by(event) {
             Some(access) => {
@@ -121,7 +121,7 @@ impl TakeReader {
     fn finish(&mut self, access: Access, answer: bool) -> TakeStep
         requires { self.old.open_access ≡ Some access }
         ensures shape { self.new.consumer.shape ≡ self.old.consumer.shape }
-        ensures read { HasRead self.old.consumer.shape self.old self.new (end_event C (answered access answer)) result }
+        ensures read { HasReadTake self.old.consumer.shape self.old self.new (end_event C (answered access answer)) result }
     {
         last_reads_are_one();
         if self.consumer.expects_one() && !answer {

@@ -6,7 +6,7 @@ use Rattle.bits_core.specs.declared.shapes.Shape.{Shape}
 use Rattle.bits_core.specs.Shape.{AllFit, capacity_of, modulus_of, width_of}
 use Rattle.bits_core.specs.Made.{Made}
 use Rattle.register_core.specs.Word.{word_write}
-use Rattle.ring_core.specs.Counts.{LeavesRoomFor, distance, past}
+use Rattle.ring_core.specs.Counts.{LeavesRoomFor, distance, number_past}
 use Rattle.ring_core.specs.Puts.{words_phrase, IsBatch}
 use Rattle.ring_core.specs.ProducerCalls.{room_in, HasSeen}
 use Rattle.ring_core.proofs.CountRow.{past_is}
@@ -119,5 +119,5 @@ pub far_from : (count n i m : ℕ) → count ≡ n % m → (count + i) % m ≡ (
 far_from count n i m e = ap (λ k. (k + i) % m) e ∙ mod-add-mod n m i
 
 -- the number past some items, by how many they are
-pub past_so : (count n m : ℕ) (items : List ℕ) (most : ℕ) → count ≡ n % m → length items ≡ most → (count + most) % m ≡ past n items % m
+pub past_so : (count n m : ℕ) (items : List ℕ) (most : ℕ) → count ≡ n % m → length items ≡ most → (count + most) % m ≡ number_past n items % m
 past_so count n m items most e size = far_from count n most m e ∙ ap (λ k. k % m) (omega (arith, past_is n items, size))

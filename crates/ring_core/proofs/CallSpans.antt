@@ -8,7 +8,7 @@ use Rattle.bits_core.specs.Shape.{capacity_of, width_of}
 use Rattle.bits_core.specs.Made.{Made, Read}
 use Rattle.register_core.specs.Word.{word_read}
 use Rattle.register_core.specs.ScanState.{scan_phrase, row_read_by}
-use Rattle.ring_core.specs.Counts.{past, Count, first_count, count_phrase, batch_phrase}
+use Rattle.ring_core.specs.Counts.{number_past, Count, first_count, count_phrase, batch_phrase}
 use Rattle.ring_core.specs.Puts.{Put, Stored, Full, Puts, stored_in, stored_after, stored_count, words_phrase, put_phrase, put_phrases}
 use Rattle.ring_core.specs.Takes.{Take, Item, ItemAfterClose, Empty, End, Takes, taken_after, taken_in, take_phrase, take_phrases}
 use Rattle.ring_core.specs.Items.{events_in}
@@ -43,7 +43,7 @@ put_counts (Full seen ∷ puts) = put_counts puts
 
 pub stored_is : (n : ℕ) (puts : List Put) → stored_in n puts ≡ n + put_counts puts
 stored_is n [] = omega arith
-stored_is n (Stored seen items ∷ puts) = omega (arith, stored_is (past n items) puts, past_is n items)
+stored_is n (Stored seen items ∷ puts) = omega (arith, stored_is (number_past n items) puts, past_is n items)
 stored_is n (Full seen ∷ puts) = stored_is n puts
 
 -- what stands in the spans of puts stands in those of more puts, behind the events and the items of the ones before

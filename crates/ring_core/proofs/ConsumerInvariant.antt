@@ -14,12 +14,12 @@ use Rattle.register_core.specs.UnaryState.{UnaryState}
 use Rattle.ring_core.specs.declared.consumers.Stage.{Stage}
 use Rattle.ring_core.specs.declared.consumers.Stage.TheVariants.{Scanning, Rescanning, Loading, Counting}
 use Rattle.ring_core.specs.Calls.{LastBitIsDue, IsScanning, IsCounted}
-use Rattle.ring_core.specs.ConsumerState.{ConsumerState, IsConsumer, IsAt, IsTaking, IsLoading, due_take, due_at}
+use Rattle.ring_core.specs.ConsumerState.{ConsumerState, IsConsumer, ConsumerIsAt, IsTaking, IsLoading, due_take, consumer_due_at}
 use Rattle.ring_core.proofs.MachineParts.{scanning, counting}
 
 -- what holds at the stage that a consumer is at
-pub at_stage : (p : ConsumerState) (st : Stage) → IsConsumer p → p.stage ≡ st → IsAt st p
-at_stage p st is e = subst (λ s. IsAt s p) e is.at
+pub at_stage : (p : ConsumerState) (st : Stage) → IsConsumer p → p.stage ≡ st → ConsumerIsAt st p
+at_stage p st is e = subst (λ s. ConsumerIsAt s p) e is.at
 
 -- what holds while a take scans
 abbrev AtScan : ConsumerState → Type 0
@@ -31,18 +31,18 @@ same_taking :
 same_taking p st scan word row is = record { not_told = is.not_told; not_answered = is.not_answered }
 
 still_scans :
-    (p : ConsumerState) (st : Stage) (s : ScanState) (answer : Bool) → IsConsumer p → p.stage ≡ st → due_at st p ≡ due_scan p.scan → AtScan p →
-    (AtScan (record p { stage = st; scan = s }) → IsAt st (record p { stage = st; scan = s })) → (LastBitIsDue p.shape C (due_take p) → answer ≡ true) →
+    (p : ConsumerState) (st : Stage) (s : ScanState) (answer : Bool) → IsConsumer p → p.stage ≡ st → consumer_due_at st p ≡ due_scan p.scan → AtScan p →
+    (AtScan (record p { stage = st; scan = s }) → ConsumerIsAt st (record p { stage = st; scan = s })) → (LastBitIsDue p.shape C (due_take p) → answer ≡ true) →
     s ≡ scan_read p.scan answer → s.found ≡ false → IsConsumer (record p { scan = s })
 still_scans p st s answer is e due (counted, taking, scans) at_scan one fed open_still =
-    let due_scans : due_take p ≡ due_scan p.scan = ap (λ t. due_at t p) e ∙ due in
+    let due_scans : due_take p ≡ due_scan p.scan = ap (λ t. consumer_due_at t p) e ∙ due in
     let one' : LastBitIsDue p.shape C (due_scan p.scan) → answer ≡ true = subst (λ d. LastBitIsDue p.shape C d → answer ≡ true) due_scans one in
     record {
       count_below = is.count_below;
       cell_below = is.cell_below;
       row_side = is.row_side;
       row_modulus = is.row_modulus;
-      at = subst (λ t. IsAt t (record p { stage = t; scan = s })) (sym e)
+      at = subst (λ t. ConsumerIsAt t (record p { stage = t; scan = s })) (sym e)
           (at_scan (counted, same_taking p st s p.word p.row taking, scanning p.shape C p.scan s answer scans one' fed open_still));
     }
 

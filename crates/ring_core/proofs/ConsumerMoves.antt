@@ -20,8 +20,8 @@ use Rattle.ring_core.specs.declared.consumers.Stage.{Stage}
 use Rattle.ring_core.specs.declared.consumers.Stage.TheVariants.{Idle, Scanning, Checking, Rescanning, Loading, Counting}
 use Rattle.ring_core.specs.Counts.{ShowsItem, counted, count_phrase}
 use Rattle.ring_core.specs.Takes.{Take, Takes, Empty, Open, taken_after, taken_in, take_phrase, take_phrases, SeesNone, IsTake, AreTakes}
-use Rattle.ring_core.specs.ConsumerState.{ConsumerState, due_take, due_at, is_taking, takes_at}
-use Rattle.ring_core.specs.ConsumerCalls.{ConsumerStands, MadeAt, Once, Twice, finding_phrase, HasMoved, reply_to, and_take, and_end, HasTakeMore, IsOpenFor, tells, IsReply, IsAfter}
+use Rattle.ring_core.specs.ConsumerState.{ConsumerState, due_take, consumer_due_at, is_taking, takes_at}
+use Rattle.ring_core.specs.ConsumerCalls.{ConsumerStands, ConsumerMadeAt, Once, Twice, finding_phrase, ConsumerHasMoved, take_reply_to, and_take, and_end, HasTakeMore, IsOpenForTake, ends_closed, IsReplyToTake, IsAfterTake}
 use Rattle.ring_core.proofs.MachineParts.{ScanGoesOn, RowGoesOn, longer, count_writes-push}
 use Rattle.ring_core.proofs.TakeCalls.{taken-push, are-push, are-end, reply-push, program-push, take_of, take_of-is, take_of-takes, take_of-replies, take_of-phrase}
 
@@ -30,16 +30,16 @@ use Rattle.ring_core.proofs.TakeCalls.{taken-push, are-push, are-end, reply-push
 -- the accesses that were made
 pub made_at :
     (st : Stage) (p : ConsumerState) (calls : Takes) (made : List Made) → p.stage ≡ st → ConsumerStands p calls made →
-    MadeAt st p calls (taken_in 0 calls.takes) made
-made_at st p calls made e stands = subst (λ s. MadeAt s p calls (taken_in 0 calls.takes) made) e stands.made_is
+    ConsumerMadeAt st p calls (taken_in 0 calls.takes) made
+made_at st p calls made e stands = subst (λ s. ConsumerMadeAt s p calls (taken_in 0 calls.takes) made) e stands.made_is
 
 -- whether no take was told that the ring is closed
-pub open_at : (st : Stage) (p : ConsumerState) (calls : Takes) (made : List Made) → p.stage ≡ st → ConsumerStands p calls made → IsOpenFor (takes_at st) calls
-open_at st p calls made e stands = subst (λ s. IsOpenFor (takes_at s) calls) e stands.not_over
+pub open_at : (st : Stage) (p : ConsumerState) (calls : Takes) (made : List Made) → p.stage ≡ st → ConsumerStands p calls made → IsOpenForTake (takes_at st) calls
+open_at st p calls made e stands = subst (λ s. IsOpenForTake (takes_at s) calls) e stands.not_over
 
 -- the access that is due
-pub due_is : (st : Stage) (p : ConsumerState) (access : Access) → p.stage ≡ st → due_take p ≡ Some access → due_at st p ≡ Some access
-due_is st p access e due = subst (λ s. due_at s p ≡ Some access) e due
+pub due_is : (st : Stage) (p : ConsumerState) (access : Access) → p.stage ≡ st → due_take p ≡ Some access → consumer_due_at st p ≡ Some access
+due_is st p access e due = subst (λ s. consumer_due_at s p ≡ Some access) e due
 
 -- ---- a take goes on
 
@@ -47,12 +47,12 @@ due_is st p access e due = subst (λ s. due_at s p ≡ Some access) e due
 abbrev pub at_stage : ConsumerState → Stage → ScanState → ReaderState → UnaryState → ConsumerState
 at_stage p st scan word row = record p { stage = st; scan = scan; word = word; row = row }
 
-after_on : (shape : Shape) (a b : Bool) (calls : Takes) → a ≡ true → b ≡ true → IsAfter shape a b calls calls
+after_on : (shape : Shape) (a b : Bool) (calls : Takes) → a ≡ true → b ≡ true → IsAfterTake shape a b calls calls
 after_on shape true true calls e f = refl
 after_on shape true false calls e f = absurd (cc)
 after_on shape false b calls e f = absurd (cc)
 
-after_over : (shape : Shape) (a : Bool) (calls more : Takes) → a ≡ true → HasTakeMore shape calls more → IsAfter shape a false calls more
+after_over : (shape : Shape) (a : Bool) (calls more : Takes) → a ≡ true → HasTakeMore shape calls more → IsAfterTake shape a false calls more
 after_over shape true calls more e has = has
 after_over shape false calls more e has = absurd (cc)
 
@@ -60,7 +60,7 @@ after_over shape false calls more e has = absurd (cc)
 pub take_goes_on :
     (p : ConsumerState) (st now : Stage) (scan : ScanState) (word : ReaderState) (row : UnaryState) (calls : Takes) (made more : List Made) →
     p.stage ≡ st → takes_at st ≡ true → takes_at now ≡ true → ConsumerStands p calls made →
-    MadeAt now (at_stage p now scan word row) calls (taken_in 0 calls.takes) more → HasMoved p (at_stage p now scan word row) calls more
+    ConsumerMadeAt now (at_stage p now scan word row) calls (taken_in 0 calls.takes) more → ConsumerHasMoved p (at_stage p now scan word row) calls more
 take_goes_on p st now scan word row calls made more e before after stands made_is =
     let was : is_taking p ≡ true = ap takes_at e ∙ before in
     let same : is_taking p ≡ takes_at now = was ∙ sym after in (
@@ -70,8 +70,8 @@ take_goes_on p st now scan word row calls made more e before after stands made_i
         count_is = stands.count_is;
         cell_is = stands.cell_is;
         told_is = stands.told_is;
-        not_over = subst (λ b. IsOpenFor b calls) same stands.not_over;
-        reply_is = subst (λ b. IsReply calls b p.reply) same stands.reply_is;
+        not_over = subst (λ b. IsOpenForTake b calls) same stands.not_over;
+        reply_is = subst (λ b. IsReplyToTake calls b p.reply) same stands.reply_is;
         made_is = made_is;
       },
       after_on p.shape (is_taking p) (takes_at now) calls was after,
@@ -79,8 +79,8 @@ take_goes_on p st now scan word row calls made more e before after stands made_i
 
 -- ---- a take is over
 
-still_open : (p : ConsumerState) (calls : Takes) → is_taking p ≡ true → IsOpenFor (is_taking p) calls → calls.end ≡ Open
-still_open p calls was o = subst (λ b. IsOpenFor b calls) was o
+still_open : (p : ConsumerState) (calls : Takes) → is_taking p ≡ true → IsOpenForTake (is_taking p) calls → calls.end ≡ Open
+still_open p calls was o = subst (λ b. IsOpenForTake b calls) was o
 
 -- the state of a consumer that has ended a take
 abbrev pub ended_take : ConsumerState → Option TakeReply → ℕ → ℕ → ScanState → ReaderState → UnaryState → ConsumerState
@@ -90,11 +90,11 @@ ended_take p reply count cell scan word row = record p { count = count; cell = c
 pub take_over :
     (p : ConsumerState) (st : Stage) (x : Take) (reply : Option TakeReply) (count cell : ℕ) (scan : ScanState) (word : ReaderState) (row : UnaryState)
     (calls : Takes) (made more : List Made) → p.stage ≡ st → takes_at st ≡ true → ConsumerStands p calls made →
-    IsTake p.shape (taken_in 0 calls.takes) x → reply ≡ Some (reply_to x) →
+    IsTake p.shape (taken_in 0 calls.takes) x → reply ≡ Some (take_reply_to x) →
     count ≡ taken_after (taken_in 0 calls.takes) x % modulus_of p.shape → cell ≡ taken_after (taken_in 0 calls.takes) x % capacity_of p.shape →
     UnaryStands row (counted p.shape (taken_after (taken_in 0 calls.takes) x)) (count_writes C (counted p.shape (taken_after (taken_in 0 calls.takes) x))) →
     more ≡ take_phrases p.shape 0 calls.takes ++ take_phrase p.shape (taken_in 0 calls.takes) x →
-    HasMoved p (ended_take p reply count cell scan word row) calls more
+    ConsumerHasMoved p (ended_take p reply count cell scan word row) calls more
 take_over p st x reply count cell scan word row calls made more e before stands is reply_is count_is cell_is rests made_is =
     let was : is_taking p ≡ true = ap takes_at e ∙ before in
     let o : calls.end ≡ Open = still_open p calls was stands.not_over in
@@ -106,7 +106,7 @@ take_over p st x reply count cell scan word row calls made more e before stands 
         are = are;
         count_is = count_is ∙ sym (ap (λ n. n % modulus_of p.shape) k);
         cell_is = cell_is ∙ sym (ap (λ n. n % capacity_of p.shape) k);
-        told_is = stands.told_is ∙ ap tells o;
+        told_is = stands.told_is ∙ ap ends_closed o;
         not_over = record {};
         reply_is = reply_is ∙ sym (reply-push None calls.takes x);
         made_is = (
@@ -123,22 +123,22 @@ take_over p st x reply count cell scan word row calls made more e before stands 
 pub scan_on :
     (p : ConsumerState) (s : ScanState) (answer : Bool) → p.stage ≡ Scanning → ScanGoesOn p.scan s answer →
     (calls : Takes) (made : List Made) (access : Access) → ConsumerStands p calls made → due_take p ≡ Some access →
-    HasMoved p (record p { scan = s }) calls (made ++ answered access answer ∷ [])
+    ConsumerHasMoved p (record p { scan = s }) calls (made ++ answered access answer ∷ [])
 scan_on p s answer e goes calls made access stands due =
     let (rests, reads, scans, made_is) = made_at Scanning p calls made e stands in
     let x : List Made = answered access answer ∷ [] in
     let front : List Made = take_phrases p.shape 0 calls.takes in
-    let moved : HasMoved p (at_stage p Scanning s p.word p.row) calls (made ++ x) =
+    let moved : ConsumerHasMoved p (at_stage p Scanning s p.word p.row) calls (made ++ x) =
     take_goes_on p Scanning Scanning s p.word p.row calls made (made ++ x) e refl refl stands
     (rests, reads ++ x, goes reads access scans (due_is Scanning p access e due), ap (λ l. l ++ x) made_is ∙ append_assoc front reads x) in
-    subst (λ st. HasMoved p (at_stage p st s p.word p.row) calls (made ++ x)) (sym e) moved
+    subst (λ st. ConsumerHasMoved p (at_stage p st s p.word p.row) calls (made ++ x)) (sym e) moved
 
 -- it shows an item
 pub scan_item :
     (p : ConsumerState) (s : ScanState) (w : ReaderState) (answer : Bool) (seen : ℕ) → p.stage ≡ Scanning → ScanGoesOn p.scan s answer →
     ((reads : List Made) → ScanStands s reads → IsScanOf (row_read_by C) (modulus_of p.shape) reads seen) → ReaderStands w [] → ShowsItem p.shape seen p.count →
     (calls : Takes) (made : List Made) (access : Access) → ConsumerStands p calls made → due_take p ≡ Some access →
-    HasMoved p (at_stage p Loading s w p.row) calls (made ++ answered access answer ∷ [])
+    ConsumerHasMoved p (at_stage p Loading s w p.row) calls (made ++ answered access answer ∷ [])
 scan_item p s w answer seen e goes gives word_stands shows calls made access stands due =
     let (rests, reads, scans, made_is) = made_at Scanning p calls made e stands in
     let x : List Made = answered access answer ∷ [] in
@@ -159,7 +159,7 @@ pub scan_none :
     (p : ConsumerState) (s : ScanState) (answer : Bool) (seen : ℕ) → p.stage ≡ Scanning → ScanGoesOn p.scan s answer →
     ((reads : List Made) → ScanStands s reads → IsScanOf (row_read_by C) (modulus_of p.shape) reads seen) → ¬ ShowsItem p.shape seen p.count →
     (calls : Takes) (made : List Made) (access : Access) → ConsumerStands p calls made → due_take p ≡ Some access →
-    HasMoved p (at_stage p Checking s p.word p.row) calls (made ++ answered access answer ∷ [])
+    ConsumerHasMoved p (at_stage p Checking s p.word p.row) calls (made ++ answered access answer ∷ [])
 scan_none p s answer seen e goes gives none calls made access stands due =
     let (rests, reads, scans, made_is) = made_at Scanning p calls made e stands in
     let x : List Made = answered access answer ∷ [] in
@@ -183,7 +183,7 @@ read_x access answer v due e =
 pub check_one :
     (p : ConsumerState) (s : ScanState) (answer : Bool) → p.stage ≡ Checking → ScanStands s [] → answer ≡ true →
     (calls : Takes) (made : List Made) (access : Access) → ConsumerStands p calls made → due_take p ≡ Some access →
-    HasMoved p (at_stage p Rescanning s p.word p.row) calls (made ++ answered access answer ∷ [])
+    ConsumerHasMoved p (at_stage p Rescanning s p.word p.row) calls (made ++ answered access answer ∷ [])
 check_one p s answer e scan_stands one calls made access stands due =
     let (rests, seen, sees, made_is) = made_at Checking p calls made e stands in
     let x : List Made = answered access answer ∷ [] in
@@ -204,7 +204,7 @@ check_one p s answer e scan_stands one calls made access stands due =
 pub check_zero :
     (p : ConsumerState) (answer : Bool) → p.stage ≡ Checking → answer ≡ false →
     (calls : Takes) (made : List Made) (access : Access) → ConsumerStands p calls made → due_take p ≡ Some access →
-    HasMoved p (ended_take p (Some replies.Empty) p.count p.cell p.scan p.word p.row) calls (made ++ answered access answer ∷ [])
+    ConsumerHasMoved p (ended_take p (Some replies.Empty) p.count p.cell p.scan p.word p.row) calls (made ++ answered access answer ∷ [])
 check_zero p answer e none calls made access stands due =
     let (rests, seen, sees, made_is) = made_at Checking p calls made e stands in
     let x : List Made = answered access answer ∷ [] in
@@ -221,11 +221,11 @@ check_zero p answer e none calls made access stands due =
 pub rescan_on :
     (p : ConsumerState) (s : ScanState) (answer : Bool) → p.stage ≡ Rescanning → ScanGoesOn p.scan s answer →
     (calls : Takes) (made : List Made) (access : Access) → ConsumerStands p calls made → due_take p ≡ Some access →
-    HasMoved p (record p { scan = s }) calls (made ++ answered access answer ∷ [])
+    ConsumerHasMoved p (record p { scan = s }) calls (made ++ answered access answer ∷ [])
 rescan_on p s answer e goes calls made access stands due =
     let (rests, seen, sees, reads, scans, made_is) = made_at Rescanning p calls made e stands in
     let x : List Made = answered access answer ∷ [] in
-    let moved : HasMoved p (at_stage p Rescanning s p.word p.row) calls (made ++ x) =
+    let moved : ConsumerHasMoved p (at_stage p Rescanning s p.word p.row) calls (made ++ x) =
     take_goes_on p Rescanning Rescanning s p.word p.row calls made (made ++ x) e refl refl stands (
       rests,
       seen,
@@ -234,7 +234,7 @@ rescan_on p s answer e goes calls made access stands due =
       goes reads access scans (due_is Rescanning p access e due),
       ap (λ l. l ++ x) made_is ∙ longer (take_phrases p.shape 0 calls.takes) (scan_phrase (row_read_by C) seen ++ Read X true ∷ []) reads x,
     ) in
-    subst (λ st. HasMoved p (at_stage p st s p.word p.row) calls (made ++ x)) (sym e) moved
+    subst (λ st. ConsumerHasMoved p (at_stage p st s p.word p.row) calls (made ++ x)) (sym e) moved
 
 -- the accesses once it has ended
 two_scans :
@@ -252,7 +252,7 @@ pub rescan_item :
     ((reads : List Made) → ScanStands s reads → IsScanOf (row_read_by C) (modulus_of p.shape) reads again) → ReaderStands w [] →
     ShowsItem p.shape again p.count →
     (calls : Takes) (made : List Made) (access : Access) → ConsumerStands p calls made → due_take p ≡ Some access →
-    HasMoved p (at_stage p Loading s w p.row) calls (made ++ answered access answer ∷ [])
+    ConsumerHasMoved p (at_stage p Loading s w p.row) calls (made ++ answered access answer ∷ [])
 rescan_item p s w answer again e goes gives word_stands shows calls made access stands due =
     let (rests, seen, sees, reads, scans, made_is) = made_at Rescanning p calls made e stands in
     let x : List Made = answered access answer ∷ [] in
@@ -272,7 +272,7 @@ pub rescan_none :
     (p : ConsumerState) (s : ScanState) (answer : Bool) (again : ℕ) → p.stage ≡ Rescanning → ScanGoesOn p.scan s answer →
     ((reads : List Made) → ScanStands s reads → IsScanOf (row_read_by C) (modulus_of p.shape) reads again) → ¬ ShowsItem p.shape again p.count →
     (calls : Takes) (made : List Made) (access : Access) → ConsumerStands p calls made → due_take p ≡ Some access →
-    HasMoved p (record p { stage = Idle; scan = s; told = true; reply = Some replies.Closed }) calls (made ++ answered access answer ∷ [])
+    ConsumerHasMoved p (record p { stage = Idle; scan = s; told = true; reply = Some replies.Closed }) calls (made ++ answered access answer ∷ [])
 rescan_none p s answer again e goes gives none calls made access stands due =
     let (rests, seen, sees, reads, scans, made_is) = made_at Rescanning p calls made e stands in
     let x : List Made = answered access answer ∷ [] in
@@ -307,11 +307,11 @@ WordGoesOn old new answer =
 pub word_on :
     (p : ConsumerState) (w : ReaderState) (answer : Bool) → p.stage ≡ Loading → WordGoesOn p.word w answer →
     (calls : Takes) (made : List Made) (access : Access) → ConsumerStands p calls made → due_take p ≡ Some access →
-    HasMoved p (record p { word = w }) calls (made ++ answered access answer ∷ [])
+    ConsumerHasMoved p (record p { word = w }) calls (made ++ answered access answer ∷ [])
 word_on p w answer e goes calls made access stands due =
     let (rests, look, finds, reads, words, made_is) = made_at Loading p calls made e stands in
     let x : List Made = answered access answer ∷ [] in
-    let moved : HasMoved p (at_stage p Loading p.scan w p.row) calls (made ++ x) =
+    let moved : ConsumerHasMoved p (at_stage p Loading p.scan w p.row) calls (made ++ x) =
     take_goes_on p Loading Loading p.scan w p.row calls made (made ++ x) e refl refl stands (
       rests,
       look,
@@ -320,7 +320,7 @@ word_on p w answer e goes calls made access stands due =
       goes reads access words (due_is Loading p access e due),
       ap (λ l. l ++ x) made_is ∙ longer (take_phrases p.shape 0 calls.takes) (finding_phrase look) reads x,
     ) in
-    subst (λ st. HasMoved p (at_stage p st p.scan w p.row) calls (made ++ x)) (sym e) moved
+    subst (λ st. ConsumerHasMoved p (at_stage p st p.scan w p.row) calls (made ++ x)) (sym e) moved
 
 -- it is over, and the count's write begins
 pub word_over :
@@ -328,7 +328,7 @@ pub word_over :
     ((reads : List Made) → ReaderStands w reads → IsReadOf (width_of p.shape) p.cell reads w.value) →
     ((values : List ℕ) (made : List Made) → UnaryStands p.row values made → UnaryStands row (values ++ suc p.count % modulus_of p.shape ∷ []) made) →
     (calls : Takes) (made : List Made) (access : Access) → ConsumerStands p calls made → due_take p ≡ Some access →
-    HasMoved p (at_stage p Counting p.scan w row) calls (made ++ answered access answer ∷ [])
+    ConsumerHasMoved p (at_stage p Counting p.scan w row) calls (made ++ answered access answer ∷ [])
 word_over p w row answer e goes whole begins_row calls made access stands due =
     let (rests, look, finds, reads, words, made_is) = made_at Loading p calls made e stands in
     let x : List Made = answered access answer ∷ [] in
@@ -358,7 +358,7 @@ word_over p w row answer e goes whole begins_row calls made access stands due =
 pub count_on :
     (p : ConsumerState) (row : UnaryState) (answer : Bool) → p.stage ≡ Counting → RowGoesOn p.row row answer →
     (calls : Takes) (made : List Made) (access : Access) → ConsumerStands p calls made → due_take p ≡ Some access →
-    HasMoved p (record p { row = row }) calls (made ++ answered access answer ∷ [])
+    ConsumerHasMoved p (record p { row = row }) calls (made ++ answered access answer ∷ [])
 count_on p row answer e goes calls made access stands due =
     let (look, finds, fits, writes, rows, made_is) = made_at Counting p calls made e stands in
     let x : List Made = answered access answer ∷ [] in
@@ -367,7 +367,7 @@ count_on p row answer e goes calls made access stands due =
     let rows' : UnaryStands row (counted p.shape (suc k)) (old ++ (writes ++ x)) =
     subst (λ l. UnaryStands row (counted p.shape (suc k)) l) (append_assoc old writes x)
     (goes (counted p.shape (suc k)) (old ++ writes) access rows (due_is Counting p access e due)) in
-    let moved : HasMoved p (at_stage p Counting p.scan p.word row) calls (made ++ x) =
+    let moved : ConsumerHasMoved p (at_stage p Counting p.scan p.word row) calls (made ++ x) =
     take_goes_on p Counting Counting p.scan p.word row calls made (made ++ x) e refl refl stands (
       look,
       finds,
@@ -377,7 +377,7 @@ count_on p row answer e goes calls made access stands due =
       ap (λ l. l ++ x) made_is ∙
           longer (take_phrases p.shape 0 calls.takes) (finding_phrase look ++ word_read (width_of p.shape) (k % capacity_of p.shape) p.word.value) writes x,
     ) in
-    subst (λ st. HasMoved p (at_stage p st p.scan p.word row) calls (made ++ x)) (sym e) moved
+    subst (λ st. ConsumerHasMoved p (at_stage p st p.scan p.word row) calls (made ++ x)) (sym e) moved
 
 -- its write is over, and so is the take
 pub count_over :
@@ -385,7 +385,7 @@ pub count_over :
     reply ≡ Some (replies.Item p.word.value) → count ≡ suc p.count % modulus_of p.shape → cell ≡ suc p.cell % capacity_of p.shape →
     ((values : List ℕ) (made : List Made) → UnaryStands row values made → made ≡ count_writes C values) →
     (calls : Takes) (made : List Made) (access : Access) → ConsumerStands p calls made → due_take p ≡ Some access →
-    HasMoved p (ended_take p reply count cell p.scan p.word row) calls (made ++ answered access answer ∷ [])
+    ConsumerHasMoved p (ended_take p reply count cell p.scan p.word row) calls (made ++ answered access answer ∷ [])
 count_over p row answer reply count cell e goes reply_is count_is cell_is whole calls made access stands due =
     let (look, finds, fits, writes, rows, made_is) = made_at Counting p calls made e stands in
     let x : List Made = answered access answer ∷ [] in

@@ -24,7 +24,7 @@ use Rattle.ring_core.specs.Calls.{IsScanning, EndsInZeros}
 use Rattle.ring_core.specs.Lengths.{longest_take}
 use Rattle.ring_core.specs.Takes.{Take, Takes, Item, ItemAfterClose, Empty, Open, Closed, taken_in, item_phrase, take_phrase, take_phrases, end_phrase, take_program, IsTake, SeesNone, AreTakes}
 use Rattle.ring_core.specs.ConsumerState.{ConsumerState, IsLoading, takes_at, is_taking}
-use Rattle.ring_core.specs.ConsumerCalls.{ConsumerStands, Finding, Twice, finding_phrase, Finds, and_take, and_end, Begins, TakeGoesOn}
+use Rattle.ring_core.specs.ConsumerCalls.{ConsumerStands, Finding, Twice, finding_phrase, Finds, and_take, and_end, BeginsTake, TakeGoesOn}
 use Rattle.ring_core.proofs.Lengths.{takes-are_short, ends-are_short}
 use Rattle.ring_core.proofs.MachineParts.{count_writes-push, longer}
 use Rattle.ring_core.proofs.NextParts.{begins_more, begins_behind, length-part, scan_due, scan_reads, scan_goes_on, answered_write, first_writes}
@@ -37,7 +37,7 @@ use Rattle.ring_core.proofs.ConsumerMoves.{made_at, open_at}
 begins_take :
     (shape : Shape) (calls : Takes) (made part : List Made) (x : Take) → AreTakes shape 0 calls.takes calls.end → calls.end ≡ Open →
     IsTake shape (taken_in 0 calls.takes) x → made ≡ take_phrases shape 0 calls.takes ++ part →
-    IsBeginning part (take_phrase shape (taken_in 0 calls.takes) x) → Begins shape calls made
+    IsBeginning part (take_phrase shape (taken_in 0 calls.takes) x) → BeginsTake shape calls made
 begins_take shape calls made part x are o is made_is (rest, e) =
     let front : List Made = take_phrases shape 0 calls.takes in (
       and_take calls x,
@@ -53,7 +53,7 @@ begins_take shape calls made part x are o is made_is (rest, e) =
 begins_found :
     (shape : Shape) (calls : Takes) (made part : List Made) (look : Finding) (item : ℕ) → AreTakes shape 0 calls.takes calls.end → calls.end ≡ Open →
     Finds shape (taken_in 0 calls.takes) look → item < 2 ^ width_of shape → made ≡ take_phrases shape 0 calls.takes ++ part →
-    IsBeginning part (finding_phrase look ++ item_phrase shape (taken_in 0 calls.takes) item) → Begins shape calls made
+    IsBeginning part (finding_phrase look ++ item_phrase shape (taken_in 0 calls.takes) item) → BeginsTake shape calls made
 begins_found shape calls made part look item are o finds fits made_is begins_look =
     let k : ℕ = taken_in 0 calls.takes in
     begins_take shape calls made part (take_of look item) are o (take_of-is shape k look item finds fits) made_is
@@ -63,7 +63,7 @@ begins_found shape calls made part look item are o finds fits made_is begins_loo
 begins_end :
     (shape : Shape) (calls : Takes) (made part : List Made) (seen again : ℕ) → AreTakes shape 0 calls.takes calls.end → calls.end ≡ Open →
     SeesNone shape (taken_in 0 calls.takes) seen → SeesNone shape (taken_in 0 calls.takes) again → made ≡ take_phrases shape 0 calls.takes ++ part →
-    IsBeginning part (end_phrase (Closed seen again)) → Begins shape calls made
+    IsBeginning part (end_phrase (Closed seen again)) → BeginsTake shape calls made
 begins_end shape calls made part seen again are o none none' made_is (rest, e) =
     let front : List Made = take_phrases shape 0 calls.takes in (
       and_end calls seen again,
@@ -84,7 +84,7 @@ shows_or_none shape c k = between_or_not (distance (modulus_of shape) c k) (capa
 -- accesses that begin the first scan of a take
 begins_scan :
     (shape : Shape) (calls : Takes) (made part : List Made) (c : ℕ) → AreTakes shape 0 calls.takes calls.end → calls.end ≡ Open → c < modulus_of shape →
-    made ≡ take_phrases shape 0 calls.takes ++ part → IsBeginning part (scan_phrase (row_read_by C) c) → Begins shape calls made
+    made ≡ take_phrases shape 0 calls.takes ++ part → IsBeginning part (scan_phrase (row_read_by C) c) → BeginsTake shape calls made
 begins_scan shape calls made part c are o below made_is begins_c =
     let k : ℕ = taken_in 0 calls.takes in
     let scan : List Made = scan_phrase (row_read_by C) c in
@@ -98,7 +98,7 @@ begins_scan shape calls made part c are o below made_is begins_c =
 begins_rescan :
     (shape : Shape) (calls : Takes) (made part : List Made) (seen again : ℕ) → AreTakes shape 0 calls.takes calls.end → calls.end ≡ Open →
     SeesNone shape (taken_in 0 calls.takes) seen → again < modulus_of shape → made ≡ take_phrases shape 0 calls.takes ++ part →
-    IsBeginning part (finding_phrase (Twice seen again)) → Begins shape calls made
+    IsBeginning part (finding_phrase (Twice seen again)) → BeginsTake shape calls made
 begins_rescan shape calls made part seen again are o sees below made_is begins_scans =
     let k : ℕ = taken_in 0 calls.takes in
     elim (shows_or_none shape again (k % modulus_of shape)) [
@@ -111,7 +111,7 @@ begins_rescan shape calls made part seen again are o sees below made_is begins_s
 
 -- a take that goes on has not had its most
 pub begins_short :
-    (shape : Shape) (calls : Takes) (made : List Made) (y : Made) → Begins shape calls (made ++ y ∷ []) →
+    (shape : Shape) (calls : Takes) (made : List Made) (y : Made) → BeginsTake shape calls (made ++ y ∷ []) →
     length made < length (take_program shape calls) + longest_take shape
 begins_short shape calls made y (more, has, (rest, e)) =
     let k : ℕ = taken_in 0 calls.takes in
@@ -180,7 +180,7 @@ next_scan p calls made due e stands scans due_is =
 begins_check :
     (shape : Shape) (calls : Takes) (made : List Made) (seen : ℕ) (answer : Bool) → AreTakes shape 0 calls.takes calls.end → calls.end ≡ Open →
     SeesNone shape (taken_in 0 calls.takes) seen → made ≡ take_phrases shape 0 calls.takes ++ scan_phrase (row_read_by C) seen →
-    Begins shape calls (made ++ Read X answer ∷ [])
+    BeginsTake shape calls (made ++ Read X answer ∷ [])
 begins_check shape calls made seen true are o sees made_is =
     let front : List Made = take_phrases shape 0 calls.takes in
     let scan : List Made = scan_phrase (row_read_by C) seen in

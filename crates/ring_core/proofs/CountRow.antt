@@ -11,7 +11,7 @@ use Rattle.bits_core.specs.Shape.{batch_of, capacity_of, modulus_of}
 use Rattle.bits_core.specs.Made.{Write}
 use Rattle.register_core.specs.Row.{RowWrite, row_bit, first_bits, bits_with, bits_after}
 use Rattle.register_core.specs.Unary.{clearing, setting, unary_phrase, unary_writes, row_writes, writes_of}
-use Rattle.ring_core.specs.Counts.{bits_held, counted, count_phrase, past, Count, first_count, count_bits, batch_phrase, IsCount}
+use Rattle.ring_core.specs.Counts.{bits_held, counted, count_phrase, number_past, Count, first_count, count_bits, batch_phrase, IsCount}
 use Rattle.ring_core.proofs.Distances.{apart}
 
 -- ---- a unary write over any bits
@@ -262,7 +262,7 @@ count_long shape s n = omega (arith, length_count shape s n, next_long shape n)
 -- ---- a count whose writes count several items
 
 -- behind m items more the number is m more
-pub past_is : (n : ℕ) (items : List ℕ) → past n items ≡ n + length items
+pub past_is : (n : ℕ) (items : List ℕ) → number_past n items ≡ n + length items
 past_is n [] = omega arith
 past_is n (item ∷ items) = omega (arith, past_is (suc n) items)
 
@@ -272,12 +272,12 @@ first_is_count shape = record { set = held_sets shape 0; clear = held_clears sha
 
 -- a count after the write that counts these items too
 abbrev pub counted_on : Shape → Count → List ℕ → Count
-counted_on shape c items = record { number = past c.number items; bits = bits_after c.bits (count_bits shape c items) }
+counted_on shape c items = record { number = number_past c.number items; bits = bits_after c.bits (count_bits shape c items) }
 
 -- and so is one after a write
 pub counted_is_count : (shape : Shape) (c : Count) (items : List ℕ) → IsCount shape (counted_on shape c items)
 counted_is_count shape c items =
-    record { set = phrase_sets c.bits (past c.number items % modulus_of shape); clear = phrase_clears c.bits (past c.number items % modulus_of shape) }
+    record { set = phrase_sets c.bits (number_past c.number items % modulus_of shape); clear = phrase_clears c.bits (number_past c.number items % modulus_of shape) }
 
 -- where a bit below the place is set, some are cleared
 clearing_some : (bits : ℕ → Bool) (v j : ℕ) → bits v ≡ true → v < j → 1 ≤ length (clearing bits j)
@@ -306,10 +306,10 @@ pub bits_long :
     (shape : Shape) (c : Count) (items : List ℕ) → IsCount shape c → 1 ≤ length items → length items ≤ batch_of shape → 1 ≤ length (count_bits shape c items)
 bits_long shape c items is some few =
     let v : ℕ = c.number % modulus_of shape in
-    let v' : ℕ = past c.number items % modulus_of shape in
+    let v' : ℕ = number_past c.number items % modulus_of shape in
     let whole : length (unary_phrase c.bits v') ≡ length (setting c.bits v') + length (clearing c.bits v') = length_phrase c.bits v' in
     let other : v' ≡ v → ⊥ =
-    apart (modulus_of shape) c.number (past c.number items) (omega (arith, past_is c.number items, some))
+    apart (modulus_of shape) c.number (number_past c.number items) (omega (arith, past_is c.number items, some))
     (omega (arith, past_is c.number items, few, batch_fits shape)) in
     elim (cases_lt v v') [
       | inl l ↦ omega (arith, whole, clearing_some c.bits v v' is.set l)
@@ -362,12 +362,12 @@ step_short shape s c item is =
 -- a write that counts several has no more than the modulus
 pub batch_short : (shape : Shape) (s : Side) (c : Count) (items : List ℕ) → length (batch_phrase shape s c items) ≤ modulus_of shape
 batch_short shape s c items =
-    let v : ℕ = past c.number items % modulus_of shape in
+    let v : ℕ = number_past c.number items % modulus_of shape in
     omega (
       arith,
       length-map (count_bits shape c items) (λ w. Write (row_bit s w.bit) w.value),
       length_phrase c.bits v,
       setting_short v (c.bits v),
       clearing_short c.bits v,
-      mod_below (past c.number items) (modulus_of shape) (omega (arith, some_modulus shape)),
+      mod_below (number_past c.number items) (modulus_of shape) (omega (arith, some_modulus shape)),
     )

@@ -15,12 +15,12 @@ use Rattle.bits_core.specs.declared.shapes.Shape.{Shape}
 use Rattle.bits_core.specs.Shape.{batch_of, capacity_of, modulus_of, width_of}
 use Rattle.bits_core.specs.Made.{Made, Read, Write, begin_event, end_event, events_of}
 use Rattle.register_core.specs.Row.{RowWrite, row_bit, row_write, writes_in}
-use Rattle.register_core.specs.Unary.{unary_phrase, UnaryWrite, unary_writes, row_writes, writes_of, has_write, numbered, numbered_of, numbered_value}
+use Rattle.register_core.specs.Unary.{unary_phrase, UnaryWrite, unary_writes, row_writes, writes_of, has_write, having_writes, numbered_of, numbered_value}
 use Rattle.register_core.specs.Unary as unary
 use Rattle.register_core.specs.UnaryLaw.{number_in_count, count_write, count_begun}
 use Rattle.register_core.specs.Word.{digit, digit_writes, digit_reads}
 use Rattle.register_core.specs.ScanState.{zero_reads, scan_phrase, row_read_by}
-use Rattle.ring_core.specs.Counts.{past, Count, first_count, count_bits, batch_phrase, IsCount}
+use Rattle.ring_core.specs.Counts.{number_past, Count, first_count, count_bits, batch_phrase, IsCount}
 use Rattle.ring_core.specs.Puts.{words_phrase, close_phrase}
 use Rattle.ring_core.proofs.Spans.{Outcome, Passes, Stops, Asks, Span, counts, counts_begun, counts_ended, size_of, sizes, tally}
 use Rattle.ring_core.proofs.LookSpans.{Look, words_read, word_part, count_part, look_number, look_bits, after_look, look_accesses, spans}
@@ -186,7 +186,7 @@ count_some s (w ∷ ws) (suc (suc i)) =
 
 -- the value that a look's count write writes, where there is one, behind n items
 abbrev pub value_of : Shape → ℕ → Outcome → List ℕ
-value_of shape n (Passes items) = past n items % modulus_of shape ∷ []
+value_of shape n (Passes items) = number_past n items % modulus_of shape ∷ []
 value_of shape n Stops = []
 value_of shape n (Asks answer) = []
 
@@ -214,18 +214,18 @@ abbrev writes_from : Shape → Count → List Look → List UnaryWrite
 writes_from shape c looks = unary_writes c.bits (values_from shape c.number looks)
 
 -- a unary write with a bit write is numbered
-kept : (u : UnaryWrite) (ws : List RowWrite) (us : List UnaryWrite) → u.writes ≡ ws → 1 ≤ length ws → numbered (u ∷ us) ≡ u ∷ numbered us
+kept : (u : UnaryWrite) (ws : List RowWrite) (us : List UnaryWrite) → u.writes ≡ ws → 1 ≤ length ws → having_writes (u ∷ us) ≡ u ∷ having_writes us
 kept u [] us e l = absurd (omega (arith, l))
-kept u (w ∷ ws) us e l = ap (λ v. if has_write v then u ∷ numbered us else numbered us) e
+kept u (w ∷ ws) us e l = ap (λ v. if has_write v then u ∷ having_writes us else having_writes us) e
 
 -- so all are
 numbered_part :
     (shape : Shape) (c : Count) (o : Outcome) (vs : List ℕ) → IsCount shape c → Passing (batch_of shape) o →
-    numbered (unary_writes (look_bits shape c o) vs) ≡ unary_writes (look_bits shape c o) vs →
-    numbered (unary_writes c.bits (value_of shape c.number o ++ vs)) ≡ unary_writes c.bits (value_of shape c.number o ++ vs)
+    having_writes (unary_writes (look_bits shape c o) vs) ≡ unary_writes (look_bits shape c o) vs →
+    having_writes (unary_writes c.bits (value_of shape c.number o ++ vs)) ≡ unary_writes c.bits (value_of shape c.number o ++ vs)
 numbered_part shape c (Passes items) vs is (some, few) e =
     let ws : List RowWrite = count_bits shape c items in
-    let u : UnaryWrite = record { value = past c.number items % modulus_of shape; writes = ws } in
+    let u : UnaryWrite = record { value = number_past c.number items % modulus_of shape; writes = ws } in
     let us : List UnaryWrite = unary_writes (look_bits shape c (Passes items)) vs in
     kept u ws us refl (bits_long shape c items is some few) ∙ ap (λ us. u ∷ us) e
 numbered_part shape c Stops vs is p e = e
@@ -233,7 +233,7 @@ numbered_part shape c (Asks answer) vs is p e = e
 
 all_numbered :
     (shape : Shape) (c : Count) (looks : List Look) → IsCount shape c → AllPassing (batch_of shape) looks →
-    numbered (writes_from shape c looks) ≡ writes_from shape c looks
+    having_writes (writes_from shape c looks) ≡ writes_from shape c looks
 all_numbered shape c [] is p = refl
 all_numbered shape c (l ∷ looks) is p =
     numbered_part shape c l.outcome (values_from shape (look_number c.number l.outcome) looks) is p.0
@@ -260,7 +260,7 @@ value_part shape c (Passes items) ms vs rest zero =
     let same : c.number ≡ c.number + 0 = omega arith in
     ap (λ k. k % modulus_of shape) same
 value_part shape c (Passes items) ms vs rest (suc u) =
-    let same : past c.number items + tally ms u ≡ c.number + (length items + tally ms u) = omega (arith, past_is c.number items) in
+    let same : number_past c.number items + tally ms u ≡ c.number + (length items + tally ms u) = omega (arith, past_is c.number items) in
     rest u ∙ ap (λ k. k % modulus_of shape) same
 value_part shape c Stops ms vs rest u = rest u
 value_part shape c (Asks answer) ms vs rest u = rest u
@@ -339,55 +339,55 @@ ended_more u us t l = go (length u.writes) (unary.ended us (t - length u.writes)
 -- what the first writes count, where the first of all counts m
 tally_begun :
     (m : ℕ) (ms : List ℕ) (u : UnaryWrite) (us : List UnaryWrite) (t : ℕ) →
-    tally (m ∷ ms) (unary.begun (u ∷ us) t) ≤ m + tally ms (unary.begun us (t - length u.writes))
+    tally (m ∷ ms) (unary.begun_writes (u ∷ us) t) ≤ m + tally ms (unary.begun_writes us (t - length u.writes))
 tally_begun m ms u us zero = omega arith
 tally_begun m ms u us (suc t) = omega arith
 
 -- one look: its count write and what follows, behind so many events
 begun_step :
     (s : Side) (shape : Shape) (c : Count) (o : Outcome) (ms vs : List ℕ) (after : List Made) (xs : List Span) (place : ℕ) →
-    ((i : ℕ) → tally ms (unary.begun (unary_writes (look_bits shape c o) vs) (bit_writes s (events_of s after) i)) ≤ counts_begun xs i) → (i : ℕ) →
+    ((i : ℕ) → tally ms (unary.begun_writes (unary_writes (look_bits shape c o) vs) (bit_writes s (events_of s after) i)) ≤ counts_begun xs i) → (i : ℕ) →
     tally (size_of o ++ ms)
-    (unary.begun (unary_writes c.bits (value_of shape c.number o ++ vs)) (bit_writes s (events_of s (count_part s shape c o ++ after)) (i - place))) ≤
+    (unary.begun_writes (unary_writes c.bits (value_of shape c.number o ++ vs)) (bit_writes s (events_of s (count_part s shape c o ++ after)) (i - place))) ≤
     (if nat_lt place i then counts o else 0) + counts_begun xs (i - (place + 2 * length (count_part s shape c o)))
 begun_step s shape c (Passes items) ms vs after xs place rest i =
     let ws : List RowWrite = count_bits shape c items in
     let m : ℕ = length items in
     let us : List UnaryWrite = unary_writes (look_bits shape c (Passes items)) vs in
-    let u : UnaryWrite = record { value = past c.number items % modulus_of shape; writes = ws } in
+    let u : UnaryWrite = record { value = number_past c.number items % modulus_of shape; writes = ws } in
     let d : List Made = batch_phrase shape s c items in
     let t : ℕ = bit_writes s (events_of s (d ++ after)) (i - place) in
     elim (at_most_or_above i place) [
       | inl l ↦ (
           let none : i - place ≡ 0 = omega (arith, l) in
           let zero_is : t ≡ 0 = ap (bit_writes s (events_of s (d ++ after))) none in
-          let none_begun : tally (m ∷ ms) (unary.begun (u ∷ us) t) ≡ 0 = ap (λ t. tally (m ∷ ms) (unary.begun (u ∷ us) t)) zero_is in
+          let none_begun : tally (m ∷ ms) (unary.begun_writes (u ∷ us) t) ≡ 0 = ap (λ t. tally (m ∷ ms) (unary.begun_writes (u ∷ us) t)) zero_is in
           omega (arith, none_begun))
       | inr l ↦ (
           let next = count_then s shape c items after (i - place) in
           let less : i - place - 2 * length d ≡ i - (place + 2 * length d) = omega arith in
           let tail : t - length ws ≡ bit_writes s (events_of s after) (i - (place + 2 * length d)) = next.tail ∙ ap (bit_writes s (events_of s after)) less in
-          let past : ℕ = i - (place + 2 * length d) in
-          let same : tally ms (unary.begun us (t - length ws)) ≡ tally ms (unary.begun us (bit_writes s (events_of s after) past)) =
-          ap (λ t. tally ms (unary.begun us t)) tail in
-          omega (arith, tally_begun m ms u us t, same, rest past, lt_so place i m l))
+          let number_past : ℕ = i - (place + 2 * length d) in
+          let same : tally ms (unary.begun_writes us (t - length ws)) ≡ tally ms (unary.begun_writes us (bit_writes s (events_of s after) number_past)) =
+          ap (λ t. tally ms (unary.begun_writes us t)) tail in
+          omega (arith, tally_begun m ms u us t, same, rest number_past, lt_so place i m l))
     ]
 begun_step s shape c Stops ms vs after xs place rest i =
     let same : i - place ≡ i - (place + 0) = omega arith in
-    let here : tally ms (unary.begun (unary_writes c.bits vs) (bit_writes s (events_of s after) (i - place))) ≡
-    tally ms (unary.begun (unary_writes c.bits vs) (bit_writes s (events_of s after) (i - (place + 0)))) =
-    ap (λ j. tally ms (unary.begun (unary_writes c.bits vs) (bit_writes s (events_of s after) j))) same in
+    let here : tally ms (unary.begun_writes (unary_writes c.bits vs) (bit_writes s (events_of s after) (i - place))) ≡
+    tally ms (unary.begun_writes (unary_writes c.bits vs) (bit_writes s (events_of s after) (i - (place + 0)))) =
+    ap (λ j. tally ms (unary.begun_writes (unary_writes c.bits vs) (bit_writes s (events_of s after) j))) same in
     omega (arith, here, rest (i - (place + 0)))
 begun_step s shape c (Asks answer) ms vs after xs place rest i =
     let same : i - place ≡ i - (place + 0) = omega arith in
-    let here : tally ms (unary.begun (unary_writes c.bits vs) (bit_writes s (events_of s after) (i - place))) ≡
-    tally ms (unary.begun (unary_writes c.bits vs) (bit_writes s (events_of s after) (i - (place + 0)))) =
-    ap (λ j. tally ms (unary.begun (unary_writes c.bits vs) (bit_writes s (events_of s after) j))) same in
+    let here : tally ms (unary.begun_writes (unary_writes c.bits vs) (bit_writes s (events_of s after) (i - place))) ≡
+    tally ms (unary.begun_writes (unary_writes c.bits vs) (bit_writes s (events_of s after) (i - (place + 0)))) =
+    ap (λ j. tally ms (unary.begun_writes (unary_writes c.bits vs) (bit_writes s (events_of s after) j))) same in
     omega (arith, here, rest (i - (place + 0)))
 
 begun_from_look :
     (s : Side) (shape : Shape) (c : Count) (looks : List Look) (behind : List Made) (i : ℕ) →
-    tally (sizes_in looks) (unary.begun (writes_from shape c looks) (bit_writes s (events_of s (look_accesses s shape c looks behind)) i)) ≤ counts_begun (spans s shape c looks) i
+    tally (sizes_in looks) (unary.begun_writes (writes_from shape c looks) (bit_writes s (events_of s (look_accesses s shape c looks behind)) i)) ≤ counts_begun (spans s shape c looks) i
 begun_from_look s shape c [] behind i = omega arith
 begun_from_look s shape c (l ∷ looks) behind i =
     let a : List Made = scan_phrase (row_read_by s) l.seen in
@@ -395,9 +395,9 @@ begun_from_look s shape c (l ∷ looks) behind i =
     let next : Count = after_look shape c l.outcome in
     let after : List Made = look_accesses s shape next looks behind in
     let d : List Made = count_part s shape c l.outcome ++ after in
-    let past : bit_writes s (events_of s (a ++ (b ++ d))) i ≡ bit_writes s (events_of s d) (i - (2 * length a + 2 * length b)) =
+    let number_past : bit_writes s (events_of s (a ++ (b ++ d))) i ≡ bit_writes s (events_of s d) (i - (2 * length a + 2 * length b)) =
     past_quiet s a b d i (quiet_scan s (row_read_by s) l.seen) (quiet_word s shape c.number l.outcome) in
-    rw past (begun_step s shape c l.outcome (sizes_in looks) (values_from shape next.number looks) after (spans s shape next looks) (2 * length a + 2 * length b)
+    rw number_past (begun_step s shape c l.outcome (sizes_in looks) (values_from shape next.number looks) after (spans s shape next looks) (2 * length a + 2 * length b)
     (λ j. begun_from_look s shape next looks behind j) i)
 
 -- a count write that has ended had all its bit writes begun one event before
@@ -411,23 +411,23 @@ ended_step most s shape c (Passes items) ms vs after xs place proper rest i =
     let ws : List RowWrite = count_bits shape c items in
     let m : ℕ = length items in
     let us : List UnaryWrite = unary_writes (look_bits shape c (Passes items)) vs in
-    let u : UnaryWrite = record { value = past c.number items % modulus_of shape; writes = ws } in
+    let u : UnaryWrite = record { value = number_past c.number items % modulus_of shape; writes = ws } in
     let d : List Made = batch_phrase shape s c items in
     let t : ℕ = bit_writes s (events_of s (d ++ after)) (i - 1 - place) in
-    let past : ℕ = i - (place + 2 * length d) in
+    let number_past : ℕ = i - (place + 2 * length d) in
     elim (at_most_or_above (place + 2 * length d) i) [
       | inl l ↦ (
           let next = count_then s shape c items after (i - 1 - place) in
-          let less : i - 1 - place - 2 * length d ≡ past - 1 = omega arith in
-          let tail : t - length ws ≡ bit_writes s (events_of s after) (past - 1) = next.tail ∙ ap (bit_writes s (events_of s after)) less in
-          let same : tally ms (unary.ended us (t - length ws)) ≡ tally ms (unary.ended us (bit_writes s (events_of s after) (past - 1))) =
+          let less : i - 1 - place - 2 * length d ≡ number_past - 1 = omega arith in
+          let tail : t - length ws ≡ bit_writes s (events_of s after) (number_past - 1) = next.tail ∙ ap (bit_writes s (events_of s after)) less in
+          let same : tally ms (unary.ended us (t - length ws)) ≡ tally ms (unary.ended us (bit_writes s (events_of s after) (number_past - 1))) =
           ap (λ t. tally ms (unary.ended us t)) tail in
           let more : tally (m ∷ ms) (unary.ended (u ∷ us) t) ≡ m + tally ms (unary.ended us (t - length ws)) =
           ap (tally (m ∷ ms)) (ended_more u us t (next.full (omega (arith, l)))) in
-          omega (arith, more, same, rest past, le_so (place + 2 * length d) i m l))
+          omega (arith, more, same, rest number_past, le_so (place + 2 * length d) i m l))
       | inr l ↦ (
-          let none : past ≡ 0 = omega (arith, l) in
-          let none_ended : counts_ended xs past ≡ 0 = ap (counts_ended xs) none ∙ ended_zero most xs proper in
+          let none : number_past ≡ 0 = omega (arith, l) in
+          let none_ended : counts_ended xs number_past ≡ 0 = ap (counts_ended xs) none ∙ ended_zero most xs proper in
           omega (arith, none_ended, le_none (place + 2 * length d) i m l))
     ]
 ended_step most s shape c Stops ms vs after xs place proper rest i =
@@ -455,9 +455,9 @@ ended_from_look s shape c (l ∷ looks) behind is p i =
     let next_is : IsCount shape next = look_is_count shape c l.outcome is in
     let after : List Made = look_accesses s shape next looks behind in
     let d : List Made = count_part s shape c l.outcome ++ after in
-    let past : bit_writes s (events_of s (a ++ (b ++ d))) (i - 1) ≡ bit_writes s (events_of s d) (i - 1 - (2 * length a + 2 * length b)) =
+    let number_past : bit_writes s (events_of s (a ++ (b ++ d))) (i - 1) ≡ bit_writes s (events_of s d) (i - 1 - (2 * length a + 2 * length b)) =
     past_quiet s a b d (i - 1) (quiet_scan s (row_read_by s) l.seen) (quiet_word s shape c.number l.outcome) in
-    rw past (ended_step (batch_of shape) s shape c l.outcome (sizes_in looks) (values_from shape next.number looks) after (spans s shape next looks)
+    rw number_past (ended_step (batch_of shape) s shape c l.outcome (sizes_in looks) (values_from shape next.number looks) after (spans s shape next looks)
     (2 * length a + 2 * length b) (all_proper (batch_of shape) s shape next looks (omega arith) next_is p.1)
     (λ j. ended_from_look s shape next looks behind next_is p.1 j) i)
 
@@ -466,7 +466,7 @@ ended_from_look s shape c (l ∷ looks) behind is p i =
 -- of these no more have begun, after so many events of the side, than of the spans' count writes
 pub count_writes_begun :
     (s : Side) (shape : Shape) (looks : List Look) (behind : List Made) → AllPassing (batch_of shape) looks → (i : ℕ) →
-    tally (sizes_in looks) (unary.begun (numbered_of (counted_in shape looks)) (bit_writes s (events_of s (look_accesses s shape first_count looks behind)) i)) ≤
+    tally (sizes_in looks) (unary.begun_writes (numbered_of (counted_in shape looks)) (bit_writes s (events_of s (look_accesses s shape first_count looks behind)) i)) ≤
     counts_begun (spans s shape first_count looks) i
 count_writes_begun s shape looks behind p i = rw (numbered_is shape looks p) (begun_from_look s shape first_count looks behind i)
 

@@ -13,7 +13,7 @@ use Rattle.ring_core.specs.Takes.{Take, Item, ItemAfterClose, Empty, Takes, take
 use Rattle.ring_core.specs.Items.{events_in, items_put, items_taken, Tells}
 use Rattle.ring_core.proofs.EndedCounts.{taken_begun}
 use Rattle.ring_core.specs.RingLaw.{IsRun}
-use Rattle.ring_core.specs.Linear.{Operation, EndsBefore, KeepsTime, IsLinearizable}
+use Rattle.ring_core.specs.Linear.{Operation, EndsBefore, KeepsTime, IsLinearizableRun}
 use Rattle.ring_core.proofs.Spans.{counts_begun, counts_ended}
 use Rattle.ring_core.proofs.LookSpans.{put_spans, take_spans}
 use Rattle.ring_core.proofs.RingOfSpans.{LawOfSpans}
@@ -174,7 +174,7 @@ module _ (facts : OwnFacts) (shape : Shape) (h : List Event) (puts : Puts) (take
         same = (rest, items_are ∙ same);
       })
 
-  pub linearizable : IsLinearizable shape h puts takes
+  pub linearizable : IsLinearizableRun shape h puts takes
   linearizable =
       let r = ordered in (
         r.order,

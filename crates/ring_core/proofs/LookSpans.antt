@@ -9,7 +9,7 @@ use Rattle.bits_core.specs.Made.{Made, Read}
 use Rattle.register_core.specs.Row.{bits_after}
 use Rattle.register_core.specs.Word.{word_read}
 use Rattle.register_core.specs.ScanState.{scan_phrase, row_read_by}
-use Rattle.ring_core.specs.Counts.{bits_held, past, Count, first_count, count_bits, batch_phrase}
+use Rattle.ring_core.specs.Counts.{bits_held, number_past, Count, first_count, count_bits, batch_phrase}
 use Rattle.ring_core.specs.Puts.{Put, Stored, Full, Puts, words_phrase}
 use Rattle.ring_core.specs.Takes.{Take, Item, ItemAfterClose, Empty, End, Open, Closed, Takes}
 use Rattle.ring_core.proofs.Spans.{Outcome, Passes, Stops, Asks, Span}
@@ -59,7 +59,7 @@ count_part s shape c (Asks answer) = []
 
 -- the number of items, and the bits of the side's count, after a look
 abbrev pub look_number : ℕ → Outcome → ℕ
-look_number n (Passes items) = past n items
+look_number n (Passes items) = number_past n items
 look_number n Stops = n
 look_number n (Asks answer) = n
 

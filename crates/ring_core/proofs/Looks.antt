@@ -10,7 +10,7 @@ use Rattle.bits_core.specs.Shape.{AllFit, batch_of, capacity_of, modulus_of, wid
 use Rattle.bits_core.specs.Made.{Made, Read}
 use Rattle.register_core.specs.Word.{word_read}
 use Rattle.register_core.specs.ScanState.{scan_phrase, row_read_by}
-use Rattle.ring_core.specs.Counts.{distance, count_phrase, past, Count, first_count, batch_phrase, IsCount}
+use Rattle.ring_core.specs.Counts.{distance, count_phrase, number_past, Count, first_count, batch_phrase, IsCount}
 use Rattle.ring_core.specs.Puts.{Put, Stored, Full, Puts, stored_after, words_phrase, put_phrases, close_phrase, ArePuts}
 use Rattle.ring_core.specs.Takes.{Take, Item, ItemAfterClose, Empty, End, Open, Closed, Takes, item_phrase, take_phrases, end_phrase, AreTakes}
 use Rattle.ring_core.specs.Items.{items_put, items_taken}
@@ -79,7 +79,7 @@ AllPassing most (l ∷ looks) = Passing most l.outcome × AllPassing most looks
 -- those of puts have at most a batch, and those of takes one
 pub puts_pass : (shape : Shape) (n : ℕ) (puts : List Put) → ArePuts shape n puts → AllPassing (batch_of shape) (put_looks puts)
 puts_pass shape n [] h = tt
-puts_pass shape n (Stored seen items ∷ puts) ((below, room, batch), h) = ((batch.some, batch.few), puts_pass shape (past n items) puts h)
+puts_pass shape n (Stored seen items ∷ puts) ((below, room, batch), h) = ((batch.some, batch.few), puts_pass shape (number_past n items) puts h)
 puts_pass shape n (Full seen ∷ puts) (here, h) = (tt, puts_pass shape n puts h)
 
 pub takes_pass : (most : ℕ) → 1 ≤ most → (takes : List Take) (end : End) → AllPassing most (take_looks takes end)
@@ -276,13 +276,13 @@ puts_items shape c (Stored seen items ∷ puts) t =
     let d : List Made = batch_phrase shape P c items in
     let next : Count = stored_after shape c (Stored seen items) in
     let test : 2 * length (a ++ b) ≡ 2 * length a + 2 * length b = omega (arith, length-append a b) in
-    let past : 2 * length (a ++ b ++ d) ≡ 2 * length a + 2 * length b + 2 * length d = omega (arith, length-append (a ++ b) d, length-append a b) in
+    let number_past : 2 * length (a ++ b ++ d) ≡ 2 * length a + 2 * length b + 2 * length d = omega (arith, length-append (a ++ b) d, length-append a b) in
     same_items (nat_lt (2 * length (a ++ b)) t) (nat_lt (2 * length a + 2 * length b) t) items _ _ (ap (λ k. nat_lt k t) test)
-    (ap (λ k. items_put shape next puts (t - k)) past ∙ puts_items shape next puts (t - (2 * length a + 2 * length b + 2 * length d)))
+    (ap (λ k. items_put shape next puts (t - k)) number_past ∙ puts_items shape next puts (t - (2 * length a + 2 * length b + 2 * length d)))
 puts_items shape c (Full seen ∷ puts) t =
     let a : List Made = scan_phrase (row_read_by P) seen in
-    let past : 2 * length a ≡ 2 * length a + 0 + 0 = omega arith in
-    ap (λ k. items_put shape c puts (t - k)) past ∙ puts_items shape c puts (t - (2 * length a + 0 + 0)) ∙
+    let number_past : 2 * length a ≡ 2 * length a + 0 + 0 = omega arith in
+    ap (λ k. items_put shape c puts (t - k)) number_past ∙ puts_items shape c puts (t - (2 * length a + 0 + 0)) ∙
     no_items (nat_lt (2 * length a + 0) t) (begun_items (spans P shape c (put_looks puts)) (t - (2 * length a + 0 + 0)))
 
 -- two phrases have ended where the second has, behind the first
@@ -303,10 +303,10 @@ takes_items shape k (Item seen item ∷ takes) end t =
     let b : List Made = word_read (width_of shape) (k % capacity_of shape) item in
     let b' : List Made = words_read shape k (item ∷ []) in
     let d : List Made = count_phrase shape C k in
-    let past : 2 * length (a ++ (b ++ d)) ≡ 2 * length a + 2 * length b' + 2 * length d =
+    let number_past : 2 * length (a ++ (b ++ d)) ≡ 2 * length a + 2 * length b' + 2 * length d =
     omega (arith, length-append a (b ++ d), length-append b d, ap length (append-nil b)) in
-    same_items (nat_le (2 * length (a ++ (b ++ d))) t) (nat_le (2 * length a + 2 * length b' + 2 * length d) t) (item ∷ []) _ _ (ap (λ j. nat_le j t) past)
-    (ap (λ j. items_taken shape (suc k) takes (t - j)) past ∙ takes_items shape (suc k) takes end (t - (2 * length a + 2 * length b' + 2 * length d)))
+    same_items (nat_le (2 * length (a ++ (b ++ d))) t) (nat_le (2 * length a + 2 * length b' + 2 * length d) t) (item ∷ []) _ _ (ap (λ j. nat_le j t) number_past)
+    (ap (λ j. items_taken shape (suc k) takes (t - j)) number_past ∙ takes_items shape (suc k) takes end (t - (2 * length a + 2 * length b' + 2 * length d)))
 takes_items shape k (ItemAfterClose seen again item ∷ takes) end t =
     let x : Span = span_of C shape (steps shape k) (look seen (Asks true)) in
     let z : Span = span_of C shape (steps shape k) (look again (Passes (item ∷ []))) in
@@ -315,20 +315,20 @@ takes_items shape k (ItemAfterClose seen again item ∷ takes) end t =
     let b : List Made = word_read (width_of shape) (k % capacity_of shape) item in
     let d : List Made = count_phrase shape C k in
     let phrase : List Made = a ++ Read X true ∷ a' ++ (b ++ d) in
-    let past : 2 * length phrase ≡ whole x + whole z =
+    let number_past : 2 * length phrase ≡ whole x + whole z =
     omega (arith, length-append (a ++ Read X true ∷ a') (b ++ d), length-append a (Read X true ∷ a'), length-append b d, ap length (append-nil b)) in
     let some : 0 < whole z = omega (arith, length-scan (row_read_by C) again) in
-    let after : t - 2 * length phrase ≡ t - whole x - whole z = omega (arith, past) in
+    let after : t - 2 * length phrase ≡ t - whole x - whole z = omega (arith, number_past) in
     same_items (nat_le (2 * length phrase) t) (nat_le (whole z) (t - whole x)) (item ∷ []) _ _
-    (ap (λ j. nat_le j t) past ∙ two_ended (whole x) (whole z) t some)
+    (ap (λ j. nat_le j t) number_past ∙ two_ended (whole x) (whole z) t some)
     (ap (λ j. items_taken shape (suc k) takes j) after ∙ takes_items shape (suc k) takes end (t - whole x - whole z)) ∙
     no_items (nat_le (whole x) t)
     ((if nat_le (whole z) (t - whole x) then item ∷ [] else []) ++ ended_items (spans C shape (steps shape (suc k)) (take_looks takes end)) (t - whole x - whole z))
 takes_items shape k (Empty seen ∷ takes) end t =
     let x : Span = span_of C shape (steps shape k) (look seen (Asks false)) in
     let a : List Made = scan_phrase (row_read_by C) seen in
-    let past : 2 * length (a ++ Read X false ∷ []) ≡ whole x = omega (arith, length-append a (Read X false ∷ [])) in
-    ap (λ j. items_taken shape k takes (t - j)) past ∙ takes_items shape k takes end (t - whole x) ∙
+    let number_past : 2 * length (a ++ Read X false ∷ []) ≡ whole x = omega (arith, length-append a (Read X false ∷ [])) in
+    ap (λ j. items_taken shape k takes (t - j)) number_past ∙ takes_items shape k takes end (t - whole x) ∙
     no_items (nat_le (whole x) t) (ended_items (spans C shape (steps shape k) (take_looks takes end)) (t - whole x))
 
 -- ---- the rules
@@ -393,7 +393,7 @@ not_shown capacity (suc d) h = elim (at_most_or_above (suc d) capacity) [ inl l 
 puts_keep : (shape : Shape) (n : ℕ) (puts : List Put) → ArePuts shape n puts → EachLook (PutRule shape) n (put_looks puts)
 puts_keep shape n [] h = tt
 puts_keep shape n (Stored seen items ∷ puts) ((below, room, batch), h) =
-    ((record { below = below; items = batch.fit }, λ _. room, λ e. absurd (omega (arith, e, batch.some))), puts_keep shape (past n items) puts h)
+    ((record { below = below; items = batch.fit }, λ _. room, λ e. absurd (omega (arith, e, batch.some))), puts_keep shape (number_past n items) puts h)
 puts_keep shape n (Full seen ∷ puts) ((below, full), h) =
     ((stops_fits shape seen below, λ e. absurd (omega (arith, e)), λ _. not_below _ _ full), puts_keep shape n puts h)
 

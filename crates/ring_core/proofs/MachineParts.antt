@@ -15,7 +15,7 @@ use Rattle.register_core.specs.Machine.{IsNext}
 use Rattle.register_core.specs.Unary.{setting, clearing, unary_phrase, count_writes, writes_of}
 use Rattle.register_core.specs.UnaryState.{UnaryState, bit_in, due_writes, due_unary, first_access, UnaryStands}
 use Rattle.ring_core.specs.Calls.{LastBitIsDue, IsScanning, IsCounted, IsBeingCounted, IsBeingCountedOn}
-use Rattle.ring_core.specs.Counts.{bits_held, counted, count_phrase, past, Count, IsCount}
+use Rattle.ring_core.specs.Counts.{bits_held, counted, count_phrase, number_past, Count, IsCount}
 use Rattle.ring_core.proofs.CountRow.{next_modulo, counted_writes, past_is, bits_long}
 use Rattle.ring_core.proofs.Phrases.{at_or_below}
 
@@ -109,7 +109,7 @@ counting_on shape row new count items m (none, value) below size some few e =
       set = ap bits small ∙ set_there bits count (bits count) refl at_rest;
       clear = λ j l. none_below bits count j (no_parts (setting bits count) (clearing bits count) at_rest).1 (omega (arith, l, small));
     } in
-    let value_is : past count items % modulus_of shape ≡ (count + m) % modulus_of shape = ap (λ k. k % modulus_of shape) (omega (arith, past_is count items, size)) in
+    let value_is : number_past count items % modulus_of shape ≡ (count + m) % modulus_of shape = ap (λ k. k % modulus_of shape) (omega (arith, past_is count items, size)) in
     let long : 1 ≤ length (unary_phrase bits ((count + m) % modulus_of shape)) =
     subst (λ v. 1 ≤ length (unary_phrase bits v)) value_is (bits_long shape c items is some few) in
     rw e ((λ f. absurd (omega (arith, long, ap length (no_first (row_bit row.side) (unary_phrase bits ((count + m) % modulus_of shape)) f)))), refl)

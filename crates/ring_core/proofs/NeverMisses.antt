@@ -17,7 +17,7 @@ use Rattle.register_core.specs.Row.{row_bit}
 use Rattle.register_core.specs.ScanState.{zero_reads, row_read_by}
 use Rattle.register_core.specs.UnaryLaw.{NumberedStayWithin, ReadsZeros, UnaryHasOne}
 use Rattle.register_core.specs.MadeReads.{begin_place, end_place, ZerosAreMade}
-use Rattle.ring_core.specs.Counts.{past, first_count}
+use Rattle.ring_core.specs.Counts.{number_past, first_count}
 use Rattle.ring_core.proofs.Spans.{Outcome, Passes, Stops, Asks}
 use Rattle.ring_core.specs.Puts.{close_phrase}
 use Rattle.ring_core.proofs.LookSpans.{Look, put_looks, take_looks, look_number, look_accesses}
@@ -36,8 +36,8 @@ one_within last v l (suc k) d m = absurd (omega (arith, m))
 -- none is above the number of the last bit
 value_within : (shape : Shape) (n : ℕ) (o : Outcome) (last : ℕ) → suc last ≡ modulus_of shape → All (λ v. v ≤ last) (value_of shape n o)
 value_within shape n (Passes items) last e =
-    let v : ℕ = past n items % modulus_of shape in
-    let below : v < modulus_of shape = mod_below (past n items) (modulus_of shape) (omega (arith, e)) in
+    let v : ℕ = number_past n items % modulus_of shape in
+    let below : v < modulus_of shape = mod_below (number_past n items) (modulus_of shape) (omega (arith, e)) in
     one_within last v (omega (arith, e, below))
 value_within shape n Stops last e = All-nil _
 value_within shape n (Asks answer) last e = All-nil _

@@ -13,12 +13,12 @@ use Rattle.register_core.specs.UnaryState.{UnaryState}
 use Rattle.ring_core.specs.declared.producers.Stage.{Stage}
 use Rattle.ring_core.specs.declared.producers.Stage.TheVariants.{Scanning, Storing, Counting}
 use Rattle.ring_core.specs.Calls.{LastBitIsDue}
-use Rattle.ring_core.specs.ProducerState.{ProducerState, IsProducer, IsAt, IsPutting, IsWriting, due_put, due_at}
+use Rattle.ring_core.specs.ProducerState.{ProducerState, IsProducer, ProducerIsAt, IsPutting, IsWritingWord, due_put, producer_due_at}
 use Rattle.ring_core.proofs.MachineParts.{scanning, counting_on}
 use Rattle.ring_core.proofs.Batches.{taken_so, taken_batch}
 
-pub at_stage : (p : ProducerState) (st : Stage) → IsProducer p → p.stage ≡ st → IsAt st p
-at_stage p st is e = subst (λ s. IsAt s p) e is.at
+pub at_stage : (p : ProducerState) (st : Stage) → IsProducer p → p.stage ≡ st → ProducerIsAt st p
+at_stage p st is e = subst (λ s. ProducerIsAt s p) e is.at
 
 same_putting :
     (p : ProducerState) (st : Stage) (scan : ScanState) (word : WriterState) (row : UnaryState) (most : ℕ) → IsPutting p →
@@ -36,13 +36,13 @@ pub scan_keeps :
     s ≡ scan_read p.scan answer → s.found ≡ false → IsProducer (record p { scan = s })
 scan_keeps p s answer is e one fed open_still =
     let (counted, putting, fresh, start, scans) = at_stage p Scanning is e in
-    let one' : LastBitIsDue p.shape P (due_scan p.scan) → answer ≡ true = subst (λ st. LastBitIsDue p.shape P (due_at st p) → answer ≡ true) e one in
+    let one' : LastBitIsDue p.shape P (due_scan p.scan) → answer ≡ true = subst (λ st. LastBitIsDue p.shape P (producer_due_at st p) → answer ≡ true) e one in
     record {
       count_below = is.count_below;
       cell_below = is.cell_below;
       row_side = is.row_side;
       row_modulus = is.row_modulus;
-      at = subst (λ st. IsAt st (record p { stage = st; scan = s })) (sym e)
+      at = subst (λ st. ProducerIsAt st (record p { stage = st; scan = s })) (sym e)
           (counted, same_putting p Scanning s p.word p.row p.most putting refl refl refl, fresh, start, scanning p.shape P p.scan s answer scans one' fed open_still);
     }
 
@@ -76,7 +76,7 @@ word_stays p w is e fed more =
       cell_below = is.cell_below;
       row_side = is.row_side;
       row_modulus = is.row_modulus;
-      at = subst (λ st. IsAt st (record p { stage = st; word = w })) (sym e) (
+      at = subst (λ st. ProducerIsAt st (record p { stage = st; word = w })) (sym e) (
         counted,
         same_putting p Storing p.scan w p.row p.most putting (ap (λ (x : WriterState). x.width) fed) (ap (λ (x : WriterState). x.cell) fed) (ap (λ (x : WriterState). x.item) fed),
         keeping,
@@ -96,7 +96,7 @@ next_keeps p w cell item is e more cell_is item_is w_is =
       cell_below = is.cell_below;
       row_side = is.row_side;
       row_modulus = is.row_modulus;
-      at = subst (λ st. IsAt st (record p { stage = st; word = w; index = suc p.index })) (sym e) (
+      at = subst (λ st. ProducerIsAt st (record p { stage = st; word = w; index = suc p.index })) (sym e) (
         counted,
         record {
           not_closed = putting.not_closed;
@@ -143,7 +143,7 @@ word_keeps p w row is e fed begun =
     }
 
 pub word_whole :
-    (p : ProducerState) (w : WriterState) (due : Option Access) → IsWriting p → w ≡ record p.word { written = suc p.word.written } → due ≡ None →
+    (p : ProducerState) (w : WriterState) (due : Option Access) → IsWritingWord p → w ≡ record p.word { written = suc p.word.written } → due ≡ None →
     ((made : List Made) → WriterStands w made → IsNext (word_write w.width w.cell w.item) made due) →
     (made : List Made) → WriterStands w made → made ≡ word_write (width_of p.shape) ((p.cell + p.index) % capacity_of p.shape) p.word.item
 word_whole p w due is fed none next made stands =

@@ -19,12 +19,12 @@ use Rattle.register_core.specs.ScanState.{scan_phrase, row_read_by, due_scan}
 use Rattle.register_core.specs.Unary.{count_writes}
 use Rattle.register_core.specs.UnaryState.{UnaryStands, due_unary, due_writes}
 use Rattle.ring_core.specs.declared.producers.Stage.TheVariants.{Scanning, Storing, Counting}
-use Rattle.ring_core.specs.Counts.{LeavesRoom, LeavesRoomFor, distance, past, Count, first_count, batch_phrase, IsCount}
+use Rattle.ring_core.specs.Counts.{LeavesRoom, LeavesRoomFor, distance, number_past, Count, first_count, batch_phrase, IsCount}
 use Rattle.ring_core.specs.Calls.{IsScanning}
 use Rattle.ring_core.specs.Puts.{Puts, Stored, Full, words_phrase, put_phrase, put_phrases, close_phrase, put_program, IsBatch, IsPut, ArePuts}
 use Rattle.ring_core.specs.Puts as puts
-use Rattle.ring_core.specs.ProducerState.{ProducerState, Call, Put, Close, call_at, call_of, IsWriting, IsKeeping}
-use Rattle.ring_core.specs.ProducerCalls.{count_of, values_of, room_in, ProducerStands, IsPutOf, and_put, Begins, PutGoesOn, longest_of, longest}
+use Rattle.ring_core.specs.ProducerState.{ProducerState, Call, Put, Close, call_at, call_of, IsWritingWord, IsKeeping}
+use Rattle.ring_core.specs.ProducerCalls.{count_of, values_of, room_in, ProducerStands, IsPutOf, and_put, BeginsCall, PutGoesOn, longest_of, longest}
 use Rattle.ring_core.proofs.Lengths.{item_puts-are_short, full_puts-are_short, puts-are_short}
 use Rattle.ring_core.proofs.Batches.{taken_few, taken_so, taken_batch, words-split, far_from}
 use Rattle.ring_core.proofs.CellPlaces.{multiple_up}
@@ -39,7 +39,7 @@ use Rattle.ring_core.proofs.ProducerMoves.{made_at, open_at}
 begins_put :
     (shape : Shape) (items : List ℕ) (calls : Puts) (made part : List Made) (x : puts.Put) → ArePuts shape 0 calls.puts → calls.closes ≡ false →
     IsPutOf shape (count_of shape calls).number items x → IsPut shape (count_of shape calls).number x →
-    made ≡ put_phrases shape first_count calls.puts ++ part → IsBeginning part (put_phrase shape (count_of shape calls) x) → Begins shape (Put items) calls made
+    made ≡ put_phrases shape first_count calls.puts ++ part → IsBeginning part (put_phrase shape (count_of shape calls) x) → BeginsCall shape (Put items) calls made
 begins_put shape items calls made part x are o of is made_is (rest, e) =
     let front : List Made = put_phrases shape first_count calls.puts in (
       and_put calls x,
@@ -60,7 +60,7 @@ room_for shape n c items room = (omega (arith, room), omega (arith, room, (taken
 -- accesses that begin the scan of a put
 begins_scan :
     (shape : Shape) (items : List ℕ) (calls : Puts) (made part : List Made) (c : ℕ) → ArePuts shape 0 calls.puts → calls.closes ≡ false → IsBatch shape items →
-    c < modulus_of shape → made ≡ put_phrases shape first_count calls.puts ++ part → IsBeginning part (scan_phrase (row_read_by P) c) → Begins shape (Put items) calls made
+    c < modulus_of shape → made ≡ put_phrases shape first_count calls.puts ++ part → IsBeginning part (scan_phrase (row_read_by P) c) → BeginsCall shape (Put items) calls made
 begins_scan shape items calls made part c are o batch below made_is (rest, e) =
     let count : Count = count_of shape calls in
     let n : ℕ = count.number % modulus_of shape in
@@ -109,7 +109,7 @@ put_short shape c (item ∷ next ∷ items) (Full seen) is of p =
     omega (arith, full_puts-are_short shape c seen p, multiple_up 1 (length all) (width_of shape) (omega arith), one, shape.room_to_count, shape.has_batch)
 
 pub begins_short :
-    (shape : Shape) (c : Call) (calls : Puts) (made : List Made) (y : Made) → Begins shape c calls (made ++ y ∷ []) →
+    (shape : Shape) (c : Call) (calls : Puts) (made : List Made) (y : Made) → BeginsCall shape c calls (made ++ y ∷ []) →
     length made < length (put_program shape calls) + longest shape c
 begins_short shape (Put items) calls made y (more, (x, of, more_is, are, o), (rest, e)) =
     let c : Count = count_of shape calls in
@@ -158,7 +158,7 @@ pub going_bounded :
     call ≡ Some c → length made < length (put_program shape calls) + longest shape c
 going_bounded shape call calls made due g c e =
     begins_short shape c calls made (answered g.access true)
-    (subst (λ d. Begins shape d calls (made ++ answered g.access true ∷ [])) (some_same g.under_way c (sym g.call_is ∙ e)) (g.goes_on true (λ l. refl)))
+    (subst (λ d. BeginsCall shape d calls (made ++ answered g.access true ∷ [])) (some_same g.under_way c (sym g.call_is ∙ e)) (g.goes_on true (λ l. refl)))
   where
     some_same : (a b : Call) → Some a ≡ Some b → a ≡ b
     some_same a b e = cc
@@ -186,7 +186,7 @@ write_due : (w : WriterState) → w.written < w.width → due_write w ≡ Some (
 write_due w l = grind (arith, nat_tests)
 
 pub word_right :
-    (p : ProducerState) (due : Option Access) → IsWriting p → p.word.written < p.word.width → due ≡ due_write p.word → IfSome due (IsOpenRight p.shape P)
+    (p : ProducerState) (due : Option Access) → IsWritingWord p → p.word.written < p.word.width → due ≡ due_write p.word → IfSome due (IsOpenRight p.shape P)
 word_right p due writing more due_is =
     subst (λ d. IfSome d (IsOpenRight p.shape P)) (sym (due_is ∙ write_due p.word more)) (in_shape cell_below digit_below, refl)
   where
@@ -200,7 +200,7 @@ word_right p due writing more due_is =
     in_shape a b = grind (arith, nat_tests)
 
 pub next_word :
-    (p : ProducerState) (calls : Puts) (made : List Made) (due : Option Access) → p.stage ≡ Storing → ProducerStands p calls made → IsBatch p.shape p.items → IsWriting p →
+    (p : ProducerState) (calls : Puts) (made : List Made) (due : Option Access) → p.stage ≡ Storing → ProducerStands p calls made → IsBatch p.shape p.items → IsWritingWord p →
     IsKeeping p → p.word.written < p.word.width → due ≡ due_write p.word →
     ((writes : List Made) → WriterStands p.word writes → IsNext (word_write p.word.width p.word.cell p.word.item) writes due) →
     Going p.shape (call_of p) calls made due
@@ -250,7 +250,7 @@ next_count_write p calls made due e stands batch keeping side some due_is next =
     let c : Count = count_of p.shape calls in
     let n : ℕ = c.number in
     let kept : List ℕ = take p.most p.items in
-    let values : List ℕ = values_of p.shape calls ++ past n kept % modulus_of p.shape ∷ [] in
+    let values : List ℕ = values_of p.shape calls ++ number_past n kept % modulus_of p.shape ∷ [] in
     let front : List Made = put_phrases p.shape first_count calls.puts in
     let old : List Made = count_writes P (values_of p.shape calls) in
     let count : List Made = batch_phrase p.shape P c kept in

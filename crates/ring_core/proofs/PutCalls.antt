@@ -8,9 +8,9 @@ use Rattle.bits_core.specs.Made.{Write}
 use Rattle.register_core.specs.Row.{RowWrite, row_bit, bits_after, first_bits, writes_in}
 use Rattle.register_core.specs.Unary.{unary_phrase, unary_writes, row_writes, writes_of, count_writes}
 use Rattle.ring_core.specs.declared.producers.BatchReply.{BatchReply}
-use Rattle.ring_core.specs.Counts.{past, Count, first_count, count_bits, batch_phrase, IsCount}
+use Rattle.ring_core.specs.Counts.{number_past, Count, first_count, count_bits, batch_phrase, IsCount}
 use Rattle.ring_core.specs.Puts.{Put, Puts, Stored, Full, stored_after, stored_count, put_values, put_phrase, put_phrases, close_phrase, put_program, IsPut, ArePuts}
-use Rattle.ring_core.specs.ProducerCalls.{count_of, values_of, and_put, reply_to, last_reply}
+use Rattle.ring_core.specs.ProducerCalls.{count_of, values_of, and_put, put_reply_to, last_put_reply}
 use Rattle.ring_core.proofs.CountRow.{bits_after-append, row_writes-push, first_is_count, counted_is_count}
 
 pub phrases-push :
@@ -58,10 +58,10 @@ values_hold shape c (Full seen ∷ xs) = values_hold shape c xs
 -- the writes of one put more
 pub values_writes-push :
     (shape : Shape) (calls : Puts) (items : List ℕ) (s : Side) →
-    count_writes s (values_of shape calls ++ past (count_of shape calls).number items % modulus_of shape ∷ []) ≡
+    count_writes s (values_of shape calls ++ number_past (count_of shape calls).number items % modulus_of shape ∷ []) ≡
     count_writes s (values_of shape calls) ++ batch_phrase shape s (count_of shape calls) items
 values_writes-push shape calls items s =
-    let v : ℕ = past (count_of shape calls).number items % modulus_of shape in
+    let v : ℕ = number_past (count_of shape calls).number items % modulus_of shape in
     let old : List RowWrite = writes_of (values_of shape calls) in
     ap (writes_in (row_bit s))
     (row_writes-push (values_of shape calls) v first_bits ∙ ap (λ b. old ++ unary_phrase b v) (values_hold shape first_count calls.puts)) ∙
@@ -69,21 +69,21 @@ values_writes-push shape calls items s =
 
 pub values-push :
     (shape : Shape) (c : Count) (xs : List Put) (seen : ℕ) (items : List ℕ) →
-    put_values shape c.number (xs ++ Stored seen items ∷ []) ≡ put_values shape c.number xs ++ past (stored_count shape c xs).number items % modulus_of shape ∷ []
+    put_values shape c.number (xs ++ Stored seen items ∷ []) ≡ put_values shape c.number xs ++ number_past (stored_count shape c xs).number items % modulus_of shape ∷ []
 values-push shape c [] seen items = refl
 values-push shape c (Stored u i ∷ xs) seen items =
-    ap (λ l. past c.number i % modulus_of shape ∷ l) (values-push shape (stored_after shape c (Stored u i)) xs seen items)
+    ap (λ l. number_past c.number i % modulus_of shape ∷ l) (values-push shape (stored_after shape c (Stored u i)) xs seen items)
 values-push shape c (Full u ∷ xs) seen items = values-push shape c xs seen items
 
 pub values-full : (shape : Shape) (c : Count) (xs : List Put) (seen : ℕ) → put_values shape c.number (xs ++ Full seen ∷ []) ≡ put_values shape c.number xs
 values-full shape c [] seen = refl
 values-full shape c (Stored u i ∷ xs) seen =
-    ap (λ l. past c.number i % modulus_of shape ∷ l) (values-full shape (stored_after shape c (Stored u i)) xs seen)
+    ap (λ l. number_past c.number i % modulus_of shape ∷ l) (values-full shape (stored_after shape c (Stored u i)) xs seen)
 values-full shape c (Full u ∷ xs) seen = values-full shape c xs seen
 
-pub reply-push : (first : Option BatchReply) (xs : List Put) (x : Put) → last_reply first (xs ++ x ∷ []) ≡ Some (reply_to x)
+pub reply-push : (first : Option BatchReply) (xs : List Put) (x : Put) → last_put_reply first (xs ++ x ∷ []) ≡ Some (put_reply_to x)
 reply-push first [] x = refl
-reply-push first (y ∷ xs) x = reply-push (Some (reply_to y)) xs x
+reply-push first (y ∷ xs) x = reply-push (Some (put_reply_to y)) xs x
 
 -- the accesses of calls without a close
 pub program_open : (shape : Shape) (calls : Puts) → calls.closes ≡ false → put_program shape calls ≡ put_phrases shape first_count calls.puts

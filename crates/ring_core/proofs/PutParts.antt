@@ -10,7 +10,7 @@ use Rattle.bits_core.specs.Made.{Made, Read, Write}
 use Rattle.register_core.specs.Row.{RowWrite, row_bit, writes_in}
 use Rattle.register_core.specs.Word.{digit, digit_writes, word_write, DigitsTellItems}
 use Rattle.register_core.specs.ScanState.{zero_reads, scan_phrase, row_read_by}
-use Rattle.ring_core.specs.Counts.{LeavesRoom, LeavesRoomFor, past, Count, first_count, count_bits, batch_phrase, IsCount}
+use Rattle.ring_core.specs.Counts.{LeavesRoom, LeavesRoomFor, number_past, Count, first_count, count_bits, batch_phrase, IsCount}
 use Rattle.ring_core.specs.Puts.{Put, Stored, Full, stored_after, stored_count, words_phrase, put_phrase, put_phrases, close_phrase, IsBatch, IsPut, ArePuts}
 use Rattle.ring_core.specs.PutParts.{GoesBehind, count_behind, count_access, ScansOrCloses, ScansOn, StoresOrCounts, StoresOn, CountsOn}
 use Rattle.ring_core.specs.GoingOn.{LastPutsReadOne}
@@ -156,7 +156,7 @@ record WordsLeft (shape : Shape) (n : ℕ) (items all : List ℕ) (zs tail : Lis
   more : List ℕ
   all_is : all ≡ items ++ more
   fit : AllFit shape more
-  rest_is : zs ≡ words_phrase shape (past n items) more ++ tail
+  rest_is : zs ≡ words_phrase shape (number_past n items) more ++ tail
 
 module _ (tell : DigitsTellItems) where
   words_go_on :
@@ -229,7 +229,7 @@ module _ (tell : DigitsTellItems) where
   chooses :
       (shape : Shape) (c : Count) (seen : ℕ) (items : List ℕ) (x : Made) (rest : List Made) → LeavesRoom shape (c.number % modulus_of shape) seen → AllFit shape items →
       From shape c (scan seen ++ (words_phrase shape c.number items ++ x ∷ rest)) →
-      ((v : Bool) × (x ≡ Write (Cell (past c.number items % capacity_of shape) 0) v) ×
+      ((v : Bool) × (x ≡ Write (Cell (number_past c.number items % capacity_of shape) 0) v) ×
       LeavesRoomFor shape (c.number % modulus_of shape) seen (suc (length items)) × (suc (length items) ≤ batch_of shape)) ⊎
       ((1 ≤ length items) × (w : RowWrite) × (more : List RowWrite) × (count_bits shape c items ≡ w ∷ more) × (x ≡ count_access w))
   chooses shape c seen items x rest room fit f =
@@ -240,54 +240,54 @@ module _ (tell : DigitsTellItems) where
       by_more :
           (s : StoresFrom shape c seen (words_phrase shape c.number items ++ x ∷ rest))
           (left : WordsLeft shape c.number items s.items (x ∷ rest) (batch_phrase shape P c s.items ++ s.behind_it)) (more : List ℕ) → left.more ≡ more →
-          ((v : Bool) × (x ≡ Write (Cell (past c.number items % capacity_of shape) 0) v) ×
+          ((v : Bool) × (x ≡ Write (Cell (number_past c.number items % capacity_of shape) 0) v) ×
           LeavesRoomFor shape (c.number % modulus_of shape) seen (suc (length items)) × (suc (length items) ≤ batch_of shape)) ⊎
           ((1 ≤ length items) × (w : RowWrite) × (more : List RowWrite) × (count_bits shape c items ≡ w ∷ more) × (x ≡ count_access w))
       by_more s left [] e =
           let all : s.items ≡ items = left.all_is ∙ ap (λ l. items ++ l) e ∙ append-nil items in
           let is : x ∷ rest ≡ batch_phrase shape P c items ++ s.behind_it =
-          left.rest_is ∙ ap (λ l. words_phrase shape (past c.number items) l ++ (batch_phrase shape P c s.items ++ s.behind_it)) e ∙ ap (λ l. batch_phrase shape P c l ++ s.behind_it) all in
+          left.rest_is ∙ ap (λ l. words_phrase shape (number_past c.number items) l ++ (batch_phrase shape P c s.items ++ s.behind_it)) e ∙ ap (λ l. batch_phrase shape P c l ++ s.behind_it) all in
           let batch : IsBatch shape items = subst (IsBatch shape) all s.is_put.2 in
           let (w, ws, bits) = some_write (count_bits shape c items) (bits_long shape c items s.is_count batch.some batch.few) in
           let first : x ∷ rest ≡ count_access w ∷ (writes_in (row_bit P) ws ++ s.behind_it) = is ∙ ap (λ l. writes_in (row_bit P) l ++ s.behind_it) bits in
           inr (batch.some, w, ws, bits, cc)
       by_more s left (y ∷ ys) e =
           let tail : List Made = batch_phrase shape P c s.items ++ s.behind_it in
-          let (later, begun) = first_word shape (past c.number items) y ys tail in
-          let first : x ∷ rest ≡ Write (Cell (past c.number items % capacity_of shape) 0) (digit 0 y) ∷ later =
-          left.rest_is ∙ ap (λ l. words_phrase shape (past c.number items) l ++ tail) e ∙ begun in
+          let (later, begun) = first_word shape (number_past c.number items) y ys tail in
+          let first : x ∷ rest ≡ Write (Cell (number_past c.number items % capacity_of shape) 0) (digit 0 y) ∷ later =
+          left.rest_is ∙ ap (λ l. words_phrase shape (number_past c.number items) l ++ tail) e ∙ begun in
           let long : length s.items ≡ length items + suc (length ys) = ap length left.all_is ∙ length-append items left.more ∙ ap (λ l. length items + length l) e in
           inl (digit 0 y, cc, omega (arith, s.is_put.1, long), omega (arith, s.is_put.2.few, long))
 
   stores_on :
       (shape : Shape) (c : Count) (seen : ℕ) (items : List ℕ) (value digits : ℕ) (x : Made) (rest : List Made) → LeavesRoom shape (c.number % modulus_of shape) seen →
       AllFit shape items → suc digits < width_of shape →
-      From shape c (scan seen ++ (words_phrase shape c.number items ++ (writes_in (Cell (past c.number items % capacity_of shape)) (digit_writes value (suc digits)) ++ x ∷ rest))) →
-      (v : Bool) × (x ≡ Write (Cell (past c.number items % capacity_of shape) (suc digits)) v)
+      From shape c (scan seen ++ (words_phrase shape c.number items ++ (writes_in (Cell (number_past c.number items % capacity_of shape)) (digit_writes value (suc digits)) ++ x ∷ rest))) →
+      (v : Bool) × (x ≡ Write (Cell (number_past c.number items % capacity_of shape) (suc digits)) v)
   stores_on shape c seen items value digits x rest room fit below f =
-      let cell : ℕ = past c.number items % capacity_of shape in
+      let cell : ℕ = number_past c.number items % capacity_of shape in
       let zs : List Made = writes_in (Cell cell) (digit_writes value (suc digits)) ++ x ∷ rest in
       let s = stores shape c seen (words_phrase shape c.number items ++ zs) room f in
       let left = left_words shape c seen items zs fit s in
       by_more s left left.more refl
     where
       by_more :
-          (s : StoresFrom shape c seen (words_phrase shape c.number items ++ (writes_in (Cell (past c.number items % capacity_of shape)) (digit_writes value (suc digits)) ++ x ∷ rest)))
-          (left : WordsLeft shape c.number items s.items (writes_in (Cell (past c.number items % capacity_of shape)) (digit_writes value (suc digits)) ++ x ∷ rest) (batch_phrase shape P c s.items ++ s.behind_it))
-          (more : List ℕ) → left.more ≡ more → (v : Bool) × (x ≡ Write (Cell (past c.number items % capacity_of shape) (suc digits)) v)
+          (s : StoresFrom shape c seen (words_phrase shape c.number items ++ (writes_in (Cell (number_past c.number items % capacity_of shape)) (digit_writes value (suc digits)) ++ x ∷ rest)))
+          (left : WordsLeft shape c.number items s.items (writes_in (Cell (number_past c.number items % capacity_of shape)) (digit_writes value (suc digits)) ++ x ∷ rest) (batch_phrase shape P c s.items ++ s.behind_it))
+          (more : List ℕ) → left.more ≡ more → (v : Bool) × (x ≡ Write (Cell (number_past c.number items % capacity_of shape) (suc digits)) v)
       by_more s left [] e =
-          let cell : ℕ = past c.number items % capacity_of shape in
+          let cell : ℕ = number_past c.number items % capacity_of shape in
           let tail : List Made = batch_phrase shape P c s.items ++ s.behind_it in
           let (later, is) = digits_first value (suc digits) (omega arith) in
           let front : tail ≡ Write (Cell cell 0) (digit 0 value) ∷ (writes_in (Cell cell) later ++ x ∷ rest) =
-          sym (ap (λ l. words_phrase shape (past c.number items) l ++ tail) e) ∙ sym left.rest_is ∙ ap (λ l. writes_in (Cell cell) l ++ x ∷ rest) is in
+          sym (ap (λ l. words_phrase shape (number_past c.number items) l ++ tail) e) ∙ sym left.rest_is ∙ ap (λ l. writes_in (Cell cell) l ++ x ∷ rest) is in
           absurd (count_first shape c s.items s.behind_it s.is_count s.is_put.2 cell 0 (digit 0 value) _ front)
       by_more s left (y ∷ ys) e =
-          let cell : ℕ = past c.number items % capacity_of shape in
+          let cell : ℕ = number_past c.number items % capacity_of shape in
           let tail : List Made = batch_phrase shape P c s.items ++ s.behind_it in
           let word : List Made = word_write (width_of shape) cell y in
-          let on = left.rest_is ∙ ap (λ l. words_phrase shape (past c.number items) l ++ tail) e ∙ append_assoc word (words_phrase shape (suc (past c.number items)) ys) tail in
-          word_next cell (suc digits) (width_of shape) value y x rest (words_phrase shape (suc (past c.number items)) ys ++ tail) below on
+          let on = left.rest_is ∙ ap (λ l. words_phrase shape (number_past c.number items) l ++ tail) e ∙ append_assoc word (words_phrase shape (suc (number_past c.number items)) ys) tail in
+          word_next cell (suc digits) (width_of shape) value y x rest (words_phrase shape (suc (number_past c.number items)) ys ++ tail) below on
 
   counts_on :
       (shape : Shape) (c : Count) (seen : ℕ) (items : List ℕ) (u w : RowWrite) (writes more : List RowWrite) (x : Made) (rest : List Made) →
@@ -308,7 +308,7 @@ module _ (tell : DigitsTellItems) where
           let made : List Made = writes_in (row_bit P) (u ∷ writes) in
           let all : s.items ≡ items = left.all_is ∙ ap (λ l. items ++ l) e ∙ append-nil items in
           let on : made ++ x ∷ rest ≡ made ++ (writes_in (row_bit P) (w ∷ more) ++ s.behind_it) =
-          left.rest_is ∙ ap (λ l. words_phrase shape (past c.number items) l ++ tail) e ∙ ap (λ l. batch_phrase shape P c l ++ s.behind_it) all
+          left.rest_is ∙ ap (λ l. words_phrase shape (number_past c.number items) l ++ tail) e ∙ ap (λ l. batch_phrase shape P c l ++ s.behind_it) all
           ∙ ap (λ l. writes_in (row_bit P) l ++ s.behind_it) bits
           ∙ ap (λ l. l ++ s.behind_it) (map-append (λ (z : RowWrite). Write (row_bit P z.bit) z.value) (u ∷ writes) (w ∷ more))
           ∙ append_assoc made (writes_in (row_bit P) (w ∷ more)) s.behind_it in
@@ -316,9 +316,9 @@ module _ (tell : DigitsTellItems) where
           cc
       by_more s left (y ∷ ys) e =
           let tail : List Made = batch_phrase shape P c s.items ++ s.behind_it in
-          let (later, begun) = first_word shape (past c.number items) y ys tail in
-          let clash : Write (S u.bit) u.value ∷ (writes_in (row_bit P) writes ++ x ∷ rest) ≡ Write (Cell (past c.number items % capacity_of shape) 0) (digit 0 y) ∷ later =
-          left.rest_is ∙ ap (λ l. words_phrase shape (past c.number items) l ++ tail) e ∙ begun in
+          let (later, begun) = first_word shape (number_past c.number items) y ys tail in
+          let clash : Write (S u.bit) u.value ∷ (writes_in (row_bit P) writes ++ x ∷ rest) ≡ Write (Cell (number_past c.number items % capacity_of shape) 0) (digit 0 y) ∷ later =
+          left.rest_is ∙ ap (λ l. words_phrase shape (number_past c.number items) l ++ tail) e ∙ begun in
           absurd (cc)
 
 -- ---- the last bit

@@ -8,7 +8,7 @@ use Rattle.bits_core.specs.declared.shapes.Shape.{Shape}
 use Rattle.bits_core.specs.Shape.{batch_of, capacity_of}
 use Rattle.bits_core.specs.Made.{own, clock, place_of, IsPlaceOf}
 use Rattle.register_core.specs.ScanState.{scan_phrase, row_read_by}
-use Rattle.ring_core.specs.Counts.{past, Count, first_count, batch_phrase}
+use Rattle.ring_core.specs.Counts.{number_past, Count, first_count, batch_phrase}
 use Rattle.ring_core.specs.Puts.{Put, Stored, Full, Puts, stored_after, words_phrase, put_phrase, put_phrases}
 use Rattle.ring_core.specs.Takes.{Takes}
 use Rattle.ring_core.specs.Items.{events_in, items_put}
@@ -43,7 +43,7 @@ until_is shape c seen items = omega (arith, length-append (scan_phrase (row_read
 -- ---- their numbers
 
 enqueues_numbered :
-    (last n start stop : ℕ) (items : List ℕ) (xs : List PutOp) → PutsNumbered last (past n items) xs → PutsNumbered last n (enqueue_turns n start stop items ++ xs)
+    (last n start stop : ℕ) (items : List ℕ) (xs : List PutOp) → PutsNumbered last (number_past n items) xs → PutsNumbered last n (enqueue_turns n start stop items ++ xs)
 enqueues_numbered last n start stop [] xs r = r
 enqueues_numbered last n start stop (item ∷ items) xs r = (refl, enqueues_numbered last (suc n) start stop items xs r)
 

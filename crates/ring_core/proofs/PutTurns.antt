@@ -5,7 +5,7 @@ use Rattle.bits_core.specs.declared.events.Side.TheVariants.{P}
 use Rattle.bits_core.specs.declared.shapes.Shape.{Shape}
 use Rattle.bits_core.specs.Made.{Made}
 use Rattle.register_core.specs.ScanState.{scan_phrase, row_read_by}
-use Rattle.ring_core.specs.Counts.{past, Count, batch_phrase}
+use Rattle.ring_core.specs.Counts.{number_past, Count, batch_phrase}
 use Rattle.ring_core.specs.Puts.{Put, Stored, Full, stored_after, accesses_before_count, words_phrase, put_phrase}
 use Rattle.ring_core.specs.Items.{events_in}
 use Rattle.queue_calls.specs.Queue.{Enqueue}
@@ -257,7 +257,7 @@ enqueue_before n start stop item x r l =
     record { start = omega (arith, r.starts, l); stop = omega (arith, r.starts, r.some); number = omega (arith, r.behind); full = λ a b. (omega (arith, r.behind), r.starts); close = λ a. absurd a }
 
 enqueues_sorted :
-    (n start stop : ℕ) (items : List ℕ) (xs : List PutOp) → start ≤ stop → ((x : PutOp) → In x xs → IsFrom stop (past n items) x) → PutsSorted xs →
+    (n start stop : ℕ) (items : List ℕ) (xs : List PutOp) → start ≤ stop → ((x : PutOp) → In x xs → IsFrom stop (number_past n items) x) → PutsSorted xs →
     PutsSorted (enqueue_turns n start stop items ++ xs)
 enqueues_sorted n start stop [] xs l from s = s
 enqueues_sorted n start stop (item ∷ items) xs l from s = (
@@ -272,7 +272,7 @@ enqueues_sorted n start stop (item ∷ items) xs l from s = (
             full = λ a b. absurd (enqueue_not_full x.kind r.enqueues b);
             close = λ a. absurd a;
           })
-      | inr j ↦ enqueue_before n start stop item x (from_later stop stop (suc n) (past (suc n) items) x (omega arith) (omega (arith, past_is (suc n) items)) (from x j)) l
+      | inr j ↦ enqueue_before n start stop item x (from_later stop stop (suc n) (number_past (suc n) items) x (omega arith) (omega (arith, past_is (suc n) items)) (from x j)) l
     ]),
     λ a. absurd a,
   )),

@@ -10,7 +10,7 @@ use Rattle.bits_core.specs.Made.{Made, Read, Write}
 use Rattle.register_core.specs.Row.{RowWrite, row_bit, writes_in}
 use Rattle.register_core.specs.Word.{digit, digit_writes, word_write, DigitsTellItems}
 use Rattle.register_core.specs.ScanState.{scan_phrase, row_read_by}
-use Rattle.ring_core.specs.Counts.{LeavesRoom, LeavesRoomFor, past, Count, first_count, count_bits, batch_phrase, IsCount}
+use Rattle.ring_core.specs.Counts.{LeavesRoom, LeavesRoomFor, number_past, Count, first_count, count_bits, batch_phrase, IsCount}
 use Rattle.ring_core.specs.Puts.{Put, Puts, Stored, Full, stored_after, words_phrase, put_phrases, close_phrase, put_program, IsBatch, ArePuts}
 use Rattle.ring_core.specs.Readings.{PutsAreRead}
 use Rattle.ring_core.proofs.Phrases.{same_accesses, scan_begins, same_scan, same_word_write, joined_two, no_scan}
@@ -143,7 +143,7 @@ module _ (tell : DigitsTellItems) where
       (count_first shape c i (after i xs a) is batch) (count_first shape c j (after j ys b) is batch') scans.1 in
       let items : i ≡ j = words.0 in
       let same : k i ++ after i xs a ≡ k i ++ after i ys b = words.1 ∙ ap (λ (l : List ℕ). k l ++ after l ys b) (sym items) in
-      let are : ArePuts shape (past c.number i) ys = subst (λ (l : List ℕ). ArePuts shape (past c.number l) ys) (sym items) q in
+      let are : ArePuts shape (number_past c.number i) ys = subst (λ (l : List ℕ). ArePuts shape (number_past c.number l) ys) (sym items) q in
       let rest : (xs ≡ ys) × (a ≡ b) =
       same_puts shape (stored_after shape c (Stored u i)) xs ys a b (counted_is_count shape c i) p are (append_cancel_left (k i) (after i xs a) (after i ys b) same) in
       let seen : u ≡ v = scans.0 in

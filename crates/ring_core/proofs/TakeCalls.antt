@@ -5,7 +5,7 @@ use Rattle.bits_core.specs.Shape.{width_of}
 use Rattle.ring_core.specs.declared.consumers.TakeReply.{TakeReply}
 use Rattle.ring_core.specs.declared.consumers.TakeReply.TheVariants as replies
 use Rattle.ring_core.specs.Takes.{Take, Takes, Item, ItemAfterClose, Open, Closed, taken_after, taken_in, item_phrase, take_phrase, take_phrases, end_phrase, take_program, IsTake, SeesNone, AreTakes}
-use Rattle.ring_core.specs.ConsumerCalls.{Finding, Once, Twice, finding_phrase, Finds, and_take, reply_to, last_reply}
+use Rattle.ring_core.specs.ConsumerCalls.{Finding, Once, Twice, finding_phrase, Finds, and_take, take_reply_to, last_take_reply}
 
 -- the accesses of takes and one more
 pub phrases-push :
@@ -47,9 +47,9 @@ end-sees_none shape k [] seen again are = are
 end-sees_none shape k (y ∷ xs) seen again (here, are) = end-sees_none shape (taken_after k y) xs seen again are
 
 -- the last reply is that to the last take
-pub reply-push : (first : Option TakeReply) (xs : List Take) (x : Take) → last_reply first (xs ++ x ∷ []) ≡ Some (reply_to x)
+pub reply-push : (first : Option TakeReply) (xs : List Take) (x : Take) → last_take_reply first (xs ++ x ∷ []) ≡ Some (take_reply_to x)
 reply-push first [] x = refl
-reply-push first (y ∷ xs) x = reply-push (Some (reply_to y)) xs x
+reply-push first (y ∷ xs) x = reply-push (Some (take_reply_to y)) xs x
 
 -- the accesses of calls of which none was told that the ring is closed
 pub program_open : (shape : Shape) (calls : Takes) → calls.end ≡ Open → take_program shape calls ≡ take_phrases shape 0 calls.takes
@@ -79,7 +79,7 @@ take_of-takes k (Once seen) item = refl
 take_of-takes k (Twice seen again) item = refl
 
 -- it is answered the item
-pub take_of-replies : (look : Finding) (item : ℕ) → reply_to (take_of look item) ≡ replies.Item item
+pub take_of-replies : (look : Finding) (item : ℕ) → take_reply_to (take_of look item) ≡ replies.Item item
 take_of-replies (Once seen) item = refl
 take_of-replies (Twice seen again) item = refl
 

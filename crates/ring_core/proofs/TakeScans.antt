@@ -9,7 +9,7 @@ use Rattle.ring_core.specs.declared.consumers.Stage.TheVariants.{Scanning, Resca
 use Rattle.ring_core.specs.Calls.{LastBitIsDue, EndsInZeros, IsScanning}
 use Rattle.ring_core.specs.Takes.{Takes, take_phrases}
 use Rattle.ring_core.specs.ConsumerState.{ConsumerState, IsConsumer, due_take, is_taking}
-use Rattle.ring_core.specs.ConsumerCalls.{ConsumerStands, HasMoved}
+use Rattle.ring_core.specs.ConsumerCalls.{ConsumerStands, ConsumerHasMoved}
 use Rattle.ring_core.proofs.MachineParts.{ScanGoesOn}
 use Rattle.ring_core.proofs.NextParts.{scan_reads}
 use Rattle.ring_core.proofs.ConsumerInvariant.{at_stage, scan_keeps, rescan_keeps}
@@ -38,7 +38,7 @@ zero_keeps p s at is not_last fed =
 
 pub zero_on :
     (p : ConsumerState) (s : ScanState) → IsAtScan p → ScanGoesOn p.scan s false → (calls : Takes) (made : List Made) (access : Access) → ConsumerStands p calls made →
-    due_take p ≡ Some access → HasMoved p (record p { scan = s }) calls (made ++ answered access false ∷ [])
+    due_take p ≡ Some access → ConsumerHasMoved p (record p { scan = s }) calls (made ++ answered access false ∷ [])
 zero_on p s at goes = ⊎_elim (λ e. scan_on p s false e goes) (λ e. rescan_on p s false e goes) at
 
 scan_zeros :

@@ -54,47 +54,47 @@ pub record HasTakeMore (shape : Shape) (calls more : Takes) : Type 0 where
   pub not_over : calls.end ≡ Open
 
 -- the accesses are those of the calls and a beginning of one take more
-abbrev pub Begins : Shape → Takes → List Made → Type 0
-Begins shape calls made = (more : Takes) × HasTakeMore shape calls more × IsBeginning made (take_program shape more)
+abbrev pub BeginsTake : Shape → Takes → List Made → Type 0
+BeginsTake shape calls made = (more : Takes) × HasTakeMore shape calls more × IsBeginning made (take_program shape more)
 
 -- Behind these calls, with these accesses made, a take goes on with the access: whatever it is answered, but for a 0 of the
 -- last bit of the count, the accesses made and it begin those of the calls and of one take more.
 abbrev pub TakeGoesOn : Shape → Takes → List Made → Access → Type 0
-TakeGoesOn shape calls made access = (answer : Bool) → (LastBitIsDue shape C (Some access) → answer ≡ true) → Begins shape calls (made ++ answered access answer ∷ [])
+TakeGoesOn shape calls made access = (answer : Bool) → (LastBitIsDue shape C (Some access) → answer ≡ true) → BeginsTake shape calls (made ++ answered access answer ∷ [])
 
 -- ---- replies
 
 -- what a take was answered
-abbrev pub reply_to : Take → replies.TakeReply
-reply_to (Item seen item) = reply.Item item
-reply_to (ItemAfterClose seen again item) = reply.Item item
-reply_to (Empty seen) = reply.Empty
+abbrev pub take_reply_to : Take → replies.TakeReply
+take_reply_to (Item seen item) = reply.Item item
+take_reply_to (ItemAfterClose seen again item) = reply.Item item
+take_reply_to (Empty seen) = reply.Empty
 
 -- what the last of these takes was answered
-abbrev pub last_reply : Option replies.TakeReply → List Take → Option replies.TakeReply
-last_reply first [] = first
-last_reply first (x ∷ takes) = last_reply (Some (reply_to x)) takes
+abbrev pub last_take_reply : Option replies.TakeReply → List Take → Option replies.TakeReply
+last_take_reply first [] = first
+last_take_reply first (x ∷ takes) = last_take_reply (Some (take_reply_to x)) takes
 
 abbrev pub reply_at_end : End → List Take → Option replies.TakeReply
-reply_at_end Open takes = last_reply None takes
+reply_at_end Open takes = last_take_reply None takes
 reply_at_end (Closed seen again) takes = Some reply.Closed
 
 -- There is no reply before the first take and during one; else it is that of the last take. A take that is begun after one
 -- was told that the ring is closed is answered so at once.
-abbrev pub IsReply : Takes → Bool → Option replies.TakeReply → Type 0
-IsReply calls true answer = answer ≡ None
-IsReply calls false answer = answer ≡ reply_at_end calls.end calls.takes
+abbrev pub IsReplyToTake : Takes → Bool → Option replies.TakeReply → Type 0
+IsReplyToTake calls true answer = answer ≡ None
+IsReplyToTake calls false answer = answer ≡ reply_at_end calls.end calls.takes
 
 -- whether the last of the takes was told that the ring is closed
-abbrev pub tells : End → Bool
-tells Open = false
-tells (Closed seen again) = true
+abbrev pub ends_closed : End → Bool
+ends_closed Open = false
+ends_closed (Closed seen again) = true
 
 -- ---- standing
 
 -- the row has made the writes of k counts
-abbrev pub RowRests : ConsumerState → ℕ → Type 0
-RowRests p k = UnaryStands p.row (counted p.shape k) (count_writes C (counted p.shape k))
+abbrev pub ConsumerRowRests : ConsumerState → ℕ → Type 0
+ConsumerRowRests p k = UnaryStands p.row (counted p.shape k) (count_writes C (counted p.shape k))
 
 -- the scans by which a take finds an item: one, or one before and one after a read of the close bit
 pub data Finding : Type 0 where
@@ -114,45 +114,45 @@ abbrev pub take_begun : Shape → ℕ → Finding → ℕ → List Made
 take_begun shape k look item = finding_phrase look ++ word_read (width_of shape) (k % capacity_of shape) item
 
 -- the accesses made, by the stage: those of the calls, and what was made of the take under way, behind k taken items
-abbrev pub MadeAt : Stage → ConsumerState → Takes → ℕ → List Made → Type 0
-MadeAt Idle p calls k made = RowRests p k × (made ≡ take_program p.shape calls)
-MadeAt Scanning p calls k made = RowRests p k × (reads : List Made) × ScanStands p.scan reads × (made ≡ take_phrases p.shape 0 calls.takes ++ reads)
-MadeAt Checking p calls k made =
-    RowRests p k × (seen : ℕ) × SeesNone p.shape k seen × (made ≡ take_phrases p.shape 0 calls.takes ++ scan_phrase (row_read_by C) seen)
-MadeAt Rescanning p calls k made =
-    RowRests p k × (seen : ℕ) × SeesNone p.shape k seen × (reads : List Made) × ScanStands p.scan reads ×
+abbrev pub ConsumerMadeAt : Stage → ConsumerState → Takes → ℕ → List Made → Type 0
+ConsumerMadeAt Idle p calls k made = ConsumerRowRests p k × (made ≡ take_program p.shape calls)
+ConsumerMadeAt Scanning p calls k made = ConsumerRowRests p k × (reads : List Made) × ScanStands p.scan reads × (made ≡ take_phrases p.shape 0 calls.takes ++ reads)
+ConsumerMadeAt Checking p calls k made =
+    ConsumerRowRests p k × (seen : ℕ) × SeesNone p.shape k seen × (made ≡ take_phrases p.shape 0 calls.takes ++ scan_phrase (row_read_by C) seen)
+ConsumerMadeAt Rescanning p calls k made =
+    ConsumerRowRests p k × (seen : ℕ) × SeesNone p.shape k seen × (reads : List Made) × ScanStands p.scan reads ×
     (made ≡ take_phrases p.shape 0 calls.takes ++ ((scan_phrase (row_read_by C) seen ++ Read X true ∷ []) ++ reads))
-MadeAt Loading p calls k made =
-    RowRests p k × (look : Finding) × Finds p.shape k look × (reads : List Made) × ReaderStands p.word reads ×
+ConsumerMadeAt Loading p calls k made =
+    ConsumerRowRests p k × (look : Finding) × Finds p.shape k look × (reads : List Made) × ReaderStands p.word reads ×
     (made ≡ take_phrases p.shape 0 calls.takes ++ (finding_phrase look ++ reads))
-MadeAt Counting p calls k made =
+ConsumerMadeAt Counting p calls k made =
     (look : Finding) × Finds p.shape k look × (p.word.value < 2 ^ width_of p.shape) ×
     (writes : List Made) × UnaryStands p.row (counted p.shape (suc k)) (count_writes C (counted p.shape k) ++ writes) ×
     (made ≡ take_phrases p.shape 0 calls.takes ++ (take_begun p.shape k look p.word.value ++ writes))
 
 -- a take is under way, so none was told that the ring is closed
-abbrev pub IsOpenFor : Bool → Takes → Type 0
-IsOpenFor false calls = Unit {0}
-IsOpenFor true calls = calls.end ≡ Open
+abbrev pub IsOpenForTake : Bool → Takes → Type 0
+IsOpenForTake false calls = Unit {0}
+IsOpenForTake true calls = calls.end ≡ Open
 
 -- the consumer stands after these accesses: those of the calls, and then of the take under way
 pub record ConsumerStands (p : ConsumerState) (calls : Takes) (made : List Made) : Type 0 where
   pub are : AreTakes p.shape 0 calls.takes calls.end
   pub count_is : p.count ≡ taken_in 0 calls.takes % modulus_of p.shape
   pub cell_is : p.cell ≡ taken_in 0 calls.takes % capacity_of p.shape
-  pub told_is : p.told ≡ tells calls.end
-  pub not_over : IsOpenFor (is_taking p) calls
-  pub reply_is : IsReply calls (is_taking p) p.reply
-  pub made_is : MadeAt p.stage p calls (taken_in 0 calls.takes) made
+  pub told_is : p.told ≡ ends_closed calls.end
+  pub not_over : IsOpenForTake (is_taking p) calls
+  pub reply_is : IsReplyToTake calls (is_taking p) p.reply
+  pub made_is : ConsumerMadeAt p.stage p calls (taken_in 0 calls.takes) made
 
 -- ---- after an access
 
 -- the take under way goes on and the calls are the same, or it is over and is one of the calls
-abbrev pub IsAfter : Shape → Bool → Bool → Takes → Takes → Type 0
-IsAfter shape false now calls more = ⊥
-IsAfter shape true true calls more = more ≡ calls
-IsAfter shape true false calls more = HasTakeMore shape calls more
+abbrev pub IsAfterTake : Shape → Bool → Bool → Takes → Takes → Type 0
+IsAfterTake shape false now calls more = ⊥
+IsAfterTake shape true true calls more = more ≡ calls
+IsAfterTake shape true false calls more = HasTakeMore shape calls more
 
 -- once the due access was made, the consumer stands after the accesses made, with the same calls or one more
-abbrev pub HasMoved : ConsumerState → ConsumerState → Takes → List Made → Type 0
-HasMoved old new calls made = (more : Takes) × ConsumerStands new more made × IsAfter old.shape (is_taking old) (is_taking new) calls more
+abbrev pub ConsumerHasMoved : ConsumerState → ConsumerState → Takes → List Made → Type 0
+ConsumerHasMoved old new calls made = (more : Takes) × ConsumerStands new more made × IsAfterTake old.shape (is_taking old) (is_taking new) calls more

@@ -28,23 +28,23 @@ pub record ConsumerState : Type 0 where
   pub reply : Option TakeReply
 
 -- the access that is due, by the stage
-abbrev pub due_at : Stage → ConsumerState → Option Access
-due_at Idle p = None
-due_at Scanning p = due_scan p.scan
-due_at Checking p = Some (Read X)
-due_at Rescanning p = due_scan p.scan
-due_at Loading p = due_read p.word
-due_at Counting p = due_unary p.row
+abbrev pub consumer_due_at : Stage → ConsumerState → Option Access
+consumer_due_at Idle p = None
+consumer_due_at Scanning p = due_scan p.scan
+consumer_due_at Checking p = Some (Read X)
+consumer_due_at Rescanning p = due_scan p.scan
+consumer_due_at Loading p = due_read p.word
+consumer_due_at Counting p = due_unary p.row
 
 abbrev pub due_take : ConsumerState → Option Access
-due_take p = due_at p.stage p
+due_take p = consumer_due_at p.stage p
 
 -- the second is the first but for its scan, and but for its word
-abbrev pub IsSameButScan : ConsumerState → ConsumerState → Type 0
-IsSameButScan p q = q ≡ record p { scan = q.scan }
+abbrev pub IsConsumerButScan : ConsumerState → ConsumerState → Type 0
+IsConsumerButScan p q = q ≡ record p { scan = q.scan }
 
-abbrev pub IsSameButWord : ConsumerState → ConsumerState → Type 0
-IsSameButWord p q = q ≡ record p { word = q.word }
+abbrev pub IsConsumerButWord : ConsumerState → ConsumerState → Type 0
+IsConsumerButWord p q = q ≡ record p { word = q.word }
 
 -- whether a take is under way
 abbrev pub takes_at : Stage → Bool
@@ -69,17 +69,17 @@ pub record IsLoading (p : ConsumerState) : Type 0 where
   pub cell_is : p.word.cell ≡ p.cell
 
 -- what holds at each stage
-abbrev pub IsAt : Stage → ConsumerState → Type 0
-IsAt Idle p = IsCounted p.row p.count
-IsAt Scanning p = IsCounted p.row p.count × IsTaking p × IsScanning C (modulus_of p.shape) p.scan
-IsAt Checking p = IsCounted p.row p.count × IsTaking p
-IsAt Rescanning p = IsCounted p.row p.count × IsTaking p × IsScanning C (modulus_of p.shape) p.scan
-IsAt Loading p = IsCounted p.row p.count × IsTaking p × IsLoading p × (p.word.read < p.word.width)
-IsAt Counting p = IsBeingCounted p.row (modulus_of p.shape) p.count × IsTaking p × IsLoading p × (p.word.read ≡ p.word.width)
+abbrev pub ConsumerIsAt : Stage → ConsumerState → Type 0
+ConsumerIsAt Idle p = IsCounted p.row p.count
+ConsumerIsAt Scanning p = IsCounted p.row p.count × IsTaking p × IsScanning C (modulus_of p.shape) p.scan
+ConsumerIsAt Checking p = IsCounted p.row p.count × IsTaking p
+ConsumerIsAt Rescanning p = IsCounted p.row p.count × IsTaking p × IsScanning C (modulus_of p.shape) p.scan
+ConsumerIsAt Loading p = IsCounted p.row p.count × IsTaking p × IsLoading p × (p.word.read < p.word.width)
+ConsumerIsAt Counting p = IsBeingCounted p.row (modulus_of p.shape) p.count × IsTaking p × IsLoading p × (p.word.read ≡ p.word.width)
 
 pub record IsConsumer (p : ConsumerState) : Type 0 where
   pub count_below : p.count < modulus_of p.shape
   pub cell_below : p.cell < capacity_of p.shape
   pub row_side : p.row.side ≡ C
   pub row_modulus : p.row.modulus ≡ modulus_of p.shape
-  pub at : IsAt p.stage p
+  pub at : ConsumerIsAt p.stage p

@@ -25,9 +25,9 @@ LeavesRoomFor shape n d m = distance (modulus_of shape) n d + m ≤ capacity_of 
 -- ---- a count whose writes count several items
 
 -- the number of what comes behind these items, the first of which has number n
-abbrev pub past : ℕ → List ℕ → ℕ
-past n [] = n
-past n (item ∷ items) = past (suc n) items
+abbrev pub number_past : ℕ → List ℕ → ℕ
+number_past n [] = n
+number_past n (item ∷ items) = number_past (suc n) items
 
 -- a count as its writer knows it: how many items it has counted, and the bits that its writes left
 pub record Count : Type 0 where
@@ -39,7 +39,7 @@ first_count = record { number = 0; bits = first_bits }
 
 -- the bit writes of the unary write that counts these items too
 abbrev pub count_bits : Shape → Count → List ℕ → List RowWrite
-count_bits shape c items = unary_phrase c.bits (past c.number items % modulus_of shape)
+count_bits shape c items = unary_phrase c.bits (number_past c.number items % modulus_of shape)
 
 -- its accesses, by a side
 abbrev pub batch_phrase : Shape → Side → Count → List ℕ → List Made

@@ -100,9 +100,9 @@ pub record IsLinearization (shape : Shape) (h : List Event) (puts : Puts) (takes
   pub keeps_time : KeepsTime h order
 
 -- there is one
-abbrev pub IsLinearizable : Shape → List Event → Puts → Takes → Type 0
-IsLinearizable shape h puts takes = (order : List Operation) × IsLinearization shape h puts takes order
+abbrev pub IsLinearizableRun : Shape → List Event → Puts → Takes → Type 0
+IsLinearizableRun shape h puts takes = (order : List Operation) × IsLinearization shape h puts takes order
 
 -- whichever calls the events of the two sides are read as, they are linearizable
 abbrev pub EachReadingIsLinearizable : Shape → List Event → Type 0
-EachReadingIsLinearizable shape h = (puts : Puts) (takes : Takes) → IsRun shape h puts takes → IsLinearizable shape h puts takes
+EachReadingIsLinearizable shape h = (puts : Puts) (takes : Takes) → IsRun shape h puts takes → IsLinearizableRun shape h puts takes

@@ -6,7 +6,7 @@ use Rattle.bits_core.specs.Made.{Write}
 use Rattle.ring_core.specs.Puts.{Put, Puts, put_phrase, put_program, stored_after, IsPut, ArePuts}
 use Rattle.ring_core.specs.ProducerCalls.{count_of, and_put, and_close}
 use Rattle.ring_core.specs.Takes.{Take, Takes, Open, Closed, taken_in, taken_after, take_phrase, end_phrase, take_program, SeesNone, IsTake, AreTakes}
-use Rattle.ring_core.specs.ConsumerCalls.{and_take, and_end, reply_to, reply_at_end}
+use Rattle.ring_core.specs.ConsumerCalls.{and_take, and_end, take_reply_to, reply_at_end}
 
 -- the calls and one put more: they are puts, their count is that after the put, and its accesses follow theirs
 pub record HasPutMore (shape : Shape) (calls : Puts) (x : Put) : Type 0 where
@@ -25,7 +25,7 @@ ClosesByOneMore = (shape : Shape) (calls : Puts) → calls.closes ≡ false → 
 pub record HasOneTakeMore (shape : Shape) (calls : Takes) (x : Take) : Type 0 where
   pub are : AreTakes shape 0 (and_take calls x).takes Open
   pub taken_is : taken_in 0 (and_take calls x).takes ≡ taken_after (taken_in 0 calls.takes) x
-  pub reply_is : reply_at_end Open (and_take calls x).takes ≡ Some (reply_to x)
+  pub reply_is : reply_at_end Open (and_take calls x).takes ≡ Some (take_reply_to x)
   pub program_is : take_program shape (and_take calls x) ≡ take_program shape calls ++ take_phrase shape (taken_in 0 calls.takes) x
 
 abbrev pub TakesByOneMore : Type 0

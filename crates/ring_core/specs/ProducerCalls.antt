@@ -13,7 +13,7 @@ use Rattle.ring_core.specs.declared.producers.BatchReply as replies
 use Rattle.ring_core.specs.declared.producers.BatchReply.TheVariants as reply
 use Rattle.ring_core.specs.declared.producers.Stage.{Stage}
 use Rattle.ring_core.specs.declared.producers.Stage.TheVariants.{Idle, Scanning, Storing, Counting, Closing}
-use Rattle.ring_core.specs.Counts.{LeavesRoomFor, past, Count, first_count}
+use Rattle.ring_core.specs.Counts.{LeavesRoomFor, number_past, Count, first_count}
 use Rattle.ring_core.specs.Puts as puts
 use Rattle.ring_core.specs.Puts.{Puts, Stored, Full, stored_count, put_values, words_phrase, put_phrases, put_program, ArePuts}
 use Rattle.ring_core.specs.Calls.{LastBitIsDue}
@@ -77,36 +77,36 @@ longest shape (Put items) = longest_of shape items
 longest shape Close = 1
 
 -- the accesses are those of the calls and a beginning of the call that was begun so
-abbrev pub Begins : Shape → Call → Puts → List Made → Type 0
-Begins shape c calls made = (more : Puts) × HasCallMore shape c calls more × IsBeginning made (put_program shape more)
+abbrev pub BeginsCall : Shape → Call → Puts → List Made → Type 0
+BeginsCall shape c calls made = (more : Puts) × HasCallMore shape c calls more × IsBeginning made (put_program shape more)
 
 -- Behind these calls, with these accesses made, the call under way goes on with the access: whatever it is answered, but
 -- for a 0 of the last bit of the count, the accesses made and it begin those of the calls and of the one under way.
 abbrev pub PutGoesOn : Shape → Puts → Call → List Made → Access → Type 0
-PutGoesOn shape calls c made access = (answer : Bool) → (LastBitIsDue shape P (Some access) → answer ≡ true) → Begins shape c calls (made ++ answered access answer ∷ [])
+PutGoesOn shape calls c made access = (answer : Bool) → (LastBitIsDue shape P (Some access) → answer ≡ true) → BeginsCall shape c calls (made ++ answered access answer ∷ [])
 
 -- ---- replies
 
 -- what a put was answered
-abbrev pub reply_to : puts.Put → replies.BatchReply
-reply_to (Stored seen items) = reply.Stored (length items)
-reply_to (Full seen) = reply.Full
+abbrev pub put_reply_to : puts.Put → replies.BatchReply
+put_reply_to (Stored seen items) = reply.Stored (length items)
+put_reply_to (Full seen) = reply.Full
 
 -- what the last of these puts was answered
-abbrev pub last_reply : Option replies.BatchReply → List puts.Put → Option replies.BatchReply
-last_reply first [] = first
-last_reply first (x ∷ puts) = last_reply (Some (reply_to x)) puts
+abbrev pub last_put_reply : Option replies.BatchReply → List puts.Put → Option replies.BatchReply
+last_put_reply first [] = first
+last_put_reply first (x ∷ puts) = last_put_reply (Some (put_reply_to x)) puts
 
 -- the reply while no call is under way: after a close there is none, and each put is refused
 abbrev pub IsReplyAtRest : Bool → List puts.Put → Option replies.BatchReply → Type 0
-IsReplyAtRest false puts answer = answer ≡ last_reply None puts
+IsReplyAtRest false puts answer = answer ≡ last_put_reply None puts
 IsReplyAtRest true puts answer = (answer ≡ None) ⊎ (answer ≡ Some reply.Closed)
 
 -- There is no reply before the first put, during a call, and after a close; else it is that of the last put. A put that
 -- is begun after a close is answered at once.
-abbrev pub IsReply : Puts → Option Call → Option replies.BatchReply → Type 0
-IsReply calls (Some c) answer = answer ≡ None
-IsReply calls None answer = IsReplyAtRest calls.closes calls.puts answer
+abbrev pub IsReplyToCall : Puts → Option Call → Option replies.BatchReply → Type 0
+IsReplyToCall calls (Some c) answer = answer ≡ None
+IsReplyToCall calls None answer = IsReplyAtRest calls.closes calls.puts answer
 
 -- whether a close stands among the calls or is under way
 abbrev pub closes_with : Puts → Option Call → Bool
@@ -117,8 +117,8 @@ closes_with calls (Some Close) = true
 -- ---- standing
 
 -- the row has made the writes of the calls
-abbrev pub RowRests : ProducerState → Puts → Type 0
-RowRests p calls = UnaryStands p.row (values_of p.shape calls) (count_writes P (values_of p.shape calls))
+abbrev pub ProducerRowRests : ProducerState → Puts → Type 0
+ProducerRowRests p calls = UnaryStands p.row (values_of p.shape calls) (count_writes P (values_of p.shape calls))
 
 -- the scan of the put under way gave this value, which leaves room for the items that it stores, and for no more of those
 -- that it was given
@@ -128,30 +128,30 @@ pub record HasSeen (shape : Shape) (items : List ℕ) (most n seen : ℕ) : Type
   pub kept : take most items ≡ take (room_in shape (n % modulus_of shape) seen) items
 
 -- the accesses made, by the stage: those of the calls, and what was made of the one under way, behind the count of the calls
-abbrev pub MadeAt : Stage → ProducerState → Puts → List Made → Type 0
-MadeAt Idle p calls made = RowRests p calls × (made ≡ put_program p.shape calls)
-MadeAt Scanning p calls made =
-    RowRests p calls × (reads : List Made) × ScanStands p.scan reads × (made ≡ put_phrases p.shape first_count calls.puts ++ reads)
-MadeAt Storing p calls made =
-    RowRests p calls × (seen : ℕ) × HasSeen p.shape p.items p.most (count_of p.shape calls).number seen ×
+abbrev pub ProducerMadeAt : Stage → ProducerState → Puts → List Made → Type 0
+ProducerMadeAt Idle p calls made = ProducerRowRests p calls × (made ≡ put_program p.shape calls)
+ProducerMadeAt Scanning p calls made =
+    ProducerRowRests p calls × (reads : List Made) × ScanStands p.scan reads × (made ≡ put_phrases p.shape first_count calls.puts ++ reads)
+ProducerMadeAt Storing p calls made =
+    ProducerRowRests p calls × (seen : ℕ) × HasSeen p.shape p.items p.most (count_of p.shape calls).number seen ×
     (writes : List Made) × WriterStands p.word writes ×
     (made ≡
     put_phrases p.shape first_count calls.puts ++
     (scan_phrase (row_read_by P) seen ++ words_phrase p.shape (count_of p.shape calls).number (take p.index p.items) ++ writes))
-MadeAt Counting p calls made =
+ProducerMadeAt Counting p calls made =
     (seen : ℕ) × HasSeen p.shape p.items p.most (count_of p.shape calls).number seen ×
     (writes : List Made) ×
-    UnaryStands p.row (values_of p.shape calls ++ past (count_of p.shape calls).number (take p.most p.items) % modulus_of p.shape ∷ [])
+    UnaryStands p.row (values_of p.shape calls ++ number_past (count_of p.shape calls).number (take p.most p.items) % modulus_of p.shape ∷ [])
     (count_writes P (values_of p.shape calls) ++ writes) ×
     (made ≡
     put_phrases p.shape first_count calls.puts ++
     (scan_phrase (row_read_by P) seen ++ words_phrase p.shape (count_of p.shape calls).number (take p.most p.items) ++ writes))
-MadeAt Closing p calls made = RowRests p calls × (made ≡ put_phrases p.shape first_count calls.puts)
+ProducerMadeAt Closing p calls made = ProducerRowRests p calls × (made ≡ put_phrases p.shape first_count calls.puts)
 
 -- a call is under way, so no close was made
-abbrev pub IsOpenFor : Option Call → Puts → Type 0
-IsOpenFor None calls = Unit {0}
-IsOpenFor (Some c) calls = calls.closes ≡ false
+abbrev pub IsOpenForCall : Option Call → Puts → Type 0
+IsOpenForCall None calls = Unit {0}
+IsOpenForCall (Some c) calls = calls.closes ≡ false
 
 -- the producer stands after these accesses: those of the calls, and then of the one under way
 pub record ProducerStands (p : ProducerState) (calls : Puts) (made : List Made) : Type 0 where
@@ -159,19 +159,19 @@ pub record ProducerStands (p : ProducerState) (calls : Puts) (made : List Made) 
   pub count_is : p.count ≡ (count_of p.shape calls).number % modulus_of p.shape
   pub cell_is : p.cell ≡ (count_of p.shape calls).number % capacity_of p.shape
   pub closed_is : p.closed ≡ closes_with calls (call_of p)
-  pub not_over : IsOpenFor (call_of p) calls
-  pub reply_is : IsReply calls (call_of p) p.reply
-  pub made_is : MadeAt p.stage p calls made
+  pub not_over : IsOpenForCall (call_of p) calls
+  pub reply_is : IsReplyToCall calls (call_of p) p.reply
+  pub made_is : ProducerMadeAt p.stage p calls made
 
 -- ---- after an access
 
 -- The call under way goes on and the calls are the same, or it is over and is one of the calls. After a close there is
 -- no reply.
-abbrev pub IsAfter : Shape → Option Call → Option Call → Puts → Puts → Option replies.BatchReply → Type 0
-IsAfter shape None now calls more answer = ⊥
-IsAfter shape (Some c) (Some d) calls more answer = (d ≡ c) × (more ≡ calls)
-IsAfter shape (Some c) None calls more answer = HasCallMore shape c calls more × (c ≡ Close → answer ≡ None)
+abbrev pub IsAfterCall : Shape → Option Call → Option Call → Puts → Puts → Option replies.BatchReply → Type 0
+IsAfterCall shape None now calls more answer = ⊥
+IsAfterCall shape (Some c) (Some d) calls more answer = (d ≡ c) × (more ≡ calls)
+IsAfterCall shape (Some c) None calls more answer = HasCallMore shape c calls more × (c ≡ Close → answer ≡ None)
 
 -- once the due access was made, the producer stands after the accesses made, with the same calls or one more
-abbrev pub HasMoved : ProducerState → ProducerState → Puts → List Made → Type 0
-HasMoved old new calls made = (more : Puts) × ProducerStands new more made × IsAfter old.shape (call_of old) (call_of new) calls more new.reply
+abbrev pub ProducerHasMoved : ProducerState → ProducerState → Puts → List Made → Type 0
+ProducerHasMoved old new calls made = (more : Puts) × ProducerStands new more made × IsAfterCall old.shape (call_of old) (call_of new) calls more new.reply

@@ -37,22 +37,22 @@ pub record ProducerState : Type 0 where
   pub reply : Option BatchReply
 
 -- the access that is due, by the stage
-abbrev pub due_at : Stage → ProducerState → Option Access
-due_at Idle p = None
-due_at Scanning p = due_scan p.scan
-due_at Storing p = due_write p.word
-due_at Counting p = due_unary p.row
-due_at Closing p = Some (begins.Write X true)
+abbrev pub producer_due_at : Stage → ProducerState → Option Access
+producer_due_at Idle p = None
+producer_due_at Scanning p = due_scan p.scan
+producer_due_at Storing p = due_write p.word
+producer_due_at Counting p = due_unary p.row
+producer_due_at Closing p = Some (begins.Write X true)
 
 abbrev pub due_put : ProducerState → Option Access
-due_put p = due_at p.stage p
+due_put p = producer_due_at p.stage p
 
 -- the second is the first but for its scan, and but for its word
-abbrev pub IsSameButScan : ProducerState → ProducerState → Type 0
-IsSameButScan p q = q ≡ record p { scan = q.scan }
+abbrev pub IsProducerButScan : ProducerState → ProducerState → Type 0
+IsProducerButScan p q = q ≡ record p { scan = q.scan }
 
-abbrev pub IsSameButWord : ProducerState → ProducerState → Type 0
-IsSameButWord p q = q ≡ record p { word = q.word }
+abbrev pub IsProducerButWord : ProducerState → ProducerState → Type 0
+IsProducerButWord p q = q ≡ record p { word = q.word }
 
 -- the call under way: a put of these items, or the close
 pub data Call : Type 0 where
@@ -84,7 +84,7 @@ abbrev pub batch_reply : ProducerState → Option BatchReply
 batch_reply p = cond p.batched p.reply None
 
 -- the word machine writes the item at the index to the cell so far from the producer's
-pub record IsWriting (p : ProducerState) : Type 0 where
+pub record IsWritingWord (p : ProducerState) : Type 0 where
   pub width_is : p.word.width ≡ width_of p.shape
   pub cell_is : p.word.cell ≡ (p.cell + p.index) % capacity_of p.shape
   pub item_is : slice_get p.items p.index ≡ Some p.word.item
@@ -94,23 +94,23 @@ pub record IsPutting (p : ProducerState) : Type 0 where
   pub not_closed : p.closed ≡ false
   pub not_answered : p.reply ≡ None
   pub offers : IsBatch p.shape p.items
-  pub writes : IsWriting p
+  pub writes : IsWritingWord p
 
 -- it stores some of the items, and writes one of these
 abbrev pub IsKeeping : ProducerState → Type 0
 IsKeeping p = (p.index < p.most) × (p.most ≤ length p.items)
 
 -- what holds at each stage
-abbrev pub IsAt : Stage → ProducerState → Type 0
-IsAt Idle p = IsCounted p.row p.count
-IsAt Scanning p = IsCounted p.row p.count × IsPutting p × (p.word.written ≡ 0) × (p.index ≡ 0) × IsScanning P (modulus_of p.shape) p.scan
-IsAt Storing p = IsCounted p.row p.count × IsPutting p × IsKeeping p × (p.word.written < p.word.width)
-IsAt Counting p = IsBeingCountedOn p.row (modulus_of p.shape) p.count p.most × IsPutting p × IsKeeping p
-IsAt Closing p = IsCounted p.row p.count × (p.closed ≡ true) × (p.reply ≡ None)
+abbrev pub ProducerIsAt : Stage → ProducerState → Type 0
+ProducerIsAt Idle p = IsCounted p.row p.count
+ProducerIsAt Scanning p = IsCounted p.row p.count × IsPutting p × (p.word.written ≡ 0) × (p.index ≡ 0) × IsScanning P (modulus_of p.shape) p.scan
+ProducerIsAt Storing p = IsCounted p.row p.count × IsPutting p × IsKeeping p × (p.word.written < p.word.width)
+ProducerIsAt Counting p = IsBeingCountedOn p.row (modulus_of p.shape) p.count p.most × IsPutting p × IsKeeping p
+ProducerIsAt Closing p = IsCounted p.row p.count × (p.closed ≡ true) × (p.reply ≡ None)
 
 pub record IsProducer (p : ProducerState) : Type 0 where
   pub count_below : p.count < modulus_of p.shape
   pub cell_below : p.cell < capacity_of p.shape
   pub row_side : p.row.side ≡ P
   pub row_modulus : p.row.modulus ≡ modulus_of p.shape
-  pub at : IsAt p.stage p
+  pub at : ProducerIsAt p.stage p

@@ -8,7 +8,7 @@ use Rattle.bits_core.specs.Made.{Made, Read, Write}
 use Rattle.register_core.specs.Row.{RowWrite, row_bit, writes_in}
 use Rattle.register_core.specs.Word.{digit_writes}
 use Rattle.register_core.specs.ScanState.{zero_reads, scan_phrase, row_read_by}
-use Rattle.ring_core.specs.Counts.{LeavesRoom, LeavesRoomFor, past, Count, first_count, count_bits}
+use Rattle.ring_core.specs.Counts.{LeavesRoom, LeavesRoomFor, number_past, Count, first_count, count_bits}
 use Rattle.ring_core.specs.Puts.{Put, Puts, stored_count, words_phrase, put_phrases, put_program, ArePuts}
 
 -- calls of the producer go on so, behind these puts
@@ -43,7 +43,7 @@ StoresOrCounts =
     (shape : Shape) (puts : List Put) (seen : ℕ) (items : List ℕ) (x : Made) (rest : List Made) → ArePuts shape 0 puts →
     LeavesRoom shape ((count_behind shape puts).number % modulus_of shape) seen → AllFit shape items →
     GoesBehind shape puts (scan_phrase (row_read_by P) seen ++ (words_phrase shape (count_behind shape puts).number items ++ x ∷ rest)) →
-    ((v : Bool) × (x ≡ Write (Cell (past (count_behind shape puts).number items % capacity_of shape) 0) v) ×
+    ((v : Bool) × (x ≡ Write (Cell (number_past (count_behind shape puts).number items % capacity_of shape) 0) v) ×
     LeavesRoomFor shape ((count_behind shape puts).number % modulus_of shape) seen (suc (length items)) × (suc (length items) ≤ batch_of shape)) ⊎
     ((1 ≤ length items) × (w : RowWrite) × (more : List RowWrite) × (count_bits shape (count_behind shape puts) items ≡ w ∷ more) × (x ≡ count_access w))
 
@@ -54,8 +54,8 @@ StoresOn =
     LeavesRoom shape ((count_behind shape puts).number % modulus_of shape) seen → AllFit shape items → suc digits < width_of shape →
     GoesBehind shape puts
     (scan_phrase (row_read_by P) seen ++
-    (words_phrase shape (count_behind shape puts).number items ++ (writes_in (Cell (past (count_behind shape puts).number items % capacity_of shape)) (digit_writes value (suc digits)) ++ x ∷ rest))) →
-    (v : Bool) × (x ≡ Write (Cell (past (count_behind shape puts).number items % capacity_of shape) (suc digits)) v)
+    (words_phrase shape (count_behind shape puts).number items ++ (writes_in (Cell (number_past (count_behind shape puts).number items % capacity_of shape)) (digit_writes value (suc digits)) ++ x ∷ rest))) →
+    (v : Bool) × (x ≡ Write (Cell (number_past (count_behind shape puts).number items % capacity_of shape) (suc digits)) v)
 
 -- in a count write: its next bit write
 abbrev pub CountsOn : Type 0

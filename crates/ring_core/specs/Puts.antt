@@ -7,7 +7,7 @@ use Rattle.bits_core.specs.declared.shapes.Shape.{Shape}
 use Rattle.bits_core.specs.Shape.{AllFit, batch_of, capacity_of, modulus_of, width_of}
 use Rattle.bits_core.specs.Made.{Made, Write, events_of, own, IsBeginning}
 use Rattle.register_core.specs.Phrases.{bits_after, word_write, scan_phrase, row_read_by}
-use Rattle.ring_core.specs.Counts.{distance, LeavesRoom, LeavesRoomFor, past, Count, first_count, count_bits, batch_phrase}
+use Rattle.ring_core.specs.Counts.{distance, LeavesRoom, LeavesRoomFor, number_past, Count, first_count, count_bits, batch_phrase}
 
 -- a put, by the count that it read: it stored some items under one count write, or it found the ring full
 pub data Put : Type 0 where
@@ -26,7 +26,7 @@ stored_by (Full seen) = 0
 
 -- how many items are stored, after n of them and this put
 abbrev pub number_after : ℕ → Put → ℕ
-number_after n (Stored seen items) = past n items
+number_after n (Stored seen items) = number_past n items
 number_after n (Full seen) = n
 
 -- how many are, after these puts
@@ -50,7 +50,7 @@ stored_count shape c (x ∷ puts) = stored_count shape (stored_after shape c x) 
 -- the values that these puts write to the producer's count, behind n items
 abbrev pub put_values : Shape → ℕ → List Put → List ℕ
 put_values shape n [] = []
-put_values shape n (Stored seen items ∷ puts) = past n items % modulus_of shape ∷ put_values shape (past n items) puts
+put_values shape n (Stored seen items ∷ puts) = number_past n items % modulus_of shape ∷ put_values shape (number_past n items) puts
 put_values shape n (Full seen ∷ puts) = put_values shape n puts
 
 -- the word writes of items, one after the other, to the cells from that of item number n on

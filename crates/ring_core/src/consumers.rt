@@ -64,8 +64,8 @@ impl Consumer {
     ghost use Rattle.ring_core.specs.Calls.{LastBitIsDue, EndsInZeros};
     ghost use Rattle.ring_core.specs.Takes.{Takes, take_program};
     ghost use Rattle.ring_core.specs.Lengths.{longest_take};
-    ghost use Rattle.ring_core.specs.ConsumerState.{IsSameButScan, IsSameButWord, due_take, is_taking};
-    ghost use Rattle.ring_core.specs.ConsumerCalls.{new_consumer, no_takes, ConsumerStands, TakeGoesOn, HasMoved, IsReply};
+    ghost use Rattle.ring_core.specs.ConsumerState.{IsConsumerButScan, IsConsumerButWord, due_take, is_taking};
+    ghost use Rattle.ring_core.specs.ConsumerCalls.{new_consumer, no_takes, ConsumerStands, TakeGoesOn, ConsumerHasMoved, IsReplyToTake};
 
     /// The consumer of a ring of this shape that has made no access.
     pub fn new(shape: Shape) -> Self
@@ -133,7 +133,7 @@ impl Consumer {
         requires due { due_take self.old ≢ None }
         requires one { LastBitIsDue self.old.shape C (due_take self.old) → answer ≡ true }
         ensures shape { self.new.shape ≡ self.old.shape }
-        ensures stands { (calls : Takes) (made : List Made) (access : Access) → ConsumerStands self.old calls made → due_take self.old ≡ Some access → HasMoved self.old self.new calls (made ++ answered access answer ∷ []) }
+        ensures stands { (calls : Takes) (made : List Made) (access : Access) → ConsumerStands self.old calls made → due_take self.old ≡ Some access → ConsumerHasMoved self.old self.new calls (made ++ answered access answer ∷ []) }
     {
         match self.stage {
             Stage::Idle => {}
@@ -150,7 +150,7 @@ impl Consumer {
         requires stage { self.old.stage ≡ Scanning }
         requires one { LastBitIsDue self.old.shape C (due_take self.old) → answer ≡ true }
         ensures shape { self.new.shape ≡ self.old.shape }
-        ensures stands { (calls : Takes) (made : List Made) (access : Access) → ConsumerStands self.old calls made → due_take self.old ≡ Some access → HasMoved self.old self.new calls (made ++ answered access answer ∷ []) }
+        ensures stands { (calls : Takes) (made : List Made) (access : Access) → ConsumerStands self.old calls made → due_take self.old ≡ Some access → ConsumerHasMoved self.old self.new calls (made ++ answered access answer ∷ []) }
     {
         self.scan.feed(answer);
         match self.scan.value() {
@@ -170,7 +170,7 @@ impl Consumer {
     fn feed_check(&mut self, answer: bool)
         requires stage { self.old.stage ≡ Checking }
         ensures shape { self.new.shape ≡ self.old.shape }
-        ensures stands { (calls : Takes) (made : List Made) (access : Access) → ConsumerStands self.old calls made → due_take self.old ≡ Some access → HasMoved self.old self.new calls (made ++ answered access answer ∷ []) }
+        ensures stands { (calls : Takes) (made : List Made) (access : Access) → ConsumerStands self.old calls made → due_take self.old ≡ Some access → ConsumerHasMoved self.old self.new calls (made ++ answered access answer ∷ []) }
     {
         if answer {
             self.scan = UnaryScan::new(&self.shape, Side::C);
@@ -186,7 +186,7 @@ impl Consumer {
         requires stage { self.old.stage ≡ Rescanning }
         requires one { LastBitIsDue self.old.shape C (due_take self.old) → answer ≡ true }
         ensures shape { self.new.shape ≡ self.old.shape }
-        ensures stands { (calls : Takes) (made : List Made) (access : Access) → ConsumerStands self.old calls made → due_take self.old ≡ Some access → HasMoved self.old self.new calls (made ++ answered access answer ∷ []) }
+        ensures stands { (calls : Takes) (made : List Made) (access : Access) → ConsumerStands self.old calls made → due_take self.old ≡ Some access → ConsumerHasMoved self.old self.new calls (made ++ answered access answer ∷ []) }
     {
         self.scan.feed(answer);
         match self.scan.value() {
@@ -209,7 +209,7 @@ impl Consumer {
     pub fn feed_word(&mut self, answer: bool)
         requires stage { self.old.stage ≡ Loading }
         ensures shape { self.new.shape ≡ self.old.shape }
-        ensures stands { (calls : Takes) (made : List Made) (access : Access) → ConsumerStands self.old calls made → due_take self.old ≡ Some access → HasMoved self.old self.new calls (made ++ answered access answer ∷ []) }
+        ensures stands { (calls : Takes) (made : List Made) (access : Access) → ConsumerStands self.old calls made → due_take self.old ≡ Some access → ConsumerHasMoved self.old self.new calls (made ++ answered access answer ∷ []) }
     {
         self.word.feed(answer);
         if self.word.next().is_none() {
@@ -224,7 +224,7 @@ impl Consumer {
         requires stage { self.old.stage ≡ Counting }
         ensures shape { self.new.shape ≡ self.old.shape }
         ensures left { (x : RowWrite) (rest : List RowWrite) → due_writes self.old.row ≡ x ∷ rest → due_writes self.new.row ≡ rest }
-        ensures stands { (calls : Takes) (made : List Made) (access : Access) → ConsumerStands self.old calls made → due_take self.old ≡ Some access → HasMoved self.old self.new calls (made ++ answered access answer ∷ []) }
+        ensures stands { (calls : Takes) (made : List Made) (access : Access) → ConsumerStands self.old calls made → due_take self.old ≡ Some access → ConsumerHasMoved self.old self.new calls (made ++ answered access answer ∷ []) }
     {
         self.row.feed(answer);
         if self.row.next().is_none() {
@@ -281,7 +281,7 @@ impl Consumer {
     /// The consumer comes to where its scan is.
     #[inline(always)]
     pub fn go_on_with_scan(&mut self, scan: TakeScan)
-        requires same { IsSameButScan self.old scan }
+        requires same { IsConsumerButScan self.old scan }
         ensures state { self.new ≡ scan }
     {
         let TakeScan { scan, of: _ } = scan;
@@ -291,7 +291,7 @@ impl Consumer {
     /// The consumer comes to where its word read is.
     #[inline(always)]
     pub fn go_on_with_word(&mut self, word: TakeWord)
-        requires same { IsSameButWord self.old word }
+        requires same { IsConsumerButWord self.old word }
         ensures state { self.new ≡ word }
     {
         let TakeWord { word, of: _ } = word;
@@ -302,7 +302,7 @@ impl Consumer {
     #[inline(always)]
     pub fn reply(&self) -> Option<TakeReply>
         ensures state { result ≡ self.now.reply }
-        ensures stands { (calls : Takes) (made : List Made) → ConsumerStands self.now calls made → IsReply calls (is_taking self.now) result }
+        ensures stands { (calls : Takes) (made : List Made) → ConsumerStands self.now calls made → IsReplyToTake calls (is_taking self.now) result }
     {
         self.reply
     }
@@ -351,7 +351,7 @@ impl TakeScan {
     ghost use Rattle.ring_core.specs.ConsumerState.{due_take, is_taking};
     ghost use Rattle.register_core.specs.ScanState.{scan_read};
     ghost use Rattle.bits_core.specs.Shape.{modulus_of};
-    ghost use Rattle.ring_core.specs.ConsumerCalls.{ConsumerStands, TakeGoesOn, HasMoved};
+    ghost use Rattle.ring_core.specs.ConsumerCalls.{ConsumerStands, TakeGoesOn, ConsumerHasMoved};
 
     /// The read that is due, as [`Consumer::next`] tells it.
     #[inline(always)]
@@ -383,7 +383,7 @@ impl TakeScan {
     pub fn zero(&mut self)
         requires not_last { LastBitIsDue self.old.shape C (due_take self.old) → false ≡ true }
         ensures state { self.new ≡ record self.old { scan = scan_read self.old.scan false } }
-        ensures stands { (calls : Takes) (made : List Made) (access : Access) → ConsumerStands self.old calls made → due_take self.old ≡ Some access → HasMoved self.old self.new calls (made ++ answered access false ∷ []) }
+        ensures stands { (calls : Takes) (made : List Made) (access : Access) → ConsumerStands self.old calls made → due_take self.old ≡ Some access → ConsumerHasMoved self.old self.new calls (made ++ answered access false ∷ []) }
     {
         self.scan.feed(false);
     }
@@ -417,7 +417,7 @@ impl TakeWord {
     ghost use Rattle.ring_core.specs.Lengths.{longest_take};
     ghost use Rattle.ring_core.specs.ConsumerState.{due_take, is_taking};
     ghost use Rattle.register_core.specs.WordState.{read_digit};
-    ghost use Rattle.ring_core.specs.ConsumerCalls.{ConsumerStands, TakeGoesOn, HasMoved};
+    ghost use Rattle.ring_core.specs.ConsumerCalls.{ConsumerStands, TakeGoesOn, ConsumerHasMoved};
 
     /// The read that is due, as [`Consumer::next`] tells it.
     #[inline(always)]
@@ -449,7 +449,7 @@ impl TakeWord {
     pub fn feed(&mut self, answer: bool)
         requires not_last { suc self.old.word.read ≢ self.old.word.width }
         ensures state { self.new ≡ record self.old { word = read_digit self.old.word answer } }
-        ensures stands { (calls : Takes) (made : List Made) (access : Access) → ConsumerStands self.old calls made → due_take self.old ≡ Some access → HasMoved self.old self.new calls (made ++ answered access answer ∷ []) }
+        ensures stands { (calls : Takes) (made : List Made) (access : Access) → ConsumerStands self.old calls made → due_take self.old ≡ Some access → ConsumerHasMoved self.old self.new calls (made ++ answered access answer ∷ []) }
     {
         self.word.feed(answer);
     }

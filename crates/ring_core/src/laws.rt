@@ -4,7 +4,7 @@ ghost use Rattle.ring_core.specs.Following.{PutsAreFollowed, TakesAreFollowed};
 ghost use Rattle.ring_core.specs.GoingOn.{LastPutsReadOne, LastTakesReadOne, PutsGoOnByOne, TakesGoOnAlike, TakesGoOnByOne};
 ghost use Rattle.ring_core.specs.Items.{ItemsAreRead, TakenAreRead};
 ghost use Rattle.ring_core.specs.Lengths.{ItemPutsAreShort, FullPutsAreShort, PutsAreShort, TakesAreShort, EndsAreShort};
-ghost use Rattle.ring_core.specs.Linear.{IsLinearizable};
+ghost use Rattle.ring_core.specs.Linear.{IsLinearizableRun};
 ghost use Rattle.ring_core.specs.OneCallMore.{ClosesByOneMore, EndsByOneMore, PutsByOneMore, TakesByOneMore};
 ghost use Rattle.ring_core.specs.Over.{PutsOverAreRead, TakesOverAreRead};
 ghost use Rattle.ring_core.specs.PutParts.{CountsOn, ScansOn, ScansOrCloses, StoresOn, StoresOrCounts};
@@ -235,7 +235,7 @@ pub fn ring_law()
 ///
 /// Herlihy and Wing 1990.
 pub fn ring_is_linearizable()
-    ensures { InEveryRun IsLinearizable }
+    ensures { InEveryRun IsLinearizableRun }
 {
     own_has_place();
     own_has_one_place();

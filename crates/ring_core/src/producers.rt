@@ -111,8 +111,8 @@ impl Producer {
     ghost use Rattle.ring_core.specs.declared.producers.BatchReply.{BatchReply};
     ghost use Rattle.ring_core.specs.declared.producers.BatchReply.TheVariants.{Closed};
     ghost use Rattle.ring_core.specs.Puts.{IsBatch, Puts, put_program};
-    ghost use Rattle.ring_core.specs.ProducerCalls.{new_producer, no_puts, ProducerStands, PutGoesOn, HasMoved, IsReply, longest, closes_with};
-    ghost use Rattle.ring_core.specs.ProducerState.{Call, Put, Close, IsSameButScan, IsSameButWord, due_put, call_of, item_reply, put_reply, batch_reply};
+    ghost use Rattle.ring_core.specs.ProducerCalls.{new_producer, no_puts, ProducerStands, PutGoesOn, ProducerHasMoved, IsReplyToCall, longest, closes_with};
+    ghost use Rattle.ring_core.specs.ProducerState.{Call, Put, Close, IsProducerButScan, IsProducerButWord, due_put, call_of, item_reply, put_reply, batch_reply};
 
     /// The producer of a ring of this shape that has made no access.
     pub fn new(shape: Shape) -> Self
@@ -238,7 +238,7 @@ impl Producer {
         requires one { LastBitIsDue self.old.shape P (due_put self.old) → answer ≡ true }
         ensures shape { self.new.shape ≡ self.old.shape }
         ensures kind { self.new.batched ≡ self.old.batched }
-        ensures stands { (calls : Puts) (made : List Made) (access : Access) → ProducerStands self.old calls made → due_put self.old ≡ Some access → HasMoved self.old self.new calls (made ++ answered access answer ∷ []) }
+        ensures stands { (calls : Puts) (made : List Made) (access : Access) → ProducerStands self.old calls made → due_put self.old ≡ Some access → ProducerHasMoved self.old self.new calls (made ++ answered access answer ∷ []) }
     {
         match self.stage {
             Stage::Idle => {}
@@ -256,7 +256,7 @@ impl Producer {
         requires one { LastBitIsDue self.old.shape P (due_put self.old) → answer ≡ true }
         ensures shape { self.new.shape ≡ self.old.shape }
         ensures kind { self.new.batched ≡ self.old.batched }
-        ensures stands { (calls : Puts) (made : List Made) (access : Access) → ProducerStands self.old calls made → due_put self.old ≡ Some access → HasMoved self.old self.new calls (made ++ answered access answer ∷ []) }
+        ensures stands { (calls : Puts) (made : List Made) (access : Access) → ProducerStands self.old calls made → due_put self.old ≡ Some access → ProducerHasMoved self.old self.new calls (made ++ answered access answer ∷ []) }
     {
         self.scan.feed(answer);
         match self.scan.value() {
@@ -279,7 +279,7 @@ impl Producer {
         requires stage { self.old.stage ≡ Storing }
         ensures shape { self.new.shape ≡ self.old.shape }
         ensures kind { self.new.batched ≡ self.old.batched }
-        ensures stands { (calls : Puts) (made : List Made) (access : Access) → ProducerStands self.old calls made → due_put self.old ≡ Some access → HasMoved self.old self.new calls (made ++ answered access answer ∷ []) }
+        ensures stands { (calls : Puts) (made : List Made) (access : Access) → ProducerStands self.old calls made → due_put self.old ≡ Some access → ProducerHasMoved self.old self.new calls (made ++ answered access answer ∷ []) }
     {
         self.word.feed(answer);
         if self.word.next().is_none() {
@@ -301,7 +301,7 @@ impl Producer {
         ensures shape { self.new.shape ≡ self.old.shape }
         ensures kind { self.new.batched ≡ self.old.batched }
         ensures left { (x : RowWrite) (rest : List RowWrite) → due_writes self.old.row ≡ x ∷ rest → due_writes self.new.row ≡ rest }
-        ensures stands { (calls : Puts) (made : List Made) (access : Access) → ProducerStands self.old calls made → due_put self.old ≡ Some access → HasMoved self.old self.new calls (made ++ answered access answer ∷ []) }
+        ensures stands { (calls : Puts) (made : List Made) (access : Access) → ProducerStands self.old calls made → due_put self.old ≡ Some access → ProducerHasMoved self.old self.new calls (made ++ answered access answer ∷ []) }
     {
         self.row.feed(answer);
         if self.row.next().is_none() {
@@ -358,7 +358,7 @@ impl Producer {
     /// The producer comes to where its scan is.
     #[inline(always)]
     pub fn go_on_with_scan(&mut self, scan: PutScan)
-        requires same { IsSameButScan self.old scan }
+        requires same { IsProducerButScan self.old scan }
         ensures state { self.new ≡ scan }
     {
         let PutScan { scan, of: _ } = scan;
@@ -368,7 +368,7 @@ impl Producer {
     /// The producer comes to where its word write is.
     #[inline(always)]
     pub fn go_on_with_word(&mut self, word: PutWord)
-        requires same { IsSameButWord self.old word }
+        requires same { IsProducerButWord self.old word }
         ensures state { self.new ≡ word }
     {
         let PutWord { word, of: _ } = word;
@@ -380,7 +380,7 @@ impl Producer {
     #[inline(always)]
     pub fn reply(&self) -> Option<PutReply>
         ensures state { result ≡ put_reply self.now }
-        ensures stands { (calls : Puts) (made : List Made) → ProducerStands self.now calls made → self.now.batched ≡ false → (answer : Option BatchReply) × IsReply calls (call_of self.now) answer × (result ≡ item_reply answer) }
+        ensures stands { (calls : Puts) (made : List Made) → ProducerStands self.now calls made → self.now.batched ≡ false → (answer : Option BatchReply) × IsReplyToCall calls (call_of self.now) answer × (result ≡ item_reply answer) }
     {
         if self.batched {
             return None;
@@ -398,7 +398,7 @@ impl Producer {
     #[inline(always)]
     pub fn batch_reply(&self) -> Option<BatchReply>
         ensures state { result ≡ batch_reply self.now }
-        ensures stands { (calls : Puts) (made : List Made) → ProducerStands self.now calls made → self.now.batched ≡ true → IsReply calls (call_of self.now) result }
+        ensures stands { (calls : Puts) (made : List Made) → ProducerStands self.now calls made → self.now.batched ≡ true → IsReplyToCall calls (call_of self.now) result }
     {
         if self.batched { self.reply } else { None }
     }
@@ -450,7 +450,7 @@ impl Model for PutScan {
 impl PutScan {
     ghost use Rattle.ring_core.specs.Calls.{LastBitIsDue, EndsInZeros};
     ghost use Rattle.ring_core.specs.Puts.{Puts, put_program};
-    ghost use Rattle.ring_core.specs.ProducerCalls.{ProducerStands, PutGoesOn, HasMoved, longest};
+    ghost use Rattle.ring_core.specs.ProducerCalls.{ProducerStands, PutGoesOn, ProducerHasMoved, longest};
     ghost use Rattle.ring_core.specs.ProducerState.{Call, due_put, call_of};
     ghost use Rattle.register_core.specs.ScanState.{scan_read};
 
@@ -484,7 +484,7 @@ impl PutScan {
     pub fn zero(&mut self)
         requires not_last { LastBitIsDue self.old.shape P (due_put self.old) → false ≡ true }
         ensures state { self.new ≡ record self.old { scan = scan_read self.old.scan false } }
-        ensures stands { (calls : Puts) (made : List Made) (access : Access) → ProducerStands self.old calls made → due_put self.old ≡ Some access → HasMoved self.old self.new calls (made ++ answered access false ∷ []) }
+        ensures stands { (calls : Puts) (made : List Made) (access : Access) → ProducerStands self.old calls made → due_put self.old ≡ Some access → ProducerHasMoved self.old self.new calls (made ++ answered access false ∷ []) }
     {
         self.scan.feed(false);
     }
@@ -515,7 +515,7 @@ impl Model for PutWord {
 impl PutWord {
     ghost use Rattle.ring_core.specs.Calls.{LastBitIsDue};
     ghost use Rattle.ring_core.specs.Puts.{Puts, put_program};
-    ghost use Rattle.ring_core.specs.ProducerCalls.{ProducerStands, PutGoesOn, HasMoved, longest};
+    ghost use Rattle.ring_core.specs.ProducerCalls.{ProducerStands, PutGoesOn, ProducerHasMoved, longest};
     ghost use Rattle.ring_core.specs.ProducerState.{Call, due_put, call_of};
 
     /// The write that is due, as [`Producer::next`] tells it.
@@ -548,7 +548,7 @@ impl PutWord {
     pub fn feed(&mut self, answer: bool)
         requires not_last { suc self.old.word.written ≢ self.old.word.width }
         ensures state { self.new ≡ record self.old { word = record self.old.word { written = suc self.old.word.written } } }
-        ensures stands { (calls : Puts) (made : List Made) (access : Access) → ProducerStands self.old calls made → due_put self.old ≡ Some access → HasMoved self.old self.new calls (made ++ answered access answer ∷ []) }
+        ensures stands { (calls : Puts) (made : List Made) (access : Access) → ProducerStands self.old calls made → due_put self.old ≡ Some access → ProducerHasMoved self.old self.new calls (made ++ answered access answer ∷ []) }
     {
         self.word.feed(answer);
     }

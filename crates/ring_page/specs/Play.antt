@@ -10,7 +10,7 @@ use Rattle.ring_player.specs.Headline.{IsPlayOf}
 use Rattle.ring_player.specs.Plays.{HasFlickers}
 use Rattle.ring_script.specs.Faults.{IsScriptFault, script_fault_number}
 use Rattle.ring_script.specs.Content.{Content}
-use Rattle.ring_script.specs.Script.{Held, Holds, IsContentOf, IsScript}
+use Rattle.ring_script.specs.Script.{HeldFields, HoldsFields, IsContentOf, IsScript}
 use Rattle.ring_script.specs.declared.faults.ScriptFault.{ScriptFault}
 use Rattle.ring_script.specs.declared.faults.ScriptFault.TheVariants as fault
 use Rattle.ring_script.specs.Schedule.{run_count}
@@ -22,7 +22,7 @@ use Rattle.ring_page.specs.declared.plays.Asked.{Asked}
 use Rattle.ring_page.specs.declared.plays.Played.{Played}
 
 -- the values of a script's fields that the page asks for
-abbrev pub fields_of : Asked → List ℕ → List ℕ → List ℕ → Held
+abbrev pub fields_of : Asked → List ℕ → List ℕ → List ℕ → HeldFields
 fields_of asked items schedule oracle = record {
   capacity = asked.capacity;
   modulus = asked.modulus;
@@ -96,23 +96,23 @@ pub record TellsPlayFault (x : ScriptFault) (told : Played) : Type 0 where
   pub nothing : ReportsNothing told
 
 -- the values stand for a script, which is that of any bytes whose fields hold them, and this is told of its play
-pub record TellsPlayed (held : Held) (letters : ℕ) (marks : List Mark) (put taken : List ℕ) (told : Played) : Type 0 where
+pub record TellsPlayed (held : HeldFields) (letters : ℕ) (marks : List Mark) (put taken : List ℕ) (told : Played) : Type 0 where
   pub script : Content
   pub is_content : IsContentOf held script
-  pub is_script : (bytes : List ℕ) → Holds bytes held → IsScript bytes script
+  pub is_script : (bytes : List ℕ) → HoldsFields bytes held → IsScript bytes script
   pub is_play : TellsFirstLetters script letters marks put taken told
 
 -- the page has no room: for the runs of the schedule, for the answers of the oracle, or for an event of each letter that is played
-abbrev pub HasNoRoom : Held → ℕ → Type 0
+abbrev pub HasNoRoom : HeldFields → ℕ → Type 0
 HasNoRoom held letters =
     (RUN_ROOM < run_count held.schedule) ⊎ (ANSWER_ROOM < length held.oracle) ⊎ ((script : Content) × IsContentOf held script × (EVENT_ROOM < min letters (length script.letters)))
 
 -- the values have this fault, that of any bytes whose fields hold them; or the page has no room
-pub record TellsRefused (held : Held) (letters : ℕ) (told : Played) : Type 0 where
+pub record TellsRefused (held : HeldFields) (letters : ℕ) (told : Played) : Type 0 where
   pub why : ScriptFault
-  pub cause : ((why ≡ fault.OutOfMemory) × HasNoRoom held letters) ⊎ ((bytes : List ℕ) → Holds bytes held → IsScriptFault bytes why)
+  pub cause : ((why ≡ fault.OutOfMemory) × HasNoRoom held letters) ⊎ ((bytes : List ℕ) → HoldsFields bytes held → IsScriptFault bytes why)
   pub tells : TellsPlayFault why told
 
 -- what is told of the values of a script's fields
-abbrev pub TellsPlay : Held → ℕ → List Mark → List ℕ → List ℕ → Played → Type 0
+abbrev pub TellsPlay : HeldFields → ℕ → List Mark → List ℕ → List ℕ → Played → Type 0
 TellsPlay held letters marks put taken told = TellsPlayed held letters marks put taken told ⊎ TellsRefused held letters told

@@ -6,7 +6,7 @@ use Rattle.bits_core.specs.declared.events.Side.TheVariants.{P, C}
 use Rattle.bits_core.specs.declared.events.Event.{Event}
 use Rattle.bits_core.specs.Made.{clock, own}
 use Rattle.bits_core.specs.Shape.{batch_of, modulus_of}
-use Rattle.ring_core.specs.Counts.{first_count, past}
+use Rattle.ring_core.specs.Counts.{first_count, number_past}
 use Rattle.ring_core.specs.Items.{all_put, items_put, items_put_in, IsTold, ItemsAreRead, ToldIn}
 use Rattle.ring_core.specs.ProducerCalls.{room_in}
 use Rattle.ring_core.specs.Puts.{FollowsPuts, Full, Put, Puts, Stored, stored_in}
@@ -45,7 +45,7 @@ parts (suc r) zero (x ∷ xs) = refl
 parts (suc r) (suc b) [] = refl
 parts (suc r) (suc b) (x ∷ xs) = ap (λ l. x ∷ l) (parts r b xs)
 
-pub past_is : (n : ℕ) (items : List ℕ) → past n items ≡ n + length items
+pub past_is : (n : ℕ) (items : List ℕ) → number_past n items ≡ n + length items
 past_is n [] = omega arith
 past_is n (x ∷ items) = omega (arith, past_is (suc n) items)
 
@@ -55,9 +55,9 @@ all_items script n [] m e = sym (drop-all n script.items e)
 all_items script n (Stored seen items ∷ puts) (l, is, m) e =
     let room : ℕ = room_in script.shape (n % modulus_of script.shape) seen in
     let left : List ℕ = drop n script.items in
-    let there : past n items ≡ n + length (take room (offered script n)) = past_is n items ∙ ap (λ t. n + length t) is in
+    let there : number_past n items ≡ n + length (take room (offered script n)) = past_is n items ∙ ap (λ t. n + length t) is in
     ap₂ (λ (x : List ℕ) (y : List ℕ). x ++ y) is
-    (all_items script (past n items) puts m e ∙ ap (λ k. drop k script.items) there ∙ sym (drop-drop (length (take room (offered script n))) n script.items))
+    (all_items script (number_past n items) puts m e ∙ ap (λ k. drop k script.items) there ∙ sym (drop-drop (length (take room (offered script n))) n script.items))
     ∙ parts room (batch_of script.shape) left
 all_items script n (Full seen ∷ puts) (l, is, m) e = all_items script n puts m e
 

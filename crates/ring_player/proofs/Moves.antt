@@ -8,11 +8,11 @@ use Rattle.bits_core.specs.declared.events.Access.TheVariants as access
 use Rattle.bits_core.specs.declared.events.Event.{Event}
 use Rattle.bits_core.specs.Bits.{is_by, other, same_side}
 use Rattle.bits_core.specs.Laws.{OwnChanges}
-use Rattle.bits_core.specs.Made.{Made, answered, begin_event, end_event, events_of, own}
+use Rattle.bits_core.specs.Made.{Made, answered, begin_event, end_event, events_of, own, opening_event}
 use Rattle.ring_core.specs.Puts.{put_program}
 use Rattle.ring_core.specs.Takes.{take_program}
-use Rattle.ring_player.specs.Actors.{begun, so_far, IsMove}
-use Rattle.ring_player.specs.Plays.{AreMoves, IsDone, IsDoneAfter, IsProgram, sides}
+use Rattle.ring_player.specs.Actors.{so_far, IsMove}
+use Rattle.ring_player.specs.Plays.{AreMoves, IsDone, IsDoneAfter, IsProgram, event_sides}
 use Rattle.ring_script.specs.Content.{Content}
 
 -- ---- the events of one side
@@ -48,7 +48,7 @@ length-events s [] = refl
 length-events s (x ∷ xs) = omega (arith, length-events s xs)
 
 -- an access begins alike whatever it is answered
-pub begins_as : (s : Side) (a : Access) (v : Bool) → begin_event s (answered a v) ≡ begun s a
+pub begins_as : (s : Side) (a : Access) (v : Bool) → begin_event s (answered a v) ≡ opening_event s a
 begins_as s (access.Read b) v = refl
 begins_as s (access.Write b w) v = refl
 
@@ -56,12 +56,12 @@ begins_as s (access.Write b w) v = refl
 pub events-more : (s : Side) (list : List Made) (a : Access) (v : Bool) → events_of s (list ++ answered a v ∷ []) ≡ so_far s list (Some a) ++ end_event s (answered a v) ∷ []
 events-more s list a v =
     events-append s list (answered a v ∷ []) ∙ ap (λ e. events_of s list ++ (e ∷ end_event s (answered a v) ∷ [])) (begins_as s a v)
-    ∙ sym (append_assoc (events_of s list) (begun s a ∷ []) (end_event s (answered a v) ∷ []))
+    ∙ sym (append_assoc (events_of s list) (opening_event s a ∷ []) (end_event s (answered a v) ∷ []))
 
 pub so_far_length : (s : Side) (list : List Made) (o : Option Access) → (2 * length list ≤ length (so_far s list o)) × (length (so_far s list o) ≤ 2 * length list + 1)
 so_far_length s list None = (omega (arith, length-events s list), omega (arith, length-events s list))
 so_far_length s list (Some a) =
-    (omega (arith, length-events s list, length-append (events_of s list) (begun s a ∷ [])), omega (arith, length-events s list, length-append (events_of s list) (begun s a ∷ [])))
+    (omega (arith, length-events s list, length-append (events_of s list) (opening_event s a ∷ [])), omega (arith, length-events s list, length-append (events_of s list) (opening_event s a ∷ [])))
 
 -- an open access is no whole list of accesses
 pub not_whole : (s : Side) (xs ys : List Made) (e : Event) → events_of s xs ++ e ∷ [] ≡ events_of s ys → ⊥
@@ -74,7 +74,7 @@ done_whole script C events (calls, are, whole, enough) = (take_program script.sh
 pub open_not_done : (script : Content) (s : Side) (h : List Event) (list : List Made) (a : Access) → own s h ≡ so_far s list (Some a) → ¬ IsDone script s h
 open_not_done script s h list a are d =
     let w = done_whole script s (own s h) d in
-    not_whole s list w.0 (begun s a) (sym are ∙ w.1)
+    not_whole s list w.0 (opening_event s a) (sym are ∙ w.1)
 
 -- a beginning of a program is one
 pub program_beginning : (script : Content) (s : Side) (xs ys : List Event) → IsProgram script s (xs ++ ys) → IsProgram script s xs
@@ -105,7 +105,7 @@ moves-idle script (l ∷ letters) letter past later (inr (n, (x, xs, is, of, m))
     subst (λ (t : List Event). IsDone script letter t) (ap (λ (t : List Event). past ++ t) is ∙ sym (append_assoc past (x ∷ []) xs)) d in
     inr (n, (x, xs, is, of, moves-idle script letters letter (past ++ x ∷ []) xs m d'))
 
-pub sides-more : (h : List Event) (e : Event) → sides (h ++ e ∷ []) ≡ sides h ++ e.side ∷ []
+pub sides-more : (h : List Event) (e : Event) → event_sides (h ++ e ∷ []) ≡ event_sides h ++ e.side ∷ []
 sides-more [] e = refl
 sides-more (x ∷ h) e = ap (λ (t : List Side). x.side ∷ t) (sides-more h e)
 

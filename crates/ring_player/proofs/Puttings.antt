@@ -9,14 +9,14 @@ use Rattle.bits_core.specs.Made.{Made, answered, events_of, IsBeginning}
 use Rattle.bits_core.specs.Open.{IsOpenRight}
 use Rattle.ring_core.specs.declared.producers.BatchReply.{BatchReply}
 use Rattle.ring_core.specs.Calls.{LastBitIsDue}
-use Rattle.ring_core.specs.Counts.{past, Count, first_count}
-use Rattle.ring_core.specs.ProducerCalls.{and_put, closes_with, HasCallMore, HasMoved, IsAfter, IsPutOf, IsReply, last_reply, new_producer, no_puts, ProducerStands, reply_to, room_in}
+use Rattle.ring_core.specs.Counts.{number_past, Count, first_count}
+use Rattle.ring_core.specs.ProducerCalls.{and_put, closes_with, HasCallMore, ProducerHasMoved, IsAfterCall, IsPutOf, IsReplyToCall, last_put_reply, new_producer, no_puts, ProducerStands, put_reply_to, room_in}
 use Rattle.ring_core.specs.ProducerState.{batch_reply, Call, call_of, Close, due_put, ProducerState, Put}
 use Rattle.ring_core.specs.Puts as puts
 use Rattle.ring_core.specs.Puts.{ArePuts, Full, IsBatch, number_after, Puts, put_program, Stored, stored_after, stored_count, stored_in}
 use Rattle.ring_core.specs.Over.{fulls}
 use Rattle.ring_core.specs.Readings.{PutsAreFirst}
-use Rattle.ring_player.specs.Actors.{IsAsked, IsPutting, PutTally, after_reply, full_in_reply, so_far, stored_in_reply}
+use Rattle.ring_player.specs.Actors.{IsAsked, PutActorStands, PutTally, after_reply, full_in_reply, so_far, stored_in_reply}
 use Rattle.ring_player.specs.Plays.{AreAttempts, ArePutsOf, IsDoneAfter, IsProgram, offered}
 use Rattle.ring_script.specs.Content.{Content}
 use Rattle.ring_script.specs.Script.{Fit}
@@ -83,7 +83,7 @@ pub stored-more : (n : ℕ) (xs : List puts.Put) (x : puts.Put) → stored_in n 
 stored-more n [] x = refl
 stored-more n (y ∷ xs) x = stored-more (number_after n y) xs x
 
-past_is : (n : ℕ) (items : List ℕ) → past n items ≡ n + length items
+past_is : (n : ℕ) (items : List ℕ) → number_past n items ≡ n + length items
 past_is n [] = omega arith
 past_is n (x ∷ items) = omega (arith, past_is (suc n) items)
 
@@ -161,7 +161,7 @@ abbrev StandsOn : ProducerState → ProducerState → Type 0
 StandsOn p p' = (calls : Puts) (made : List Made) → ProducerStands p calls made → ProducerStands p' calls made
 
 abbrev HasMovedFrom : ProducerState → ProducerState → List Made → Access → Bool → Type 0
-HasMovedFrom p p' list a v = (calls : Puts) → ProducerStands p calls list → HasMoved p p' calls (list ++ answered a v ∷ [])
+HasMovedFrom p p' list a v = (calls : Puts) → ProducerStands p calls list → ProducerHasMoved p p' calls (list ++ answered a v ∷ [])
 
 pub none_of : {A : Type 0} → (o : Option A) → is_some o ≡ false → o ≡ None
 none_of None e = refl
@@ -182,13 +182,13 @@ at_rest_is shape calls (Some c) made due e next = absurd (some_none e)
     some_none e = absurd (cc)
 
 pub next_in :
-    (script : Content) (p : ProducerState) (kept : PutTally) (list : List Made) (o due : Option Access) → (s : IsPutting script p kept list o) → NextOf p due →
+    (script : Content) (p : ProducerState) (kept : PutTally) (list : List Made) (o due : Option Access) → (s : PutActorStands script p kept list o) → NextOf p due →
     IsNextPut script.shape s.calls (call_of p) list due
 next_in script p kept list o due s next = subst (λ (t : Shape). IsNextPut t s.calls (call_of p) list due) s.same_shape (next s.calls list s.there)
 
 pub begins_access :
-    (script : Content) (p : ProducerState) (kept : PutTally) (list : List Made) (due : Option Access) (a : Access) → IsPutting script p kept list None → NextOf p due → due ≡ Some a →
-    IsPutting script p kept list (Some a)
+    (script : Content) (p : ProducerState) (kept : PutTally) (list : List Made) (due : Option Access) (a : Access) → PutActorStands script p kept list None → NextOf p due → due ≡ Some a →
+    PutActorStands script p kept list (Some a)
 begins_access script p kept list due a s next is =
     let n : IsNextPut script.shape s.calls (call_of p) list (Some a) = subst (λ d. IsNextPut script.shape s.calls (call_of p) list d) is (next_in script p kept list None due s next) in
     record {
@@ -207,7 +207,7 @@ begins_access script p kept list due a s next is =
 
 -- the access that is due is of a bit of the script's shape, by the side that may
 pub right :
-    (script : Content) (p : ProducerState) (kept : PutTally) (list : List Made) (due : Option Access) (a : Access) → IsPutting script p kept list None → IfSome due (IsOpenRight p.shape P) →
+    (script : Content) (p : ProducerState) (kept : PutTally) (list : List Made) (due : Option Access) (a : Access) → PutActorStands script p kept list None → IfSome due (IsOpenRight p.shape P) →
     due ≡ Some a → IsOpenRight script.shape P a
 right script p kept list due a s ok is =
     let there : IsOpenRight p.shape P a = subst (λ d. IfSome d (IsOpenRight p.shape P)) is ok in
@@ -229,7 +229,7 @@ split_last (w ∷ xs) (v ∷ ys) zs x y e =
     (ws, ap (λ l. w ∷ l) f ∙ ap (λ t. t ∷ (ys ++ ws)) head)
 
 pub unfinished :
-    PutsAreFirst → (script : Content) (p : ProducerState) (kept : PutTally) (list : List Made) (due : Option Access) (a : Access) → IsPutting script p kept list None → NextOf p due →
+    PutsAreFirst → (script : Content) (p : ProducerState) (kept : PutTally) (list : List Made) (due : Option Access) (a : Access) → PutActorStands script p kept list None → NextOf p due →
     due ≡ Some a → ¬ IsDoneAfter script P (events_of P list)
 unfinished law script p kept list due a s next is d =
     by_call (call_of p) s.asked (subst (λ t. IsNextPut script.shape s.calls (call_of p) list t) is (next_in script p kept list None due s next))
@@ -287,9 +287,9 @@ unfinished law script p kept list due a s next is d =
 -- ---- the next call begins
 
 pub began_put :
-    (script : Content) (p p' : ProducerState) (kept : PutTally) (list : List Made) (items : List ℕ) → IsPutting script p kept list None → NextOf p None → kept.stored < length script.items →
+    (script : Content) (p p' : ProducerState) (kept : PutTally) (list : List Made) (items : List ℕ) → PutActorStands script p kept list None → NextOf p None → kept.stored < length script.items →
     items ≡ offered script kept.stored → p'.shape ≡ p.shape → p'.batched ≡ true → (p.closed ≡ false → (call_of p' ≡ Some (Put items)) × (p'.closed ≡ false)) → StandsOn p p' →
-    IsPutting script p' kept list None
+    PutActorStands script p' kept list None
 began_put script p p' kept list items s next left are shape batched begun on =
     let (none, whole) = idle p.shape s.calls (call_of p) list (next s.calls list s.there) in
     let not_closed : p.closed ≡ false = s.there.closed_is ∙ ap (closes_with s.calls) none ∙ still_open s.calls.closes refl in
@@ -316,7 +316,7 @@ began_put script p p' kept list items s next left are shape batched begun on =
 
 -- it has begun one, or it may not
 pub began_one :
-    (script : Content) (p p' : ProducerState) (kept : PutTally) (list : List Made) (items : List ℕ) → IsPutting script p kept list None → NextOf p None → kept.stored < length script.items →
+    (script : Content) (p p' : ProducerState) (kept : PutTally) (list : List Made) (items : List ℕ) → PutActorStands script p kept list None → NextOf p None → kept.stored < length script.items →
     (p.closed ≡ false → (call_of p' ≡ Some (Put items)) × (p'.closed ≡ false)) → call_of p' ≡ None → ⊥
 began_one script p p' kept list items s next left begun e =
     let (none, whole) = idle p.shape s.calls (call_of p) list (next s.calls list s.there) in
@@ -335,8 +335,8 @@ began_one script p p' kept list items s next left begun e =
     still_open true e = absurd (omega (arith, (asked_none e).1, s.counted, left))
 
 pub began_close :
-    (script : Content) (p p' : ProducerState) (kept : PutTally) (list : List Made) → IsPutting script p kept list None → length script.items ≤ kept.stored → script.closes ≡ true →
-    p'.shape ≡ p.shape → call_of p' ≡ Some Close → StandsOn p p' → IsPutting script p' kept list None
+    (script : Content) (p p' : ProducerState) (kept : PutTally) (list : List Made) → PutActorStands script p kept list None → length script.items ≤ kept.stored → script.closes ≡ true →
+    p'.shape ≡ p.shape → call_of p' ≡ Some Close → StandsOn p p' → PutActorStands script p' kept list None
 began_close script p p' kept list s over closes shape call on = record {
   calls = s.calls;
   there = on s.calls list s.there;
@@ -354,7 +354,7 @@ began_close script p p' kept list s over closes shape call on = record {
     no_put items e = absurd (cc)
 
 pub is_done :
-    (script : Content) (p : ProducerState) (kept : PutTally) (list : List Made) → IsPutting script p kept list None → NextOf p None → length script.items ≤ kept.stored →
+    (script : Content) (p : ProducerState) (kept : PutTally) (list : List Made) → PutActorStands script p kept list None → NextOf p None → length script.items ≤ kept.stored →
     script.closes ≡ p.closed → IsDoneAfter script P (events_of P list)
 is_done script p kept list s next over closes =
     let (none, whole) = idle p.shape s.calls (call_of p) list (next s.calls list s.there) in (
@@ -366,7 +366,7 @@ is_done script p kept list s next over closes =
     )
 
 -- a close that was not asked for was not made
-pub not_closed : (script : Content) (p : ProducerState) (kept : PutTally) (list : List Made) → IsPutting script p kept list None → NextOf p None → script.closes ≡ false → script.closes ≡ p.closed
+pub not_closed : (script : Content) (p : ProducerState) (kept : PutTally) (list : List Made) → PutActorStands script p kept list None → NextOf p None → script.closes ≡ false → script.closes ≡ p.closed
 not_closed script p kept list s next closes =
     let (none, whole) = idle p.shape s.calls (call_of p) list (next s.calls list s.there) in
     closes ∙ sym (s.there.closed_is ∙ ap (closes_with s.calls) none ∙ by_close s.calls.closes refl)
@@ -383,15 +383,15 @@ not_closed script p kept list s next closes =
 
 -- ---- the access ends
 
-last-more : (first : Option BatchReply) (xs : List puts.Put) (x : puts.Put) → last_reply first (xs ++ x ∷ []) ≡ Some (reply_to x)
+last-more : (first : Option BatchReply) (xs : List puts.Put) (x : puts.Put) → last_put_reply first (xs ++ x ∷ []) ≡ Some (put_reply_to x)
 last-more first [] x = refl
-last-more first (y ∷ xs) x = last-more (Some (reply_to y)) xs x
+last-more first (y ∷ xs) x = last-more (Some (put_reply_to y)) xs x
 
-counted_by : (n : ℕ) (x : puts.Put) → number_after n x ≡ n + stored_in_reply (Some (reply_to x))
+counted_by : (n : ℕ) (x : puts.Put) → number_after n x ≡ n + stored_in_reply (Some (put_reply_to x))
 counted_by n (Stored seen items) = past_is n items
 counted_by n (Full seen) = omega arith
 
-pub fulls-more : (xs : List puts.Put) (x : puts.Put) → fulls xs + full_in_reply (Some (reply_to x)) ≡ fulls (xs ++ x ∷ [])
+pub fulls-more : (xs : List puts.Put) (x : puts.Put) → fulls xs + full_in_reply (Some (put_reply_to x)) ≡ fulls (xs ++ x ∷ [])
 fulls-more [] (Stored seen items) = refl
 fulls-more [] (Full seen) = refl
 fulls-more (Stored seen items ∷ xs) x = fulls-more xs x
@@ -399,19 +399,19 @@ fulls-more (Full seen ∷ xs) x = omega (arith, fulls-more xs x)
 
 -- what the actor has counted is what is stored, and it stands after one access more
 pub ended :
-    (script : Content) (p p' : ProducerState) (kept : PutTally) (list : List Made) (due : Option Access) (a : Access) (v : Bool) → IsPutting script p kept list (Some a) → NextOf p due → due ≡ due_put p →
+    (script : Content) (p p' : ProducerState) (kept : PutTally) (list : List Made) (due : Option Access) (a : Access) (v : Bool) → PutActorStands script p kept list (Some a) → NextOf p due → due ≡ due_put p →
     due_put p ≡ Some a → (LastBitIsDue script.shape P (due_put p) → v ≡ true) → HasMovedFrom p p' list a v → p'.shape ≡ p.shape → p'.batched ≡ p.batched → (due' : Option Access) → NextOf p' due' →
-    IsPutting script p' (after_reply kept (batch_reply p')) (list ++ answered a v ∷ []) None
+    PutActorStands script p' (after_reply kept (batch_reply p')) (list ++ answered a v ∷ []) None
 ended script p p' kept list due a v s next due_is is one moved shape batched due' next' =
     let n : IsNextPut script.shape s.calls (call_of p) list (Some a) = subst (λ d. IsNextPut script.shape s.calls (call_of p) list d) (due_is ∙ is) (next_in script p kept list (Some a) due s next) in
     let one' : LastBitIsDue script.shape P (Some a) → v ≡ true = subst (λ d. LastBitIsDue script.shape P d → v ≡ true) is one in
     let goes : IsProgram script P (events_of P (list ++ answered a v ∷ [])) = goes_on script (call_of p) s.calls list a v s.attempts s.asked n one' in
     let (more, there, after) = moved s.calls s.there in
-    let after' : IsAfter script.shape (call_of p) (call_of p') s.calls more p'.reply = subst (λ (t : Shape). IsAfter t (call_of p) (call_of p') s.calls more p'.reply) s.same_shape after in
+    let after' : IsAfterCall script.shape (call_of p) (call_of p') s.calls more p'.reply = subst (λ (t : Shape). IsAfterCall t (call_of p) (call_of p') s.calls more p'.reply) s.same_shape after in
     by_call (call_of p) (call_of p') refl refl more s.asked there after' goes
   where
-    rest_reply : (more : Puts) (x : puts.Put) → more ≡ and_put s.calls x → IsReply more None p'.reply → p'.reply ≡ Some (reply_to x)
-    rest_reply more x more_is r = (subst (λ (t : Puts). IsReply t None p'.reply) more_is r) ∙ last-more None s.calls.puts x
+    rest_reply : (more : Puts) (x : puts.Put) → more ≡ and_put s.calls x → IsReplyToCall more None p'.reply → p'.reply ≡ Some (put_reply_to x)
+    rest_reply more x more_is r = (subst (λ (t : Puts). IsReplyToCall t None p'.reply) more_is r) ∙ last-more None s.calls.puts x
 
     whole_long : (more : Puts) → ProducerStands p' more (list ++ answered a v ∷ []) → call_of p' ≡ None → length (put_program script.shape more) ≤ length (list ++ answered a v ∷ [])
     whole_long more there none =
@@ -433,11 +433,11 @@ ended script p p' kept list due a v s next due_is is one moved shape batched due
 
     by_call :
         (c d : Option Call) → call_of p ≡ c → call_of p' ≡ d → (more : Puts) → IsAsked script s.calls c → ProducerStands p' more (list ++ answered a v ∷ []) →
-        IsAfter script.shape c d s.calls more p'.reply → IsProgram script P (events_of P (list ++ answered a v ∷ [])) →
-        IsPutting script p' (after_reply kept (batch_reply p')) (list ++ answered a v ∷ []) None
+        IsAfterCall script.shape c d s.calls more p'.reply → IsProgram script P (events_of P (list ++ answered a v ∷ [])) →
+        PutActorStands script p' (after_reply kept (batch_reply p')) (list ++ answered a v ∷ []) None
     by_call None d c_is d_is more asked there after goes = absurd after
     by_call (Some c) (Some d) c_is d_is more asked there (same, more_is) goes =
-        let silent : p'.reply ≡ None = subst (λ t. IsReply more t p'.reply) d_is there.reply_is in
+        let silent : p'.reply ≡ None = subst (λ t. IsReplyToCall more t p'.reply) d_is there.reply_is in
         record {
           calls = more;
           there = there;
@@ -451,16 +451,16 @@ ended script p p' kept list due a v s next due_is is one moved shape batched due
           program = goes;
         }
     by_call (Some (Put items)) None c_is d_is more (items_are, left) there ((x, of, more_is, are, o), silent) goes =
-        let told : p'.reply ≡ Some (reply_to x) = rest_reply more x more_is (subst (λ t. IsReply more t p'.reply) d_is there.reply_is) in
+        let told : p'.reply ≡ Some (put_reply_to x) = rest_reply more x more_is (subst (λ t. IsReplyToCall more t p'.reply) d_is there.reply_is) in
         let batch : p'.batched ≡ true = batched ∙ s.batched items c_is in
-        let reply_is : batch_reply p' ≡ Some (reply_to x) = ap (λ t. cond t p'.reply None) batch ∙ told in
+        let reply_is : batch_reply p' ≡ Some (put_reply_to x) = ap (λ t. cond t p'.reply None) batch ∙ told in
         record {
           calls = more;
           there = there;
           same_shape = shape ∙ s.same_shape;
           attempts = (calls_asked script (Put items) s.calls more s.attempts (items_are, left) (x, of, more_is, are, o)).attempts;
-          filled = ap (λ t. kept.full + full_in_reply t) reply_is ∙ ap (λ t. t + full_in_reply (Some (reply_to x))) s.filled ∙ fulls-more s.calls.puts x ∙ ap (λ (t : Puts). fulls t.puts) (sym more_is);
-          counted = ap (λ t. kept.stored + stored_in_reply t) reply_is ∙ ap (λ t. t + stored_in_reply (Some (reply_to x))) s.counted ∙ sym (counted_by (stored_in 0 s.calls.puts) x)
+          filled = ap (λ t. kept.full + full_in_reply t) reply_is ∙ ap (λ t. t + full_in_reply (Some (put_reply_to x))) s.filled ∙ fulls-more s.calls.puts x ∙ ap (λ (t : Puts). fulls t.puts) (sym more_is);
+          counted = ap (λ t. kept.stored + stored_in_reply t) reply_is ∙ ap (λ t. t + stored_in_reply (Some (put_reply_to x))) s.counted ∙ sym (counted_by (stored_in 0 s.calls.puts) x)
               ∙ sym (stored-more 0 s.calls.puts x) ∙ ap (λ (t : Puts). stored_in 0 t.puts) (sym more_is);
           long = whole_long more there d_is;
           batched = λ items e. absurd (none_some items (sym d_is ∙ e));
@@ -487,11 +487,11 @@ ended script p p' kept list due a v s next due_is is one moved shape batched due
         none_some : (items : List ℕ) → None ≡ Some (Put items) → ⊥
         none_some items e = absurd (cc)
 
-pub ended_within : (script : Content) (p : ProducerState) (kept : PutTally) (list : List Made) (o : Option Access) → IsPutting script p kept list o → kept.stored ≤ length script.items
+pub ended_within : (script : Content) (p : ProducerState) (kept : PutTally) (list : List Made) (o : Option Access) → PutActorStands script p kept list o → kept.stored ≤ length script.items
 ended_within script p kept list o s = omega (arith, s.counted, attempts_within script 0 s.calls.puts (omega arith) s.attempts)
 
 -- an actor that has made no access
-pub new_putting : (script : Content) (p : ProducerState) → p ≡ new_producer script.shape → ProducerStands p no_puts [] → IsPutting script p (record { stored = 0; full = 0 }) [] None
+pub new_putting : (script : Content) (p : ProducerState) → p ≡ new_producer script.shape → ProducerStands p no_puts [] → PutActorStands script p (record { stored = 0; full = 0 }) [] None
 new_putting script p is there = record {
   calls = no_puts;
   there = there;
@@ -516,5 +516,5 @@ new_putting script p is there = record {
 
 -- where none is due, no call is under way
 pub resting :
-    (script : Content) (p : ProducerState) (kept : PutTally) (list : List Made) (due : Option Access) → IsPutting script p kept list None → NextOf p due → due ≡ None → call_of p ≡ None
+    (script : Content) (p : ProducerState) (kept : PutTally) (list : List Made) (due : Option Access) → PutActorStands script p kept list None → NextOf p due → due ≡ None → call_of p ≡ None
 resting script p kept list due s next none = (idle script.shape s.calls (call_of p) list (subst (λ d. IsNextPut script.shape s.calls (call_of p) list d) none (next_in script p kept list None due s next))).0

@@ -13,14 +13,14 @@ use Rattle.bits_core.specs.Bits.{begun_by, is_by, other}
 use Rattle.bits_core.specs.History.{open_access}
 use Rattle.bits_core.specs.Laws.{OpenChanges, OwnChanges}
 use Rattle.bits_core.specs.Lawful.{IsLawful}
-use Rattle.bits_core.specs.Made.{Made, Read, answered, end_event, events_of, own}
+use Rattle.bits_core.specs.Made.{Made, Read, answered, end_event, events_of, own, opening_event}
 use Rattle.bits_core.specs.Open.{IsReading, IsWriting, bit_of}
 use Rattle.bits_core.specs.Shape.{modulus_of}
 use Rattle.register_core.specs.Row.{row_bit}
 use Rattle.register_core.specs.ScanState.{row_read_by, zero_reads}
 use Rattle.ring_core.specs.Calls.{EndsInZeros, LastBitIsDue}
 use Rattle.ring_core.specs.RunLaws.{PutsAreSeen, TakesAreSeen}
-use Rattle.ring_player.specs.Actors.{begun, so_far, IsMove, IsPlaying}
+use Rattle.ring_player.specs.Actors.{so_far, IsMove, IsPlaying}
 use Rattle.ring_player.specs.Plays.{IsProgram}
 use Rattle.ring_script.specs.Content.{Content}
 use Rattle.ring_player.proofs.Moves.{by_side, events-more, length-events, open_not_done, own_by, own_other, so_far_length}
@@ -76,19 +76,19 @@ after_end opens owns s h h' due due' stands stands' a v e p o is end by ends the
     (λ b f. none_some b f))
 
 -- the due access begun
-begun_begins : (s : Side) (a : Access) → begun_by (begun s a) ≡ Some a
+begun_begins : (s : Side) (a : Access) → begun_by (opening_event s a) ≡ Some a
 begun_begins s (access.Read b) = refl
 begun_begins s (access.Write b v) = refl
 
-pub begun_side : (s : Side) (a : Access) → (begun s a).side ≡ s
+pub begun_side : (s : Side) (a : Access) → (opening_event s a).side ≡ s
 begun_side s (access.Read b) = refl
 begun_side s (access.Write b v) = refl
 
 pub after_begin :
     OpenChanges → OwnChanges → (s : Side) (h h' : List Event) (due due' : Option Access) (stands stands' : Stands) (a : Access) → (p : IsPlaying s h due stands) → open_access s h ≡ None →
-    h' ≡ h ++ begun s a ∷ [] → due' ≡ Some a → stands' p.list (Some a) → IsPlaying s h' due' stands'
+    h' ≡ h ++ opening_event s a ∷ [] → due' ≡ Some a → stands' p.list (Some a) → IsPlaying s h' due' stands'
 after_begin opens owns s h h' due due' stands stands' a p o is is_due there =
-    let e : Event = begun s a in
+    let e : Event = opening_event s a in
     let by : e.side ≡ s = begun_side s a in
     subst (λ (t : List Event). IsPlaying s t due' stands') (sym is)
     (playing s (h ++ e ∷ []) due' stands' p.list (Some a) (open_by opens s h e by ∙ begun_begins s a) there

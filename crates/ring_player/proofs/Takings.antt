@@ -6,17 +6,17 @@ use Rattle.bits_core.specs.declared.events.Side.TheVariants.{C}
 use Rattle.bits_core.specs.declared.events.Access.{Access}
 use Rattle.bits_core.specs.declared.shapes.Shape.{Shape}
 use Rattle.bits_core.specs.declared.events.Bit.TheVariants.{X}
-use Rattle.bits_core.specs.Made.{Made, Read, answered, end_event, events_of, IsBeginning}
+use Rattle.bits_core.specs.Made.{Made, Read, answered, end_event, events_of, IsBeginning, opening_event}
 use Rattle.bits_core.specs.Open.{IsOpenRight}
 use Rattle.ring_core.specs.declared.consumers.TakeReply.{TakeReply}
 use Rattle.ring_core.specs.declared.consumers.TakeReply.TheVariants as reply
 use Rattle.ring_core.specs.Calls.{LastBitIsDue}
-use Rattle.ring_core.specs.ConsumerCalls.{and_end, and_take, ConsumerStands, HasMoved, HasTakeMore, IsAfter, IsReply, last_reply, new_consumer, no_takes, reply_at_end, reply_to, tells}
+use Rattle.ring_core.specs.ConsumerCalls.{and_end, and_take, ConsumerStands, ConsumerHasMoved, HasTakeMore, IsAfterTake, IsReplyToTake, last_take_reply, new_consumer, no_takes, reply_at_end, take_reply_to, ends_closed}
 use Rattle.ring_core.specs.ConsumerState.{ConsumerState, due_take, is_taking}
 use Rattle.ring_core.specs.Items.{all_taken, events_in, items_taken, Tells}
 use Rattle.ring_core.specs.Readings.{TakesAreFirst}
 use Rattle.ring_core.specs.Takes.{AreTakes, Closed, Empty, End, Item, ItemAfterClose, Open, Take, end_phrase, take_phrase, take_phrases, take_program, taken_after, taken_in, Takes}
-use Rattle.ring_player.specs.Actors.{begun, IsTaking, so_far, empty_in}
+use Rattle.ring_player.specs.Actors.{TakeActorStands, so_far, empty_in}
 use Rattle.ring_player.specs.Plays.{IsDoneAfter, IsProgram}
 use Rattle.register_core.specs.ScanState.{row_read_by, scan_phrase}
 use Rattle.ring_core.specs.Over.{empties, takes_over}
@@ -62,11 +62,11 @@ all_are k (Item seen item ∷ xs) = omega (arith, all_are (suc k) xs)
 all_are k (ItemAfterClose seen again item ∷ xs) = omega (arith, all_are (suc k) xs)
 all_are k (Empty seen ∷ xs) = all_are k xs
 
-tells_so : (end : End) → tells end ≡ true → Tells end
+tells_so : (end : End) → ends_closed end ≡ true → Tells end
 tells_so Open e = absurd (cc)
 tells_so (Closed seen again) e = tt
 
-open_tells : (end : End) → tells end ≡ false → end ≡ Open
+open_tells : (end : End) → ends_closed end ≡ false → end ≡ Open
 open_tells Open e = refl
 open_tells (Closed seen again) e = absurd (cc)
 
@@ -76,7 +76,7 @@ abbrev StandsOn : ConsumerState → ConsumerState → Type 0
 StandsOn p p' = (calls : Takes) (made : List Made) → ConsumerStands p calls made → ConsumerStands p' calls made
 
 abbrev HasMovedFrom : ConsumerState → ConsumerState → List Made → Access → Bool → Type 0
-HasMovedFrom p p' list a v = (calls : Takes) → ConsumerStands p calls list → HasMoved p p' calls (list ++ answered a v ∷ [])
+HasMovedFrom p p' list a v = (calls : Takes) → ConsumerStands p calls list → ConsumerHasMoved p p' calls (list ++ answered a v ∷ [])
 
 goes_on :
     (script : Content) (taking : Bool) (calls : Takes) (list : List Made) (a : Access) (v : Bool) → IsNextTake script.shape calls taking list (Some a) →
@@ -100,13 +100,13 @@ at_rest_is shape calls true made due e next = absurd (true_false e)
     true_false e = absurd (cc)
 
 next_in :
-    (script : Content) (p : ConsumerState) (taken : List ℕ) (told : Bool) (empty : ℕ) (list : List Made) (o due : Option Access) → (s : IsTaking script p taken told empty list o) → NextOf p due →
+    (script : Content) (p : ConsumerState) (taken : List ℕ) (told : Bool) (empty : ℕ) (list : List Made) (o due : Option Access) → (s : TakeActorStands script p taken told empty list o) → NextOf p due →
     IsNextTake script.shape s.calls (is_taking p) list due
 next_in script p taken told empty list o due s next = subst (λ (t : Shape). IsNextTake t s.calls (is_taking p) list due) s.same_shape (next s.calls list s.there)
 
 pub begins_access :
-    (script : Content) (p : ConsumerState) (taken : List ℕ) (told : Bool) (empty : ℕ) (list : List Made) (due : Option Access) (a : Access) → IsTaking script p taken told empty list None → NextOf p due →
-    due ≡ Some a → IsTaking script p taken told empty list (Some a)
+    (script : Content) (p : ConsumerState) (taken : List ℕ) (told : Bool) (empty : ℕ) (list : List Made) (due : Option Access) (a : Access) → TakeActorStands script p taken told empty list None → NextOf p due →
+    due ≡ Some a → TakeActorStands script p taken told empty list (Some a)
 begins_access script p taken told empty list due a s next is =
     let n : IsNextTake script.shape s.calls (is_taking p) list (Some a) =
     subst (λ d. IsNextTake script.shape s.calls (is_taking p) list d) is (next_in script p taken told empty list None due s next) in
@@ -126,7 +126,7 @@ begins_access script p taken told empty list due a s next is =
 
 -- the access that is due is of a bit of the script's shape, by the side that may
 pub right :
-    (script : Content) (p : ConsumerState) (taken : List ℕ) (told : Bool) (empty : ℕ) (list : List Made) (due : Option Access) (a : Access) → IsTaking script p taken told empty list None →
+    (script : Content) (p : ConsumerState) (taken : List ℕ) (told : Bool) (empty : ℕ) (list : List Made) (due : Option Access) (a : Access) → TakeActorStands script p taken told empty list None →
     IfSome due (IsOpenRight p.shape C) → due ≡ Some a → IsOpenRight script.shape C a
 right script p taken told empty list due a s ok is =
     let there : IsOpenRight p.shape C a = subst (λ d. IfSome d (IsOpenRight p.shape C)) is ok in
@@ -148,7 +148,7 @@ same_calls : (a b : Takes) → a.takes ≡ b.takes → a.end ≡ b.end → a ≡
 same_calls a b p q = ap (λ (t : List Take). record { takes = t; end = a.end }) p ∙ ap (λ (t : End). record { takes = b.takes; end = t }) q
 
 pub unfinished :
-    TakesAreFirst → (script : Content) (p : ConsumerState) (taken : List ℕ) (told : Bool) (empty : ℕ) (list : List Made) (due : Option Access) (a : Access) → IsTaking script p taken told empty list None →
+    TakesAreFirst → (script : Content) (p : ConsumerState) (taken : List ℕ) (told : Bool) (empty : ℕ) (list : List Made) (due : Option Access) (a : Access) → TakeActorStands script p taken told empty list None →
     NextOf p due → due ≡ Some a → ¬ IsDoneAfter script C (events_of C list)
 unfinished law script p taken told empty list due a s next is d =
     by_call (is_taking p) refl (subst (λ t. IsNextTake script.shape s.calls (is_taking p) list t) is (next_in script p taken told empty list None due s next))
@@ -213,8 +213,8 @@ unfinished law script p taken told empty list due a s next is d =
 -- ---- the next take begins
 
 pub began_take :
-    (script : Content) (p p' : ConsumerState) (taken : List ℕ) (told : Bool) (empty : ℕ) (list : List Made) → IsTaking script p taken told empty list None → length taken < script.takes →
-    p'.shape ≡ p.shape → StandsOn p p' → IsTaking script p' taken told empty list None
+    (script : Content) (p p' : ConsumerState) (taken : List ℕ) (told : Bool) (empty : ℕ) (list : List Made) → TakeActorStands script p taken told empty list None → length taken < script.takes →
+    p'.shape ≡ p.shape → StandsOn p p' → TakeActorStands script p' taken told empty list None
 began_take script p p' taken told empty list s left shape on = record {
   calls = s.calls;
   there = on s.calls list s.there;
@@ -230,17 +230,17 @@ began_take script p p' taken told empty list s left shape on = record {
 
 -- it has begun one
 pub began_one :
-    (script : Content) (p p' : ConsumerState) (taken : List ℕ) (told : Bool) (empty : ℕ) (list : List Made) → IsTaking script p taken told empty list None → told ≡ false →
+    (script : Content) (p p' : ConsumerState) (taken : List ℕ) (told : Bool) (empty : ℕ) (list : List Made) → TakeActorStands script p taken told empty list None → told ≡ false →
     (p.told ≡ false → is_taking p' ≡ true) → is_taking p' ≡ false → ⊥
-began_one script p p' taken told empty list s not_told begun e =
+began_one script p p' taken told empty list s not_told opening_event e =
     let not : p.told ≡ false = s.there.told_is ∙ sym s.told_is ∙ not_told in
-    absurd (true_false (sym (begun not) ∙ e))
+    absurd (true_false (sym (opening_event not) ∙ e))
   where
     true_false : true ≡ false → ⊥
     true_false e = absurd (cc)
 
 pub is_done :
-    (script : Content) (p : ConsumerState) (taken : List ℕ) (told : Bool) (empty : ℕ) (list : List Made) → IsTaking script p taken told empty list None → NextOf p None →
+    (script : Content) (p : ConsumerState) (taken : List ℕ) (told : Bool) (empty : ℕ) (list : List Made) → TakeActorStands script p taken told empty list None → NextOf p None →
     (told ≡ true) ⊎ (script.takes ≤ length taken) → IsDoneAfter script C (events_of C list)
 is_done script p taken told empty list s next over =
     let (none, whole) = idle p.shape s.calls (is_taking p) list (next s.calls list s.there) in (
@@ -256,9 +256,9 @@ is_done script p taken told empty list s next over =
 
 -- ---- the access ends
 
-last-more : (first : Option TakeReply) (xs : List Take) (x : Take) → last_reply first (xs ++ x ∷ []) ≡ Some (reply_to x)
+last-more : (first : Option TakeReply) (xs : List Take) (x : Take) → last_take_reply first (xs ++ x ∷ []) ≡ Some (take_reply_to x)
 last-more first [] x = refl
-last-more first (y ∷ xs) x = last-more (Some (reply_to y)) xs x
+last-more first (y ∷ xs) x = last-more (Some (take_reply_to y)) xs x
 
 -- what the actor keeps of a reply
 abbrev pub kept_of : Option TakeReply → List ℕ
@@ -273,7 +273,7 @@ told_by (Some (reply.Item item)) told = told
 told_by (Some reply.Empty) told = told
 told_by (Some reply.Closed) told = true
 
-pub empties-more : (xs : List Take) (x : Take) → empties xs + empty_in (Some (reply_to x)) ≡ empties (xs ++ x ∷ [])
+pub empties-more : (xs : List Take) (x : Take) → empties xs + empty_in (Some (take_reply_to x)) ≡ empties (xs ++ x ∷ [])
 empties-more [] (Item seen item) = refl
 empties-more [] (ItemAfterClose seen again item) = refl
 empties-more [] (Empty seen) = refl
@@ -281,12 +281,12 @@ empties-more (Item seen item ∷ xs) x = empties-more xs x
 empties-more (ItemAfterClose seen again item ∷ xs) x = empties-more xs x
 empties-more (Empty seen ∷ xs) x = omega (arith, empties-more xs x)
 
-kept_is : (x : Take) → kept_of (Some (reply_to x)) ≡ item_of x
+kept_is : (x : Take) → kept_of (Some (take_reply_to x)) ≡ item_of x
 kept_is (Item seen item) = refl
 kept_is (ItemAfterClose seen again item) = refl
 kept_is (Empty seen) = refl
 
-told_so : (x : Take) (told : Bool) → told_by (Some (reply_to x)) told ≡ told
+told_so : (x : Take) (told : Bool) → told_by (Some (take_reply_to x)) told ≡ told
 told_so (Item seen item) told = refl
 told_so (ItemAfterClose seen again item) told = refl
 told_so (Empty seen) told = refl
@@ -297,37 +297,37 @@ after_at_most k (ItemAfterClose seen again item) = omega arith
 after_at_most k (Empty seen) = omega arith
 
 pub ended :
-    (script : Content) (p p' : ConsumerState) (taken : List ℕ) (told : Bool) (empty : ℕ) (list : List Made) (due : Option Access) (a : Access) (v : Bool) → IsTaking script p taken told empty list (Some a) →
+    (script : Content) (p p' : ConsumerState) (taken : List ℕ) (told : Bool) (empty : ℕ) (list : List Made) (due : Option Access) (a : Access) (v : Bool) → TakeActorStands script p taken told empty list (Some a) →
     NextOf p due → due ≡ due_take p → due_take p ≡ Some a → (LastBitIsDue script.shape C (due_take p) → v ≡ true) → HasMovedFrom p p' list a v → p'.shape ≡ p.shape → (due' : Option Access) → NextOf p' due' →
-    IsTaking script p' (taken ++ kept_of p'.reply) (told_by p'.reply told) (empty + empty_in p'.reply) (list ++ answered a v ∷ []) None
+    TakeActorStands script p' (taken ++ kept_of p'.reply) (told_by p'.reply told) (empty + empty_in p'.reply) (list ++ answered a v ∷ []) None
 ended script p p' taken told empty list due a v s next due_is is one moved shape due' next' =
     let n : IsNextTake script.shape s.calls (is_taking p) list (Some a) =
     subst (λ d. IsNextTake script.shape s.calls (is_taking p) list d) (due_is ∙ is) (next_in script p taken told empty list (Some a) due s next) in
     let one' : LastBitIsDue script.shape C (Some a) → v ≡ true = subst (λ d. LastBitIsDue script.shape C d → v ≡ true) is one in
     let goes : IsProgram script C (events_of C (list ++ answered a v ∷ [])) = goes_on script (is_taking p) s.calls list a v n one' in
     let (more, there, after) = moved s.calls s.there in
-    let after' : IsAfter script.shape (is_taking p) (is_taking p') s.calls more = subst (λ (t : Shape). IsAfter t (is_taking p) (is_taking p') s.calls more) s.same_shape after in
+    let after' : IsAfterTake script.shape (is_taking p) (is_taking p') s.calls more = subst (λ (t : Shape). IsAfterTake t (is_taking p) (is_taking p') s.calls more) s.same_shape after in
     by_call (is_taking p) (is_taking p') refl refl more there after' goes
   where
     by_call :
-        (b d : Bool) → is_taking p ≡ b → is_taking p' ≡ d → (more : Takes) → ConsumerStands p' more (list ++ answered a v ∷ []) → IsAfter script.shape b d s.calls more →
-        IsProgram script C (events_of C (list ++ answered a v ∷ [])) → IsTaking script p' (taken ++ kept_of p'.reply) (told_by p'.reply told) (empty + empty_in p'.reply) (list ++ answered a v ∷ []) None
+        (b d : Bool) → is_taking p ≡ b → is_taking p' ≡ d → (more : Takes) → ConsumerStands p' more (list ++ answered a v ∷ []) → IsAfterTake script.shape b d s.calls more →
+        IsProgram script C (events_of C (list ++ answered a v ∷ [])) → TakeActorStands script p' (taken ++ kept_of p'.reply) (told_by p'.reply told) (empty + empty_in p'.reply) (list ++ answered a v ∷ []) None
     by_call false d b_is d_is more there after goes = absurd after
     by_call true true b_is d_is more there more_is goes =
-        let silent : p'.reply ≡ None = subst (λ t. IsReply more t p'.reply) d_is there.reply_is in
+        let silent : p'.reply ≡ None = subst (λ t. IsReplyToTake more t p'.reply) d_is there.reply_is in
         record {
           calls = more;
           there = there;
           same_shape = shape ∙ s.same_shape;
           taken_is = ap (λ t. taken ++ kept_of t) silent ∙ append-nil taken ∙ s.taken_is ∙ ap (λ (t : Takes). all_taken t.takes) (sym more_is);
           empty_is = let nothing : empty + 0 ≡ empty = omega arith in ap (λ t. empty + empty_in t) silent ∙ nothing ∙ s.empty_is ∙ ap (λ (t : Takes). empties t.takes) (sym more_is);
-          told_is = ap (λ t. told_by t told) silent ∙ s.told_is ∙ ap (λ (t : Takes). tells t.end) (sym more_is);
+          told_is = ap (λ t. told_by t told) silent ∙ s.told_is ∙ ap (λ (t : Takes). ends_closed t.end) (sym more_is);
           few = omega (arith, s.few, ap (λ (t : Takes). taken_in 0 t.takes) more_is);
           long = omega (arith, s.long, ap (λ (t : Takes). length (take_program script.shape t)) more_is, length-append list (answered a v ∷ []));
           asked = λ e. omega (arith, s.asked b_is, ap (λ (t : Takes). taken_in 0 t.takes) more_is);
           program = goes;
         }
-    by_call true false b_is d_is more there has goes = by_more has.is_one_more (subst (λ t. IsReply more t p'.reply) d_is there.reply_is)
+    by_call true false b_is d_is more there has goes = by_more has.is_one_more (subst (λ t. IsReplyToTake more t p'.reply) d_is there.reply_is)
       where
         clash : is_taking p' ≡ true → ⊥
         clash e = absurd (true_false (sym e ∙ d_is))
@@ -341,20 +341,20 @@ ended script p p' taken told empty list due a v s next due_is is one moved shape
             omega (arith, ap length at_rest, ap (λ (t : Shape). length (take_program t more)) (shape ∙ s.same_shape))
 
         was_open : told ≡ false
-        was_open = s.told_is ∙ ap tells has.not_over
+        was_open = s.told_is ∙ ap ends_closed has.not_over
 
         by_more : ((x : Take) × (more ≡ and_take s.calls x)) ⊎ ((seen again : ℕ) × (more ≡ and_end s.calls seen again)) → p'.reply ≡ reply_at_end more.end more.takes →
-            IsTaking script p' (taken ++ kept_of p'.reply) (told_by p'.reply told) (empty + empty_in p'.reply) (list ++ answered a v ∷ []) None
+            TakeActorStands script p' (taken ++ kept_of p'.reply) (told_by p'.reply told) (empty + empty_in p'.reply) (list ++ answered a v ∷ []) None
         by_more (inl (x, more_is)) reply_is =
-            let told_reply : p'.reply ≡ Some (reply_to x) = reply_is ∙ ap (λ (t : Takes). reply_at_end t.end t.takes) more_is ∙ last-more None s.calls.takes x in
+            let told_reply : p'.reply ≡ Some (take_reply_to x) = reply_is ∙ ap (λ (t : Takes). reply_at_end t.end t.takes) more_is ∙ last-more None s.calls.takes x in
             record {
               calls = more;
               there = there;
               same_shape = shape ∙ s.same_shape;
               taken_is = ap (λ t. taken ++ kept_of t) told_reply ∙ ap (λ l. taken ++ l) (kept_is x) ∙ ap (λ l. l ++ item_of x) s.taken_is ∙ sym (all-more s.calls.takes x)
                   ∙ ap (λ (t : Takes). all_taken t.takes) (sym more_is);
-              empty_is = ap (λ t. empty + empty_in t) told_reply ∙ ap (λ t. t + empty_in (Some (reply_to x))) s.empty_is ∙ empties-more s.calls.takes x ∙ ap (λ (t : Takes). empties t.takes) (sym more_is);
-              told_is = ap (λ t. told_by t told) told_reply ∙ told_so x told ∙ was_open ∙ ap (λ (t : Takes). tells t.end) (sym more_is);
+              empty_is = ap (λ t. empty + empty_in t) told_reply ∙ ap (λ t. t + empty_in (Some (take_reply_to x))) s.empty_is ∙ empties-more s.calls.takes x ∙ ap (λ (t : Takes). empties t.takes) (sym more_is);
+              told_is = ap (λ t. told_by t told) told_reply ∙ told_so x told ∙ was_open ∙ ap (λ (t : Takes). ends_closed t.end) (sym more_is);
               few = omega (arith, s.asked b_is, ap (λ (t : Takes). taken_in 0 t.takes) more_is, taken-more 0 s.calls.takes x, after_at_most (taken_in 0 s.calls.takes) x);
               long = whole_long more there;
               asked = λ e. absurd (clash e);
@@ -368,7 +368,7 @@ ended script p p' taken told empty list due a v s next due_is is one moved shape
               same_shape = shape ∙ s.same_shape;
               taken_is = ap (λ t. taken ++ kept_of t) told_reply ∙ append-nil taken ∙ s.taken_is ∙ ap (λ (t : Takes). all_taken t.takes) (sym more_is);
               empty_is = let nothing : empty + 0 ≡ empty = omega arith in ap (λ t. empty + empty_in t) told_reply ∙ nothing ∙ s.empty_is ∙ ap (λ (t : Takes). empties t.takes) (sym more_is);
-              told_is = ap (λ t. told_by t told) told_reply ∙ ap (λ (t : Takes). tells t.end) (sym more_is);
+              told_is = ap (λ t. told_by t told) told_reply ∙ ap (λ (t : Takes). ends_closed t.end) (sym more_is);
               few = omega (arith, s.few, ap (λ (t : Takes). taken_in 0 t.takes) more_is);
               long = whole_long more there;
               asked = λ e. absurd (clash e);
@@ -376,7 +376,7 @@ ended script p p' taken told empty list due a v s next due_is is one moved shape
             }
 
 -- an actor that has made no access
-pub new_taking : (script : Content) (p : ConsumerState) → p ≡ new_consumer script.shape → ConsumerStands p no_takes [] → IsTaking script p [] false 0 [] None
+pub new_taking : (script : Content) (p : ConsumerState) → p ≡ new_consumer script.shape → ConsumerStands p no_takes [] → TakeActorStands script p [] false 0 [] None
 new_taking script p is there = record {
   calls = no_takes;
   there = there;
@@ -467,7 +467,7 @@ begins-trans : {A : Type 0} (xs ys zs : List A) → IsBeginning xs ys → IsBegi
 begins-trans xs ys zs (r, e) (r', f) = (r ++ r', sym (append_assoc xs r r') ∙ ap (λ l. l ++ r') e ∙ f)
 
 pub taken_so_far :
-    (script : Content) (p : ConsumerState) (taken : List ℕ) (told : Bool) (empty : ℕ) (list : List Made) (o due : Option Access) → IsTaking script p taken told empty list o → NextOf p due →
+    (script : Content) (p : ConsumerState) (taken : List ℕ) (told : Bool) (empty : ℕ) (list : List Made) (o due : Option Access) → TakeActorStands script p taken told empty list o → NextOf p due →
     ((a : Access) → o ≡ Some a → due ≡ Some a) → TakenSoFar script.shape (so_far C list o) taken told empty
 taken_so_far script p taken told empty list o due s next is_due = by_due due is_due (is_taking p) (next_in script p taken told empty list o due s next)
   where
@@ -490,7 +490,7 @@ taken_so_far script p taken told empty list o due s next is_due = by_due due is_
         none_some : None ≡ Some a → ⊥
         none_some e = absurd (cc)
 
-    tells_if : (end : End) → Tells end → tells end ≡ true
+    tells_if : (end : End) → Tells end → ends_closed end ≡ true
     tells_if Open t = absurd t
     tells_if (Closed seen again) t = refl
 
@@ -514,7 +514,7 @@ taken_so_far script p taken told empty list o due s next is_due = by_due due is_
         let (more, has, (rest, e)) = next true (λ l. refl) in
         let bounds = so_far_length C list o in
         let longer : length list < length (take_program shape more) = omega (arith, ap length e, length-append (list ++ answered a true ∷ []) rest, length-append list (answered a true ∷ [])) in
-        let open_tells_not : told ≡ false = s.told_is ∙ ap tells has.not_over in
+        let open_tells_not : told ≡ false = s.told_is ∙ ap ends_closed has.not_over in
         record {
           takes = more;
           are = has.are;
@@ -569,7 +569,7 @@ taken_so_far script p taken told empty list o due s next is_due = by_due due is_
 
 -- where none is due, no take is under way
 pub resting :
-    (script : Content) (p : ConsumerState) (taken : List ℕ) (told : Bool) (empty : ℕ) (list : List Made) (due : Option Access) → IsTaking script p taken told empty list None → NextOf p due → due ≡ None → is_taking p ≡ false
+    (script : Content) (p : ConsumerState) (taken : List ℕ) (told : Bool) (empty : ℕ) (list : List Made) (due : Option Access) → TakeActorStands script p taken told empty list None → NextOf p due → due ≡ None → is_taking p ≡ false
 resting script p taken told empty list due s next none =
     (idle script.shape s.calls (is_taking p) list (subst (λ d. IsNextTake script.shape s.calls (is_taking p) list d) none (next_in script p taken told empty list None due s next))).0
 
@@ -589,6 +589,6 @@ empties_few shape k (Empty seen ∷ list) =
     )
 
 pub empty_few :
-    (script : Content) (p : ConsumerState) (taken : List ℕ) (told : Bool) (empty : ℕ) (list : List Made) (o : Option Access) → IsTaking script p taken told empty list o → empty ≤ length list
+    (script : Content) (p : ConsumerState) (taken : List ℕ) (told : Bool) (empty : ℕ) (list : List Made) (o : Option Access) → TakeActorStands script p taken told empty list o → empty ≤ length list
 empty_few script p taken told empty list o s =
     omega (arith, s.empty_is, empties_few script.shape 0 s.calls.takes, s.long, length-append (take_phrases script.shape 0 s.calls.takes) (end_phrase s.calls.end))

@@ -21,7 +21,7 @@ use Rattle.ring_core.specs.Takes.{FollowsTakes, Takes, take_program}
 use Rattle.ring_player.specs.Actors.{IsMove, PutTally}
 use Rattle.ring_player.specs.Headline.{IsPlayOf}
 use Rattle.ring_player.specs.Plays.{AreAttempts, offered, Plays}
-use Rattle.ring_player.specs.Tellings.{AreAt, event_of, events_of as events_told, IsPutAt, IsReading, IsTakeAt, listed, offers_of, RecordsPlay, SaysPut, SaysTake, TakeTally, TellsCalls, told_in}
+use Rattle.ring_player.specs.Tellings.{AreAt, event_of, call_events, IsPutStage, IsReadingAsked, IsTakeStage, listed, offers_of, RecordsPlay, SaysPut, SaysTake, TakeTally, TellsCalls, told_in}
 use Rattle.ring_player.specs.declared.tellings.PutStage.{PutStage}
 use Rattle.ring_player.specs.declared.tellings.PutStage.TheVariants as put
 use Rattle.ring_player.specs.declared.tellings.TakeStage.{TakeStage}
@@ -93,7 +93,7 @@ module _ (owns : OwnChanges) (script : Content) (h h' : List Event) (e : Event) 
   begins_other s by es b = subst (λ l. IsBeginning l es) (ap (own (other s)) is ∙ own_other owns s h e by) b
 
   module _ (by : e.side ≡ P) (stage next : PutStage) (t : TakeStage) (items : ℕ) (before now : PutTally) (told : Option Told) where
-    put_reading : (puts : Puts) (takes : Takes) → IsReading script h' puts takes → IsReading script h puts takes
+    put_reading : (puts : Puts) (takes : Takes) → IsReadingAsked script h' puts takes → IsReadingAsked script h puts takes
     put_reading puts takes r = record {
       asked = r.asked;
       puts_follow = record { are = r.puts_follow.are; events = begins_own P by _ r.puts_follow.events };
@@ -117,8 +117,8 @@ module _ (owns : OwnChanges) (script : Content) (h h' : List Event) (e : Event) 
         AreAt next t script h' × ((events : List calls.Event) → TellsCalls script h events → TellsCalls script h' (events ++ told_in script told))
     put_moves says all at stored full stored' full' = (
       (λ puts takes r. (
-        subst (IsPutAt next script puts) (sym one_put_more) (said puts takes r).1,
-        subst (λ l. IsTakeAt t script takes (length l)) (sym (ap (own C) is ∙ own_other owns P h e by)) (at puts takes (put_reading puts takes r)).1,
+        subst (IsPutStage next script puts) (sym one_put_more) (said puts takes r).1,
+        subst (λ l. IsTakeStage t script takes (length l)) (sym (ap (own C) is ∙ own_other owns P h e by)) (at puts takes (put_reading puts takes r)).1,
       )),
       (λ events tells puts takes r.
           let f : Telling = put_told script.shape (offers_of script puts) 0 first_count puts.puts puts.closes in
@@ -129,8 +129,8 @@ module _ (owns : OwnChanges) (script : Content) (h h' : List Event) (e : Event) 
     )
       where
         said :
-            (puts : Puts) (takes : Takes) → IsReading script h' puts takes →
-            (told_in script told ≡ put_told script.shape (offers_of script puts) 0 first_count puts.puts puts.closes (length (own P h))) × IsPutAt next script puts (suc (length (own P h)))
+            (puts : Puts) (takes : Takes) → IsReadingAsked script h' puts takes →
+            (told_in script told ≡ put_told script.shape (offers_of script puts) 0 first_count puts.puts puts.closes (length (own P h))) × IsPutStage next script puts (suc (length (own P h)))
         said puts takes r =
             let r' = put_reading puts takes r in
             says script puts (length (own P h)) r.asked all (put_few puts r.puts_follow) (at puts takes r').0 (stored puts r'.puts_follow, full puts r'.puts_follow) (
@@ -139,7 +139,7 @@ module _ (owns : OwnChanges) (script : Content) (h h' : List Event) (e : Event) 
             )
 
   module _ (by : e.side ≡ C) (stage : PutStage) (t next : TakeStage) (taken empty : ℕ) (before now : TakeTally) (told : Option Told) where
-    take_reading : (puts : Puts) (takes : Takes) → IsReading script h' puts takes → IsReading script h puts takes
+    take_reading : (puts : Puts) (takes : Takes) → IsReadingAsked script h' puts takes → IsReadingAsked script h puts takes
     take_reading puts takes r = record {
       asked = r.asked;
       puts_follow = record { are = r.puts_follow.are; events = begins_other C by _ r.puts_follow.events };
@@ -166,8 +166,8 @@ module _ (owns : OwnChanges) (script : Content) (h h' : List Event) (e : Event) 
         AreAt stage next script h' × ((events : List calls.Event) → TellsCalls script h events → TellsCalls script h' (events ++ told_in script told))
     take_moves says same_taken same_empty at counted counted' = (
       (λ puts takes r. (
-        subst (λ l. IsPutAt stage script puts (length l)) (sym (ap (own P) is ∙ own_other owns C h e by)) (at puts takes (take_reading puts takes r)).0,
-        subst (IsTakeAt next script takes) (sym one_take_more) (said puts takes r).1,
+        subst (λ l. IsPutStage stage script puts (length l)) (sym (ap (own P) is ∙ own_other owns C h e by)) (at puts takes (take_reading puts takes r)).0,
+        subst (IsTakeStage next script takes) (sym one_take_more) (said puts takes r).1,
       )),
       (λ events tells puts takes r.
           let f : Telling = put_told script.shape (offers_of script puts) 0 first_count puts.puts puts.closes in
@@ -178,8 +178,8 @@ module _ (owns : OwnChanges) (script : Content) (h h' : List Event) (e : Event) 
     )
       where
         said :
-            (puts : Puts) (takes : Takes) → IsReading script h' puts takes →
-            (told_in script told ≡ take_told script.shape 0 takes.takes takes.end (length (own C h))) × IsTakeAt next script takes (suc (length (own C h)))
+            (puts : Puts) (takes : Takes) → IsReadingAsked script h' puts takes →
+            (told_in script told ≡ take_told script.shape 0 takes.takes takes.end (length (own C h))) × IsTakeStage next script takes (suc (length (own C h)))
         said puts takes r =
             let r' = take_reading puts takes r in
             let (now_taken, now_empty, now_told) = counted' takes r.takes_follow in
@@ -214,12 +214,12 @@ offered_all script puts front (x ∷ xs) j n e f g (l, of, m) =
 
 -- what is told of a play is a linearizable history
 pub records :
-    RecordedIsLinearizable → (script : Content) (letters : List Side) (h : List Event) (told : List Told) → IsPlayOf script letters h → TellsCalls script h (events_told script told) →
+    RecordedIsLinearizable → (script : Content) (letters : List Side) (h : List Event) (told : List Told) → IsPlayOf script letters h → TellsCalls script h (call_events script told) →
     RecordsPlay script h told
 records law script letters h told play tells =
     let (puts, asked, begins) = play.plays.played.puts in
     let (takes, are, begins') = play.plays.played.takes in
-    let r : IsReading script h puts takes = record { asked = asked; puts_follow = record { are = asked.are; events = begins }; takes_follow = record { are = are; events = begins' } } in
+    let r : IsReadingAsked script h puts takes = record { asked = asked; puts_follow = record { are = asked.are; events = begins }; takes_follow = record { are = are; events = begins' } } in
     record {
       tells = tells;
       linearizable = subst (IsLinearizable (exactly (capacity_of script.shape))) (sym (tells puts takes r))
@@ -272,16 +272,16 @@ not_stepped script script' h h' side stage t moved same m is at =
     (subst (λ l. Stepped script script h l stage t None) (sym still) (at, (λ events tells. subst (TellsCalls script h) (sym (append-nil events)) tells)))
 
 -- what was told, and with one event more
-pub told_with : (script : Content) (told : List Told) (event : Option Told) → events_told script (told ++ listed event) ≡ events_told script told ++ told_in script event
-told_with script told None = ap (events_told script) (append-nil told) ∙ sym (append-nil (events_told script told))
+pub told_with : (script : Content) (told : List Told) (event : Option Told) → call_events script (told ++ listed event) ≡ call_events script told ++ told_in script event
+told_with script told None = ap (call_events script) (append-nil told) ∙ sym (append-nil (call_events script told))
 told_with script told (Some x) = map-append (event_of script) told (x ∷ [])
 
 pub tells_with :
     (script script' : Content) (h h' : List Event) (told told' : List Told) (event : Option Told) → script' ≡ script →
     ((events : List calls.Event) → TellsCalls script h events → TellsCalls script' h' (events ++ told_in script event)) → told' ≡ told ++ listed event →
-    TellsCalls script h (events_told script told) → TellsCalls script' h' (events_told script' told')
+    TellsCalls script h (call_events script told) → TellsCalls script' h' (call_events script' told')
 tells_with script script' h h' told told' event same step more tells =
-    subst (TellsCalls script' h') (sym (ap₂ events_told same more ∙ told_with script told event)) (step (events_told script told) tells)
+    subst (TellsCalls script' h') (sym (ap₂ call_events same more ∙ told_with script told event)) (step (call_events script told) tells)
 
 pub letters_with :
     (script script' first : Content) (h first_h h' : List Event) (s : Side) (n : ℕ) → script' ≡ script → script ≡ first →
@@ -296,8 +296,8 @@ letters_with script script' first h first_h h' s n same was step before letters 
 -- the play of a world
 pub play_records :
     RecordedIsLinearizable → (script first : Content) (letters : List Side) (h : List Event) (told : List Told) → script ≡ first → IsPlayOf script letters h → Plays first first.letters h →
-    TellsCalls script h (events_told script told) → (x : List Event) × IsPlayOf first first.letters x × RecordsPlay first x told
+    TellsCalls script h (call_events script told) → (x : List Event) × IsPlayOf first first.letters x × RecordsPlay first x told
 play_records law script first letters h told same play plays tells =
     let p : IsPlayOf first letters h = subst (λ s. IsPlayOf s letters h) same play in
     let whole : IsPlayOf first first.letters h = record { plays = plays; headline = p.headline; batches = p.batches } in
-    (h, whole, records law first first.letters h told whole (subst (λ s. TellsCalls s h (events_told s told)) same tells))
+    (h, whole, records law first first.letters h told whole (subst (λ s. TellsCalls s h (call_events s told)) same tells))

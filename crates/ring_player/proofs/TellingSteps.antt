@@ -10,7 +10,7 @@ use Rattle.ring_core.specs.Recorded.{put_answer, put_told, take_answer, take_tol
 use Rattle.ring_core.specs.RecordedByOne.{events_of_puts, events_of_takes, PutTells, PutsTellByOne, TakeTells, TakesTellByOne}
 use Rattle.ring_core.specs.Takes.{Empty, Item, ItemAfterClose, Take, Takes, take_program}
 use Rattle.ring_player.specs.Plays.{AreAttempts, ArePutsOf, offered}
-use Rattle.ring_player.specs.Tellings.{IsPutAt, IsTakeAt, offers_of}
+use Rattle.ring_player.specs.Tellings.{IsPutStage, IsTakeStage, offers_of}
 use Rattle.ring_player.specs.declared.tellings.PutStage.TheVariants as put
 use Rattle.ring_player.specs.declared.tellings.TakeStage.TheVariants as taking
 use Rattle.ring_script.specs.Content.{Content}
@@ -79,8 +79,8 @@ module _ (law : PutsTellByOne) (script : Content) (puts : Puts) (i : ℕ) (asked
   none_next e c = ap (stored_in 0) e ∙ (asked.closes c).1
 
   pub put_begins :
-      (stored : ℕ) → IsPutAt put.Between script puts i → stored ≡ stored_in 0 before → stored < length script.items →
-      (calls.PutBegin (offered script stored) ∷ [] ≡ told) × IsPutAt put.Putting script puts (suc i)
+      (stored : ℕ) → IsPutStage put.Between script puts i → stored ≡ stored_in 0 before → stored < length script.items →
+      (calls.PutBegin (offered script stored) ∷ [] ≡ told) × IsPutStage put.Putting script puts (suc i)
   put_begins stored e is l = elim tells [
     | inl z ↦ elim z.2 [
       | inl w ↦ (
@@ -96,8 +96,8 @@ module _ (law : PutsTellByOne) (script : Content) (puts : Puts) (i : ℕ) (asked
   ]
 
   pub close_begins :
-      (stored : ℕ) → IsPutAt put.Between script puts i → stored ≡ stored_in 0 before → length script.items ≤ stored →
-      (calls.CloseBegin ∷ [] ≡ told) × IsPutAt put.Closing script puts (suc i)
+      (stored : ℕ) → IsPutStage put.Between script puts i → stored ≡ stored_in 0 before → length script.items ≤ stored →
+      (calls.CloseBegin ∷ [] ≡ told) × IsPutStage put.Closing script puts (suc i)
   close_begins stored e is l = elim tells [
     | inl z ↦ elim z.2 [
       | inl w ↦ absurd (omega (arith, l, is, next_item w.0))
@@ -111,10 +111,10 @@ module _ (law : PutsTellByOne) (script : Content) (puts : Puts) (i : ℕ) (asked
 
   -- a put goes on, or it ends, by what is counted
   pub put_goes :
-      (stored full stored' full' : ℕ) → IsPutAt put.Putting script puts i → stored ≡ stored_in 0 before → full ≡ fulls before → stored' ≡ stored_in 0 after → full' ≡ fulls after →
-      ((stored < stored') × (calls.PutStored (stored' - stored) ∷ [] ≡ told) × IsPutAt put.Between script puts (suc i)) ⊎
-      (((stored' ≤ stored) × (full < full') × (calls.PutFull ∷ [] ≡ told) × IsPutAt put.Between script puts (suc i)) ⊎
-      ((stored' ≤ stored) × (full' ≤ full) × ([] ≡ told) × IsPutAt put.Putting script puts (suc i)))
+      (stored full stored' full' : ℕ) → IsPutStage put.Putting script puts i → stored ≡ stored_in 0 before → full ≡ fulls before → stored' ≡ stored_in 0 after → full' ≡ fulls after →
+      ((stored < stored') × (calls.PutStored (stored' - stored) ∷ [] ≡ told) × IsPutStage put.Between script puts (suc i)) ⊎
+      (((stored' ≤ stored) × (full < full') × (calls.PutFull ∷ [] ≡ told) × IsPutStage put.Between script puts (suc i)) ⊎
+      ((stored' ≤ stored) × (full' ≤ full) × ([] ≡ told) × IsPutStage put.Putting script puts (suc i)))
   put_goes stored full stored' full' at is_stored is_full now_stored now_full = elim tells [
     | inl z ↦ absurd (omega (arith, at.0, z.1))
     | inr y ↦ elim y [
@@ -138,9 +138,9 @@ module _ (law : PutsTellByOne) (script : Content) (puts : Puts) (i : ℕ) (asked
 
       by_put :
           (x : Put) → after ≡ before ++ x ∷ [] → suc i ≡ events_of_puts shape after → told ≡ put_answer x ∷ [] → IsPut shape (stored_in 0 before) x →
-          ((stored < stored') × (calls.PutStored (stored' - stored) ∷ [] ≡ told) × IsPutAt put.Between script puts (suc i)) ⊎
-          (((stored' ≤ stored) × (full < full') × (calls.PutFull ∷ [] ≡ told) × IsPutAt put.Between script puts (suc i)) ⊎
-          ((stored' ≤ stored) × (full' ≤ full) × ([] ≡ told) × IsPutAt put.Putting script puts (suc i)))
+          ((stored < stored') × (calls.PutStored (stored' - stored) ∷ [] ≡ told) × IsPutStage put.Between script puts (suc i)) ⊎
+          (((stored' ≤ stored) × (full < full') × (calls.PutFull ∷ [] ≡ told) × IsPutStage put.Between script puts (suc i)) ⊎
+          ((stored' ≤ stored) × (full' ≤ full) × ([] ≡ told) × IsPutStage put.Putting script puts (suc i)))
       by_put (Stored seen items) is ends t p =
           let more : stored' ≡ stored + length items =
           omega (arith, now_stored, ap (stored_in 0) is, stored-more 0 before (Stored seen items), past_is (stored_in 0 before) items, is_stored) in
@@ -153,7 +153,7 @@ module _ (law : PutsTellByOne) (script : Content) (puts : Puts) (i : ℕ) (asked
             sym ends,
           ))
 
-  pub close_ends : IsPutAt put.Closing script puts i → (calls.CloseEnd ∷ [] ≡ told) × IsPutAt put.Closed script puts (suc i)
+  pub close_ends : IsPutStage put.Closing script puts i → (calls.CloseEnd ∷ [] ≡ told) × IsPutStage put.Closed script puts (suc i)
   close_ends at = elim tells [
     | inl z ↦ absurd (omega (arith, z.1, at.2, ap (events_of_puts shape) at.0))
     | inr y ↦ elim y [
@@ -171,7 +171,7 @@ module _ (law : PutsTellByOne) (script : Content) (puts : Puts) (i : ℕ) (asked
       whole : events_in (put_program shape puts) ≡ events_of_puts shape puts.puts + 2
       whole = omega (arith, length-append (put_phrases shape first_count puts.puts) (close_phrase puts.closes), ap (λ b. length (close_phrase b)) at.1)
 
-  pub closed_is_last : IsPutAt put.Closed script puts i → ⊥
+  pub closed_is_last : IsPutStage put.Closed script puts i → ⊥
   closed_is_last at = omega (arith, at, few)
 
 -- ---- takes
@@ -192,7 +192,7 @@ module _ (law : TakesTellByOne) (script : Content) (takes : Takes) (i : ℕ) (fe
   take_tells : TakeTells shape_of takes i over_before over_after told_of
   take_tells = law shape_of takes i few
 
-  pub take_begins : IsTakeAt taking.Between script takes i → (calls.TakeBegin 1 ∷ [] ≡ told_of) × IsTakeAt taking.Taking script takes (suc i)
+  pub take_begins : IsTakeStage taking.Between script takes i → (calls.TakeBegin 1 ∷ [] ≡ told_of) × IsTakeStage taking.Taking script takes (suc i)
   take_begins e = elim take_tells [
     | inl z ↦ (sym z.2, omega (arith, z.1, ap (events_of_takes shape_of) z.0))
     | inr y ↦ absurd (elim y [
@@ -204,17 +204,17 @@ module _ (law : TakesTellByOne) (script : Content) (takes : Takes) (i : ℕ) (fe
   -- the items taken with one take more
   abbrev Ends : List ℕ → List ℕ → ℕ → ℕ → Type 0
   Ends taken taken' empty empty' =
-      ((item : ℕ) × (taken' ≡ taken ++ item ∷ []) × (calls.TakeItems (item ∷ []) ∷ [] ≡ told_of) × IsTakeAt taking.Between script takes (suc i)) ⊎
-      ((taken' ≡ taken) × (empty < empty') × (calls.TakeEmpty ∷ [] ≡ told_of) × IsTakeAt taking.Between script takes (suc i))
+      ((item : ℕ) × (taken' ≡ taken ++ item ∷ []) × (calls.TakeItems (item ∷ []) ∷ [] ≡ told_of) × IsTakeStage taking.Between script takes (suc i)) ⊎
+      ((taken' ≡ taken) × (empty < empty') × (calls.TakeEmpty ∷ [] ≡ told_of) × IsTakeStage taking.Between script takes (suc i))
 
   -- a take goes on, or it ends, by what is counted
   pub take_goes :
-      (taken taken' : List ℕ) (empty empty' : ℕ) → IsTakeAt taking.Taking script takes i → taken ≡ all_taken over_before → empty ≡ empties over_before → taken' ≡ all_taken over_after →
+      (taken taken' : List ℕ) (empty empty' : ℕ) → IsTakeStage taking.Taking script takes i → taken ≡ all_taken over_before → empty ≡ empties over_before → taken' ≡ all_taken over_after →
       empty' ≡ empties over_after →
       Ends taken taken' empty empty' ⊎
       ((taken' ≡ taken) × (empty' ≤ empty) ×
-      ((IsTold shape_of takes (suc i) × (calls.TakeClosed ∷ [] ≡ told_of) × IsTakeAt taking.Told script takes (suc i)) ⊎
-      ((¬ IsTold shape_of takes (suc i)) × ([] ≡ told_of) × IsTakeAt taking.Taking script takes (suc i))))
+      ((IsTold shape_of takes (suc i) × (calls.TakeClosed ∷ [] ≡ told_of) × IsTakeStage taking.Told script takes (suc i)) ⊎
+      ((¬ IsTold shape_of takes (suc i)) × ([] ≡ told_of) × IsTakeStage taking.Taking script takes (suc i))))
   take_goes taken taken' empty empty' at is_taken is_empty now_taken now_empty = elim take_tells [
     | inl z ↦ absurd (omega (arith, at, z.1))
     | inr y ↦ elim y [
@@ -243,5 +243,5 @@ module _ (law : TakesTellByOne) (script : Content) (takes : Takes) (i : ℕ) (fe
       by_take (Empty seen) is ends t =
           inr (more (Empty seen) is ∙ append-nil taken, omega (arith, now_empty, ap empties is, empties-more over_before (Empty seen), is_empty), sym t, sym ends)
 
-  pub told_is_last : IsTakeAt taking.Told script takes i → ⊥
+  pub told_is_last : IsTakeStage taking.Told script takes i → ⊥
   told_is_last at = omega (arith, at, few)

@@ -1,4 +1,5 @@
 -- The oracle's answers, by one event more.
+use Rattle.bits_core.specs.Made.{opening_event}
 use Rattle.std.proofs.Common.{◌≡◌, ◌⊎◌, inl, inr, ℕ, zero, suc, ◌+◌, ◌<◌, ◌≤◌, Bool, true, false, Option, Some, List, [], ◌∷◌, ◌++◌, length, refl, ap, ap₂, sym, subst, ◌∙◌, length-append, arith}
 use Rattle.std.specs.Prelude.{slice_get, if◌then◌else◌}
 use Rattle.std.specs.Option.{option_map_or}
@@ -11,7 +12,7 @@ use Rattle.bits_core.specs.declared.events.Access.TheVariants as access
 use Rattle.bits_core.specs.declared.events.Event.{Event}
 use Rattle.bits_core.specs.History.{is_overlapped}
 use Rattle.bits_core.specs.Memory.{count_below, flicker_count, is_flicker, is_flicker_at}
-use Rattle.ring_player.specs.Actors.{begun, IsAtTurn}
+use Rattle.ring_player.specs.Actors.{IsAtTurn}
 
 count_below-same : (n : ℕ) (f g : ℕ → Bool) → ((p : ℕ) → p < n → f p ≡ g p) → count_below n f ≡ count_below n g
 count_below-same zero f g same = refl
@@ -97,9 +98,9 @@ pub turn_quiet : (turns answers : ℕ → Bool) (h h' : List Event) (e : Event) 
 turn_quiet turns answers h h' e is none t =
     subst (λ (k : List Event). IsAtTurn turns k answers) (sym is) (more turns answers answers h e t (λ f i. refl) (λ f. true_false (sym f ∙ none)))
 
-pub turn_begin : (turns answers : ℕ → Bool) (h h' : List Event) (s : Side) (a : Access) → h' ≡ h ++ begun s a ∷ [] → IsAtTurn turns h answers → IsAtTurn turns h' answers
-turn_begin turns answers h h' s (access.Read b) is t = turn_quiet turns answers h h' (begun s (access.Read b)) is refl t
-turn_begin turns answers h h' s (access.Write b v) is t = turn_quiet turns answers h h' (begun s (access.Write b v)) is refl t
+pub turn_begin : (turns answers : ℕ → Bool) (h h' : List Event) (s : Side) (a : Access) → h' ≡ h ++ opening_event s a ∷ [] → IsAtTurn turns h answers → IsAtTurn turns h' answers
+turn_begin turns answers h h' s (access.Read b) is t = turn_quiet turns answers h h' (opening_event s (access.Read b)) is refl t
+turn_begin turns answers h h' s (access.Write b v) is t = turn_quiet turns answers h h' (opening_event s (access.Write b v)) is refl t
 
 read_end : Side → Bit → Bool → Event
 read_end s b v = record { side = s; bit = b; act = ReadEnd v }

@@ -10,10 +10,10 @@ use Rattle.bits_core.specs.History.{open_access}
 use Rattle.bits_core.specs.Lawful.{IsLawful}
 use Rattle.bits_core.specs.Laws.{FlickerIsByInterval, OpenChanges, OwnChanges}
 use Rattle.bits_core.specs.Made.{clock, own}
-use Rattle.bits_core.specs.Memory.{Recorded}
+use Rattle.bits_core.specs.Memory.{MemoryState}
 use Rattle.bits_core.specs.Oracle.{turn}
 use Rattle.ring_player.specs.Actors.{IsAtTurn, IsMove, IsPlaying, PutTally, so_far}
-use Rattle.ring_player.specs.Plays.{AreMoves, IsDone, IsPlayed, IsProgram, Plays, sides}
+use Rattle.ring_player.specs.Plays.{AreMoves, IsDone, IsPlayed, IsProgram, Plays, event_sides}
 use Rattle.std.specs.Prelude.{replicate, slice_index_or}
 use Rattle.std.proofs.lemmas.Bool.{cases_lt}
 use Rattle.std.proofs.lemmas.List.{length-append, length-replicate, take_all, take_more, take-append-le, take-replicate}
@@ -60,14 +60,14 @@ playing_other opens owns script s h h' due stands (inl (e, is, by, n)) p =
     })
 playing_other opens owns script s h h' due stands (inr is) p = subst (λ (t : List Event). IsPlaying (other s) t due stands) (sym is) p
 
-moves_grown : (script : Content) (s : Side) (h h' : List Event) → Grown script s h h' → AreMoves script (sides h) [] h → AreMoves script (sides h') [] h'
+moves_grown : (script : Content) (s : Side) (h h' : List Event) → Grown script s h h' → AreMoves script (event_sides h) [] h → AreMoves script (event_sides h') [] h'
 moves_grown script s h h' (inl (e, is, by, not)) m =
-    let m' : AreMoves script (sides h ++ e.side ∷ []) [] (h ++ e ∷ []) = moves-more script (sides h) e.side [] h e m (subst (λ (t : Side). ¬ IsDone script t h) (sym by) not) refl in
-    subst (λ (t : List Event). AreMoves script (sides t) [] t) (sym is) (subst (λ (l : List Side). AreMoves script l [] (h ++ e ∷ [])) (sym (sides-more h e)) m')
-moves_grown script s h h' (inr is) m = subst (λ (t : List Event). AreMoves script (sides t) [] t) (sym is) m
+    let m' : AreMoves script (event_sides h ++ e.side ∷ []) [] (h ++ e ∷ []) = moves-more script (event_sides h) e.side [] h e m (subst (λ (t : Side). ¬ IsDone script t h) (sym by) not) refl in
+    subst (λ (t : List Event). AreMoves script (event_sides t) [] t) (sym is) (subst (λ (l : List Side). AreMoves script l [] (h ++ e ∷ [])) (sym (sides-more h e)) m')
+moves_grown script s h h' (inr is) m = subst (λ (t : List Event). AreMoves script (event_sides t) [] t) (sym is) m
 
 pub producer_steps :
-    OpenChanges → OwnChanges → (script : Content) (m m' : Recorded) (ps ps' cs : Content) (pd pd' cd : Option Access) (pt pt' ct : Stands) (a a' : ℕ → Bool) → IsWorld script m ps cs pd cd pt ct a →
+    OpenChanges → OwnChanges → (script : Content) (m m' : MemoryState) (ps ps' cs : Content) (pd pd' cd : Option Access) (pt pt' ct : Stands) (a a' : ℕ → Bool) → IsWorld script m ps cs pd cd pt ct a →
     m'.shape ≡ m.shape → ps' ≡ ps → IsPlaying P m'.events pd' pt' → Grown ps P m.events m'.events → ((turns : ℕ → Bool) → IsAtTurn turns m.events a → IsAtTurn turns m'.events a') →
     IsWorld script m' ps' cs pd' cd pt' ct a'
 producer_steps opens owns script m m' ps ps' cs pd pd' cd pt pt' ct a a' w shape same playing g turns =
@@ -83,7 +83,7 @@ producer_steps opens owns script m m' ps ps' cs pd pd' cd pt pt' ct a a' w shape
     }
 
 pub consumer_steps :
-    OpenChanges → OwnChanges → (script : Content) (m m' : Recorded) (ps cs cs' : Content) (pd cd cd' : Option Access) (pt ct ct' : Stands) (a a' : ℕ → Bool) → IsWorld script m ps cs pd cd pt ct a →
+    OpenChanges → OwnChanges → (script : Content) (m m' : MemoryState) (ps cs cs' : Content) (pd cd cd' : Option Access) (pt ct ct' : Stands) (a a' : ℕ → Bool) → IsWorld script m ps cs pd cd pt ct a →
     m'.shape ≡ m.shape → cs' ≡ cs → IsPlaying C m'.events cd' ct' → Grown cs C m.events m'.events → ((turns : ℕ → Bool) → IsAtTurn turns m.events a → IsAtTurn turns m'.events a') →
     IsWorld script m' ps cs' pd cd' pt ct' a'
 consumer_steps opens owns script m m' ps cs cs' pd cd cd' pt ct ct' a a' w shape same playing g turns =
@@ -101,8 +101,8 @@ consumer_steps opens owns script m m' ps cs cs' pd cd cd' pt ct ct' a a' w shape
 -- ---- the history is a play
 
 pub plays_of :
-    FlickerIsByInterval → (script : Content) (m : Recorded) (ps cs : Content) (pd cd : Option Access) (pt ct : Stands) (a : ℕ → Bool) → IsWorld script m ps cs pd cd pt ct a →
-    IsLawful m.shape m.events → IsProgram ps P (own P m.events) → IsProgram cs C (own C m.events) → Plays script (sides m.events) m.events
+    FlickerIsByInterval → (script : Content) (m : MemoryState) (ps cs : Content) (pd cd : Option Access) (pt ct : Stands) (a : ℕ → Bool) → IsWorld script m ps cs pd cd pt ct a →
+    IsLawful m.shape m.events → IsProgram ps P (own P m.events) → IsProgram cs C (own C m.events) → Plays script (event_sides m.events) m.events
 plays_of flicker script m ps cs pd cd pt ct a w lawful puts takes =
     let lawful' : IsLawful script.shape m.events = subst (λ t. IsLawful t m.events) w.shape lawful in
     record {
@@ -139,7 +139,7 @@ new_turn turns answers same = record { answered = λ p e v at. absurd (none_some
     none_some e = absurd (cc)
 
 pub new_world :
-    (script : Content) (m : Recorded) (ps cs : Content) (pd cd : Option Access) (pt ct : Stands) (a : ℕ → Bool) → m.shape ≡ script.shape → m.events ≡ [] → ps ≡ script → cs ≡ script →
+    (script : Content) (m : MemoryState) (ps cs : Content) (pd cd : Option Access) (pt ct : Stands) (a : ℕ → Bool) → m.shape ≡ script.shape → m.events ≡ [] → ps ≡ script → cs ≡ script →
     pt [] None → ct [] None → ((i : ℕ) → a i ≡ turn script.oracle i) → IsWorld script m ps cs pd cd pt ct a
 new_world script m ps cs pd cd pt ct a shape empty p q puts takes oracle = record {
   shape = shape;
@@ -148,7 +148,7 @@ new_world script m ps cs pd cd pt ct a shape empty p q puts takes oracle = recor
   puts = subst (λ (t : List Event). IsPlaying P t pd pt) (sym empty) (new_playing P pd pt puts);
   takes = subst (λ (t : List Event). IsPlaying C t cd ct) (sym empty) (new_playing C cd ct takes);
   oracle = subst (λ (t : List Event). IsAtTurn (turn script.oracle) t a) (sym empty) (new_turn (turn script.oracle) a oracle);
-  moves = subst (λ (t : List Event). AreMoves script (sides t) [] t) (sym empty) tt;
+  moves = subst (λ (t : List Event). AreMoves script (event_sides t) [] t) (sym empty) tt;
 }
 
 -- ---- what was taken and told

@@ -8,7 +8,7 @@ use Rattle.bits_core.specs.declared.events.Access.TheVariants as access
 use Rattle.bits_core.specs.declared.events.Bit.TheVariants as bit
 use Rattle.bits_core.specs.declared.shapes.Shape.{Shape}
 use Rattle.bits_core.specs.Shape.{batch_of, modulus_of, width_of}
-use Rattle.bits_core.specs.Made.{Made, Read, Write, answered, end_event, events_of, IsBeginning}
+use Rattle.bits_core.specs.Made.{Made, Read, Write, answered, end_event, events_of, IsBeginning, opening_event}
 use Rattle.register_core.specs.ScanState.{row_read_by, zero_reads}
 use Rattle.ring_core.specs.Counts.{batch_phrase, Count, first_count}
 use Rattle.ring_core.specs.CountWrites.{CountsAreWritten, CountsShowNumbers}
@@ -19,7 +19,7 @@ use Rattle.ring_core.specs.ProducerState.{Call, call_of, Close, ProducerState, P
 use Rattle.ring_core.specs.Puts as puts
 use Rattle.ring_core.specs.Puts.{accesses_before_count, ArePuts, close_phrase, Full, put_phrase, put_phrases, put_program, Puts, Stored, stored_after, stored_in}
 use Rattle.ring_script.specs.Content.{Content}
-use Rattle.ring_player.specs.Actors.{begun, digits_by, digits_in, HasWritten, IsAsked, IsPutting, items_begun, put_once, PutTally, so_far, with_open}
+use Rattle.ring_player.specs.Actors.{digits_by, digits_in, HasWritten, IsAsked, PutActorStands, items_begun, put_once, PutTally, so_far, with_open}
 use Rattle.ring_player.specs.Plays.{AreAttempts, ArePutsOf, offered}
 use Rattle.ring_player.specs.SoFar.{PutSoFar}
 use Rattle.ring_player.proofs.Headlines.{drop-drop, parts, past_is}
@@ -98,7 +98,7 @@ fulls_few shape c (Full u ∷ list) =
       length-append (zero_reads (row_read_by P) u) (Read (row_read_by P u) true ∷ []),
     )
 
-pub full_few : (script : Content) (p : ProducerState) (kept : PutTally) (list : List Made) (o : Option Access) → IsPutting script p kept list o → kept.full ≤ length list
+pub full_few : (script : Content) (p : ProducerState) (kept : PutTally) (list : List Made) (o : Option Access) → PutActorStands script p kept list o → kept.full ≤ length list
 full_few script p kept list o s =
     omega (arith, s.filled, fulls_few script.shape first_count s.calls.puts, s.long, length-append (put_phrases script.shape first_count s.calls.puts) (close_phrase s.calls.closes))
 
@@ -159,8 +159,8 @@ none_dropped (x ∷ xs) = refl
 with_open_length : (list : List Made) (o : Option Access) → (length (so_far P list o) ≤ 2 * length (with_open list o)) × (2 * length (with_open list o) ≤ length (so_far P list o) + 1)
 with_open_length list None = (omega (arith, length-events P list), omega (arith, length-events P list))
 with_open_length list (Some a) = (
-  omega (arith, length-events P list, length-append (events_of P list) (begun P a ∷ []), length-append list (answered a true ∷ [])),
-  omega (arith, length-events P list, length-append (events_of P list) (begun P a ∷ []), length-append list (answered a true ∷ [])),
+  omega (arith, length-events P list, length-append (events_of P list) (opening_event P a ∷ []), length-append list (answered a true ∷ [])),
+  omega (arith, length-events P list, length-append (events_of P list) (opening_event P a ∷ []), length-append list (answered a true ∷ [])),
 )
 
 -- by one reading
@@ -192,7 +192,7 @@ reading_so_far numbers written script digits put kept list o s more asked begins
     }
 
 pub put_so_far :
-    CountsShowNumbers → CountsAreWritten → (script : Content) (p : ProducerState) (kept : PutTally) (digits put : ℕ) (list : List Made) (o due : Option Access) → IsPutting script p kept list o →
+    CountsShowNumbers → CountsAreWritten → (script : Content) (p : ProducerState) (kept : PutTally) (digits put : ℕ) (list : List Made) (o due : Option Access) → PutActorStands script p kept list o →
     HasWritten script digits put list o → NextPut p due → ((a : Access) → o ≡ Some a → due ≡ Some a) → PutSoFar script.shape (so_far P list o) (take put script.items) kept
 put_so_far numbers written script p kept digits put list o due s h next is_due = by_due due is_due (call_of p) s.asked (next_in script p kept list o due s next)
   where

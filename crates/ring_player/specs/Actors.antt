@@ -8,9 +8,9 @@ use Rattle.bits_core.specs.declared.events.Access.TheVariants as access
 use Rattle.bits_core.specs.declared.events.Act.TheVariants.{ReadBegin, ReadEnd, WriteBegin}
 use Rattle.bits_core.specs.declared.events.Event.{Event}
 use Rattle.bits_core.specs.History.{open_access}
-use Rattle.bits_core.specs.Made.{Made, Read, Write, answered, events_of, own}
+use Rattle.bits_core.specs.Made.{Made, Read, Write, answered, events_of, own, opening_event}
 use Rattle.bits_core.specs.Memory.{count_below, flicker_count, is_flicker_at}
-use Rattle.ring_core.specs.ConsumerCalls.{ConsumerStands, tells}
+use Rattle.ring_core.specs.ConsumerCalls.{ConsumerStands, ends_closed}
 use Rattle.ring_core.specs.ConsumerState.{ConsumerState, is_taking}
 use Rattle.ring_core.specs.ProducerCalls.{ProducerStands}
 use Rattle.ring_core.specs.ProducerState.{ProducerState, Call, Put, Close, call_of}
@@ -26,15 +26,10 @@ use Rattle.ring_core.specs.Takes.{Takes, taken_in, take_program}
 use Rattle.ring_player.specs.Plays.{offered, AreAttempts, IsProgram, IsDone}
 use Rattle.ring_script.specs.Content.{Content}
 
--- the event by which an access begins
-abbrev pub begun : Side → Access → Event
-begun s (access.Read b) = record { side = s; bit = b; act = ReadBegin }
-begun s (access.Write b v) = record { side = s; bit = b; act = WriteBegin v }
-
 -- the events of accesses that were made, and of the one that is open
 abbrev pub so_far : Side → List Made → Option Access → List Event
 so_far s list None = events_of s list
-so_far s list (Some a) = events_of s list ++ begun s a ∷ []
+so_far s list (Some a) = events_of s list ++ opening_event s a ∷ []
 
 -- an actor of the side, which has an access due, stands where the side is in the history
 pub record IsPlaying (s : Side) (h : List Event) (due : Option Access) (stands : List Made → Option Access → Type 0) : Type 0 where
@@ -84,7 +79,7 @@ abbrev pub after_reply : PutTally → Option BatchReply → PutTally
 after_reply kept reply = record { stored = kept.stored + stored_in_reply reply; full = kept.full + full_in_reply reply }
 
 -- it stands after these accesses, with this one open
-pub record IsPutting (script : Content) (p : ProducerState) (kept : PutTally) (list : List Made) (opened : Option Access) : Type 0 where
+pub record PutActorStands (script : Content) (p : ProducerState) (kept : PutTally) (list : List Made) (opened : Option Access) : Type 0 where
   pub calls : Puts
   pub there : ProducerStands p calls list
   pub same_shape : p.shape ≡ script.shape
@@ -151,12 +146,12 @@ empty_in (Some taken.Empty) = 1
 empty_in (Some taken.Closed) = 0
 
 -- it stands after these accesses, with this one open
-pub record IsTaking (script : Content) (p : ConsumerState) (taken : List ℕ) (told : Bool) (empty : ℕ) (list : List Made) (opened : Option Access) : Type 0 where
+pub record TakeActorStands (script : Content) (p : ConsumerState) (taken : List ℕ) (told : Bool) (empty : ℕ) (list : List Made) (opened : Option Access) : Type 0 where
   pub calls : Takes
   pub there : ConsumerStands p calls list
   pub same_shape : p.shape ≡ script.shape
   pub taken_is : taken ≡ all_taken calls.takes
-  pub told_is : told ≡ tells calls.end
+  pub told_is : told ≡ ends_closed calls.end
   pub empty_is : empty ≡ empties calls.takes
   pub few : taken_in 0 calls.takes ≤ script.takes
   pub long : length (take_program script.shape calls) ≤ length list

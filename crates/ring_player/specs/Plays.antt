@@ -87,6 +87,6 @@ pub record Plays (script : Content) (letters : List Side) (h : List Event) : Typ
   pub moves : AreMoves script letters [] h
 
 -- the sides of the events
-abbrev pub sides : List Event → List Side
-sides [] = []
-sides (e ∷ es) = e.side ∷ sides es
+abbrev pub event_sides : List Event → List Side
+event_sides [] = []
+event_sides (e ∷ es) = e.side ∷ event_sides es

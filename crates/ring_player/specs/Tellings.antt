@@ -25,7 +25,7 @@ use Rattle.ring_player.specs.declared.tellings.Told.TheVariants.{PutBegins, PutS
 use Rattle.ring_script.specs.Content.{Content}
 
 -- a reading of a history as calls that the script asks for
-pub record IsReading (script : Content) (h : List Event) (puts : Puts) (takes : Takes) : Type 0 where
+pub record IsReadingAsked (script : Content) (h : List Event) (puts : Puts) (takes : Takes) : Type 0 where
   pub asked : ArePutsOf script puts
   pub puts_follow : FollowsPuts script.shape h puts
   pub takes_follow : FollowsTakes script.shape h takes
@@ -36,7 +36,7 @@ offers_of script puts j = offered script (stored_in 0 (take j puts.puts))
 
 -- the events are the recorded calls of the history, whichever calls it is read as
 abbrev pub TellsCalls : Content → List Event → List calls.Event → Type 0
-TellsCalls script h events = (puts : Puts) (takes : Takes) → IsReading script h puts takes → events ≡ recorded script.shape (offers_of script puts) h puts takes
+TellsCalls script h events = (puts : Puts) (takes : Takes) → IsReadingAsked script h puts takes → events ≡ recorded script.shape (offers_of script puts) h puts takes
 
 -- what is told, as an event of calls
 abbrev pub event_of : Content → Told → calls.Event
@@ -50,35 +50,35 @@ event_of script (TakeItem item) = calls.TakeItems (item ∷ [])
 event_of script TakeEmpty = calls.TakeEmpty
 event_of script TakeClosed = calls.TakeClosed
 
-abbrev pub events_of : Content → List Told → List calls.Event
-events_of script told = map (event_of script) told
+abbrev pub call_events : Content → List Told → List calls.Event
+call_events script told = map (event_of script) told
 
 -- what is told of a play is the recording of its calls, and a linearizable history of a queue of the ring's capacity
 pub record RecordsPlay (script : Content) (h : List Event) (told : List Told) : Type 0 where
-  pub tells : TellsCalls script h (events_of script told)
-  pub linearizable : IsLinearizable (exactly (capacity_of script.shape)) (events_of script told)
+  pub tells : TellsCalls script h (call_events script told)
+  pub linearizable : IsLinearizable (exactly (capacity_of script.shape)) (call_events script told)
 
 -- ---- where a side is in its calls, behind i own events
 
 -- between two calls; in a put, with one to come; in the close; behind it
-abbrev pub IsPutAt : PutStage → Content → Puts → ℕ → Type 0
-IsPutAt put.Between script puts i = events_of_puts script.shape (puts_over script.shape first_count puts.puts i) ≡ i
-IsPutAt put.Putting script puts i =
+abbrev pub IsPutStage : PutStage → Content → Puts → ℕ → Type 0
+IsPutStage put.Between script puts i = events_of_puts script.shape (puts_over script.shape first_count puts.puts i) ≡ i
+IsPutStage put.Putting script puts i =
     (events_of_puts script.shape (puts_over script.shape first_count puts.puts i) < i) ×
     (length (puts_over script.shape first_count puts.puts i) < length puts.puts)
-IsPutAt put.Closing script puts i =
+IsPutStage put.Closing script puts i =
     (puts_over script.shape first_count puts.puts i ≡ puts.puts) × (puts.closes ≡ true) × (i ≡ suc (events_of_puts script.shape puts.puts))
-IsPutAt put.Closed script puts i = events_in (put_program script.shape puts) ≤ i
+IsPutStage put.Closed script puts i = events_in (put_program script.shape puts) ≤ i
 
-abbrev pub IsTakeAt : TakeStage → Content → Takes → ℕ → Type 0
-IsTakeAt taking.Between script takes i = events_of_takes script.shape (takes_over script.shape 0 takes.takes i) ≡ i
-IsTakeAt taking.Taking script takes i = events_of_takes script.shape (takes_over script.shape 0 takes.takes i) < i
-IsTakeAt taking.Told script takes i = events_in (take_program script.shape takes) ≤ i
+abbrev pub IsTakeStage : TakeStage → Content → Takes → ℕ → Type 0
+IsTakeStage taking.Between script takes i = events_of_takes script.shape (takes_over script.shape 0 takes.takes i) ≡ i
+IsTakeStage taking.Taking script takes i = events_of_takes script.shape (takes_over script.shape 0 takes.takes i) < i
+IsTakeStage taking.Told script takes i = events_in (take_program script.shape takes) ≤ i
 
 -- whichever calls the history is read as
 abbrev pub AreAt : PutStage → TakeStage → Content → List Event → Type 0
 AreAt p t script h =
-    (puts : Puts) (takes : Takes) → IsReading script h puts takes → IsPutAt p script puts (length (own P h)) × IsTakeAt t script takes (length (own C h))
+    (puts : Puts) (takes : Takes) → IsReadingAsked script h puts takes → IsPutStage p script puts (length (own P h)) × IsTakeStage t script takes (length (own C h))
 
 -- ---- one event more
 
@@ -100,8 +100,8 @@ listed (Some told) = told ∷ []
 abbrev pub SaysPut : PutStage → (items : ℕ) → (before now : PutTally) → PutStage → Option Told → Type 0
 SaysPut stage items before now next told =
     (script : Content) (puts : Puts) (i : ℕ) → ArePutsOf script puts → items ≡ length script.items → i < events_in (put_program script.shape puts) →
-    IsPutAt stage script puts i → IsPutTally script puts i before → IsPutTally script puts (suc i) now →
-    (told_in script told ≡ put_told script.shape (offers_of script puts) 0 first_count puts.puts puts.closes i) × IsPutAt next script puts (suc i)
+    IsPutStage stage script puts i → IsPutTally script puts i before → IsPutTally script puts (suc i) now →
+    (told_in script told ≡ put_told script.shape (offers_of script puts) 0 first_count puts.puts puts.closes i) × IsPutStage next script puts (suc i)
 
 -- the takes that are over within i own events took these items, so many of them found the ring empty, and whether one was told that the
 -- ring is closed
@@ -118,5 +118,5 @@ IsTakeTally script takes i kept =
 abbrev pub SaysTake : TakeStage → (taken : ℕ) → (empty : ℕ) → (now : TakeTally) → TakeStage → Option Told → Type 0
 SaysTake stage taken empty now next told =
     (script : Content) (takes : Takes) (i : ℕ) (before : TakeTally) → taken ≡ length before.taken → empty ≡ before.empty → i < events_in (take_program script.shape takes) →
-    IsTakeAt stage script takes i → IsTakeTally script takes i before → IsTakeTally script takes (suc i) now →
-    (told_in script told ≡ take_told script.shape 0 takes.takes takes.end i) × IsTakeAt next script takes (suc i)
+    IsTakeStage stage script takes i → IsTakeTally script takes i before → IsTakeTally script takes (suc i) now →
+    (told_in script told ≡ take_told script.shape 0 takes.takes takes.end i) × IsTakeStage next script takes (suc i)

@@ -4,10 +4,10 @@ use Rattle.bits_core.specs.declared.events.Side.TheVariants.{P, C}
 use Rattle.bits_core.specs.declared.events.Access.{Access}
 use Rattle.bits_core.specs.declared.events.Event.{Event}
 use Rattle.bits_core.specs.Made.{Made}
-use Rattle.bits_core.specs.Memory.{Recorded}
+use Rattle.bits_core.specs.Memory.{MemoryState}
 use Rattle.bits_core.specs.Oracle.{turn}
 use Rattle.ring_player.specs.Actors.{IsPlaying, IsAtTurn}
-use Rattle.ring_player.specs.Plays.{AreMoves, sides}
+use Rattle.ring_player.specs.Plays.{AreMoves, event_sides}
 use Rattle.ring_script.specs.Content.{Content}
 
 -- a world is seen as its script and its history, by how many items were taken, and for how many events and items in all there is
@@ -20,11 +20,11 @@ pub record Played : Type 0 where
   pub item_room : ℕ
 
 -- its parts stand together
-pub record IsWorld (script : Content) (memory : Recorded) (put_script take_script : Content) (put_due take_due : Option Access) (put_stands take_stands : List Made → Option Access → Type 0) (answers : ℕ → Bool) : Type 0 where
+pub record IsWorld (script : Content) (memory : MemoryState) (put_script take_script : Content) (put_due take_due : Option Access) (put_stands take_stands : List Made → Option Access → Type 0) (answers : ℕ → Bool) : Type 0 where
   pub shape : memory.shape ≡ script.shape
   pub put_script_is : put_script ≡ script
   pub take_script_is : take_script ≡ script
   pub puts : IsPlaying P memory.events put_due put_stands
   pub takes : IsPlaying C memory.events take_due take_stands
   pub oracle : IsAtTurn (turn script.oracle) memory.events answers
-  pub moves : AreMoves script (sides memory.events) [] memory.events
+  pub moves : AreMoves script (event_sides memory.events) [] memory.events

@@ -2,9 +2,9 @@
 ghost use Rattle.std.specs.Prelude.{◌≡◌, ◌≢◌, ◌≤◌, ◌⊎◌, ℕ, Bool, true, false, Some, None, List, [], ◌∷◌, ◌++◌, OnErr, OnOk, IfOk, length};
 ghost use Rattle.bits_core.specs.Bits.{other};
 ghost use Rattle.bits_core.specs.History.{open_access};
-ghost use Rattle.bits_core.specs.Made.{own};
+ghost use Rattle.bits_core.specs.Made.{own, opening_event};
 ghost use Rattle.bits_core.specs.Open.{IsOpenRight, IsReading, IsWriting};
-ghost use Rattle.ring_player.specs.Actors.{IsAtTurn, IsMove, IsPlaying, begun};
+ghost use Rattle.ring_player.specs.Actors.{IsAtTurn, IsMove, IsPlaying};
 ghost use Rattle.ring_player.specs.Plays.{IsProgram};
 
 use crate::faults::PlayFault;
@@ -95,7 +95,7 @@ fn begin<M: Store<Event>>(
     requires right { IsOpenRight memory.old.shape side access }
     requires none_open { open_access side memory.old.events ≡ None }
     ensures shape { memory.new.shape ≡ memory.old.shape }
-    ensures ok { OnOk result (memory.new.events ≡ memory.old.events ++ begun side access ∷ []) }
+    ensures ok { OnOk result (memory.new.events ≡ memory.old.events ++ opening_event side access ∷ []) }
     ensures err { OnErr result (memory.new ≡ memory.old) }
     ensures room { memory.new.room ≡ memory.old.room }
     ensures full { OnErr result (memory.old.room ≤ length memory.old.events) }

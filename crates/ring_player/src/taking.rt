@@ -4,7 +4,7 @@ ghost use Rattle.bits_core.specs.declared.events.Access.{Access};
 ghost use Rattle.bits_core.specs.declared.events.Side.TheVariants as side_is;
 ghost use Rattle.bits_core.specs.Made.{Made, events_of};
 ghost use Rattle.ring_core.specs.ConsumerState.{due_take, is_taking};
-ghost use Rattle.ring_player.specs.Actors.{IsTaking, so_far};
+ghost use Rattle.ring_player.specs.Actors.{TakeActorStands, so_far};
 ghost use Rattle.ring_player.specs.SoFar.{TakenSoFar};
 ghost use Rattle.ring_player.specs.Plays.{IsDoneAfter};
 ghost use Rattle.ring_script.specs.Borrowed.{content_of};
@@ -33,7 +33,7 @@ impl<'a, T: Store<u64>> TakeActor<'a, T> {
         requires { T.items taken ≡ [] }
         ensures script { content_of result.script ≡ content_of script.entry }
         ensures room { T.room result.taken ≡ T.room taken }
-        ensures stands { IsTaking (content_of script.entry) result.consumer (T.items result.taken) result.told result.empty [] None }
+        ensures stands { TakeActorStands (content_of script.entry) result.consumer (T.items result.taken) result.told result.empty [] None }
     {
         TakeActor {
             script,
@@ -81,7 +81,7 @@ impl<'a, T: Store<u64>> TakeActor<'a, T> {
 
     /// What the accesses so far took and told.
     pub fn look(&self)
-        ensures { (list : List Made) (opened : Option Access) → IsTaking (content_of self.now.script) self.now.consumer (T.items self.now.taken) self.now.told self.now.empty list opened → ((a : Access) → opened ≡ Some a → due_take self.now.consumer ≡ Some a) → TakenSoFar (content_of self.now.script).shape (so_far side_is.C list opened) (T.items self.now.taken) self.now.told self.now.empty }
+        ensures { (list : List Made) (opened : Option Access) → TakeActorStands (content_of self.now.script) self.now.consumer (T.items self.now.taken) self.now.told self.now.empty list opened → ((a : Access) → opened ≡ Some a → due_take self.now.consumer ≡ Some a) → TakenSoFar (content_of self.now.script).shape (so_far side_is.C list opened) (T.items self.now.taken) self.now.told self.now.empty }
     {
         self.consumer.next();
     }
@@ -90,8 +90,8 @@ impl<'a, T: Store<u64>> TakeActor<'a, T> {
     fn begin_take(&mut self)
         ensures script { content_of self.new.script ≡ content_of self.old.script }
         ensures taken { (T.items self.new.taken ≡ T.items self.old.taken) × (T.room self.new.taken ≡ T.room self.old.taken) }
-        ensures stands { (list : List Made) → IsTaking (content_of self.old.script) self.old.consumer (T.items self.old.taken) self.old.told self.old.empty list None → IsTaking (content_of self.new.script) self.new.consumer (T.items self.new.taken) self.new.told self.new.empty list None }
-        ensures done { is_taking self.new.consumer ≡ false → (list : List Made) → IsTaking (content_of self.old.script) self.old.consumer (T.items self.old.taken) self.old.told self.old.empty list None → IsDoneAfter (content_of self.old.script) side_is.C (events_of side_is.C list) }
+        ensures stands { (list : List Made) → TakeActorStands (content_of self.old.script) self.old.consumer (T.items self.old.taken) self.old.told self.old.empty list None → TakeActorStands (content_of self.new.script) self.new.consumer (T.items self.new.taken) self.new.told self.new.empty list None }
+        ensures done { is_taking self.new.consumer ≡ false → (list : List Made) → TakeActorStands (content_of self.old.script) self.old.consumer (T.items self.old.taken) self.old.told self.old.empty list None → IsDoneAfter (content_of self.old.script) side_is.C (events_of side_is.C list) }
     {
         if self.consumer.next().is_some() {
             return;
@@ -105,7 +105,7 @@ impl<'a, T: Store<u64>> TakeActor<'a, T> {
 impl<'a, T: Store<u64>> Actor for TakeActor<'a, T> {
     ghost use Rattle.bits_core.specs.declared.events.Side.TheVariants as side_is;
     ghost use Rattle.ring_core.specs.ConsumerState.{due_take};
-    ghost use Rattle.ring_player.specs.Actors.{IsTaking};
+    ghost use Rattle.ring_player.specs.Actors.{TakeActorStands};
     ghost use Rattle.ring_script.specs.Borrowed.{content_of};
     ghost use Rattle.std.specs.Prelude.{length};
 
@@ -115,7 +115,7 @@ impl<'a, T: Store<u64>> Actor for TakeActor<'a, T> {
 
     ghost due = { λ a. due_take a.consumer };
 
-    ghost stands = { λ a list opened. IsTaking (content_of a.script) a.consumer (T.items a.taken) a.told a.empty list opened };
+    ghost stands = { λ a list opened. TakeActorStands (content_of a.script) a.consumer (T.items a.taken) a.told a.empty list opened };
 
     ghost ready = { λ a. T.has_room a.taken };
 

@@ -8,7 +8,7 @@ ghost use Rattle.ring_core.specs.Over.{fulls, puts_over_in};
 ghost use Rattle.ring_core.specs.Puts.{FollowsPuts, Puts, stored_in};
 ghost use Rattle.ring_player.specs.Headline.{IsPlayOf};
 ghost use Rattle.ring_player.specs.Plays.{Plays};
-ghost use Rattle.ring_player.specs.Tellings.{AreAt, RecordsPlay, SaysPut, SaysTake, TellsCalls, events_of, listed, told_in};
+ghost use Rattle.ring_player.specs.Tellings.{AreAt, RecordsPlay, SaysPut, SaysTake, TellsCalls, call_events, listed, told_in};
 
 use crate::faults::PlayFault;
 use crate::worlds::World;
@@ -292,10 +292,10 @@ fn repeat_told<E: Store<Event>, T: Store<u64>, A: Allocator>(
 ) -> Result<(), PlayFault>
     requires items { items ≡ length world.old.script.items }
     requires at { AreAt at.old.put at.old.take world.old.script world.old.history }
-    requires told { TellsCalls world.old.script world.old.history (events_of world.old.script told.old.items) }
+    requires told { TellsCalls world.old.script world.old.history (call_events world.old.script told.old.items) }
     ensures script { world.new.script ≡ world.old.script }
     ensures at { OnOk result (AreAt at.new.put at.new.take world.new.script world.new.history) }
-    ensures told { OnOk result (TellsCalls world.new.script world.new.history (events_of world.new.script told.new.items)) }
+    ensures told { OnOk result (TellsCalls world.new.script world.new.history (call_events world.new.script told.new.items)) }
     ensures letters { OnOk result ((letters : List Side) → Plays world.old.script letters world.old.history → Plays world.old.script (letters ++ replicate count side) world.new.history) }
 {
     for made in 0..count {

@@ -10,7 +10,7 @@ ghost use Rattle.ring_core.specs.Puts.{FollowsPuts, Puts, stored_in};
 ghost use Rattle.ring_core.specs.Takes.{FollowsTakes, Takes};
 ghost use Rattle.ring_player.specs.Actors.{IsMove};
 ghost use Rattle.ring_player.specs.Headline.{IsPlayOf};
-ghost use Rattle.ring_player.specs.Plays.{HasFlickers, Plays, sides};
+ghost use Rattle.ring_player.specs.Plays.{HasFlickers, Plays, event_sides};
 ghost use Rattle.ring_script.specs.Borrowed.{content_of};
 
 use crate::actors::advance;
@@ -42,7 +42,7 @@ impl<'a, E: Store<Event>, T: Store<u64>> Model for World<'a, E, T> {
     ghost use Rattle.bits_core.specs.Oracle.{tape_answer};
     ghost use Rattle.ring_core.specs.ConsumerState.{due_take};
     ghost use Rattle.ring_core.specs.ProducerState.{due_put};
-    ghost use Rattle.ring_player.specs.Actors.{HasWritten, IsPutting, IsTaking};
+    ghost use Rattle.ring_player.specs.Actors.{HasWritten, PutActorStands, TakeActorStands};
     ghost use Rattle.ring_player.specs.Worlds.{Played, IsWorld};
     ghost use Rattle.ring_script.specs.Borrowed.{content_of};
     ghost use Rattle.std.specs.Prelude.{length};
@@ -52,8 +52,8 @@ impl<'a, E: Store<Event>, T: Store<u64>> Model for World<'a, E, T> {
     ghost view = { λ w. record { script = content_of w.script; history = w.memory.events; taken = length (T.items w.consumer.taken); event_room = w.memory.room; item_room = T.room w.consumer.taken } };
 
     ghost invariant = { λ w. IsWorld (content_of w.script) w.memory (content_of w.producer.script) (content_of w.consumer.script) (due_put w.producer.producer) (due_take w.consumer.consumer)
-        (λ list opened. IsPutting (content_of w.producer.script) w.producer.producer (record { stored = w.producer.stored; full = w.producer.full }) list opened × HasWritten (content_of w.producer.script) w.producer.digits w.producer.put list opened)
-        (IsTaking (content_of w.consumer.script) w.consumer.consumer (T.items w.consumer.taken) w.consumer.told w.consumer.empty)
+        (λ list opened. PutActorStands (content_of w.producer.script) w.producer.producer (record { stored = w.producer.stored; full = w.producer.full }) list opened × HasWritten (content_of w.producer.script) w.producer.digits w.producer.put list opened)
+        (TakeActorStands (content_of w.consumer.script) w.consumer.consumer (T.items w.consumer.taken) w.consumer.told w.consumer.empty)
         (tape_answer w.oracle) };
 }
 
@@ -89,7 +89,7 @@ impl<'a, E: Store<Event>, T: Store<u64>> World<'a, E, T> {
     /// calls are linearizable.
     pub fn history(&self) -> &[Event]
         ensures history { result.now ≡ self.now.history }
-        ensures plays { IsPlayOf self.now.script (sides self.now.history) self.now.history }
+        ensures plays { IsPlayOf self.now.script (event_sides self.now.history) self.now.history }
         ensures linearizable { EachReadingIsLinearizable self.now.script.shape self.now.history }
     {
         every_play_holds();
@@ -183,7 +183,7 @@ impl<'a, E: Store<Event>, T: Store<u64>> World<'a, E, T> {
     /// What was played. It takes no memory.
     pub fn report(self) -> Report<'a, E, T>
         ensures history { E.items result.history ≡ self.entry.history }
-        ensures plays { IsPlayOf self.entry.script (sides self.entry.history) (E.items result.history) }
+        ensures plays { IsPlayOf self.entry.script (event_sides self.entry.history) (E.items result.history) }
         ensures put { (puts : Puts) → FollowsPuts self.entry.script.shape self.entry.history puts → result.put.now ≡ items_put_in self.entry.script.shape self.entry.history puts }
         ensures taken { (takes : Takes) → FollowsTakes self.entry.script.shape self.entry.history takes → T.items result.taken ≡ items_taken_in self.entry.script.shape self.entry.history takes }
         ensures told { (takes : Takes) → FollowsTakes self.entry.script.shape self.entry.history takes → (result.told ≡ true) ↔ ToldIn self.entry.script.shape self.entry.history takes }
@@ -229,7 +229,7 @@ impl<'a, E: Store<Event>, T: Store<u64>> World<'a, E, T> {
         ensures full { OnErr result ((self.old.event_room ≤ length self.old.history) ⊎ (self.old.item_room ≤ self.old.taken)) }
         ensures few { length self.new.history ≤ length self.old.history + 1 }
         ensures letters { OnOk result ((letters : List Side) → Plays self.old.script letters self.old.history → Plays self.new.script (letters ++ side ∷ []) self.new.history) }
-        ensures plays { IsPlayOf self.new.script (sides self.new.history) self.new.history }
+        ensures plays { IsPlayOf self.new.script (event_sides self.new.history) self.new.history }
     {
         let moved = self.step_side(side);
         self.history();

@@ -2,7 +2,7 @@
 use Rattle.std.proofs.Common.{◌≡◌, ◌∙◌, ℕ, ◌<◌, ◌≤◌, List, [], ◌∷◌, ◌++◌, refl, ap, ap₂, sym, subst, append_assoc, arith}
 use Rattle.std.proofs.lemmas.List.{append-nil}
 use Rattle.queue_calls.specs.Calls.{Event}
-use Rattle.queue_calls.specs.InTurn.{IsInTurn}
+use Rattle.queue_calls.specs.InTurn.{CallsAreInTurn}
 use Rattle.queue_calls.specs.Lines.{AreSmall, word_text}
 use Rattle.queue_calls.specs.Queue.{exactly}
 use Rattle.queue_calls.specs.Recordings.{IsRecording, begun_after, line, lines_text, text_of}
@@ -43,7 +43,7 @@ telling_goes_on capacity h event rest offers text offers_after after pushed offe
       λ others. smalls (small, others),
     )
 
-pub telling_ends : (capacity n : ℕ) (h : List Event) (offers : ℕ) (text : List ℕ) → n ≡ capacity → 0 < n → n ≤ 64 → HistoryHasARecording → IsInTurn h
+pub telling_ends : (capacity n : ℕ) (h : List Event) (offers : ℕ) (text : List ℕ) → n ≡ capacity → 0 < n → n ≤ 64 → HistoryHasARecording → CallsAreInTurn h
     → IsToldSoFar capacity h [] offers text → IsRecording text (exactly capacity) h
 telling_ends capacity n h offers text same some few law in_turn (b, is, whole, smalls) =
     subst (λ (t : List ℕ). IsRecording t (exactly capacity) h) (whole ∙ append-nil text)

@@ -26,7 +26,7 @@ use Rattle.ring_audit.specs.Audit as audit
 use Rattle.ring_audit.specs.declared.faults.AuditFault.TheVariants as finding
 use Rattle.ring_core.specs.Linear.{EachReadingIsLinearizable}
 use Rattle.ring_player.specs.Headline.{IsPlayOf}
-use Rattle.ring_player.specs.Tellings.{RecordsPlay, events_of}
+use Rattle.ring_player.specs.Tellings.{RecordsPlay, call_events}
 use Rattle.ring_player.specs.declared.tellings.Told as play_told
 use Rattle.ring_player.specs.declared.faults.PlayFault.TheVariants as play
 use Rattle.ring_script.specs.Faults.{IsScriptFault}
@@ -142,7 +142,7 @@ pub record RecordsScript (input text : List ℕ) (ending : Ending) : Type 0 wher
   pub is_script : IsScript input content
   pub plays : IsPlayOf content content.letters history
   pub records : RecordsPlay content history told
-  pub is_recording : IsRecording text (exactly (capacity_of content.shape)) (events_of content told)
+  pub is_recording : IsRecording text (exactly (capacity_of content.shape)) (call_events content told)
   pub ends : ending ≡ Done
 
 -- the text of a run: how many items were put and taken, or that and what was counted and timed; or a recording of some calls of a
@@ -240,7 +240,7 @@ AnswersWithin question input text ending = (length input ≤ INPUT_LIMIT) × Ans
 -- ---- how the program ends, by what may be answered and what is a true cause of a refusal
 
 -- an answer was given: the output gained the whole text, and the status is the answer's
-pub record Told (IsAnswer : List ℕ → Ending → Type 0) (before after : Option (List ℕ)) (status : ℕ) : Type 0 where
+pub record WasAnswered (IsAnswer : List ℕ → Ending → Type 0) (before after : Option (List ℕ)) (status : ℕ) : Type 0 where
   pub text : List ℕ
   pub ending : Ending
   pub answer : IsAnswer text ending
@@ -261,7 +261,7 @@ Refused IsAnswer IsReason before after e = (IsReason e × Keeps before after)
     ⊎ ((e ≡ refusal.App app.WriteFailed) × CutShort IsAnswer before after)
 
 abbrev pub EndsBy : (List ℕ → Ending → Type 0) → (Refusal → Type 0) → Option (List ℕ) → Option (List ℕ) → ℕ → Type 0
-EndsBy IsAnswer IsReason before after status = Told IsAnswer before after status
+EndsBy IsAnswer IsReason before after status = WasAnswered IsAnswer before after status
     ⊎ ((status ≡ 1) × (e : Refusal) × Refused IsAnswer IsReason before after e)
 
 -- how the program ends on a question of this input
@@ -300,15 +300,15 @@ abbrev pub NoMemory : Option (List ℕ) → Option (List ℕ) → ℕ → Type 0
 NoMemory before after status = (status ≡ 1) × Keeps before after
 
 -- a text was written: all of it, with status 0, or a front of it, with status 1
-abbrev pub Shown : Option (List ℕ) → Option (List ℕ) → ℕ → Type 0
-Shown before after status = (text : List ℕ) × (((status ≡ 0) × Appends before after text)
+abbrev pub WasWritten : Option (List ℕ) → Option (List ℕ) → ℕ → Type 0
+WasWritten before after status = (text : List ℕ) × (((status ≡ 0) × Appends before after text)
     ⊎ ((status ≡ 1) × (count : ℕ) × Appends before after (take count text)))
 
 -- how the program ends where the command line gave an error of this kind
 abbrev pub Explains : ErrorKind → Option (List ℕ) → Option (List ℕ) → ℕ → Type 0
 Explains k before after status =
     ((k ≡ kind.OutOfMemory) × NoMemory before after status)
-    ⊎ ((IsHelp k × (NoMemory before after status ⊎ Shown before after status))
+    ⊎ ((IsHelp k × (NoMemory before after status ⊎ WasWritten before after status))
     ⊎ ((¬ IsHelp k) × (k ≢ kind.OutOfMemory) × (status ≡ 2) × Keeps before after))
 
 -- help or the version was asked for, and written
@@ -316,7 +316,7 @@ pub record HelpGiven (kinds : Kinds) (before after : Option (List ℕ)) (status 
   pub asked : ErrorKind
   pub among : IsAmong asked kinds
   pub is_help : IsHelp asked
-  pub shown : Shown before after status
+  pub shown : WasWritten before after status
 
 -- the words are wrong, and nothing was written
 pub record Mistaken (kinds : Kinds) (before after : Option (List ℕ)) (status : ℕ) : Type 0 where

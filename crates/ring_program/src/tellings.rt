@@ -9,7 +9,7 @@ ghost use Rattle.queue_calls.specs.Tellings.{line_of, numbers_in, offered_last};
 ghost use Rattle.queue_calls.specs.declared.recordings.Begun.{Begun};
 ghost use Rattle.queue_calls.specs.declared.recordings.Begun.TheVariants as begun;
 ghost use Rattle.ring_player.specs.Plays.{offered};
-ghost use Rattle.ring_player.specs.Tellings.{event_of, events_of};
+ghost use Rattle.ring_player.specs.Tellings.{event_of, call_events};
 ghost use Rattle.ring_script.specs.Content.{Content};
 
 use crate::faults::AppFault;
@@ -93,8 +93,8 @@ pub fn calls_text<A: Allocator, B: Allocator>(
     script: &Script<B>,
     told: &[Told],
 ) -> Result<String<A>, AppFault>
-    requires linearizable { IsLinearizable (exactly (capacity_of script.now.shape)) (events_of script.now told.now) }
-    ensures recording { IfOk result (λ text. IsRecording (string_bytes text) (exactly (capacity_of script.now.shape)) (events_of script.now told.now)) }
+    requires linearizable { IsLinearizable (exactly (capacity_of script.now.shape)) (call_events script.now told.now) }
+    ensures recording { IfOk result (λ text. IsRecording (string_bytes text) (exactly (capacity_of script.now.shape)) (call_events script.now told.now)) }
     ensures memory { IfErr result (λ e. e ≡ AppFault.OutOfMemory) }
 {
     linearizable_is_in_turn();

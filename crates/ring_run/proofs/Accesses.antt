@@ -11,7 +11,7 @@ use Rattle.bits_core.specs.declared.events.Access.TheVariants.{Read, Write}
 use Rattle.bits_core.specs.declared.events.Event.{Event}
 use Rattle.bits_core.specs.Bits.{begun_access}
 use Rattle.bits_core.specs.History.{open_access}
-use Rattle.ring_run.specs.Programs.{begin_of, end_of}
+use Rattle.ring_run.specs.Programs.{begin_of, ending_event}
 use Rattle.ring_run.specs.Ring.{Ring, RingEnd}
 use Rattle.ring_run.specs.declared.views.View.{View}
 use Rattle.ring_run.specs.Rule.{Added, Stands, and_event, event, list_of, may_step}
@@ -70,4 +70,4 @@ module _ (e b : RingEnd) (a : Access) (v : Bool) (h : HasMade e b a v) where
   same = record { ring = h.2.same.ring ∙ h.1.same.ring; side = h.2.same.side ∙ h.1.same.side; known = h.2.same.known ∙ h.1.same.known }
 
   pub longer : length e.list < length b.list
-  longer = omega (arith, ap length h.1.list, length-append e.list (begin_of e.side a ∷ []), ap length h.2.list, length-append (h.0).list (end_of e.side a v ∷ []))
+  longer = omega (arith, ap length h.1.list, length-append e.list (begin_of e.side a ∷ []), ap length h.2.list, length-append (h.0).list (ending_event e.side a v ∷ []))

@@ -11,7 +11,7 @@ use Rattle.ring_run.specs.declared.views.View.{View}
 use Rattle.ring_run.specs.declared.views.Loads.{Loads}
 use Rattle.ring_run.specs.Rule.{and_event, event, kept_loads, list_of}
 use Rattle.ring_run.specs.Words.{agrees, answer_of}
-use Rattle.ring_run.specs.Hands.{AreAnswered, and_answer, answers_by, answers_in, asked_by, asks_of}
+use Rattle.ring_run.specs.Hands.{AreAnswered, and_answer, answers_by, answers_in, asks_of_all, asks_of}
 use Rattle.ring_run.proofs.Accesses.{end_at}
 use Rattle.ring_run.proofs.Moves.{list_of-mine}
 
@@ -25,9 +25,9 @@ answers_in-append : (xs ys : List Event) → answers_in (xs ++ ys) ≡ answers_i
 answers_in-append [] ys = refl
 answers_in-append (e ∷ xs) ys = ap (and_answer e.act) (answers_in-append xs ys) ∙ and_answer-append e.act (answers_in xs) (answers_in ys)
 
-asked_by-append : (xs ys : List Loads) → asked_by (xs ++ ys) ≡ asked_by xs + asked_by ys
+asked_by-append : (xs ys : List Loads) → asks_of_all (xs ++ ys) ≡ asks_of_all xs + asks_of_all ys
 asked_by-append [] ys = omega arith
-asked_by-append (l ∷ xs) ys = step (asks_of l) (asked_by (xs ++ ys)) (asked_by xs) (asked_by ys) (asked_by-append xs ys)
+asked_by-append (l ∷ xs) ys = step (asks_of l) (asks_of_all (xs ++ ys)) (asks_of_all xs) (asks_of_all ys) (asked_by-append xs ys)
   where
     step : (n all a b : ℕ) → all ≡ a + b → n + all ≡ (n + a) + b
     step n all a b is = omega (arith, is)
@@ -35,11 +35,11 @@ asked_by-append (l ∷ xs) ys = step (asks_of l) (asked_by (xs ++ ys)) (asked_by
 later : (i a b : ℕ) → (i + a) + b ≡ i + (b + a)
 later i a b = omega arith
 
-answers_by-append : (xs ys : List Loads) (said : ℕ → Bool) → answers_by (xs ++ ys) said ≡ answers_by xs said ++ answers_by ys (λ i. said (i + asked_by xs))
+answers_by-append : (xs ys : List Loads) (said : ℕ → Bool) → answers_by (xs ++ ys) said ≡ answers_by xs said ++ answers_by ys (λ i. said (i + asks_of_all xs))
 answers_by-append [] ys said = ap (answers_by ys) (λ j i. said (sym (add-zero i) j))
 answers_by-append (l ∷ xs) ys said =
     ap (λ r. answer_of l.first l.found (said 0) ∷ r)
-    (answers_by-append xs ys (λ i. said (i + asks_of l)) ∙ ap (λ (f : ℕ → Bool). answers_by xs (λ i. said (i + asks_of l)) ++ answers_by ys f) (λ j i. said (later i (asked_by xs) (asks_of l) j)))
+    (answers_by-append xs ys (λ i. said (i + asks_of l)) ∙ ap (λ (f : ℕ → Bool). answers_by xs (λ i. said (i + asks_of l)) ++ answers_by ys f) (λ j i. said (later i (asks_of_all xs) (asks_of l) j)))
 
 -- nothing was made
 pub answered_same : (a : RingEnd) (said : ℕ → Bool) → AreAnswered a a said said
@@ -54,7 +54,7 @@ answered_then a b c f g h s t = record {
       t.answers_are ∙ ap (λ (l : List Bool). l ++ answers_by t.loads g) s.answers_are ∙ append_assoc (answers_in a.list) (answers_by s.loads f) (answers_by t.loads g) ∙
       ap (λ (k : ℕ → Bool). answers_in a.list ++ (answers_by s.loads f ++ answers_by t.loads k)) (λ j i. s.asked i j) ∙
       ap (λ (l : List Bool). answers_in a.list ++ l) (sym (answers_by-append s.loads t.loads f));
-  asked = λ i. t.asked i ∙ s.asked (i + asked_by t.loads) ∙ ap f (later i (asked_by t.loads) (asked_by s.loads) ∙ ap (λ (n : ℕ). i + n) (sym (asked_by-append s.loads t.loads)));
+  asked = λ i. t.asked i ∙ s.asked (i + asks_of_all t.loads) ∙ ap f (later i (asks_of_all t.loads) (asks_of_all s.loads) ∙ ap (λ (n : ℕ). i + n) (sym (asked_by-append s.loads t.loads)));
 }
 
 -- how often the oracle was asked by one read

@@ -18,7 +18,7 @@ use Rattle.bits_core.specs.Open.{IsOpenRight}
 use Rattle.bits_core.specs.Made.{Made, Read, Write, access_of, begin_event, end_event, events_of, own}
 use Rattle.ring_run.specs.Programs.{Follows, IsRing}
 use Rattle.ring_run.specs.Below.{LawsBelow}
-use Rattle.ring_run.specs.Counters.{left_by}
+use Rattle.ring_run.specs.Counters.{value_left}
 use Rattle.ring_run.proofs.Histories.{by_case, same_side-same, same_side-true, either_side, before_last-mine, own-mine, own-theirs, open-mine, open-theirs}
 use Rattle.ring_run.proofs.Rights.{AllRight}
 use Rattle.ring_run.proofs.Moves.{ring_more}
@@ -106,14 +106,14 @@ last_append v [] ys = refl
 last_append v (x ∷ xs) ys = last_append x xs ys
 
 -- an access of the list
-left_one : (list : List Event) (x : Side) (m : Made) (b : Bit) → left_by (list ++ events_of x (m ∷ [])) b ≡ wrote (left_by list) m b
+left_one : (list : List Event) (x : Side) (m : Made) (b : Bit) → value_left (list ++ events_of x (m ∷ [])) b ≡ wrote (value_left list) m b
 left_one list x (Read c v) b =
     ap (last_value (first_value b)) (filter_map-append (write_of b) list (events_of x (Read c v ∷ []))) ∙
     last_append (first_value b) (writes_begun b list) []
 left_one list x (Write c v) b =
     ap (last_value (first_value b)) (filter_map-append (write_of b) list (events_of x (Write c v ∷ []))) ∙
     last_append (first_value b) (writes_begun b list) (writes_begun b (events_of x (Write c v ∷ []))) ∙
-    elim (same_bit b c) as (λ t. last_value (left_by list b) (cons_option (if t then Some v else None) []) ≡ (if t then v else left_by list b)) [ true ↦ refl | false ↦ refl ]
+    elim (same_bit b c) as (λ t. last_value (value_left list b) (cons_option (if t then Some v else None) []) ≡ (if t then v else value_left list b)) [ true ↦ refl | false ↦ refl ]
 
 wrote_at : (bits bits' : Bit → Bool) (m : Made) (b : Bit) → bits b ≡ bits' b → wrote bits m b ≡ wrote bits' m b
 wrote_at bits bits' (Read c v) b e = e
@@ -134,12 +134,12 @@ answers_same (Read b v ∷ made) bits bits' e a = (a.0 ∙ e b, answers_same mad
 answers_same (Write b v ∷ made) bits bits' e a = (tt, answers_same made (wrote bits (Write b v)) (wrote bits' (Write b v)) (λ c. wrote_at bits bits' (Write b v) c (e c)) a.1)
 
 -- the values left by the events of accesses
-pub left_by-made : (x : Side) (made : List Made) (list : List Event) (b : Bit) → left_by (list ++ events_of x made) b ≡ after (left_by list) made b
-left_by-made x [] list b = ap (λ (l : List Event). left_by l b) (append-nil list)
+pub left_by-made : (x : Side) (made : List Made) (list : List Event) (b : Bit) → value_left (list ++ events_of x made) b ≡ after (value_left list) made b
+left_by-made x [] list b = ap (λ (l : List Event). value_left l b) (append-nil list)
 left_by-made x (m ∷ made) list b =
-    ap (λ (l : List Event). left_by l b) (sym (append_assoc list (events_of x (m ∷ [])) (events_of x made))) ∙
+    ap (λ (l : List Event). value_left l b) (sym (append_assoc list (events_of x (m ∷ [])) (events_of x made))) ∙
     left_by-made x made (list ++ events_of x (m ∷ [])) b ∙
-    after_at made (left_by (list ++ events_of x (m ∷ []))) (wrote (left_by list) m) b (left_one list x m)
+    after_at made (value_left (list ++ events_of x (m ∷ []))) (wrote (value_left list) m) b (left_one list x m)
 
 not_begin : (s : Side) (x : Made) → is_by (other s) (begin_event s x) ≡ false
 not_begin P (Read b v) = refl

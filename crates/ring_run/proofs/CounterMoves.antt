@@ -26,7 +26,7 @@ use Rattle.ring_run.specs.Words as bits
 use Rattle.ring_run.specs.Programs.{Follows, IsRing}
 use Rattle.ring_run.specs.Rule.{joint, may_step, list_of, Fits, FitsAll}
 use Rattle.ring_run.specs.Below.{LawsBelow}
-use Rattle.ring_run.specs.Counters.{count_place, their_place, cell_place, words_of, first_counts, left_by, unary_over, IsLastCount, IsLastItem, ShowsWords, KeptWords, and_events, AddedAll, Nothing, IsBelow}
+use Rattle.ring_run.specs.Counters.{count_place, their_place, cell_place, words_of, first_counts, value_left, unary_over, IsLastCount, IsLastItem, ShowsWords, KeptWords, and_events, AddedAll, TellsNothing, IsBelow}
 use Rattle.ring_run.proofs.Histories.{either_side}
 use Rattle.ring_run.proofs.Rights.{AllRight, scan_right, unary_right, word_write_right, reads_right}
 use Rattle.ring_run.proofs.Moves.{set-same, ring_empty, first_seat, first_each, each_stays, no_load}
@@ -145,7 +145,7 @@ module _ (laws : LawsBelow) (shape : Shape) where
     small = shows.small;
     cell = λ j lt. stays x made h blocked P (Cell j) (λ before. word_write (width_of shape) j (slice_index words (cell_place j))) (slice_index words (cell_place j)) (s (Cell j)) (shows.cell j lt);
     fits = shows.fits;
-    close = shows.close ∙ ap bits.digit (sym (close_stays x made h blocked (s (λ _. X))));
+    close = shows.close ∙ ap bits.value_word (sym (close_stays x made h blocked (s (λ _. X))));
   })
 
   -- what a store of a word does to another one, whose row it spares
@@ -167,8 +167,8 @@ module _ (laws : LawsBelow) (shape : Shape) where
     other_fits : (j : ℕ) → j < capacity_of shape → cell_place j ≢ place → slice_index (set words place new) (cell_place j) < 2 ^ width_of shape
     other_fits j lt ne = subst (λ (n : ℕ). n < 2 ^ width_of shape) (sym (left_word (cell_place j) ne)) (shows.fits j lt)
 
-    other_close : 0 ≢ place → Spares (λ _. X) made → slice_index (set words place new) 0 ≡ bits.digit (held X (h ++ events_of x made))
-    other_close ne s = left_word 0 ne ∙ (shows.close ∙ ap bits.digit (sym (close_stays x made h blocked s)))
+    other_close : 0 ≢ place → Spares (λ _. X) made → slice_index (set words place new) 0 ≡ bits.value_word (held X (h ++ events_of x made))
+    other_close ne s = left_word 0 ne ∙ (shows.close ∙ ap bits.value_word (sym (close_stays x made h blocked s)))
 
   abbrev new_word : List ℕ → ℕ → ℕ → ℕ
   new_word words place new = slice_index (set words place new) place
@@ -214,7 +214,7 @@ module _ (laws : LawsBelow) (shape : Shape) where
 
   -- ---- after a store of a count, of a cell, and of the close word
 
-  counted : (x : Side) (v : ℕ) (old : ℕ → Bool) (h : List Event) (words : List ℕ) → v < modulus_of shape → ((i : ℕ) → left_by (own x h) (row_bit x i) ≡ old i) → length words ≡ words_of shape → ShowsWords shape words h
+  counted : (x : Side) (v : ℕ) (old : ℕ → Bool) (h : List Event) (words : List ℕ) → v < modulus_of shape → ((i : ℕ) → value_left (own x h) (row_bit x i) ≡ old i) → length words ≡ words_of shape → ShowsWords shape words h
       → Blocked laws shape x h (writes_in (row_bit x) (unary_phrase old v)) → ShowsWords shape (set words (count_place x) v) (h ++ events_of x (writes_in (row_bit x) (unary_phrase old v)))
   counted x v old h words lt left wide shows blocked = record {
     idle = blocked.quiet.idle;
@@ -298,7 +298,7 @@ module _ (laws : LawsBelow) (shape : Shape) where
     small = λ y. other_small P (Write X true ∷ []) h words 0 1 shows blocked y (λ (e : count_place y ≡ 0). omega (arith, e, (small_place y).0));
     cell = λ k below. other_cell P (Write X true ∷ []) h words 0 1 shows blocked k below (λ (e : cell_place k ≡ 0). omega (arith, e)) ((λ i. refl), tt);
     fits = λ k below. other_fits P (Write X true ∷ []) h words 0 1 shows blocked k below (λ (e : cell_place k ≡ 0). omega (arith, e));
-    close = new_is words 0 1 wide (omega arith) ∙ ap bits.digit (sym (blocked.bits X));
+    close = new_is words 0 1 wide (omega arith) ∙ ap bits.value_word (sym (blocked.bits X));
   }
 
 -- ---- reads of what the bits hold
@@ -370,29 +370,29 @@ module _ (laws : LawsBelow) (shape : Shape) (x : Side) (slots id : ℕ) (me : Me
       let y : Side = other x in
       let c : ℕ = slice_index words (count_place y) in
       let lt : c < modulus_of shape = shows.small y in
-      let low : Lowest (λ i. left_by (own y h) (row_bit y i)) c = count_shows laws.numbers shape y (own y h) c lt (shows.count y) in
-      let held_is : ((i : ℕ) → held (row_bit y i) h ≡ left_by (own y h) (row_bit y i)) = (λ i. held_left laws shape (row_bit y i) h ring.run.lawful (shows.idle (writer (row_bit y i))) ∙ ap (λ (z : Side). left_by (own z h) (row_bit y i)) (row_writer y i)) in
+      let low : Lowest (λ i. value_left (own y h) (row_bit y i)) c = count_shows laws.numbers shape y (own y h) c lt (shows.count y) in
+      let held_is : ((i : ℕ) → held (row_bit y i) h ≡ value_left (own y h) (row_bit y i)) = (λ i. held_left laws shape (row_bit y i) h ring.run.lawful (shows.idle (writer (row_bit y i))) ∙ ap (λ (z : Side). value_left (own z h) (row_bit y i)) (row_writer y i)) in
       (scan_holds (λ b. held b h) (row_bit y) c (record { set = held_is c ∙ low.set; clear = λ i below. held_is i ∙ low.clear i below }), scan_right shape x c lt, follow c lt, lt))
 
   -- a store of the side's own count
   pub stores_count : (new : ℕ) → new < modulus_of shape → Follows shape x (list_of x me.0 ++ events_of x (unary_over x (list_of x me.0) new))
-      → Allows (KeptWords shape) slots id me (count_place x) (λ _. new) (λ _. AddedAll shape x (λ _. unary_over x (list_of x me.0) new) Nothing me new)
-  stores_count new lt follow = moves laws shape x (count_place x) (λ _. unary_over x (list_of x me.0) new) Nothing (λ _. new) (λ _. new) slots id me mine not_theirs
+      → Allows (KeptWords shape) slots id me (count_place x) (λ _. new) (λ _. AddedAll shape x (λ _. unary_over x (list_of x me.0) new) TellsNothing me new)
+  stores_count new lt follow = moves laws shape x (count_place x) (λ _. unary_over x (list_of x me.0) new) TellsNothing (λ _. new) (λ _. new) slots id me mine not_theirs
       (λ h words ring list shows wide.
-      let old : ℕ → Bool = λ i. left_by (list_of x me.0) (row_bit x i) in
+      let old : ℕ → Bool = λ i. value_left (list_of x me.0) (row_bit x i) in
       record {
         right = unary_right shape x old new lt;
         answers = writes_answer (row_bit x) (unary_phrase old new) (λ b. held b h);
         follow = follow;
         tells = tt;
-        shows = counted laws shape x new old h words lt (λ i. ap (λ (l : List Event). left_by l (row_bit x i)) (sym list)) wide shows;
+        shows = counted laws shape x new old h words lt (λ i. ap (λ (l : List Event). value_left l (row_bit x i)) (sym list)) wide shows;
       })
 
 module _ (laws : LawsBelow) (shape : Shape) (slots id : ℕ) (me : Me (Unit {0}) View) where
   -- a store of a cell
   pub stores_cell : me.0.puts ≡ true → me.0.takes ≡ false → (j item : ℕ) → j < capacity_of shape → item < 2 ^ width_of shape → Follows shape P (me.0.put ++ events_of P (word_write (width_of shape) j item))
-      → Allows (KeptWords shape) slots id me (cell_place j) (λ _. item) (λ _. AddedAll shape P (λ _. word_write (width_of shape) j item) Nothing me item)
-  stores_cell mine not_theirs j item lt fits follow = moves laws shape P (cell_place j) (λ _. word_write (width_of shape) j item) Nothing (λ _. item) (λ _. item) slots id me mine not_theirs
+      → Allows (KeptWords shape) slots id me (cell_place j) (λ _. item) (λ _. AddedAll shape P (λ _. word_write (width_of shape) j item) TellsNothing me item)
+  stores_cell mine not_theirs j item lt fits follow = moves laws shape P (cell_place j) (λ _. word_write (width_of shape) j item) TellsNothing (λ _. item) (λ _. item) slots id me mine not_theirs
       (λ h words ring list shows wide. record {
         right = word_write_right shape j item lt;
         answers = writes_answer (Cell j) (digit_writes item (width_of shape)) (λ b. held b h);
@@ -403,8 +403,8 @@ module _ (laws : LawsBelow) (shape : Shape) (slots id : ℕ) (me : Me (Unit {0})
 
   -- a store of the close word
   pub stores_close : me.0.puts ≡ true → me.0.takes ≡ false → Follows shape P (me.0.put ++ events_of P (Write X true ∷ []))
-      → Allows (KeptWords shape) slots id me 0 (λ _. 1) (λ _. AddedAll shape P (λ _. Write X true ∷ []) Nothing me 1)
-  stores_close mine not_theirs follow = moves laws shape P 0 (λ _. Write X true ∷ []) Nothing (λ _. 1) (λ _. 1) slots id me mine not_theirs
+      → Allows (KeptWords shape) slots id me 0 (λ _. 1) (λ _. AddedAll shape P (λ _. Write X true ∷ []) TellsNothing me 1)
+  stores_close mine not_theirs follow = moves laws shape P 0 (λ _. Write X true ∷ []) TellsNothing (λ _. 1) (λ _. 1) slots id me mine not_theirs
       (λ h words ring list shows wide. record {
         right = ((refl, refl), tt);
         answers = (tt, tt);
@@ -429,11 +429,11 @@ module _ (laws : LawsBelow) (shape : Shape) (slots id : ℕ) (me : Me (Unit {0})
 
   -- a load of the close word
   pub loads_close : me.0.takes ≡ true → me.0.puts ≡ false → ((v : Bool) → Follows shape C (me.0.taken ++ events_of C (Read X v ∷ [])))
-      → Allows (KeptWords shape) slots id me 0 (λ n. n) (AddedAll shape C (λ n. Read X (n == 1) ∷ []) Nothing me)
-  loads_close mine not_theirs follow = loads laws shape C slots id me mine not_theirs 0 (λ n. Read X (n == 1) ∷ []) Nothing
+      → Allows (KeptWords shape) slots id me 0 (λ n. n) (AddedAll shape C (λ n. Read X (n == 1) ∷ []) TellsNothing me)
+  loads_close mine not_theirs follow = loads laws shape C slots id me mine not_theirs 0 (λ n. Read X (n == 1) ∷ []) TellsNothing
       (λ h words ring shows. ((told (held X h) (slice_index words 0) shows.close, tt), ((refl, refl), tt), follow _, tt))
     where
-      told : (v : Bool) (n : ℕ) → n ≡ bits.digit v → (n == 1) ≡ v
+      told : (v : Bool) (n : ℕ) → n ≡ bits.value_word v → (n == 1) ≡ v
       told true n e = ap (λ (k : ℕ). k == 1) e
       told false n e = ap (λ (k : ℕ). k == 1) e
 

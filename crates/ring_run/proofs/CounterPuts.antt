@@ -15,14 +15,14 @@ use Rattle.register_core.specs.Row.{row_bit, first_bits, writes_in}
 use Rattle.register_core.specs.Unary.{unary_phrase}
 use Rattle.register_core.specs.Word.{digit_writes, word_write}
 use Rattle.register_core.specs.ScanState.{zero_reads, scan_phrase, row_read_by}
-use Rattle.ring_core.specs.Counts.{Count, first_count, past, count_bits, batch_phrase, LeavesRoom, LeavesRoomFor}
+use Rattle.ring_core.specs.Counts.{Count, first_count, number_past, count_bits, batch_phrase, LeavesRoom, LeavesRoomFor}
 use Rattle.ring_core.specs.Puts.{Put, Stored, Full, Puts, stored_after, stored_count, words_phrase, put_phrase, put_phrases, close_phrase, put_program, IsPut, IsBatch}
 use Rattle.ring_core.specs.ProducerCalls.{count_of, and_put, and_close}
 use Rattle.ring_core.specs.OneCallMore.{HasPutMore}
 use Rattle.ring_run.specs.Below.{LawsBelow}
 use Rattle.ring_run.specs.Programs.{Follows}
 use Rattle.ring_run.specs.Ends.{HasPuts}
-use Rattle.ring_run.specs.Counters.{left_by, unary_over}
+use Rattle.ring_run.specs.Counters.{value_left, unary_over}
 use Rattle.ring_run.proofs.Lists.{events_of-append}
 use Rattle.ring_run.proofs.Blocks.{after, after-append, left_by-made}
 use Rattle.ring_run.proofs.LastWrites.{Spares, spares-append, spares_writes, spared_bits, row_written, row_tells}
@@ -50,7 +50,7 @@ fit_at shape [] i fit lt = absurd (omega (arith, lt))
 fit_at shape (x ∷ xs) zero fit lt = fit.0
 fit_at shape (x ∷ xs) (suc i) fit lt = fit_at shape xs i fit.1 (omega (arith, lt))
 
-pub past_is : (n : ℕ) (items : List ℕ) → past n items ≡ n + length items
+pub past_is : (n : ℕ) (items : List ℕ) → number_past n items ≡ n + length items
 past_is n [] = omega arith
 past_is n (x ∷ items) = omega (arith, past_is (suc n) items)
 
@@ -145,10 +145,10 @@ module _ (shape : Shape) where
       row_both P bits (put_phrase shape c x) (put_phrases shape (stored_after shape c x) puts) (stored_count shape (stored_after shape c x) puts).bits
       (row_puts puts (after bits (put_phrase shape c x)) (stored_after shape c x) (row_put bits c x is))
 
-  putter_row : (list : List Event) (calls : Puts) → HasPuts shape list calls → RowIs P (left_by list) (count_of shape calls).bits
+  putter_row : (list : List Event) (calls : Puts) → HasPuts shape list calls → RowIs P (value_left list) (count_of shape calls).bits
   putter_row list calls has i =
       let puts : List Made = put_phrases shape first_count calls.puts in
-      ap (λ (l : List Event). left_by l (row_bit P i)) has.list_is ∙
+      ap (λ (l : List Event). value_left l (row_bit P i)) has.list_is ∙
       (left_by-made P (put_program shape calls) [] (row_bit P i) ∙
       row_both P first_value puts (close_phrase calls.closes) (count_of shape calls).bits
       (row_spared P (after first_value puts) (close_phrase calls.closes) (count_of shape calls).bits (close_spares calls.closes)
@@ -224,15 +224,15 @@ module _ (laws : LawsBelow) (shape : Shape) (list : List Event) (calls : Puts) (
     can_store list1 e = subst (Follows shape P) (sym (two list1 e)) (goes (Stored seen items) before (batch_phrase shape P c_of items) is refl)
 
     module _ (list1 list2 : List Event) (first : list1 ≡ list ++ events_of P (scan_phrase (row_read_by P) seen)) (second : list2 ≡ list1 ++ events_of P (words_phrase shape (count_of shape calls).number items))
-        (new : ℕ) (next : new ≡ past (count_of shape calls).number items % modulus_of shape) where
+        (new : ℕ) (next : new ≡ number_past (count_of shape calls).number items % modulus_of shape) where
       list2_is : list2 ≡ list ++ events_of P before
       list2_is = second ∙ two list1 first
 
-      row_now : RowIs P (left_by list2) c_of.bits
+      row_now : RowIs P (value_left list2) c_of.bits
       row_now i =
-          ap (λ (l : List Event). left_by l (row_bit P i)) list2_is ∙
+          ap (λ (l : List Event). value_left l (row_bit P i)) list2_is ∙
           (left_by-made P before list (row_bit P i) ∙
-          row_spared P (left_by list) before c_of.bits (spares-append (row_bit P) (scan_of seen) words (scan_spares (row_bit P) (row_read_by P) seen) (words_spare shape c_of.number items)) (putter_row shape list calls has) i)
+          row_spared P (value_left list) before c_of.bits (spares-append (row_bit P) (scan_of seen) words (scan_spares (row_bit P) (row_read_by P) seen) (words_spare shape c_of.number items)) (putter_row shape list calls has) i)
 
       count_is : unary_over P list2 new ≡ batch_phrase shape P c_of items
       count_is i = writes_in (row_bit P) (unary_phrase (λ (k : ℕ). row_now k i) (next i))

@@ -11,9 +11,9 @@ use Rattle.register_core.specs.Word.{word_write}
 use Rattle.register_core.specs.ScanState.{scan_phrase, row_read_by}
 use Rattle.ring_core.specs.declared.producers.BatchReply.{BatchReply}
 use Rattle.ring_core.specs.declared.producers.BatchReply.TheVariants as reply
-use Rattle.ring_core.specs.Counts.{Count, distance, past, LeavesRoom, LeavesRoomFor}
+use Rattle.ring_core.specs.Counts.{Count, distance, number_past, LeavesRoom, LeavesRoomFor}
 use Rattle.ring_core.specs.Puts.{Put, Puts, Stored, Full, number_after, words_phrase, IsPut, IsBatch}
-use Rattle.ring_core.specs.ProducerCalls.{count_of, room_in, and_put, reply_to, IsPutOf}
+use Rattle.ring_core.specs.ProducerCalls.{count_of, room_in, and_put, put_reply_to, IsPutOf}
 use Rattle.ring_run.specs.Below.{LawsBelow}
 use Rattle.ring_run.specs.Ring.{Ring, RingEnd}
 use Rattle.ring_run.specs.Programs.{Follows}
@@ -168,7 +168,7 @@ module _ (laws : LawsBelow) (a : RingEnd) (count cell : ℕ) (items : List ℕ) 
         at2 : b2.list ≡ b.list ++ events_of P (words_phrase a.ring.shape n_of stored)
         at2 = g2.list ∙ ((λ i. b.list ++ events_of ((g.same.side ∙ p.side_is) i) (words_phrase (same_shape a b g.same i) cell stored)) ∙ ap (λ (l : List Made). b.list ++ events_of P l) words_are)
 
-        next_is : next ≡ past n_of stored % modulus_of a.ring.shape
+        next_is : next ≡ number_past n_of stored % modulus_of a.ring.shape
         next_is =
             is ∙ (ap (λ (n : ℕ). (n + most) % modulus_of a.ring.shape) p.count_is ∙
             (mod-add-mod n_of (modulus_of a.ring.shape) most ∙ ap (λ (n : ℕ). n % modulus_of a.ring.shape) (sym (past_is n_of stored ∙ ap (λ (k : ℕ). n_of + k) long))))
@@ -243,7 +243,7 @@ has_put a b count cell items calls most p opened m = record {
   adds = subst (λ t. PutAdds t b.ring.shape calls items (reply_of most) a.list b.list) (sym opened) (put_of most m.seen items, m.is, replied most m.few, m.has);
 }
   where
-    replied : (n : ℕ) → n ≤ length items → reply_of n ≡ reply_to (put_of n m.seen items)
+    replied : (n : ℕ) → n ≤ length items → reply_of n ≡ put_reply_to (put_of n m.seen items)
     replied zero le = refl
     replied (suc n) le = ap reply.Stored (sym (length-first (suc n) items le))
 

@@ -15,7 +15,7 @@ use Rattle.ring_core.specs.declared.consumers.TakeReply.{TakeReply}
 use Rattle.ring_core.specs.declared.consumers.TakeReply.TheVariants as reply
 use Rattle.ring_core.specs.Counts.{ShowsItem}
 use Rattle.ring_core.specs.Takes.{Take, Takes, Empty, Open, taken_in, taken_after, SeesNone, IsTake}
-use Rattle.ring_core.specs.ConsumerCalls.{Once, Twice, finding_phrase, and_take, and_end, reply_to, tells, HasTakeMore}
+use Rattle.ring_core.specs.ConsumerCalls.{Once, Twice, finding_phrase, and_take, and_end, take_reply_to, ends_closed, HasTakeMore}
 use Rattle.ring_run.specs.Below.{LawsBelow}
 use Rattle.ring_run.specs.Ring.{RingEnd}
 use Rattle.ring_run.specs.Programs.{Follows}
@@ -23,7 +23,7 @@ use Rattle.ring_run.specs.Hands.{IsSameEnd, StandsAs}
 use Rattle.ring_run.specs.Ends.{HasTakes, HasTaken, TakeAdds}
 use Rattle.ring_run.specs.Meetings.{closed_reply}
 use Rattle.ring_run.specs.Counters.{GrowsBy, unary_over}
-use Rattle.ring_run.specs.CounterEnds.{TakerList, items_in, TakeMade, TakeKept, HasFound, LookMade, HasLooked}
+use Rattle.ring_run.specs.CounterEnds.{TakerList, items_brought, TakeMade, TakeKept, HasFound, LookMade, HasLooked}
 use Rattle.ring_run.proofs.Lists.{events_of-append}
 use Rattle.ring_run.proofs.CounterPutterCalls.{same_shape, same_end, stands_as}
 use Rattle.ring_run.proofs.CounterTakes.{take_of, take_of-takes, take_of-replies, take_more, whole_take, whole_end, can_scan, can_ask, can_rescan, can_read, can_count, is_take, taken_is}
@@ -32,7 +32,7 @@ use Rattle.ring_run.proofs.CounterTakes.{take_of, take_of-takes, take_of-replies
 
 -- one take more, at the ring of another end
 made_take : LawsBelow → (a b : RingEnd) (count cell : ℕ) (calls : Takes) → TakerList a count cell calls → calls.end ≡ Open → IsSameEnd a b → StandsAs C b → (x : Take) (r : TakeReply) → IsTake a.ring.shape (taken_in 0 calls.takes) x
-    → reply_to x ≡ r → closed_reply (Some r) ≡ false → taken_after (taken_in 0 calls.takes) x ≡ taken_in 0 calls.takes + items_in r → HasTakes a.ring.shape b.list (and_take calls x) → TakeMade a b calls r
+    → take_reply_to x ≡ r → closed_reply (Some r) ≡ false → taken_after (taken_in 0 calls.takes) x ≡ taken_in 0 calls.takes + items_brought r → HasTakes a.ring.shape b.list (and_take calls x) → TakeMade a b calls r
 made_take laws a b count cell calls p opened same stands x r is answered open_still number has =
     let m = take_more laws a.ring.shape a.list calls p.has opened x is in
     record {
@@ -190,7 +190,7 @@ module _ (laws : LawsBelow) (a b : RingEnd) (count cell : ℕ) (calls : Takes) (
 -- ---- whole calls
 
 pub kept_take : (a b : RingEnd) (count cell : ℕ) (calls : Takes) (r : TakeReply) → TakerList a count cell calls → (m : TakeMade a b calls r) → (next next' : ℕ)
-    → next ≡ (count + items_in r) % modulus_of a.ring.shape → next' ≡ (cell + items_in r) % capacity_of a.ring.shape → TakeKept a b next next' calls r
+    → next ≡ (count + items_brought r) % modulus_of a.ring.shape → next' ≡ (cell + items_brought r) % capacity_of a.ring.shape → TakeKept a b next next' calls r
 kept_take a b count cell calls r p m next next' is is' = record {
   made = m;
   at = record {
@@ -202,17 +202,17 @@ kept_take a b count cell calls r p m next next' is is' = record {
   };
 }
   where
-    at_size : (size : Shape → ℕ) (new old : ℕ) → new ≡ (old + items_in r) % size a.ring.shape → old ≡ taken_in 0 calls.takes % size a.ring.shape → new ≡ taken_in 0 m.more.takes % size b.ring.shape
+    at_size : (size : Shape → ℕ) (new old : ℕ) → new ≡ (old + items_brought r) % size a.ring.shape → old ≡ taken_in 0 calls.takes % size a.ring.shape → new ≡ taken_in 0 m.more.takes % size b.ring.shape
     at_size size new old e was =
-        e ∙ (ap (λ (k : ℕ). (k + items_in r) % size a.ring.shape) was ∙ (mod-add-mod (taken_in 0 calls.takes) (size a.ring.shape) (items_in r) ∙
+        e ∙ (ap (λ (k : ℕ). (k + items_brought r) % size a.ring.shape) was ∙ (mod-add-mod (taken_in 0 calls.takes) (size a.ring.shape) (items_brought r) ∙
         (λ i. sym m.number i % size (sym (same_shape a b m.same) i))))
 
 pub has_taken : (a b : RingEnd) (count cell : ℕ) (calls : Takes) (r : TakeReply) → TakerList a count cell calls → calls.end ≡ Open → TakeMade a b calls r → HasTaken b.ring.shape a.list b.list r
 has_taken a b count cell calls r p opened m = record {
   calls = calls;
   before_is = subst (λ (s : Shape). HasTakes s a.list calls) (sym (same_shape a b m.same)) p.has;
-  adds = subst (λ t. TakeAdds (tells t) b.ring.shape calls r a.list b.list) (sym opened) (m.more, m.is_more, m.replied, m.has);
+  adds = subst (λ t. TakeAdds (ends_closed t) b.ring.shape calls r a.list b.list) (sym opened) (m.more, m.is_more, m.replied, m.has);
 }
 
-pub told_take : (a : RingEnd) (calls : Takes) → HasTakes a.ring.shape a.list calls → tells calls.end ≡ true → HasTaken a.ring.shape a.list a.list reply.Closed
+pub told_take : (a : RingEnd) (calls : Takes) → HasTakes a.ring.shape a.list calls → ends_closed calls.end ≡ true → HasTaken a.ring.shape a.list a.list reply.Closed
 told_take a calls has told = record { calls = calls; before_is = has; adds = subst (λ t. TakeAdds t a.ring.shape calls reply.Closed a.list a.list) (sym told) (refl, refl) }

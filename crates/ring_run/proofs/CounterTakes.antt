@@ -17,12 +17,12 @@ use Rattle.register_core.specs.ScanState.{scan_phrase, row_read_by}
 use Rattle.ring_core.specs.declared.consumers.TakeReply.TheVariants as replies
 use Rattle.ring_core.specs.Counts.{distance, ShowsItem, bits_held, count_phrase}
 use Rattle.ring_core.specs.Takes.{Take, Item, ItemAfterClose, Empty, End, Open, Closed, Takes, taken_after, taken_in, item_phrase, take_phrase, take_phrases, end_phrase, take_program, SeesNone, IsTake}
-use Rattle.ring_core.specs.ConsumerCalls.{and_take, and_end, reply_to, Finding, Once, Twice, finding_phrase, Finds}
+use Rattle.ring_core.specs.ConsumerCalls.{and_take, and_end, take_reply_to, Finding, Once, Twice, finding_phrase, Finds}
 use Rattle.ring_core.specs.OneCallMore.{HasOneTakeMore, HasEndMore}
 use Rattle.ring_run.specs.Below.{LawsBelow}
 use Rattle.ring_run.specs.Programs.{Follows}
 use Rattle.ring_run.specs.Ends.{HasTakes}
-use Rattle.ring_run.specs.Counters.{left_by, unary_over}
+use Rattle.ring_run.specs.Counters.{value_left, unary_over}
 use Rattle.ring_run.proofs.Lists.{events_of-append}
 use Rattle.ring_run.proofs.Blocks.{after, left_by-made}
 use Rattle.ring_run.proofs.LastWrites.{Spares, spares-append, row_written, row_tells}
@@ -42,7 +42,7 @@ pub take_of-takes : (k : ℕ) (look : Finding) (item : ℕ) → taken_after k (t
 take_of-takes k (Once seen) item = refl
 take_of-takes k (Twice seen again) item = refl
 
-pub take_of-replies : (look : Finding) (item : ℕ) → reply_to (take_of look item) ≡ replies.Item item
+pub take_of-replies : (look : Finding) (item : ℕ) → take_reply_to (take_of look item) ≡ replies.Item item
 take_of-replies (Once seen) item = refl
 take_of-replies (Twice seen again) item = refl
 
@@ -90,10 +90,10 @@ module _ (shape : Shape) where
       row_both C bits (take_phrase shape k x) (take_phrases shape (taken_after k x) takes) (bits_held shape (taken_in (taken_after k x) takes))
       (row_takes takes (after bits (take_phrase shape k x)) (taken_after k x) (row_take bits k x is))
 
-  taker_row : (list : List Event) (calls : Takes) → HasTakes shape list calls → RowIs C (left_by list) (bits_held shape (taken_in 0 calls.takes))
+  taker_row : (list : List Event) (calls : Takes) → HasTakes shape list calls → RowIs C (value_left list) (bits_held shape (taken_in 0 calls.takes))
   taker_row list calls has i =
       let takes : List Made = take_phrases shape 0 calls.takes in
-      ap (λ (l : List Event). left_by l (row_bit C i)) has.list_is ∙
+      ap (λ (l : List Event). value_left l (row_bit C i)) has.list_is ∙
       (left_by-made C (take_program shape calls) [] (row_bit C i) ∙
       row_both C first_value takes (end_phrase calls.end) (bits_held shape (taken_in 0 calls.takes))
       (row_spared C (after first_value takes) (end_phrase calls.end) (bits_held shape (taken_in 0 calls.takes)) (end_spares calls.end)
@@ -192,11 +192,11 @@ module _ (laws : LawsBelow) (shape : Shape) (list : List Event) (calls : Takes) 
       abbrev made : List Made
       made = finding_phrase look ++ word
 
-      row_now : RowIs C (left_by now) (bits_held shape k_of)
+      row_now : RowIs C (value_left now) (bits_held shape k_of)
       row_now i =
-          ap (λ (l : List Event). left_by l (row_bit C i)) e ∙
+          ap (λ (l : List Event). value_left l (row_bit C i)) e ∙
           (left_by-made C made list (row_bit C i) ∙
-          row_spared C (left_by list) made (bits_held shape k_of)
+          row_spared C (value_left list) made (bits_held shape k_of)
           (spares-append (row_bit C) (finding_phrase look) word (look_spares look) (digits_spare (row_bit C) (k_of % capacity_of shape) item (width_of shape))) (taker_row shape list calls has) i)
 
       phrase_is : now ++ events_of C (unary_over C now new) ≡ list ++ events_of C (take_phrase shape k_of (take_of look item))

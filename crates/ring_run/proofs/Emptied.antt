@@ -13,7 +13,7 @@ use Rattle.bits_core.specs.Intervals.{IsWrite}
 use Rattle.bits_core.specs.Laws.{MadeIsAccess}
 use Rattle.bits_core.specs.Made.{Made, Write, events_of, own, clock, place_of, IsPlaceOf, IsBeginning}
 use Rattle.ring_core.specs.declared.consumers.TakeReply.TheVariants as reply
-use Rattle.ring_core.specs.Counts.{Count, first_count, past}
+use Rattle.ring_core.specs.Counts.{Count, first_count, number_past}
 use Rattle.ring_core.specs.Puts.{Put, Stored, Full, Puts, stored_after, put_phrase, put_phrases, close_phrase, put_program}
 use Rattle.ring_core.specs.Takes.{Take, Item, ItemAfterClose, Empty, End, Open, Takes, taken_in, taken_after, take_phrase, take_phrases, end_phrase, take_program}
 use Rattle.ring_core.specs.Items.{events_in, items_taken, all_put, all_taken}
@@ -21,7 +21,7 @@ use Rattle.ring_core.specs.CallsAt.{IsTakeAt, items_ended, puts_ended, takes_end
 use Rattle.ring_core.specs.Readings.{PutsAreFirst, TakesAreRead}
 use Rattle.ring_core.specs.RingLaw.{IsRun, InEveryRun, EmptyIsFresh}
 use Rattle.ring_core.specs.ConsumerCalls as takes
-use Rattle.ring_core.specs.ConsumerCalls.{and_take, tells, reply_at_end}
+use Rattle.ring_core.specs.ConsumerCalls.{and_take, ends_closed, reply_at_end}
 use Rattle.ring_run.specs.Rule.{Stands}
 use Rattle.ring_run.specs.Ends.{HasPuts, HasTakes, TakeAdds}
 use Rattle.ring_run.specs.Laws.{EmptyAfterMeeting, TakesAdd}
@@ -39,7 +39,7 @@ at_most : (b : Bool) (x : ℕ) (ys : List ℕ) → length ((if b then x ∷ [] e
 at_most true x ys = omega arith
 at_most false x ys = omega arith
 
-pub past_is : (n : ℕ) (items : List ℕ) → past n items ≡ n + length items
+pub past_is : (n : ℕ) (items : List ℕ) → number_past n items ≡ n + length items
 past_is n [] = omega arith
 past_is n (x ∷ items) = omega (arith, past_is (suc n) items)
 
@@ -114,12 +114,12 @@ behind s (e ∷ known) more (suc n) l =
 
 -- an own event of a side that is not among those of the known history stands behind it
 pub later_than : (s : Side) (known more h : List Event) (start place : ℕ) → known ++ more ≡ h → clock s h (suc place) ≡ suc start → length (own s known) ≤ start → length known ≤ place
-later_than s known more h start place is past long = go (dec_lt place (length known))
+later_than s known more h start place is number_past long = go (dec_lt place (length known))
   where
     go : Dec (place < length known) → length known ≤ place
     go (yes l) =
         let few : clock s (known ++ more) (suc place) ≤ length (own s known) = inside s known more (suc place) (omega (arith, l)) in
-        absurd (omega (arith, few, ap (λ l. clock s l (suc place)) is, past, long))
+        absurd (omega (arith, few, ap (λ l. clock s l (suc place)) is, number_past, long))
     go (no l) = omega (arith, l)
 
 there : (xs : List Made) (x : Made) (ys : List Made) → slice_get (xs ++ x ∷ ys) (length xs) ≡ Some x
@@ -223,7 +223,7 @@ module _ (law : InEveryRun EmptyIsFresh) (first : PutsAreFirst) (made : MadeIsAc
 
 -- ---- the law
 
-empty_of : (x : Take) → takes.reply_to x ≡ reply.Empty → (seen : ℕ) × (x ≡ Empty seen)
+empty_of : (x : Take) → takes.take_reply_to x ≡ reply.Empty → (seen : ℕ) × (x ≡ Empty seen)
 empty_of (Item seen item) e = absurd (cc)
 empty_of (ItemAfterClose seen again item) e = absurd (cc)
 empty_of (Empty seen) e = (seen, refl)
@@ -235,8 +235,8 @@ empty_adds :
 empty_adds shape before after calls true a = absurd (cc)
 empty_adds shape before after calls false (more, is_more, replied, has) = ⊎_elim
     (λ (one : (x : Take) × (more ≡ and_take calls x)).
-    let q : Some reply.Empty ≡ Some (takes.reply_to one.0) = replied ∙ ap (λ (t : Takes). reply_at_end t.end t.takes) one.1 ∙ last-snoc None calls.takes one.0 in
-    let (seen, x_is) = empty_of one.0 (let e : reply.Empty ≡ takes.reply_to one.0 = cc in sym e) in
+    let q : Some reply.Empty ≡ Some (takes.take_reply_to one.0) = replied ∙ ap (λ (t : Takes). reply_at_end t.end t.takes) one.1 ∙ last-snoc None calls.takes one.0 in
+    let (seen, x_is) = empty_of one.0 (let e : reply.Empty ≡ takes.take_reply_to one.0 = cc in sym e) in
     (seen, is_more.not_over, subst (HasTakes shape after) (one.1 ∙ ap (and_take calls) x_is) has))
     (λ told. absurd (let q : Some reply.Empty ≡ Some reply.Closed = replied ∙ ap (λ (t : Takes). reply_at_end t.end t.takes) told.2 in cc))
     is_more.is_one_more
@@ -244,8 +244,8 @@ empty_adds shape before after calls false (more, is_more, replied, has) = ⊎_el
 pub empty-after : InEveryRun EmptyIsFresh → PutsAreFirst → TakesAreRead → MadeIsAccess → EmptyAfterMeeting
 empty-after law first read made shape known before after puts calls whole was begins st taken =
     let same : taken.calls ≡ calls = read shape taken.calls calls taken.before_is.are was.are (sym taken.before_is.list_is ∙ was.list_is) in
-    let adds : TakeAdds (tells calls.end) shape calls reply.Empty before after = subst (λ (t : Takes). TakeAdds (tells t.end) shape t reply.Empty before after) same taken.adds in
-    let (seen, is_open, has) = empty_adds shape before after calls (tells calls.end) adds in (
+    let adds : TakeAdds (ends_closed calls.end) shape calls reply.Empty before after = subst (λ (t : Takes). TakeAdds (ends_closed t.end) shape t reply.Empty before after) same taken.adds in
+    let (seen, is_open, has) = empty_adds shape before after calls (ends_closed calls.end) adds in (
       items law first made shape known before after puts calls seen is_open whole was begins st has,
       open_yet law first made shape known before after puts calls seen is_open whole was begins st has,
     )
@@ -271,7 +271,7 @@ one_more shape calls more is_more =
     is_more.is_one_more
 
 pub takes-add : TakesAdd
-takes-add shape before after answer taken = go (tells taken.calls.end) taken.adds
+takes-add shape before after answer taken = go (ends_closed taken.calls.end) taken.adds
   where
     go : (told : Bool) → TakeAdds told shape taken.calls answer before after → IsBeginning before after
     go true a = ([], append-nil before ∙ sym a.1)

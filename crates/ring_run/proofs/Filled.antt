@@ -10,7 +10,7 @@ use Rattle.bits_core.specs.Made.{Made, events_of, own, clock, IsPlaceOf, IsBegin
 use Rattle.ring_core.specs.declared.producers.PutReply.TheVariants as one
 use Rattle.ring_core.specs.declared.producers.BatchReply.{BatchReply}
 use Rattle.ring_core.specs.declared.producers.BatchReply.TheVariants as reply
-use Rattle.ring_core.specs.Counts.{Count, first_count, past}
+use Rattle.ring_core.specs.Counts.{Count, first_count, number_past}
 use Rattle.ring_core.specs.Puts.{Put, Stored, Full, Puts, stored_in, stored_after, stored_count, put_phrase, put_phrases, close_phrase, put_program}
 use Rattle.ring_core.specs.Takes.{Take, Item, ItemAfterClose, Empty, Takes, take_phrase, take_phrases, end_phrase, take_program}
 use Rattle.ring_core.specs.Items.{events_in, all_put, all_taken, items_taken}
@@ -31,7 +31,7 @@ use Rattle.ring_run.proofs.Emptied.{past_is, own_append, behind, later_than}
 stored_is : (n : ℕ) (puts : List Put) → stored_in n puts ≡ n + length (all_put puts)
 stored_is n [] = omega arith
 stored_is n (Full seen ∷ puts) = stored_is n puts
-stored_is n (Stored seen items ∷ puts) = omega (arith, stored_is (past n items) puts, past_is n items, length-append items (all_put puts))
+stored_is n (Stored seen items ∷ puts) = omega (arith, stored_is (number_past n items) puts, past_is n items, length-append items (all_put puts))
 
 is_within : (a b : ℕ) → a ≤ b → nat_le a b ≡ true
 is_within a b le = grind (arith, nat_tests)
@@ -135,7 +135,7 @@ module _ (law : InEveryRun FullIsFresh) (first : TakesAreFirst)
 
 -- ---- the law
 
-full_of : (x : Put) → puts.reply_to x ≡ reply.Full → (seen : ℕ) × (x ≡ Full seen)
+full_of : (x : Put) → puts.put_reply_to x ≡ reply.Full → (seen : ℕ) × (x ≡ Full seen)
 full_of (Stored seen items) e = absurd (cc)
 full_of (Full seen) e = (seen, refl)
 

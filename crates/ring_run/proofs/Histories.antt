@@ -18,7 +18,7 @@ use Rattle.bits_core.specs.History.{before_last, open_access, open_write, held, 
 use Rattle.bits_core.specs.Lawful.{IsLawful}
 use Rattle.bits_core.specs.Steps.{MayFollow, IsAnswer}
 use Rattle.bits_core.specs.Made.{own}
-use Rattle.ring_run.specs.Words.{digit, word_shown, shown, answer_of}
+use Rattle.ring_run.specs.Words.{value_word, word_shown, shown, answer_of}
 use Rattle.ring_run.specs.Rule.{event}
 use Rattle.ring_run.specs.Below.{LawsBelow}
 
@@ -128,15 +128,15 @@ module _ (laws : LawsBelow) where
         shown-mine shape c h (event x c (WriteBegin v)) lawful (ap (same_side (writer c)) is ∙ same_side-same (writer c)) ∙
         ap (λ t. word_shown (if t then Some v else None) (unwrap_or (open_write c h) (held c h))) (same_bit-same c)
 
-    pub shown-write_end : (v : Bool) → x ≡ writer c → open_access x h ≡ Some (Write c v) → shown c (h ++ event x c WriteEnd ∷ []) ≡ digit v
+    pub shown-write_end : (v : Bool) → x ≡ writer c → open_access x h ≡ Some (Write c v) → shown c (h ++ event x c WriteEnd ∷ []) ≡ value_word v
     shown-write_end v is at =
         let by : same_side (writer c) x ≡ true = ap (same_side (writer c)) is ∙ same_side-same (writer c) in
         let writes : open_write c h ≡ Some v = open_write-of x c h (Some (Write c v)) by at ∙ ap (λ t. if t then Some v else None) (same_bit-same c) in
-        shown-mine shape c h (event x c WriteEnd) lawful by ∙ ap (λ o. digit (unwrap_or o (held c h))) writes
+        shown-mine shape c h (event x c WriteEnd) lawful by ∙ ap (λ o. value_word (unwrap_or o (held c h))) writes
 
   -- ---- the two loads of a read
 
-  answer-small : (n : ℕ) (said : Bool) (v : Bool) → n ≡ digit v → answer_of n n said ≡ v
+  answer-small : (n : ℕ) (said : Bool) (v : Bool) → n ≡ value_word v → answer_of n n said ≡ v
   answer-small n said true e = rw e refl
   answer-small n said false e = rw e refl
 
@@ -148,6 +148,6 @@ module _ (laws : LawsBelow) where
       (λ over.
       let (none, none_then, still) = laws.quiet shape h x b lawful is over in
       let v : Bool = held b (before_last x h) in
-      let value : first ≡ digit v = begin ∙ ap (λ o. word_shown o v) none_then in
-      let value' : found ≡ digit v = now ∙ ap (λ o. word_shown o (held b h)) none ∙ ap digit still in
+      let value : first ≡ value_word v = begin ∙ ap (λ o. word_shown o v) none_then in
+      let value' : found ≡ value_word v = now ∙ ap (λ o. word_shown o (held b h)) none ∙ ap value_word still in
       inr (ap (λ n. answer_of first n said) (value' ∙ sym value) ∙ answer-small first said v value))

@@ -11,7 +11,7 @@ use Rattle.ring_core.specs.Takes.{take_program, AreTakes}
 use Rattle.ring_core.specs.ProducerState.{ProducerState, call_of}
 use Rattle.ring_core.specs.ProducerCalls.{closes_with}
 use Rattle.ring_core.specs.ConsumerState.{ConsumerState, is_taking}
-use Rattle.ring_core.specs.ConsumerCalls.{reply_to, last_reply, reply_at_end, tells, IsReply}
+use Rattle.ring_core.specs.ConsumerCalls.{take_reply_to, last_take_reply, reply_at_end, ends_closed, IsReplyToTake}
 use Rattle.ring_run.specs.Ring.{RingEnd}
 use Rattle.ring_run.specs.declared.views.View.{View}
 use Rattle.ring_run.specs.Rule.{IsIdle, Stands, joint, putter_of, taker_of, list_of}
@@ -29,24 +29,24 @@ putter_idle laws e m whole i none = ap (open_access P) (putter.rest_list e m i.c
 pub taker_idle : LawsBelow → (e : RingEnd) (m : ConsumerState) (whole : List Event) → IsTaker e m whole → is_taking m ≡ false → IsIdle C e.list
 taker_idle laws e m whole i none = ap (open_access C) (taker.rest_list e m i.calls i.made i.at none) ∙ laws.made_idle C (take_program e.ring.shape i.calls)
 
-never_closed : (x : Take) → closed_reply (Some (reply_to x)) ≡ false
+never_closed : (x : Take) → closed_reply (Some (take_reply_to x)) ≡ false
 never_closed (takes.Item seen item) = refl
 never_closed (takes.ItemAfterClose seen again item) = refl
 never_closed (takes.Empty seen) = refl
 
-last_not : (first : Option TakeReply) (xs : List Take) → closed_reply first ≡ false → closed_reply (last_reply first xs) ≡ false
+last_not : (first : Option TakeReply) (xs : List Take) → closed_reply first ≡ false → closed_reply (last_take_reply first xs) ≡ false
 last_not first [] is = is
-last_not first (x ∷ xs) is = last_not (Some (reply_to x)) xs (never_closed x)
+last_not first (x ∷ xs) is = last_not (Some (take_reply_to x)) xs (never_closed x)
 
-told_at_end : (end : takes.End) (xs : List Take) → closed_reply (reply_at_end end xs) ≡ tells end
+told_at_end : (end : takes.End) (xs : List Take) → closed_reply (reply_at_end end xs) ≡ ends_closed end
 told_at_end takes.Open xs = last_not None xs refl
 told_at_end (takes.Closed seen again) xs = refl
 
-pub tells_are : (e : RingEnd) (m : ConsumerState) (whole : List Event) → (i : IsTaker e m whole) → is_taking m ≡ false → (r : Option TakeReply) → IsReply i.calls (is_taking m) r → (told : Bool) → told ≡ closed_reply r → TellsAre e.ring.shape e.list told
+pub tells_are : (e : RingEnd) (m : ConsumerState) (whole : List Event) → (i : IsTaker e m whole) → is_taking m ≡ false → (r : Option TakeReply) → IsReplyToTake i.calls (is_taking m) r → (told : Bool) → told ≡ closed_reply r → TellsAre e.ring.shape e.list told
 tells_are e m whole i none r replied told is = record {
   calls = i.calls;
   list_is = record { are = subst (λ s. AreTakes s 0 i.calls.takes i.calls.end) i.at.shape_is i.at.stands.are; list_is = taker.rest_list e m i.calls i.made i.at none };
-  told_is = is ∙ ap closed_reply (subst (λ t. IsReply i.calls t r) none replied) ∙ told_at_end i.calls.end i.calls.takes;
+  told_is = is ∙ ap closed_reply (subst (λ t. IsReplyToTake i.calls t r) none replied) ∙ told_at_end i.calls.end i.calls.takes;
 }
 
 pub closes_are : (e : RingEnd) (m : ProducerState) (whole : List Event) → (i : IsPutter e m whole) → call_of m ≡ None → (closed : Bool) → closed ≡ closes_with i.calls (call_of m) → ClosesAre e.ring.shape e.list closed

@@ -24,7 +24,7 @@ use Rattle.register_core.specs.Word.{digit, digit_writes, word_write}
 use Rattle.ring_core.specs.Counts.{Count}
 use Rattle.ring_core.specs.CountWrites.{CountsShowNumbers}
 use Rattle.ring_run.specs.Below.{LawsBelow}
-use Rattle.ring_run.specs.Counters.{left_by, unary_over, NoWriteOf, AreLast, IsLastCount, IsLastItem}
+use Rattle.ring_run.specs.Counters.{value_left, unary_over, NoWriteOf, AreLast, IsLastCount, IsLastItem}
 use Rattle.ring_run.proofs.Blocks.{wrote, after, after-append, last_append, left_by-made}
 
 -- ---- accesses that write no bit of a row
@@ -81,20 +81,20 @@ is_last_now x row made list = record { before = list; after = []; list_is = sym 
 
 -- ---- what they leave
 
-left_last : (x : Side) (row : ℕ → Bit) (made : List Event → List Made) (list : List Event) (a : AreLast x row made list) (i : ℕ) → left_by list (row i) ≡ after (left_by a.before) (made a.before) (row i)
+left_last : (x : Side) (row : ℕ → Bit) (made : List Event → List Made) (list : List Event) (a : AreLast x row made list) (i : ℕ) → value_left list (row i) ≡ after (value_left a.before) (made a.before) (row i)
 left_last x row made list a i =
     let so_far : List Event = a.before ++ events_of x (made a.before) in
-    ap (λ (l : List Event). left_by l (row i)) a.list_is ∙
+    ap (λ (l : List Event). value_left l (row i)) a.list_is ∙
     (ap (last_value (first_value (row i))) (writes_more (row i) so_far a.after ∙ (ap (λ l. writes_begun (row i) so_far ++ l) (a.none i) ∙ append-nil (writes_begun (row i) so_far))) ∙
     left_by-made x (made a.before) a.before (row i))
 
-left_first : (row : ℕ → Bit) (list : List Event) → NoWriteOf row list → (i : ℕ) → left_by list (row i) ≡ first_value (row i)
+left_first : (row : ℕ → Bit) (list : List Event) → NoWriteOf row list → (i : ℕ) → value_left list (row i) ≡ first_value (row i)
 left_first row list none i = ap (last_value (first_value (row i))) (none i)
 
 -- ---- what a bit holds while its writer has no access open
 
 abbrev Left : Bit → List Event → Type 0
-Left b h = unwrap_or (open_write b h) (held b h) ≡ left_by (own (writer b) h) b
+Left b h = unwrap_or (open_write b h) (held b h) ≡ value_left (own (writer b) h) b
 
 after_one : (o : Option Bool) (u v : Bool) → u ≡ v → unwrap_or o u ≡ last_value v (cons_option o [])
 after_one None u v e = e
@@ -105,13 +105,13 @@ module _ (laws : LawsBelow) (shape : Shape) (b : Bit) where
   one_left h e lawful is =
       let list : List Event = own (writer b) h in
       let so_far : Bool = unwrap_or (open_write b h) (held b h) in
-      let mine : unwrap_or (write_of b e) so_far ≡ left_by (list ++ e ∷ []) b =
-      after_one (write_of b e) so_far (left_by list b) is ∙
+      let mine : unwrap_or (write_of b e) so_far ≡ value_left (list ++ e ∷ []) b =
+      after_one (write_of b e) so_far (value_left list b) is ∙
       sym (ap (last_value (first_value b)) (writes_more b list (e ∷ [])) ∙ last_append (first_value b) (writes_begun b list) (writes_begun b (e ∷ []))) in
       (λ i. unwrap_or (laws.write_changes b h e i) (laws.held_changes shape b h e lawful i)) ∙
       (elim (is_by (writer b) e) as (λ t.
-      unwrap_or (if t then write_of b e else open_write b h) (if t then so_far else held b h) ≡ left_by (if t then list ++ e ∷ [] else list) b) [ true ↦ mine | false ↦ is ] ∙
-      ap (λ (l : List Event). left_by l b) (sym (laws.own_changes (writer b) h e)))
+      unwrap_or (if t then write_of b e else open_write b h) (if t then so_far else held b h) ≡ value_left (if t then list ++ e ∷ [] else list) b) [ true ↦ mine | false ↦ is ] ∙
+      ap (λ (l : List Event). value_left l b) (sym (laws.own_changes (writer b) h e)))
 
   all_left : (ys xs : List Event) → IsLawful shape (xs ++ ys) → Left b xs → Left b (xs ++ ys)
   all_left [] xs lawful is = subst (Left b) (sym (append-nil xs)) is
@@ -119,7 +119,7 @@ module _ (laws : LawsBelow) (shape : Shape) (b : Bit) where
       let same : (xs ++ e ∷ []) ++ ys ≡ xs ++ e ∷ ys = append_assoc xs (e ∷ []) ys in
       subst (Left b) same (all_left ys (xs ++ e ∷ []) (subst (IsLawful shape) (sym same) lawful) (one_left xs e (laws.beginning shape xs (e ∷ ys) lawful) is))
 
-  pub held_left : (h : List Event) → IsLawful shape h → open_access (writer b) h ≡ None → held b h ≡ left_by (own (writer b) h) b
+  pub held_left : (h : List Event) → IsLawful shape h → open_access (writer b) h ≡ None → held b h ≡ value_left (own (writer b) h) b
   held_left h lawful idle = sym (ap (λ o. unwrap_or (value_written b o) (held b h)) idle) ∙ all_left h [] lawful refl
 
 -- ---- the bits of a row after writes to it
@@ -158,14 +158,14 @@ first_lowest C = record { set = refl; clear = λ i lt. absurd (omega (arith, lt)
 lowest_same : (f g : ℕ → Bool) (c : ℕ) → ((i : ℕ) → g i ≡ f i) → Lowest f c → Lowest g c
 lowest_same f g c same is = record { set = same c ∙ is.set; clear = λ i lt. same i ∙ is.clear i lt }
 
-pub count_shows : CountsShowNumbers → (shape : Shape) (x : Side) (list : List Event) (c : ℕ) → c < modulus_of shape → IsLastCount x list c → Lowest (λ i. left_by list (row_bit x i)) c
+pub count_shows : CountsShowNumbers → (shape : Shape) (x : Side) (list : List Event) (c : ℕ) → c < modulus_of shape → IsLastCount x list c → Lowest (λ i. value_left list (row_bit x i)) c
 count_shows numbers shape x list c lt (inl a) =
-    let old : ℕ → Bool = λ i. left_by a.before (row_bit x i) in
-    lowest_same (bits_after old (unary_phrase old c)) (λ i. left_by list (row_bit x i)) c
-    (λ i. left_last x (row_bit x) (λ before. unary_over x before c) list a i ∙ row_written (row_bit x) (row_tells x) (unary_phrase old c) (left_by a.before) old (λ k. refl) i)
+    let old : ℕ → Bool = λ i. value_left a.before (row_bit x i) in
+    lowest_same (bits_after old (unary_phrase old c)) (λ i. value_left list (row_bit x i)) c
+    (λ i. left_last x (row_bit x) (λ before. unary_over x before c) list a i ∙ row_written (row_bit x) (row_tells x) (unary_phrase old c) (value_left a.before) old (λ k. refl) i)
     (unary_lowest numbers shape old c lt)
-count_shows numbers shape x list c lt (inr t) = subst (Lowest (λ i. left_by list (row_bit x i))) (sym t.1)
-    (lowest_same (λ i. first_value (row_bit x i)) (λ i. left_by list (row_bit x i)) 0 (left_first (row_bit x) list t.0) (first_lowest x))
+count_shows numbers shape x list c lt (inr t) = subst (Lowest (λ i. value_left list (row_bit x i))) (sym t.1)
+    (lowest_same (λ i. first_value (row_bit x i)) (λ i. value_left list (row_bit x i)) 0 (left_first (row_bit x) list t.0) (first_lowest x))
 
 -- ---- a cell shows the item last written to it
 
@@ -193,6 +193,6 @@ word_written j item (suc n) bits i lt =
 zero_digit : (i : ℕ) → digit i 0 ≡ false
 zero_digit i = ap (λ (n : ℕ). n == 1) (bit_at-zero i)
 
-pub item_shows : (width j : ℕ) (list : List Event) (item : ℕ) → IsLastItem width j list item → (i : ℕ) → i < width → left_by list (Cell j i) ≡ digit i item
-item_shows width j list item (inl a) i lt = left_last P (Cell j) (λ before. word_write width j item) list a i ∙ word_written j item width (left_by a.before) i lt
+pub item_shows : (width j : ℕ) (list : List Event) (item : ℕ) → IsLastItem width j list item → (i : ℕ) → i < width → value_left list (Cell j i) ≡ digit i item
+item_shows width j list item (inl a) i lt = left_last P (Cell j) (λ before. word_write width j item) list a i ∙ word_written j item width (value_left a.before) i lt
 item_shows width j list item (inr t) i lt = left_first (Cell j) list t.0 i ∙ (sym (zero_digit i) ∙ ap (digit i) (sym t.1))

@@ -15,7 +15,7 @@ use Rattle.bits_core.specs.Lawful.{IsLawful}
 use Rattle.bits_core.specs.Made.{Made, Read, Write, answered, begin_event, end_event, events_of, own, IsBeginning}
 use Rattle.register_core.specs.ScanState.{zero_reads, row_read_by}
 use Rattle.ring_core.specs.Calls.{EndsInZeros}
-use Rattle.ring_run.specs.Programs.{Follows, begin_of, end_of}
+use Rattle.ring_run.specs.Programs.{Follows, begin_of, ending_event}
 use Rattle.ring_run.specs.Below.{LawsBelow}
 use Rattle.ring_run.proofs.Histories.{same_side-same, open-mine}
 
@@ -35,11 +35,11 @@ begin_same s (access.Read b) v = refl
 begin_same s (access.Write b w) v = refl
 
 -- the events of one access more
-pub events_more : (s : Side) (made : List Made) (a : Access) (v : Bool) → events_of s (made ++ answered a v ∷ []) ≡ (events_of s made ++ begin_of s a ∷ []) ++ end_of s a v ∷ []
+pub events_more : (s : Side) (made : List Made) (a : Access) (v : Bool) → events_of s (made ++ answered a v ∷ []) ≡ (events_of s made ++ begin_of s a ∷ []) ++ ending_event s a v ∷ []
 events_more s made a v =
     events_of-append s made (answered a v ∷ []) ∙
-    (λ i. events_of s made ++ begin_same s a v i ∷ end_of s a v ∷ []) ∙
-    sym (append_assoc (events_of s made) (begin_of s a ∷ []) (end_of s a v ∷ []))
+    (λ i. events_of s made ++ begin_same s a v i ∷ ending_event s a v ∷ []) ∙
+    sym (append_assoc (events_of s made) (begin_of s a ∷ []) (ending_event s a v ∷ []))
 
 -- a beginning of a beginning
 pub shorter : (xs : List Event) (e : Event) (ys : List Event) → IsBeginning (xs ++ e ∷ []) ys → IsBeginning xs ys

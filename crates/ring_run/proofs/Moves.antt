@@ -24,9 +24,9 @@ use Rattle.bits_core.specs.Made.{own, IsBeginning}
 use Rattle.ring_core.specs.Takes.{Takes, FollowsTakes}
 use Rattle.ring_run.specs.declared.views.View.{View}
 use Rattle.ring_run.specs.declared.layout.TheConstants.{FIRST_S}
-use Rattle.ring_run.specs.Words.{digit, shown, answer_of, first_r, word_place, word_count, first_words, Shows}
+use Rattle.ring_run.specs.Words.{value_word, shown, answer_of, first_r, word_place, word_count, first_words, Shows}
 use Rattle.ring_run.specs.Programs.{Follows, IsRing, GoesOn}
-use Rattle.ring_run.specs.Rule.{event, joint, spent, putter_of, taker_of, joined, may_step, list_of, kept_load, and_event, IsIdle, FirstLoad, Fits, FitsAll, HasSeats, KeptBy, Kept, IsFound, Added, Learned}
+use Rattle.ring_run.specs.Rule.{event, joint, spent, putter_of, taker_of, joined, may_step, list_of, kept_load, and_event, IsIdle, FirstLoad, Fits, FitsAll, HasSeats, KeptBy, KeepsFlickerRule, IsWordFound, Added, Learned}
 use Rattle.ring_run.specs.Below.{LawsBelow}
 use Rattle.ring_run.proofs.Places.{one_or_apart, place_below, shows_first}
 use Rattle.ring_run.proofs.Histories.{same_side-same, either_side, before_last-mine, before_last-theirs, own-mine, own-theirs, open-mine, open-theirs, shown-read_begin, shown-read_end, shown-apart, shown-write_begin, shown-write_end, permitted}
@@ -167,7 +167,7 @@ module _ (laws : LawsBelow) (shape : Shape) where
   pub moves : (x : Side) (b : Bit) (act : ℕ → Act) (f got : ℕ → ℕ) (slots id : ℕ) (me : Me (Unit {0}) View)
       → may_step x me.0 ≡ true → may_step (other x) me.0 ≡ false → belongs shape b ≡ true
       → ((h : List Event) (n : ℕ) → IsRing shape h → list_of x me.0 ≡ own x h → FirstLoad x h me.0.first → n ≡ shown b h → IsGood shape x b (list_of x me.0) h (f n) (got n) (act (got n)))
-      → Allows (Kept shape) slots id me (word_place shape b) f (λ n m'. Added shape (λ k. event x b (act k)) me (got n) m')
+      → Allows (KeepsFlickerRule shape) slots id me (word_place shape b) f (λ n m'. Added shape (λ k. event x b (act k)) me (got n) m')
   moves x b act f got slots id me mine not_theirs has good s k homes at small =
       let h : List Event = k.history in
       let n : ℕ = slice_index s.words (word_place shape b) in
@@ -212,7 +212,7 @@ module _ (laws : LawsBelow) (shape : Shape) where
 
   module _ (x : Side) (b : Bit) (slots id : ℕ) (me : Me (Unit {0}) View) (mine : may_step x me.0 ≡ true) (not_theirs : may_step (other x) me.0 ≡ false) (has : belongs shape b ≡ true) where
     pub begins_read : x ≡ reader b → IsIdle x (list_of x me.0) → Follows shape x (list_of x me.0 ++ event x b ReadBegin ∷ [])
-        → Allows (Kept shape) slots id me (word_place shape b) (λ n. n) (Added shape (λ k. event x b ReadBegin) me)
+        → Allows (KeepsFlickerRule shape) slots id me (word_place shape b) (λ n. n) (Added shape (λ k. event x b ReadBegin) me)
     begins_read r idle follow = moves x b (λ _. ReadBegin) (λ n. n) (λ n. n) slots id me mine not_theirs has
         (λ h n ring list load is.
         let may : MayFollow shape h (event x b ReadBegin) = record { right_side = record { in_shape = has; by_doer = r }; in_turn = open_there x None (list_of x me.0) h list idle; permitted = tt } in
@@ -224,7 +224,7 @@ module _ (laws : LawsBelow) (shape : Shape) where
         })
 
     pub ends_read : x ≡ reader b → open_access x (list_of x me.0) ≡ Some (Read b) → GoesOn shape x (Read b) (list_of x me.0) → (said : Bool)
-        → Allows (Kept shape) slots id me (word_place shape b) (λ n. n) (Added shape (λ k. event x b (ReadEnd (answer_of me.0.first k said))) me)
+        → Allows (KeepsFlickerRule shape) slots id me (word_place shape b) (λ n. n) (Added shape (λ k. event x b (ReadEnd (answer_of me.0.first k said))) me)
     ends_read r at goes said = moves x b (λ k. ReadEnd (answer_of me.0.first k said)) (λ n. n) (λ n. n) slots id me mine not_theirs has
         (λ h n ring list load is.
         let a : Bool = answer_of me.0.first n said in
@@ -242,7 +242,7 @@ module _ (laws : LawsBelow) (shape : Shape) where
         })
 
     pub begins_write : x ≡ writer b → IsIdle x (list_of x me.0) → (v : Bool) → Follows shape x (list_of x me.0 ++ event x b (WriteBegin v) ∷ [])
-        → Allows (Kept shape) slots id me (word_place shape b) (λ _. 2) (λ _. Added shape (λ k. event x b (WriteBegin v)) me 2)
+        → Allows (KeepsFlickerRule shape) slots id me (word_place shape b) (λ _. 2) (λ _. Added shape (λ k. event x b (WriteBegin v)) me 2)
     begins_write w idle v follow = moves x b (λ _. WriteBegin v) (λ _. 2) (λ _. 2) slots id me mine not_theirs has
         (λ h n ring list load is.
         let may : MayFollow shape h (event x b (WriteBegin v)) = record { right_side = record { in_shape = has; by_doer = w }; in_turn = open_there x None (list_of x me.0) h list idle; permitted = tt } in
@@ -254,8 +254,8 @@ module _ (laws : LawsBelow) (shape : Shape) where
         })
 
     pub ends_write : x ≡ writer b → (v : Bool) → open_access x (list_of x me.0) ≡ Some (Write b v) → GoesOn shape x (Write b v) (list_of x me.0)
-        → Allows (Kept shape) slots id me (word_place shape b) (λ _. digit v) (λ _. Added shape (λ k. event x b WriteEnd) me (digit v))
-    ends_write w v at goes = moves x b (λ _. WriteEnd) (λ _. digit v) (λ _. digit v) slots id me mine not_theirs has
+        → Allows (KeepsFlickerRule shape) slots id me (word_place shape b) (λ _. value_word v) (λ _. Added shape (λ k. event x b WriteEnd) me (value_word v))
+    ends_write w v at goes = moves x b (λ _. WriteEnd) (λ _. value_word v) (λ _. value_word v) slots id me mine not_theirs has
         (λ h n ring list load is.
         let at_work : open_access x h ≡ Some (Write b v) = open_there x (Some (Write b v)) (list_of x me.0) h list at in
         let may : MayFollow shape h (event x b WriteEnd) = record { right_side = record { in_shape = has; by_doer = w }; in_turn = (v, at_work); permitted = tt } in
@@ -471,7 +471,7 @@ pub first_each : HasSeats (λ _. 0) (joint [] [] [] [] ∷ [])
 first_each P = (joint [] [] [] [], refl, refl)
 first_each C = (joint [] [] [] [], refl, refl)
 
-pub opens : LawsBelow → (shape : Shape) → Kept shape (opening (first_words shape) [] (joint [] [] [] []))
+pub opens : LawsBelow → (shape : Shape) → KeepsFlickerRule shape (opening (first_words shape) [] (joint [] [] [] []))
 opens laws shape = record {
   history = [];
   known = [];
@@ -491,7 +491,7 @@ never_steps P u same may = true≢false (sym may ∙ ap (λ (w : View). w.puts) 
 never_steps C u same may = true≢false (sym may ∙ ap (λ (w : View). w.takes) (sym same))
 
 -- it finds the word of a state that keeps the rule
-pub finds : (count : Shape → ℕ) (IsShown : Shape → List ℕ → List Event → Type 0) (shape : Shape) (slots place : ℕ) → Enters (KeptBy count IsShown shape) slots place (λ n _. IsFound (KeptBy count IsShown shape) place n)
+pub finds : (count : Shape → ℕ) (IsShown : Shape → List ℕ → List Event → Type 0) (shape : Shape) (slots place : ℕ) → Enters (KeptBy count IsShown shape) slots place (λ n _. IsWordFound (KeptBy count IsShown shape) place n)
 finds count IsShown shape slots place s k homes small = (
   spent,
   record {

@@ -11,7 +11,7 @@ use Rattle.bits_core.specs.declared.shapes.Shape.{Shape}
 use Rattle.bits_core.specs.Shape.{belongs, capacity_of, modulus_of, width_of}
 use Rattle.bits_core.specs.Bits.{same_bit}
 use Rattle.ring_run.specs.declared.layout.TheConstants.{FIRST_S}
-use Rattle.ring_run.specs.Words.{word_place, word_count, cell_words, first_r, first_words, Shows, shown, digit}
+use Rattle.ring_run.specs.Words.{word_place, word_count, cell_words, first_r, first_words, Shows, shown, value_word}
 
 below : (a b : ℕ) → nat_lt a b ≡ true → a < b
 below a b e = grind (arith, nat_tests)
@@ -108,12 +108,12 @@ shows_first shape b has = go b has
     untouched : (j : ℕ) → j < count → j ≢ FIRST_S → j ≢ r → get_or (set ones r 1) j 0 ≡ 0
     untouched j lt a c = get_or-set_other ones r j 1 0 c ∙ (get_or-set_other zeros FIRST_S j 1 0 a ∙ get_or-replicate count j 0 0 lt)
 
-    s_word : (i : ℕ) → i < m → (t : Bool) → (i == 0) ≡ t → get_or (set ones r 1) (FIRST_S + i) 0 ≡ digit t
+    s_word : (i : ℕ) → i < m → (t : Bool) → (i == 0) ≡ t → get_or (set ones r 1) (FIRST_S + i) 0 ≡ value_word t
     s_word i lt true e = let z : i ≡ 0 = eqb-true i 0 e in
         get_or-set_other ones r (FIRST_S + i) 1 0 (λ same. omega arith) ∙ get_or-set_at zeros FIRST_S (FIRST_S + i) 1 0 (omega arith) (subst (λ (k : ℕ). FIRST_S < k) (sym (length-replicate count 0)) (omega arith))
     s_word i lt false e = let z : i ≢ 0 = λ is. true≢false (sym (eq-eqb i 0 is) ∙ e) in untouched (FIRST_S + i) (omega arith) (λ same. z (omega arith)) (λ same. omega arith)
 
-    r_word : (i : ℕ) → i < m → (t : Bool) → (i == 0) ≡ t → get_or (set ones r 1) (r + i) 0 ≡ digit t
+    r_word : (i : ℕ) → i < m → (t : Bool) → (i == 0) ≡ t → get_or (set ones r 1) (r + i) 0 ≡ value_word t
     r_word i lt true e = let z : i ≡ 0 = eqb-true i 0 e in
         get_or-set_at ones r (r + i) 1 0 (omega arith) (subst (λ (k : ℕ). r < k) (sym (length-set zeros FIRST_S 1 ∙ length-replicate count 0)) (omega arith))
     r_word i lt false e = let z : i ≢ 0 = λ is. true≢false (sym (eq-eqb i 0 is) ∙ e) in untouched (r + i) (omega arith) (λ same. omega arith) (λ same. z (omega arith))

@@ -17,19 +17,19 @@ use Rattle.ring_core.specs.declared.producers.BatchReply as replies
 use Rattle.ring_core.specs.declared.producers.BatchReply.TheVariants as reply
 use Rattle.ring_core.specs.Puts.{IsBatch, Put, Puts, put_program}
 use Rattle.ring_core.specs.ProducerState as producer
-use Rattle.ring_core.specs.ProducerState.{ProducerState, Call, Close, due_put, call_of, call_at, due_at}
-use Rattle.ring_core.specs.ProducerCalls.{ProducerStands, longest_of, MadeAt, HasCallMore, IsAfter, IsReply, longest, reply_to, last_reply, and_put}
+use Rattle.ring_core.specs.ProducerState.{ProducerState, Call, Close, due_put, call_of, call_at, producer_due_at}
+use Rattle.ring_core.specs.ProducerCalls.{ProducerStands, longest_of, ProducerMadeAt, HasCallMore, IsAfterCall, IsReplyToCall, longest, put_reply_to, last_put_reply, and_put}
 use Rattle.ring_run.specs.Ring.{RingEnd}
 use Rattle.ring_run.specs.Hands.{Grows, IsSameEnd}
 use Rattle.ring_run.specs.Ends.{HasPuts, HasPut, HasPutAll, HasPutPart, HasClosed, PutAdds, CloseAdds, PutterState, whole_put, puts_whole}
-use Rattle.ring_run.specs.Machines.{ListIs, IsMarked, PutterAt, PutterStep, IsPutter, CallBegins, IsRefused, before_last, longest_at}
+use Rattle.ring_run.specs.Machines.{ListIs, IsMarked, PutterAt, PutterStep, IsPutter, CallBegins, IsRefusedAtOnce, without_last, longest_at}
 use Rattle.ring_run.proofs.PutterMoves.{call_are}
 
 -- ---- at rest
 
 rest_at :
-    (s : Stage) (m : ProducerState) (calls : Puts) (items : List ℕ) (made : List Made) → call_at s items ≡ None → MadeAt s m calls made →
-    (made ≡ put_program m.shape calls) × (due_at s m ≡ None)
+    (s : Stage) (m : ProducerState) (calls : Puts) (items : List ℕ) (made : List Made) → call_at s items ≡ None → ProducerMadeAt s m calls made →
+    (made ≡ put_program m.shape calls) × (producer_due_at s m ≡ None)
 rest_at Idle m calls items made is at = (at.1, refl)
 rest_at Scanning m calls items made is at = absurd (cc)
 rest_at Storing m calls items made is at = absurd (cc)
@@ -55,18 +55,18 @@ rest_list e m calls made at none =
 -- ---- how many events of a call there are
 
 -- the list without its last events, and how many it has
-pub before_more : (n : ℕ) (list : List Event) (x : Event) → n ≤ length list → before_last (n + 1) (list ++ x ∷ []) ≡ before_last n list
+pub before_more : (n : ℕ) (list : List Event) (x : Event) → n ≤ length list → without_last (n + 1) (list ++ x ∷ []) ≡ without_last n list
 before_more n list x few =
     let size : length (list ++ x ∷ []) - (n + 1) ≡ length list - n = omega (arith, length-append list (x ∷ []), few) in
     ap (λ (k : ℕ). take k (list ++ x ∷ [])) size ∙ take-append-le (length list - n) list (x ∷ []) (omega arith)
 
-pub before_none : (n : ℕ) (list : List Event) → n ≡ 0 → list ≡ before_last n list
+pub before_none : (n : ℕ) (list : List Event) → n ≡ 0 → list ≡ without_last n list
 before_none n list none = sym (take_all (length list - n) list (omega (arith, none)))
 
-pub before_size : (n : ℕ) (list : List Event) → n ≤ length list → length (before_last n list) + n ≡ length list
+pub before_size : (n : ℕ) (list : List Event) → n ≤ length list → length (without_last n list) + n ≡ length list
 before_size n list few = omega (arith, length-take-le (length list - n) list (omega arith), few)
 
-pub whole_marked : (o : Option Call) (shape : Shape) (n : ℕ) (list : List Event) → IsMarked n list (longest_at shape o) → before_last n list ≡ whole_put o list (before_last n list)
+pub whole_marked : (o : Option Call) (shape : Shape) (n : ℕ) (list : List Event) → IsMarked n list (longest_at shape o) → without_last n list ≡ whole_put o list (without_last n list)
 whole_marked (Some c) shape n list marked = refl
 whole_marked None shape n list marked = sym (before_none n list (omega (arith, marked.1)))
 
@@ -93,7 +93,7 @@ rest_marked l l' shape shape' n o o' none marked =
 -- ---- what a step call comes to
 
 pub data Outcome (e : RingEnd) (e' : RingEnd) (m' : ProducerState) (calls : Puts) (c : Call) : Type 0 where
-  Refused : e' ≡ e → call_of m' ≡ None → calls.closes ≡ true → IsRefused c m'.reply → e'.list ≡ events_of P (put_program e'.ring.shape calls) → Outcome e e' m' calls c
+  Refused : e' ≡ e → call_of m' ≡ None → calls.closes ≡ true → IsRefusedAtOnce c m'.reply → e'.list ≡ events_of P (put_program e'.ring.shape calls) → Outcome e e' m' calls c
   Goes : (event : Event) → Grows e e' event → call_of m' ≡ Some c → HasPutPart e'.ring.shape c (events_of P (put_program e'.ring.shape calls)) e'.list → (more : Puts) (made : List Made) → ProducerStands m' more made → Outcome e e' m' calls c
   Over : (event : Event) → Grows e e' event → call_of m' ≡ None → (more : Puts) → HasCallMore e'.ring.shape c calls more → HasPuts e'.ring.shape e'.list more → (made : List Made) → ProducerStands m' more made → Outcome e e' m' calls c
 
@@ -107,11 +107,11 @@ module _ (e : RingEnd) (m : ProducerState) (calls : Puts) (made : List Made) (at
 
   after_step : (s : PutterStep e m1 e' m' calls) → call_of m1 ≡ Some c → (o : Option Call) → call_of m' ≡ o → Outcome e e' m' calls c
   after_step s is (Some d) is' =
-      let a : IsAfter m1.shape (Some c) (Some d) calls s.more m'.reply = subst (λ (z : Option Call × Option Call). IsAfter m1.shape z.0 z.1 calls s.more m'.reply) (λ i. (is i, is' i)) s.after in
+      let a : IsAfterCall m1.shape (Some c) (Some d) calls s.more m'.reply = subst (λ (z : Option Call × Option Call). IsAfterCall m1.shape z.0 z.1 calls s.more m'.reply) (λ i. (is i, is' i)) s.after in
       let same : call_of m' ≡ Some c = is' ∙ ap (λ (x : Call). Some x) a.0 in
       Goes s.event s.grows same (subst (λ (z : Shape). HasPutPart e'.ring.shape c (events_of P (put_program z calls)) e'.list) (step_shape s) (s.part c same)) s.more s.made s.at.stands
   after_step s is None is' =
-      let a : IsAfter m1.shape (Some c) None calls s.more m'.reply = subst (λ (z : Option Call × Option Call). IsAfter m1.shape z.0 z.1 calls s.more m'.reply) (λ i. (is i, is' i)) s.after in
+      let a : IsAfterCall m1.shape (Some c) None calls s.more m'.reply = subst (λ (z : Option Call × Option Call). IsAfterCall m1.shape z.0 z.1 calls s.more m'.reply) (λ i. (is i, is' i)) s.after in
       let more_is : HasCallMore e'.ring.shape c calls s.more = subst (λ (z : Shape). HasCallMore z c calls s.more) (step_shape s) a.0 in
       Over s.event s.grows is' s.more more_is (record { are = call_are e'.ring.shape c calls s.more more_is; list_is = rest_list e' m' s.more s.made s.at is' }) s.made s.at.stands
 
@@ -125,12 +125,12 @@ module _ (e : RingEnd) (m : ProducerState) (calls : Puts) (made : List Made) (at
       let r = rests gone.0 in
       let none : call_of m' ≡ None = ap call_of r.0 ∙ gone.0 in
       let there : PutterAt e' m' calls made = subst (λ (z : RingEnd × ProducerState). PutterAt z.0 z.1 calls made) (λ i. (sym r.1 i, sym r.0 i)) at_one in
-      Refused r.1 none gone.3 (subst (λ (x : ProducerState). IsRefused c x.reply) (sym r.0) gone.4) (rest_list e' m' calls made there none))
+      Refused r.1 none gone.3 (subst (λ (x : ProducerState). IsRefusedAtOnce c x.reply) (sym r.0) gone.4) (rest_list e' m' calls made there none))
       begins.2
 
   still : call_of m1 ≡ Some c → (o : Option Call) → call_of m' ≡ o → (s : PutterStep e m1 e' m' calls) → (whole : List Event) → whole ≡ events_of P (put_program e.ring.shape calls) → IsPutter e' m' (whole_put o e'.list whole)
   still is (Some d) is' s whole w =
-      let a : IsAfter m1.shape (Some c) (Some d) calls s.more m'.reply = subst (λ (z : Option Call × Option Call). IsAfter m1.shape z.0 z.1 calls s.more m'.reply) (λ i. (is i, is' i)) s.after in
+      let a : IsAfterCall m1.shape (Some c) (Some d) calls s.more m'.reply = subst (λ (z : Option Call × Option Call). IsAfterCall m1.shape z.0 z.1 calls s.more m'.reply) (λ i. (is i, is' i)) s.after in
       record { calls = s.more; made = s.made; at = s.at; whole_is = w ∙ (λ i. events_of P (put_program (ap (λ (r : Rattle.ring_run.specs.Ring.Ring). r.shape) (sym s.grows.same.ring) i) (sym a.1 i))) }
   still is None is' s whole w = record { calls = s.more; made = s.made; at = s.at; whole_is = rest_list e' m' s.more s.made s.at is' }
 
@@ -164,18 +164,18 @@ same_end e e' m' calls c (Refused same none closes refused list) = record { ring
 same_end e e' m' calls c (Goes event grows is part more made stands) = grows.same
 same_end e e' m' calls c (Over event grows none more is_more has made stands) = grows.same
 
-last-snoc : (first : Option replies.BatchReply) (puts : List Put) (x : Put) → last_reply first (puts ++ x ∷ []) ≡ Some (reply_to x)
+last-snoc : (first : Option replies.BatchReply) (puts : List Put) (x : Put) → last_put_reply first (puts ++ x ∷ []) ≡ Some (put_reply_to x)
 last-snoc first [] x = refl
-last-snoc first (y ∷ puts) x = last-snoc (Some (reply_to y)) puts x
+last-snoc first (y ∷ puts) x = last-snoc (Some (put_reply_to y)) puts x
 
 -- the reply of a put that is over
-pub over_reply : (shape : Shape) (items : List ℕ) (calls more : Puts) (r : Option replies.BatchReply) → (is_more : HasCallMore shape (producer.Put items) calls more) → IsReply more None r → r ≡ Some (reply_to is_more.0)
+pub over_reply : (shape : Shape) (items : List ℕ) (calls more : Puts) (r : Option replies.BatchReply) → (is_more : HasCallMore shape (producer.Put items) calls more) → IsReplyToCall more None r → r ≡ Some (put_reply_to is_more.0)
 over_reply shape items calls more r is_more reply_is =
-    let has : IsReply (and_put calls is_more.0) None r = subst (λ (z : Puts). IsReply z None r) is_more.2 reply_is in
+    let has : IsReplyToCall (and_put calls is_more.0) None r = subst (λ (z : Puts). IsReplyToCall z None r) is_more.2 reply_is in
     has ∙ last-snoc None calls.puts is_more.0
 
 module _ (e e' : RingEnd) (m' : ProducerState) (calls : Puts) (items : List ℕ) (whole : List Event) (w : whole ≡ events_of P (put_program e'.ring.shape calls)) (before : Rattle.ring_core.specs.Puts.ArePuts e'.ring.shape 0 calls.puts)
-    (r : Option replies.BatchReply) (r_is : r ≡ m'.reply) (replied : (more : Puts) (made : List Made) → ProducerStands m' more made → IsReply more (call_of m') r) where
+    (r : Option replies.BatchReply) (r_is : r ≡ m'.reply) (replied : (more : Puts) (made : List Made) → ProducerStands m' more made → IsReplyToCall more (call_of m') r) where
   before_is : HasPuts e'.ring.shape whole calls
   before_is = record { are = before; list_is = w }
 
@@ -194,14 +194,14 @@ module _ (e e' : RingEnd) (m' : ProducerState) (calls : Puts) (items : List ℕ)
       let stays : whole_put (call_of m') e'.list whole ≡ whole = ap (λ (x : Option Call). whole_put x e'.list whole) same in
       (same, stays, subst (λ (l : List Event). HasPutPart e'.ring.shape (producer.Put items) l e'.list) (sym w ∙ sym stays) part)
   none_clause None is (Over event grows none more is_more has made stands) =
-      absurd (none-some (reply_to is_more.0) (sym is ∙ over_reply e'.ring.shape items calls more r is_more (subst (λ (x : Option Call). IsReply more x r) none (replied more made stands))))
+      absurd (none-some (put_reply_to is_more.0) (sym is ∙ over_reply e'.ring.shape items calls more r is_more (subst (λ (x : Option Call). IsReplyToCall more x r) none (replied more made stands))))
 
   pub none_put : PutOf → IfNone r ((call_of m' ≡ Some (producer.Put items)) × (whole_put (call_of m') e'.list whole ≡ whole) × HasPutPart e'.ring.shape (producer.Put items) (whole_put (call_of m') e'.list whole) e'.list)
   none_put o = none_clause r refl o
 
-  pub over_adds : (more : Puts) (is_more : HasCallMore e'.ring.shape (producer.Put items) calls more) → HasPuts e'.ring.shape e'.list more → (x : replies.BatchReply) → r ≡ Some x → IsReply more None r → PutAdds calls.closes e'.ring.shape calls items x whole e'.list
+  pub over_adds : (more : Puts) (is_more : HasCallMore e'.ring.shape (producer.Put items) calls more) → HasPuts e'.ring.shape e'.list more → (x : replies.BatchReply) → r ≡ Some x → IsReplyToCall more None r → PutAdds calls.closes e'.ring.shape calls items x whole e'.list
   over_adds more is_more has x is replies_so =
-      let answer : Some x ≡ Some (reply_to is_more.0) = sym is ∙ over_reply e'.ring.shape items calls more r is_more replies_so in
+      let answer : Some x ≡ Some (put_reply_to is_more.0) = sym is ∙ over_reply e'.ring.shape items calls more r is_more replies_so in
       subst (λ (t : Bool). PutAdds t e'.ring.shape calls items x whole e'.list) (sym is_more.4)
       (is_more.0, is_more.1, cc, subst (HasPuts e'.ring.shape e'.list) is_more.2 has)
 
@@ -210,10 +210,10 @@ module _ (e e' : RingEnd) (m' : ProducerState) (calls : Puts) (items : List ℕ)
   some_clause (Some x) is (Refused same none closes refused list) =
       (none, record { calls = calls; before_is = before_is; adds = subst (λ (t : Bool). PutAdds t e'.ring.shape calls items x whole e'.list) (sym closes) (let q : Some x ≡ Some reply.Closed = sym is ∙ (r_is ∙ refused) in (cc, list ∙ sym w)) })
   some_clause (Some x) is (Goes event grows same part more made stands) =
-      let r_none : IsReply more (Some (producer.Put items)) r = subst (λ (z : Option Call). IsReply more z r) same (replied more made stands) in
+      let r_none : IsReplyToCall more (Some (producer.Put items)) r = subst (λ (z : Option Call). IsReplyToCall more z r) same (replied more made stands) in
       absurd (none-some x (sym r_none ∙ is))
   some_clause (Some x) is (Over event grows none more is_more has made stands) =
-      (none, record { calls = calls; before_is = before_is; adds = over_adds more is_more has x is (subst (λ (z : Option Call). IsReply more z r) none (replied more made stands)) })
+      (none, record { calls = calls; before_is = before_is; adds = over_adds more is_more has x is (subst (λ (z : Option Call). IsReplyToCall more z r) none (replied more made stands)) })
 
   pub some_put : PutOf → IfSome r (λ x. (call_of m' ≡ None) × HasPutAll e'.ring.shape items whole e'.list x)
   some_put o = some_clause r refl o
@@ -294,32 +294,32 @@ module _ (s : PutterState (Unit {0})) (m : ProducerState) (start : List Event) (
   step_few = subst (λ (l : List Event). length e'.list ≤ length l + 2 * longest e'.ring.shape c) w (few s.end m calls made at c m1 begins e' m' rests steps start start_is)
 
   -- the events of the call that goes on are one more
-  module _ (n n' : ℕ) (n_is : start ≡ before_last n s.end.list) (marked : n ≤ length s.end.list) (over : call_of m' ≡ None → n' ≡ 0) (on : call_of m' ≢ None → n' ≡ n + 1) where
+  module _ (n n' : ℕ) (n_is : start ≡ without_last n s.end.list) (marked : n ≤ length s.end.list) (over : call_of m' ≡ None → n' ≡ 0) (on : call_of m' ≢ None → n' ≡ n + 1) where
     abbrev Moves : Type 0
-    Moves = (whole_put (call_of m') e'.list start ≡ whole_put (call_of m') e'.list (before_last n' e'.list)) × IsMarked n' e'.list (longest_at m'.shape (call_of m'))
+    Moves = (whole_put (call_of m') e'.list start ≡ whole_put (call_of m') e'.list (without_last n' e'.list)) × IsMarked n' e'.list (longest_at m'.shape (call_of m'))
 
     at_rest : call_of m' ≡ None → Moves
     at_rest none = let z : n' ≡ 0 = over none in
-        (ap (λ (o : Option Call). whole_put o e'.list start) none ∙ sym (ap (λ (o : Option Call). whole_put o e'.list (before_last n' e'.list)) none), (omega (arith, z), omega (arith, z)))
+        (ap (λ (o : Option Call). whole_put o e'.list start) none ∙ sym (ap (λ (o : Option Call). whole_put o e'.list (without_last n' e'.list)) none), (omega (arith, z), omega (arith, z)))
 
     moves : Outcome s.end e' m' calls c → Moves
     moves (Refused same none closes refused list) = at_rest none
     moves (Over event grows none more is_more has made stands) = at_rest none
     moves (Goes event grows goes part _ _ stands) =
         let more_is : n' ≡ n + 1 = on (λ none. none-some c (sym none ∙ goes)) in
-        let mark : start ≡ before_last n' e'.list = n_is ∙ (sym (before_more n s.end.list event marked) ∙ (λ i. before_last (sym more_is i) (sym grows.list i))) in
+        let mark : start ≡ without_last n' e'.list = n_is ∙ (sym (before_more n s.end.list event marked) ∙ (λ i. without_last (sym more_is i) (sym grows.list i))) in
         let most : longest_at m'.shape (call_of m') ≡ longest e'.ring.shape c = (λ i. longest_at (step_putter.at.shape_is i) (goes i)) in
         let size : length start + n ≡ length s.end.list = ap (λ (l : List Event). length l + n) n_is ∙ before_size n s.end.list marked in
         let size' : length e'.list ≡ length s.end.list + 1 = ap length grows.list ∙ length-append s.end.list (event ∷ []) in
         let few' : length e'.list ≤ length start + 2 * longest e'.ring.shape c = few s.end m calls made at c m1 begins e' m' rests steps start start_is in (
-          ap (λ (o : Option Call). whole_put o e'.list start) goes ∙ mark ∙ sym (ap (λ (o : Option Call). whole_put o e'.list (before_last n' e'.list)) goes),
+          ap (λ (o : Option Call). whole_put o e'.list start) goes ∙ mark ∙ sym (ap (λ (o : Option Call). whole_put o e'.list (without_last n' e'.list)) goes),
           (omega (arith, more_is, size', marked), omega (arith, more_is, size', size, few', most)),
         )
 
     pub step_marked : Moves
     step_marked = moves out
 
-  replied : (more : Puts) (made : List Made) → ProducerStands m' more made → IsReply more (call_of m') m'.reply
+  replied : (more : Puts) (made : List Made) → ProducerStands m' more made → IsReplyToCall more (call_of m') m'.reply
   replied more made st = st.reply_is
 
   module _ (items : List ℕ) (same : c ≡ producer.Put items) where

@@ -13,9 +13,9 @@ use Rattle.bits_core.specs.Made.{Made, answered, events_of, own, IsBeginning}
 use Rattle.ring_core.specs.Calls.{LastBitIsDue, EndsInZeros}
 use Rattle.ring_core.specs.Puts.{Puts, put_program, ArePuts}
 use Rattle.ring_core.specs.ProducerState.{ProducerState, Call, Put, Close, due_put, call_of}
-use Rattle.ring_core.specs.ProducerCalls.{PutGoesOn, HasCallMore, Begins, HasMoved, IsAfter, longest}
+use Rattle.ring_core.specs.ProducerCalls.{PutGoesOn, HasCallMore, BeginsCall, ProducerHasMoved, IsAfterCall, longest}
 use Rattle.ring_run.specs.Ring.{RingEnd}
-use Rattle.ring_run.specs.Programs.{Follows, IsRing, GoesOn, begin_of, end_of}
+use Rattle.ring_run.specs.Programs.{Follows, IsRing, GoesOn, begin_of, ending_event}
 use Rattle.ring_run.specs.Hands.{Grows, StandsAs, CanMake, CanStep, HasStepped}
 use Rattle.ring_run.specs.Ends.{HasPutPart}
 use Rattle.ring_run.specs.Machines.{ListIs, PutterAt, PutterStep}
@@ -34,7 +34,7 @@ call_are shape Close calls more h = h.1
 pub record Next (shape : Shape) (calls : Puts) (call : Option Call) (made : List Made) (a : Access) : Type 0 where
   pub one : Call
   pub is : call ≡ Some one
-  pub goes : (answer : Bool) → (LastBitIsDue shape P (Some a) → answer ≡ true) → Begins shape one calls (made ++ answered a answer ∷ [])
+  pub goes : (answer : Bool) → (LastBitIsDue shape P (Some a) → answer ≡ true) → BeginsCall shape one calls (made ++ answered a answer ∷ [])
   pub few : length made < length (put_program shape calls) + longest shape one
 
 pub next_of :
@@ -57,17 +57,17 @@ module _ (laws : LawsBelow) (shape : Shape) (calls : Puts) (call : Option Call) 
 
     goes_on : (list : List Event) → list ≡ events_of P made ++ begin_of P a ∷ [] → GoesOn shape P a list
     goes_on list is h v lawful ring mine =
-        let h' : List Event = h ++ end_of P a v ∷ [] in
-        let whole : list ++ end_of P a v ∷ [] ≡ events_of P (made ++ answered a v ∷ []) = ap (λ (l : List Event). l ++ end_of P a v ∷ []) is ∙ sym (events_more P made a v) in
-        let own_is : own P h' ≡ events_of P (made ++ answered a v ∷ []) = own-mine laws P h (end_of P a v) (Rattle.ring_run.proofs.Steps.by_end P a v) ∙ ap (λ (l : List Event). l ++ end_of P a v ∷ []) mine ∙ whole in
-        let theirs : Follows shape C (own C h') = subst (Follows shape C) (sym (own-theirs laws C h (end_of P a v) (Rattle.ring_run.proofs.Steps.not_by_end P a v))) (ring_follows shape h ring C) in
+        let h' : List Event = h ++ ending_event P a v ∷ [] in
+        let whole : list ++ ending_event P a v ∷ [] ≡ events_of P (made ++ answered a v ∷ []) = ap (λ (l : List Event). l ++ ending_event P a v ∷ []) is ∙ sym (events_more P made a v) in
+        let own_is : own P h' ≡ events_of P (made ++ answered a v ∷ []) = own-mine laws P h (ending_event P a v) (Rattle.ring_run.proofs.Steps.by_end P a v) ∙ ap (λ (l : List Event). l ++ ending_event P a v ∷ []) mine ∙ whole in
+        let theirs : Follows shape C (own C h') = subst (Follows shape C) (sym (own-theirs laws C h (ending_event P a v) (Rattle.ring_run.proofs.Steps.not_by_end P a v))) (ring_follows shape h ring C) in
         subst (Follows shape P) (sym whole) (follows v (answers_one h' lawful theirs v own_is))
 
     pub can_whole : (list : List Event) → list ≡ events_of P made → CanMakeAt shape P list a
     can_whole list is = (
       ap (open_access P) is ∙ laws.made_idle P made,
       subst (λ (l : List Event). Follows shape P (l ++ begin_of P a ∷ [])) (sym is)
-          (let f = follows true (λ _. refl) in (f.0, f.1, shorter (events_of P made ++ begin_of P a ∷ []) (end_of P a true) (events_of P (put_program shape f.0)) (subst (λ (l : List Event). IsBeginning l (events_of P (put_program shape f.0))) (events_more P made a true) f.2))),
+          (let f = follows true (λ _. refl) in (f.0, f.1, shorter (events_of P made ++ begin_of P a ∷ []) (ending_event P a true) (events_of P (put_program shape f.0)) (subst (λ (l : List Event). IsBeginning l (events_of P (put_program shape f.0))) (events_more P made a true) f.2))),
       goes_on (list ++ begin_of P a ∷ []) (ap (λ (l : List Event). l ++ begin_of P a ∷ []) is),
     )
 
@@ -75,7 +75,7 @@ module _ (laws : LawsBelow) (shape : Shape) (calls : Puts) (call : Option Call) 
     can list (inl is) = inl (
       ap (open_access P) is ∙ laws.made_idle P made,
       subst (λ (l : List Event). Follows shape P (l ++ begin_of P a ∷ [])) (sym is)
-          (let f = follows true (λ _. refl) in (f.0, f.1, shorter (events_of P made ++ begin_of P a ∷ []) (end_of P a true) (events_of P (put_program shape f.0)) (subst (λ (l : List Event). IsBeginning l (events_of P (put_program shape f.0))) (events_more P made a true) f.2))),
+          (let f = follows true (λ _. refl) in (f.0, f.1, shorter (events_of P made ++ begin_of P a ∷ []) (ending_event P a true) (events_of P (put_program shape f.0)) (subst (λ (l : List Event). IsBeginning l (events_of P (put_program shape f.0))) (events_more P made a true) f.2))),
     )
     can list (inr (b, same, is)) =
         let eq : b ≡ a = cc in
@@ -142,15 +142,15 @@ module _ (laws : LawsBelow) (e : RingEnd) (m : ProducerState) (calls : Puts) (ma
                   before = record { are = at.stands.are; list_is = refl };
                   more = f.0;
                   is_more = f.1;
-                  part = shorter b.list (end_of P a true) (events_of P (put_program m.shape f.0))
-                      (subst (λ (l : List Event). IsBeginning l (events_of P (put_program m.shape f.0))) (events_more P made a true ∙ ap (λ (l : List Event). l ++ end_of P a true ∷ []) (sym list)) (events_begin P (made ++ answered a true ∷ []) (put_program m.shape f.0) f.2));
+                  part = shorter b.list (ending_event P a true) (events_of P (put_program m.shape f.0))
+                      (subst (λ (l : List Event). IsBeginning l (events_of P (put_program m.shape f.0))) (events_more P made a true ∙ ap (λ (l : List Event). l ++ ending_event P a true ∷ []) (sym list)) (events_begin P (made ++ answered a true ∷ []) (put_program m.shape f.0) f.2));
                 });
           }
         where
           cc_some : {c d : Call} → Some c ≡ Some d → c ≡ d
           cc_some q = cc
 
-          after_same : (c : Option Call) → c ≢ None → IsAfter m.shape c c calls calls m.reply
+          after_same : (c : Option Call) → c ≢ None → IsAfterCall m.shape c c calls calls m.reply
           after_same None busy = absurd (busy refl)
           after_same (Some c) busy = (refl, refl)
 
@@ -158,7 +158,7 @@ module _ (laws : LawsBelow) (e : RingEnd) (m : ProducerState) (calls : Puts) (ma
         pub list_ended : b.list ≡ events_of P (made ++ answered a v ∷ [])
         list_ended =
             let was : e.list ≡ events_of P made ++ begin_of P a ∷ [] = list_open laws P e.list made a list_due (ap (λ (x : Side). open_access x e.list) (sym at.side_is) ∙ s.0) in
-            s.1.list ∙ (λ i. was i ++ end_of (at.side_is i) a v ∷ []) ∙ sym (events_more P made a v)
+            s.1.list ∙ (λ i. was i ++ ending_event (at.side_is i) a v ∷ []) ∙ sym (events_more P made a v)
 
         -- the answer may be fed
         pub one_due : LastBitIsDue m.shape P (Some a) → v ≡ true
@@ -172,14 +172,14 @@ module _ (laws : LawsBelow) (e : RingEnd) (m : ProducerState) (calls : Puts) (ma
         one_there last = one_due (subst (LastBitIsDue m.shape P) due last)
 
         -- the end of the due access, and where the end then stands
-        pub at_ended : (m' : ProducerState) → m'.shape ≡ m.shape → (moved : HasMoved m m' calls (made ++ answered a v ∷ [])) → PutterAt b m' moved.0 (made ++ answered a v ∷ [])
+        pub at_ended : (m' : ProducerState) → m'.shape ≡ m.shape → (moved : ProducerHasMoved m m' calls (made ++ answered a v ∷ [])) → PutterAt b m' moved.0 (made ++ answered a v ∷ [])
         at_ended m' same_shape moved = record { side_is = s.1.same.side ∙ at.side_is; lawful = lawful_b s.1; shape_is = same_shape ∙ shape_b s.1.same; stands = moved.1; list_is = inl list_ended }
 
-        pub ended : (m' : ProducerState) → m'.shape ≡ m.shape → HasMoved m m' calls (made ++ answered a v ∷ []) → PutterStep e m b m' calls
+        pub ended : (m' : ProducerState) → m'.shape ≡ m.shape → ProducerHasMoved m m' calls (made ++ answered a v ∷ []) → PutterStep e m b m' calls
         ended m' same_shape moved =
             let f = next.goes v one_due in
             record {
-              event = end_of e.side a v;
+              event = ending_event e.side a v;
               grows = s.1;
               more = moved.0;
               made = made ++ answered a v ∷ [];
@@ -204,7 +204,7 @@ module _ (laws : LawsBelow) (e : RingEnd) (m : ProducerState) (calls : Puts) (ma
             cc_some : {c d : Call} → Some c ≡ Some d → c ≡ d
             cc_some q = cc
 
-            goes_as : (c c' : Option Call) (one two : Call) → c ≡ Some one → c' ≡ Some two → IsAfter m.shape c c' calls moved.0 m'.reply → one ≡ two
+            goes_as : (c c' : Option Call) (one two : Call) → c ≡ Some one → c' ≡ Some two → IsAfterCall m.shape c c' calls moved.0 m'.reply → one ≡ two
             goes_as None c' one two is is' after = absurd after
             goes_as (Some c) None one two is is' after = absurd (cc)
             goes_as (Some c) (Some d) one two is is' after = let p : c ≡ one = cc in let q : d ≡ two = cc in sym p ∙ sym after.0 ∙ q

@@ -19,13 +19,13 @@ use Rattle.ring_core.specs.Puts.{Puts, put_program, ArePuts}
 use Rattle.ring_core.specs.ProducerState as producer
 use Rattle.ring_core.specs.declared.producers.Stage.{Stage}
 use Rattle.ring_core.specs.declared.producers.Stage.TheVariants.{Counting}
-use Rattle.ring_core.specs.ProducerState.{ProducerState, Call, Close, IsSameButScan, IsSameButWord, call_at, due_at, due_put, call_of}
-use Rattle.ring_core.specs.ProducerCalls.{HasCallMore, HasMoved, IsAfter, IsReply, ProducerStands, PutGoesOn, longest, reply_to}
+use Rattle.ring_core.specs.ProducerState.{ProducerState, Call, Close, IsProducerButScan, IsProducerButWord, call_at, producer_due_at, due_put, call_of}
+use Rattle.ring_core.specs.ProducerCalls.{HasCallMore, ProducerHasMoved, IsAfterCall, IsReplyToCall, ProducerStands, PutGoesOn, longest, put_reply_to}
 use Rattle.ring_run.specs.Ring.{Ring, RingEnd}
-use Rattle.ring_run.specs.Programs.{begin_of, end_of}
+use Rattle.ring_run.specs.Programs.{begin_of, ending_event}
 use Rattle.ring_run.specs.Hands.{CanMake, Grows, HasMade, HasStepped, IsSameEnd, StandsAs}
 use Rattle.ring_run.specs.Ends.{HasPuts, HasPutAll, HasClosed, PutAdds, CloseAdds, whole_put}
-use Rattle.ring_run.specs.Machines.{PutterAt, PutterReady, PutterGoes, PutterOver, PutterIn, PutterMade, IsPutter, IsRefused, CallBegins, longest_at}
+use Rattle.ring_run.specs.Machines.{PutterAt, PutterReady, PutterGoes, PutterOver, PutterIn, PutterMade, IsPutter, IsRefusedAtOnce, CallBegins, longest_at}
 use Rattle.ring_run.specs.Below.{LawsBelow}
 use Rattle.ring_run.proofs.Lists.{begun_open, length-events_of}
 use Rattle.ring_run.proofs.PutterMoves.{Next, at_begun, at_ended, call_are, can_make, list_ended, next_of, one_there}
@@ -47,7 +47,7 @@ module _ (laws : LawsBelow) (e : RingEnd) (m : ProducerState) (calls : Puts) (ma
   ended : HasStepped h.0 b a (Some v)
   ended = (
     ap (λ (x : Side). open_access x (h.0).list) (h.1.same.side ∙ at.side_is) ∙ ap (open_access P) (h.1.list ∙ (λ i. is i ++ begin_of (at.side_is i) a ∷ [])) ∙ begun_open laws P (events_of P made) a,
-    subst (λ (x : Side). Grows h.0 b (end_of x a v)) (sym h.1.same.side) h.2,
+    subst (λ (x : Side). Grows h.0 b (ending_event x a v)) (sym h.1.same.side) h.2,
   )
 
   -- the answer may be fed
@@ -57,16 +57,16 @@ module _ (laws : LawsBelow) (e : RingEnd) (m : ProducerState) (calls : Puts) (ma
   list_is : b.list ≡ events_of P (made ++ answered a v ∷ [])
   list_is = list_ended laws h.0 m calls made at_mid a due next expects due_is zeros b v ended
 
-  module _ (m' : ProducerState) (same_shape : m'.shape ≡ m.shape) (moved : HasMoved m m' calls (made ++ answered a v ∷ [])) (c : Call) (call_is : call_of m ≡ Some c) where
+  module _ (m' : ProducerState) (same_shape : m'.shape ≡ m.shape) (moved : ProducerHasMoved m m' calls (made ++ answered a v ∷ [])) (c : Call) (call_is : call_of m ≡ Some c) where
     there : PutterAt b m' moved.0 (made ++ answered a v ∷ [])
     there = at_ended laws h.0 m calls made at_mid a due next expects due_is zeros b v ended m' same_shape moved
 
     after : (o : Option Call) → call_of m' ≡ o → PutterGoes b m' calls c ⊎ PutterOver b m' calls c
     after (Some d) is' =
-        let t : IsAfter m.shape (Some c) (Some d) calls moved.0 m'.reply = subst (λ (z : Option Call × Option Call). IsAfter m.shape z.0 z.1 calls moved.0 m'.reply) (λ i. (call_is i, is' i)) moved.2 in
+        let t : IsAfterCall m.shape (Some c) (Some d) calls moved.0 m'.reply = subst (λ (z : Option Call × Option Call). IsAfterCall m.shape z.0 z.1 calls moved.0 m'.reply) (λ i. (call_is i, is' i)) moved.2 in
         inl (record { made = made ++ answered a v ∷ []; at = subst (λ (k : Puts). PutterAt b m' k (made ++ answered a v ∷ [])) t.1 there; list_is = list_is; call_is = is' ∙ ap (λ (x : Call). Some x) t.0 })
     after None is' =
-        let t : IsAfter m.shape (Some c) None calls moved.0 m'.reply = subst (λ (z : Option Call × Option Call). IsAfter m.shape z.0 z.1 calls moved.0 m'.reply) (λ i. (call_is i, is' i)) moved.2 in
+        let t : IsAfterCall m.shape (Some c) None calls moved.0 m'.reply = subst (λ (z : Option Call × Option Call). IsAfterCall m.shape z.0 z.1 calls moved.0 m'.reply) (λ i. (call_is i, is' i)) moved.2 in
         inr (record { more = moved.0; made = made ++ answered a v ∷ []; at = there; call_is = is'; is_more = subst (λ (z : Shape). HasCallMore z c calls moved.0) (sym same_shape) t.0; no_reply = t.1 })
 
     pub goes : PutterGoes b m' calls c ⊎ PutterOver b m' calls c
@@ -87,7 +87,7 @@ module _ (laws : LawsBelow) (e : RingEnd) (m : ProducerState) (calls : Puts) (c 
     pub may_feed : LastBitIsDue m.shape P (due_put m) → v ≡ true
     may_feed = feeds laws e m calls g.made g.at a due next expects due_is (zeros calls g.made g.at.stands) g.list_is b v h
 
-    pub went : (m' : ProducerState) → m'.shape ≡ m.shape → HasMoved m m' calls (g.made ++ answered a v ∷ []) → PutterIn b m' calls c
+    pub went : (m' : ProducerState) → m'.shape ≡ m.shape → ProducerHasMoved m m' calls (g.made ++ answered a v ∷ []) → PutterIn b m' calls c
     went m' same_shape moved = goes laws e m calls g.made g.at a due next expects due_is (zeros calls g.made g.at.stands) g.list_is b v h m' same_shape moved c g.call_is
 
 -- while a call is under way, it goes on
@@ -107,23 +107,23 @@ pub count_due : (m : ProducerState) (a : Access) → m.stage ≡ Counting → du
 count_due m a e due = by (due_writes m.row) refl
   where
     due_there : due_unary m.row ≡ Some a
-    due_there = sym (ap (λ (st : Stage). due_at st m) e) ∙ due
+    due_there = sym (ap (λ (st : Stage). producer_due_at st m) e) ∙ due
 
     by : (l : List RowWrite) → due_writes m.row ≡ l → (x : RowWrite) × (rest : List RowWrite) × (due_writes m.row ≡ x ∷ rest)
     by [] is = absurd (none-some a (sym (ap (first_access (row_bit m.row.side)) is) ∙ due_there))
     by (x ∷ rest) is = (x, rest, is)
 
 -- a state with another scan, or another word, and no more
-pub scan_is : (p q : ProducerState) (s : ScanState) → q ≡ record p { scan = s } → IsSameButScan p q
+pub scan_is : (p q : ProducerState) (s : ScanState) → q ≡ record p { scan = s } → IsProducerButScan p q
 scan_is p q s e = e ∙ ap (λ (x : ScanState). record p { scan = x }) (sym (ap (λ (x : ProducerState). x.scan) e))
 
-pub word_is : (p q : ProducerState) (w : WriterState) → q ≡ record p { word = w } → IsSameButWord p q
+pub word_is : (p q : ProducerState) (w : WriterState) → q ≡ record p { word = w } → IsProducerButWord p q
 word_is p q w e = e ∙ ap (λ (x : WriterState). record p { word = x }) (sym (ap (λ (x : ProducerState). x.word) e))
 
-pub same_scan : (p q r : ProducerState) → IsSameButScan p q → IsSameButScan q r → IsSameButScan p r
+pub same_scan : (p q r : ProducerState) → IsProducerButScan p q → IsProducerButScan q r → IsProducerButScan p r
 same_scan p q r e f = f ∙ ap (λ (x : ProducerState). record x { scan = r.scan }) e
 
-pub same_word : (p q r : ProducerState) → IsSameButWord p q → IsSameButWord q r → IsSameButWord p r
+pub same_word : (p q r : ProducerState) → IsProducerButWord p q → IsProducerButWord q r → IsProducerButWord p r
 same_word p q r e f = f ∙ ap (λ (x : ProducerState). record x { word = r.word }) e
 
 -- ---- the loop over accesses
@@ -175,7 +175,7 @@ over e m b m' calls c is made ends = by (call_of m) is made
 -- the call is over: it is one of the calls, or it was refused after a close
 pub data Ended (e e' : RingEnd) (m1 m' : ProducerState) (calls : Puts) (c : Call) : Type 0 where
   More : (o : PutterOver e' m' calls c) → Ended e e' m1 m' calls c
-  Refused : e' ≡ e → m' ≡ m1 → call_of m1 ≡ None → calls.closes ≡ true → IsRefused c m1.reply → Ended e e' m1 m' calls c
+  Refused : e' ≡ e → m' ≡ m1 → call_of m1 ≡ None → calls.closes ≡ true → IsRefusedAtOnce c m1.reply → Ended e e' m1 m' calls c
 
 module _ (e : RingEnd) (m : ProducerState) (calls : Puts) (made : List Made) (at : PutterAt e m calls made) (idle : call_of m ≡ None) (c : Call) (m1 : ProducerState) (begins : CallBegins m m1 calls made c) where
   one : PutterAt e m1 calls made
@@ -231,8 +231,8 @@ module _ (e : RingEnd) (m : ProducerState) (calls : Puts) (made : List Made) (at
     has_more : (o : PutterOver e' m' calls c) → HasPuts e'.ring.shape e'.list o.more
     has_more o = record { are = call_are e'.ring.shape c calls o.more (more_there o); list_is = rest_list e' m' o.more o.made o.at o.call_is }
 
-    replied : (o : PutterOver e' m' calls c) → IsReply o.more None m'.reply
-    replied o = subst (λ (z : Option Call). IsReply o.more z m'.reply) o.call_is o.at.stands.reply_is
+    replied : (o : PutterOver e' m' calls c) → IsReplyToCall o.more None m'.reply
+    replied o = subst (λ (z : Option Call). IsReplyToCall o.more z m'.reply) o.call_is o.at.stands.reply_is
 
     -- a put was answered, and this is what it added
     pub put_ended : (items : List ℕ) → c ≡ producer.Put items → (x : replies.BatchReply) × (m'.reply ≡ Some x) × HasPutAll e'.ring.shape items e.list e'.list x
@@ -241,18 +241,18 @@ module _ (e : RingEnd) (m : ProducerState) (calls : Puts) (made : List Made) (at
         put_by : Ended e e' m1 m' calls c → (x : replies.BatchReply) × (m'.reply ≡ Some x) × HasPutAll e'.ring.shape items e.list e'.list x
         put_by (More o) =
             let is_more : HasCallMore e'.ring.shape (producer.Put items) calls o.more = subst (λ (d : Call). HasCallMore e'.ring.shape d calls o.more) same_c (more_there o) in
-            let is : m'.reply ≡ Some (reply_to is_more.0) = over_reply e'.ring.shape items calls o.more m'.reply is_more (replied o) in (
-              reply_to is_more.0,
+            let is : m'.reply ≡ Some (put_reply_to is_more.0) = over_reply e'.ring.shape items calls o.more m'.reply is_more (replied o) in (
+              put_reply_to is_more.0,
               is,
               record {
                 calls = calls;
                 before_is = record { are = are; list_is = whole };
-                adds = over_adds e e' m' calls items e.list whole are m'.reply refl (λ more made st. st.reply_is) o.more is_more (has_more o) (reply_to is_more.0) is (replied o);
+                adds = over_adds e e' m' calls items e.list whole are m'.reply refl (λ more made st. st.reply_is) o.more is_more (has_more o) (put_reply_to is_more.0) is (replied o);
               },
             )
         put_by (Refused same_end same_m none closes refused) = (
           reply.Closed,
-          ap (λ (x : ProducerState). x.reply) same_m ∙ subst (λ (d : Call). IsRefused d m1.reply) same_c refused,
+          ap (λ (x : ProducerState). x.reply) same_m ∙ subst (λ (d : Call). IsRefusedAtOnce d m1.reply) same_c refused,
           record {
             calls = calls;
             before_is = record { are = are; list_is = whole };

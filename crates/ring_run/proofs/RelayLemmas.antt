@@ -21,7 +21,7 @@ use Rattle.ring_core.specs.Over.{fulls, empties}
 use Rattle.ring_core.specs.Readings.{PutsAreRead, TakesAreRead}
 use Rattle.ring_core.specs.ProducerCalls.{and_put, and_close, no_puts, IsPutOf}
 use Rattle.ring_core.specs.ProducerCalls as put_calls
-use Rattle.ring_core.specs.ConsumerCalls.{and_take, and_end, no_takes, tells, HasTakeMore, reply_at_end, last_reply}
+use Rattle.ring_core.specs.ConsumerCalls.{and_take, and_end, no_takes, ends_closed, HasTakeMore, reply_at_end, last_take_reply}
 use Rattle.ring_core.specs.ConsumerCalls as take_calls
 use Rattle.ring_run.specs.Ends.{HasPuts, HasPutAll, PutAdds, HasClosed, CloseAdds, HasTakes, HasTaken, TakeAdds}
 use Rattle.ring_run.proofs.TakerCalls.{last-snoc}
@@ -248,7 +248,7 @@ empty_one (take_reply.Item i) = 0
 empty_one take_reply.Empty = 1
 empty_one take_reply.Closed = 0
 
-taken_snoc : (xs : List Take) (x : Take) → all_taken (xs ++ x ∷ []) ≡ all_taken xs ++ gives (take_calls.reply_to x)
+taken_snoc : (xs : List Take) (x : Take) → all_taken (xs ++ x ∷ []) ≡ all_taken xs ++ gives (take_calls.take_reply_to x)
 unfolding gives
 taken_snoc [] (takes.Item seen item) = refl
 taken_snoc [] (takes.ItemAfterClose seen again item) = refl
@@ -257,7 +257,7 @@ taken_snoc (takes.Item s i ∷ xs) x = ap (λ (l : List ℕ). i ∷ l) (taken_sn
 taken_snoc (takes.ItemAfterClose s a i ∷ xs) x = ap (λ (l : List ℕ). i ∷ l) (taken_snoc xs x)
 taken_snoc (takes.Empty s ∷ xs) x = taken_snoc xs x
 
-empties_snoc : (xs : List Take) (x : Take) → empties (xs ++ x ∷ []) ≡ empties xs + empty_one (take_calls.reply_to x)
+empties_snoc : (xs : List Take) (x : Take) → empties (xs ++ x ∷ []) ≡ empties xs + empty_one (take_calls.take_reply_to x)
 unfolding empty_one
 empties_snoc [] (takes.Item seen item) = refl
 empties_snoc [] (takes.ItemAfterClose seen again item) = refl
@@ -266,7 +266,7 @@ empties_snoc (takes.Item s i ∷ xs) x = empties_snoc xs x
 empties_snoc (takes.ItemAfterClose s a i ∷ xs) x = empties_snoc xs x
 empties_snoc (takes.Empty s ∷ xs) x = omega (arith, empties_snoc xs x)
 
-never_closed : (x : Take) → take_calls.reply_to x ≢ take_reply.Closed
+never_closed : (x : Take) → take_calls.take_reply_to x ≢ take_reply.Closed
 never_closed (takes.Item seen item) e = cc
 never_closed (takes.ItemAfterClose seen again item) e = cc
 never_closed (takes.Empty seen) e = cc
@@ -275,7 +275,7 @@ module _ (read : TakesAreRead) (shape : Shape) (list list' : List Event) (taken 
   adds_take : (reply : take_replies.TakeReply) → HasTaken shape list list' reply → TakeAdds false shape p.calls reply list list'
   adds_take reply h =
       let same : h.calls ≡ p.calls = same_takes read shape list h.calls p.calls h.before_is p.list_is in
-      subst (λ (z : Takes × Bool). TakeAdds z.1 shape z.0 reply list list') (λ i. (same i, (ap (λ (q : Takes). tells q.end) same ∙ p.told_is) i)) h.adds
+      subst (λ (z : Takes × Bool). TakeAdds z.1 shape z.0 reply list list') (λ i. (same i, (ap (λ (q : Takes). ends_closed q.end) same ∙ p.told_is) i)) h.adds
 
   one_more : (reply : take_replies.TakeReply) → reply ≢ take_reply.Closed → HasTaken shape list list' reply → TakesAre shape list' (taken ++ gives reply) (empty + empty_one reply) false
   one_more reply open_yet h =
@@ -283,7 +283,7 @@ module _ (read : TakesAreRead) (shape : Shape) (list list' : List Event) (taken 
       ⊎_elim
       (λ one.
       let x : Take = one.0 in
-      let is : reply ≡ take_calls.reply_to x = let q : Some reply ≡ Some (take_calls.reply_to x) = a.2 ∙ ap (λ (t : Takes). reply_at_end t.end t.takes) one.1 ∙ last-snoc None p.calls.takes x in cc in
+      let is : reply ≡ take_calls.take_reply_to x = let q : Some reply ≡ Some (take_calls.take_reply_to x) = a.2 ∙ ap (λ (t : Takes). reply_at_end t.end t.takes) one.1 ∙ last-snoc None p.calls.takes x in cc in
       record {
         calls = and_take p.calls x;
         list_is = subst (HasTakes shape list') one.1 a.3;
@@ -308,7 +308,7 @@ module _ (read : TakesAreRead) (shape : Shape) (list list' : List Event) (taken 
   was_told h =
       let a = adds_take take_reply.Closed h in
       ⊎_elim
-      (λ one. absurd (never_closed one.0 (let q : Some take_reply.Closed ≡ Some (take_calls.reply_to one.0) = a.2 ∙ ap (λ (t : Takes). reply_at_end t.end t.takes) one.1 ∙ last-snoc None p.calls.takes one.0 in cc)))
+      (λ one. absurd (never_closed one.0 (let q : Some take_reply.Closed ≡ Some (take_calls.take_reply_to one.0) = a.2 ∙ ap (λ (t : Takes). reply_at_end t.end t.takes) one.1 ∙ last-snoc None p.calls.takes one.0 in cc)))
       (λ told. record {
         calls = and_end p.calls told.0 told.1;
         list_is = subst (HasTakes shape list') told.2 a.3;

@@ -14,7 +14,7 @@ use Rattle.ring_core.specs.Takes.{Takes, End, Open, Closed, take_program}
 use Rattle.ring_core.specs.Items.{items_put, items_taken, events_in, Tells, IsTold}
 use Rattle.ring_core.specs.CallsAt.{puts_begun, takes_begun}
 use Rattle.ring_core.specs.Whole.{WholePutsCount, WholeTakesCount}
-use Rattle.ring_core.specs.ConsumerCalls.{tells}
+use Rattle.ring_core.specs.ConsumerCalls.{ends_closed}
 use Rattle.ring_core.specs.RingLaw.{IsRun, InEveryRun, IsWithin, TakenArePrefix, ClosedIsTrue}
 use Rattle.ring_run.specs.Ring.{Ring, RingEnd}
 use Rattle.ring_run.specs.Meetings.{Meets}
@@ -27,7 +27,7 @@ use Rattle.ring_run.proofs.RelayLemmas.{length_first}
 clock_at_end : (s : Side) (h : List Event) → clock s h (length h) ≡ length (own s h)
 clock_at_end s h = ap (λ (l : List Event). length (own s l)) (take-length h)
 
-tells_true : (end : End) → tells end ≡ true → Tells end
+tells_true : (end : End) → ends_closed end ≡ true → Tells end
 tells_true Open e = absurd (true≢false (sym e))
 tells_true (Closed seen again) e = tt
 

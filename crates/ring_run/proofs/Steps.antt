@@ -10,7 +10,7 @@ use Rattle.bits_core.specs.Bits.{other, is_by}
 use Rattle.bits_core.specs.History.{open_access}
 use Rattle.bits_core.specs.Made.{Made, Read, answered, events_of}
 use Rattle.register_core.specs.ScanState.{row_read_by}
-use Rattle.ring_run.specs.Programs.{Follows, GoesOn, begin_of, end_of}
+use Rattle.ring_run.specs.Programs.{Follows, GoesOn, begin_of, ending_event}
 use Rattle.ring_run.specs.Machines.{ListIs}
 use Rattle.ring_run.specs.Below.{LawsBelow}
 use Rattle.ring_run.proofs.Histories.{same_side-same}
@@ -26,11 +26,11 @@ CanStepAt shape x list a =
 abbrev pub CanMakeAt : Shape → Side → List Event → Access → Type 0
 CanMakeAt shape x list a = (open_access x list ≡ None) × Follows shape x (list ++ begin_of x a ∷ []) × GoesOn shape x a (list ++ begin_of x a ∷ [])
 
-pub by_end : (x : Side) (a : Access) (v : Bool) → is_by x (end_of x a v) ≡ true
+pub by_end : (x : Side) (a : Access) (v : Bool) → is_by x (ending_event x a v) ≡ true
 by_end x (access.Read b) v = same_side-same x
 by_end x (access.Write b w) v = same_side-same x
 
-pub not_by_end : (x : Side) (a : Access) (v : Bool) → is_by (other x) (end_of x a v) ≡ false
+pub not_by_end : (x : Side) (a : Access) (v : Bool) → is_by (other x) (ending_event x a v) ≡ false
 not_by_end P (access.Read b) v = refl
 not_by_end P (access.Write b w) v = refl
 not_by_end C (access.Read b) v = refl

@@ -14,9 +14,9 @@ use Rattle.ring_core.specs.Calls.{LastBitIsDue, EndsInZeros}
 use Rattle.ring_core.specs.Lengths.{longest_take}
 use Rattle.ring_core.specs.Takes.{Takes, take_program}
 use Rattle.ring_core.specs.ConsumerState.{ConsumerState, due_take, is_taking}
-use Rattle.ring_core.specs.ConsumerCalls.{TakeGoesOn, Begins, HasMoved, IsAfter}
+use Rattle.ring_core.specs.ConsumerCalls.{TakeGoesOn, BeginsTake, ConsumerHasMoved, IsAfterTake}
 use Rattle.ring_run.specs.Ring.{RingEnd}
-use Rattle.ring_run.specs.Programs.{Follows, IsRing, GoesOn, begin_of, end_of}
+use Rattle.ring_run.specs.Programs.{Follows, IsRing, GoesOn, begin_of, ending_event}
 use Rattle.ring_run.specs.Hands.{Grows, StandsAs, CanMake, CanStep, HasStepped}
 use Rattle.ring_run.specs.Ends.{HasTakePart}
 use Rattle.ring_run.specs.Machines.{ListIs, TakerAt, TakerStep}
@@ -29,7 +29,7 @@ use Rattle.ring_run.proofs.Steps.{list_closed, list_open, CanMakeAt, CanStepAt, 
 -- what goes on
 pub record Next (shape : Shape) (calls : Takes) (taking : Bool) (made : List Made) (a : Access) : Type 0 where
   pub is : taking ≡ true
-  pub goes : (answer : Bool) → (LastBitIsDue shape C (Some a) → answer ≡ true) → Begins shape calls (made ++ answered a answer ∷ [])
+  pub goes : (answer : Bool) → (LastBitIsDue shape C (Some a) → answer ≡ true) → BeginsTake shape calls (made ++ answered a answer ∷ [])
   pub few : length made < length (take_program shape calls) + longest_take shape
 
 pub next_of :
@@ -52,17 +52,17 @@ module _ (laws : LawsBelow) (shape : Shape) (calls : Takes) (taking : Bool) (mad
 
     goes_on : (list : List Event) → list ≡ events_of C made ++ begin_of C a ∷ [] → GoesOn shape C a list
     goes_on list is h v lawful ring mine =
-        let h' : List Event = h ++ end_of C a v ∷ [] in
-        let whole : list ++ end_of C a v ∷ [] ≡ events_of C (made ++ answered a v ∷ []) = ap (λ (l : List Event). l ++ end_of C a v ∷ []) is ∙ sym (events_more C made a v) in
-        let own_is : own C h' ≡ events_of C (made ++ answered a v ∷ []) = own-mine laws C h (end_of C a v) (Rattle.ring_run.proofs.Steps.by_end C a v) ∙ ap (λ (l : List Event). l ++ end_of C a v ∷ []) mine ∙ whole in
-        let theirs : Follows shape P (own P h') = subst (Follows shape P) (sym (own-theirs laws P h (end_of C a v) (Rattle.ring_run.proofs.Steps.not_by_end C a v))) (ring_follows shape h ring P) in
+        let h' : List Event = h ++ ending_event C a v ∷ [] in
+        let whole : list ++ ending_event C a v ∷ [] ≡ events_of C (made ++ answered a v ∷ []) = ap (λ (l : List Event). l ++ ending_event C a v ∷ []) is ∙ sym (events_more C made a v) in
+        let own_is : own C h' ≡ events_of C (made ++ answered a v ∷ []) = own-mine laws C h (ending_event C a v) (Rattle.ring_run.proofs.Steps.by_end C a v) ∙ ap (λ (l : List Event). l ++ ending_event C a v ∷ []) mine ∙ whole in
+        let theirs : Follows shape P (own P h') = subst (Follows shape P) (sym (own-theirs laws P h (ending_event C a v) (Rattle.ring_run.proofs.Steps.not_by_end C a v))) (ring_follows shape h ring P) in
         subst (Follows shape C) (sym whole) (follows v (answers_one h' lawful theirs v own_is))
 
     pub can_whole : (list : List Event) → list ≡ events_of C made → CanMakeAt shape C list a
     can_whole list is = (
       ap (open_access C) is ∙ laws.made_idle C made,
       subst (λ (l : List Event). Follows shape C (l ++ begin_of C a ∷ [])) (sym is)
-          (let f = follows true (λ _. refl) in (f.0, f.1, shorter (events_of C made ++ begin_of C a ∷ []) (end_of C a true) (events_of C (take_program shape f.0)) (subst (λ (l : List Event). IsBeginning l (events_of C (take_program shape f.0))) (events_more C made a true) f.2))),
+          (let f = follows true (λ _. refl) in (f.0, f.1, shorter (events_of C made ++ begin_of C a ∷ []) (ending_event C a true) (events_of C (take_program shape f.0)) (subst (λ (l : List Event). IsBeginning l (events_of C (take_program shape f.0))) (events_more C made a true) f.2))),
       goes_on (list ++ begin_of C a ∷ []) (ap (λ (l : List Event). l ++ begin_of C a ∷ []) is),
     )
 
@@ -70,7 +70,7 @@ module _ (laws : LawsBelow) (shape : Shape) (calls : Takes) (taking : Bool) (mad
     can list (inl is) = inl (
       ap (open_access C) is ∙ laws.made_idle C made,
       subst (λ (l : List Event). Follows shape C (l ++ begin_of C a ∷ [])) (sym is)
-          (let f = follows true (λ _. refl) in (f.0, f.1, shorter (events_of C made ++ begin_of C a ∷ []) (end_of C a true) (events_of C (take_program shape f.0)) (subst (λ (l : List Event). IsBeginning l (events_of C (take_program shape f.0))) (events_more C made a true) f.2))),
+          (let f = follows true (λ _. refl) in (f.0, f.1, shorter (events_of C made ++ begin_of C a ∷ []) (ending_event C a true) (events_of C (take_program shape f.0)) (subst (λ (l : List Event). IsBeginning l (events_of C (take_program shape f.0))) (events_more C made a true) f.2))),
     )
     can list (inr (b, same, is)) =
         let eq : b ≡ a = cc in
@@ -133,12 +133,12 @@ module _ (laws : LawsBelow) (e : RingEnd) (m : ConsumerState) (calls : Takes) (m
                   before = record { are = at.stands.are; list_is = refl };
                   more = f.0;
                   is_more = f.1;
-                  part = shorter b.list (end_of C a true) (events_of C (take_program m.shape f.0))
-                      (subst (λ (l : List Event). IsBeginning l (events_of C (take_program m.shape f.0))) (events_more C made a true ∙ ap (λ (l : List Event). l ++ end_of C a true ∷ []) (sym list)) (events_begin C (made ++ answered a true ∷ []) (take_program m.shape f.0) f.2));
+                  part = shorter b.list (ending_event C a true) (events_of C (take_program m.shape f.0))
+                      (subst (λ (l : List Event). IsBeginning l (events_of C (take_program m.shape f.0))) (events_more C made a true ∙ ap (λ (l : List Event). l ++ ending_event C a true ∷ []) (sym list)) (events_begin C (made ++ answered a true ∷ []) (take_program m.shape f.0) f.2));
                 });
           }
         where
-          after_same : (t : Bool) → t ≡ true → IsAfter m.shape t t calls calls
+          after_same : (t : Bool) → t ≡ true → IsAfterTake m.shape t t calls calls
           after_same false busy = absurd (true≢false (sym busy))
           after_same true busy = refl
 
@@ -146,7 +146,7 @@ module _ (laws : LawsBelow) (e : RingEnd) (m : ConsumerState) (calls : Takes) (m
         pub list_ended : b.list ≡ events_of C (made ++ answered a v ∷ [])
         list_ended =
             let was : e.list ≡ events_of C made ++ begin_of C a ∷ [] = list_open laws C e.list made a list_due (ap (λ (x : Side). open_access x e.list) (sym at.side_is) ∙ s.0) in
-            s.1.list ∙ (λ i. was i ++ end_of (at.side_is i) a v ∷ []) ∙ sym (events_more C made a v)
+            s.1.list ∙ (λ i. was i ++ ending_event (at.side_is i) a v ∷ []) ∙ sym (events_more C made a v)
 
         -- the answer may be fed
         pub one_due : LastBitIsDue m.shape C (Some a) → v ≡ true
@@ -160,14 +160,14 @@ module _ (laws : LawsBelow) (e : RingEnd) (m : ConsumerState) (calls : Takes) (m
         one_there last = one_due (subst (LastBitIsDue m.shape C) due last)
 
         -- the end of the due access, and where the end then stands
-        pub at_ended : (m' : ConsumerState) → m'.shape ≡ m.shape → (moved : HasMoved m m' calls (made ++ answered a v ∷ [])) → TakerAt b m' moved.0 (made ++ answered a v ∷ [])
+        pub at_ended : (m' : ConsumerState) → m'.shape ≡ m.shape → (moved : ConsumerHasMoved m m' calls (made ++ answered a v ∷ [])) → TakerAt b m' moved.0 (made ++ answered a v ∷ [])
         at_ended m' same_shape moved = record { side_is = s.1.same.side ∙ at.side_is; lawful = lawful_b s.1; shape_is = same_shape ∙ shape_b s.1.same; stands = moved.1; list_is = inl list_ended }
 
-        pub ended : (m' : ConsumerState) → m'.shape ≡ m.shape → HasMoved m m' calls (made ++ answered a v ∷ []) → TakerStep e m b m' calls
+        pub ended : (m' : ConsumerState) → m'.shape ≡ m.shape → ConsumerHasMoved m m' calls (made ++ answered a v ∷ []) → TakerStep e m b m' calls
         ended m' same_shape moved =
             let f = next.goes v one_due in
             record {
-              event = end_of e.side a v;
+              event = ending_event e.side a v;
               grows = s.1;
               more = moved.0;
               made = made ++ answered a v ∷ [];

@@ -18,13 +18,13 @@ use Rattle.ring_core.specs.Lengths.{longest_take}
 use Rattle.ring_core.specs.Takes.{Takes, take_program, AreTakes}
 use Rattle.ring_core.specs.declared.consumers.Stage.{Stage}
 use Rattle.ring_core.specs.declared.consumers.Stage.TheVariants.{Counting}
-use Rattle.ring_core.specs.ConsumerState.{ConsumerState, IsSameButScan, IsSameButWord, due_at, due_take, is_taking, takes_at}
-use Rattle.ring_core.specs.ConsumerCalls.{ConsumerStands, HasMoved, TakeGoesOn, HasTakeMore, IsAfter, IsReply, reply_at_end, tells}
+use Rattle.ring_core.specs.ConsumerState.{ConsumerState, IsConsumerButScan, IsConsumerButWord, consumer_due_at, due_take, is_taking, takes_at}
+use Rattle.ring_core.specs.ConsumerCalls.{ConsumerStands, ConsumerHasMoved, TakeGoesOn, HasTakeMore, IsAfterTake, IsReplyToTake, reply_at_end, ends_closed}
 use Rattle.ring_run.specs.Ring.{Ring, RingEnd}
-use Rattle.ring_run.specs.Programs.{begin_of, end_of}
+use Rattle.ring_run.specs.Programs.{begin_of, ending_event}
 use Rattle.ring_run.specs.Hands.{CanMake, Grows, HasMade, HasStepped, IsSameEnd, StandsAs}
 use Rattle.ring_run.specs.Ends.{HasTaken, TakeAdds, whole_take}
-use Rattle.ring_run.specs.Machines.{TakerAt, TakerReady, TakerGoes, TakerOver, TakerIn, TakerMade, IsTaker, TakeBegins}
+use Rattle.ring_run.specs.Machines.{TakerAt, TakerReady, TakerGoes, TakerOver, TakerIn, TakerMade, IsTaker, TakeWasBegun}
 use Rattle.ring_run.specs.Below.{LawsBelow}
 use Rattle.ring_run.proofs.Lists.{begun_open, length-events_of}
 use Rattle.ring_run.proofs.PutterCalls.{list_rests}
@@ -47,7 +47,7 @@ module _ (laws : LawsBelow) (e : RingEnd) (m : ConsumerState) (calls : Takes) (m
   ended : HasStepped h.0 b a (Some v)
   ended = (
     ap (λ (x : Side). open_access x (h.0).list) (h.1.same.side ∙ at.side_is) ∙ ap (open_access C) (h.1.list ∙ (λ i. is i ++ begin_of (at.side_is i) a ∷ [])) ∙ begun_open laws C (events_of C made) a,
-    subst (λ (x : Side). Grows h.0 b (end_of x a v)) (sym h.1.same.side) h.2,
+    subst (λ (x : Side). Grows h.0 b (ending_event x a v)) (sym h.1.same.side) h.2,
   )
 
   -- the answer may be fed
@@ -57,16 +57,16 @@ module _ (laws : LawsBelow) (e : RingEnd) (m : ConsumerState) (calls : Takes) (m
   list_is : b.list ≡ events_of C (made ++ answered a v ∷ [])
   list_is = list_ended laws h.0 m calls made at_mid a due next expects due_is zeros b v ended
 
-  module _ (m' : ConsumerState) (same_shape : m'.shape ≡ m.shape) (moved : HasMoved m m' calls (made ++ answered a v ∷ [])) (taking : is_taking m ≡ true) where
+  module _ (m' : ConsumerState) (same_shape : m'.shape ≡ m.shape) (moved : ConsumerHasMoved m m' calls (made ++ answered a v ∷ [])) (taking : is_taking m ≡ true) where
     there : TakerAt b m' moved.0 (made ++ answered a v ∷ [])
     there = at_ended laws h.0 m calls made at_mid a due next expects due_is zeros b v ended m' same_shape moved
 
     after : (t : Bool) → is_taking m' ≡ t → TakerGoes b m' calls ⊎ TakerOver b m' calls
     after true is' =
-        let same_calls : moved.0 ≡ calls = subst (λ (z : Bool × Bool). IsAfter m.shape z.0 z.1 calls moved.0) (λ i. (taking i, is' i)) moved.2 in
+        let same_calls : moved.0 ≡ calls = subst (λ (z : Bool × Bool). IsAfterTake m.shape z.0 z.1 calls moved.0) (λ i. (taking i, is' i)) moved.2 in
         inl (record { made = made ++ answered a v ∷ []; at = subst (λ (k : Takes). TakerAt b m' k (made ++ answered a v ∷ [])) same_calls there; list_is = list_is; taking = is' })
     after false is' =
-        let one_more : HasTakeMore m.shape calls moved.0 = subst (λ (z : Bool × Bool). IsAfter m.shape z.0 z.1 calls moved.0) (λ i. (taking i, is' i)) moved.2 in
+        let one_more : HasTakeMore m.shape calls moved.0 = subst (λ (z : Bool × Bool). IsAfterTake m.shape z.0 z.1 calls moved.0) (λ i. (taking i, is' i)) moved.2 in
         inr (record { more = moved.0; made = made ++ answered a v ∷ []; at = there; taking = is'; is_more = subst (λ (z : Shape). HasTakeMore z calls moved.0) (sym same_shape) one_more })
 
     pub goes : TakerGoes b m' calls ⊎ TakerOver b m' calls
@@ -87,7 +87,7 @@ module _ (laws : LawsBelow) (e : RingEnd) (m : ConsumerState) (calls : Takes) (g
     pub may_feed : LastBitIsDue m.shape C (due_take m) → v ≡ true
     may_feed = feeds laws e m calls g.made g.at a due next expects due_is (zeros calls g.made g.at.stands) g.list_is b v h
 
-    pub went : (m' : ConsumerState) → m'.shape ≡ m.shape → HasMoved m m' calls (g.made ++ answered a v ∷ []) → TakerIn b m' calls
+    pub went : (m' : ConsumerState) → m'.shape ≡ m.shape → ConsumerHasMoved m m' calls (g.made ++ answered a v ∷ []) → TakerIn b m' calls
     went m' same_shape moved = goes laws e m calls g.made g.at a due next expects due_is (zeros calls g.made g.at.stands) g.list_is b v h m' same_shape moved g.taking
 
 -- while a take is under way, it goes on
@@ -104,23 +104,23 @@ pub count_due : (m : ConsumerState) (a : Access) → m.stage ≡ Counting → du
 count_due m a e due = by (due_writes m.row) refl
   where
     due_there : due_unary m.row ≡ Some a
-    due_there = sym (ap (λ (st : Stage). due_at st m) e) ∙ due
+    due_there = sym (ap (λ (st : Stage). consumer_due_at st m) e) ∙ due
 
     by : (l : List RowWrite) → due_writes m.row ≡ l → (x : RowWrite) × (rest : List RowWrite) × (due_writes m.row ≡ x ∷ rest)
     by [] is = absurd (none-some a (sym (ap (first_access (row_bit m.row.side)) is) ∙ due_there))
     by (x ∷ rest) is = (x, rest, is)
 
 -- a state with another scan, or another word, and no more
-pub scan_is : (p q : ConsumerState) (s : ScanState) → q ≡ record p { scan = s } → IsSameButScan p q
+pub scan_is : (p q : ConsumerState) (s : ScanState) → q ≡ record p { scan = s } → IsConsumerButScan p q
 scan_is p q s e = e ∙ ap (λ (x : ScanState). record p { scan = x }) (sym (ap (λ (x : ConsumerState). x.scan) e))
 
-pub word_is : (p q : ConsumerState) (w : ReaderState) → q ≡ record p { word = w } → IsSameButWord p q
+pub word_is : (p q : ConsumerState) (w : ReaderState) → q ≡ record p { word = w } → IsConsumerButWord p q
 word_is p q w e = e ∙ ap (λ (x : ReaderState). record p { word = x }) (sym (ap (λ (x : ConsumerState). x.word) e))
 
-pub same_scan : (p q r : ConsumerState) → IsSameButScan p q → IsSameButScan q r → IsSameButScan p r
+pub same_scan : (p q r : ConsumerState) → IsConsumerButScan p q → IsConsumerButScan q r → IsConsumerButScan p r
 same_scan p q r e f = f ∙ ap (λ (x : ConsumerState). record x { scan = r.scan }) e
 
-pub same_word : (p q r : ConsumerState) → IsSameButWord p q → IsSameButWord q r → IsSameButWord p r
+pub same_word : (p q r : ConsumerState) → IsConsumerButWord p q → IsConsumerButWord q r → IsConsumerButWord p r
 same_word p q r e f = f ∙ ap (λ (x : ConsumerState). record x { word = r.word }) e
 
 -- ---- the loop over accesses
@@ -171,9 +171,9 @@ over e m b m' calls is made ends = by (is_taking m) is made
 -- the take is over: it is one of the takes, or it was refused once one was told that the ring is closed
 pub data Ended (e e' : RingEnd) (m1 m' : ConsumerState) (calls : Takes) : Type 0 where
   More : (o : TakerOver e' m' calls) → Ended e e' m1 m' calls
-  Refused : e' ≡ e → m' ≡ m1 → is_taking m1 ≡ false → tells calls.end ≡ true → m1.reply ≡ Some reply.Closed → Ended e e' m1 m' calls
+  Refused : e' ≡ e → m' ≡ m1 → is_taking m1 ≡ false → ends_closed calls.end ≡ true → m1.reply ≡ Some reply.Closed → Ended e e' m1 m' calls
 
-module _ (e : RingEnd) (m : ConsumerState) (calls : Takes) (made : List Made) (at : TakerAt e m calls made) (idle : is_taking m ≡ false) (m1 : ConsumerState) (begins : TakeBegins m m1 calls made) where
+module _ (e : RingEnd) (m : ConsumerState) (calls : Takes) (made : List Made) (at : TakerAt e m calls made) (idle : is_taking m ≡ false) (m1 : ConsumerState) (begins : TakeWasBegun m m1 calls made) where
   one : TakerAt e m1 calls made
   one = record { side_is = at.side_is; lawful = at.lawful; shape_is = begins.0 ∙ at.shape_is; stands = begins.1; list_is = inl list_made }
     where
@@ -229,7 +229,7 @@ module _ (e : RingEnd) (m : ConsumerState) (calls : Takes) (made : List Made) (a
         take_by (More o) =
             let is_more : HasTakeMore e'.ring.shape calls o.more = subst (λ (z : Shape). HasTakeMore z calls o.more) o.at.shape_is o.is_more in
             let told = over_reply e'.ring.shape calls o.more is_more in
-            let replied : m'.reply ≡ reply_at_end (o.more).end (o.more).takes = subst (λ (t : Bool). IsReply o.more t m'.reply) o.taking o.at.stands.reply_is in (
+            let replied : m'.reply ≡ reply_at_end (o.more).end (o.more).takes = subst (λ (t : Bool). IsReplyToTake o.more t m'.reply) o.taking o.at.stands.reply_is in (
               told.0,
               replied ∙ told.1,
               record {

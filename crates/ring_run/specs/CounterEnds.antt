@@ -9,7 +9,7 @@ use Rattle.ring_core.specs.ProducerCalls.{count_of, and_put, IsPutOf}
 use Rattle.ring_core.specs.declared.consumers.TakeReply as take_replies
 use Rattle.ring_core.specs.declared.consumers.TakeReply.TheVariants as take_reply
 use Rattle.ring_core.specs.Takes.{Takes, Open, taken_in}
-use Rattle.ring_core.specs.ConsumerCalls.{Finding, finding_phrase, Finds, HasTakeMore, tells}
+use Rattle.ring_core.specs.ConsumerCalls.{Finding, finding_phrase, Finds, HasTakeMore, ends_closed}
 use Rattle.ring_run.specs.Ring.{RingEnd}
 use Rattle.ring_run.specs.Hands.{IsSameEnd, StandsAs}
 use Rattle.ring_run.specs.Ends.{HasPuts, HasTakes, IsTakeReply}
@@ -59,13 +59,13 @@ pub record TakerList (e : RingEnd) (count cell : ℕ) (calls : Takes) : Type 0 w
   pub cell_is : cell ≡ taken_in 0 calls.takes % capacity_of e.ring.shape
 
 abbrev pub IsTakerList : RingEnd → ℕ → ℕ → Bool → Type 0
-IsTakerList e count cell told = (calls : Takes) × TakerList e count cell calls × (told ≡ tells calls.end)
+IsTakerList e count cell told = (calls : Takes) × TakerList e count cell calls × (told ≡ ends_closed calls.end)
 
 -- how many items a reply brings
-abbrev pub items_in : take_replies.TakeReply → ℕ
-items_in (take_reply.Item item) = 1
-items_in take_reply.Empty = 0
-items_in take_reply.Closed = 0
+abbrev pub items_brought : take_replies.TakeReply → ℕ
+items_brought (take_reply.Item item) = 1
+items_brought take_reply.Empty = 0
+items_brought take_reply.Closed = 0
 
 -- one take more was made, and was answered so
 pub record TakeMade (a b : RingEnd) (calls : Takes) (reply : take_replies.TakeReply) : Type 0 where
@@ -75,8 +75,8 @@ pub record TakeMade (a b : RingEnd) (calls : Takes) (reply : take_replies.TakeRe
   pub is_more : HasTakeMore b.ring.shape calls more
   pub replied : IsTakeReply more reply
   pub has : HasTakes b.ring.shape b.list more
-  pub number : taken_in 0 more.takes ≡ taken_in 0 calls.takes + items_in reply
-  pub told : closed_reply (Some reply) ≡ tells more.end
+  pub number : taken_in 0 more.takes ≡ taken_in 0 calls.takes + items_brought reply
+  pub told : closed_reply (Some reply) ≡ ends_closed more.end
 
 -- so it was, and the count and the cell are those of the calls
 pub record TakeKept (a b : RingEnd) (count cell : ℕ) (calls : Takes) (reply : take_replies.TakeReply) : Type 0 where

@@ -44,12 +44,12 @@ first_counts shape = replicate (words_of shape) 0
 -- ---- what the words show of a list of their writer's events
 
 -- what the writes of a bit in the list leave: the value of the last one, or the bit's first value
-abbrev pub left_by : List Event → Bit → Bool
-left_by list b = last_value (first_value b) (writes_begun b list)
+abbrev pub value_left : List Event → Bit → Bool
+value_left list b = last_value (first_value b) (writes_begun b list)
 
 -- the accesses of a side's unary write of v to its count, over the bits that its list left
 abbrev pub unary_over : Side → List Event → ℕ → List Made
-unary_over x list v = writes_in (row_bit x) (unary_phrase (λ i. left_by list (row_bit x i)) v)
+unary_over x list v = writes_in (row_bit x) (unary_phrase (λ i. value_left list (row_bit x i)) v)
 
 -- no write of a bit of the row stands in the list
 abbrev pub NoWriteOf : (ℕ → Bit) → List Event → Type 0
@@ -79,7 +79,7 @@ pub record ShowsWords (shape : Shape) (words : List ℕ) (h : List Event) : Type
   pub small : (x : Side) → slice_index words (count_place x) < modulus_of shape
   pub cell : (j : ℕ) → j < capacity_of shape → IsLastItem (width_of shape) j (own P h) (slice_index words (cell_place j))
   pub fits : (j : ℕ) → j < capacity_of shape → slice_index words (cell_place j) < 2 ^ width_of shape
-  pub close : slice_index words 0 ≡ bits.digit (held X h)
+  pub close : slice_index words 0 ≡ bits.value_word (held X h)
 
 -- the rule of the counter ring
 abbrev pub KeptWords : Shape → State (Unit {0}) View → Type 0
@@ -109,8 +109,8 @@ pub record GrowsBy (a b : RingEnd) (made : List Made) : Type 0 where
   pub stands : Stands b.ring.shape b.side b.list b.known
 
 -- a number tells nothing, or that it is below another
-abbrev pub Nothing : ℕ → Type 0
-Nothing n = Unit {0}
+abbrev pub TellsNothing : ℕ → Type 0
+TellsNothing n = Unit {0}
 
 abbrev pub IsBelow : ℕ → ℕ → Type 0
 IsBelow most n = n < most

@@ -52,7 +52,7 @@ pub record HasPutPart (shape : Shape) (c : producer.Call) (whole list : List Eve
 abbrev pub PutAdds : Bool → Shape → Puts → List ℕ → batch_replies.BatchReply → List Event → List Event → Type 0
 PutAdds true shape calls items reply before after = (reply ≡ batch_reply.Closed) × (after ≡ before)
 PutAdds false shape calls items reply before after =
-    (x : Put) × puts.IsPutOf shape (puts.count_of shape calls).number items x × (reply ≡ puts.reply_to x) × HasPuts shape after (puts.and_put calls x)
+    (x : Put) × puts.IsPutOf shape (puts.count_of shape calls).number items x × (reply ≡ puts.put_reply_to x) × HasPuts shape after (puts.and_put calls x)
 
 pub record HasPutAll (shape : Shape) (items : List ℕ) (before after : List Event) (reply : batch_replies.BatchReply) : Type 0 where
   pub calls : Puts
@@ -113,4 +113,4 @@ TakeAdds false shape calls reply before after = (more : Takes) × takes.HasTakeM
 pub record HasTaken (shape : Shape) (before after : List Event) (reply : take_replies.TakeReply) : Type 0 where
   pub calls : Takes
   pub before_is : HasTakes shape before calls
-  pub adds : TakeAdds (takes.tells calls.end) shape calls reply before after
+  pub adds : TakeAdds (takes.ends_closed calls.end) shape calls reply before after

@@ -7,7 +7,7 @@ use Rattle.bits_core.specs.declared.events.Act.TheVariants.{ReadBegin, ReadEnd, 
 use Rattle.bits_core.specs.declared.events.Event.{Event}
 use Rattle.bits_core.specs.History.{open_access}
 use Rattle.ring_run.specs.Ring.{RingEnd}
-use Rattle.ring_run.specs.Programs.{Follows, GoesOn, begin_of, end_of}
+use Rattle.ring_run.specs.Programs.{Follows, GoesOn, begin_of, ending_event}
 use Rattle.ring_run.specs.Rule.{Stands}
 use Rattle.ring_run.specs.Words.{agrees, answer_of}
 use Rattle.ring_run.specs.declared.views.Loads.{Loads}
@@ -37,7 +37,7 @@ CanStep a access =
 -- the access began, or it ended with this answer
 abbrev pub HasStepped : RingEnd → RingEnd → Access → Option Bool → Type 0
 HasStepped a b access None = (open_access a.side a.list ≡ None) × Grows a b (begin_of a.side access)
-HasStepped a b access (Some v) = (open_access a.side a.list ≡ Some access) × Grows a b (end_of a.side access v)
+HasStepped a b access (Some v) = (open_access a.side a.list ≡ Some access) × Grows a b (ending_event a.side access v)
 
 -- the access can be made as a whole
 abbrev pub CanMake : RingEnd → Access → Type 0
@@ -47,7 +47,7 @@ CanMake a access =
 
 -- the access was made, and had this answer
 abbrev pub HasMade : RingEnd → RingEnd → Access → Bool → Type 0
-HasMade a b access v = (mid : RingEnd) × Grows a mid (begin_of a.side access) × Grows mid b (end_of a.side access v)
+HasMade a b access v = (mid : RingEnd) × Grows a mid (begin_of a.side access) × Grows mid b (ending_event a.side access v)
 
 -- an oracle, by the answers that it has from now on, was asked nothing, or once
 abbrev pub IsAskedOnce : {O : Type 0} → (O → ℕ → Bool) → O → O → Type 0
@@ -60,9 +60,9 @@ abbrev pub asks_of : Loads → ℕ
 asks_of l = if agrees l.first l.found then 0 else 1
 
 -- the same of reads one after another
-abbrev pub asked_by : List Loads → ℕ
-asked_by [] = 0
-asked_by (l ∷ rest) = asks_of l + asked_by rest
+abbrev pub asks_of_all : List Loads → ℕ
+asks_of_all [] = 0
+asks_of_all (l ∷ rest) = asks_of l + asks_of_all rest
 
 -- what these reads answer, by the answers that their oracle has from now on
 abbrev pub answers_by : List Loads → (ℕ → Bool) → List Bool
@@ -86,4 +86,4 @@ pub record AreAnswered (a b : RingEnd) (old new : ℕ → Bool) : Type 0 where
   pub loads : List Loads
   pub loads_are : b.loads ≡ a.loads ++ loads
   pub answers_are : answers_in b.list ≡ answers_in a.list ++ answers_by loads old
-  pub asked : (i : ℕ) → new i ≡ old (i + asked_by loads)
+  pub asked : (i : ℕ) → new i ≡ old (i + asks_of_all loads)

@@ -26,8 +26,8 @@ abbrev pub ListIs : Side → List Event → List Made → Option Access → Type
 ListIs x list made due = (list ≡ events_of x made) ⊎ ((access : Access) × (due ≡ Some access) × (list ≡ events_of x made ++ begin_of x access ∷ []))
 
 -- the list without its last n events
-abbrev pub before_last : ℕ → List Event → List Event
-before_last n list = take (length list - n) list
+abbrev pub without_last : ℕ → List Event → List Event
+without_last n list = take (length list - n) list
 
 -- the last n events of the list are of a call that has so many accesses at most
 abbrev pub IsMarked : ℕ → List Event → ℕ → Type 0
@@ -50,16 +50,16 @@ pub record IsPutter (e : RingEnd) (m : ProducerState) (whole : List Event) : Typ
   pub whole_is : whole ≡ events_of P (put_program e.ring.shape calls)
 
 -- what a put is answered at once after a close
-abbrev pub IsRefused : Call → Option replies.BatchReply → Type 0
-IsRefused (Put items) answer = answer ≡ Some reply.Closed
-IsRefused Close answer = Unit {0}
+abbrev pub IsRefusedAtOnce : Call → Option replies.BatchReply → Type 0
+IsRefusedAtOnce (Put items) answer = answer ≡ Some reply.Closed
+IsRefusedAtOnce Close answer = Unit {0}
 
 -- The call was begun, or it is under way; the accesses made stay. After a close it is over at once.
 abbrev pub CallBegins : ProducerState → ProducerState → Puts → List Made → Call → Type 0
 CallBegins m m' calls made c =
     (m'.shape ≡ m.shape) × puts.ProducerStands m' calls made ×
     (((call_of m' ≡ Some c) × ((m' ≡ m) ⊎ (due_put m ≡ None) × (call_of m ≡ None)))
-    ⊎ ((call_of m' ≡ None) × (call_of m ≡ None) × (due_put m ≡ None) × (calls.closes ≡ true) × IsRefused c m'.reply))
+    ⊎ ((call_of m' ≡ None) × (call_of m ≡ None) × (due_put m ≡ None) × (calls.closes ≡ true) × IsRefusedAtOnce c m'.reply))
 
 -- one step of the call under way
 pub record PutterStep (a : RingEnd) (m : ProducerState) (b : RingEnd) (m' : ProducerState) (calls : Puts) : Type 0 where
@@ -68,7 +68,7 @@ pub record PutterStep (a : RingEnd) (m : ProducerState) (b : RingEnd) (m' : Prod
   pub more : Puts
   pub made : List Made
   pub at : PutterAt b m' more made
-  pub after : puts.IsAfter m.shape (call_of m) (call_of m') calls more m'.reply
+  pub after : puts.IsAfterCall m.shape (call_of m) (call_of m') calls more m'.reply
   pub within : (c : Call) → call_of m ≡ Some c → length b.list < 2 * (length (put_program m.shape calls) + puts.longest m.shape c) + 1
   pub part : (c : Call) → call_of m' ≡ Some c → HasPutPart b.ring.shape c (events_of P (put_program m.shape calls)) b.list
 
@@ -123,11 +123,11 @@ pub record IsTaker (e : RingEnd) (m : ConsumerState) (whole : List Event) : Type
   pub whole_is : whole ≡ events_of C (take_program e.ring.shape calls)
 
 -- A take was begun, or is under way; the accesses made stay. Once one was told that the ring is closed it is over at once.
-abbrev pub TakeBegins : ConsumerState → ConsumerState → Takes → List Made → Type 0
-TakeBegins m m' calls made =
+abbrev pub TakeWasBegun : ConsumerState → ConsumerState → Takes → List Made → Type 0
+TakeWasBegun m m' calls made =
     (m'.shape ≡ m.shape) × takes.ConsumerStands m' calls made ×
     (((is_taking m' ≡ true) × ((m' ≡ m) ⊎ (due_take m ≡ None) × (is_taking m ≡ false)))
-    ⊎ ((is_taking m' ≡ false) × (is_taking m ≡ false) × (due_take m ≡ None) × (takes.tells calls.end ≡ true) × (m'.reply ≡ Some take_reply.Closed)))
+    ⊎ ((is_taking m' ≡ false) × (is_taking m ≡ false) × (due_take m ≡ None) × (takes.ends_closed calls.end ≡ true) × (m'.reply ≡ Some take_reply.Closed)))
 
 pub record TakerStep (a : RingEnd) (m : ConsumerState) (b : RingEnd) (m' : ConsumerState) (calls : Takes) : Type 0 where
   pub event : Event
@@ -135,7 +135,7 @@ pub record TakerStep (a : RingEnd) (m : ConsumerState) (b : RingEnd) (m' : Consu
   pub more : Takes
   pub made : List Made
   pub at : TakerAt b m' more made
-  pub after : takes.IsAfter m.shape (is_taking m) (is_taking m') calls more
+  pub after : takes.IsAfterTake m.shape (is_taking m) (is_taking m') calls more
   pub within : length b.list < 2 * (length (take_program m.shape calls) + longest_take m.shape) + 1
   pub part : is_taking m' ≡ true → HasTakePart b.ring.shape (events_of C (take_program m.shape calls)) b.list
 

@@ -8,13 +8,13 @@ use Rattle.ring_core.specs.declared.consumers.TakeReply.{TakeReply}
 use Rattle.ring_core.specs.declared.consumers.TakeReply.TheVariants.{Item, Empty, Closed}
 use Rattle.ring_core.specs.Puts.{Puts}
 use Rattle.ring_core.specs.Takes.{Takes}
-use Rattle.ring_core.specs.ConsumerCalls.{tells}
+use Rattle.ring_core.specs.ConsumerCalls.{ends_closed}
 use Rattle.ring_run.specs.Ring.{RingEnd}
 use Rattle.ring_run.specs.Programs.{IsRing}
 use Rattle.ring_run.specs.Ends.{HasPuts, HasTakes}
 
 -- the same end but for what it knows
-pub record Keeps (a b : RingEnd) : Type 0 where
+pub record KeepsEnd (a b : RingEnd) : Type 0 where
   pub ring : b.ring ≡ a.ring
   pub side : b.side ≡ a.side
   pub list : b.list ≡ a.list
@@ -42,7 +42,7 @@ pub record ClosesAre (shape : Shape) (list : List Event) (closed : Bool) : Type 
 pub record TellsAre (shape : Shape) (list : List Event) (told : Bool) : Type 0 where
   pub calls : Takes
   pub list_is : HasTakes shape list calls
-  pub told_is : told ≡ tells calls.end
+  pub told_is : told ≡ ends_closed calls.end
 
 -- whether a take was answered so
 abbrev pub closed_reply : Option TakeReply → Bool

@@ -26,11 +26,11 @@ pub record IsRing (shape : Shape) (h : List Event) : Type 0 where
 abbrev pub begin_of : Side → Access → Event
 begin_of x access = begin_event x (answered access true)
 
-abbrev pub end_of : Side → Access → Bool → Event
-end_of x access v = end_event x (answered access v)
+abbrev pub ending_event : Side → Access → Bool → Event
+ending_event x access v = end_event x (answered access v)
 
 -- whatever the open access is answered, where that is lawful, the side goes on by its program
 abbrev pub GoesOn : Shape → Side → Access → List Event → Type 0
 GoesOn shape x access list =
-    (h : List Event) (v : Bool) → IsLawful shape (h ++ end_of x access v ∷ []) → IsRing shape h → own x h ≡ list →
-    Follows shape x (list ++ end_of x access v ∷ [])
+    (h : List Event) (v : Bool) → IsLawful shape (h ++ ending_event x access v ∷ []) → IsRing shape h → own x h ≡ list →
+    Follows shape x (list ++ ending_event x access v ∷ [])

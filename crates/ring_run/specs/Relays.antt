@@ -13,7 +13,7 @@ use Rattle.bits_core.specs.Shape.{batch_of}
 use Rattle.ring_core.specs.CallsAt.{stored_by}
 use Rattle.ring_core.specs.ProducerCalls.{IsPutOf}
 use Rattle.ring_core.specs.Over.{fulls, empties}
-use Rattle.ring_core.specs.ConsumerCalls.{tells}
+use Rattle.ring_core.specs.ConsumerCalls.{ends_closed}
 use Rattle.ring_run.specs.Ends.{HasPuts, HasTakes}
 
 -- These puts, behind n items, were given the items in order: each as many of those not yet stored as the shape's batch has, or
@@ -47,7 +47,7 @@ pub record TakesAre (shape : Shape) (list : List Event) (taken : List ℕ) (empt
   pub list_is : HasTakes shape list calls
   pub taken_is : all_taken calls.takes ≡ taken
   pub empty_is : empties calls.takes ≡ empty
-  pub told_is : tells calls.end ≡ told
+  pub told_is : ends_closed calls.end ≡ told
 
 -- at most as many takes as the limit were made, and as many where none was told that the ring is closed
 pub record HasRelayedTakes (shape : Shape) (list : List Event) (limit : ℕ) (taken : List ℕ) (empty : ℕ) (closed : Bool) : Type 0 where

@@ -111,12 +111,12 @@ pub record KeptBy (count : Shape → ℕ) (IsShown : Shape → List ℕ → List
   pub seats : FitsAll history known owner s.views
 
 -- the rule of the flickering ring
-abbrev pub Kept : Shape → State (Unit {0}) View → Type 0
-Kept shape s = KeptBy word_count Shows shape s
+abbrev pub KeepsFlickerRule : Shape → State (Unit {0}) View → Type 0
+KeepsFlickerRule shape s = KeptBy word_count Shows shape s
 
 -- the word at the place is this in a state that keeps the rule
-abbrev pub IsFound : (State (Unit {0}) View → Type 0) → ℕ → ℕ → Type 0
-IsFound holds place word = (s : State (Unit {0}) View) × holds s × (slice_index s.words place ≡ word)
+abbrev pub IsWordFound : (State (Unit {0}) View → Type 0) → ℕ → ℕ → Type 0
+IsWordFound holds place word = (s : State (Unit {0}) View) × holds s × (slice_index s.words place ≡ word)
 
 -- the side has no access open
 abbrev pub IsIdle : Side → List Event → Type 0

@@ -26,13 +26,13 @@ no_shape = record {
 }
 
 -- the word of a value
-abbrev pub digit : Bool → ℕ
-digit true = 1
-digit false = 0
+abbrev pub value_word : Bool → ℕ
+value_word true = 1
+value_word false = 0
 
 -- a word, by the value that is being written, if any is, and the value held
 abbrev pub word_shown : Option Bool → Bool → ℕ
-word_shown None v = digit v
+word_shown None v = value_word v
 word_shown (Some w) v = 2
 
 -- what a bit's word shows of a history: 2 where a write of the bit is open, and else the value that the bit holds

@@ -4,7 +4,7 @@ ghost use Rattle.bits_core.specs.declared.events.Side.TheVariants.{P, C};
 ghost use Rattle.ring_core.specs.Linear.{EachReadingIsLinearizable};
 ghost use Rattle.ring_run.specs.Hands.{StandsAs};
 ghost use Rattle.ring_run.specs.Rule.{IsIdle};
-ghost use Rattle.ring_run.specs.Meetings.{Keeps, Meets, ClosesAre, TellsAre};
+ghost use Rattle.ring_run.specs.Meetings.{KeepsEnd, Meets, ClosesAre, TellsAre};
 
 use crate::below::laws_below;
 use crate::counter_hands::CounterHand;
@@ -65,8 +65,8 @@ impl CounterRing<Global> {
         taker: CounterTaker<'a>,
     ) -> (CounterPutter<'a>, CounterTaker<'a>)
         requires ring { putter.ring ≡ taker.ring }
-        ensures putter { Keeps putter.entry result.0 }
-        ensures taker { Keeps taker.entry result.1 }
+        ensures putter { KeepsEnd putter.entry result.0 }
+        ensures taker { KeepsEnd taker.entry result.1 }
         ensures one { result.1.known ≡ result.0.known }
         ensures meets { Meets putter.entry taker.entry result.0.known }
         ensures linearizable { EachReadingIsLinearizable putter.entry.ring.shape result.0.known }
@@ -174,8 +174,8 @@ fn meet_hands<'a>(p: CounterHand<'a>, c: CounterHand<'a>) -> (CounterHand<'a>, C
     requires sides { (p.side ≡ P) × (c.side ≡ C) }
     requires ring { p.ring ≡ c.ring }
     requires idle { IsIdle P p.list × IsIdle C c.list }
-    ensures putter { Keeps p.entry result.0 }
-    ensures taker { Keeps c.entry result.1 }
+    ensures putter { KeepsEnd p.entry result.0 }
+    ensures taker { KeepsEnd c.entry result.1 }
     ensures one { result.1.known ≡ result.0.known }
     ensures meets { Meets p.entry c.entry result.0.known }
     ensures lawful { StandsAs P result.0 × StandsAs C result.1 }

@@ -1,6 +1,6 @@
 //! The counter ring.
 ghost use Rattle.std.specs.Prelude.{◌≡◌, ◌<◌, [], IfOk};
-ghost use Rattle.ring_run.specs.Rule.{IsFound, joint};
+ghost use Rattle.ring_run.specs.Rule.{IsWordFound, joint};
 ghost use Rattle.ring_run.specs.Counters.{KeptWords, first_counts, words_of};
 
 use crate::below::laws_below;
@@ -88,7 +88,7 @@ impl<A: Allocator> CounterRing<A> {
     /// that of a state which keeps the ring's rule ([`CounterRule`]). The place is below 3 and the capacity.
     pub fn observe(&self, place: usize) -> u64
         requires { place < words_of self.now.shape }
-        ensures { IsFound (KeptWords self.now.shape) place result }
+        ensures { IsWordFound (KeptWords self.now.shape) place result }
     {
         self.words().find::<Brand>(place)
     }

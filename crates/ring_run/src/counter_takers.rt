@@ -6,7 +6,7 @@ ghost use Rattle.ring_core.specs.Takes.{Takes, Open};
 ghost use Rattle.ring_run.specs.Hands.{IsSameEnd, StandsAs};
 ghost use Rattle.ring_run.specs.Ends.{HasTaken};
 ghost use Rattle.ring_run.specs.Ring.{RingEnd};
-ghost use Rattle.ring_run.specs.CounterEnds.{TakerList, TakeMade, TakeKept, LookMade, HasLooked, items_in};
+ghost use Rattle.ring_run.specs.CounterEnds.{TakerList, TakeMade, TakeKept, LookMade, HasLooked, items_brought};
 
 use crate::below::laws_below;
 use crate::counter_hands::{CounterHand, past_in};
@@ -86,7 +86,7 @@ fn take_open<'a>(hand: &mut CounterHand<'a>, count: u64, cell: u64) -> TakeReply
 
 // How many items a reply brings.
 fn brought(reply: TakeReply) -> u64
-    ensures { result ≡ items_in reply }
+    ensures { result ≡ items_brought reply }
 {
     match reply {
         TakeReply::Item(_) => 1,

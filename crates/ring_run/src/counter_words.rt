@@ -2,7 +2,7 @@
 ghost use Rattle.std.specs.Prelude.{◌≡◌, ℕ, ◌<◌, true, []};
 ghost use Rattle.atomic_table.specs.Table.{Allows};
 ghost use Rattle.bits_core.specs.declared.events.Side.TheVariants.{P, C};
-ghost use Rattle.ring_run.specs.Rule.{Learned, Holds, IsFound, IsIdle, joint, joined, putter_of, taker_of};
+ghost use Rattle.ring_run.specs.Rule.{Learned, Holds, IsWordFound, IsIdle, joint, joined, putter_of, taker_of};
 ghost use Rattle.ring_run.specs.Counters.{KeptWords, AddedAll, words_of};
 
 use crate::below::laws_below;
@@ -53,7 +53,7 @@ impl Block for Brand {
     ghost use Rattle.std.specs.Prelude.{[]};
     ghost use Rattle.bits_core.specs.declared.events.Side.TheVariants.{P};
     ghost use Rattle.ring_run.specs.Words.{no_shape};
-    ghost use Rattle.ring_run.specs.Counters.{Nothing};
+    ghost use Rattle.ring_run.specs.Counters.{TellsNothing};
 
     ghost shape = { no_shape };
 
@@ -61,7 +61,7 @@ impl Block for Brand {
 
     ghost made = { λ _. [] };
 
-    ghost tells = { Nothing };
+    ghost tells = { TellsNothing };
 }
 
 // A step that adds whole accesses.
@@ -81,10 +81,10 @@ pub struct FindsWord<N> {
 }
 
 impl<N: Note> Play<(), View> for FindsWord<N> {
-    ghost use Rattle.ring_run.specs.Rule.{IsFound};
+    ghost use Rattle.ring_run.specs.Rule.{IsWordFound};
     ghost use Rattle.ring_run.specs.Counters.{KeptWords};
 
-    ghost then = { λ step _ n _. IsFound (KeptWords N.shape) step.word n };
+    ghost then = { λ step _ n _. IsWordFound (KeptWords N.shape) step.word n };
 }
 
 // The words of a counter ring, by which one of its ends steps. To a contract they are that ring.
@@ -160,7 +160,7 @@ impl<'a> CounterWords<'a> {
     pub(crate) fn find<N: Note>(&self, word: usize) -> u64
         requires own { word < words_of self.now.shape }
         requires shape { N.shape ≡ self.now.shape }
-        ensures { IsFound (KeptWords self.now.shape) word result }
+        ensures { IsWordFound (KeptWords self.now.shape) word result }
     {
         let (found, _seat) = self.shared.load_new_seat::<FindsWord<N>>(word);
         found

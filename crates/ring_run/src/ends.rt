@@ -107,7 +107,7 @@ pub trait RingOf<E: PutEnd, F: TakeEnd> {
     ghost use Rattle.bits_core.specs.declared.events.Side.TheVariants.{P, C};
     ghost use Rattle.ring_core.specs.Linear.{EachReadingIsLinearizable};
     ghost use Rattle.ring_run.specs.Hands.{StandsAs};
-    ghost use Rattle.ring_run.specs.Meetings.{Keeps, Meets, ClosesAre, TellsAre};
+    ghost use Rattle.ring_run.specs.Meetings.{KeepsEnd, Meets, ClosesAre, TellsAre};
 
     /// Both ends learn one lawful history, whose sides are their two lists and which begins with what each knew. Its calls
     /// are linearizable. All later calls of both stand behind it. The ends are those of one ring, with no call under way; they come back with
@@ -115,8 +115,8 @@ pub trait RingOf<E: PutEnd, F: TakeEnd> {
     fn meet(putter: E, taker: F) -> (E, F)
         requires ring { (E.end putter).ring ≡ (F.end taker).ring }
         requires idle { E.idle putter × F.idle taker }
-        ensures putter { Keeps (E.end putter) (E.end result.0) × E.idle result.0 }
-        ensures taker { Keeps (F.end taker) (F.end result.1) × F.idle result.1 }
+        ensures putter { KeepsEnd (E.end putter) (E.end result.0) × E.idle result.0 }
+        ensures taker { KeepsEnd (F.end taker) (F.end result.1) × F.idle result.1 }
         ensures one { (F.end result.1).known ≡ (E.end result.0).known }
         ensures meets { Meets (E.end putter) (F.end taker) (E.end result.0).known }
         ensures linearizable { EachReadingIsLinearizable (E.end putter).ring.shape (E.end result.0).known }

@@ -5,8 +5,8 @@ ghost use Rattle.bits_core.specs.Shape.{belongs};
 ghost use Rattle.bits_core.specs.Bits.{reader, writer};
 ghost use Rattle.bits_core.specs.Open.{IsOpenRight};
 ghost use Rattle.bits_core.specs.History.{open_access};
-ghost use Rattle.ring_run.specs.Words.{digit, agrees, answer_of};
-ghost use Rattle.ring_run.specs.Programs.{Follows, GoesOn, begin_of, end_of};
+ghost use Rattle.ring_run.specs.Words.{value_word, agrees, answer_of};
+ghost use Rattle.ring_run.specs.Programs.{Follows, GoesOn, begin_of, ending_event};
 ghost use Rattle.ring_run.specs.Rule.{IsIdle};
 ghost use Rattle.ring_run.specs.Hands.{AreAnswered, Grows, CanMake, CanStep, HasMade, HasStepped, IsAskedOnce};
 
@@ -62,7 +62,7 @@ impl<'a> Hand<'a> {
         requires bit { (belongs self.old.ring.shape bit ≡ true) × (self.old.side ≡ reader bit) }
         requires at { open_access self.old.side self.old.list ≡ Some (Read bit) }
         requires program { GoesOn self.old.ring.shape self.old.side (Read bit) self.old.list }
-        ensures grows { Grows self.old self.new (end_of self.old.side (Read bit) result) }
+        ensures grows { Grows self.old self.new (ending_event self.old.side (Read bit) result) }
         ensures oracle { IsAskedOnce O.answers oracle.old oracle.new }
         ensures answered { AreAnswered self.old self.new (O.answers oracle.old) (O.answers oracle.new) }
     {
@@ -93,7 +93,7 @@ impl<'a> Hand<'a> {
         requires bit { (belongs self.old.ring.shape bit ≡ true) × (self.old.side ≡ writer bit) }
         requires at { open_access self.old.side self.old.list ≡ Some (Write bit value) }
         requires program { GoesOn self.old.ring.shape self.old.side (Write bit value) self.old.list }
-        ensures grows { Grows self.old self.new (end_of self.old.side (Write bit value) value) }
+        ensures grows { Grows self.old self.new (ending_event self.old.side (Write bit value) value) }
         ensures quiet { (said : ℕ → Bool) → AreAnswered self.old self.new said said }
     {
         laws_below();
@@ -121,7 +121,7 @@ impl<'a> Hand<'a> {
         requires right { IsOpenRight self.old.ring.shape self.old.side access }
         requires at { open_access self.old.side self.old.list ≡ Some access }
         requires program { GoesOn self.old.ring.shape self.old.side access self.old.list }
-        ensures grows { Grows self.old self.new (end_of self.old.side access result) }
+        ensures grows { Grows self.old self.new (ending_event self.old.side access result) }
         ensures oracle { IsAskedOnce O.answers oracle.old oracle.new }
         ensures answered { AreAnswered self.old self.new (O.answers oracle.old) (O.answers oracle.new) }
     {
@@ -225,7 +225,7 @@ fn answer<O: Oracle>(first: u64, found: u64, oracle: &mut O) -> bool
 
 #[inline(always)]
 fn word_of(value: bool) -> u64
-    ensures { result ≡ digit value }
+    ensures { result ≡ value_word value }
 {
     if value { 1 } else { 0 }
 }

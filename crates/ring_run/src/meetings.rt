@@ -4,7 +4,7 @@ ghost use Rattle.bits_core.specs.declared.events.Side.TheVariants.{P, C};
 ghost use Rattle.ring_core.specs.Linear.{EachReadingIsLinearizable};
 ghost use Rattle.ring_run.specs.Hands.{StandsAs};
 ghost use Rattle.ring_run.specs.Rule.{IsIdle};
-ghost use Rattle.ring_run.specs.Meetings.{Keeps, Meets, ClosesAre, TellsAre, closed_reply};
+ghost use Rattle.ring_run.specs.Meetings.{KeepsEnd, Meets, ClosesAre, TellsAre, closed_reply};
 
 use crate::below::laws_below;
 use crate::hands::Hand;
@@ -98,8 +98,8 @@ impl FlickerRing<Global> {
     ) -> (Putter<'a, O1>, Taker<'a, O2>)
         requires ring { putter.end.ring ≡ taker.end.ring }
         requires idle { (putter.call ≡ None) × (taker.taking ≡ false) }
-        ensures putter { Keeps putter.entry.end result.0.end × (result.0.call ≡ None) }
-        ensures taker { Keeps taker.entry.end result.1.end × (result.1.taking ≡ false) }
+        ensures putter { KeepsEnd putter.entry.end result.0.end × (result.0.call ≡ None) }
+        ensures taker { KeepsEnd taker.entry.end result.1.end × (result.1.taking ≡ false) }
         ensures one { result.1.end.known ≡ result.0.end.known }
         ensures meets { Meets putter.entry.end taker.entry.end result.0.end.known }
         ensures linearizable { EachReadingIsLinearizable putter.entry.end.ring.shape result.0.end.known }
@@ -192,8 +192,8 @@ fn first_cores<'a>(ring: Words<'a>, same: Words<'a>, start: Start) -> (PutCore<'
 fn meet_cores<'a>(putter: PutCore<'a>, taker: TakeCore<'a>) -> (PutCore<'a>, TakeCore<'a>)
     requires ring { putter.end.ring ≡ taker.end.ring }
     requires idle { (putter.call ≡ None) × (taker.taking ≡ false) }
-    ensures putter { Keeps putter.entry.end result.0.end × (result.0.call ≡ None) }
-    ensures taker { Keeps taker.entry.end result.1.end × (result.1.taking ≡ false) }
+    ensures putter { KeepsEnd putter.entry.end result.0.end × (result.0.call ≡ None) }
+    ensures taker { KeepsEnd taker.entry.end result.1.end × (result.1.taking ≡ false) }
     ensures one { result.1.end.known ≡ result.0.end.known }
     ensures meets { Meets putter.entry.end taker.entry.end result.0.end.known }
     ensures lawful { StandsAs P result.0.end × StandsAs C result.1.end }
@@ -290,8 +290,8 @@ fn meet_hands<'a>(p: Hand<'a>, c: Hand<'a>) -> (Hand<'a>, Hand<'a>)
     requires sides { (p.side ≡ P) × (c.side ≡ C) }
     requires ring { p.ring ≡ c.ring }
     requires idle { IsIdle P p.list × IsIdle C c.list }
-    ensures putter { Keeps p.entry result.0 }
-    ensures taker { Keeps c.entry result.1 }
+    ensures putter { KeepsEnd p.entry result.0 }
+    ensures taker { KeepsEnd c.entry result.1 }
     ensures one { result.1.known ≡ result.0.known }
     ensures meets { Meets p.entry c.entry result.0.known }
     ensures lawful { StandsAs P result.0 × StandsAs C result.1 }

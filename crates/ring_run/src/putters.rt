@@ -32,13 +32,13 @@ pub struct PutCore<'a> {
 impl<'a> Model for PutCore<'a> {
     ghost use Rattle.ring_core.specs.ProducerState.{call_of};
     ghost use Rattle.ring_run.specs.Ends.{PutterState, whole_put};
-    ghost use Rattle.ring_run.specs.Machines.{IsMarked, IsPutter, before_last, longest_at};
+    ghost use Rattle.ring_run.specs.Machines.{IsMarked, IsPutter, without_last, longest_at};
 
     ghost Value = { PutterState (Unit {0}) };
 
-    ghost view = { λ p. record { end = p.hand; call = call_of p.machine; batched = p.machine.batched; start = before_last p.steps p.hand.list; oracle = tt } };
+    ghost view = { λ p. record { end = p.hand; call = call_of p.machine; batched = p.machine.batched; start = without_last p.steps p.hand.list; oracle = tt } };
 
-    ghost invariant = { λ p. IsPutter p.hand p.machine (whole_put (call_of p.machine) p.hand.list (before_last p.steps p.hand.list)) × IsMarked p.steps p.hand.list (longest_at p.machine.shape (call_of p.machine)) };
+    ghost invariant = { λ p. IsPutter p.hand p.machine (whole_put (call_of p.machine) p.hand.list (without_last p.steps p.hand.list)) × IsMarked p.steps p.hand.list (longest_at p.machine.shape (call_of p.machine)) };
 }
 
 /// The producer's end of a ring. Its calls `put`, `put_all` and `close` are those of [`PutEnd`](crate::PutEnd); the step

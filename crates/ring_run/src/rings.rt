@@ -1,7 +1,7 @@
 //! The ring.
 ghost use Rattle.std.specs.Prelude.{◌≡◌, true, [], IfOk};
 ghost use Rattle.bits_core.specs.Shape.{belongs};
-ghost use Rattle.ring_run.specs.Rule.{Kept, IsFound, joint};
+ghost use Rattle.ring_run.specs.Rule.{KeepsFlickerRule, IsWordFound, joint};
 ghost use Rattle.ring_run.specs.Words.{first_words, word_count, word_place};
 
 use crate::below::laws_below;
@@ -106,7 +106,7 @@ impl<A: Allocator> FlickerRing<A> {
     /// two seats that may step, and this is what its bit shows. The bit is one of the ring's shape.
     pub fn observe(&self, bit: Bit) -> u64
         requires { belongs self.now.shape bit ≡ true }
-        ensures { IsFound (Kept self.now.shape) (word_place self.now.shape bit) result }
+        ensures { IsWordFound (KeepsFlickerRule self.now.shape) (word_place self.now.shape bit) result }
     {
         let words = self.words();
         let place = words.word_of(bit);

@@ -10,7 +10,7 @@ ghost use Rattle.ring_core.specs.ConsumerCalls.{ConsumerStands};
 ghost use Rattle.ring_run.specs.Hands.{AreAnswered, Grows, IsAskedOnce, IsSameEnd, StandsAs};
 ghost use Rattle.bits_core.specs.declared.events.Side.TheVariants.{C};
 ghost use Rattle.ring_run.specs.Ends.{HasTaken, HasTakePart, whole_take, takes_whole};
-ghost use Rattle.ring_run.specs.Machines.{TakerAt, TakerIn, TakerOver, TakerReady, TakerStep, TakeBegins};
+ghost use Rattle.ring_run.specs.Machines.{TakerAt, TakerIn, TakerOver, TakerReady, TakerStep, TakeWasBegun};
 
 use crate::below::laws_below;
 use crate::hands::Hand;
@@ -30,13 +30,13 @@ pub struct TakeCore<'a> {
 impl<'a> Model for TakeCore<'a> {
     ghost use Rattle.ring_core.specs.ConsumerState.{is_taking};
     ghost use Rattle.ring_run.specs.Ends.{TakerState, whole_take};
-    ghost use Rattle.ring_run.specs.Machines.{IsMarked, IsTaker, before_last, longest_taking};
+    ghost use Rattle.ring_run.specs.Machines.{IsMarked, IsTaker, without_last, longest_taking};
 
     ghost Value = { TakerState (Unit {0}) };
 
-    ghost view = { λ p. record { end = p.hand; taking = is_taking p.machine; start = before_last p.steps p.hand.list; oracle = tt } };
+    ghost view = { λ p. record { end = p.hand; taking = is_taking p.machine; start = without_last p.steps p.hand.list; oracle = tt } };
 
-    ghost invariant = { λ p. IsTaker p.hand p.machine (whole_take (is_taking p.machine) p.hand.list (before_last p.steps p.hand.list)) × IsMarked p.steps p.hand.list (longest_taking p.machine.shape (is_taking p.machine)) };
+    ghost invariant = { λ p. IsTaker p.hand p.machine (whole_take (is_taking p.machine) p.hand.list (without_last p.steps p.hand.list)) × IsMarked p.steps p.hand.list (longest_taking p.machine.shape (is_taking p.machine)) };
 }
 
 /// The consumer's end of a ring. Its call `take` is that of [`TakeEnd`](crate::TakeEnd); the step call here makes one
@@ -201,7 +201,7 @@ fn steps_behind(steps: u64, machine: &Consumer) -> u64
 #[inline(always)]
 fn begin_take(machine: &mut Consumer)
     requires stands { (calls : Takes) × (made : List Made) × ConsumerStands machine.old calls made }
-    ensures begins { (calls : Takes) (made : List Made) → ConsumerStands machine.old calls made → TakeBegins machine.old machine.new calls made }
+    ensures begins { (calls : Takes) (made : List Made) → ConsumerStands machine.old calls made → TakeWasBegun machine.old machine.new calls made }
 {
     if machine.next().is_none() {
         machine.take();

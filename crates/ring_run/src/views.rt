@@ -48,9 +48,9 @@ pub struct FlickerRule;
 
 impl TableRule<(), View, Shape> for FlickerRule {
     ghost use Rattle.std.specs.Prelude.{[]};
-    ghost use Rattle.ring_run.specs.Rule.{Kept, joint};
+    ghost use Rattle.ring_run.specs.Rule.{KeepsFlickerRule, joint};
 
-    ghost holds = { Kept };
+    ghost holds = { KeepsFlickerRule };
 
     ghost first = { λ _. joint [] [] [] [] };
 }
@@ -104,9 +104,9 @@ pub struct Finds<N> {
 }
 
 impl<N: Note> Play<(), View> for Finds<N> {
-    ghost use Rattle.ring_run.specs.Rule.{Kept, IsFound};
+    ghost use Rattle.ring_run.specs.Rule.{KeepsFlickerRule, IsWordFound};
 
-    ghost then = { λ step _ n _. IsFound (Kept N.shape) step.word n };
+    ghost then = { λ step _ n _. IsWordFound (KeepsFlickerRule N.shape) step.word n };
 }
 
 // The joint view is cut in two.

@@ -3,7 +3,7 @@ ghost use Rattle.std.specs.Prelude.{◌≡◌, ℕ, ◌<◌, true, []};
 ghost use Rattle.atomic_table.specs.Table.{Allows};
 ghost use Rattle.bits_core.specs.declared.events.Side.TheVariants.{P, C};
 ghost use Rattle.bits_core.specs.Shape.{belongs};
-ghost use Rattle.ring_run.specs.Rule.{Kept, Added, Learned, Holds, IsFound, IsIdle, joint, joined, putter_of, taker_of};
+ghost use Rattle.ring_run.specs.Rule.{KeepsFlickerRule, Added, Learned, Holds, IsWordFound, IsIdle, joint, joined, putter_of, taker_of};
 ghost use Rattle.ring_run.specs.Words.{word_place};
 
 use crate::below::laws_below;
@@ -79,7 +79,7 @@ impl<'a> Words<'a> {
         about: &T,
     ) -> u64
         requires own { (seat.old.table_id ≡ self.now.id) × (belongs self.now.shape bit ≡ true) }
-        requires rule { (slots : ℕ) → Allows (Kept self.now.shape) slots seat.old.id seat.old.me (word_place self.now.shape bit) (λ n. n) (Added N.shape N.event seat.old.me) }
+        requires rule { (slots : ℕ) → Allows (KeepsFlickerRule self.now.shape) slots seat.old.id seat.old.me (word_place self.now.shape bit) (λ n. n) (Added N.shape N.event seat.old.me) }
         ensures same { (seat.new.table_id ≡ seat.old.table_id) × (seat.new.id ≡ seat.old.id) }
         ensures added { Added N.shape N.event seat.old.me result seat.new.me }
     {
@@ -99,7 +99,7 @@ impl<'a> Words<'a> {
     ) -> u64
         requires own { (seat.old.table_id ≡ self.now.id) × (belongs self.now.shape bit ≡ true) }
         requires place { word ≡ word_place self.now.shape bit }
-        requires rule { (slots : ℕ) → Allows (Kept self.now.shape) slots seat.old.id seat.old.me (word_place self.now.shape bit) (λ n. n) (Added N.shape N.event seat.old.me) }
+        requires rule { (slots : ℕ) → Allows (KeepsFlickerRule self.now.shape) slots seat.old.id seat.old.me (word_place self.now.shape bit) (λ n. n) (Added N.shape N.event seat.old.me) }
         ensures same { (seat.new.table_id ≡ seat.old.table_id) × (seat.new.id ≡ seat.old.id) }
         ensures added { Added N.shape N.event seat.old.me result seat.new.me }
     {
@@ -116,7 +116,7 @@ impl<'a> Words<'a> {
         new: u64,
     )
         requires own { (seat.old.table_id ≡ self.now.id) × (belongs self.now.shape bit ≡ true) }
-        requires rule { (slots : ℕ) → Allows (Kept self.now.shape) slots seat.old.id seat.old.me (word_place self.now.shape bit) (λ _. new) (λ _. Added N.shape N.event seat.old.me new) }
+        requires rule { (slots : ℕ) → Allows (KeepsFlickerRule self.now.shape) slots seat.old.id seat.old.me (word_place self.now.shape bit) (λ _. new) (λ _. Added N.shape N.event seat.old.me new) }
         ensures same { (seat.new.table_id ≡ seat.old.table_id) × (seat.new.id ≡ seat.old.id) }
         ensures added { Added N.shape N.event seat.old.me new seat.new.me }
     {
@@ -137,7 +137,7 @@ impl<'a> Words<'a> {
     )
         requires own { (seat.old.table_id ≡ self.now.id) × (belongs self.now.shape bit ≡ true) }
         requires place { word ≡ word_place self.now.shape bit }
-        requires rule { (slots : ℕ) → Allows (Kept self.now.shape) slots seat.old.id seat.old.me (word_place self.now.shape bit) (λ _. new) (λ _. Added N.shape N.event seat.old.me new) }
+        requires rule { (slots : ℕ) → Allows (KeepsFlickerRule self.now.shape) slots seat.old.id seat.old.me (word_place self.now.shape bit) (λ _. new) (λ _. Added N.shape N.event seat.old.me new) }
         ensures same { (seat.new.table_id ≡ seat.old.table_id) × (seat.new.id ≡ seat.old.id) }
         ensures added { Added N.shape N.event seat.old.me new seat.new.me }
     {
@@ -148,7 +148,7 @@ impl<'a> Words<'a> {
     pub(crate) fn find<N: Note>(&self, word: usize) -> u64
         requires own { word < word_count self.now.shape }
         requires shape { N.shape ≡ self.now.shape }
-        ensures { IsFound (Kept self.now.shape) word result }
+        ensures { IsWordFound (KeepsFlickerRule self.now.shape) word result }
     {
         let (found, _seat) = self.shared.load_new_seat::<Finds<N>>(word);
         found

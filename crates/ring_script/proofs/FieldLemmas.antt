@@ -6,7 +6,7 @@ use Rattle.serde_json.specs.Data.{Data, object, Members, no_members, member}
 use Rattle.std.proofs.lemmas.Slice.Eq.{bytes_eq-Decides}
 use Rattle.ring_script.specs.Faults.{IsFirst, IsMissing, field_place, is_needed}
 use Rattle.ring_script.specs.Results.{result_and_then}
-use Rattle.ring_script.specs.FieldReading.{FieldValues, field_of, found, has_known_names, is_name, values_of}
+use Rattle.ring_script.specs.FieldReading.{FieldValues, field_of, found, has_known_names, is_name, field_values}
 use Rattle.ring_script.specs.Fields.{name_of, HasKnownNames, IsName, held_as}
 use Rattle.ring_script.specs.declared.faults.Field.{Field}
 use Rattle.ring_script.specs.declared.faults.Field.TheVariants as field
@@ -163,8 +163,8 @@ pub record HasValues (ms : Members) (vs : FieldValues) : Type 0 where
   pub oracle : held_as field.Oracle ms ≡ Some vs.oracle
   pub batch : held_as field.Batch ms ≡ vs.batch
 
-pub values_from : (ms : Members) (vs : FieldValues) → values_of (object ms) ≡ Ok vs → HasValues ms vs
-unfolding values_of
+pub values_from : (ms : Members) (vs : FieldValues) → field_values (object ms) ≡ Ok vs → HasValues ms vs
+unfolding field_values
 values_from ms vs e =
     let p1 = and_then_ok (field_of field.Capacity (object ms)) _ vs e in
     let p2 = and_then_ok (field_of field.Modulus (object ms)) _ vs p1.2 in
@@ -187,8 +187,8 @@ values_from ms vs e =
       batch = ap (λ (r : FieldValues). r.batch) same;
     }
 
-pub values_to : (ms : Members) (vs : FieldValues) → HasValues ms vs → values_of (object ms) ≡ Ok vs
-unfolding values_of
+pub values_to : (ms : Members) (vs : FieldValues) → HasValues ms vs → field_values (object ms) ≡ Ok vs
+unfolding field_values
 values_to ms vs h = rw (h.capacity, h.modulus, h.width, h.items, h.takes, h.close, h.schedule, h.oracle, h.batch)
 
 stood : (ms : Members) (f : Field) (v : Data) → found f (held_as f ms) ≡ Ok v → ¬ IsMissing ms f
@@ -202,8 +202,8 @@ missing ms f x needed before e =
     let n = not_found f (held_as f ms) x e in
     (f, n.0, first_of (IsMissing ms) f before (needed, n.1))
 
-pub values_missing : (ms : Members) (x : ScriptFault) → values_of (object ms) ≡ Err x → IsMissingFirst ms x
-unfolding values_of
+pub values_missing : (ms : Members) (x : ScriptFault) → field_values (object ms) ≡ Err x → IsMissingFirst ms x
+unfolding field_values
 values_missing ms x e =
     elim (and_then_err (field_of field.Capacity (object ms)) _ x e) [
       | inl n ↦ missing ms field.Capacity x refl tt n
@@ -255,8 +255,8 @@ there ms f None is needed m = absurd (m (needed, is))
 value_there : (ms : Members) (f : Field) → is_needed f ≡ true → ¬ IsMissing ms f → (v : Data) × (found f (held_as f ms) ≡ Ok v)
 value_there ms f needed m = there ms f (held_as f ms) refl needed m
 
-pub missing_told : (ms : Members) (f : Field) → IsFirst (IsMissing ms) f → values_of (object ms) ≡ Err (MissingField f)
-unfolding values_of
+pub missing_told : (ms : Members) (f : Field) → IsFirst (IsMissing ms) f → field_values (object ms) ≡ Err (MissingField f)
+unfolding field_values
 missing_told ms field.Capacity h =
     and_then_fails _ _ _ (ap (found field.Capacity) h.so.1)
 missing_told ms field.Modulus h =

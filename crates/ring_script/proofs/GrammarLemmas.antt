@@ -12,8 +12,8 @@ use Rattle.std.proofs.lemmas.List.{append-nil}
 use Rattle.bits_core.specs.declared.events.Side.{Side}
 use Rattle.bits_core.specs.declared.events.Side.TheVariants.{P, C}
 use Rattle.ring_script.specs.Faults.{IsFirstStray}
-use Rattle.ring_script.specs.Schedule.{IsCount, IsSchedule, IsScheduleText, Part, count_of, letter_of, part_letters, part_text}
-use Rattle.ring_script.specs.ScheduleReading.{is_digit, is_letter, letters_after, letters_of, may_stand, side_of, stray_from, stray_in, times}
+use Rattle.ring_script.specs.Schedule.{IsLetterCount, IsSchedule, IsScheduleText, Part, letters_counted, letter_of, part_letters, part_text}
+use Rattle.ring_script.specs.ScheduleReading.{is_digit, is_letter, letters_after, letters_of, may_stand, letter_side, stray_from, stray_in, times}
 
 -- ---- bytes that may stand
 
@@ -105,7 +105,7 @@ letter_no_digit : (s : Side) → is_digit (letter_of s) ≡ false
 letter_no_digit P = refl
 letter_no_digit C = refl
 
-side_letter : (s : Side) → side_of (letter_of s) ≡ s
+side_letter : (s : Side) → letter_side (letter_of s) ≡ s
 side_letter P = refl
 side_letter C = refl
 
@@ -126,7 +126,7 @@ first_of_count b c l e low high = grind arith
 never_first : (c : ℕ) → may_stand 0 c ≡ true → 48 ≤ c → c ≤ 57 → ⊥
 never_first c e low high = grind arith
 
-letter_back : (b : ℕ) → is_letter b ≡ true → b ≡ letter_of (side_of b)
+letter_back : (b : ℕ) → is_letter b ≡ true → b ≡ letter_of (letter_side b)
 letter_back b l = grind arith
 
 -- ---- parts are read
@@ -138,7 +138,7 @@ digits_stand (c ∷ cs) d before e rest h =
     let digit : is_digit c ≡ true = digit_is c range.0 range.1 in
     (digit_after_digit before c e digit, digits_stand cs d.1 c digit rest h)
 
-count_stands : (s : Side) (ds : List ℕ) → IsCount ds → (rest : List ℕ) → ((b : ℕ) → Stands b rest) → Stands (letter_of s) (ds ++ rest)
+count_stands : (s : Side) (ds : List ℕ) → IsLetterCount ds → (rest : List ℕ) → ((b : ℕ) → Stands b rest) → Stands (letter_of s) (ds ++ rest)
 count_stands s [] c rest h = h (letter_of s)
 count_stands s (b ∷ more) c rest h = (digit_after_letter s b c.0 c.1, digits_stand more c.2 b (digit_is b (omega (arith, c.0)) c.1) rest h)
 
@@ -158,12 +158,12 @@ value_grows : (n : ℕ) (ds : List ℕ) → n ≤ digits_value_after 10 n ds
 value_grows n [] = omega arith
 value_grows n (c ∷ cs) = omega (arith, value_grows (n * 10 + digit_value c) cs)
 
-count_is : (ds : List ℕ) → IsCount ds → max 1 (digits_value_after 10 0 ds) ≡ count_of ds
+count_is : (ds : List ℕ) → IsLetterCount ds → max 1 (digits_value_after 10 0 ds) ≡ letters_counted ds
 count_is [] c = refl
 count_is (b ∷ more) c =
     omega (arith, value_grows (0 * 10 + digit_value b) more, digit_value_digit b (omega (arith, c.0), c.1), c.0)
 
-count_digits : (ds : List ℕ) → IsCount ds → AllDigits 10 ds
+count_digits : (ds : List ℕ) → IsLetterCount ds → AllDigits 10 ds
 count_digits [] c = tt
 count_digits (b ∷ more) c = (digit_below b (omega (arith, c.0)) c.1, c.2)
 
@@ -198,7 +198,7 @@ record Front (before : ℕ) (text : List ℕ) : Type 0 where
   all_digits : AllDigits 10 digits
   opens : Opens before digits
 
-proper_from : (b : ℕ) → is_letter b ≡ true → (ds : List ℕ) → Opens b ds → AllDigits 10 ds → IsCount ds
+proper_from : (b : ℕ) → is_letter b ≡ true → (ds : List ℕ) → Opens b ds → AllDigits 10 ds → IsLetterCount ds
 proper_from b l [] o d = tt
 proper_from b l (c ∷ cs) o d =
     let range = digit_from_value c d.0 in
@@ -207,7 +207,7 @@ proper_from b l (c ∷ cs) o d =
 front_at : (letter digit : Bool) (before b : ℕ) (rest : List ℕ) → is_letter b ≡ letter → is_digit b ≡ digit → may_stand before b ≡ true → Front b rest → Front before (b ∷ rest)
 front_at true digit before b rest l d stands later = record {
   digits = [];
-  parts = record { side = side_of b; count = later.digits; proper = proper_from b l later.digits later.opens later.all_digits } ∷ later.parts;
+  parts = record { side = letter_side b; count = later.digits; proper = proper_from b l later.digits later.opens later.all_digits } ∷ later.parts;
   written = ap₂ (λ (c : ℕ) (t : List ℕ). c ∷ t) (letter_back b l) later.written;
   all_digits = tt;
   opens = tt;
@@ -270,11 +270,11 @@ stray_found text place s =
     ∙ ap Some (omega arith)
 
 -- what is written of a number from 1 is a count
-count_at : (ds : List ℕ) (n : ℕ) → 0 < length ds → AllDigits 10 ds → 48 < get_or ds 0 0 → digits_value 10 ds ≡ n → IsCount ds × (count_of ds ≡ n)
+count_at : (ds : List ℕ) (n : ℕ) → 0 < length ds → AllDigits 10 ds → 48 < get_or ds 0 0 → digits_value 10 ds ≡ n → IsLetterCount ds × (letters_counted ds ≡ n)
 count_at [] n some all first e = absurd (omega (arith, some))
 count_at (b ∷ more) n some all first e = ((first, (digit_from_value b all.0).1, all.1), e)
 
-pub decimal_is_count : (n : ℕ) → 0 < n → n < 2 ^ 64 → IsCount (decimal n) × (count_of (decimal n) ≡ n)
+pub decimal_is_count : (n : ℕ) → 0 < n → n < 2 ^ 64 → IsLetterCount (decimal n) × (letters_counted (decimal n) ≡ n)
 decimal_is_count n some small =
     let k = decimal_is_IsNumeral n small in
     count_at (decimal n) n k.0.0 k.0.1 (first_decimal n some small) k.1

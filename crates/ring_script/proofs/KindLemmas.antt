@@ -6,7 +6,7 @@ use Rattle.serde_json.specs.Find.{as_array, as_bool, as_str}
 use Rattle.ring_script.proofs.FieldLemmas.{Before, HasValues, and_then_at, and_then_err, and_then_fails, and_then_ok, first_of, ok_is, ok_not_err}
 use Rattle.ring_script.specs.Faults.{IsFirst, IsOfWrongKind, field_place}
 use Rattle.ring_script.specs.FieldReading.{FieldValues, batch_in, of_kind, typed_of, whole_of, wholes_of}
-use Rattle.ring_script.specs.Script.{Held}
+use Rattle.ring_script.specs.Script.{HeldFields}
 use Rattle.ring_script.specs.Fields.{HasBatchField, IsOfKind, IsText, IsWhole, held_as, wholes}
 use Rattle.ring_script.specs.declared.faults.Field.{Field}
 use Rattle.ring_script.specs.declared.faults.Field.TheVariants as field
@@ -107,7 +107,7 @@ abbrev pub IsWrongFirst : Members → ScriptFault → Type 0
 IsWrongFirst ms x = (f : Field) × (x ≡ WrongKind f) × IsFirst (IsOfWrongKind ms) f
 
 -- what the members have is this
-pub record HasKinds (ms : Members) (ts : Held) : Type 0 where
+pub record HasKinds (ms : Members) (ts : HeldFields) : Type 0 where
   pub capacity : held_as field.Capacity ms ≡ Some (number (unsigned ts.capacity))
   pub modulus : held_as field.Modulus ms ≡ Some (number (unsigned ts.modulus))
   pub width : held_as field.Width ms ≡ Some (number (unsigned ts.width))
@@ -118,7 +118,7 @@ pub record HasKinds (ms : Members) (ts : Held) : Type 0 where
   pub oracle : held_as field.Oracle ms ≡ Some (string ts.oracle)
   pub batch : HasBatchField ms ts.batch
 
-pub kinds_from : (ms : Members) (vs : FieldValues) (ts : Held) → HasValues ms vs → typed_of vs ≡ Ok ts → HasKinds ms ts
+pub kinds_from : (ms : Members) (vs : FieldValues) (ts : HeldFields) → HasValues ms vs → typed_of vs ≡ Ok ts → HasKinds ms ts
 unfolding typed_of
 kinds_from ms vs ts h e =
     let p1 = and_then_ok (of_kind field.Capacity (whole_of vs.capacity)) _ ts e in
@@ -132,21 +132,21 @@ kinds_from ms vs ts h e =
     let p9 = and_then_ok (batch_in vs.batch) _ ts p8.2 in
     let same = ok_is _ ts p9.2 in
     record {
-      capacity = h.capacity ∙ ap Some (whole_is _ _ (kind_is _ _ _ p1.1)) ∙ ap (λ (r : Held). Some (number (unsigned r.capacity))) same;
-      modulus = h.modulus ∙ ap Some (whole_is _ _ (kind_is _ _ _ p2.1)) ∙ ap (λ (r : Held). Some (number (unsigned r.modulus))) same;
-      width = h.width ∙ ap Some (whole_is _ _ (kind_is _ _ _ p3.1)) ∙ ap (λ (r : Held). Some (number (unsigned r.width))) same;
-      items = h.items ∙ ap Some (items_is _ _ (kind_is _ _ _ p4.1)) ∙ ap (λ (r : Held). Some (array (wholes r.items))) same;
-      takes = h.takes ∙ ap Some (whole_is _ _ (kind_is _ _ _ p5.1)) ∙ ap (λ (r : Held). Some (number (unsigned r.takes))) same;
-      close = h.close ∙ ap Some (bool_is _ _ (kind_is _ _ _ p6.1)) ∙ ap (λ (r : Held). Some (boolean r.close)) same;
-      schedule = h.schedule ∙ ap Some (text_is _ _ (kind_is _ _ _ p7.1)) ∙ ap (λ (r : Held). Some (string r.schedule)) same;
-      oracle = h.oracle ∙ ap Some (text_is _ _ (kind_is _ _ _ p8.1)) ∙ ap (λ (r : Held). Some (string r.oracle)) same;
-      batch = subst (λ (r : Held). HasBatchField ms r.batch) same (batch_at ms vs.batch _ h.batch p9.1);
+      capacity = h.capacity ∙ ap Some (whole_is _ _ (kind_is _ _ _ p1.1)) ∙ ap (λ (r : HeldFields). Some (number (unsigned r.capacity))) same;
+      modulus = h.modulus ∙ ap Some (whole_is _ _ (kind_is _ _ _ p2.1)) ∙ ap (λ (r : HeldFields). Some (number (unsigned r.modulus))) same;
+      width = h.width ∙ ap Some (whole_is _ _ (kind_is _ _ _ p3.1)) ∙ ap (λ (r : HeldFields). Some (number (unsigned r.width))) same;
+      items = h.items ∙ ap Some (items_is _ _ (kind_is _ _ _ p4.1)) ∙ ap (λ (r : HeldFields). Some (array (wholes r.items))) same;
+      takes = h.takes ∙ ap Some (whole_is _ _ (kind_is _ _ _ p5.1)) ∙ ap (λ (r : HeldFields). Some (number (unsigned r.takes))) same;
+      close = h.close ∙ ap Some (bool_is _ _ (kind_is _ _ _ p6.1)) ∙ ap (λ (r : HeldFields). Some (boolean r.close)) same;
+      schedule = h.schedule ∙ ap Some (text_is _ _ (kind_is _ _ _ p7.1)) ∙ ap (λ (r : HeldFields). Some (string r.schedule)) same;
+      oracle = h.oracle ∙ ap Some (text_is _ _ (kind_is _ _ _ p8.1)) ∙ ap (λ (r : HeldFields). Some (string r.oracle)) same;
+      batch = subst (λ (r : HeldFields). HasBatchField ms r.batch) same (batch_at ms vs.batch _ h.batch p9.1);
     }
 
 same_some : {A : Type 0} (o : Option A) (a b : A) → o ≡ Some a → o ≡ Some b → a ≡ b
 same_some o a b s t = cc
 
-pub kinds_to : (ms : Members) (vs : FieldValues) (ts : Held) → HasValues ms vs → HasKinds ms ts → typed_of vs ≡ Ok ts
+pub kinds_to : (ms : Members) (vs : FieldValues) (ts : HeldFields) → HasValues ms vs → HasKinds ms ts → typed_of vs ≡ Ok ts
 unfolding typed_of
 kinds_to ms vs ts h k =
     let e1 : vs.capacity ≡ number (unsigned ts.capacity) = same_some _ _ _ h.capacity k.capacity in

@@ -4,7 +4,7 @@ use Rattle.std.specs.Prelude.{slice_get, if◌then◌else◌}
 use Rattle.std.proofs.lemmas.List.{at_drop_more, at_drop_all, length-append, length-replicate, append-nil, nil_from_length}
 use Rattle.bits_core.specs.declared.events.Side.{Side}
 use Rattle.ring_script.specs.declared.schedules.Run.{Run}
-use Rattle.ring_script.specs.ScheduleReading.{is_digit, may_stand, stray_from, side_of, times, letters_after, letters_of}
+use Rattle.ring_script.specs.ScheduleReading.{is_digit, may_stand, stray_from, letter_side, times, letters_after, letters_of}
 use Rattle.ring_script.specs.Schedule.{runs_in, spelled}
 
 -- ---- the first stray byte
@@ -82,7 +82,7 @@ digit_next rest i s n d h is passed =
     at_drop_more (letters_after s n) rest i 0 h ∙ rw e
 
 pub letter_next : (rest : List ℕ) (i : ℕ) (s : Side) (n : ℕ) (d : Bool) → i < length rest → d ≡ is_digit (get_or rest i 0) → d ≡ false
-    → letters_after s n (drop i rest) ≡ times n s ++ letters_after (side_of (get_or rest i 0)) 0 (drop (i + 1) rest)
+    → letters_after s n (drop i rest) ≡ times n s ++ letters_after (letter_side (get_or rest i 0)) 0 (drop (i + 1) rest)
 unfolding letters_after
 letter_next rest i s n d h is failed =
     let e : is_digit (get_or rest i 0) ≡ false = sym is ∙ failed in
@@ -102,7 +102,7 @@ pub no_length : (text : List ℕ) (most : ℕ) → length text ≡ 0 → length 
 unfolding letters_of
 no_length text most e = let h : length (letters_of text) ≡ 0 = ap (λ t. length (letters_of t)) (nil_from_length text e) in omega (arith, h)
 
-pub letters_begin : (text rest : List ℕ) (b : ℕ) (s : Side) (rs : List Run) → text ≡ b ∷ rest → s ≡ side_of b → rs ≡ [] → spelled rs ++ letters_after s 0 rest ≡ letters_of text
+pub letters_begin : (text rest : List ℕ) (b : ℕ) (s : Side) (rs : List Run) → text ≡ b ∷ rest → s ≡ letter_side b → rs ≡ [] → spelled rs ++ letters_after s 0 rest ≡ letters_of text
 unfolding spelled letters_of
 letters_begin text rest b s rs e is none = ap (λ l. spelled l ++ letters_after s 0 rest) none ∙ ap (λ k. letters_after k 0 rest) is ∙ sym (ap letters_of e)
 
@@ -115,7 +115,7 @@ too_long most total done all rest s n e same h =
     omega (arith, ap length e, length-append done (letters_after s n rest), least rest s n, same)
 
 pub letters_pushed : (rs rs' : List Run) (r : Run) (all : List Side) (rest : List ℕ) (i : ℕ) (s s' : Side) (n : ℕ) (d : Bool) → i < length rest → d ≡ is_digit (get_or rest i 0) → d ≡ false
-    → spelled rs ++ letters_after s n (drop i rest) ≡ all → rs' ≡ rs ++ r ∷ [] → r.count ≡ max 1 n → r.side ≡ s → s' ≡ side_of (get_or rest i 0)
+    → spelled rs ++ letters_after s n (drop i rest) ≡ all → rs' ≡ rs ++ r ∷ [] → r.count ≡ max 1 n → r.side ≡ s → s' ≡ letter_side (get_or rest i 0)
     → spelled rs' ++ letters_after s' 0 (drop (i + 1) rest) ≡ all
 letters_pushed rs rs' r all rest i s s' n d h is failed e pushed count same side =
     ap (λ l. spelled l ++ letters_after s' 0 (drop (i + 1) rest)) pushed

@@ -18,10 +18,10 @@ use Rattle.ring_script.proofs.KindLemmas.{HasKinds, kinds_from, kinds_to, kinds_
 use Rattle.ring_script.specs.Results.{result_and_then}
 use Rattle.ring_script.specs.Schedule.{IsSchedule, IsScheduleText}
 use Rattle.ring_script.specs.ScheduleReading.{letters_of, stray_in}
-use Rattle.ring_script.specs.FieldReading.{FieldValues, has_known_names, names_in, typed_of, values_of}
+use Rattle.ring_script.specs.FieldReading.{FieldValues, has_known_names, names_in, typed_of, field_values}
 use Rattle.ring_script.specs.Content.{Content}
-use Rattle.ring_script.specs.Script.{Held, Fit, Holds, HoldsItems, HoldsLetters, HoldsShape, IsContentOf, IsOracle, IsOracleText, IsScript, answer_byte}
-use Rattle.ring_script.specs.ScriptReading.{Given, given_by, given_in, given_of, if_answers, if_fits, if_read, if_stands, is_no_answer, is_too_wide, items_in, json_of, oracle_of, schedule_of, script_of, shape_in}
+use Rattle.ring_script.specs.Script.{HeldFields, Fit, HoldsFields, HoldsItems, HoldsLetters, HoldsShape, IsContentOf, IsOracle, IsOracleText, IsScript, answer_byte}
+use Rattle.ring_script.specs.ScriptReading.{Given, given_by, given_in, given_of, if_answers, if_fits, if_read, if_stands, is_no_answer, is_too_wide, items_within, json_of, oracle_of, schedule_of, script_of, shape_in}
 use Rattle.ring_script.specs.Fields.{HasKnownNames, IsJson, IsObject, held_as, wholes}
 use Rattle.ring_script.specs.Faults.{IsScriptFault, IsFirstStray}
 use Rattle.ring_script.specs.Views.{IsKept}
@@ -146,12 +146,12 @@ few_at : (most w : ℕ) (t : Bool) (items : List ℕ) → nat_lt most (length it
 few_at most w true items is e = cc
 few_at most w false items is e = (not_over _ _ is, fits_at most w items _ refl e)
 
-items_from : (w : ℕ) (items : List ℕ) → items_in w items ≡ Ok tt → (length items ≤ ITEM_LIMIT) × Fit w items
-unfolding items_in
+items_from : (w : ℕ) (items : List ℕ) → items_within w items ≡ Ok tt → (length items ≤ ITEM_LIMIT) × Fit w items
+unfolding items_within
 items_from w items e = few_at ITEM_LIMIT w (nat_lt ITEM_LIMIT (length items)) items refl e
 
-items_to : (w : ℕ) (items : List ℕ) → length items ≤ ITEM_LIMIT → Fit w items → items_in w items ≡ Ok tt
-unfolding items_in
+items_to : (w : ℕ) (items : List ℕ) → length items ≤ ITEM_LIMIT → Fit w items → items_within w items ≡ Ok tt
+unfolding items_within
 items_to w items few fit = rw (under ITEM_LIMIT (length items) few) (ap if_fits (none_position (is_too_wide w) items ((fit_tested w).to items fit)))
 
 wide_at : (w : ℕ) (items : List ℕ) (o : Option ℕ) (x : ScriptFault) → position (is_too_wide w) items ≡ o → if_fits o ≡ Err x → (p : ℕ) × (x ≡ fault.ItemTooWide p) × IsFirstStray (Fit w) items p
@@ -162,16 +162,16 @@ many_at : (w : ℕ) (t : Bool) (items : List ℕ) (x : ScriptFault) → nat_lt I
 many_at w true items x is e = inl (sym (same_err _ x e), is_over _ _ is)
 many_at w false items x is e = let f = wide_at w items _ x refl e in inr (f.0, f.1, not_over _ _ is, f.2)
 
-items_why : (w : ℕ) (items : List ℕ) (x : ScriptFault) → items_in w items ≡ Err x → ItemsFault w items x
-unfolding items_in
+items_why : (w : ℕ) (items : List ℕ) (x : ScriptFault) → items_within w items ≡ Err x → ItemsFault w items x
+unfolding items_within
 items_why w items x e = many_at w (nat_lt ITEM_LIMIT (length items)) items x refl e
 
-many_told : (w : ℕ) (items : List ℕ) → ITEM_LIMIT < length items → items_in w items ≡ Err fault.TooManyItems
-unfolding items_in
+many_told : (w : ℕ) (items : List ℕ) → ITEM_LIMIT < length items → items_within w items ≡ Err fault.TooManyItems
+unfolding items_within
 many_told w items h = rw (over ITEM_LIMIT (length items) h)
 
-wide_told : (w : ℕ) (items : List ℕ) (p : ℕ) → length items ≤ ITEM_LIMIT → IsFirstStray (Fit w) items p → items_in w items ≡ Err (fault.ItemTooWide p)
-unfolding items_in
+wide_told : (w : ℕ) (items : List ℕ) (p : ℕ) → length items ≤ ITEM_LIMIT → IsFirstStray (Fit w) items p → items_within w items ≡ Err (fault.ItemTooWide p)
+unfolding items_within
 wide_told w items p few first = rw (under ITEM_LIMIT (length items) few) (ap if_fits (first_position (Fit w) (is_too_wide w) (fit_tested w) items p first))
 
 -- ---- the schedule
@@ -261,18 +261,18 @@ oracle_told text p first = ap (λ o. if_answers o text) (first_position IsOracle
 -- ---- what the fields hold
 
 -- what is read where nothing is wrong
-record IsGiven (bytes : List ℕ) (ts : Held) (g : Given) : Type 0 where
+record IsGiven (bytes : List ℕ) (ts : HeldFields) (g : Given) : Type 0 where
   pub letters : List Side
   pub oracle : List Bool
   pub lettered : HoldsLetters bytes ts letters
   pub answers : IsOracle ts.oracle oracle
   pub is : g ≡ record { capacity = ts.capacity; modulus = ts.modulus; width = ts.width; batch = ts.batch; items = ts.items; takes = ts.takes; closes = ts.close; letters = letters; oracle = oracle }
 
-given_from : (bytes : List ℕ) (ts : Held) (g : Given) → Holds bytes ts → given_of ts ≡ Ok g → IsGiven bytes ts g
+given_from : (bytes : List ℕ) (ts : HeldFields) (g : Given) → HoldsFields bytes ts → given_of ts ≡ Ok g → IsGiven bytes ts g
 unfolding given_of
 given_from bytes ts g h e =
     let p1 = and_then_ok (shape_in ts.capacity ts.modulus ts.width ts.batch) _ g e in
-    let p2 = and_then_ok (items_in ts.width ts.items) _ g p1.2 in
+    let p2 = and_then_ok (items_within ts.width ts.items) _ g p1.2 in
     let p3 = and_then_ok (schedule_of ts.schedule) _ g p2.2 in
     let p4 = and_then_ok (oracle_of ts.oracle) _ g p3.2 in
     let made = shape_made ts.capacity ts.modulus ts.width ts.batch p1.1 in
@@ -290,10 +290,10 @@ given_from bytes ts g h e =
       is = sym (ok_is _ g p4.2);
     }
 
-shaped_to : (bytes : List ℕ) (ts : Held) → HoldsShape bytes ts → shape_in ts.capacity ts.modulus ts.width ts.batch ≡ Ok tt
+shaped_to : (bytes : List ℕ) (ts : HeldFields) → HoldsShape bytes ts → shape_in ts.capacity ts.modulus ts.width ts.batch ≡ Ok tt
 shaped_to bytes ts h = shape_accepted ts.capacity ts.modulus ts.width ts.batch h.shape h.numbers
 
-given_why : (bytes : List ℕ) (ts : Held) (x : ScriptFault) → Holds bytes ts → given_of ts ≡ Err x → IsScriptFault bytes x
+given_why : (bytes : List ℕ) (ts : HeldFields) (x : ScriptFault) → HoldsFields bytes ts → given_of ts ≡ Err x → IsScriptFault bytes x
 unfolding given_of
 given_why bytes ts x h e =
     elim (and_then_err (shape_in ts.capacity ts.modulus ts.width ts.batch) _ x e) [
@@ -302,7 +302,7 @@ given_why bytes ts x h e =
       | inr r1 ↦
           let made = shape_made ts.capacity ts.modulus ts.width ts.batch r1.1 in
           let shaped : HoldsShape bytes ts = record { fields = h; shape = made.0; numbers = made.1 } in
-          elim (and_then_err (items_in ts.width ts.items) _ x r1.2) [
+          elim (and_then_err (items_within ts.width ts.items) _ x r1.2) [
             | inl n ↦
                 elim (items_why ts.width ts.items x n) [
                   | inl many ↦ subst (IsScriptFault bytes) (sym many.0) (ts, shaped, many.1)
@@ -331,22 +331,22 @@ given_why bytes ts x h e =
 
 -- ---- the object
 
-kinds_of : (bytes : List ℕ) (ts : Held) (h : Holds bytes ts) → HasKinds h.members ts
+kinds_of : (bytes : List ℕ) (ts : HeldFields) (h : HoldsFields bytes ts) → HasKinds h.members ts
 kinds_of bytes ts h = record { capacity = h.capacity; modulus = h.modulus; width = h.width; items = h.items; takes = h.takes; close = h.close; schedule = h.schedule; oracle = h.oracle; batch = h.batch }
 
-holds_from : (bytes : List ℕ) (ms : Members) (ts : Held) → IsObject bytes ms → HasKinds ms ts → Holds bytes ts
+holds_from : (bytes : List ℕ) (ms : Members) (ts : HeldFields) → IsObject bytes ms → HasKinds ms ts → HoldsFields bytes ts
 holds_from bytes ms ts o k = record { members = ms; is_object = o; capacity = k.capacity; modulus = k.modulus; width = k.width; items = k.items; takes = k.takes; close = k.close; schedule = k.schedule; oracle = k.oracle; batch = k.batch }
 
 -- bytes that are an object of known names are read so far
 object_to : (bytes : List ℕ) (ms : Members) (r : Result Given ScriptFault) → IsObject bytes ms
-    → result_and_then (values_of (object ms)) (λ values. result_and_then (typed_of values) given_of) ≡ r → script_of bytes ≡ r
+    → result_and_then (field_values (object ms)) (λ values. result_and_then (typed_of values) given_of) ≡ r → script_of bytes ≡ r
 unfolding script_of given_in
 object_to bytes ms r o e =
     and_then_at (json_of bytes) (object ms) _ r (json_to bytes (object ms) o.json)
     (and_then_at _ tt _ r (names_to ms o.known) e)
 
 -- and where its fields hold this, what they hold decides
-holds_to : (bytes : List ℕ) (ts : Held) (r : Result Given ScriptFault) → Holds bytes ts → given_of ts ≡ r → script_of bytes ≡ r
+holds_to : (bytes : List ℕ) (ts : HeldFields) (r : Result Given ScriptFault) → HoldsFields bytes ts → given_of ts ≡ r → script_of bytes ≡ r
 holds_to bytes ts r h e =
     let k = kinds_of bytes ts h in
     let vs : FieldValues = record {
@@ -362,14 +362,14 @@ holds_to bytes ts r h e =
     } in
     let has : HasValues h.members vs = record { capacity = h.capacity; modulus = h.modulus; width = h.width; items = h.items; takes = h.takes; close = h.close; schedule = h.schedule; oracle = h.oracle; batch = refl } in
     object_to bytes h.members r h.is_object
-    (and_then_at (values_of (object h.members)) vs _ r (values_to h.members vs has)
+    (and_then_at (field_values (object h.members)) vs _ r (values_to h.members vs has)
     (and_then_at (typed_of vs) ts _ r (kinds_to h.members vs ts has k) e))
 
 -- what bytes that are read so far hold
 object_why : (bytes : List ℕ) (ms : Members) (x : ScriptFault) → IsObject bytes ms
-    → result_and_then (values_of (object ms)) (λ values. result_and_then (typed_of values) given_of) ≡ Err x → IsScriptFault bytes x
+    → result_and_then (field_values (object ms)) (λ values. result_and_then (typed_of values) given_of) ≡ Err x → IsScriptFault bytes x
 object_why bytes ms x o e =
-    elim (and_then_err (values_of (object ms)) _ x e) [
+    elim (and_then_err (field_values (object ms)) _ x e) [
       | inl n ↦
           let w = values_missing ms x n in subst (IsScriptFault bytes) (sym w.1) (ms, o, w.2)
       | inr r1 ↦
@@ -382,9 +382,9 @@ object_why bytes ms x o e =
     ]
 
 object_from : (bytes : List ℕ) (ms : Members) (g : Given) → IsObject bytes ms
-    → result_and_then (values_of (object ms)) (λ values. result_and_then (typed_of values) given_of) ≡ Ok g → (ts : Held) × IsGiven bytes ts g
+    → result_and_then (field_values (object ms)) (λ values. result_and_then (typed_of values) given_of) ≡ Ok g → (ts : HeldFields) × IsGiven bytes ts g
 object_from bytes ms g o e =
-    let p1 = and_then_ok (values_of (object ms)) _ g e in
+    let p1 = and_then_ok (field_values (object ms)) _ g e in
     let p2 = and_then_ok (typed_of p1.0) _ g p1.2 in
     let has = values_from ms p1.0 p1.1 in
     (p2.0, given_from bytes p2.0 g (holds_from bytes ms p2.0 o (kinds_from ms p1.0 p2.0 has p2.1)) p2.2)
@@ -410,21 +410,21 @@ fault_from bytes x e =
             | inr r2 ↦
                 let ns = names_from r1.0 r2.1 in
                 object_why bytes ns.0 x (object_is bytes r1.0 ns.0 r1.1 ns.1 ns.2)
-                (subst (λ (d : Data). result_and_then (values_of d) (λ values. result_and_then (typed_of values) given_of) ≡ Err x) ns.1 r2.2)
+                (subst (λ (d : Data). result_and_then (field_values d) (λ values. result_and_then (typed_of values) given_of) ≡ Err x) ns.1 r2.2)
           ]
     ]
 
-given_at : (bytes : List ℕ) (g : Given) → script_of bytes ≡ Ok g → (ts : Held) × IsGiven bytes ts g
+given_at : (bytes : List ℕ) (g : Given) → script_of bytes ≡ Ok g → (ts : HeldFields) × IsGiven bytes ts g
 unfolding script_of given_in
 given_at bytes g e =
     let p1 = and_then_ok (json_of bytes) _ g e in
     let p2 = and_then_ok (names_in (as_object p1.0)) _ g p1.2 in
     let ns = names_from p1.0 p2.1 in
     object_from bytes ns.0 g (object_is bytes p1.0 ns.0 p1.1 ns.1 ns.2)
-    (subst (λ (d : Data). result_and_then (values_of d) (λ values. result_and_then (typed_of values) given_of) ≡ Ok g) ns.1 p2.2)
+    (subst (λ (d : Data). result_and_then (field_values d) (λ values. result_and_then (typed_of values) given_of) ≡ Ok g) ns.1 p2.2)
 
 -- bytes that are read are a script
-script_at : (bytes : List ℕ) (ts : Held) (c : Content) → IsGiven bytes ts (given_by c) → IsScript bytes c
+script_at : (bytes : List ℕ) (ts : HeldFields) (c : Content) → IsGiven bytes ts (given_by c) → IsScript bytes c
 script_at bytes ts c g = record {
   held = ts;
   lettered = subst (HoldsLetters bytes ts) (sym (ap (λ (r : Given). r.letters) g.is)) g.lettered;
@@ -444,12 +444,12 @@ pub script_from : (bytes : List ℕ) (c : Content) → script_of bytes ≡ Ok (g
 script_from bytes c e = let g = given_at bytes (given_by c) e in script_at bytes g.0 c g.1
 
 -- values of fields that are read stand for a script, which is that of the bytes that hold them
-content_from : (ts : Held) (c : Content) → given_of ts ≡ Ok (given_by c) → IsContentOf ts c
+content_from : (ts : HeldFields) (c : Content) → given_of ts ≡ Ok (given_by c) → IsContentOf ts c
 unfolding given_of
 content_from ts c e =
     let g = given_by c in
     let p1 = and_then_ok (shape_in ts.capacity ts.modulus ts.width ts.batch) _ g e in
-    let p2 = and_then_ok (items_in ts.width ts.items) _ g p1.2 in
+    let p2 = and_then_ok (items_within ts.width ts.items) _ g p1.2 in
     let p3 = and_then_ok (schedule_of ts.schedule) _ g p2.2 in
     let p4 = and_then_ok (oracle_of ts.oracle) _ g p3.2 in
     let is = sym (ok_is _ g p4.2) in
@@ -467,11 +467,11 @@ content_from ts c e =
       oracle = subst (IsOracle ts.oracle) (sym (ap (λ (r : Given). r.oracle) is)) (oracle_from ts.oracle p4.0 p4.1);
     }
 
-fields_read : (ts : Held) (c : Content) → given_of ts ≡ Ok (given_by c) → (bytes : List ℕ) → Holds bytes ts → IsScript bytes c
+fields_read : (ts : HeldFields) (c : Content) → given_of ts ≡ Ok (given_by c) → (bytes : List ℕ) → HoldsFields bytes ts → IsScript bytes c
 fields_read ts c e bytes h = script_at bytes ts c (given_from bytes ts (given_by c) h e)
 
 -- and values that are refused have the fault of the bytes that hold them
-fields_refused : (ts : Held) (x : ScriptFault) → given_of ts ≡ Err x → (bytes : List ℕ) → Holds bytes ts → IsScriptFault bytes x
+fields_refused : (ts : HeldFields) (x : ScriptFault) → given_of ts ≡ Err x → (bytes : List ℕ) → HoldsFields bytes ts → IsScriptFault bytes x
 fields_refused ts x e bytes h = given_why bytes ts x h e
 
 pub script_to : (bytes : List ℕ) (c : Content) → IsScript bytes c → script_of bytes ≡ Ok (given_by c)
@@ -501,24 +501,24 @@ fault_told bytes (fault.WrongKind g) f =
     let vs = values_there f.0 f.2 in
     object_to bytes f.0 _ f.1 (and_then_at _ vs.0 _ _ (values_to f.0 vs.0 vs.1) (and_then_fails _ _ _ (wrong_told f.0 vs.0 g vs.1 f.3)))
 fault_told bytes (fault.Shape r) f =
-    let ts : Held = f.0 in
+    let ts : HeldFields = f.0 in
     holds_to bytes ts _ f.1 (and_then_fails _ _ _ (shape_refused ts.capacity ts.modulus ts.width ts.batch r f.2))
 fault_told bytes fault.TooManyItems f =
-    let ts : Held = f.0 in
+    let ts : HeldFields = f.0 in
     holds_to bytes ts _ f.1.fields (and_then_at _ tt _ _ (shaped_to bytes ts f.1) (and_then_fails _ _ _ (many_told ts.width ts.items f.2)))
 fault_told bytes (fault.ItemTooWide p) f =
-    let ts : Held = f.0 in
+    let ts : HeldFields = f.0 in
     holds_to bytes ts _ f.1.fields (and_then_at _ tt _ _ (shaped_to bytes ts f.1) (and_then_fails _ _ _ (wide_told ts.width ts.items p f.2 f.3)))
 fault_told bytes (fault.BadSchedule p) f =
-    let ts : Held = f.0 in
+    let ts : HeldFields = f.0 in
     holds_to bytes ts _ f.1.shaped.fields (and_then_at _ tt _ _ (shaped_to bytes ts f.1.shaped)
     (and_then_at _ tt _ _ (items_to ts.width ts.items f.1.few f.1.fit) (and_then_fails _ _ _ (bad_told ts.schedule p f.2))))
 fault_told bytes fault.ScheduleTooLong f =
-    let ts : Held = f.0 in
+    let ts : HeldFields = f.0 in
     holds_to bytes ts _ f.2.shaped.fields (and_then_at _ tt _ _ (shaped_to bytes ts f.2.shaped)
     (and_then_at _ tt _ _ (items_to ts.width ts.items f.2.few f.2.fit) (and_then_fails _ _ _ (long_told ts.schedule f.1 f.3 f.4))))
 fault_told bytes (fault.BadOracle p) f =
-    let ts : Held = f.0 in
+    let ts : HeldFields = f.0 in
     let l : HoldsLetters bytes ts f.1 = f.2 in
     holds_to bytes ts _ l.stored.shaped.fields (and_then_at _ tt _ _ (shaped_to bytes ts l.stored.shaped)
     (and_then_at _ tt _ _ (items_to ts.width ts.items l.stored.few l.stored.fit)
@@ -531,7 +531,7 @@ fault_told bytes fault.OutOfMemory f = absurd f
 abbrev pub Either : List ℕ → Type 0
 Either bytes = ((c : Content) × IsScript bytes c) ⊎ ((x : ScriptFault) × IsScriptFault bytes x)
 
-content_of : (bytes : List ℕ) (ts : Held) (g : Given) → IsGiven bytes ts g → (c : Content) × IsScript bytes c
+content_of : (bytes : List ℕ) (ts : HeldFields) (g : Given) → IsGiven bytes ts g → (c : Content) × IsScript bytes c
 content_of bytes ts g h = (
   record { shape = h.lettered.stored.shaped.shape; items = ts.items; takes = ts.takes; closes = ts.close; letters = h.letters; oracle = h.oracle },
   record { held = ts; lettered = h.lettered; shape = h.lettered.stored.shaped.numbers; items = refl; takes = refl; closes = refl; oracle = h.answers },
@@ -583,25 +583,25 @@ reads_each_script bytes content (Err x) read (inr told) c is = absurd (ok_not_er
 
 -- ---- a call that reads the values of fields
 
-pub fields_are_content : {A : Type 0} (ts : Held) (content : A → Content) (r : Result A ScriptFault)
+pub fields_are_content : {A : Type 0} (ts : HeldFields) (content : A → Content) (r : Result A ScriptFault)
     → IfOk r (λ s. given_of ts ≡ Ok (given_by (content s))) → IfOk r (λ s. IsContentOf ts (content s))
 fields_are_content ts content (Ok s) e = content_from ts (content s) e
 fields_are_content ts content (Err x) e = tt
 
-pub fields_are_script : {A : Type 0} (ts : Held) (content : A → Content) (r : Result A ScriptFault)
-    → IfOk r (λ s. given_of ts ≡ Ok (given_by (content s))) → IfOk r (λ s. (bytes : List ℕ) → Holds bytes ts → IsScript bytes (content s))
+pub fields_are_script : {A : Type 0} (ts : HeldFields) (content : A → Content) (r : Result A ScriptFault)
+    → IfOk r (λ s. given_of ts ≡ Ok (given_by (content s))) → IfOk r (λ s. (bytes : List ℕ) → HoldsFields bytes ts → IsScript bytes (content s))
 fields_are_script ts content (Ok s) e = fields_read ts (content s) e
 fields_are_script ts content (Err x) e = tt
 
-pub fields_have_fault : {A : Type 0} (ts : Held) (Short : Type 0) (r : Result A ScriptFault)
-    → IfErr r (λ x. ((x ≡ fault.OutOfMemory) × Short) ⊎ (given_of ts ≡ Err x)) → IfErr r (λ x. ((x ≡ fault.OutOfMemory) × Short) ⊎ ((bytes : List ℕ) → Holds bytes ts → IsScriptFault bytes x))
+pub fields_have_fault : {A : Type 0} (ts : HeldFields) (Short : Type 0) (r : Result A ScriptFault)
+    → IfErr r (λ x. ((x ≡ fault.OutOfMemory) × Short) ⊎ (given_of ts ≡ Err x)) → IfErr r (λ x. ((x ≡ fault.OutOfMemory) × Short) ⊎ ((bytes : List ℕ) → HoldsFields bytes ts → IsScriptFault bytes x))
 fields_have_fault ts Short (Ok s) e = tt
 fields_have_fault ts Short (Err x) (inl short) = inl short
 fields_have_fault ts Short (Err x) (inr told) = inr (fields_refused ts x told)
 
 -- ---- the bounds of a script
 
-pub is_kept : (shape : Shape) (items : List ℕ) (count : ℕ) (letters : List Side) → items_in (width_of shape) items ≡ Ok tt → count ≡ length letters → length letters ≤ LETTER_LIMIT
+pub is_kept : (shape : Shape) (items : List ℕ) (count : ℕ) (letters : List Side) → items_within (width_of shape) items ≡ Ok tt → count ≡ length letters → length letters ≤ LETTER_LIMIT
     → IsKept shape items count letters
 is_kept shape items count letters e counted short =
     let kept = items_from (width_of shape) items e in

@@ -1,7 +1,7 @@
 -- What a borrowed script is seen as.
 use Rattle.ring_script.specs.Schedule.{spelled}
 use Rattle.ring_script.specs.Content.{Content}
-use Rattle.ring_script.specs.Script.{Held}
+use Rattle.ring_script.specs.Script.{HeldFields}
 use Rattle.ring_script.specs.declared.borrowed.Fields.{Fields}
 use Rattle.ring_script.specs.declared.borrowed.ScriptRef.{ScriptRef}
 
@@ -17,7 +17,7 @@ content_of script = record {
 }
 
 -- the values of the fields
-abbrev pub held_of : Fields → Held
+abbrev pub held_of : Fields → HeldFields
 held_of fields = record {
   capacity = fields.capacity;
   modulus = fields.modulus;

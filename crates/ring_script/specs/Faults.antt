@@ -5,7 +5,7 @@ use Rattle.bits_core.specs.Shape.{IsRefusedBatch}
 use Rattle.bits_core.specs.declared.events.Side.{Side}
 use Rattle.ring_script.specs.Schedule.{IsSchedule, IsScheduleText}
 use Rattle.ring_script.specs.Fields.{HasKnownNames, IsJson, IsObject, IsOfKind, held_as}
-use Rattle.ring_script.specs.Script.{Fit, Held, Holds, HoldsItems, HoldsLetters, HoldsShape, IsOracleText}
+use Rattle.ring_script.specs.Script.{Fit, HeldFields, HoldsFields, HoldsItems, HoldsLetters, HoldsShape, IsOracleText}
 use Rattle.ring_script.specs.declared.faults.Field.{Field}
 use Rattle.ring_script.specs.declared.faults.Field.TheVariants.{Capacity, Modulus, Width, Items, Takes, Close, Schedule, Oracle, Batch}
 use Rattle.ring_script.specs.declared.faults.ScriptFault.{ScriptFault}
@@ -68,15 +68,15 @@ IsScriptFault bytes fault.UnknownField = (members : Members) × IsJson bytes (ob
 IsScriptFault bytes (fault.MissingField field) = (members : Members) × IsObject bytes members × IsFirst (IsMissing members) field
 IsScriptFault bytes (fault.WrongKind field) =
     (members : Members) × IsObject bytes members × ((other : Field) → ¬ IsMissing members other) × IsFirst (IsOfWrongKind members) field
-IsScriptFault bytes (fault.Shape refusal) = (held : Held) × Holds bytes held × IsRefusedBatch held.capacity held.modulus held.width held.batch refusal
-IsScriptFault bytes fault.TooManyItems = (held : Held) × HoldsShape bytes held × (ITEM_LIMIT < length held.items)
+IsScriptFault bytes (fault.Shape refusal) = (held : HeldFields) × HoldsFields bytes held × IsRefusedBatch held.capacity held.modulus held.width held.batch refusal
+IsScriptFault bytes fault.TooManyItems = (held : HeldFields) × HoldsShape bytes held × (ITEM_LIMIT < length held.items)
 IsScriptFault bytes (fault.ItemTooWide place) =
-    (held : Held) × HoldsShape bytes held × (length held.items ≤ ITEM_LIMIT) × IsFirstStray (Fit held.width) held.items place
-IsScriptFault bytes (fault.BadSchedule place) = (held : Held) × HoldsItems bytes held × IsFirstStray IsScheduleText held.schedule place
+    (held : HeldFields) × HoldsShape bytes held × (length held.items ≤ ITEM_LIMIT) × IsFirstStray (Fit held.width) held.items place
+IsScriptFault bytes (fault.BadSchedule place) = (held : HeldFields) × HoldsItems bytes held × IsFirstStray IsScheduleText held.schedule place
 IsScriptFault bytes fault.ScheduleTooLong =
-    (held : Held) × (letters : List Side) × HoldsItems bytes held × IsSchedule held.schedule letters × (LETTER_LIMIT < length letters)
+    (held : HeldFields) × (letters : List Side) × HoldsItems bytes held × IsSchedule held.schedule letters × (LETTER_LIMIT < length letters)
 IsScriptFault bytes (fault.BadOracle place) =
-    (held : Held) × (letters : List Side) × HoldsLetters bytes held letters × IsFirstStray IsOracleText held.oracle place
+    (held : HeldFields) × (letters : List Side) × HoldsLetters bytes held letters × IsFirstStray IsOracleText held.oracle place
 IsScriptFault bytes fault.OutOfMemory = ⊥
 
 -- the number of each fault

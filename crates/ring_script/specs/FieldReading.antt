@@ -5,7 +5,7 @@ use Rattle.serde_json.specs.Data.{Data, Items as ItemData, no_items, item, Membe
 use Rattle.serde_json.specs.Find.{get, as_number, as_u64, as_bool, as_str, as_array}
 use Rattle.ring_script.specs.Results.{result_and_then}
 use Rattle.ring_script.specs.Fields.{name_of}
-use Rattle.ring_script.specs.Script.{Held}
+use Rattle.ring_script.specs.Script.{HeldFields}
 use Rattle.ring_script.specs.declared.faults.Field.{Field}
 use Rattle.ring_script.specs.declared.faults.Field.TheVariants.{Capacity, Modulus, Width, Items, Takes, Close, Schedule, Oracle, Batch}
 use Rattle.ring_script.specs.declared.faults.ScriptFault.{ScriptFault}
@@ -54,8 +54,8 @@ abbrev pub field_of : Field → Data → Result Data ScriptFault
 field_of field value = found field (get (name_of field) value)
 
 -- the values of all fields of an object, or the first field that is missing
-unfoldable pub values_of : Data → Result FieldValues ScriptFault
-values_of value =
+unfoldable pub field_values : Data → Result FieldValues ScriptFault
+field_values value =
     result_and_then (field_of Capacity value) (λ capacity.
     result_and_then (field_of Modulus value) (λ modulus.
     result_and_then (field_of Width value) (λ width.
@@ -88,7 +88,7 @@ wholes_of no_items = Some []
 wholes_of (item value rest) = option_and_then (λ n. option_map (λ ns. n ∷ ns) (wholes_of rest)) (whole_of value)
 
 -- what the values are, or the first field whose value is of the wrong kind
-unfoldable pub typed_of : FieldValues → Result Held ScriptFault
+unfoldable pub typed_of : FieldValues → Result HeldFields ScriptFault
 typed_of values =
     result_and_then (of_kind Capacity (whole_of values.capacity)) (λ capacity.
     result_and_then (of_kind Modulus (whole_of values.modulus)) (λ modulus.

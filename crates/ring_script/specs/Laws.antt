@@ -1,7 +1,7 @@
 -- The public laws of scripts.
 use Rattle.std.specs.Prelude.{◌≡◌, ◌⊎◌, ◌<◌, ◌^◌, ℕ, List, decimal}
 use Rattle.bits_core.specs.declared.events.Side.{Side}
-use Rattle.ring_script.specs.Schedule.{IsCount, IsSchedule, count_of}
+use Rattle.ring_script.specs.Schedule.{IsLetterCount, IsSchedule, letters_counted}
 use Rattle.ring_script.specs.Content.{Content}
 use Rattle.ring_script.specs.Script.{IsScript}
 use Rattle.ring_script.specs.Faults.{IsScriptFault}
@@ -16,12 +16,12 @@ abbrev pub FaultyIsNoScript : Type 0
 FaultyIsNoScript = (bytes : List ℕ) (fault : ScriptFault) (content : Content) → IsScriptFault bytes fault → ¬ IsScript bytes content
 
 -- bytes have one fault
-abbrev pub OneFault : Type 0
-OneFault = (bytes : List ℕ) (f g : ScriptFault) → IsScriptFault bytes f → IsScriptFault bytes g → f ≡ g
+abbrev pub OneScriptFault : Type 0
+OneScriptFault = (bytes : List ℕ) (f g : ScriptFault) → IsScriptFault bytes f → IsScriptFault bytes g → f ≡ g
 
 -- bytes hold one content
-abbrev pub OneReading : Type 0
-OneReading = (bytes : List ℕ) (a b : Content) → IsScript bytes a → IsScript bytes b → a ≡ b
+abbrev pub OneScriptReading : Type 0
+OneScriptReading = (bytes : List ℕ) (a b : Content) → IsScript bytes a → IsScript bytes b → a ≡ b
 
 -- a schedule's text stands for one list of letters
 abbrev pub OneSpelling : Type 0
@@ -29,4 +29,4 @@ OneSpelling = (text : List ℕ) (a b : List Side) → IsSchedule text a → IsSc
 
 -- what `{}` writes of a number from 1 is a count of so many letters
 abbrev pub DecimalIsCount : Type 0
-DecimalIsCount = (n : ℕ) → 0 < n → n < 2 ^ 64 → IsCount (decimal n) × (count_of (decimal n) ≡ n)
+DecimalIsCount = (n : ℕ) → 0 < n → n < 2 ^ 64 → IsLetterCount (decimal n) × (letters_counted (decimal n) ≡ n)

@@ -13,20 +13,20 @@ letter_of P = 80
 letter_of C = 67
 
 -- no count, or one: a digit 1 to 9 and any further digits
-abbrev pub IsCount : List ℕ → Type 0
-IsCount [] = ⊤
-IsCount (first ∷ more) = (48 < first) × (first ≤ 57) × AllDigits 10 more
+abbrev pub IsLetterCount : List ℕ → Type 0
+IsLetterCount [] = ⊤
+IsLetterCount (first ∷ more) = (48 < first) × (first ≤ 57) × AllDigits 10 more
 
 -- how many letters a count stands for; none stands for one
-abbrev pub count_of : List ℕ → ℕ
-count_of [] = 1
-count_of (first ∷ more) = digits_value 10 (first ∷ more)
+abbrev pub letters_counted : List ℕ → ℕ
+letters_counted [] = 1
+letters_counted (first ∷ more) = digits_value 10 (first ∷ more)
 
 -- a letter, with a count behind it or with none
 pub record Part : Type 0 where
   pub side : Side
   pub count : List ℕ
-  pub proper : IsCount count
+  pub proper : IsLetterCount count
 
 -- how a part is written
 abbrev pub part_text : Part → List ℕ
@@ -34,7 +34,7 @@ part_text part = letter_of part.side ∷ part.count
 
 -- the letters that a part stands for
 abbrev pub part_letters : Part → List Side
-part_letters part = replicate (count_of part.count) part.side
+part_letters part = replicate (letters_counted part.count) part.side
 
 -- the text is that of parts, which stand for these letters
 pub record IsSchedule (text : List ℕ) (letters : List Side) : Type 0 where

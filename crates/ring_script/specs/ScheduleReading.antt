@@ -26,8 +26,8 @@ abbrev pub stray_in : List ℕ → Option ℕ
 stray_in text = stray_from 0 0 text
 
 -- the side that a letter names
-abbrev pub side_of : ℕ → Side
-side_of b = if b == 80 then P else C
+abbrev pub letter_side : ℕ → Side
+letter_side b = if b == 80 then P else C
 
 -- as many letters as a count says; without a count, one
 abbrev pub times : ℕ → Side → List Side
@@ -38,9 +38,9 @@ unfoldable pub letters_after : Side → ℕ → List ℕ → List Side
 letters_after side count [] = times count side
 letters_after side count (b ∷ rest) =
     if is_digit b then letters_after side (10 * count + (b - 48)) rest
-    else times count side ++ letters_after (side_of b) 0 rest
+    else times count side ++ letters_after (letter_side b) 0 rest
 
 -- the letters that the text stands for
 unfoldable pub letters_of : List ℕ → List Side
 letters_of [] = []
-letters_of (b ∷ rest) = letters_after (side_of b) 0 rest
+letters_of (b ∷ rest) = letters_after (letter_side b) 0 rest

@@ -14,7 +14,7 @@ use Rattle.ring_script.specs.declared.scripts.TheConstants.{ITEM_LIMIT}
 -- ---- the fields
 
 -- the numbers, lists and texts that the fields hold
-pub record Held : Type 0 where
+pub record HeldFields : Type 0 where
   pub capacity : ℕ
   pub modulus : ℕ
   pub width : ℕ
@@ -26,7 +26,7 @@ pub record Held : Type 0 where
   pub batch : ℕ
 
 -- the bytes are an object whose fields all stand and hold this
-pub record Holds (bytes : List ℕ) (held : Held) : Type 0 where
+pub record HoldsFields (bytes : List ℕ) (held : HeldFields) : Type 0 where
   pub members : Members
   pub is_object : IsObject bytes members
   pub capacity : held_as Capacity members ≡ Some (number (unsigned held.capacity))
@@ -59,25 +59,25 @@ abbrev pub IsOracleText : List ℕ → Type 0
 IsOracleText text = (answers : List Bool) × IsOracle text answers
 
 -- the four numbers are a shape
-pub record HoldsShape (bytes : List ℕ) (held : Held) : Type 0 where
-  pub fields : Holds bytes held
+pub record HoldsShape (bytes : List ℕ) (held : HeldFields) : Type 0 where
+  pub fields : HoldsFields bytes held
   pub shape : Shape
   pub numbers : HasBatch held.capacity held.modulus held.width held.batch shape
 
 -- and the items are few, and fit
-pub record HoldsItems (bytes : List ℕ) (held : Held) : Type 0 where
+pub record HoldsItems (bytes : List ℕ) (held : HeldFields) : Type 0 where
   pub shaped : HoldsShape bytes held
   pub few : length held.items ≤ ITEM_LIMIT
   pub fit : Fit held.width held.items
 
 -- and the schedule stands for these letters, which are few
-pub record HoldsLetters (bytes : List ℕ) (held : Held) (letters : List Side) : Type 0 where
+pub record HoldsLetters (bytes : List ℕ) (held : HeldFields) (letters : List Side) : Type 0 where
   pub stored : HoldsItems bytes held
   pub schedule : IsSchedule held.schedule letters
   pub short : length letters ≤ LETTER_LIMIT
 
 -- what the values of the fields stand for
-pub record IsContentOf (held : Held) (content : Content) : Type 0 where
+pub record IsContentOf (held : HeldFields) (content : Content) : Type 0 where
   pub shape : HasBatch held.capacity held.modulus held.width held.batch content.shape
   pub items : content.items ≡ held.items
   pub takes : content.takes ≡ held.takes
@@ -87,7 +87,7 @@ pub record IsContentOf (held : Held) (content : Content) : Type 0 where
 
 -- the bytes are an object with the fields of a script, which hold this within the limits
 pub record IsScript (bytes : List ℕ) (content : Content) : Type 0 where
-  pub held : Held
+  pub held : HeldFields
   pub lettered : HoldsLetters bytes held content.letters
   pub shape : HasBatch held.capacity held.modulus held.width held.batch content.shape
   pub items : content.items ≡ held.items

@@ -11,8 +11,8 @@ use Rattle.bits_core.specs.declared.events.Side.{Side}
 use Rattle.ring_script.specs.Results.{result_and_then}
 use Rattle.ring_script.specs.ScheduleReading.{letters_of, stray_in}
 use Rattle.ring_script.specs.Content.{Content}
-use Rattle.ring_script.specs.Script.{Held}
-use Rattle.ring_script.specs.FieldReading.{names_in, values_of, typed_of}
+use Rattle.ring_script.specs.Script.{HeldFields}
+use Rattle.ring_script.specs.FieldReading.{names_in, field_values, typed_of}
 use Rattle.ring_script.specs.declared.faults.ScriptFault.{ScriptFault}
 use Rattle.ring_script.specs.declared.faults.ScriptFault.TheVariants as fault
 use Rattle.ring_script.specs.declared.schedules.TheConstants.{LETTER_LIMIT}
@@ -91,8 +91,8 @@ if_fits (Some place) = Err (fault.ItemTooWide place)
 if_fits None = Ok tt
 
 -- whether there are few enough items, and each fits the width
-unfoldable pub items_in : ℕ → List ℕ → Result ⊤ ScriptFault
-items_in width items =
+unfoldable pub items_within : ℕ → List ℕ → Result ⊤ ScriptFault
+items_within width items =
     if nat_lt ITEM_LIMIT (length items) then Err fault.TooManyItems
     else if_fits (position (is_too_wide width) items)
 
@@ -125,10 +125,10 @@ oracle_of text = if_answers (position is_no_answer text) text
 -- ---- the whole
 
 -- what the fields hold within the limits, or their first fault
-unfoldable pub given_of : Held → Result Given ScriptFault
+unfoldable pub given_of : HeldFields → Result Given ScriptFault
 given_of typed =
     result_and_then (shape_in typed.capacity typed.modulus typed.width typed.batch) (λ _.
-    result_and_then (items_in typed.width typed.items) (λ _.
+    result_and_then (items_within typed.width typed.items) (λ _.
     result_and_then (schedule_of typed.schedule) (λ letters.
     result_and_then (oracle_of typed.oracle) (λ oracle.
     Ok (record { capacity = typed.capacity; modulus = typed.modulus; width = typed.width; batch = typed.batch; items = typed.items; takes = typed.takes; closes = typed.close; letters = letters; oracle = oracle })))))
@@ -137,7 +137,7 @@ given_of typed =
 unfoldable pub given_in : Data → Result Given ScriptFault
 given_in value =
     result_and_then (names_in (as_object value)) (λ _.
-    result_and_then (values_of value) (λ values.
+    result_and_then (field_values value) (λ values.
     result_and_then (typed_of values) given_of))
 
 -- what the bytes hold, or their first fault

@@ -3,7 +3,7 @@ use Rattle.std.specs.Prelude.{◌≡◌, ◌≤◌, ℕ, List, length, option_ma
 use Rattle.bits_core.specs.Shape.{width_of}
 use Rattle.bits_core.specs.declared.events.Side.{Side}
 use Rattle.bits_core.specs.declared.shapes.Shape.{Shape}
-use Rattle.ring_script.specs.Script.{Fit, Held}
+use Rattle.ring_script.specs.Script.{Fit, HeldFields}
 use Rattle.ring_script.specs.declared.schedules.TheConstants.{LETTER_LIMIT}
 use Rattle.ring_script.specs.declared.scripts.TheConstants.{ITEM_LIMIT}
 use Rattle.serde_json.specs.View.{view}
@@ -26,7 +26,7 @@ values_view v = record {
 }
 
 -- the numbers, lists and texts
-abbrev pub typed_view : {A : Type 0} → Typed A → Held
+abbrev pub typed_view : {A : Type 0} → Typed A → HeldFields
 typed_view {A} t = record {
   capacity = t.capacity;
   modulus = t.modulus;

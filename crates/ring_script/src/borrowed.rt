@@ -3,7 +3,7 @@ ghost use Rattle.std.specs.Prelude.{◌≡◌, ◌⊎◌, ◌<◌, ◌≤◌, �
 ghost use Rattle.bits_core.specs.Shape.{width_of};
 ghost use Rattle.ring_script.specs.Schedule.{run_count, spelled};
 ghost use Rattle.ring_script.specs.Faults.{IsScriptFault};
-ghost use Rattle.ring_script.specs.Script.{Fit, Holds, IsContentOf, IsScript};
+ghost use Rattle.ring_script.specs.Script.{Fit, HoldsFields, IsContentOf, IsScript};
 ghost use Rattle.ring_script.specs.Views.{IsKept};
 
 use crate::faults::ScriptFault;
@@ -52,9 +52,9 @@ impl<'a> ScriptRef<'a> {
         // The script is what the values stand for.
         ensures content { IfOk result (λ script. IsContentOf (held_of fields.now) (content_of script)) }
         // It is that of any bytes whose fields hold these values.
-        ensures read { IfOk result (λ script. (bytes : List ℕ) → Holds bytes (held_of fields.now) → IsScript bytes (content_of script)) }
+        ensures read { IfOk result (λ script. (bytes : List ℕ) → HoldsFields bytes (held_of fields.now) → IsScript bytes (content_of script)) }
         // The fault is that of any such bytes, or a slice is too short for the runs of the schedule, or for the answers.
-        ensures refused { IfErr result (λ e. ((e ≡ ScriptFault.OutOfMemory) × ((length runs.old < run_count fields.now.schedule.now) ⊎ (length answers.old < length fields.now.oracle.now))) ⊎ ((bytes : List ℕ) → Holds bytes (held_of fields.now) → IsScriptFault bytes e)) }
+        ensures refused { IfErr result (λ e. ((e ≡ ScriptFault.OutOfMemory) × ((length runs.old < run_count fields.now.schedule.now) ⊎ (length answers.old < length fields.now.oracle.now))) ⊎ ((bytes : List ℕ) → HoldsFields bytes (held_of fields.now) → IsScriptFault bytes e)) }
     {
         read_parts(fields, runs, answers)
     }

@@ -5,7 +5,7 @@ ghost use Rattle.std.specs.Map.{keys_of};
 ghost use Rattle.serde_json.specs.Find.{as_array, as_bool, as_object, as_str};
 ghost use Rattle.serde_json.specs.View.{view, items_view, members_view};
 ghost use Rattle.ring_script.specs.Results.{result_map};
-ghost use Rattle.ring_script.specs.FieldReading.{batch_in, field_of, has_known_names, is_name, names_in, of_kind, typed_of, values_of, whole_of, wholes_of};
+ghost use Rattle.ring_script.specs.FieldReading.{batch_in, field_of, has_known_names, is_name, names_in, of_kind, typed_of, field_values, whole_of, wholes_of};
 ghost use Rattle.ring_script.specs.Views.{typed_view, values_view};
 
 use crate::faults::{Field, ScriptFault};
@@ -97,9 +97,9 @@ fn field<'v>(value: &'v Value, field: Field) -> Result<&'v Value, ScriptFault>
 }
 
 /// The values of all fields, or the first field that is missing; `batch` may be.
-#[tactic(auto, unfolding(crate::specs::FieldReading::values_of))]
+#[tactic(auto, unfolding(crate::specs::FieldReading::field_values))]
 pub fn find_values<'v>(value: &'v Value) -> Result<Values<'v>, ScriptFault>
-    ensures { result_map values_view result ≡ values_of (view value.now) }
+    ensures { result_map values_view result ≡ field_values (view value.now) }
 {
     let capacity = field(value, Field::Capacity)?;
     let modulus = field(value, Field::Modulus)?;

@@ -1,5 +1,5 @@
 //! What a script is, in the words of its format. Each law is the contract of a function that does nothing.
-ghost use Rattle.ring_script.specs.Laws.{DecimalIsCount, FaultyIsNoScript, OneFault, OneReading, OneSpelling, ScriptOrFault};
+ghost use Rattle.ring_script.specs.Laws.{DecimalIsCount, FaultyIsNoScript, OneScriptFault, OneScriptReading, OneSpelling, ScriptOrFault};
 
 /// Bytes are a script or have a fault.
 pub fn script_or_fault()
@@ -13,12 +13,12 @@ pub fn faulty_is_no_script()
 
 /// Bytes have at most one fault.
 pub fn one_fault()
-    ensures { OneFault }
+    ensures { OneScriptFault }
 {}
 
 /// Bytes are a script of one content.
 pub fn one_reading()
-    ensures { OneReading }
+    ensures { OneScriptReading }
 {}
 
 /// The text of a schedule stands for one list of letters.

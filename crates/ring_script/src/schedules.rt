@@ -1,6 +1,6 @@
 //! The text of a schedule: letters, each with a count or without.
 ghost use Rattle.std.specs.Prelude.{◌≡◌, ◌⊎◌, ◌<◌, ◌≤◌, ◌^◌, max, [], length, slice_get, IfOk, IfErr};
-ghost use Rattle.ring_script.specs.ScheduleReading.{is_letter, is_digit, may_stand, stray_in, side_of, letters_of};
+ghost use Rattle.ring_script.specs.ScheduleReading.{is_letter, is_digit, may_stand, stray_in, letter_side, letters_of};
 ghost use Rattle.ring_script.specs.Schedule.{run_count, spelled};
 
 use crate::faults::ScriptFault;
@@ -40,7 +40,7 @@ fn can_stand(before: u8, b: u8) -> bool
 
 // The side that a letter names.
 fn letter_side(b: u8) -> Side
-    ensures { result ≡ side_of b }
+    ensures { result ≡ letter_side b }
 {
     if b == b'P' { Side::P } else { Side::C }
 }

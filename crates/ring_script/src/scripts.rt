@@ -6,7 +6,7 @@ ghost use Rattle.ring_script.specs.Schedule.{run_count, spelled};
 ghost use Rattle.ring_script.specs.Borrowed.{content_of, held_of};
 ghost use Rattle.ring_script.specs.Content.{Content};
 ghost use Rattle.ring_script.specs.Script.{Fit, IsScript};
-ghost use Rattle.ring_script.specs.ScriptReading.{given_by, given_in, given_of, is_no_answer, is_too_wide, items_in, json_of, oracle_of, schedule_of, script_of, shape_in};
+ghost use Rattle.ring_script.specs.ScriptReading.{given_by, given_in, given_of, is_no_answer, is_too_wide, items_within, json_of, oracle_of, schedule_of, script_of, shape_in};
 ghost use Rattle.ring_script.specs.Faults.{IsScriptFault};
 ghost use Rattle.ring_script.specs.Views.{IsKept, typed_view};
 
@@ -280,9 +280,9 @@ fn first_too_wide(shape: &Shape, items: &[u64]) -> Option<usize>
 }
 
 // Whether there are few enough items, and each fits the shape.
-#[tactic(auto, unfolding(crate::specs::ScriptReading::items_in))]
+#[tactic(auto, unfolding(crate::specs::ScriptReading::items_within))]
 fn check_items(shape: &Shape, items: &[u64]) -> Result<(), ScriptFault>
-    ensures { result ≡ items_in (width_of shape.now) items.now }
+    ensures { result ≡ items_within (width_of shape.now) items.now }
 {
     if items.len() > ITEM_LIMIT {
         return Err(ScriptFault::TooManyItems);

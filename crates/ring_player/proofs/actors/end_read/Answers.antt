@@ -7,7 +7,7 @@ use Rattle.bits_core.specs.Bits.{other}
 use Rattle.bits_core.specs.History.{open_access}
 use Rattle.bits_core.specs.Lawful.{IsLawful}
 use Rattle.bits_core.specs.Made.{own}
-use Rattle.bits_core.specs.Memory.{Recorded}
+use Rattle.bits_core.specs.Memory.{MemoryState}
 use Rattle.bits_core.specs.Open.{bit_of}
 use Rattle.ring_core.specs.Calls.{EndsInZeros, LastBitIsDue}
 use Rattle.ring_player.specs.Actors.{IsPlaying}
@@ -27,9 +27,9 @@ end-requires-clause-one g c last =
     playing_on s h _ (g.A.Actor.due a) (g.A.Actor.stands c.args.actor.now) (g.A.Actor.stands a) c.requires.playing c.reserve.ensures.due c.reserve.ensures.stands in
     let side_is : g.A.Actor.side a ≡ s = c.reserve.ensures.side ∙ c.requires.side in
     let ok = c.in_ok-answer.ensures.ok in
-    let shape_is = ap (λ (m : Recorded). m.shape) ok ∙ c.requires.shape ∙ ap (λ (t : Content). t.shape) (sym c.reserve.ensures.script) in
+    let shape_is = ap (λ (m : MemoryState). m.shape) ok ∙ c.requires.shape ∙ ap (λ (t : Content). t.shape) (sym c.reserve.ensures.script) in
     answers_one c.last_bit_is_one.ensures.puts c.last_bit_is_one.ensures.takes c.own_changes.ensures script s h c.end_read.new.self.events (g.A.Actor.due a) (g.A.Actor.stands a)
-    (bit_of (open_access s h)) c.in_ok-answer.answer p (reading (open_access s h) c.requires.open) (ap (λ (m : Recorded). m.events) ok)
+    (bit_of (open_access s h)) c.in_ok-answer.answer p (reading (open_access s h) c.requires.open) (ap (λ (m : MemoryState). m.events) ok)
     (subst (λ t. IsLawful t c.end_read.new.self.events) shape_is c.events.ensures.lawful)
     (subst (λ (t : Content). IsProgram t (other s) (own (other s) h)) (sym c.reserve.ensures.script) c.requires.other)
     (λ l. subst (λ (t : Side). EndsInZeros script.shape t p.list) side_is
@@ -48,7 +48,7 @@ returns-clause-playing g c =
     let v = c.in_ok-answer.answer in
     let e : Event = record { side = s; bit = b; act = ReadEnd v } in
     after_end c.open_changes.ensures c.own_changes.ensures s h c.end_read.new.self.events (g.A.Actor.due a) (g.A.Actor.due c.end.new.self) (g.A.Actor.stands a) (g.A.Actor.stands c.end.new.self)
-    (access.Read b) v e p o (ap (λ (m : Recorded). m.events) c.in_ok-answer.ensures.ok) refl refl refl
+    (access.Read b) v e p o (ap (λ (m : MemoryState). m.events) c.in_ok-answer.ensures.ok) refl refl refl
     (c.end.ensures.stands p.list (access.Read b) (p.is_due (access.Read b) o) (there_with s h (g.A.Actor.due a) (g.A.Actor.stands a) (Some (access.Read b)) p o))
 
 pub returns-clause-ok : goal.returns-clause-ok
@@ -58,7 +58,7 @@ returns-clause-ok g c =
     let b = bit_of (open_access s h) in
     let e : Event = record { side = s; bit = b; act = ReadEnd c.in_ok-answer.answer } in
     end_move (g.A.Actor.script c.args.actor.now) s h c.end_read.new.self.events (g.A.Actor.due c.args.actor.now) (g.A.Actor.stands c.args.actor.now) (access.Read b) e c.requires.playing
-    (reading (open_access s h) c.requires.open) (ap (λ (m : Recorded). m.events) c.in_ok-answer.ensures.ok) refl
+    (reading (open_access s h) c.requires.open) (ap (λ (m : MemoryState). m.events) c.in_ok-answer.ensures.ok) refl
 
 pub returns-clause-turns : goal.returns-clause-turns
 returns-clause-turns g c turns t =
@@ -66,7 +66,7 @@ returns-clause-turns g c turns t =
     let h = c.args.memory.now.events in
     let r = c.in_ok-answer.ensures in
     turn_read turns (g.O.Oracle.answers c.args.oracle.now) (g.O.Oracle.answers c.end_read.new.oracle) s (bit_of (open_access s h)) c.in_ok-answer.answer _ h c.end_read.new.self.events
-    (ap (λ (m : Recorded). m.events) r.ok) r.answer (λ e i. ap (λ o. g.O.Oracle.answers o i) (r.not_asked e)) r.asked t
+    (ap (λ (m : MemoryState). m.events) r.ok) r.answer (λ e i. ap (λ o. g.O.Oracle.answers o i) (r.not_asked e)) r.asked t
 
 pub end-requires-clause-there : goal.end-requires-clause-there
 end-requires-clause-there g c =

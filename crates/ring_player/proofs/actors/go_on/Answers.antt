@@ -1,8 +1,7 @@
 use Rattle.std.proofs.Common.{◌≡◌, List, None, subst}
 use Rattle.bits_core.specs.declared.events.Side.{Side}
 use Rattle.bits_core.specs.declared.events.Event.{Event}
-use Rattle.bits_core.specs.Made.{events_of, own}
-use Rattle.ring_player.specs.Actors.{begun}
+use Rattle.bits_core.specs.Made.{events_of, own, opening_event}
 use Rattle.ring_player.specs.Plays.{IsDoneAfter}
 use Rattle.ring_script.specs.Content.{Content}
 use Rattle.ring_player.proofs.Steps.{begun_side, own_with, there_with}
@@ -19,7 +18,7 @@ returns-in_ok-begin-in-Some-clause-ok g c =
     let there = there_with s h (g.A.Actor.due c.args.actor.now) (g.A.Actor.stands c.args.actor.now) None p c.requires.none_open in
     let not : ¬ IsDoneAfter script s (events_of s p.list) =
     subst (λ (t : Side). ¬ IsDoneAfter script t (events_of t p.list)) c.requires.side (c.next.ensures.unfinished c.in-Some.access c.in-Some.is p.list there) in
-    (begun s c.in-Some.access, c.in_ok-begin-in-Some.ensures.ok, begun_side s c.in-Some.access, λ done. not (subst (λ (t : List Event). IsDoneAfter script s t) own_is done))
+    (opening_event s c.in-Some.access, c.in_ok-begin-in-Some.ensures.ok, begun_side s c.in-Some.access, λ done. not (subst (λ (t : List Event). IsDoneAfter script s t) own_is done))
 
 pub returns-in_ok-begin-in-Some-clause-turns : goal.returns-in_ok-begin-in-Some-clause-turns
 returns-in_ok-begin-in-Some-clause-turns g c turns answers t =

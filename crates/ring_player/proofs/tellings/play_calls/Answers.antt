@@ -7,8 +7,8 @@ use Rattle.bits_core.specs.declared.events.Side.TheVariants.{P}
 use Rattle.ring_script.specs.declared.schedules.Run.{Run}
 use Rattle.ring_script.specs.Schedule.{spelled}
 use Rattle.ring_script.specs.Content.{Content}
-use Rattle.ring_player.specs.Plays.{Plays, sides}
-use Rattle.ring_player.specs.Tellings.{AreAt, TellsCalls, events_of}
+use Rattle.ring_player.specs.Plays.{Plays, event_sides}
+use Rattle.ring_player.specs.Tellings.{AreAt, TellsCalls, call_events}
 use Rattle.ring_player.specs.declared.tellings.PutStage.TheVariants as put
 use Rattle.ring_player.specs.declared.tellings.TakeStage.TheVariants as taking
 use Rattle.ring_player.specs.declared.tellings.Told.{Told}
@@ -23,11 +23,11 @@ loop-run-init g c =
       script = c.new-world.ensures.script;
       all = c.runs-run-items.ensures ∙ ap (λ (s : Content). s.letters) c.as_ref-script.ensures;
       at = subst (AreAt put.Between taking.Between w.script) (sym c.new-world.ensures.empty) (at_first w.script);
-      told = subst (λ (t : List Told). TellsCalls w.script w.history (events_of w.script t)) (sym c.new-told.ensures.items)
+      told = subst (λ (t : List Told). TellsCalls w.script w.history (call_events w.script t)) (sym c.new-told.ensures.items)
           (subst (λ h. TellsCalls w.script h []) (sym c.new-world.ensures.empty) (nothing_told w.script));
       plays = subst (λ (l : List Side). Plays c.args.script.now l w.history) (sym spelled-none)
           (subst (λ (s : Content). Plays s [] w.history) c.new-world.ensures.script
-          (subst (λ (h : List Event). Plays w.script (sides h) w.history) c.new-world.ensures.empty c.history.ensures.plays.plays));
+          (subst (λ (h : List Event). Plays w.script (event_sides h) w.history) c.new-world.ensures.empty c.history.ensures.plays.plays));
     }
 
 pub repeat_told-requires-clause-items : goal.repeat_told-requires-clause-items
@@ -64,5 +64,5 @@ returns g c =
     let l = c.loop-run.invariant in
     let runs : List Run = c.runs-run-items.result.now in
     let whole : spelled (take c.loop-run.run-index runs) ≡ c.args.script.now.letters = ap spelled (take_all c.loop-run.run-index runs (omega (arith, c.loop-run-test.false))) ∙ l.all in
-    play_records c.recorded_is_linearizable.ensures c.loop-run.world.script c.args.script.now (sides c.loop-run.world.history) c.loop-run.world.history c.loop-run.told.items l.script
+    play_records c.recorded_is_linearizable.ensures c.loop-run.world.script c.args.script.now (event_sides c.loop-run.world.history) c.loop-run.world.history c.loop-run.told.items l.script
     c.history-2.ensures.plays (subst (λ (t : List Side). Plays c.args.script.now t c.loop-run.world.history) whole l.plays) l.told

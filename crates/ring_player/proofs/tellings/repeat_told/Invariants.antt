@@ -2,13 +2,13 @@ use Rattle.std.proofs.Common.{◌≡◌, List, ◌++◌}
 use Rattle.std.specs.Prelude.{replicate}
 use Rattle.bits_core.specs.declared.events.Side.{Side}
 use Rattle.ring_player.specs.Plays.{Plays}
-use Rattle.ring_player.specs.Tellings.{AreAt, TellsCalls, events_of}
+use Rattle.ring_player.specs.Tellings.{AreAt, TellsCalls, call_events}
 use Rattle.ring_player.proofs.tellings.repeat_told.Given as goal
 
 abbrev pub invariant-loop-made : goal.invariant-loop-made
 invariant-loop-made g l = record {
   script : l.world.script ≡ l.fn.world.script;
   at : AreAt l.at.put l.at.take l.world.script l.world.history;
-  told : TellsCalls l.world.script l.world.history (events_of l.world.script l.told.items);
+  told : TellsCalls l.world.script l.world.history (call_events l.world.script l.told.items);
   letters : (letters : List Side) → Plays l.fn.world.script letters l.fn.world.history → Plays l.fn.world.script (letters ++ replicate l.made l.side) l.world.history;
 }

@@ -8,7 +8,7 @@ use Rattle.ring_script.specs.declared.schedules.Run.{Run}
 use Rattle.ring_script.specs.Borrowed.{content_of}
 use Rattle.ring_script.specs.Schedule.{spelled}
 use Rattle.ring_script.specs.Content.{Content}
-use Rattle.ring_player.specs.Plays.{Plays, sides}
+use Rattle.ring_player.specs.Plays.{Plays, event_sides}
 use Rattle.ring_player.proofs.WorldParts.{left-more, spelled-more, spelled-none, take-more, take-none, on_err, within_all}
 use Rattle.ring_player.proofs.worlds.run_first.Goals as goal
 
@@ -17,7 +17,7 @@ loop-run-init g c =
     let w = c.args.world.now in
     let k : ℕ = c.args.letters in
     let nothing : Plays w.script (take k (spelled [])) [] =
-    subst (λ (l : List Side). Plays w.script l []) (sym (take-none k)) (subst (λ (h : List Event). Plays w.script (sides h) h) c.requires.new c.history.ensures.plays.plays) in
+    subst (λ (l : List Side). Plays w.script l []) (sym (take-none k)) (subst (λ (h : List Event). Plays w.script (event_sides h) h) c.requires.new c.history.ensures.plays.plays) in
     record {
       script = c.requires.of_script;
       all = c.runs-run-items.ensures;

@@ -3,7 +3,7 @@ use Rattle.clap.specs.Words.{HasKind, Kinds, kind_of}
 use Rattle.clap.specs.declared.error.Error.{Error}
 use Rattle.clap.specs.declared.error.kind.ErrorKind.{ErrorKind}
 use Rattle.clap.specs.declared.error.kind.ErrorKind.TheVariants as kind
-use Rattle.ring_program.specs.Answers.{Ends, EndsUnasked, Explains, IsCallsCause, IsHelp, IsOutOfMemory, IsShortage, IsStatus, IsStatusOf, IsStatusOn, NoMemory, Shown}
+use Rattle.ring_program.specs.Answers.{Ends, EndsUnasked, Explains, IsCallsCause, IsHelp, IsOutOfMemory, IsShortage, IsStatus, IsStatusOf, IsStatusOn, NoMemory, WasWritten}
 use Rattle.ring_program.specs.declared.command_line.Question.{Question}
 use Rattle.ring_program.specs.declared.command_line.Question.TheVariants.{Audit, AuditBits, Play, PlayTrace, PlayCalls}
 use Rattle.ring_program.specs.declared.command_line.Request.{Request}
@@ -49,7 +49,7 @@ unasked_by kinds e before after status (inr among) (inr (inr mistake)) =
     inr (inr (record { ends = mistake.2; kept = mistake.3; mistake = inr (kind_of e, among, mistake.0) }))
 
 -- the status of an error of the command line
-status_shown : (before after : Option (List ℕ)) (status : ℕ) → Shown before after status → (status ≡ 0) ⊎ ((status ≡ 1) ⊎ (status ≡ 2))
+status_shown : (before after : Option (List ℕ)) (status : ℕ) → WasWritten before after status → (status ≡ 0) ⊎ ((status ≡ 1) ⊎ (status ≡ 2))
 status_shown before after status (text, inl whole) = inl whole.0
 status_shown before after status (text, inr front) = inr (inl front.0)
 

@@ -1,29 +1,29 @@
 use Rattle.std.proofs.Common.{◌∙◌, ap, subst, string_bytes}
 use Rattle.std.proofs.lemmas.List.{drop_all, drop_more}
 use Rattle.bits_core.specs.Shape.{capacity_of}
-use Rattle.ring_player.specs.Tellings.{events_of}
+use Rattle.ring_player.specs.Tellings.{call_events}
 use Rattle.ring_program.proofs.TellingText.{IsToldSoFar, telling_begins, telling_ends, telling_goes_on}
 use Rattle.ring_program.proofs.tellings.calls_text.Goals as goal
 
 pub loop-event-init : goal.loop-event-init
 loop-event-init g c =
-    telling_begins (capacity_of c.args.script.now.shape) c.capacity.result (events_of c.args.script.now c.args.told.now) _ _ c.text.result.now c.new-text.ensures.bytes c.text.ensures
+    telling_begins (capacity_of c.args.script.now.shape) c.capacity.result (call_events c.args.script.now c.args.told.now) _ _ c.text.result.now c.new-text.ensures.bytes c.text.ensures
     (c.capacity.ensures.value ∙ ap capacity_of c.shape.ensures) c.in_ok-push_list.ensures.ok
 
 pub loop-event-preserved : goal.loop-event-preserved
 loop-event-preserved g c =
     let script = c.args.script.now in
     let told = c.args.told.now in
-    telling_goes_on (capacity_of script.shape) (events_of script told) _ _ _ _ _ _ c.in_ok-push_told.ensures.line c.offers_behind-offers.ensures c.in_ok-push_told.ensures.small
-    (subst (λ rest. IsToldSoFar (capacity_of script.shape) (events_of script told) (events_of script rest) c.loop-event.offers (string_bytes c.loop-event.text))
+    telling_goes_on (capacity_of script.shape) (call_events script told) _ _ _ _ _ _ c.in_ok-push_told.ensures.line c.offers_behind-offers.ensures c.in_ok-push_told.ensures.small
+    (subst (λ rest. IsToldSoFar (capacity_of script.shape) (call_events script told) (call_events script rest) c.loop-event.offers (string_bytes c.loop-event.text))
     (drop_more told c.loop-event.event-index _ c.loop-event-test.true) c.loop-event.invariant)
 
 pub returns-clause-recording : goal.returns-clause-recording
 returns-clause-recording g c =
     let script = c.args.script.now in
     let told = c.args.told.now in
-    telling_ends (capacity_of script.shape) c.capacity.result (events_of script told) c.loop-event.offers (string_bytes c.loop-event.text)
+    telling_ends (capacity_of script.shape) c.capacity.result (call_events script told) c.loop-event.offers (string_bytes c.loop-event.text)
     (c.capacity.ensures.value ∙ ap capacity_of c.shape.ensures) c.capacity.ensures.some c.capacity.ensures.few c.history_has_a_recording.ensures
     (c.linearizable_is_in_turn.ensures _ _ c.requires.linearizable)
-    (subst (λ rest. IsToldSoFar (capacity_of script.shape) (events_of script told) (events_of script rest) c.loop-event.offers (string_bytes c.loop-event.text))
+    (subst (λ rest. IsToldSoFar (capacity_of script.shape) (call_events script told) (call_events script rest) c.loop-event.offers (string_bytes c.loop-event.text))
     (drop_all c.loop-event.event-index told c.loop-event-test.false) c.loop-event.invariant)

@@ -1,10 +1,10 @@
 use Rattle.std.specs.Prelude.{drop, string_bytes}
 use Rattle.bits_core.specs.Shape.{capacity_of}
-use Rattle.ring_player.specs.Tellings.{events_of}
+use Rattle.ring_player.specs.Tellings.{call_events}
 use Rattle.ring_program.proofs.TellingText.{IsToldSoFar}
 use Rattle.ring_program.proofs.tellings.calls_text.Given as goal
 
 -- the text has gained the lines of what was told so far
 abbrev pub invariant-loop-event : goal.invariant-loop-event
 invariant-loop-event g l =
-    IsToldSoFar (capacity_of l.fn.script.shape) (events_of l.fn.script l.fn.told) (events_of l.fn.script (drop l.event-index l.fn.told)) l.offers (string_bytes l.text)
+    IsToldSoFar (capacity_of l.fn.script.shape) (call_events l.fn.script l.fn.told) (call_events l.fn.script (drop l.event-index l.fn.told)) l.offers (string_bytes l.text)

@@ -2,7 +2,7 @@ use Rattle.std.proofs.Common.{Bool, true, ◌∷◌, [], ◌++◌, refl, ap, sym
 use Rattle.bits_core.specs.Made.{answered}
 use Rattle.ring_core.specs.declared.producers.Stage.TheVariants.{Scanning}
 use Rattle.ring_core.specs.ProducerState.{ProducerState, Put, due_put, call_of}
-use Rattle.ring_core.specs.ProducerCalls.{ProducerStands, HasMoved}
+use Rattle.ring_core.specs.ProducerCalls.{ProducerStands, ProducerHasMoved}
 use Rattle.ring_run.proofs.Accesses.{longer, same}
 use Rattle.ring_run.proofs.PutterMoves.{right_there}
 use Rattle.ring_run.proofs.PutterWhole.{at_call, busy_at, can_go, goes_in, may_feed, same_scan, scan_is, went}
@@ -41,12 +41,12 @@ returns-then-answer-clause-goes g c calls one was =
     let scan = c.reads.scan in
     let new = c.feed_scan.new.self in
     let state = c.go_on_with_scan.ensures.state in
-    let moved : HasMoved scan new calls (on.made ++ answered n.result true ∷ []) =
-    subst (λ (p : ProducerState). HasMoved p new calls (on.made ++ answered n.result true ∷ [])) state
+    let moved : ProducerHasMoved scan new calls (on.made ++ answered n.result true ∷ []) =
+    subst (λ (p : ProducerState). ProducerHasMoved p new calls (on.made ++ answered n.result true ∷ [])) state
     (c.feed_scan.ensures.stands calls on.made n.result (subst (λ (p : ProducerState). ProducerStands p calls on.made) (sym state) on.at.stands) (ap due_put state ∙ n.ensures.due)) in
     went c.laws_below.ensures c.reads.hand scan calls one on n.result n.ensures.due n.ensures.goes_on n.ensures.bounded x.result x.ensures.due x.ensures.stands m.new.self m.result m.ensures.made new
     (c.feed_scan.ensures.shape ∙ ap (λ (p : ProducerState). p.shape) state)
-    (subst (λ (v : Bool). HasMoved scan new calls (on.made ++ answered n.result v ∷ [])) (sym c.if-answer.true) moved)
+    (subst (λ (v : Bool). ProducerHasMoved scan new calls (on.made ++ answered n.result v ∷ [])) (sym c.if-answer.true) moved)
 
 pub zero-requires : goal.zero-requires
 zero-requires g c =
@@ -82,7 +82,7 @@ reads-preserved g c =
           let on = was.5 calls one at in
           let goes = went c.laws_below.ensures e scan calls one on n.result n.ensures.due n.ensures.goes_on n.ensures.bounded x.result x.ensures.due x.ensures.stands b m.result m.ensures.made next
           (ap (λ (p : ProducerState). p.shape) state)
-          (subst (λ (v : Bool). HasMoved scan next calls (on.made ++ answered n.result v ∷ [])) (sym c.if-answer.false) (c.zero.ensures.stands calls on.made n.result on.at.stands n.ensures.due)) in
+          (subst (λ (v : Bool). ProducerHasMoved scan next calls (on.made ++ answered n.result v ∷ [])) (sym c.if-answer.false) (c.zero.ensures.stands calls on.made n.result on.at.stands n.ensures.due)) in
           goes_in b next calls one one goes (ap call_of state ∙ on.call_is),
       answered_then _ _ _ _ _ _ was.6 m.ensures.answered,
     )

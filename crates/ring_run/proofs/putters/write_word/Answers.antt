@@ -2,7 +2,7 @@ use Rattle.std.proofs.Common.{◌≡◌, Bool, false, true, true≢false, ◌∷
 use Rattle.bits_core.specs.Made.{answered}
 use Rattle.ring_core.specs.declared.producers.Stage.TheVariants.{Storing}
 use Rattle.ring_core.specs.ProducerState.{ProducerState, Put, due_put, call_of}
-use Rattle.ring_core.specs.ProducerCalls.{ProducerStands, HasMoved}
+use Rattle.ring_core.specs.ProducerCalls.{ProducerStands, ProducerHasMoved}
 use Rattle.ring_run.proofs.Accesses.{longer, same}
 use Rattle.ring_run.proofs.PutterMoves.{right_there}
 use Rattle.ring_run.proofs.PutterWhole.{at_call, busy_at, can_go, goes_in, same_word, went, word_is}
@@ -41,8 +41,8 @@ returns-then-last-clause-goes g c calls one was =
     let word = c.writes.word in
     let new = c.feed_word.new.self in
     let state = c.go_on_with_word.ensures.state in
-    let moved : HasMoved word new calls (on.made ++ answered n.result m.result ∷ []) =
-    subst (λ (p : ProducerState). HasMoved p new calls (on.made ++ answered n.result m.result ∷ [])) state
+    let moved : ProducerHasMoved word new calls (on.made ++ answered n.result m.result ∷ []) =
+    subst (λ (p : ProducerState). ProducerHasMoved p new calls (on.made ++ answered n.result m.result ∷ [])) state
     (c.feed_word.ensures.stands calls on.made n.result (subst (λ (p : ProducerState). ProducerStands p calls on.made) (sym state) on.at.stands) (ap due_put state ∙ n.ensures.due)) in
     went c.laws_below.ensures c.writes.hand word calls one on n.result n.ensures.due n.ensures.goes_on n.ensures.bounded false
     (λ (t : false ≡ true). absurd (true≢false (sym t)), n.ensures.not_last)

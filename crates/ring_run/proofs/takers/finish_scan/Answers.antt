@@ -1,7 +1,7 @@
 use Rattle.std.proofs.Common.{Bool, true, ◌∷◌, [], ◌++◌, ap, sym, subst, ◌∙◌, arith, refl}
 use Rattle.bits_core.specs.Made.{answered}
 use Rattle.ring_core.specs.ConsumerState.{ConsumerState, due_take, is_taking}
-use Rattle.ring_core.specs.ConsumerCalls.{ConsumerStands, HasMoved}
+use Rattle.ring_core.specs.ConsumerCalls.{ConsumerStands, ConsumerHasMoved}
 use Rattle.ring_run.proofs.Accesses.{longer, same}
 use Rattle.ring_run.proofs.TakerMoves.{right_there}
 use Rattle.ring_run.proofs.TakerWhole.{can_go, goes_in, may_feed, same_scan, scan_is, went}
@@ -32,12 +32,12 @@ returns-then-answer-clause-goes g c calls was =
     let scan = c.reads.scan in
     let new = c.feed.new.self in
     let state = c.go_on_with_scan.ensures.state in
-    let moved : HasMoved scan new calls (on.made ++ answered n.result true ∷ []) =
-    subst (λ (p : ConsumerState). HasMoved p new calls (on.made ++ answered n.result true ∷ [])) state
+    let moved : ConsumerHasMoved scan new calls (on.made ++ answered n.result true ∷ []) =
+    subst (λ (p : ConsumerState). ConsumerHasMoved p new calls (on.made ++ answered n.result true ∷ [])) state
     (c.feed.ensures.stands calls on.made n.result (subst (λ (p : ConsumerState). ConsumerStands p calls on.made) (sym state) on.at.stands) (ap due_take state ∙ n.ensures.due)) in
     went c.laws_below.ensures c.reads.hand scan calls on n.result n.ensures.due n.ensures.goes_on n.ensures.bounded x.result x.ensures.due x.ensures.stands m.new.self m.result m.ensures.made new
     (c.feed.ensures.shape ∙ ap (λ (p : ConsumerState). p.shape) state)
-    (subst (λ (v : Bool). HasMoved scan new calls (on.made ++ answered n.result v ∷ [])) (sym c.if-answer.true) moved)
+    (subst (λ (v : Bool). ConsumerHasMoved scan new calls (on.made ++ answered n.result v ∷ [])) (sym c.if-answer.true) moved)
 
 pub zero-requires : goal.zero-requires
 zero-requires g c =
@@ -73,7 +73,7 @@ reads-preserved g c =
           let on = was.5 calls at in
           let goes = went c.laws_below.ensures e scan calls on n.result n.ensures.due n.ensures.goes_on n.ensures.bounded x.result x.ensures.due x.ensures.stands b m.result m.ensures.made next
           (ap (λ (p : ConsumerState). p.shape) state)
-          (subst (λ (v : Bool). HasMoved scan next calls (on.made ++ answered n.result v ∷ [])) (sym c.if-answer.false) (c.zero.ensures.stands calls on.made n.result on.at.stands n.ensures.due)) in
+          (subst (λ (v : Bool). ConsumerHasMoved scan next calls (on.made ++ answered n.result v ∷ [])) (sym c.if-answer.false) (c.zero.ensures.stands calls on.made n.result on.at.stands n.ensures.due)) in
           goes_in b next calls goes (ap is_taking state ∙ on.taking),
       answered_then _ _ _ _ _ _ was.6 m.ensures.answered,
     )

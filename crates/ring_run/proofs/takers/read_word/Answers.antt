@@ -2,7 +2,7 @@ use Rattle.std.proofs.Common.{◌≡◌, false, true, true≢false, ◌∷◌, [
 use Rattle.bits_core.specs.Made.{answered}
 use Rattle.ring_core.specs.declared.consumers.Stage.TheVariants.{Loading}
 use Rattle.ring_core.specs.ConsumerState.{ConsumerState, due_take, is_taking}
-use Rattle.ring_core.specs.ConsumerCalls.{ConsumerStands, HasMoved}
+use Rattle.ring_core.specs.ConsumerCalls.{ConsumerStands, ConsumerHasMoved}
 use Rattle.ring_run.proofs.Accesses.{longer, same}
 use Rattle.ring_run.proofs.TakerMoves.{right_there}
 use Rattle.ring_run.proofs.TakerWhole.{taking_at, can_go, goes_in, same_word, went, word_is}
@@ -36,8 +36,8 @@ returns-then-last-clause-goes g c calls was =
     let word = c.reads.word in
     let new = c.feed_word.new.self in
     let state = c.go_on_with_word.ensures.state in
-    let moved : HasMoved word new calls (on.made ++ answered n.result m.result ∷ []) =
-    subst (λ (p : ConsumerState). HasMoved p new calls (on.made ++ answered n.result m.result ∷ [])) state
+    let moved : ConsumerHasMoved word new calls (on.made ++ answered n.result m.result ∷ []) =
+    subst (λ (p : ConsumerState). ConsumerHasMoved p new calls (on.made ++ answered n.result m.result ∷ [])) state
     (c.feed_word.ensures.stands calls on.made n.result (subst (λ (p : ConsumerState). ConsumerStands p calls on.made) (sym state) on.at.stands) (ap due_take state ∙ n.ensures.due)) in
     went c.laws_below.ensures c.reads.hand word calls on n.result n.ensures.due n.ensures.goes_on n.ensures.bounded false
     (λ (t : false ≡ true). absurd (true≢false (sym t)), n.ensures.not_last)

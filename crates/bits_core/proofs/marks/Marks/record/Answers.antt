@@ -7,7 +7,7 @@ use Rattle.bits_core.specs.declared.events.Side.{Side}
 use Rattle.bits_core.specs.declared.marks.SideMark.{SideMark}
 use Rattle.bits_core.specs.declared.marks.Marks.{Marks}
 use Rattle.bits_core.specs.Bits.{doer, other, value_written, writer}
-use Rattle.bits_core.specs.Marks.{beside, idle, mark_of, value_ended, with_mark, with_value}
+use Rattle.bits_core.specs.Marks.{beside, idle, side_mark, value_ended, with_mark, with_value}
 use Rattle.bits_core.proofs.MarkLemmas.{answers, reads, recorded, writes, wrote}
 use Rattle.bits_core.proofs.marks.Marks.record.Goals as goal
 
@@ -15,7 +15,7 @@ pub returns-in-ReadBegin : goal.returns-in-ReadBegin
 returns-in-ReadBegin c = λ shape past are follows.
     let e = c.args.event in
     let before = c.args.self.now in
-    let overlapped = c.is_write_of-overlapped.ensures ∙ ap (λ (o : Option Access). is_some (value_written e.bit o)) (c.open_access.ensures.mark ∙ ap (λ (s : Side). (mark_of s before).opened) c.writer.ensures) in
+    let overlapped = c.is_write_of-overlapped.ensures ∙ ap (λ (o : Option Access). is_some (value_written e.bit o)) (c.open_access.ensures.mark ∙ ap (λ (s : Side). (side_mark s before).opened) c.writer.ensures) in
     recorded shape past e before c.set.new.self _ _ are follows c.in-ReadBegin.is c.set.ensures (reads before e.side e.bit are.seats c.is_write_of-overlapped.result overlapped)
 
 pub returns-in-ReadEnd : goal.returns-in-ReadEnd
@@ -34,7 +34,7 @@ returns-in-WriteBegin c = λ shape past are follows.
     let beside_it = c.beside.ensures ∙ ap (λ (m : SideMark). beside m e.bit) c.of.ensures in
     let first = c.set-in-WriteBegin.ensures
     ∙ ap (λ (m : SideMark). with_mark before c.reader-reader.result m) beside_it
-    ∙ ap (λ (s : Side). with_mark before s (beside (mark_of s before) e.bit)) reads_it in
+    ∙ ap (λ (s : Side). with_mark before s (beside (side_mark s before) e.bit)) reads_it in
     let second = c.set-in-WriteBegin-2.ensures ∙ ap (λ (m : Marks). with_mark m e.side mark) first in
     recorded shape past e before c.set-in-WriteBegin-2.new.self _ _ are follows c.in-WriteBegin.is second (writes before e.side e.bit are.seats c.in-WriteBegin.value)
 

@@ -1,7 +1,7 @@
 use Rattle.std.proofs.Common.{◌≡◌, List, [], ◌∷◌, ◌++◌, subst, sym, arith}
 use Rattle.bits_core.specs.declared.events.Event.{Event}
 use Rattle.ring_audit.specs.declared.takes.TakeStep.TheVariants as takes
-use Rattle.ring_audit.specs.TakeReading.{HasRead}
+use Rattle.ring_audit.specs.TakeReading.{HasReadTake}
 use Rattle.ring_audit.specs.Reading.{Reading, ReadingStands, BothFollow}
 use Rattle.ring_audit.proofs.Readings.{put_stops, put_stores, put_counts, take_stops}
 use Rattle.ring_audit.proofs.audits.Reading.read.Goals as goal
@@ -30,6 +30,6 @@ pub returns-in-Stops-read-clause-stops : goal.returns-in-Stops-read-clause-stops
 returns-in-Stops-read-clause-stops g c f =
     let r : Reading = record { puts = c.self.inside.puts; takes = c.self.inside.takes; put = c.self.inside.put.items; counted = c.self.inside.counted; taken = c.self.inside.taken.items } in
     let same : r.takes.consumer.shape ≡ r.puts.shape = subst (λ (z : Reading). z.takes.consumer.shape ≡ z.puts.shape) (sym c.self.view_is) c.requires in
-    let read : HasRead r.puts.shape r.takes c.read-in-C.new.self c.args.event takes.Stops = subst (λ s. HasRead s r.takes c.read-in-C.new.self c.args.event takes.Stops) same c.in-Stops-read.ensures.read in
+    let read : HasReadTake r.puts.shape r.takes c.read-in-C.new.self c.args.event takes.Stops = subst (λ s. HasReadTake s r.takes c.read-in-C.new.self c.args.event takes.Stops) same c.in-Stops-read.ensures.read in
     subst (λ (z : Reading). (h : List Event) → ReadingStands z.puts.shape z h → BothFollow z.puts.shape (h ++ c.args.event ∷ []) → ⊥) c.self.view_is
     (take_stops c.own_changes.ensures r.puts.shape r c.read-in-C.new.self c.args.event c.in-C.is read)

@@ -1,3 +1,4 @@
+use Rattle.bits_core.specs.Made.{opening_event}
 use Rattle.std.proofs.Common.{◌≡◌, ◌<◌, true, false, Some, None, subst, sym, ap, ◌∙◌}
 use Rattle.bits_core.specs.declared.events.Side.TheVariants.{P}
 use Rattle.bits_core.specs.declared.events.Bit.TheVariants.{Cell}
@@ -7,7 +8,6 @@ use Rattle.bits_core.specs.Shape.{width_of}
 use Rattle.ring_audit.specs.declared.puts.PutStep.TheVariants.{Stops, GoesOn}
 use Rattle.ring_audit.specs.declared.puts.Stage.TheVariants.{Storing}
 use Rattle.ring_audit.specs.contracts.puts.PutReader.{the_view}
-use Rattle.ring_audit.specs.Sides.{opening_event}
 use Rattle.ring_audit.specs.PutReading.{PutReading, IsReaderAt}
 use Rattle.ring_audit.proofs.PutReads.{lift, at_stage, no_digit, read_due}
 use Rattle.ring_audit.proofs.PutSteps.{begins_digit}

@@ -1,3 +1,4 @@
+use Rattle.bits_core.specs.Made.{opening_event}
 use Rattle.std.proofs.Common.{◌≡◌, true, false, Some, None, sym, ap, ◌∙◌}
 use Rattle.bits_core.specs.declared.events.Side.TheVariants.{P}
 use Rattle.bits_core.specs.declared.events.Access.{Access}
@@ -7,7 +8,6 @@ use Rattle.register_core.specs.ScanState.{row_read_by}
 use Rattle.ring_audit.specs.declared.puts.PutStep.TheVariants.{Stops}
 use Rattle.ring_audit.specs.declared.puts.Stage.TheVariants.{Scanning}
 use Rattle.ring_audit.specs.contracts.puts.PutReader.{the_view}
-use Rattle.ring_audit.specs.Sides.{opening_event}
 use Rattle.ring_audit.specs.PutReading.{PutReading, IsReaderAt}
 use Rattle.ring_audit.proofs.PutReads.{lift, at_stage, no_read, scan_due}
 use Rattle.ring_audit.proofs.puts.PutReader.begin_read.Goals as goal

@@ -1,3 +1,4 @@
+use Rattle.bits_core.specs.Made.{opening_event}
 use Rattle.std.proofs.Common.{◌≡◌, ◌<◌, Bool, true, false, Some, None, sym, ap, ◌∙◌, arith}
 use Rattle.bits_core.specs.declared.events.Side.TheVariants.{P}
 use Rattle.bits_core.specs.declared.events.Bit.TheVariants.{Cell}
@@ -8,7 +9,6 @@ use Rattle.register_core.specs.WordState.{ReaderState, due_read}
 use Rattle.ring_audit.specs.declared.puts.PutStep.TheVariants.{Stops, GoesOn}
 use Rattle.ring_audit.specs.declared.puts.Stage.TheVariants.{Choosing, Storing}
 use Rattle.ring_audit.specs.contracts.puts.PutReader.{the_view}
-use Rattle.ring_audit.specs.Sides.{opening_event}
 use Rattle.ring_audit.specs.PutReading.{PutReading, IsReaderAt}
 use Rattle.ring_audit.proofs.PutReads.{lift, at_stage, no_word_nor_count, read_due}
 use Rattle.ring_audit.proofs.PutSteps.{begins_word}

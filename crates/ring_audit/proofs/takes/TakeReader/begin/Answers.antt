@@ -1,7 +1,7 @@
+use Rattle.bits_core.specs.Made.{opening_event}
 use Rattle.std.proofs.Common.{◌≡◌, true, false, sym, ap, ◌∙◌}
 use Rattle.bits_core.specs.declared.events.Side.TheVariants.{C}
 use Rattle.ring_core.specs.Takes.{take_program}
-use Rattle.ring_audit.specs.Sides.{opening_event}
 use Rattle.ring_audit.specs.TakeReading.{TakeReading}
 use Rattle.ring_audit.proofs.Beginnings.{begun_of}
 use Rattle.ring_audit.proofs.Readers.{begin_in_access}

@@ -5,7 +5,7 @@ use Rattle.bits_core.specs.Made.{answered, end_event}
 use Rattle.ring_core.specs.Calls.{LastBitIsDue}
 use Rattle.ring_core.specs.ConsumerState.{due_take}
 use Rattle.ring_audit.specs.Sides.{AreOfTakes}
-use Rattle.ring_audit.specs.TakeReading.{TakeReading, HasRead, step_by}
+use Rattle.ring_audit.specs.TakeReading.{TakeReading, HasReadTake, step_by}
 use Rattle.ring_audit.proofs.TakeReads.{zero_at_last}
 use Rattle.ring_audit.proofs.TakeSteps.{finish_goes_on, has_read}
 use Rattle.ring_audit.proofs.takes.TakeReader.finish.Goals as goal
@@ -33,6 +33,6 @@ returns-clause-read c =
     let new : TakeReading = record { consumer = c.feed.new.self; open_access = None } in
     let on = finish_goes_on p.shape p c.feed.new.self access c.args.answer c.reply.result due c.feed.ensures.shape c.feed.ensures.stands c.reply.ensures.stands in
     let old_is : record { consumer = p; open_access = Some access } ≡ c.args.self.now = ap (λ z. record { consumer = p; open_access = z }) (sym (open_is ∙ c.requires)) ∙ c.self.view_is in
-    let read : HasRead c.args.self.now.consumer.shape c.args.self.now new e (step_by c.reply.result) =
-    subst (λ (r : TakeReading). HasRead r.consumer.shape r new e (step_by c.reply.result)) old_is (has_read p.shape (record { consumer = p; open_access = Some access }) new e c.reply.result on) in
-    subst (HasRead c.args.self.now.consumer.shape c.args.self.now new e) (sym c.step_of.ensures) read
+    let read : HasReadTake c.args.self.now.consumer.shape c.args.self.now new e (step_by c.reply.result) =
+    subst (λ (r : TakeReading). HasReadTake r.consumer.shape r new e (step_by c.reply.result)) old_is (has_read p.shape (record { consumer = p; open_access = Some access }) new e c.reply.result on) in
+    subst (HasReadTake c.args.self.now.consumer.shape c.args.self.now new e) (sym c.step_of.ensures) read

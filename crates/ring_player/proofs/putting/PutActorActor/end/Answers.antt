@@ -2,7 +2,7 @@ use Rattle.std.proofs.Common.{◌≡◌, ◌∷◌, [], ◌++◌, None, ◌+◌,
 use Rattle.bits_core.specs.Made.{answered}
 use Rattle.ring_core.specs.ProducerState.{batch_reply}
 use Rattle.ring_player.proofs.Nexts.{put_next}
-use Rattle.ring_player.specs.Actors.{IsPutting, full_in_reply, stored_in_reply}
+use Rattle.ring_player.specs.Actors.{PutActorStands, full_in_reply, stored_in_reply}
 use Rattle.ring_player.proofs.Writings.{digit_few, digits_few, ends_writing, full_few}
 use Rattle.ring_player.proofs.Puttings.{ended, ended_within}
 use Rattle.ring_script.specs.Borrowed.{content_of}
@@ -29,8 +29,8 @@ returns-clause-stands c list a is s =
     let reply : c.batch_reply-reply.result ≡ batch_reply c.feed.new.self = c.batch_reply-reply.ensures.state in
     let stored : stored_in_reply (batch_reply c.feed.new.self) ≡ c.stored_by.result = sym (c.stored_by.ensures ∙ ap stored_in_reply reply) in
     let full : full_in_reply (batch_reply c.feed.new.self) ≡ c.full_by.result = sym (c.full_by.ensures ∙ ap full_in_reply reply) in (
-      subst (λ t. IsPutting (content_of x.script) c.feed.new.self (record { stored = x.stored + c.stored_by.result; full = x.full + t }) (list ++ answered a c.args.answer ∷ []) None) full
-          (subst (λ t. IsPutting (content_of x.script) c.feed.new.self (record { stored = x.stored + t; full = x.full + full_in_reply (batch_reply c.feed.new.self) }) (list ++ answered a c.args.answer ∷ []) None) stored after),
+      subst (λ t. PutActorStands (content_of x.script) c.feed.new.self (record { stored = x.stored + c.stored_by.result; full = x.full + t }) (list ++ answered a c.args.answer ∷ []) None) full
+          (subst (λ t. PutActorStands (content_of x.script) c.feed.new.self (record { stored = x.stored + t; full = x.full + full_in_reply (batch_reply c.feed.new.self) }) (list ++ answered a c.args.answer ∷ []) None) stored after),
       ends_writing (content_of x.script) x.digits x.put list a c.args.answer c.next-due.result c.digits_of.result (c.next-due.ensures.due ∙ is) c.digits_of.ensures s.1,
     )
 

@@ -3,7 +3,7 @@ use Rattle.bits_core.specs.declared.events.Event.{Event}
 use Rattle.bits_core.specs.declared.events.Side.TheVariants.{P, C}
 use Rattle.ring_core.specs.Linear.{EachReadingIsLinearizable}
 use Rattle.ring_player.specs.Headline.{IsPlayOf}
-use Rattle.ring_player.specs.Plays.{IsProgram, Plays, sides}
+use Rattle.ring_player.specs.Plays.{IsProgram, Plays, event_sides}
 use Rattle.ring_player.specs.Worlds.{Played}
 use Rattle.ring_player.proofs.WorldParts.{is_play, plays_of}
 use Rattle.ring_script.specs.Borrowed.{content_of}
@@ -13,12 +13,12 @@ pub returns-clause-plays : goal.returns-clause-plays
 returns-clause-plays g c =
     let w = c.self.inside in
     let i = c.self.invariant in
-    let plays : Plays (content_of w.script) (sides w.memory.events) w.memory.events =
+    let plays : Plays (content_of w.script) (event_sides w.memory.events) w.memory.events =
     plays_of c.flicker_is_by_interval.ensures (content_of w.script) w.memory (content_of w.producer.script) (content_of w.consumer.script) _ _ _ _ _ i c.events.ensures.lawful
     (subst (λ (t : List Event). IsProgram (content_of w.producer.script) P t) (sym i.puts.own_is) i.puts.there.0.program)
     (subst (λ (t : List Event). IsProgram (content_of w.consumer.script) C t) (sym i.takes.own_is) i.takes.there.program) in
-    subst (λ (t : Played). IsPlayOf t.script (sides t.history) t.history) c.self.view_is
-    (is_play c.every_play_holds.ensures c.every_play_fills.ensures (content_of w.script) (sides w.memory.events) w.memory.events plays)
+    subst (λ (t : Played). IsPlayOf t.script (event_sides t.history) t.history) c.self.view_is
+    (is_play c.every_play_holds.ensures c.every_play_fills.ensures (content_of w.script) (event_sides w.memory.events) w.memory.events plays)
 
 pub returns-clause-linearizable : goal.returns-clause-linearizable
 returns-clause-linearizable g c =

@@ -2,7 +2,7 @@ use Rattle.std.proofs.Common.{◌≡◌, ℕ, ◌<◌, sym, ap, ◌∙◌, subst
 use Rattle.atomic_table.specs.Table.{Enters}
 use Rattle.bits_core.specs.declared.shapes.Shape.{Shape}
 use Rattle.ring_run.specs.Ring.{Ring}
-use Rattle.ring_run.specs.Rule.{IsFound}
+use Rattle.ring_run.specs.Rule.{IsWordFound}
 use Rattle.ring_run.specs.Counters.{words_of, ShowsWords, KeptWords}
 use Rattle.ring_run.proofs.Moves.{finds}
 use Rattle.ring_run.proofs.counter_words.CounterWords.find.Goals as goal
@@ -13,5 +13,5 @@ load_new_seat-found-requires g c =
     let shape : c.self.inside.shape ≡ c.args.self.now.shape = ap (λ (r : Ring). r.shape) c.self.view_is in
     let key : t.key ≡ g.N.Note.shape = c.self.invariant.0 ∙ (shape ∙ sym c.requires.shape) in (
       subst (λ (n : ℕ). c.args.word < n) (sym (c.self.invariant.1 ∙ ap words_of shape)) c.requires.own,
-      subst (λ (z : Shape). Enters (KeptWords t.key) t.table_id.slots c.args.word (λ n _. IsFound (KeptWords z) c.args.word n)) key (finds words_of ShowsWords t.key t.table_id.slots c.args.word),
+      subst (λ (z : Shape). Enters (KeptWords t.key) t.table_id.slots c.args.word (λ n _. IsWordFound (KeptWords z) c.args.word n)) key (finds words_of ShowsWords t.key t.table_id.slots c.args.word),
     )

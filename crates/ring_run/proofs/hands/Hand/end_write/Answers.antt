@@ -7,7 +7,7 @@ use Rattle.bits_core.specs.Shape.{belongs}
 use Rattle.bits_core.specs.History.{open_access}
 use Rattle.ring_run.specs.Programs.{GoesOn}
 use Rattle.ring_run.specs.Ring.{RingEnd}
-use Rattle.ring_run.specs.Rule.{Kept, Added, event}
+use Rattle.ring_run.specs.Rule.{KeepsFlickerRule, Added, event}
 use Rattle.ring_run.specs.Words.{word_place}
 use Rattle.ring_run.proofs.Moves.{ends_write}
 use Rattle.ring_run.specs.Hands.{AreAnswered}
@@ -22,7 +22,7 @@ store_noted-requires-clause-rule c =
     let b = c.args.bit in
     let v = c.args.value in
     let shape = h.ring.shape in
-    λ slots. subst (λ (n : ℕ). Allows (Kept shape) slots h.seat.id h.seat.me (word_place shape b) (λ _. n) (λ _. Added shape (λ _. event h.side b WriteEnd) h.seat.me n)) (sym c.word_of-new.ensures)
+    λ slots. subst (λ (n : ℕ). Allows (KeepsFlickerRule shape) slots h.seat.id h.seat.me (word_place shape b) (λ _. n) (λ _. Added shape (λ _. event h.side b WriteEnd) h.seat.me n)) (sym c.word_of-new.ensures)
     (ends_write c.laws_below.ensures shape h.side b slots h.seat.id h.seat.me c.self.invariant.2 c.self.invariant.3
     (subst (λ (e : RingEnd). belongs e.ring.shape b ≡ true) is c.requires.bit.0)
     (subst (λ (e : RingEnd). e.side ≡ writer b) is c.requires.bit.1)

@@ -9,7 +9,7 @@ use Rattle.ring_run.specs.Hands.{CanMake, HasMade, AreAnswered}
 use Rattle.ring_run.specs.Programs.{GoesOn}
 use Rattle.ring_run.specs.Ring.{Ring, RingEnd}
 use Rattle.ring_run.specs.declared.views.View.{View}
-use Rattle.ring_run.specs.Rule.{Added, Kept, event}
+use Rattle.ring_run.specs.Rule.{Added, KeepsFlickerRule, event}
 use Rattle.ring_run.specs.Words.{answer_of, word_place, agrees}
 use Rattle.ring_run.proofs.Accesses.{end_at, list_more, made_read, may_still, none_open}
 use Rattle.ring_run.proofs.Moves.{begins_read, ends_read, opened_by}
@@ -23,7 +23,7 @@ load_at-first-requires-clause-rule g c =
     let is = sym c.self.view_is in
     let b = c.args.bit in
     let can = subst (λ (e : RingEnd). CanMake e (Read b)) is c.requires.can in
-    subst (λ (r : Ring). (slots : ℕ) → Allows (Kept r.shape) slots h.seat.id h.seat.me (word_place r.shape b) (λ n. n) (Added r.shape (λ _. event h.side b ReadBegin) h.seat.me)) (sym ring_is)
+    subst (λ (r : Ring). (slots : ℕ) → Allows (KeepsFlickerRule r.shape) slots h.seat.id h.seat.me (word_place r.shape b) (λ n. n) (Added r.shape (λ _. event h.side b ReadBegin) h.seat.me)) (sym ring_is)
     (λ slots. begins_read c.laws_below.ensures h.ring.shape h.side b slots h.seat.id h.seat.me c.self.invariant.2 c.self.invariant.3
     (subst (λ (e : RingEnd). belongs e.ring.shape b ≡ true) is c.requires.bit.0)
     (subst (λ (e : RingEnd). e.side ≡ reader b) is c.requires.bit.1)
@@ -40,7 +40,7 @@ load_at-again-requires-clause-rule g c =
     let seat = c.load_at-first.new.seat in
     let view = c.load_at-first.ensures.added.view in
     let said = g.O.Oracle.answers c.args.oracle.now 0 in
-    subst (λ (r : Ring). (slots : ℕ) → Allows (Kept r.shape) slots seat.id seat.me (word_place r.shape b) (λ n. n) (Added r.shape (λ n. event h.side b (ReadEnd (answer_of seat.me.0.first n said))) seat.me)) (sym ring_is)
+    subst (λ (r : Ring). (slots : ℕ) → Allows (KeepsFlickerRule r.shape) slots seat.id seat.me (word_place r.shape b) (λ n. n) (Added r.shape (λ n. event h.side b (ReadEnd (answer_of seat.me.0.first n said))) seat.me)) (sym ring_is)
     (λ slots. ends_read c.laws_below.ensures h.ring.shape h.side b slots seat.id seat.me
     (may_still h.side b ReadBegin first h.seat.me.0 seat.me.0 view h.side true c.self.invariant.2)
     (may_still h.side b ReadBegin first h.seat.me.0 seat.me.0 view (other h.side) false c.self.invariant.3)

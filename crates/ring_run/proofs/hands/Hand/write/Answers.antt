@@ -9,7 +9,7 @@ use Rattle.ring_run.specs.Hands.{CanMake, HasMade, AreAnswered}
 use Rattle.ring_run.specs.Programs.{GoesOn}
 use Rattle.ring_run.specs.Ring.{Ring, RingEnd}
 use Rattle.ring_run.specs.declared.views.View.{View}
-use Rattle.ring_run.specs.Rule.{Added, Kept, event}
+use Rattle.ring_run.specs.Rule.{Added, KeepsFlickerRule, event}
 use Rattle.ring_run.specs.Words.{word_place}
 use Rattle.ring_run.proofs.Accesses.{end_at, list_more, made_write, may_still, none_open}
 use Rattle.ring_run.proofs.Moves.{begins_write, ends_write, opened_by}
@@ -24,7 +24,7 @@ store_at-requires-clause-rule c =
     let b = c.args.bit in
     let v = c.args.value in
     let can = subst (λ (e : RingEnd). CanMake e (Write b v)) is c.requires.can in
-    subst (λ (r : Ring). (slots : ℕ) → Allows (Kept r.shape) slots h.seat.id h.seat.me (word_place r.shape b) (λ _. 2) (λ _. Added r.shape (λ _. event h.side b (WriteBegin v)) h.seat.me 2)) (sym ring_is)
+    subst (λ (r : Ring). (slots : ℕ) → Allows (KeepsFlickerRule r.shape) slots h.seat.id h.seat.me (word_place r.shape b) (λ _. 2) (λ _. Added r.shape (λ _. event h.side b (WriteBegin v)) h.seat.me 2)) (sym ring_is)
     (λ slots. begins_write c.laws_below.ensures h.ring.shape h.side b slots h.seat.id h.seat.me c.self.invariant.2 c.self.invariant.3
     (subst (λ (e : RingEnd). belongs e.ring.shape b ≡ true) is c.requires.bit.0)
     (subst (λ (e : RingEnd). e.side ≡ writer b) is c.requires.bit.1)
@@ -42,8 +42,8 @@ store_at-requires-2-clause-rule c =
     let seat = c.store_at.new.seat in
     let view = c.store_at.ensures.added.view in
     let new = c.word_of-new.result in
-    subst (λ (r : Ring). (slots : ℕ) → Allows (Kept r.shape) slots seat.id seat.me (word_place r.shape b) (λ _. new) (λ _. Added r.shape (λ _. event h.side b WriteEnd) seat.me new)) (sym ring_is)
-    (λ slots. subst (λ (n : ℕ). Allows (Kept shape) slots seat.id seat.me (word_place shape b) (λ _. n) (λ _. Added shape (λ _. event h.side b WriteEnd) seat.me n)) (sym c.word_of-new.ensures)
+    subst (λ (r : Ring). (slots : ℕ) → Allows (KeepsFlickerRule r.shape) slots seat.id seat.me (word_place r.shape b) (λ _. new) (λ _. Added r.shape (λ _. event h.side b WriteEnd) seat.me new)) (sym ring_is)
+    (λ slots. subst (λ (n : ℕ). Allows (KeepsFlickerRule shape) slots seat.id seat.me (word_place shape b) (λ _. n) (λ _. Added shape (λ _. event h.side b WriteEnd) seat.me n)) (sym c.word_of-new.ensures)
     (ends_write c.laws_below.ensures shape h.side b slots seat.id seat.me
     (may_still h.side b (WriteBegin v) 2 h.seat.me.0 seat.me.0 view h.side true c.self.invariant.2)
     (may_still h.side b (WriteBegin v) 2 h.seat.me.0 seat.me.0 view (other h.side) false c.self.invariant.3)

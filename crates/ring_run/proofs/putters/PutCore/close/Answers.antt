@@ -2,7 +2,7 @@ use Rattle.std.proofs.Common.{◌≡◌, None, refl, ap, subst, ◌∙◌}
 use Rattle.ring_core.specs.ProducerState.{Close, call_of}
 use Rattle.ring_run.specs.Ends.{PutterState, HasClosed}
 use Rattle.ring_run.specs.Hands.{IsSameEnd, AreAnswered}
-use Rattle.ring_run.specs.Machines.{before_last}
+use Rattle.ring_run.specs.Machines.{without_last}
 use Rattle.ring_run.proofs.PutterCalls.{rest_marked}
 use Rattle.ring_run.proofs.PutterWhole.{ready, idle_after, is_putter, lawful_after, close_ended}
 use Rattle.ring_run.proofs.putters.PutCore.close.Goals as goal
@@ -22,7 +22,7 @@ invariant_of-self g c =
     let idle : call_of p.machine ≡ None = ap (λ (s : PutterState (Unit {0})). s.call) c.self.view_is ∙ c.requires.idle in
     let begins = c.begin_close.ensures.begins i.calls i.made i.at.stands in
     let e = c.finish.new.hand in
-    (is_putter p.hand p.machine i.calls i.made i.at idle Close c.begin_close.new.machine begins c.finish.new.hand c.finish.new.machine c.finish.ensures.same c.finish.ensures.rests (c.finish.ensures.over i.calls) (before_last p.steps e.list), rest_marked p.hand.list e.list p.machine.shape c.finish.new.machine.shape p.steps (call_of p.machine) (call_of c.finish.new.machine) idle c.self.invariant.1)
+    (is_putter p.hand p.machine i.calls i.made i.at idle Close c.begin_close.new.machine begins c.finish.new.hand c.finish.new.machine c.finish.ensures.same c.finish.ensures.rests (c.finish.ensures.over i.calls) (without_last p.steps e.list), rest_marked p.hand.list e.list p.machine.shape c.finish.new.machine.shape p.steps (call_of p.machine) (call_of c.finish.new.machine) idle c.self.invariant.1)
 
 pub returns-clause-same : goal.returns-clause-same
 returns-clause-same g c =

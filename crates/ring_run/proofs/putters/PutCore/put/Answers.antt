@@ -2,7 +2,7 @@ use Rattle.std.proofs.Common.{◌≡◌, None, [], ◌∷◌, refl, ap, sym, sub
 use Rattle.ring_core.specs.ProducerState.{Put, call_of}
 use Rattle.ring_run.specs.Ends.{PutterState, HasPut, HasPutAll}
 use Rattle.ring_run.specs.Hands.{IsSameEnd, AreAnswered}
-use Rattle.ring_run.specs.Machines.{before_last}
+use Rattle.ring_run.specs.Machines.{without_last}
 use Rattle.ring_run.proofs.PutterCalls.{rest_marked}
 use Rattle.ring_run.proofs.PutterWhole.{ready, idle_after, is_putter, lawful_after, item_told, put_ended, some_item}
 use Rattle.ring_run.proofs.putters.PutCore.put.Goals as goal
@@ -22,7 +22,7 @@ invariant_of-self g c =
     let idle : call_of p.machine ≡ None = ap (λ (s : PutterState (Unit {0})). s.call) c.self.view_is ∙ c.requires.idle in
     let begins = c.begin_put.ensures.begins i.calls i.made i.at.stands in
     let e = c.finish.new.hand in
-    (is_putter p.hand p.machine i.calls i.made i.at idle (Put (c.args.item ∷ [])) c.begin_put.new.machine begins c.finish.new.hand c.finish.new.machine c.finish.ensures.same c.finish.ensures.rests (c.finish.ensures.over i.calls) (before_last p.steps e.list), rest_marked p.hand.list e.list p.machine.shape c.finish.new.machine.shape p.steps (call_of p.machine) (call_of c.finish.new.machine) idle c.self.invariant.1)
+    (is_putter p.hand p.machine i.calls i.made i.at idle (Put (c.args.item ∷ [])) c.begin_put.new.machine begins c.finish.new.hand c.finish.new.machine c.finish.ensures.same c.finish.ensures.rests (c.finish.ensures.over i.calls) (without_last p.steps e.list), rest_marked p.hand.list e.list p.machine.shape c.finish.new.machine.shape p.steps (call_of p.machine) (call_of c.finish.new.machine) idle c.self.invariant.1)
 
 pub unreachable-requires : goal.unreachable-requires
 unreachable-requires g c =

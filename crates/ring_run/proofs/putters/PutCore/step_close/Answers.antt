@@ -3,7 +3,7 @@ use Rattle.bits_core.specs.declared.events.Event.{Event}
 use Rattle.ring_core.specs.ProducerState.{Close, call_of}
 use Rattle.ring_run.specs.Hands.{Grows, IsSameEnd, AreAnswered}
 use Rattle.ring_run.specs.Ends.{PutterState, puts_whole, whole_put, HasClosed, HasPutPart}
-use Rattle.ring_run.specs.Machines.{IsPutter, before_last}
+use Rattle.ring_run.specs.Machines.{IsPutter, without_last}
 use Rattle.ring_run.proofs.PutterCalls.{same_step, step_marked, step_putter, step_few, whole_marked, close_one, close_goes, close_over, is_over}
 use Rattle.ring_run.proofs.putters.PutCore.step_close.Goals as goal
 
@@ -11,7 +11,7 @@ pub steps_behind-self-inside-requires-clause-stands : goal.steps_behind-self-ins
 steps_behind-self-inside-requires-clause-stands g c =
     let p = c.self.inside in
     let i = c.self.invariant.0 in
-    let st = before_last p.steps p.hand.list in
+    let st = without_last p.steps p.hand.list in
     let s : PutterState (Unit {0}) = record { end = p.hand; call = call_of p.machine; batched = p.machine.batched; start = st; oracle = tt } in
     let w = whole_marked s.call p.machine.shape p.steps p.hand.list c.self.invariant.1 in
     let there = step_putter s p.machine st i.calls i.made Close i.at refl w i.whole_is
@@ -22,7 +22,7 @@ pub invariant_of-self : goal.invariant_of-self
 invariant_of-self g c =
     let p = c.self.inside in
     let i = c.self.invariant.0 in
-    let st = before_last p.steps p.hand.list in
+    let st = without_last p.steps p.hand.list in
     let s : PutterState (Unit {0}) = record { end = p.hand; call = call_of p.machine; batched = p.machine.batched; start = st; oracle = tt } in
     let w = whole_marked s.call p.machine.shape p.steps p.hand.list c.self.invariant.1 in
     let e = c.advance.new.hand in
@@ -39,7 +39,7 @@ pub returns-clause-same : goal.returns-clause-same
 returns-clause-same g c =
     let p = c.self.inside in
     let i = c.self.invariant.0 in
-    let st = before_last p.steps p.hand.list in
+    let st = without_last p.steps p.hand.list in
     let s : PutterState (Unit {0}) = record { end = p.hand; call = call_of p.machine; batched = p.machine.batched; start = st; oracle = tt } in
     let w = whole_marked s.call p.machine.shape p.steps p.hand.list c.self.invariant.1 in
     subst (λ (z : PutterState (Unit {0})). IsSameEnd z.end c.advance.new.hand) c.self.view_is
@@ -50,7 +50,7 @@ pub returns-clause-lawful : goal.returns-clause-lawful
 returns-clause-lawful g c =
     let p = c.self.inside in
     let i = c.self.invariant.0 in
-    let st = before_last p.steps p.hand.list in
+    let st = without_last p.steps p.hand.list in
     let s : PutterState (Unit {0}) = record { end = p.hand; call = call_of p.machine; batched = p.machine.batched; start = st; oracle = tt } in
     let w = whole_marked s.call p.machine.shape p.steps p.hand.list c.self.invariant.1 in
     (step_putter s p.machine st i.calls i.made Close i.at refl w i.whole_is
@@ -60,7 +60,7 @@ pub returns-clause-one : goal.returns-clause-one
 returns-clause-one g c =
     let p = c.self.inside in
     let i = c.self.invariant.0 in
-    let st = before_last p.steps p.hand.list in
+    let st = without_last p.steps p.hand.list in
     let s : PutterState (Unit {0}) = record { end = p.hand; call = call_of p.machine; batched = p.machine.batched; start = st; oracle = tt } in
     let w = whole_marked s.call p.machine.shape p.steps p.hand.list c.self.invariant.1 in
     let m = c.advance.new.machine in
@@ -76,7 +76,7 @@ pub returns-clause-goes_on : goal.returns-clause-goes_on
 returns-clause-goes_on g c =
     let p = c.self.inside in
     let i = c.self.invariant.0 in
-    let st = before_last p.steps p.hand.list in
+    let st = without_last p.steps p.hand.list in
     let s : PutterState (Unit {0}) = record { end = p.hand; call = call_of p.machine; batched = p.machine.batched; start = st; oracle = tt } in
     let w = whole_marked s.call p.machine.shape p.steps p.hand.list c.self.invariant.1 in
     let m = c.advance.new.machine in
@@ -96,7 +96,7 @@ pub returns-clause-over : goal.returns-clause-over
 returns-clause-over g c =
     let p = c.self.inside in
     let i = c.self.invariant.0 in
-    let st = before_last p.steps p.hand.list in
+    let st = without_last p.steps p.hand.list in
     let s : PutterState (Unit {0}) = record { end = p.hand; call = call_of p.machine; batched = p.machine.batched; start = st; oracle = tt } in
     let w = whole_marked s.call p.machine.shape p.steps p.hand.list c.self.invariant.1 in
     let m = c.advance.new.machine in
@@ -112,7 +112,7 @@ pub returns-clause-few : goal.returns-clause-few
 returns-clause-few g c =
     let p = c.self.inside in
     let i = c.self.invariant.0 in
-    let st = before_last p.steps p.hand.list in
+    let st = without_last p.steps p.hand.list in
     let s : PutterState (Unit {0}) = record { end = p.hand; call = call_of p.machine; batched = p.machine.batched; start = st; oracle = tt } in
     let w = whole_marked s.call p.machine.shape p.steps p.hand.list c.self.invariant.1 in
     subst (λ (z : PutterState (Unit {0})). length c.advance.new.hand.list ≤ length (puts_whole z) + 2) c.self.view_is

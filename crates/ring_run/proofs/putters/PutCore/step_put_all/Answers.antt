@@ -8,7 +8,7 @@ use Rattle.ring_core.specs.ProducerState.{Put, call_of}
 use Rattle.ring_core.specs.ProducerCalls.{longest_of}
 use Rattle.ring_run.specs.Hands.{Grows, IsSameEnd, AreAnswered}
 use Rattle.ring_run.specs.Ends.{PutterState, puts_whole, whole_put, HasPutAll, HasPutPart}
-use Rattle.ring_run.specs.Machines.{IsPutter, before_last}
+use Rattle.ring_run.specs.Machines.{IsPutter, without_last}
 use Rattle.ring_run.proofs.PutterCalls.{same_step, step_marked, step_putter, step_few, whole_marked, few_accesses, few_marked, batch_one, batch_none, batch_some}
 use Rattle.ring_run.proofs.putters.PutCore.step_put_all.Goals as goal
 
@@ -16,7 +16,7 @@ pub steps_behind-self-inside-requires-clause-stands : goal.steps_behind-self-ins
 steps_behind-self-inside-requires-clause-stands g c =
     let p = c.self.inside in
     let i = c.self.invariant.0 in
-    let st = before_last p.steps p.hand.list in
+    let st = without_last p.steps p.hand.list in
     let s : PutterState (Unit {0}) = record { end = p.hand; call = call_of p.machine; batched = p.machine.batched; start = st; oracle = tt } in
     let w = whole_marked s.call p.machine.shape p.steps p.hand.list c.self.invariant.1 in
     let there = step_putter s p.machine st i.calls i.made (Put c.args.items.now) i.at refl w i.whole_is
@@ -36,7 +36,7 @@ pub invariant_of-self : goal.invariant_of-self
 invariant_of-self g c =
     let p = c.self.inside in
     let i = c.self.invariant.0 in
-    let st = before_last p.steps p.hand.list in
+    let st = without_last p.steps p.hand.list in
     let s : PutterState (Unit {0}) = record { end = p.hand; call = call_of p.machine; batched = p.machine.batched; start = st; oracle = tt } in
     let w = whole_marked s.call p.machine.shape p.steps p.hand.list c.self.invariant.1 in
     let e = c.advance.new.hand in
@@ -53,7 +53,7 @@ pub returns-clause-same : goal.returns-clause-same
 returns-clause-same g c =
     let p = c.self.inside in
     let i = c.self.invariant.0 in
-    let st = before_last p.steps p.hand.list in
+    let st = without_last p.steps p.hand.list in
     let s : PutterState (Unit {0}) = record { end = p.hand; call = call_of p.machine; batched = p.machine.batched; start = st; oracle = tt } in
     let w = whole_marked s.call p.machine.shape p.steps p.hand.list c.self.invariant.1 in
     subst (λ (z : PutterState (Unit {0})). IsSameEnd z.end c.advance.new.hand) c.self.view_is
@@ -64,7 +64,7 @@ pub returns-clause-lawful : goal.returns-clause-lawful
 returns-clause-lawful g c =
     let p = c.self.inside in
     let i = c.self.invariant.0 in
-    let st = before_last p.steps p.hand.list in
+    let st = without_last p.steps p.hand.list in
     let s : PutterState (Unit {0}) = record { end = p.hand; call = call_of p.machine; batched = p.machine.batched; start = st; oracle = tt } in
     let w = whole_marked s.call p.machine.shape p.steps p.hand.list c.self.invariant.1 in
     (step_putter s p.machine st i.calls i.made (Put c.args.items.now) i.at refl w i.whole_is
@@ -74,7 +74,7 @@ pub returns-clause-one : goal.returns-clause-one
 returns-clause-one g c =
     let p = c.self.inside in
     let i = c.self.invariant.0 in
-    let st = before_last p.steps p.hand.list in
+    let st = without_last p.steps p.hand.list in
     let s : PutterState (Unit {0}) = record { end = p.hand; call = call_of p.machine; batched = p.machine.batched; start = st; oracle = tt } in
     let w = whole_marked s.call p.machine.shape p.steps p.hand.list c.self.invariant.1 in
     subst (λ (z : PutterState (Unit {0})). ((c.batch_reply.result ≡ Some Closed) × (c.advance.new.hand ≡ z.end)) ⊎ ((e : Event) × Grows z.end c.advance.new.hand e)) c.self.view_is
@@ -86,7 +86,7 @@ pub returns-clause-none : goal.returns-clause-none
 returns-clause-none g c =
     let p = c.self.inside in
     let i = c.self.invariant.0 in
-    let st = before_last p.steps p.hand.list in
+    let st = without_last p.steps p.hand.list in
     let s : PutterState (Unit {0}) = record { end = p.hand; call = call_of p.machine; batched = p.machine.batched; start = st; oracle = tt } in
     let w = whole_marked s.call p.machine.shape p.steps p.hand.list c.self.invariant.1 in
     let m = c.advance.new.machine in
@@ -103,7 +103,7 @@ pub returns-clause-some : goal.returns-clause-some
 returns-clause-some g c =
     let p = c.self.inside in
     let i = c.self.invariant.0 in
-    let st = before_last p.steps p.hand.list in
+    let st = without_last p.steps p.hand.list in
     let s : PutterState (Unit {0}) = record { end = p.hand; call = call_of p.machine; batched = p.machine.batched; start = st; oracle = tt } in
     let w = whole_marked s.call p.machine.shape p.steps p.hand.list c.self.invariant.1 in
     subst (λ (z : PutterState (Unit {0})). IfSome c.batch_reply.result (λ r. (call_of c.advance.new.machine ≡ None) × HasPutAll c.advance.new.hand.ring.shape c.args.items.now (puts_whole z) c.advance.new.hand.list r)) c.self.view_is
@@ -115,7 +115,7 @@ pub returns-clause-few : goal.returns-clause-few
 returns-clause-few g c =
     let p = c.self.inside in
     let i = c.self.invariant.0 in
-    let st = before_last p.steps p.hand.list in
+    let st = without_last p.steps p.hand.list in
     let s : PutterState (Unit {0}) = record { end = p.hand; call = call_of p.machine; batched = p.machine.batched; start = st; oracle = tt } in
     let w = whole_marked s.call p.machine.shape p.steps p.hand.list c.self.invariant.1 in
     subst (λ (z : PutterState (Unit {0})). length c.advance.new.hand.list ≤ length (puts_whole z) + 2 * longest_of c.advance.new.hand.ring.shape c.args.items.now) c.self.view_is

@@ -6,7 +6,7 @@ use Rattle.ring_core.specs.Lengths.{longest_take}
 use Rattle.ring_core.specs.ConsumerState.{is_taking}
 use Rattle.ring_run.specs.Hands.{Grows, IsSameEnd, AreAnswered}
 use Rattle.ring_run.specs.Ends.{TakerState, takes_whole, whole_take, HasTaken, HasTakePart}
-use Rattle.ring_run.specs.Machines.{IsTaker, before_last}
+use Rattle.ring_run.specs.Machines.{IsTaker, without_last}
 use Rattle.ring_run.proofs.TakerCalls.{same_step, step_marked, step_taker, step_few, whole_marked, take_one, take_none, take_some}
 use Rattle.ring_run.proofs.takers.TakeCore.step_take.Goals as goal
 
@@ -14,7 +14,7 @@ pub steps_behind-self-inside-requires-clause-stands : goal.steps_behind-self-ins
 steps_behind-self-inside-requires-clause-stands g c =
     let p = c.self.inside in
     let i = c.self.invariant.0 in
-    let st = before_last p.steps p.hand.list in
+    let st = without_last p.steps p.hand.list in
     let s : TakerState (Unit {0}) = record { end = p.hand; taking = is_taking p.machine; start = st; oracle = tt } in
     let w = whole_marked s.taking p.machine.shape p.steps p.hand.list c.self.invariant.1 in
     let there = step_taker s p.machine st i.calls i.made i.at w i.whole_is
@@ -25,7 +25,7 @@ pub invariant_of-self : goal.invariant_of-self
 invariant_of-self g c =
     let p = c.self.inside in
     let i = c.self.invariant.0 in
-    let st = before_last p.steps p.hand.list in
+    let st = without_last p.steps p.hand.list in
     let s : TakerState (Unit {0}) = record { end = p.hand; taking = is_taking p.machine; start = st; oracle = tt } in
     let w = whole_marked s.taking p.machine.shape p.steps p.hand.list c.self.invariant.1 in
     let e = c.advance.new.hand in
@@ -42,7 +42,7 @@ pub returns-clause-same : goal.returns-clause-same
 returns-clause-same g c =
     let p = c.self.inside in
     let i = c.self.invariant.0 in
-    let st = before_last p.steps p.hand.list in
+    let st = without_last p.steps p.hand.list in
     let s : TakerState (Unit {0}) = record { end = p.hand; taking = is_taking p.machine; start = st; oracle = tt } in
     let w = whole_marked s.taking p.machine.shape p.steps p.hand.list c.self.invariant.1 in
     subst (λ (z : TakerState (Unit {0})). IsSameEnd z.end c.advance.new.hand) c.self.view_is
@@ -53,7 +53,7 @@ pub returns-clause-lawful : goal.returns-clause-lawful
 returns-clause-lawful g c =
     let p = c.self.inside in
     let i = c.self.invariant.0 in
-    let st = before_last p.steps p.hand.list in
+    let st = without_last p.steps p.hand.list in
     let s : TakerState (Unit {0}) = record { end = p.hand; taking = is_taking p.machine; start = st; oracle = tt } in
     let w = whole_marked s.taking p.machine.shape p.steps p.hand.list c.self.invariant.1 in
     (step_taker s p.machine st i.calls i.made i.at w i.whole_is
@@ -63,7 +63,7 @@ pub returns-clause-one : goal.returns-clause-one
 returns-clause-one g c =
     let p = c.self.inside in
     let i = c.self.invariant.0 in
-    let st = before_last p.steps p.hand.list in
+    let st = without_last p.steps p.hand.list in
     let s : TakerState (Unit {0}) = record { end = p.hand; taking = is_taking p.machine; start = st; oracle = tt } in
     let w = whole_marked s.taking p.machine.shape p.steps p.hand.list c.self.invariant.1 in
     subst (λ (z : TakerState (Unit {0})). ((c.reply.result ≡ Some Closed) × (c.advance.new.hand ≡ z.end)) ⊎ ((e : Event) × Grows z.end c.advance.new.hand e)) c.self.view_is
@@ -75,7 +75,7 @@ pub returns-clause-none : goal.returns-clause-none
 returns-clause-none g c =
     let p = c.self.inside in
     let i = c.self.invariant.0 in
-    let st = before_last p.steps p.hand.list in
+    let st = without_last p.steps p.hand.list in
     let s : TakerState (Unit {0}) = record { end = p.hand; taking = is_taking p.machine; start = st; oracle = tt } in
     let w = whole_marked s.taking p.machine.shape p.steps p.hand.list c.self.invariant.1 in
     let moved = step_marked s p.machine st i.calls i.made i.at w i.whole_is
@@ -91,7 +91,7 @@ pub returns-clause-some : goal.returns-clause-some
 returns-clause-some g c =
     let p = c.self.inside in
     let i = c.self.invariant.0 in
-    let st = before_last p.steps p.hand.list in
+    let st = without_last p.steps p.hand.list in
     let s : TakerState (Unit {0}) = record { end = p.hand; taking = is_taking p.machine; start = st; oracle = tt } in
     let w = whole_marked s.taking p.machine.shape p.steps p.hand.list c.self.invariant.1 in
     subst (λ (z : TakerState (Unit {0})). IfSome c.reply.result (λ r. (is_taking c.advance.new.machine ≡ false) × HasTaken c.advance.new.hand.ring.shape (takes_whole z) c.advance.new.hand.list r)) c.self.view_is
@@ -103,7 +103,7 @@ pub returns-clause-few : goal.returns-clause-few
 returns-clause-few g c =
     let p = c.self.inside in
     let i = c.self.invariant.0 in
-    let st = before_last p.steps p.hand.list in
+    let st = without_last p.steps p.hand.list in
     let s : TakerState (Unit {0}) = record { end = p.hand; taking = is_taking p.machine; start = st; oracle = tt } in
     let w = whole_marked s.taking p.machine.shape p.steps p.hand.list c.self.invariant.1 in
     subst (λ (z : TakerState (Unit {0})). length c.advance.new.hand.list ≤ length (takes_whole z) + 2 * longest_take c.advance.new.hand.ring.shape) c.self.view_is

@@ -3,7 +3,7 @@ use Rattle.ring_core.specs.ConsumerState.{is_taking}
 use Rattle.ring_run.specs.Ends.{TakerState, HasTaken}
 use Rattle.ring_run.specs.Hands.{IsSameEnd, AreAnswered}
 use Rattle.ring_run.proofs.PutterWhole.{told_so}
-use Rattle.ring_run.specs.Machines.{before_last}
+use Rattle.ring_run.specs.Machines.{without_last}
 use Rattle.ring_run.proofs.TakerCalls.{rest_marked}
 use Rattle.ring_run.proofs.TakerWhole.{ready, idle_after, is_taker, lawful_after, some_reply, take_ended}
 use Rattle.ring_run.proofs.takers.TakeCore.take.Goals as goal
@@ -23,7 +23,7 @@ invariant_of-self g c =
     let idle : is_taking p.machine ≡ false = ap (λ (s : TakerState (Unit {0})). s.taking) c.self.view_is ∙ c.requires.idle in
     let begins = c.begin_take.ensures.begins i.calls i.made i.at.stands in
     let e = c.finish.new.hand in
-    (is_taker p.hand p.machine i.calls i.made i.at idle c.begin_take.new.machine begins c.finish.new.hand c.finish.new.machine c.finish.ensures.same c.finish.ensures.rests (c.finish.ensures.over i.calls) (before_last p.steps e.list), rest_marked p.hand.list e.list p.machine.shape c.finish.new.machine.shape p.steps (is_taking p.machine) (is_taking c.finish.new.machine) idle c.self.invariant.1)
+    (is_taker p.hand p.machine i.calls i.made i.at idle c.begin_take.new.machine begins c.finish.new.hand c.finish.new.machine c.finish.ensures.same c.finish.ensures.rests (c.finish.ensures.over i.calls) (without_last p.steps e.list), rest_marked p.hand.list e.list p.machine.shape c.finish.new.machine.shape p.steps (is_taking p.machine) (is_taking c.finish.new.machine) idle c.self.invariant.1)
 
 pub unreachable-requires : goal.unreachable-requires
 unreachable-requires g c =

@@ -2,7 +2,7 @@ use Rattle.std.proofs.Common.{◌≡◌, arith, sym, ap, ◌∙◌, subst}
 use Rattle.atomic_table.specs.Table.{Allows}
 use Rattle.bits_core.specs.declared.shapes.Shape.{Shape}
 use Rattle.ring_run.specs.Ring.{Ring}
-use Rattle.ring_run.specs.Rule.{Kept, Learned}
+use Rattle.ring_run.specs.Rule.{KeepsFlickerRule, Learned}
 use Rattle.ring_run.proofs.Moves.{learns}
 use Rattle.ring_run.proofs.words.Words.learn.Goals as goal
 
@@ -13,6 +13,6 @@ load-requires g c =
     let words = c.self.invariant.1 in (
       c.requires.own.0 ∙ sym (ap (λ (r : Ring). r.id) c.self.view_is),
       omega arith,
-      subst (λ (z : Shape). Allows (Kept t.key) t.table_id.slots c.args.seat.now.id c.args.seat.now.me 0 (λ n. n) (λ _. Learned z c.args.seat.now.me)) key
+      subst (λ (z : Shape). Allows (KeepsFlickerRule t.key) t.table_id.slots c.args.seat.now.id c.args.seat.now.me 0 (λ n. n) (λ _. Learned z c.args.seat.now.me)) key
           (learns c.laws_below.ensures t.key _ _ t.table_id.slots c.args.seat.now.id 0 c.args.seat.now.me c.requires.own.1 c.requires.own.2 c.requires.idle.0 c.requires.idle.1),
     )

@@ -2,7 +2,7 @@ use Rattle.std.proofs.Common.{◌≡◌, ℕ, ◌<◌, sym, ap, ◌∙◌, subst
 use Rattle.atomic_table.specs.Table.{Allows}
 use Rattle.bits_core.specs.declared.shapes.Shape.{Shape}
 use Rattle.ring_run.specs.Ring.{Ring}
-use Rattle.ring_run.specs.Rule.{Kept, Added}
+use Rattle.ring_run.specs.Rule.{KeepsFlickerRule, Added}
 use Rattle.ring_run.specs.Words.{word_count}
 use Rattle.ring_run.proofs.Places.{place_below}
 use Rattle.ring_run.proofs.words.Words.load_at.Goals as goal
@@ -17,6 +17,6 @@ load-requires g c =
     let words = sym (c.self.invariant.1 ∙ ap word_count shape) in (
       c.requires.own.0 ∙ sym (ap (λ (r : Ring). r.id) c.self.view_is),
       subst (λ (z : ℕ × ℕ). z.0 < z.1) (λ i. (word i, words i)) (place_below now.shape c.args.bit c.requires.own.1),
-      subst (λ (z : Shape × ℕ). Allows (Kept z.0) t.table_id.slots c.args.seat.now.id c.args.seat.now.me z.1 (λ n. n) (Added g.N.Note.shape g.N.Note.event c.args.seat.now.me)) (λ i. (key i, word i))
+      subst (λ (z : Shape × ℕ). Allows (KeepsFlickerRule z.0) t.table_id.slots c.args.seat.now.id c.args.seat.now.me z.1 (λ n. n) (Added g.N.Note.shape g.N.Note.event c.args.seat.now.me)) (λ i. (key i, word i))
           (c.requires.rule t.table_id.slots),
     )
