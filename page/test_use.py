@@ -127,7 +127,7 @@ def test_lessons(page, same, _):
             page.click("next")
     same("the last", page.browser.run("return document.getElementById('next').disabled"), True)
     page.click("previous")
-    page.browser.until("the one before", "return document.getElementById('which').textContent.startsWith('31 ')")
+    page.browser.until("the one before", "return document.getElementById('which').textContent.startsWith(arguments[0])", f"{len(lessons) - 1} ")
     page.write("shape 1 3 1\n")
     same("no lesson beside an own text", seen(page, "lesson"), False)
 
