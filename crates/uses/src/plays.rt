@@ -1,0 +1,26 @@
+//! A script, played.
+ghost use Rattle.std.specs.Prelude.{IfOk, IfErr, ◌≡◌, Some, None};
+ghost use Rattle.ring_script.specs.Script.{IsScript};
+ghost use Rattle.ring_script.specs.Content.{Content};
+
+use ring_player::{PlayFault, Script, ScriptFault, play};
+use std::alloc::Global;
+use thiserror::Error;
+
+/// Why a text was not played.
+#[derive(Clone, Copy, PartialEq, Eq, Debug, Error)]
+pub enum Unplayed {
+    /// It is no script.
+    #[error(transparent)]
+    Script(#[from] ScriptFault),
+    /// Memory ran out.
+    #[error(transparent)]
+    Play(#[from] PlayFault),
+}
+
+/// How many items the consumer of a script takes, and whether it is told that the ring is closed.
+pub fn takes_of(alloc: Global, text: &[u8]) -> Result<(usize, bool), Unplayed> {
+    let script = Script::read(alloc, text)?;
+    let report = play(alloc, &script)?;
+    Ok((report.taken.len(), report.told))
+}
