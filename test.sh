@@ -39,7 +39,7 @@ trap 'exit 129' HUP
 
 # The program is built before it is tried.
 if ./lamport_ring --version; then
-    for part in tests/examples tests/launcher tests/trust; do
+    for part in tests/examples tests/launcher tests/trust tests/docs; do
         "$part" >"$room/part"
         count "$room/part"
     done

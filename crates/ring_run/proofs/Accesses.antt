@@ -16,7 +16,7 @@ use Rattle.ring_run.specs.Ring.{Ring, RingEnd}
 use Rattle.ring_run.specs.declared.views.View.{View}
 use Rattle.ring_run.specs.Rule.{Added, Stands, and_event, event, list_of, may_step}
 use Rattle.ring_run.specs.Words.{answer_of}
-use Rattle.ring_run.specs.Hands.{Grows, HasMade, IsSameEnd}
+use Rattle.ring_run.specs.Steppers.{Grows, HasMade, IsSameEnd}
 use Rattle.ring_run.specs.Below.{LawsBelow}
 use Rattle.ring_run.proofs.Moves.{list_of-mine, may_step-more, opened_by}
 

@@ -11,7 +11,7 @@ use Rattle.ring_run.specs.declared.views.View.{View}
 use Rattle.ring_run.specs.declared.views.Loads.{Loads}
 use Rattle.ring_run.specs.Rule.{and_event, event, kept_loads, list_of}
 use Rattle.ring_run.specs.Words.{agrees, answer_of}
-use Rattle.ring_run.specs.Hands.{AreAnswered, and_answer, answers_by, answers_in, asks_of_all, asks_of}
+use Rattle.ring_run.specs.Steppers.{AreAnswered, and_answer, answers_by, answers_in, asks_of_all, asks_of}
 use Rattle.ring_run.proofs.Accesses.{end_at}
 use Rattle.ring_run.proofs.Moves.{list_of-mine}
 

@@ -24,7 +24,7 @@ use Rattle.register_core.specs.ScanState.{zero_reads, scan_phrase, row_read_by}
 use Rattle.ring_run.specs.declared.views.View.{View}
 use Rattle.ring_run.specs.Words as bits
 use Rattle.ring_run.specs.Programs.{Follows, IsRing}
-use Rattle.ring_run.specs.Rule.{joint, may_step, list_of, Fits, FitsAll}
+use Rattle.ring_run.specs.Rule.{joint, may_step, list_of, SeatKnows, SeatsKnow}
 use Rattle.ring_run.specs.Below.{LawsBelow}
 use Rattle.ring_run.specs.Counters.{count_place, their_place, cell_place, words_of, first_counts, value_left, unary_over, IsLastCount, IsLastItem, ShowsWords, KeptWords, and_events, AddedAll, TellsNothing, IsBelow}
 use Rattle.ring_run.proofs.Histories.{either_side}
@@ -45,23 +45,23 @@ may_step-more x C es v = refl
 
 module _ (laws : LawsBelow) (shape : Shape) where
   seats_more : (x : Side) (made : List Made) (h known : List Event) (owner : Side → ℕ) (views : List View) (id : ℕ) (v : View) → Blocked laws shape x h made
-      → get_elem? views id ≡ some v → may_step x v ≡ true → may_step (other x) v ≡ false → FitsAll h known owner views
-      → FitsAll (h ++ events_of x made) known owner (set views id (and_events x (events_of x made) v))
+      → get_elem? views id ≡ some v → may_step x v ≡ true → may_step (other x) v ≡ false → SeatsKnow h known owner views
+      → SeatsKnow (h ++ events_of x made) known owner (set views id (and_events x (events_of x made) v))
   seats_more x made h known owner views id v blocked there mine not_theirs all seat u at y may =
       let es : List Event = events_of x made in
       let w : View = and_events x es v in
-      let fits_mine : Fits (h ++ es) known owner id w x = (let f = all id v there x mine in record { at = f.at; list = list_of-more x es v ∙ (ap (λ (l : List Event). l ++ es) f.list ∙ sym blocked.mine); known_is = f.known_is; also_is = f.also_is; load = no_load x (h ++ es) w.first (blocked.quiet.idle x) }) in
+      let fits_mine : SeatKnows (h ++ es) known owner id w x = (let f = all id v there x mine in record { at = f.at; list = list_of-more x es v ∙ (ap (λ (l : List Event). l ++ es) f.list ∙ sym blocked.mine); known_is = f.known_is; known_by_taker_is = f.known_by_taker_is; load = no_load x (h ++ es) w.first (blocked.quiet.idle x) }) in
       ⊎_elim
-      (λ (here : (seat ≡ id) × (w ≡ u)). subst (λ (z : ℕ × View). Fits (h ++ es) known owner z.0 z.1 y) (λ i. (sym here.0 i, here.1 i))
+      (λ (here : (seat ≡ id) × (w ≡ u)). subst (λ (z : ℕ × View). SeatKnows (h ++ es) known owner z.0 z.1 y) (λ i. (sym here.0 i, here.1 i))
       (⊎_elim
-      (λ (same : y ≡ x). subst (Fits (h ++ es) known owner id w) (sym same) fits_mine)
+      (λ (same : y ≡ x). subst (SeatKnows (h ++ es) known owner id w) (sym same) fits_mine)
       (λ (apart : y ≡ other x). absurd (true≢false (sym may ∙ (ap (may_step y) (sym here.1) ∙ (may_step-more x y es v ∙ (ap (λ (z : Side). may_step z v) apart ∙ not_theirs))))))
       (either_side x y)))
       (λ (there' : (seat ≢ id) × (get_elem? views seat ≡ some u)).
       ⊎_elim
       (λ (same : y ≡ x). absurd (there'.0 ((all seat u there'.1 x (ap (λ (z : Side). may_step z u) (sym same) ∙ may)).at ∙ sym (all id v there x mine).at)))
-      (λ (apart : y ≡ other x). subst (Fits (h ++ es) known owner seat u) (sym apart)
-      (let f = all seat u there'.1 (other x) (ap (λ (z : Side). may_step z u) (sym apart) ∙ may) in record { at = f.at; list = f.list ∙ sym blocked.theirs; known_is = f.known_is; also_is = f.also_is; load = no_load (other x) (h ++ es) u.first (blocked.quiet.idle (other x)) }))
+      (λ (apart : y ≡ other x). subst (SeatKnows (h ++ es) known owner seat u) (sym apart)
+      (let f = all seat u there'.1 (other x) (ap (λ (z : Side). may_step z u) (sym apart) ∙ may) in record { at = f.at; list = f.list ∙ sym blocked.theirs; known_is = f.known_is; known_by_taker_is = f.known_by_taker_is; load = no_load (other x) (h ++ es) u.first (blocked.quiet.idle (other x)) }))
       (either_side x y))
       (at_set views id seat w u at)
 
@@ -88,7 +88,7 @@ module _ (laws : LawsBelow) (shape : Shape) where
       let acts : List Made = made (got n) in
       let es : List Event = events_of x acts in
       let w : View = and_events x es me.0 in
-      let fits : Fits h k.known k.owner id me.0 x = k.seats id me.0 at x mine in
+      let fits : SeatKnows h k.known k.owner id me.0 x = k.seats id me.0 at x mine in
       let g : IsGoodBlock x (list_of x me.0) h s.words place (f n) acts (tells (got n)) = good h s.words k.ring fits.list k.shows k.wide in
       let blocked : Blocked laws shape x h acts = block laws shape x acts h (record { ring = k.ring; idle = k.shows.idle }) g.right g.answers (subst (λ (l : List Event). Follows shape x (l ++ es)) fits.list g.follow) in
       let begins : IsBeginning k.known (h ++ es) = begins_more h k.known es k.begins in (

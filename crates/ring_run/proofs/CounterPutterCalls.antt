@@ -17,7 +17,7 @@ use Rattle.ring_core.specs.ProducerCalls.{count_of, room_in, and_put, put_reply_
 use Rattle.ring_run.specs.Below.{LawsBelow}
 use Rattle.ring_run.specs.Ring.{Ring, RingEnd}
 use Rattle.ring_run.specs.Programs.{Follows}
-use Rattle.ring_run.specs.Hands.{IsSameEnd, StandsAs}
+use Rattle.ring_run.specs.Steppers.{IsSameEnd, StandsAs}
 use Rattle.ring_run.specs.Rule.{Stands}
 use Rattle.ring_run.specs.Ends.{HasPuts, HasPutAll, PutAdds}
 use Rattle.ring_run.specs.Counters.{GrowsBy, unary_over}

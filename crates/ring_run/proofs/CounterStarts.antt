@@ -7,7 +7,7 @@ use Rattle.bits_core.specs.Shape.{capacity_of, modulus_of}
 use Rattle.ring_core.specs.ProducerCalls.{no_puts}
 use Rattle.ring_core.specs.ConsumerCalls.{no_takes}
 use Rattle.ring_run.specs.Ring.{RingEnd}
-use Rattle.ring_run.specs.Hands.{StandsAs}
+use Rattle.ring_run.specs.Steppers.{StandsAs}
 use Rattle.ring_run.specs.Ends.{HasPuts, HasTakes}
 use Rattle.ring_run.specs.CounterEnds.{IsPutterList, IsTakerList}
 

@@ -19,7 +19,7 @@ use Rattle.ring_core.specs.ConsumerCalls.{Once, Twice, finding_phrase, and_take,
 use Rattle.ring_run.specs.Below.{LawsBelow}
 use Rattle.ring_run.specs.Ring.{RingEnd}
 use Rattle.ring_run.specs.Programs.{Follows}
-use Rattle.ring_run.specs.Hands.{IsSameEnd, StandsAs}
+use Rattle.ring_run.specs.Steppers.{IsSameEnd, StandsAs}
 use Rattle.ring_run.specs.Ends.{HasTakes, HasTaken, TakeAdds}
 use Rattle.ring_run.specs.Meetings.{closed_reply}
 use Rattle.ring_run.specs.Counters.{GrowsBy, unary_over}

@@ -26,7 +26,7 @@ use Rattle.ring_run.specs.declared.views.View.{View}
 use Rattle.ring_run.specs.declared.layout.TheConstants.{FIRST_S}
 use Rattle.ring_run.specs.Words.{value_word, shown, answer_of, first_r, word_place, word_count, first_words, Shows}
 use Rattle.ring_run.specs.Programs.{Follows, IsRing, GoesOn}
-use Rattle.ring_run.specs.Rule.{event, joint, spent, putter_of, taker_of, joined, may_step, list_of, kept_load, and_event, IsIdle, FirstLoad, Fits, FitsAll, HasSeats, KeptBy, KeepsFlickerRule, IsWordFound, Added, Learned}
+use Rattle.ring_run.specs.Rule.{event, joint, spent, putter_of, taker_of, joined, may_step, list_of, kept_load, and_event, IsIdle, FirstLoad, SeatKnows, SeatsKnow, HasSeats, KeptBy, KeepsFlickerRule, IsWordFound, Added, Learned}
 use Rattle.ring_run.specs.Below.{LawsBelow}
 use Rattle.ring_run.proofs.Places.{one_or_apart, place_below, shows_first}
 use Rattle.ring_run.proofs.Histories.{same_side-same, either_side, before_last-mine, before_last-theirs, own-mine, own-theirs, open-mine, open-theirs, shown-read_begin, shown-read_end, shown-apart, shown-write_begin, shown-write_end, permitted}
@@ -123,40 +123,40 @@ module _ (laws : LawsBelow) (shape : Shape) where
   load_theirs x b a h load f c o =
       f c (sym (open-theirs laws (other x) h (event x b a) (not_by x)) ∙ o) ∙ sym (ap (shown c) (before_last-theirs laws (other x) h (event x b a) (not_by x)))
 
-  fits_mine : (x : Side) (b : Bit) (a : Act) (h known : List Event) (owner : Side → ℕ) (seat : ℕ) (v : View) (got : ℕ) → (a ≡ ReadBegin → got ≡ shown b h) → Fits h known owner seat v x
-      → Fits (h ++ event x b a ∷ []) known owner seat (and_event x (event x b a) got v) x
+  fits_mine : (x : Side) (b : Bit) (a : Act) (h known : List Event) (owner : Side → ℕ) (seat : ℕ) (v : View) (got : ℕ) → (a ≡ ReadBegin → got ≡ shown b h) → SeatKnows h known owner seat v x
+      → SeatKnows (h ++ event x b a ∷ []) known owner seat (and_event x (event x b a) got v) x
   fits_mine x b a h known owner seat v got is f = record {
     at = f.at;
     list = list_of-mine x (event x b a) got v ∙ (ap (λ (l : List Event). l ++ event x b a ∷ []) f.list ∙ sym (own-mine laws x h (event x b a) (same_side-same x)));
     known_is = f.known_is;
-    also_is = f.also_is;
+    known_by_taker_is = f.known_by_taker_is;
     load = load_mine x b a h got v.first is;
   }
 
-  fits_theirs : (x : Side) (b : Bit) (a : Act) (h known : List Event) (owner : Side → ℕ) (seat : ℕ) (v : View) → Fits h known owner seat v (other x) → Fits (h ++ event x b a ∷ []) known owner seat v (other x)
+  fits_theirs : (x : Side) (b : Bit) (a : Act) (h known : List Event) (owner : Side → ℕ) (seat : ℕ) (v : View) → SeatKnows h known owner seat v (other x) → SeatKnows (h ++ event x b a ∷ []) known owner seat v (other x)
   fits_theirs x b a h known owner seat v f = record {
     at = f.at;
     list = f.list ∙ sym (own-theirs laws (other x) h (event x b a) (not_by x));
     known_is = f.known_is;
-    also_is = f.also_is;
+    known_by_taker_is = f.known_by_taker_is;
     load = load_theirs x b a h v.first f.load;
   }
 
   seats_more : (x : Side) (b : Bit) (a : Act) (h known : List Event) (owner : Side → ℕ) (views : List View) (id : ℕ) (v : View) (got : ℕ)
-      → get_elem? views id ≡ some v → may_step x v ≡ true → may_step (other x) v ≡ false → (a ≡ ReadBegin → got ≡ shown b h) → FitsAll h known owner views
-      → FitsAll (h ++ event x b a ∷ []) known owner (set views id (and_event x (event x b a) got v))
+      → get_elem? views id ≡ some v → may_step x v ≡ true → may_step (other x) v ≡ false → (a ≡ ReadBegin → got ≡ shown b h) → SeatsKnow h known owner views
+      → SeatsKnow (h ++ event x b a ∷ []) known owner (set views id (and_event x (event x b a) got v))
   seats_more x b a h known owner views id v got there mine not_theirs is all seat u at y may =
       let w : View = and_event x (event x b a) got v in
       ⊎_elim
-      (λ (here : (seat ≡ id) × (w ≡ u)). subst (λ (z : ℕ × View). Fits (h ++ event x b a ∷ []) known owner z.0 z.1 y) (λ i. (sym here.0 i, here.1 i))
+      (λ (here : (seat ≡ id) × (w ≡ u)). subst (λ (z : ℕ × View). SeatKnows (h ++ event x b a ∷ []) known owner z.0 z.1 y) (λ i. (sym here.0 i, here.1 i))
       (⊎_elim
-      (λ (same : y ≡ x). subst (Fits (h ++ event x b a ∷ []) known owner id w) (sym same) (fits_mine x b a h known owner id v got is (all id v there x mine)))
+      (λ (same : y ≡ x). subst (SeatKnows (h ++ event x b a ∷ []) known owner id w) (sym same) (fits_mine x b a h known owner id v got is (all id v there x mine)))
       (λ (apart : y ≡ other x). absurd (true≢false (sym may ∙ (ap (may_step y) (sym here.1) ∙ (may_step-more x y (event x b a) got v ∙ (ap (λ (z : Side). may_step z v) apart ∙ not_theirs))))))
       (either_side x y)))
       (λ (there' : (seat ≢ id) × (get_elem? views seat ≡ some u)).
       ⊎_elim
       (λ (same : y ≡ x). absurd (there'.0 ((all seat u there'.1 x (ap (λ (z : Side). may_step z u) (sym same) ∙ may)).at ∙ sym (all id v there x mine).at)))
-      (λ (apart : y ≡ other x). subst (Fits (h ++ event x b a ∷ []) known owner seat u) (sym apart) (fits_theirs x b a h known owner seat u (all seat u there'.1 (other x) (ap (λ (z : Side). may_step z u) (sym apart) ∙ may))))
+      (λ (apart : y ≡ other x). subst (SeatKnows (h ++ event x b a ∷ []) known owner seat u) (sym apart) (fits_theirs x b a h known owner seat u (all seat u there'.1 (other x) (ap (λ (z : Side). may_step z u) (sym apart) ∙ may))))
       (either_side x y))
       (at_set views id seat w u at)
 
@@ -174,7 +174,7 @@ module _ (laws : LawsBelow) (shape : Shape) where
       let a : Act = act (got n) in
       let e : Event = event x b a in
       let w : View = and_event x e (got n) me.0 in
-      let fits : Fits h k.known k.owner id me.0 x = k.seats id me.0 at x mine in
+      let fits : SeatKnows h k.known k.owner id me.0 x = k.seats id me.0 at x mine in
       let g : IsGood shape x b (list_of x me.0) h (f n) (got n) a = good h n k.ring fits.list fits.load (k.shows b has) in
       let lawful : IsLawful shape h = k.ring.run.lawful in
       let ring : IsRing shape (h ++ e ∷ []) = ring_more laws shape x h e refl k.ring g.may (subst (λ (l : List Event). Follows shape x (l ++ e ∷ [])) fits.list g.follow) in
@@ -278,8 +278,8 @@ at_end [] a b (suc j) e = absurd (some-ne-none b (sym e))
 at_end (x ∷ xs) a b zero e = inl e
 at_end (x ∷ xs) a b (suc j) e = ⊎_elim (λ t. inl t) (λ t. inr (ap suc t.0, t.1)) (at_end xs a b j e)
 
-split_seats : (h known : List Event) (owner : Side → ℕ) (views : List View) (id : ℕ) (v : View) → get_elem? views id ≡ some v → v.puts ≡ true → v.takes ≡ true → FitsAll h known owner views
-    → FitsAll h known (two_seats id (length views)) (set views id (putter_of v) ++ taker_of v ∷ [])
+split_seats : (h known : List Event) (owner : Side → ℕ) (views : List View) (id : ℕ) (v : View) → get_elem? views id ≡ some v → v.puts ≡ true → v.takes ≡ true → SeatsKnow h known owner views
+    → SeatsKnow h known (two_seats id (length views)) (set views id (putter_of v) ++ taker_of v ∷ [])
 unfolding two_seats
 split_seats h known owner views id v there puts takes all seat u at y may =
     ⊎_elim
@@ -294,15 +294,15 @@ split_seats h known owner views id v there puts takes all seat u at y may =
     owner_is P = (all id v there P puts).at
     owner_is C = (all id v there C takes).at
 
-    left_fits : (seat : ℕ) (u : View) → seat ≡ id → putter_of v ≡ u → (z : Side) → may_step z u ≡ true → Fits h known (two_seats id (length views)) seat u z
-    left_fits seat u is same P may = subst (λ (w : View). Fits h known (two_seats id (length views)) seat w P) same
-        (let f = all id v there P puts in record { at = is; list = f.list; known_is = f.known_is; also_is = f.also_is; load = f.load })
+    left_fits : (seat : ℕ) (u : View) → seat ≡ id → putter_of v ≡ u → (z : Side) → may_step z u ≡ true → SeatKnows h known (two_seats id (length views)) seat u z
+    left_fits seat u is same P may = subst (λ (w : View). SeatKnows h known (two_seats id (length views)) seat w P) same
+        (let f = all id v there P puts in record { at = is; list = f.list; known_is = f.known_is; known_by_taker_is = f.known_by_taker_is; load = f.load })
     left_fits seat u is same C may = absurd (true≢false (sym may ∙ ap (λ (w : View). w.takes) (sym same)))
 
-    right_fits : (seat : ℕ) (u : View) → seat ≡ length views → taker_of v ≡ u → (z : Side) → may_step z u ≡ true → Fits h known (two_seats id (length views)) seat u z
+    right_fits : (seat : ℕ) (u : View) → seat ≡ length views → taker_of v ≡ u → (z : Side) → may_step z u ≡ true → SeatKnows h known (two_seats id (length views)) seat u z
     right_fits seat u is same P may = absurd (true≢false (sym may ∙ ap (λ (w : View). w.puts) (sym same)))
-    right_fits seat u is same C may = subst (λ (w : View). Fits h known (two_seats id (length views)) seat w C) same
-        (let f = all id v there C takes in record { at = is; list = f.list; known_is = f.known_is; also_is = f.also_is; load = f.load })
+    right_fits seat u is same C may = subst (λ (w : View). SeatKnows h known (two_seats id (length views)) seat w C) same
+        (let f = all id v there C takes in record { at = is; list = f.list; known_is = f.known_is; known_by_taker_is = f.known_by_taker_is; load = f.load })
 
 split_each : (views : List View) (id : ℕ) (v : View) → get_elem? views id ≡ some v → HasSeats (two_seats id (length views)) (set views id (putter_of v) ++ taker_of v ∷ [])
 unfolding two_seats
@@ -327,8 +327,8 @@ no_load x h load none b some_read = absurd (cc)
 
 module _ (laws : LawsBelow) (shape : Shape) where
   join_seats : (h known : List Event) (owner : Side → ℕ) (views : List View) (id : ℕ) (v : View) (there : ℕ) (w : View)
-      → get_elem? views id ≡ some v → ¬ (there ≡ id) → get_elem? views there ≡ some w → v.puts ≡ true → w.takes ≡ true → IsIdle P v.put → IsIdle C w.taken → FitsAll h known owner views
-      → FitsAll h known (two_seats id id) (set (set views id (joined v w)) there spent)
+      → get_elem? views id ≡ some v → ¬ (there ≡ id) → get_elem? views there ≡ some w → v.puts ≡ true → w.takes ≡ true → IsIdle P v.put → IsIdle C w.taken → SeatsKnow h known owner views
+      → SeatsKnow h known (two_seats id id) (set (set views id (joined v w)) there spent)
   unfolding two_seats
   join_seats h known owner views id v there w at apart at' puts takes idle idle' all seat u is y may =
       ⊎_elim
@@ -340,10 +340,10 @@ module _ (laws : LawsBelow) (shape : Shape) where
       (at_set views id seat (joined v w) u left.1))
       (at_set (set views id (joined v w)) there seat spent u is)
     where
-      putter : Fits h known owner id v P
+      putter : SeatKnows h known owner id v P
       putter = all id v at P puts
 
-      taker : Fits h known owner there w C
+      taker : SeatKnows h known owner there w C
       taker = all there w at' C takes
 
       never : (u : View) → spent ≡ u → (z : Side) → may_step z u ≡ true → ⊥
@@ -354,11 +354,11 @@ module _ (laws : LawsBelow) (shape : Shape) where
       none_else seat u away away' at P may = away ((all seat u at P may).at ∙ sym putter.at)
       none_else seat u away away' at C may = away' ((all seat u at C may).at ∙ sym taker.at)
 
-      both_fit : (seat : ℕ) (u : View) → seat ≡ id → joined v w ≡ u → (z : Side) → Fits h known (two_seats id id) seat u z
-      both_fit seat u is same P = subst (λ (t : View). Fits h known (two_seats id id) seat t P) same
-          (record { at = is; list = putter.list; known_is = putter.known_is; also_is = taker.known_is; load = no_load P h 0 (open_there laws shape P None v.put h putter.list idle) })
-      both_fit seat u is same C = subst (λ (t : View). Fits h known (two_seats id id) seat t C) same
-          (record { at = is; list = taker.list; known_is = putter.known_is; also_is = taker.known_is; load = no_load C h 0 (open_there laws shape C None w.taken h taker.list idle') })
+      both_fit : (seat : ℕ) (u : View) → seat ≡ id → joined v w ≡ u → (z : Side) → SeatKnows h known (two_seats id id) seat u z
+      both_fit seat u is same P = subst (λ (t : View). SeatKnows h known (two_seats id id) seat t P) same
+          (record { at = is; list = putter.list; known_is = putter.known_is; known_by_taker_is = taker.known_is; load = no_load P h 0 (open_there laws shape P None v.put h putter.list idle) })
+      both_fit seat u is same C = subst (λ (t : View). SeatKnows h known (two_seats id id) seat t C) same
+          (record { at = is; list = taker.list; known_is = putter.known_is; known_by_taker_is = taker.known_is; load = no_load C h 0 (open_there laws shape C None w.taken h taker.list idle') })
 
   join_each : (views : List View) (id : ℕ) (v : View) (there : ℕ) (w : View) → get_elem? views id ≡ some v → ¬ (there ≡ id) → HasSeats (two_seats id id) (set (set views id (joined v w)) there spent)
   unfolding two_seats
@@ -403,36 +403,36 @@ knows_both v h P = refl
 knows_both v h C = refl
 
 module _ (laws : LawsBelow) (shape : Shape) where
-  learn_seats : (h known : List Event) (owner : Side → ℕ) (views : List View) (id : ℕ) (v : View) → get_elem? views id ≡ some v → v.puts ≡ true → v.takes ≡ true → IsIdle P v.put → IsIdle C v.taken → FitsAll h known owner views
-      → FitsAll h h owner (set views id (knower v h))
+  learn_seats : (h known : List Event) (owner : Side → ℕ) (views : List View) (id : ℕ) (v : View) → get_elem? views id ≡ some v → v.puts ≡ true → v.takes ≡ true → IsIdle P v.put → IsIdle C v.taken → SeatsKnow h known owner views
+      → SeatsKnow h h owner (set views id (knower v h))
   learn_seats h known owner views id v there puts takes idle idle' all seat u at y may =
       ⊎_elim
       (λ (here : (seat ≡ id) × (knower v h ≡ u)). here_fits seat u here.0 here.1 y)
       (λ (apart : (seat ≢ id) × (get_elem? views seat ≡ some u)). absurd (none_else seat u apart.0 apart.1 y may))
       (at_set views id seat (knower v h) u at)
     where
-      putter : Fits h known owner id v P
+      putter : SeatKnows h known owner id v P
       putter = all id v there P puts
 
-      taker : Fits h known owner id v C
+      taker : SeatKnows h known owner id v C
       taker = all id v there C takes
 
       none_else : (seat : ℕ) (u : View) → seat ≢ id → get_elem? views seat ≡ some u → (z : Side) → may_step z u ≡ true → ⊥
       none_else seat u away at P may = away ((all seat u at P may).at ∙ sym putter.at)
       none_else seat u away at C may = away ((all seat u at C may).at ∙ sym taker.at)
 
-      here_fits : (seat : ℕ) (u : View) → seat ≡ id → knower v h ≡ u → (z : Side) → Fits h h owner seat u z
-      here_fits seat u is same P = subst (λ (t : View). Fits h h owner seat t P) same
-          (record { at = is ∙ putter.at; list = putter.list; known_is = refl; also_is = refl; load = no_load P h 0 (open_there laws shape P None v.put h putter.list idle) })
-      here_fits seat u is same C = subst (λ (t : View). Fits h h owner seat t C) same
-          (record { at = is ∙ taker.at; list = taker.list; known_is = refl; also_is = refl; load = no_load C h 0 (open_there laws shape C None v.taken h taker.list idle') })
+      here_fits : (seat : ℕ) (u : View) → seat ≡ id → knower v h ≡ u → (z : Side) → SeatKnows h h owner seat u z
+      here_fits seat u is same P = subst (λ (t : View). SeatKnows h h owner seat t P) same
+          (record { at = is ∙ putter.at; list = putter.list; known_is = refl; known_by_taker_is = refl; load = no_load P h 0 (open_there laws shape P None v.put h putter.list idle) })
+      here_fits seat u is same C = subst (λ (t : View). SeatKnows h h owner seat t C) same
+          (record { at = is ∙ taker.at; list = taker.list; known_is = refl; known_by_taker_is = refl; load = no_load C h 0 (open_there laws shape C None v.taken h taker.list idle') })
 
   pub learns : (count : Shape → ℕ) (IsShown : Shape → List ℕ → List Event → Type 0) (slots id i : ℕ) (me : Me (Unit {0}) View) → me.0.puts ≡ true → me.0.takes ≡ true → IsIdle P me.0.put → IsIdle C me.0.taken
       → Allows (KeptBy count IsShown shape) slots id me i (λ n. n) (λ _. Learned shape me)
   learns count IsShown slots id i me puts takes idle idle' s k homes at small =
       let h : List Event = k.history in
-      let putter : Fits h k.known k.owner id me.0 P = k.seats id me.0 at P puts in
-      let taker : Fits h k.known k.owner id me.0 C = k.seats id me.0 at C takes in (
+      let putter : SeatKnows h k.known k.owner id me.0 P = k.seats id me.0 at P puts in
+      let taker : SeatKnows h k.known k.owner id me.0 C = k.seats id me.0 at C takes in (
         knower me.0 h,
         keeps,
         tt,
@@ -455,16 +455,16 @@ module _ (laws : LawsBelow) (shape : Shape) where
             put = sym putter.list;
             taken = sym taker.list;
             known = subst (λ (l : List Event). IsBeginning l h) (sym putter.known_is) k.begins;
-            also = subst (λ (l : List Event). IsBeginning l h) (sym taker.also_is) k.begins;
+            known_by_taker = subst (λ (l : List Event). IsBeginning l h) (sym taker.known_by_taker_is) k.begins;
           };
         },
       )
 
 -- the ring before any step
 
-pub first_seat : (seat : ℕ) (v : View) → get_elem? (joint [] [] [] [] ∷ []) seat ≡ some v → (x : Side) → may_step x v ≡ true → Fits [] [] (λ _. 0) seat v x
-first_seat zero v at P may = subst (λ (w : View). Fits [] [] (λ _. 0) 0 w P) (some-injective _ _ at) (record { at = refl; list = refl; known_is = refl; also_is = refl; load = λ b o. absurd (cc) })
-first_seat zero v at C may = subst (λ (w : View). Fits [] [] (λ _. 0) 0 w C) (some-injective _ _ at) (record { at = refl; list = refl; known_is = refl; also_is = refl; load = λ b o. absurd (cc) })
+pub first_seat : (seat : ℕ) (v : View) → get_elem? (joint [] [] [] [] ∷ []) seat ≡ some v → (x : Side) → may_step x v ≡ true → SeatKnows [] [] (λ _. 0) seat v x
+first_seat zero v at P may = subst (λ (w : View). SeatKnows [] [] (λ _. 0) 0 w P) (some-injective _ _ at) (record { at = refl; list = refl; known_is = refl; known_by_taker_is = refl; load = λ b o. absurd (cc) })
+first_seat zero v at C may = subst (λ (w : View). SeatKnows [] [] (λ _. 0) 0 w C) (some-injective _ _ at) (record { at = refl; list = refl; known_is = refl; known_by_taker_is = refl; load = λ b o. absurd (cc) })
 first_seat (suc seat) v at x may = absurd (some-ne-none v (sym at))
 
 pub first_each : HasSeats (λ _. 0) (joint [] [] [] [] ∷ [])

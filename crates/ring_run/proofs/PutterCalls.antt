@@ -20,7 +20,7 @@ use Rattle.ring_core.specs.ProducerState as producer
 use Rattle.ring_core.specs.ProducerState.{ProducerState, Call, Close, due_put, call_of, call_at, producer_due_at}
 use Rattle.ring_core.specs.ProducerCalls.{ProducerStands, longest_of, ProducerMadeAt, HasCallMore, IsAfterCall, IsReplyToCall, longest, put_reply_to, last_put_reply, and_put}
 use Rattle.ring_run.specs.Ring.{RingEnd}
-use Rattle.ring_run.specs.Hands.{Grows, IsSameEnd}
+use Rattle.ring_run.specs.Steppers.{Grows, IsSameEnd}
 use Rattle.ring_run.specs.Ends.{HasPuts, HasPut, HasPutAll, HasPutPart, HasClosed, PutAdds, CloseAdds, PutterState, whole_put, puts_whole}
 use Rattle.ring_run.specs.Machines.{ListIs, IsMarked, PutterAt, PutterStep, IsPutter, CallBegins, IsRefusedAtOnce, without_last, longest_at}
 use Rattle.ring_run.proofs.PutterMoves.{call_are}

@@ -16,7 +16,7 @@ use Rattle.ring_core.specs.ProducerState.{ProducerState, Call, Put, Close, due_p
 use Rattle.ring_core.specs.ProducerCalls.{PutGoesOn, HasCallMore, BeginsCall, ProducerHasMoved, IsAfterCall, longest}
 use Rattle.ring_run.specs.Ring.{RingEnd}
 use Rattle.ring_run.specs.Programs.{Follows, IsRing, GoesOn, begin_of, ending_event}
-use Rattle.ring_run.specs.Hands.{Grows, StandsAs, CanMake, CanStep, HasStepped}
+use Rattle.ring_run.specs.Steppers.{Grows, StandsAs, CanMake, CanStep, HasStepped}
 use Rattle.ring_run.specs.Ends.{HasPutPart}
 use Rattle.ring_run.specs.Machines.{ListIs, PutterAt, PutterStep}
 use Rattle.ring_run.specs.Below.{LawsBelow}
@@ -103,7 +103,7 @@ module _ (laws : LawsBelow) (e : RingEnd) (m : ProducerState) (calls : Puts) (ma
     can_make is = subst (λ (z : Shape × Side). CanMakeAt z.0 z.1 e.list a) (λ i. (at.shape_is i, sym at.side_is i)) (can_whole laws m.shape calls (call_of m) made a next expects due_is' zeros e.list is)
 
     module _ (b : RingEnd) where
-      shape_b : (g : Rattle.ring_run.specs.Hands.IsSameEnd e b) → m.shape ≡ b.ring.shape
+      shape_b : (g : Rattle.ring_run.specs.Steppers.IsSameEnd e b) → m.shape ≡ b.ring.shape
       shape_b g = at.shape_is ∙ sym (ap (λ (r : Rattle.ring_run.specs.Ring.Ring). r.shape) g.ring)
 
       lawful_b : {event : Event} → Grows e b event → StandsAs P b

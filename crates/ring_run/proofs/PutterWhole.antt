@@ -23,7 +23,7 @@ use Rattle.ring_core.specs.ProducerState.{ProducerState, Call, Close, IsProducer
 use Rattle.ring_core.specs.ProducerCalls.{HasCallMore, ProducerHasMoved, IsAfterCall, IsReplyToCall, ProducerStands, PutGoesOn, longest, put_reply_to}
 use Rattle.ring_run.specs.Ring.{Ring, RingEnd}
 use Rattle.ring_run.specs.Programs.{begin_of, ending_event}
-use Rattle.ring_run.specs.Hands.{CanMake, Grows, HasMade, HasStepped, IsSameEnd, StandsAs}
+use Rattle.ring_run.specs.Steppers.{CanMake, Grows, HasMade, HasStepped, IsSameEnd, StandsAs}
 use Rattle.ring_run.specs.Ends.{HasPuts, HasPutAll, HasClosed, PutAdds, CloseAdds, whole_put}
 use Rattle.ring_run.specs.Machines.{PutterAt, PutterReady, PutterGoes, PutterOver, PutterIn, PutterMade, IsPutter, IsRefusedAtOnce, CallBegins, longest_at}
 use Rattle.ring_run.specs.Below.{LawsBelow}
@@ -289,4 +289,4 @@ pub some_batch : (x : replies.BatchReply) → Some x ≡ None → ⊥
 some_batch x e = cc
 
 pub told_so : {R : Type 0} (F : R → Type 0) (r : Option R) → ((x : R) × (r ≡ Some x) × F x) → (y : R) → r ≡ Some y → F y
-told_so F r (x, is, h) y also = let same : Some x ≡ Some y = sym is ∙ also in let e : x ≡ y = cc in subst F e h
+told_so F r (x, is, h) y known_by_taker = let same : Some x ≡ Some y = sym is ∙ known_by_taker in let e : x ≡ y = cc in subst F e h

@@ -15,7 +15,7 @@ use Rattle.ring_core.specs.Takes.{Take, Takes, take_program, AreTakes}
 use Rattle.ring_core.specs.ConsumerState.{ConsumerState, due_take, is_taking, takes_at, consumer_due_at}
 use Rattle.ring_core.specs.ConsumerCalls.{ConsumerStands, ConsumerMadeAt, HasTakeMore, IsAfterTake, IsReplyToTake, last_take_reply, reply_at_end, take_reply_to, ends_closed}
 use Rattle.ring_run.specs.Ring.{RingEnd}
-use Rattle.ring_run.specs.Hands.{Grows, IsSameEnd}
+use Rattle.ring_run.specs.Steppers.{Grows, IsSameEnd}
 use Rattle.ring_run.specs.Ends.{HasTakes, HasTaken, HasTakePart, TakeAdds, TakerState, whole_take, takes_whole}
 use Rattle.ring_run.proofs.PutterCalls.{list_rests, before_more, before_none, before_size}
 use Rattle.ring_run.specs.Machines.{ListIs, IsMarked, TakerAt, TakerStep, IsTaker, TakeWasBegun, without_last, longest_taking}

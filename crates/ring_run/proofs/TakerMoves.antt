@@ -17,7 +17,7 @@ use Rattle.ring_core.specs.ConsumerState.{ConsumerState, due_take, is_taking}
 use Rattle.ring_core.specs.ConsumerCalls.{TakeGoesOn, BeginsTake, ConsumerHasMoved, IsAfterTake}
 use Rattle.ring_run.specs.Ring.{RingEnd}
 use Rattle.ring_run.specs.Programs.{Follows, IsRing, GoesOn, begin_of, ending_event}
-use Rattle.ring_run.specs.Hands.{Grows, StandsAs, CanMake, CanStep, HasStepped}
+use Rattle.ring_run.specs.Steppers.{Grows, StandsAs, CanMake, CanStep, HasStepped}
 use Rattle.ring_run.specs.Ends.{HasTakePart}
 use Rattle.ring_run.specs.Machines.{ListIs, TakerAt, TakerStep}
 use Rattle.ring_run.specs.Below.{LawsBelow}
@@ -98,7 +98,7 @@ module _ (laws : LawsBelow) (e : RingEnd) (m : ConsumerState) (calls : Takes) (m
     can_make is = subst (λ (z : Shape × Side). CanMakeAt z.0 z.1 e.list a) (λ i. (at.shape_is i, sym at.side_is i)) (can_whole laws m.shape calls (is_taking m) made a next expects due_is' zeros e.list is)
 
     module _ (b : RingEnd) where
-      shape_b : (g : Rattle.ring_run.specs.Hands.IsSameEnd e b) → m.shape ≡ b.ring.shape
+      shape_b : (g : Rattle.ring_run.specs.Steppers.IsSameEnd e b) → m.shape ≡ b.ring.shape
       shape_b g = at.shape_is ∙ sym (ap (λ (r : Rattle.ring_run.specs.Ring.Ring). r.shape) g.ring)
 
       lawful_b : {event : Event} → Grows e b event → StandsAs C b

@@ -22,7 +22,7 @@ use Rattle.ring_core.specs.ConsumerState.{ConsumerState, IsConsumerButScan, IsCo
 use Rattle.ring_core.specs.ConsumerCalls.{ConsumerStands, ConsumerHasMoved, TakeGoesOn, HasTakeMore, IsAfterTake, IsReplyToTake, reply_at_end, ends_closed}
 use Rattle.ring_run.specs.Ring.{Ring, RingEnd}
 use Rattle.ring_run.specs.Programs.{begin_of, ending_event}
-use Rattle.ring_run.specs.Hands.{CanMake, Grows, HasMade, HasStepped, IsSameEnd, StandsAs}
+use Rattle.ring_run.specs.Steppers.{CanMake, Grows, HasMade, HasStepped, IsSameEnd, StandsAs}
 use Rattle.ring_run.specs.Ends.{HasTaken, TakeAdds, whole_take}
 use Rattle.ring_run.specs.Machines.{TakerAt, TakerReady, TakerGoes, TakerOver, TakerIn, TakerMade, IsTaker, TakeWasBegun}
 use Rattle.ring_run.specs.Below.{LawsBelow}

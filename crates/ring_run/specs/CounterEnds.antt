@@ -11,7 +11,7 @@ use Rattle.ring_core.specs.declared.consumers.TakeReply.TheVariants as take_repl
 use Rattle.ring_core.specs.Takes.{Takes, Open, taken_in}
 use Rattle.ring_core.specs.ConsumerCalls.{Finding, finding_phrase, Finds, HasTakeMore, ends_closed}
 use Rattle.ring_run.specs.Ring.{RingEnd}
-use Rattle.ring_run.specs.Hands.{IsSameEnd, StandsAs}
+use Rattle.ring_run.specs.Steppers.{IsSameEnd, StandsAs}
 use Rattle.ring_run.specs.Ends.{HasPuts, HasTakes, IsTakeReply}
 use Rattle.ring_run.specs.Meetings.{closed_reply}
 

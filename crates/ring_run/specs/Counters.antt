@@ -17,7 +17,7 @@ use Rattle.register_core.specs.Word.{word_write}
 use Rattle.ring_run.specs.declared.views.View.{View}
 use Rattle.ring_run.specs.Ring.{RingEnd}
 use Rattle.ring_run.specs.Words as bits
-use Rattle.ring_run.specs.Hands.{IsSameEnd}
+use Rattle.ring_run.specs.Steppers.{IsSameEnd}
 use Rattle.ring_run.specs.Rule.{KeptBy, list_of, Stands}
 
 -- ---- the words
@@ -93,7 +93,7 @@ grown_by false es list = list
 
 -- the view after a step of its seat that adds the events
 abbrev pub and_events : Side → List Event → View → View
-and_events x es v = record { puts = v.puts; takes = v.takes; put = grown_by (same_side x P) es v.put; taken = grown_by (same_side x C) es v.taken; known = v.known; also = v.also; first = v.first; loads = v.loads }
+and_events x es v = record { puts = v.puts; takes = v.takes; put = grown_by (same_side x P) es v.put; taken = grown_by (same_side x C) es v.taken; known = v.known; known_by_taker = v.known_by_taker; first = v.first; loads = v.loads }
 
 -- whole accesses of the side were added to its list, by the number that a load found, or that a store wrote
 pub record AddedAll (shape : Shape) (x : Side) (made : ℕ → List Made) (Tells : ℕ → Type 0) (m : Me (Unit {0}) View) (found : ℕ) (m' : Me (Unit {0}) View) : Type 0 where

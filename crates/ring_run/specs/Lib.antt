@@ -2,7 +2,7 @@ pub mod Below
 pub mod CounterEnds
 pub mod Counters
 pub mod Ends
-pub mod Hands
+pub mod Steppers
 pub mod Laws
 pub mod Machines
 pub mod Meetings

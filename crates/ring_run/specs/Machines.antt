@@ -18,7 +18,7 @@ use Rattle.ring_core.specs.ConsumerCalls as takes
 use Rattle.ring_core.specs.Lengths.{longest_take}
 use Rattle.ring_run.specs.Ring.{RingEnd}
 use Rattle.ring_run.specs.Programs.{begin_of}
-use Rattle.ring_run.specs.Hands.{Grows, StandsAs}
+use Rattle.ring_run.specs.Steppers.{Grows, StandsAs}
 use Rattle.ring_run.specs.Ends.{HasPutPart, HasTakePart}
 
 -- the events of accesses, and perhaps the begin of the one that is due

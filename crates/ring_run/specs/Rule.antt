@@ -29,16 +29,16 @@ no_event = event P X WriteEnd
 -- the views
 
 abbrev pub joint : List Event → List Event → List Event → List Event → View
-joint put taken known also = record { puts = true; takes = true; put = put; taken = taken; known = known; also = also; first = 0; loads = [] }
+joint put taken known known_by_taker = record { puts = true; takes = true; put = put; taken = taken; known = known; known_by_taker = known_by_taker; first = 0; loads = [] }
 
 abbrev pub spent : View
-spent = record { puts = false; takes = false; put = []; taken = []; known = []; also = []; first = 0; loads = [] }
+spent = record { puts = false; takes = false; put = []; taken = []; known = []; known_by_taker = []; first = 0; loads = [] }
 
 abbrev pub putter_of : View → View
-putter_of v = record { puts = true; takes = false; put = v.put; taken = []; known = v.known; also = v.also; first = v.first; loads = v.loads }
+putter_of v = record { puts = true; takes = false; put = v.put; taken = []; known = v.known; known_by_taker = v.known_by_taker; first = v.first; loads = v.loads }
 
 abbrev pub taker_of : View → View
-taker_of v = record { puts = false; takes = true; put = []; taken = v.taken; known = v.known; also = v.also; first = v.first; loads = v.loads }
+taker_of v = record { puts = false; takes = true; put = []; taken = v.taken; known = v.known; known_by_taker = v.known_by_taker; first = v.first; loads = v.loads }
 
 abbrev pub joined : View → View → View
 joined v w = joint v.put w.taken v.known w.known
@@ -72,7 +72,7 @@ grown false e list = list
 
 -- the view after a step of its seat that adds e, which found or wrote a number
 abbrev pub and_event : Side → Event → ℕ → View → View
-and_event x e found v = record { puts = v.puts; takes = v.takes; put = grown (same_side x P) e v.put; taken = grown (same_side x C) e v.taken; known = v.known; also = v.also; first = kept_load e.act found v.first; loads = kept_loads e.act v.first found v.loads }
+and_event x e found v = record { puts = v.puts; takes = v.takes; put = grown (same_side x P) e v.put; taken = grown (same_side x C) e v.taken; known = v.known; known_by_taker = v.known_by_taker; first = kept_load e.act found v.first; loads = kept_loads e.act v.first found v.loads }
 
 -- the rule
 
@@ -81,16 +81,16 @@ abbrev pub FirstLoad : Side → List Event → ℕ → Type 0
 FirstLoad x h load = (b : Bit) → open_access x h ≡ Some (Read b) → load ≡ shown b (before_last x h)
 
 -- the one seat that may step for the side has its list, what is known, and the first load of its open read
-pub record Fits (h known : List Event) (owner : Side → ℕ) (seat : ℕ) (v : View) (x : Side) : Type 0 where
+pub record SeatKnows (h known : List Event) (owner : Side → ℕ) (seat : ℕ) (v : View) (x : Side) : Type 0 where
   pub at : seat ≡ owner x
   pub list : list_of x v ≡ own x h
   pub known_is : v.known ≡ known
-  pub also_is : v.also ≡ known
+  pub known_by_taker_is : v.known_by_taker ≡ known
   pub load : FirstLoad x h v.first
 
-abbrev pub FitsAll : List Event → List Event → (Side → ℕ) → List View → Type 0
-FitsAll h known owner views =
-    (seat : ℕ) (v : View) → get_elem? views seat ≡ some v → (x : Side) → may_step x v ≡ true → Fits h known owner seat v x
+abbrev pub SeatsKnow : List Event → List Event → (Side → ℕ) → List View → Type 0
+SeatsKnow h known owner views =
+    (seat : ℕ) (v : View) → get_elem? views seat ≡ some v → (x : Side) → may_step x v ≡ true → SeatKnows h known owner seat v x
 
 -- for each side there is a seat that may step for it
 abbrev pub HasSeats : (Side → ℕ) → List View → Type 0
@@ -108,7 +108,7 @@ pub record KeptBy (count : Shape → ℕ) (IsShown : Shape → List ℕ → List
   pub shows : IsShown shape s.words history
   pub begins : IsBeginning known history
   pub each : HasSeats owner s.views
-  pub seats : FitsAll history known owner s.views
+  pub seats : SeatsKnow history known owner s.views
 
 -- the rule of the flickering ring
 abbrev pub KeepsFlickerRule : Shape → State (Unit {0}) View → Type 0
@@ -142,7 +142,7 @@ pub record Holds (shape : Shape) (h : List Event) (v : View) : Type 0 where
   pub put : own P h ≡ v.put
   pub taken : own C h ≡ v.taken
   pub known : IsBeginning v.known h
-  pub also : IsBeginning v.also h
+  pub known_by_taker : IsBeginning v.known_by_taker h
 
 pub record Learned (shape : Shape) (m m' : Me (Unit {0}) View) : Type 0 where
   pub view : m'.0 ≡ joint m.0.put m.0.taken m'.0.known m'.0.known

@@ -18,7 +18,7 @@ impl<'a> PutEnd for CounterPutter<'a> {
     ghost answered = { λ _ _. Unit {0} };
 
     fn shape(&self) -> Shape {
-        self.hand.ring.shape()
+        self.stepper.ring.shape()
     }
 
     fn put(&mut self, item: u64) -> PutReply {
@@ -42,7 +42,7 @@ impl<'a> TakeEnd for CounterTaker<'a> {
     ghost answered = { λ _ _. Unit {0} };
 
     fn shape(&self) -> Shape {
-        self.hand.ring.shape()
+        self.stepper.ring.shape()
     }
 
     fn take(&mut self) -> TakeReply {

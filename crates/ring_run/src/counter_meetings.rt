@@ -2,14 +2,14 @@
 ghost use Rattle.std.specs.Prelude.{◌≡◌, []};
 ghost use Rattle.bits_core.specs.declared.events.Side.TheVariants.{P, C};
 ghost use Rattle.ring_core.specs.Linear.{EachReadingIsLinearizable};
-ghost use Rattle.ring_run.specs.Hands.{StandsAs};
+ghost use Rattle.ring_run.specs.Steppers.{StandsAs};
 ghost use Rattle.ring_run.specs.Rule.{IsIdle};
 ghost use Rattle.ring_run.specs.Meetings.{KeepsEnd, Meets, ClosesAre, TellsAre};
 
 use crate::below::laws_below;
-use crate::counter_hands::CounterHand;
 use crate::counter_putters::CounterPutter;
 use crate::counter_rings::{CounterRing, CounterStart};
+use crate::counter_steppers::CounterStepper;
 use crate::counter_takers::CounterTaker;
 use crate::counter_words::CounterWords;
 use crate::meetings::Finished;
@@ -33,11 +33,11 @@ impl<A: Allocator> CounterRing<A> {
         ensures taker { result.1 ≡ record { ring = self.now; side = C; list = []; known = []; loads = [] } }
         ensures lawful { StandsAs P result.0 × StandsAs C result.1 }
     {
-        let (p, c) = first_hands(self.words(), self.words(), start);
+        let (p, c) = first_steppers(self.words(), self.words(), start);
         (
             CounterPutter {
                 before: [0; 8],
-                hand: p,
+                stepper: p,
                 count: 0,
                 cell: 0,
                 closed: false,
@@ -45,7 +45,7 @@ impl<A: Allocator> CounterRing<A> {
             },
             CounterTaker {
                 before: [0; 8],
-                hand: c,
+                stepper: c,
                 count: 0,
                 cell: 0,
                 told: false,
@@ -76,7 +76,7 @@ impl CounterRing<Global> {
         ring_is_linearizable();
         let CounterPutter {
             before: _,
-            hand: p,
+            stepper: p,
             count: put,
             cell: last,
             closed,
@@ -84,17 +84,17 @@ impl CounterRing<Global> {
         } = putter;
         let CounterTaker {
             before: _,
-            hand: c,
+            stepper: c,
             count: taken,
             cell: first,
             told,
             after: _,
         } = taker;
-        let (p, c) = meet_hands(p, c);
+        let (p, c) = meet_steppers(p, c);
         (
             CounterPutter {
                 before: [0; 8],
-                hand: p,
+                stepper: p,
                 count: put,
                 cell: last,
                 closed,
@@ -102,7 +102,7 @@ impl CounterRing<Global> {
             },
             CounterTaker {
                 before: [0; 8],
-                hand: c,
+                stepper: c,
                 count: taken,
                 cell: first,
                 told,
@@ -124,7 +124,7 @@ impl CounterRing<Global> {
         ring_is_linearizable();
         let CounterPutter {
             before: _,
-            hand: p,
+            stepper: p,
             count: _,
             cell: _,
             closed,
@@ -132,22 +132,22 @@ impl CounterRing<Global> {
         } = putter;
         let CounterTaker {
             before: _,
-            hand: c,
+            stepper: c,
             count: _,
             cell: _,
             told,
             after: _,
         } = taker;
-        let seat = join_hands(p, c);
+        let seat = join_steppers(p, c);
         Finished { seat, closed, told }
     }
 }
 
-fn first_hands<'a>(
+fn first_steppers<'a>(
     ring: CounterWords<'a>,
     same: CounterWords<'a>,
     start: CounterStart,
-) -> (CounterHand<'a>, CounterHand<'a>)
+) -> (CounterStepper<'a>, CounterStepper<'a>)
     requires { (same ≡ ring) × (start ≡ ring.id) }
     ensures putter { result.0 ≡ record { ring = ring.entry; side = P; list = []; known = []; loads = [] } }
     ensures taker { result.1 ≡ record { ring = ring.entry; side = C; list = []; known = []; loads = [] } }
@@ -157,12 +157,12 @@ fn first_hands<'a>(
     let Start { mut seat } = start;
     let other = ring.part(&mut seat);
     (
-        CounterHand {
+        CounterStepper {
             ring,
             seat,
             side: Side::P,
         },
-        CounterHand {
+        CounterStepper {
             ring: same,
             seat: other,
             side: Side::C,
@@ -170,7 +170,10 @@ fn first_hands<'a>(
     )
 }
 
-fn meet_hands<'a>(p: CounterHand<'a>, c: CounterHand<'a>) -> (CounterHand<'a>, CounterHand<'a>)
+fn meet_steppers<'a>(
+    p: CounterStepper<'a>,
+    c: CounterStepper<'a>,
+) -> (CounterStepper<'a>, CounterStepper<'a>)
     requires sides { (p.side ≡ P) × (c.side ≡ C) }
     requires ring { p.ring ≡ c.ring }
     requires idle { IsIdle P p.list × IsIdle C c.list }
@@ -180,12 +183,12 @@ fn meet_hands<'a>(p: CounterHand<'a>, c: CounterHand<'a>) -> (CounterHand<'a>, C
     ensures meets { Meets p.entry c.entry result.0.known }
     ensures lawful { StandsAs P result.0 × StandsAs C result.1 }
 {
-    let CounterHand {
+    let CounterStepper {
         ring,
         mut seat,
         side: _,
     } = p;
-    let CounterHand {
+    let CounterStepper {
         ring: same,
         seat: other,
         side: _,
@@ -193,12 +196,12 @@ fn meet_hands<'a>(p: CounterHand<'a>, c: CounterHand<'a>) -> (CounterHand<'a>, C
     ring.rejoin(&mut seat, other);
     let other = ring.part(&mut seat);
     (
-        CounterHand {
+        CounterStepper {
             ring,
             seat,
             side: Side::P,
         },
-        CounterHand {
+        CounterStepper {
             ring: same,
             seat: other,
             side: Side::C,
@@ -206,18 +209,18 @@ fn meet_hands<'a>(p: CounterHand<'a>, c: CounterHand<'a>) -> (CounterHand<'a>, C
     )
 }
 
-fn join_hands<'a>(p: CounterHand<'a>, c: CounterHand<'a>) -> Seat<(), View>
+fn join_steppers<'a>(p: CounterStepper<'a>, c: CounterStepper<'a>) -> Seat<(), View>
     requires sides { (p.side ≡ P) × (c.side ≡ C) }
     requires ring { p.ring ≡ c.ring }
     requires idle { IsIdle P p.list × IsIdle C c.list }
     ensures { Meets p.entry c.entry result.me.0.known }
 {
-    let CounterHand {
+    let CounterStepper {
         ring,
         mut seat,
         side: _,
     } = p;
-    let CounterHand {
+    let CounterStepper {
         ring: _,
         seat: other,
         side: _,

@@ -4,12 +4,12 @@ ghost use Rattle.bits_core.specs.Shape.{modulus_of, width_of};
 ghost use Rattle.bits_core.specs.declared.events.Side.TheVariants.{P};
 ghost use Rattle.ring_core.specs.Puts.{Puts, IsBatch};
 ghost use Rattle.ring_core.specs.ProducerCalls.{and_close, room_in};
-ghost use Rattle.ring_run.specs.Hands.{IsSameEnd, StandsAs};
+ghost use Rattle.ring_run.specs.Steppers.{IsSameEnd, StandsAs};
 ghost use Rattle.ring_run.specs.Ends.{HasPuts, HasPut, HasPutAll, HasClosed};
 ghost use Rattle.ring_run.specs.CounterEnds.{PutterList, PutMade, PutKept};
 
 use crate::below::laws_below;
-use crate::counter_hands::{CounterHand, past_in};
+use crate::counter_steppers::{CounterStepper, past_in};
 use bits_core::Shape;
 use ring_core::{BatchReply, PutReply, distance};
 use std::marker::Model;
@@ -20,7 +20,7 @@ use std::marker::Model;
 pub struct CounterPutter<'a> {
     // unused, as `after` is: they keep other values off the cache lines of this one
     pub(crate) before: [u64; 8],
-    pub(crate) hand: CounterHand<'a>,
+    pub(crate) stepper: CounterStepper<'a>,
     pub(crate) count: u64,
     pub(crate) cell: u64,
     pub(crate) closed: bool,
@@ -33,9 +33,9 @@ impl<'a> Model for CounterPutter<'a> {
 
     ghost Value = { RingEnd };
 
-    ghost view = { λ p. p.hand };
+    ghost view = { λ p. p.stepper };
 
-    ghost invariant = { λ p. IsPutterList p.hand p.count p.cell p.closed };
+    ghost invariant = { λ p. IsPutterList p.stepper p.count p.cell p.closed };
 }
 
 // How many of so many items a producer that has put `n` stores, where it read the consumer's count `seen`.
@@ -56,50 +56,50 @@ fn fitting(shape: &Shape, n: u64, seen: u64, offered: usize) -> usize
 
 // A put to an open ring: one load, and where there is room a store for each item that fits it, and one store. Tells
 // how many were stored.
-fn put_open<'a>(hand: &mut CounterHand<'a>, items: &[u64], count: u64, cell: u64) -> usize
-    requires at { (calls : Puts) × PutterList hand.old count cell calls × (calls.closes ≡ false) }
-    requires batch { IsBatch hand.old.ring.shape items.now }
-    ensures { (calls : Puts) → PutterList hand.old count cell calls → calls.closes ≡ false → PutMade hand.old hand.new calls items.now result }
+fn put_open<'a>(stepper: &mut CounterStepper<'a>, items: &[u64], count: u64, cell: u64) -> usize
+    requires at { (calls : Puts) × PutterList stepper.old count cell calls × (calls.closes ≡ false) }
+    requires batch { IsBatch stepper.old.ring.shape items.now }
+    ensures { (calls : Puts) → PutterList stepper.old count cell calls → calls.closes ≡ false → PutMade stepper.old stepper.new calls items.now result }
 {
     laws_below();
-    let shape = hand.ring.shape();
-    let seen = hand.scan();
+    let shape = stepper.ring.shape();
+    let seen = stepper.scan();
     let most = fitting(&shape, count, seen, items.len());
     if most == 0 {
         return 0;
     }
-    hand.write_items(cell, &items[..most]);
+    stepper.write_items(cell, &items[..most]);
     let next = past_in(count, most as u64, shape.modulus());
-    hand.write_count(next);
+    stepper.write_count(next);
     most
 }
 
 // The same, with the count and the cell.
 fn put_counted<'a>(
-    hand: &mut CounterHand<'a>,
+    stepper: &mut CounterStepper<'a>,
     items: &[u64],
     count: &mut u64,
     cell: &mut u64,
 ) -> usize
-    requires at { (calls : Puts) × PutterList hand.old count.old cell.old calls × (calls.closes ≡ false) }
-    requires batch { IsBatch hand.old.ring.shape items.now }
-    ensures { (calls : Puts) → PutterList hand.old count.old cell.old calls → calls.closes ≡ false → PutKept hand.old hand.new count.new cell.new calls items.now result }
+    requires at { (calls : Puts) × PutterList stepper.old count.old cell.old calls × (calls.closes ≡ false) }
+    requires batch { IsBatch stepper.old.ring.shape items.now }
+    ensures { (calls : Puts) → PutterList stepper.old count.old cell.old calls → calls.closes ≡ false → PutKept stepper.old stepper.new count.new cell.new calls items.now result }
 {
-    let shape = hand.ring.shape();
-    let most = put_open(hand, items, *count, *cell);
+    let shape = stepper.ring.shape();
+    let most = put_open(stepper, items, *count, *cell);
     *count = past_in(*count, most as u64, shape.modulus());
     *cell = past_in(*cell, most as u64, shape.capacity());
     most
 }
 
-fn close_open<'a>(hand: &mut CounterHand<'a>)
-    requires at { (calls : Puts) × (hand.old.side ≡ P) × HasPuts hand.old.ring.shape hand.old.list calls × (calls.closes ≡ false) }
-    ensures same { IsSameEnd hand.old hand.new }
-    ensures stands { StandsAs P hand.new }
-    ensures has { (calls : Puts) → HasPuts hand.old.ring.shape hand.old.list calls → calls.closes ≡ false → HasPuts hand.new.ring.shape hand.new.list (and_close calls) }
+fn close_open<'a>(stepper: &mut CounterStepper<'a>)
+    requires at { (calls : Puts) × (stepper.old.side ≡ P) × HasPuts stepper.old.ring.shape stepper.old.list calls × (calls.closes ≡ false) }
+    ensures same { IsSameEnd stepper.old stepper.new }
+    ensures stands { StandsAs P stepper.new }
+    ensures has { (calls : Puts) → HasPuts stepper.old.ring.shape stepper.old.list calls → calls.closes ≡ false → HasPuts stepper.new.ring.shape stepper.new.list (and_close calls) }
 {
     laws_below();
-    hand.write_close();
+    stepper.write_close();
 }
 
 impl<'a> CounterPutter<'a> {
@@ -113,7 +113,7 @@ impl<'a> CounterPutter<'a> {
         if self.closed {
             return BatchReply::Closed;
         }
-        match put_counted(&mut self.hand, items, &mut self.count, &mut self.cell) {
+        match put_counted(&mut self.stepper, items, &mut self.count, &mut self.cell) {
             0 => BatchReply::Full,
             stored => BatchReply::Stored(stored as u64),
         }
@@ -140,7 +140,7 @@ impl<'a> CounterPutter<'a> {
         ensures phrase { HasClosed self.new.ring.shape self.old.list self.new.list }
     {
         if !self.closed {
-            close_open(&mut self.hand);
+            close_open(&mut self.stepper);
             self.closed = true;
         }
     }

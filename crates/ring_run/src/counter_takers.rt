@@ -3,13 +3,13 @@ ghost use Rattle.std.specs.Prelude.{◌≡◌, Some};
 ghost use Rattle.bits_core.specs.declared.events.Side.TheVariants.{C};
 ghost use Rattle.ring_core.specs.declared.consumers.TakeReply.TheVariants.{Item};
 ghost use Rattle.ring_core.specs.Takes.{Takes, Open};
-ghost use Rattle.ring_run.specs.Hands.{IsSameEnd, StandsAs};
+ghost use Rattle.ring_run.specs.Steppers.{IsSameEnd, StandsAs};
 ghost use Rattle.ring_run.specs.Ends.{HasTaken};
 ghost use Rattle.ring_run.specs.Ring.{RingEnd};
 ghost use Rattle.ring_run.specs.CounterEnds.{TakerList, TakeMade, TakeKept, LookMade, HasLooked, items_brought};
 
 use crate::below::laws_below;
-use crate::counter_hands::{CounterHand, past_in};
+use crate::counter_steppers::{CounterStepper, past_in};
 use crate::meetings::is_closed_reply;
 use ring_core::{TakeReply, has_item};
 use std::marker::Model;
@@ -20,7 +20,7 @@ use std::marker::Model;
 pub struct CounterTaker<'a> {
     // unused, as `after` is: they keep other values off the cache lines of this one
     pub(crate) before: [u64; 8],
-    pub(crate) hand: CounterHand<'a>,
+    pub(crate) stepper: CounterStepper<'a>,
     pub(crate) count: u64,
     pub(crate) cell: u64,
     pub(crate) told: bool,
@@ -33,27 +33,27 @@ impl<'a> Model for CounterTaker<'a> {
 
     ghost Value = { RingEnd };
 
-    ghost view = { λ t. t.hand };
+    ghost view = { λ t. t.stepper };
 
-    ghost invariant = { λ t. IsTakerList t.hand t.count t.cell t.told };
+    ghost invariant = { λ t. IsTakerList t.stepper t.count t.cell t.told };
 }
 
 // The scans of a take: nothing where they found an item, and else the reply. One load, and where it shows no item one
 // of the close word; where that is 1, one load more.
-fn look<'a>(hand: &mut CounterHand<'a>, count: u64, cell: u64) -> Option<TakeReply>
-    requires at { (calls : Takes) × TakerList hand.old count cell calls × (calls.end ≡ Open) }
-    ensures { (calls : Takes) → TakerList hand.old count cell calls → calls.end ≡ Open → LookMade hand.old hand.new calls result }
+fn look<'a>(stepper: &mut CounterStepper<'a>, count: u64, cell: u64) -> Option<TakeReply>
+    requires at { (calls : Takes) × TakerList stepper.old count cell calls × (calls.end ≡ Open) }
+    ensures { (calls : Takes) → TakerList stepper.old count cell calls → calls.end ≡ Open → LookMade stepper.old stepper.new calls result }
 {
     laws_below();
-    let shape = hand.ring.shape();
-    let seen = hand.scan();
+    let shape = stepper.ring.shape();
+    let seen = stepper.scan();
     if has_item(&shape, seen, count) {
         return None;
     }
-    if !hand.read_close() {
+    if !stepper.read_close() {
         return Some(TakeReply::Empty);
     }
-    let again = hand.scan();
+    let again = stepper.scan();
     if has_item(&shape, again, count) {
         return None;
     }
@@ -61,26 +61,26 @@ fn look<'a>(hand: &mut CounterHand<'a>, count: u64, cell: u64) -> Option<TakeRep
 }
 
 // Behind the scans that found an item: one load of its cell, and one store of the count.
-fn fetch<'a>(hand: &mut CounterHand<'a>, count: u64, cell: u64) -> u64
-    requires at { (before : RingEnd) × (calls : Takes) × HasLooked before hand.old count cell calls }
-    ensures { (before : RingEnd) (calls : Takes) → HasLooked before hand.old count cell calls → TakeMade before hand.new calls (Item result) }
+fn fetch<'a>(stepper: &mut CounterStepper<'a>, count: u64, cell: u64) -> u64
+    requires at { (before : RingEnd) × (calls : Takes) × HasLooked before stepper.old count cell calls }
+    ensures { (before : RingEnd) (calls : Takes) → HasLooked before stepper.old count cell calls → TakeMade before stepper.new calls (Item result) }
 {
     laws_below();
-    let shape = hand.ring.shape();
-    let item = hand.read_cell(cell);
+    let shape = stepper.ring.shape();
+    let item = stepper.read_cell(cell);
     let next = past_in(count, 1, shape.modulus());
-    hand.write_count(next);
+    stepper.write_count(next);
     item
 }
 
 // A take from a ring that was not told closed.
-fn take_open<'a>(hand: &mut CounterHand<'a>, count: u64, cell: u64) -> TakeReply
-    requires at { (calls : Takes) × TakerList hand.old count cell calls × (calls.end ≡ Open) }
-    ensures { (calls : Takes) → TakerList hand.old count cell calls → calls.end ≡ Open → TakeMade hand.old hand.new calls result }
+fn take_open<'a>(stepper: &mut CounterStepper<'a>, count: u64, cell: u64) -> TakeReply
+    requires at { (calls : Takes) × TakerList stepper.old count cell calls × (calls.end ≡ Open) }
+    ensures { (calls : Takes) → TakerList stepper.old count cell calls → calls.end ≡ Open → TakeMade stepper.old stepper.new calls result }
 {
-    match look(hand, count, cell) {
+    match look(stepper, count, cell) {
         Some(reply) => reply,
-        None => TakeReply::Item(fetch(hand, count, cell)),
+        None => TakeReply::Item(fetch(stepper, count, cell)),
     }
 }
 
@@ -96,12 +96,12 @@ fn brought(reply: TakeReply) -> u64
 }
 
 // The same, with the count and the cell.
-fn take_counted<'a>(hand: &mut CounterHand<'a>, count: &mut u64, cell: &mut u64) -> TakeReply
-    requires at { (calls : Takes) × TakerList hand.old count.old cell.old calls × (calls.end ≡ Open) }
-    ensures { (calls : Takes) → TakerList hand.old count.old cell.old calls → calls.end ≡ Open → TakeKept hand.old hand.new count.new cell.new calls result }
+fn take_counted<'a>(stepper: &mut CounterStepper<'a>, count: &mut u64, cell: &mut u64) -> TakeReply
+    requires at { (calls : Takes) × TakerList stepper.old count.old cell.old calls × (calls.end ≡ Open) }
+    ensures { (calls : Takes) → TakerList stepper.old count.old cell.old calls → calls.end ≡ Open → TakeKept stepper.old stepper.new count.new cell.new calls result }
 {
-    let shape = hand.ring.shape();
-    let reply = take_open(hand, *count, *cell);
+    let shape = stepper.ring.shape();
+    let reply = take_open(stepper, *count, *cell);
     let items = brought(reply);
     *count = past_in(*count, items, shape.modulus());
     *cell = past_in(*cell, items, shape.capacity());
@@ -118,7 +118,7 @@ impl<'a> CounterTaker<'a> {
         if self.told {
             return TakeReply::Closed;
         }
-        let reply = take_counted(&mut self.hand, &mut self.count, &mut self.cell);
+        let reply = take_counted(&mut self.stepper, &mut self.count, &mut self.cell);
         self.told = is_closed_reply(Some(reply));
         reply
     }

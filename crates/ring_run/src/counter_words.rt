@@ -6,7 +6,7 @@ ghost use Rattle.ring_run.specs.Rule.{Learned, Holds, IsWordFound, IsIdle, joint
 ghost use Rattle.ring_run.specs.Counters.{KeptWords, AddedAll, words_of};
 
 use crate::below::laws_below;
-use crate::views::{Both, Cut, Learns, Note, View};
+use crate::views::{AddedEvent, Both, Cut, Learns, View};
 use atomic_table::{Play, Seat, Shared, TableRule};
 use bits_core::Shape;
 use std::marker::{Brand, Model, PhantomData};
@@ -32,7 +32,7 @@ impl TableRule<(), View, Shape> for CounterRule {
 }
 
 // What a step adds to the list of its seat: whole accesses of its side.
-pub trait Block {
+pub trait AddedEvents {
     ghost use Rattle.std.specs.Prelude.{ℕ, List};
     ghost use Rattle.bits_core.specs.declared.shapes.Shape.{Shape};
     ghost use Rattle.bits_core.specs.declared.events.Side.{Side};
@@ -49,7 +49,7 @@ pub trait Block {
     ghost tells: { ℕ → Type 0 };
 }
 
-impl Block for Brand {
+impl AddedEvents for Brand {
     ghost use Rattle.std.specs.Prelude.{[]};
     ghost use Rattle.bits_core.specs.declared.events.Side.TheVariants.{P};
     ghost use Rattle.ring_run.specs.Words.{no_shape};
@@ -69,7 +69,7 @@ pub struct AddsAll<N> {
     block: PhantomData<N>,
 }
 
-impl<N: Block> Play<(), View> for AddsAll<N> {
+impl<N: AddedEvents> Play<(), View> for AddsAll<N> {
     ghost use Rattle.ring_run.specs.Counters.{AddedAll};
 
     ghost then = { λ _. AddedAll N.shape N.side N.made N.tells };
@@ -80,7 +80,7 @@ pub struct FindsWord<N> {
     note: PhantomData<N>,
 }
 
-impl<N: Note> Play<(), View> for FindsWord<N> {
+impl<N: AddedEvent> Play<(), View> for FindsWord<N> {
     ghost use Rattle.ring_run.specs.Rule.{IsWordFound};
     ghost use Rattle.ring_run.specs.Counters.{KeptWords};
 
@@ -126,7 +126,7 @@ impl<'a> CounterWords<'a> {
     }
 
     // A load. `about` is for the proof.
-    pub(crate) fn load_all<N: Block, T>(
+    pub(crate) fn load_all<N: AddedEvents, T>(
         &self,
         seat: &mut Seat<(), View>,
         word: usize,
@@ -141,7 +141,7 @@ impl<'a> CounterWords<'a> {
     }
 
     // A store.
-    pub(crate) fn store_all<N: Block, T>(
+    pub(crate) fn store_all<N: AddedEvents, T>(
         &self,
         seat: &mut Seat<(), View>,
         word: usize,
@@ -157,7 +157,7 @@ impl<'a> CounterWords<'a> {
     }
 
     // A load by no end.
-    pub(crate) fn find<N: Note>(&self, word: usize) -> u64
+    pub(crate) fn find<N: AddedEvent>(&self, word: usize) -> u64
         requires own { word < words_of self.now.shape }
         requires shape { N.shape ≡ self.now.shape }
         ensures { IsWordFound (KeptWords self.now.shape) word result }
@@ -187,7 +187,7 @@ impl<'a> CounterWords<'a> {
     }
 
     // The joint seat learns the history.
-    pub(crate) fn learn<N: Note>(&self, seat: &mut Seat<(), View>)
+    pub(crate) fn learn<N: AddedEvent>(&self, seat: &mut Seat<(), View>)
         requires own { (seat.old.table_id ≡ self.now.id) × (seat.old.me.0.puts ≡ true) × (seat.old.me.0.takes ≡ true) }
         requires idle { IsIdle P seat.old.me.0.put × IsIdle C seat.old.me.0.taken }
         requires shape { N.shape ≡ self.now.shape }

@@ -14,7 +14,7 @@ pub trait PutEnd {
     ghost use Rattle.std.specs.Prelude.{◌≡◌, ◌^◌, ◌<◌};
     ghost use Rattle.bits_core.specs.Shape.{width_of};
     ghost use Rattle.ring_run.specs.Ring.{RingEnd};
-    ghost use Rattle.ring_run.specs.Hands.{IsSameEnd, StandsAs};
+    ghost use Rattle.ring_run.specs.Steppers.{IsSameEnd, StandsAs};
     ghost use Rattle.bits_core.specs.declared.events.Side.TheVariants.{P};
     ghost use Rattle.ring_core.specs.Puts.{IsBatch};
     ghost use Rattle.ring_run.specs.Ends.{HasPut, HasPutAll, HasClosed};
@@ -70,7 +70,7 @@ pub trait PutEnd {
 pub trait TakeEnd {
     ghost use Rattle.std.specs.Prelude.{◌≡◌};
     ghost use Rattle.ring_run.specs.Ring.{RingEnd};
-    ghost use Rattle.ring_run.specs.Hands.{IsSameEnd, StandsAs};
+    ghost use Rattle.ring_run.specs.Steppers.{IsSameEnd, StandsAs};
     ghost use Rattle.bits_core.specs.declared.events.Side.TheVariants.{C};
     ghost use Rattle.ring_run.specs.Ends.{HasTaken};
 
@@ -106,7 +106,7 @@ pub trait RingOf<E: PutEnd, F: TakeEnd> {
     ghost use Rattle.std.specs.Prelude.{◌≡◌};
     ghost use Rattle.bits_core.specs.declared.events.Side.TheVariants.{P, C};
     ghost use Rattle.ring_core.specs.Linear.{EachReadingIsLinearizable};
-    ghost use Rattle.ring_run.specs.Hands.{StandsAs};
+    ghost use Rattle.ring_run.specs.Steppers.{StandsAs};
     ghost use Rattle.ring_run.specs.Meetings.{KeepsEnd, Meets, ClosesAre, TellsAre};
 
     /// Both ends learn one lawful history, whose sides are their two lists and which begins with what each knew. Its calls
@@ -136,7 +136,7 @@ pub trait RingOf<E: PutEnd, F: TakeEnd> {
 
 impl<'a, O: Oracle + Drop> PutEnd for Putter<'a, O> {
     ghost use Rattle.std.specs.Prelude.{◌≡◌, None};
-    ghost use Rattle.ring_run.specs.Hands.{AreAnswered};
+    ghost use Rattle.ring_run.specs.Steppers.{AreAnswered};
 
     ghost end = { λ p. p.end };
 
@@ -163,7 +163,7 @@ impl<'a, O: Oracle + Drop> PutEnd for Putter<'a, O> {
 
 impl<'a, O: Oracle + Drop> TakeEnd for Taker<'a, O> {
     ghost use Rattle.std.specs.Prelude.{◌≡◌, false};
-    ghost use Rattle.ring_run.specs.Hands.{AreAnswered};
+    ghost use Rattle.ring_run.specs.Steppers.{AreAnswered};
 
     ghost end = { λ p. p.end };
 

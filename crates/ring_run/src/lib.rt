@@ -5,17 +5,16 @@
 
 mod below;
 mod counter_ends;
-mod counter_hands;
 mod counter_meetings;
 mod counter_putters;
 mod counter_relays;
 mod counter_rings;
+mod counter_steppers;
 mod counter_takers;
 mod counter_words;
 mod ends;
 mod faults;
 mod gates;
-mod hands;
 pub mod laws;
 mod layout;
 mod meetings;
@@ -23,6 +22,7 @@ mod putters;
 mod recorders;
 mod relays;
 mod rings;
+mod steppers;
 mod takers;
 mod views;
 mod words;

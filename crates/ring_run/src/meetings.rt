@@ -2,14 +2,14 @@
 ghost use Rattle.std.specs.Prelude.{◌≡◌, false, None, []};
 ghost use Rattle.bits_core.specs.declared.events.Side.TheVariants.{P, C};
 ghost use Rattle.ring_core.specs.Linear.{EachReadingIsLinearizable};
-ghost use Rattle.ring_run.specs.Hands.{StandsAs};
+ghost use Rattle.ring_run.specs.Steppers.{StandsAs};
 ghost use Rattle.ring_run.specs.Rule.{IsIdle};
 ghost use Rattle.ring_run.specs.Meetings.{KeepsEnd, Meets, ClosesAre, TellsAre, closed_reply};
 
 use crate::below::laws_below;
-use crate::hands::Hand;
 use crate::putters::{PutCore, Putter};
 use crate::rings::{FlickerRing, Start};
+use crate::steppers::Stepper;
 use crate::takers::{TakeCore, Taker};
 use crate::views::View;
 use crate::words::Words;
@@ -174,15 +174,15 @@ fn first_cores<'a>(ring: Words<'a>, same: Words<'a>, start: Start) -> (PutCore<'
     ensures lawful { StandsAs P result.0.end × StandsAs C result.1.end }
 {
     let shape = ring.shape();
-    let (p, c) = first_hands(ring, same, start);
+    let (p, c) = first_steppers(ring, same, start);
     (
         PutCore {
-            hand: p,
+            stepper: p,
             machine: Producer::new(shape),
             steps: 0,
         },
         TakeCore {
-            hand: c,
+            stepper: c,
             machine: Consumer::new(shape),
             steps: 0,
         },
@@ -200,24 +200,24 @@ fn meet_cores<'a>(putter: PutCore<'a>, taker: TakeCore<'a>) -> (PutCore<'a>, Tak
 {
     laws_below();
     let PutCore {
-        hand: p,
+        stepper: p,
         machine: producer,
         steps: steps_p,
     } = putter;
     let TakeCore {
-        hand: c,
+        stepper: c,
         machine: consumer,
         steps: steps_c,
     } = taker;
-    let (p, c) = meet_hands(p, c);
+    let (p, c) = meet_steppers(p, c);
     (
         PutCore {
-            hand: p,
+            stepper: p,
             machine: producer,
             steps: steps_p,
         },
         TakeCore {
-            hand: c,
+            stepper: c,
             machine: consumer,
             steps: steps_c,
         },
@@ -233,18 +233,18 @@ fn finish_cores<'a>(putter: PutCore<'a>, taker: TakeCore<'a>) -> Finished
 {
     laws_below();
     let PutCore {
-        hand: p,
+        stepper: p,
         machine: producer,
         steps: _,
     } = putter;
     let TakeCore {
-        hand: c,
+        stepper: c,
         machine: consumer,
         steps: _,
     } = taker;
     let closed = producer.is_closed();
     let told = is_closed_reply(consumer.reply());
-    let seat = join_hands(p, c);
+    let seat = join_steppers(p, c);
     Finished { seat, closed, told }
 }
 
@@ -259,7 +259,7 @@ pub(crate) fn is_closed_reply(reply: Option<TakeReply>) -> bool
     }
 }
 
-fn first_hands<'a>(ring: Words<'a>, same: Words<'a>, start: Start) -> (Hand<'a>, Hand<'a>)
+fn first_steppers<'a>(ring: Words<'a>, same: Words<'a>, start: Start) -> (Stepper<'a>, Stepper<'a>)
     requires { (same ≡ ring) × (start ≡ ring.id) }
     ensures putter { result.0 ≡ record { ring = ring.entry; side = P; list = []; known = []; loads = [] } }
     ensures taker { result.1 ≡ record { ring = ring.entry; side = C; list = []; known = []; loads = [] } }
@@ -269,14 +269,14 @@ fn first_hands<'a>(ring: Words<'a>, same: Words<'a>, start: Start) -> (Hand<'a>,
     let Start { mut seat } = start;
     let other = ring.part(&mut seat);
     (
-        Hand {
+        Stepper {
             ring,
             seat,
             side: Side::P,
             opened: None,
             first: 0,
         },
-        Hand {
+        Stepper {
             ring: same,
             seat: other,
             side: Side::C,
@@ -286,7 +286,7 @@ fn first_hands<'a>(ring: Words<'a>, same: Words<'a>, start: Start) -> (Hand<'a>,
     )
 }
 
-fn meet_hands<'a>(p: Hand<'a>, c: Hand<'a>) -> (Hand<'a>, Hand<'a>)
+fn meet_steppers<'a>(p: Stepper<'a>, c: Stepper<'a>) -> (Stepper<'a>, Stepper<'a>)
     requires sides { (p.side ≡ P) × (c.side ≡ C) }
     requires ring { p.ring ≡ c.ring }
     requires idle { IsIdle P p.list × IsIdle C c.list }
@@ -296,14 +296,14 @@ fn meet_hands<'a>(p: Hand<'a>, c: Hand<'a>) -> (Hand<'a>, Hand<'a>)
     ensures meets { Meets p.entry c.entry result.0.known }
     ensures lawful { StandsAs P result.0 × StandsAs C result.1 }
 {
-    let Hand {
+    let Stepper {
         ring,
         mut seat,
         side: _,
         opened: _,
         first: _,
     } = p;
-    let Hand {
+    let Stepper {
         ring: same,
         seat: other,
         side: _,
@@ -313,14 +313,14 @@ fn meet_hands<'a>(p: Hand<'a>, c: Hand<'a>) -> (Hand<'a>, Hand<'a>)
     ring.rejoin(&mut seat, other);
     let other = ring.part(&mut seat);
     (
-        Hand {
+        Stepper {
             ring,
             seat,
             side: Side::P,
             opened: None,
             first: 0,
         },
-        Hand {
+        Stepper {
             ring: same,
             seat: other,
             side: Side::C,
@@ -330,20 +330,20 @@ fn meet_hands<'a>(p: Hand<'a>, c: Hand<'a>) -> (Hand<'a>, Hand<'a>)
     )
 }
 
-fn join_hands<'a>(p: Hand<'a>, c: Hand<'a>) -> Seat<(), View>
+fn join_steppers<'a>(p: Stepper<'a>, c: Stepper<'a>) -> Seat<(), View>
     requires sides { (p.side ≡ P) × (c.side ≡ C) }
     requires ring { p.ring ≡ c.ring }
     requires idle { IsIdle P p.list × IsIdle C c.list }
     ensures { Meets p.entry c.entry result.me.0.known }
 {
-    let Hand {
+    let Stepper {
         ring,
         mut seat,
         side: _,
         opened: _,
         first: _,
     } = p;
-    let Hand {
+    let Stepper {
         ring: _,
         seat: other,
         side: _,

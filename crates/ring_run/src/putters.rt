@@ -9,13 +9,13 @@ ghost use Rattle.ring_core.specs.Lengths.{longest_put};
 ghost use Rattle.ring_core.specs.Puts.{Puts, IsBatch};
 ghost use Rattle.ring_core.specs.ProducerState.{Call, Put, Close, due_put, call_of};
 ghost use Rattle.ring_core.specs.ProducerCalls.{ProducerStands, longest_of};
-ghost use Rattle.ring_run.specs.Hands.{AreAnswered, Grows, IsAskedOnce, IsSameEnd, StandsAs};
+ghost use Rattle.ring_run.specs.Steppers.{AreAnswered, Grows, IsAskedOnce, IsSameEnd, StandsAs};
 ghost use Rattle.bits_core.specs.declared.events.Side.TheVariants.{P};
 ghost use Rattle.ring_run.specs.Ends.{HasPut, HasPutAll, HasPutPart, HasClosed, whole_put, puts_whole};
 ghost use Rattle.ring_run.specs.Machines.{PutterAt, PutterIn, PutterOver, PutterReady, PutterStep, CallBegins};
 
 use crate::below::laws_below;
-use crate::hands::Hand;
+use crate::steppers::Stepper;
 use bits_core::{Oracle, Shape};
 use ring_core::{BatchReply, Producer, PutReply};
 use std::marker::Model;
@@ -23,7 +23,7 @@ use std::marker::Model;
 // The producer's end but for its oracle.
 #[derive(Drop)]
 pub struct PutCore<'a> {
-    pub(crate) hand: Hand<'a>,
+    pub(crate) stepper: Stepper<'a>,
     pub(crate) machine: Producer,
     // how many events of the call under way the list has, and 0 where none is under way
     pub(crate) steps: u64,
@@ -36,9 +36,9 @@ impl<'a> Model for PutCore<'a> {
 
     ghost Value = { PutterState (Unit {0}) };
 
-    ghost view = { λ p. record { end = p.hand; call = call_of p.machine; batched = p.machine.batched; start = without_last p.steps p.hand.list; oracle = tt } };
+    ghost view = { λ p. record { end = p.stepper; call = call_of p.machine; batched = p.machine.batched; start = without_last p.steps p.stepper.list; oracle = tt } };
 
-    ghost invariant = { λ p. IsPutter p.hand p.machine (whole_put (call_of p.machine) p.hand.list (without_last p.steps p.hand.list)) × IsMarked p.steps p.hand.list (longest_at p.machine.shape (call_of p.machine)) };
+    ghost invariant = { λ p. IsPutter p.stepper p.machine (whole_put (call_of p.machine) p.stepper.list (without_last p.steps p.stepper.list)) × IsMarked p.steps p.stepper.list (longest_at p.machine.shape (call_of p.machine)) };
 }
 
 /// The producer's end of a ring. Its calls `put`, `put_all` and `close` are those of [`PutEnd`](crate::PutEnd); the step
@@ -65,19 +65,19 @@ impl<'a, O: Oracle + Drop> Model for Putter<'a, O> {
 }
 
 // One step of the call under way.
-fn advance<'a, O: Oracle>(hand: &mut Hand<'a>, machine: &mut Producer, oracle: &mut O)
-    requires at { (calls : Puts) × (made : List Made) × PutterAt hand.old machine.old calls made }
-    ensures rests { call_of machine.old ≡ None → (machine.new ≡ machine.old) × (hand.new ≡ hand.old) }
+fn advance<'a, O: Oracle>(stepper: &mut Stepper<'a>, machine: &mut Producer, oracle: &mut O)
+    requires at { (calls : Puts) × (made : List Made) × PutterAt stepper.old machine.old calls made }
+    ensures rests { call_of machine.old ≡ None → (machine.new ≡ machine.old) × (stepper.new ≡ stepper.old) }
     ensures kind { machine.new.batched ≡ machine.old.batched }
-    ensures steps { (calls : Puts) (made : List Made) → PutterAt hand.old machine.old calls made → call_of machine.old ≢ None → PutterStep hand.old machine.old hand.new machine.new calls }
+    ensures steps { (calls : Puts) (made : List Made) → PutterAt stepper.old machine.old calls made → call_of machine.old ≢ None → PutterStep stepper.old machine.old stepper.new machine.new calls }
     ensures oracle { IsAskedOnce O.answers oracle.old oracle.new }
-    ensures answered { AreAnswered hand.old hand.new (O.answers oracle.old) (O.answers oracle.new) }
+    ensures answered { AreAnswered stepper.old stepper.new (O.answers oracle.old) (O.answers oracle.new) }
 {
     laws_below();
     let _expects = machine.expects_one();
     match machine.next() {
         None => {}
-        Some(access) => match hand.step(access, oracle) {
+        Some(access) => match stepper.step(access, oracle) {
             None => {}
             Some(answer) => machine.feed(answer),
         },
@@ -86,24 +86,24 @@ fn advance<'a, O: Oracle>(hand: &mut Hand<'a>, machine: &mut Producer, oracle: &
 
 // The rest of the scan of the call under way, where one is.
 #[inline(always)]
-fn finish_scan<'a, O: Oracle>(hand: &mut Hand<'a>, machine: &mut Producer, oracle: &mut O)
-    requires goes { call_of machine.old ≢ None → (calls : Puts) × (c : Call) × PutterIn hand.old machine.old calls c }
-    ensures same { IsSameEnd hand.old hand.new }
+fn finish_scan<'a, O: Oracle>(stepper: &mut Stepper<'a>, machine: &mut Producer, oracle: &mut O)
+    requires goes { call_of machine.old ≢ None → (calls : Puts) × (c : Call) × PutterIn stepper.old machine.old calls c }
+    ensures same { IsSameEnd stepper.old stepper.new }
     ensures kind { machine.new.batched ≡ machine.old.batched }
-    ensures longer { length hand.old.list ≤ length hand.new.list }
-    ensures rests { call_of machine.old ≡ None → (machine.new ≡ machine.old) × (hand.new ≡ hand.old) }
-    ensures goes { (calls : Puts) (c : Call) → PutterIn hand.old machine.old calls c → PutterIn hand.new machine.new calls c }
-    ensures answered { AreAnswered hand.old hand.new (O.answers oracle.old) (O.answers oracle.new) }
+    ensures longer { length stepper.old.list ≤ length stepper.new.list }
+    ensures rests { call_of machine.old ≡ None → (machine.new ≡ machine.old) × (stepper.new ≡ stepper.old) }
+    ensures goes { (calls : Puts) (c : Call) → PutterIn stepper.old machine.old calls c → PutterIn stepper.new machine.new calls c }
+    ensures answered { AreAnswered stepper.old stepper.new (O.answers oracle.old) (O.answers oracle.new) }
 {
     laws_below();
     let Some(mut scan) = machine.scan() else {
         return;
     };
-    let ring = hand.ring.again();
+    let ring = stepper.ring.again();
     'reads: loop {
         let _expects = scan.expects_one();
         let access = scan.next();
-        let answer = hand.make(&ring, access, oracle);
+        let answer = stepper.make(&ring, access, oracle);
         if answer {
             machine.go_on_with_scan(scan);
             machine.feed_scan(true);
@@ -115,24 +115,24 @@ fn finish_scan<'a, O: Oracle>(hand: &mut Hand<'a>, machine: &mut Producer, oracl
 
 // The rest of the word of the call under way, where one is written.
 #[inline(always)]
-fn write_word<'a, O: Oracle>(hand: &mut Hand<'a>, machine: &mut Producer, oracle: &mut O)
-    requires goes { call_of machine.old ≢ None → (calls : Puts) × (c : Call) × PutterIn hand.old machine.old calls c }
-    ensures same { IsSameEnd hand.old hand.new }
+fn write_word<'a, O: Oracle>(stepper: &mut Stepper<'a>, machine: &mut Producer, oracle: &mut O)
+    requires goes { call_of machine.old ≢ None → (calls : Puts) × (c : Call) × PutterIn stepper.old machine.old calls c }
+    ensures same { IsSameEnd stepper.old stepper.new }
     ensures kind { machine.new.batched ≡ machine.old.batched }
-    ensures longer { length hand.old.list ≤ length hand.new.list }
-    ensures rests { call_of machine.old ≡ None → (machine.new ≡ machine.old) × (hand.new ≡ hand.old) }
-    ensures goes { (calls : Puts) (c : Call) → PutterIn hand.old machine.old calls c → PutterIn hand.new machine.new calls c }
-    ensures answered { AreAnswered hand.old hand.new (O.answers oracle.old) (O.answers oracle.new) }
+    ensures longer { length stepper.old.list ≤ length stepper.new.list }
+    ensures rests { call_of machine.old ≡ None → (machine.new ≡ machine.old) × (stepper.new ≡ stepper.old) }
+    ensures goes { (calls : Puts) (c : Call) → PutterIn stepper.old machine.old calls c → PutterIn stepper.new machine.new calls c }
+    ensures answered { AreAnswered stepper.old stepper.new (O.answers oracle.old) (O.answers oracle.new) }
 {
     laws_below();
     let Some(mut word) = machine.word() else {
         return;
     };
-    let ring = hand.ring.again();
+    let ring = stepper.ring.again();
     'writes: loop {
         let last = word.is_last();
         let access = word.next();
-        let answer = hand.make(&ring, access, oracle);
+        let answer = stepper.make(&ring, access, oracle);
         if last {
             machine.go_on_with_word(word);
             machine.feed_word(answer);
@@ -144,48 +144,48 @@ fn write_word<'a, O: Oracle>(hand: &mut Hand<'a>, machine: &mut Producer, oracle
 
 // The rest of the count of the call under way, where it is written.
 #[inline(always)]
-fn write_count<'a, O: Oracle>(hand: &mut Hand<'a>, machine: &mut Producer, oracle: &mut O)
-    requires goes { call_of machine.old ≢ None → (calls : Puts) × (c : Call) × PutterIn hand.old machine.old calls c }
-    ensures same { IsSameEnd hand.old hand.new }
+fn write_count<'a, O: Oracle>(stepper: &mut Stepper<'a>, machine: &mut Producer, oracle: &mut O)
+    requires goes { call_of machine.old ≢ None → (calls : Puts) × (c : Call) × PutterIn stepper.old machine.old calls c }
+    ensures same { IsSameEnd stepper.old stepper.new }
     ensures kind { machine.new.batched ≡ machine.old.batched }
-    ensures longer { length hand.old.list ≤ length hand.new.list }
-    ensures rests { call_of machine.old ≡ None → (machine.new ≡ machine.old) × (hand.new ≡ hand.old) }
-    ensures goes { (calls : Puts) (c : Call) → PutterIn hand.old machine.old calls c → PutterIn hand.new machine.new calls c }
-    ensures answered { AreAnswered hand.old hand.new (O.answers oracle.old) (O.answers oracle.new) }
+    ensures longer { length stepper.old.list ≤ length stepper.new.list }
+    ensures rests { call_of machine.old ≡ None → (machine.new ≡ machine.old) × (stepper.new ≡ stepper.old) }
+    ensures goes { (calls : Puts) (c : Call) → PutterIn stepper.old machine.old calls c → PutterIn stepper.new machine.new calls c }
+    ensures answered { AreAnswered stepper.old stepper.new (O.answers oracle.old) (O.answers oracle.new) }
 {
     laws_below();
-    let ring = hand.ring.again();
+    let ring = stepper.ring.again();
     'writes: while machine.is_counting() {
         let Some(access) = machine.next() else {
             return;
         };
         let _expects = machine.expects_one();
-        let answer = hand.make(&ring, access, oracle);
+        let answer = stepper.make(&ring, access, oracle);
         machine.feed_count(answer);
     }
 }
 
 // The accesses of the call under way, to its end.
 #[inline(always)]
-fn finish<'a, O: Oracle>(hand: &mut Hand<'a>, machine: &mut Producer, oracle: &mut O)
-    requires ready { (calls : Puts) × PutterReady hand.old machine.old calls }
-    ensures same { IsSameEnd hand.old hand.new }
+fn finish<'a, O: Oracle>(stepper: &mut Stepper<'a>, machine: &mut Producer, oracle: &mut O)
+    requires ready { (calls : Puts) × PutterReady stepper.old machine.old calls }
+    ensures same { IsSameEnd stepper.old stepper.new }
     ensures kind { machine.new.batched ≡ machine.old.batched }
-    ensures rests { call_of machine.old ≡ None → (machine.new ≡ machine.old) × (hand.new ≡ hand.old) }
-    ensures over { (calls : Puts) → PutterReady hand.old machine.old calls → (c : Call) → call_of machine.old ≡ Some c → PutterOver hand.new machine.new calls c }
-    ensures answered { AreAnswered hand.old hand.new (O.answers oracle.old) (O.answers oracle.new) }
+    ensures rests { call_of machine.old ≡ None → (machine.new ≡ machine.old) × (stepper.new ≡ stepper.old) }
+    ensures over { (calls : Puts) → PutterReady stepper.old machine.old calls → (c : Call) → call_of machine.old ≡ Some c → PutterOver stepper.new machine.new calls c }
+    ensures answered { AreAnswered stepper.old stepper.new (O.answers oracle.old) (O.answers oracle.new) }
 {
     laws_below();
     'accesses: loop {
-        finish_scan(hand, machine, oracle);
-        write_word(hand, machine, oracle);
-        write_count(hand, machine, oracle);
+        finish_scan(stepper, machine, oracle);
+        write_word(stepper, machine, oracle);
+        write_count(stepper, machine, oracle);
         let Some(access) = machine.next() else {
             return;
         };
         let _expects = machine.expects_one();
-        let ring = hand.ring.again();
-        let answer = hand.make(&ring, access, oracle);
+        let ring = stepper.ring.again();
+        let answer = stepper.make(&ring, access, oracle);
         machine.feed(answer);
     }
 }
@@ -248,7 +248,7 @@ impl<'a> PutCore<'a> {
         ensures shape { result ≡ self.now.end.ring.shape }
         ensures lawful { StandsAs P self.now.end }
     {
-        self.hand.ring.shape()
+        self.stepper.ring.shape()
     }
 
     // One step of a put of the item, which begins where no call is under way. The reply comes with the last
@@ -267,7 +267,7 @@ impl<'a> PutCore<'a> {
     {
         laws_below();
         begin_put(&mut self.machine, item);
-        advance(&mut self.hand, &mut self.machine, oracle);
+        advance(&mut self.stepper, &mut self.machine, oracle);
         self.steps = steps_behind(self.steps, &self.machine);
         self.machine.reply()
     }
@@ -288,7 +288,7 @@ impl<'a> PutCore<'a> {
     {
         laws_below();
         begin_put_all(&mut self.machine, items);
-        advance(&mut self.hand, &mut self.machine, oracle);
+        advance(&mut self.stepper, &mut self.machine, oracle);
         self.steps = steps_behind(self.steps, &self.machine);
         self.machine.batch_reply()
     }
@@ -308,7 +308,7 @@ impl<'a> PutCore<'a> {
     {
         laws_below();
         begin_close(&mut self.machine);
-        advance(&mut self.hand, &mut self.machine, oracle);
+        advance(&mut self.stepper, &mut self.machine, oracle);
         self.steps = steps_behind(self.steps, &self.machine);
         self.machine.next().is_none()
     }
@@ -326,7 +326,7 @@ impl<'a> PutCore<'a> {
         ensures answered { AreAnswered self.old.end self.new.end (O.answers oracle.old) (O.answers oracle.new) }
     {
         begin_put(&mut self.machine, item);
-        finish(&mut self.hand, &mut self.machine, oracle);
+        finish(&mut self.stepper, &mut self.machine, oracle);
         match self.machine.reply() {
             Some(reply) => reply,
             None => unreachable!(),
@@ -344,7 +344,7 @@ impl<'a> PutCore<'a> {
         ensures answered { AreAnswered self.old.end self.new.end (O.answers oracle.old) (O.answers oracle.new) }
     {
         begin_put_all(&mut self.machine, items);
-        finish(&mut self.hand, &mut self.machine, oracle);
+        finish(&mut self.stepper, &mut self.machine, oracle);
         match self.machine.batch_reply() {
             Some(reply) => reply,
             None => unreachable!(),
@@ -361,7 +361,7 @@ impl<'a> PutCore<'a> {
         ensures answered { AreAnswered self.old.end self.new.end (O.answers oracle.old) (O.answers oracle.new) }
     {
         begin_close(&mut self.machine);
-        finish(&mut self.hand, &mut self.machine, oracle);
+        finish(&mut self.stepper, &mut self.machine, oracle);
     }
 }
 

@@ -1,6 +1,6 @@
 //! The two ends of a ring at work in two threads.
 ghost use Rattle.std.specs.Prelude.{◌≡◌, ◌⊎◌, ℕ, ◌+◌, ◌<◌, ◌≤◌, ◌==◌, true, false, [], IfOk, IfErr, OnOk, length, min, take, vec_capacity};
-ghost use Rattle.ring_run.specs.Hands.{IsSameEnd};
+ghost use Rattle.ring_run.specs.Steppers.{IsSameEnd};
 ghost use Rattle.bits_core.specs.Made.{IsBeginning};
 ghost use Rattle.bits_core.specs.Shape.{AllFit, batch_of, capacity_of};
 ghost use Rattle.ring_run.specs.Relays.{HasMadePuts, HasRelayedPuts, HasRelayedTakes, HasTakenMore, IsRelayed};

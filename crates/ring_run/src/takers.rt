@@ -7,13 +7,13 @@ ghost use Rattle.ring_core.specs.Lengths.{longest_take};
 ghost use Rattle.ring_core.specs.Takes.{Takes};
 ghost use Rattle.ring_core.specs.ConsumerState.{due_take, is_taking};
 ghost use Rattle.ring_core.specs.ConsumerCalls.{ConsumerStands};
-ghost use Rattle.ring_run.specs.Hands.{AreAnswered, Grows, IsAskedOnce, IsSameEnd, StandsAs};
+ghost use Rattle.ring_run.specs.Steppers.{AreAnswered, Grows, IsAskedOnce, IsSameEnd, StandsAs};
 ghost use Rattle.bits_core.specs.declared.events.Side.TheVariants.{C};
 ghost use Rattle.ring_run.specs.Ends.{HasTaken, HasTakePart, whole_take, takes_whole};
 ghost use Rattle.ring_run.specs.Machines.{TakerAt, TakerIn, TakerOver, TakerReady, TakerStep, TakeWasBegun};
 
 use crate::below::laws_below;
-use crate::hands::Hand;
+use crate::steppers::Stepper;
 use bits_core::{Oracle, Shape};
 use ring_core::{Consumer, TakeReply};
 use std::marker::Model;
@@ -21,7 +21,7 @@ use std::marker::Model;
 // The consumer's end but for its oracle.
 #[derive(Drop)]
 pub struct TakeCore<'a> {
-    pub(crate) hand: Hand<'a>,
+    pub(crate) stepper: Stepper<'a>,
     pub(crate) machine: Consumer,
     // how many events of the take under way the list has, and 0 where none is under way
     pub(crate) steps: u64,
@@ -34,9 +34,9 @@ impl<'a> Model for TakeCore<'a> {
 
     ghost Value = { TakerState (Unit {0}) };
 
-    ghost view = { λ p. record { end = p.hand; taking = is_taking p.machine; start = without_last p.steps p.hand.list; oracle = tt } };
+    ghost view = { λ p. record { end = p.stepper; taking = is_taking p.machine; start = without_last p.steps p.stepper.list; oracle = tt } };
 
-    ghost invariant = { λ p. IsTaker p.hand p.machine (whole_take (is_taking p.machine) p.hand.list (without_last p.steps p.hand.list)) × IsMarked p.steps p.hand.list (longest_taking p.machine.shape (is_taking p.machine)) };
+    ghost invariant = { λ p. IsTaker p.stepper p.machine (whole_take (is_taking p.machine) p.stepper.list (without_last p.steps p.stepper.list)) × IsMarked p.steps p.stepper.list (longest_taking p.machine.shape (is_taking p.machine)) };
 }
 
 /// The consumer's end of a ring. Its call `take` is that of [`TakeEnd`](crate::TakeEnd); the step call here makes one
@@ -63,18 +63,18 @@ impl<'a, O: Oracle + Drop> Model for Taker<'a, O> {
 }
 
 // One step of the take under way.
-fn advance<'a, O: Oracle>(hand: &mut Hand<'a>, machine: &mut Consumer, oracle: &mut O)
-    requires at { (calls : Takes) × (made : List Made) × TakerAt hand.old machine.old calls made }
-    ensures rests { is_taking machine.old ≡ false → (machine.new ≡ machine.old) × (hand.new ≡ hand.old) }
-    ensures steps { (calls : Takes) (made : List Made) → TakerAt hand.old machine.old calls made → is_taking machine.old ≡ true → TakerStep hand.old machine.old hand.new machine.new calls }
+fn advance<'a, O: Oracle>(stepper: &mut Stepper<'a>, machine: &mut Consumer, oracle: &mut O)
+    requires at { (calls : Takes) × (made : List Made) × TakerAt stepper.old machine.old calls made }
+    ensures rests { is_taking machine.old ≡ false → (machine.new ≡ machine.old) × (stepper.new ≡ stepper.old) }
+    ensures steps { (calls : Takes) (made : List Made) → TakerAt stepper.old machine.old calls made → is_taking machine.old ≡ true → TakerStep stepper.old machine.old stepper.new machine.new calls }
     ensures oracle { IsAskedOnce O.answers oracle.old oracle.new }
-    ensures answered { AreAnswered hand.old hand.new (O.answers oracle.old) (O.answers oracle.new) }
+    ensures answered { AreAnswered stepper.old stepper.new (O.answers oracle.old) (O.answers oracle.new) }
 {
     laws_below();
     let _expects = machine.expects_one();
     match machine.next() {
         None => {}
-        Some(access) => match hand.step(access, oracle) {
+        Some(access) => match stepper.step(access, oracle) {
             None => {}
             Some(answer) => machine.feed(answer),
         },
@@ -83,23 +83,23 @@ fn advance<'a, O: Oracle>(hand: &mut Hand<'a>, machine: &mut Consumer, oracle: &
 
 // The rest of a scan of the take under way, where one is.
 #[inline(always)]
-fn finish_scan<'a, O: Oracle>(hand: &mut Hand<'a>, machine: &mut Consumer, oracle: &mut O)
-    requires goes { is_taking machine.old ≡ true → (calls : Takes) × TakerIn hand.old machine.old calls }
-    ensures same { IsSameEnd hand.old hand.new }
-    ensures longer { length hand.old.list ≤ length hand.new.list }
-    ensures rests { is_taking machine.old ≡ false → (machine.new ≡ machine.old) × (hand.new ≡ hand.old) }
-    ensures goes { (calls : Takes) → TakerIn hand.old machine.old calls → TakerIn hand.new machine.new calls }
-    ensures answered { AreAnswered hand.old hand.new (O.answers oracle.old) (O.answers oracle.new) }
+fn finish_scan<'a, O: Oracle>(stepper: &mut Stepper<'a>, machine: &mut Consumer, oracle: &mut O)
+    requires goes { is_taking machine.old ≡ true → (calls : Takes) × TakerIn stepper.old machine.old calls }
+    ensures same { IsSameEnd stepper.old stepper.new }
+    ensures longer { length stepper.old.list ≤ length stepper.new.list }
+    ensures rests { is_taking machine.old ≡ false → (machine.new ≡ machine.old) × (stepper.new ≡ stepper.old) }
+    ensures goes { (calls : Takes) → TakerIn stepper.old machine.old calls → TakerIn stepper.new machine.new calls }
+    ensures answered { AreAnswered stepper.old stepper.new (O.answers oracle.old) (O.answers oracle.new) }
 {
     laws_below();
     let Some(mut scan) = machine.scan() else {
         return;
     };
-    let ring = hand.ring.again();
+    let ring = stepper.ring.again();
     'reads: loop {
         let _expects = scan.expects_one();
         let access = scan.next();
-        let answer = hand.make(&ring, access, oracle);
+        let answer = stepper.make(&ring, access, oracle);
         if answer {
             machine.go_on_with_scan(scan);
             machine.feed(true);
@@ -111,23 +111,23 @@ fn finish_scan<'a, O: Oracle>(hand: &mut Hand<'a>, machine: &mut Consumer, oracl
 
 // The rest of the word of the take under way, where one is read.
 #[inline(always)]
-fn read_word<'a, O: Oracle>(hand: &mut Hand<'a>, machine: &mut Consumer, oracle: &mut O)
-    requires goes { is_taking machine.old ≡ true → (calls : Takes) × TakerIn hand.old machine.old calls }
-    ensures same { IsSameEnd hand.old hand.new }
-    ensures longer { length hand.old.list ≤ length hand.new.list }
-    ensures rests { is_taking machine.old ≡ false → (machine.new ≡ machine.old) × (hand.new ≡ hand.old) }
-    ensures goes { (calls : Takes) → TakerIn hand.old machine.old calls → TakerIn hand.new machine.new calls }
-    ensures answered { AreAnswered hand.old hand.new (O.answers oracle.old) (O.answers oracle.new) }
+fn read_word<'a, O: Oracle>(stepper: &mut Stepper<'a>, machine: &mut Consumer, oracle: &mut O)
+    requires goes { is_taking machine.old ≡ true → (calls : Takes) × TakerIn stepper.old machine.old calls }
+    ensures same { IsSameEnd stepper.old stepper.new }
+    ensures longer { length stepper.old.list ≤ length stepper.new.list }
+    ensures rests { is_taking machine.old ≡ false → (machine.new ≡ machine.old) × (stepper.new ≡ stepper.old) }
+    ensures goes { (calls : Takes) → TakerIn stepper.old machine.old calls → TakerIn stepper.new machine.new calls }
+    ensures answered { AreAnswered stepper.old stepper.new (O.answers oracle.old) (O.answers oracle.new) }
 {
     laws_below();
     let Some(mut word) = machine.word() else {
         return;
     };
-    let ring = hand.ring.again();
+    let ring = stepper.ring.again();
     'reads: loop {
         let last = word.is_last();
         let access = word.next();
-        let answer = hand.make(&ring, access, oracle);
+        let answer = stepper.make(&ring, access, oracle);
         if last {
             machine.go_on_with_word(word);
             machine.feed_word(answer);
@@ -139,46 +139,46 @@ fn read_word<'a, O: Oracle>(hand: &mut Hand<'a>, machine: &mut Consumer, oracle:
 
 // The rest of the count of the take under way, where it is written.
 #[inline(always)]
-fn write_count<'a, O: Oracle>(hand: &mut Hand<'a>, machine: &mut Consumer, oracle: &mut O)
-    requires goes { is_taking machine.old ≡ true → (calls : Takes) × TakerIn hand.old machine.old calls }
-    ensures same { IsSameEnd hand.old hand.new }
-    ensures longer { length hand.old.list ≤ length hand.new.list }
-    ensures rests { is_taking machine.old ≡ false → (machine.new ≡ machine.old) × (hand.new ≡ hand.old) }
-    ensures goes { (calls : Takes) → TakerIn hand.old machine.old calls → TakerIn hand.new machine.new calls }
-    ensures answered { AreAnswered hand.old hand.new (O.answers oracle.old) (O.answers oracle.new) }
+fn write_count<'a, O: Oracle>(stepper: &mut Stepper<'a>, machine: &mut Consumer, oracle: &mut O)
+    requires goes { is_taking machine.old ≡ true → (calls : Takes) × TakerIn stepper.old machine.old calls }
+    ensures same { IsSameEnd stepper.old stepper.new }
+    ensures longer { length stepper.old.list ≤ length stepper.new.list }
+    ensures rests { is_taking machine.old ≡ false → (machine.new ≡ machine.old) × (stepper.new ≡ stepper.old) }
+    ensures goes { (calls : Takes) → TakerIn stepper.old machine.old calls → TakerIn stepper.new machine.new calls }
+    ensures answered { AreAnswered stepper.old stepper.new (O.answers oracle.old) (O.answers oracle.new) }
 {
     laws_below();
-    let ring = hand.ring.again();
+    let ring = stepper.ring.again();
     'writes: while machine.is_counting() {
         let Some(access) = machine.next() else {
             return;
         };
         let _expects = machine.expects_one();
-        let answer = hand.make(&ring, access, oracle);
+        let answer = stepper.make(&ring, access, oracle);
         machine.feed_count(answer);
     }
 }
 
 // The accesses of the take under way, to its end.
 #[inline(always)]
-fn finish<'a, O: Oracle>(hand: &mut Hand<'a>, machine: &mut Consumer, oracle: &mut O)
-    requires ready { (calls : Takes) × TakerReady hand.old machine.old calls }
-    ensures same { IsSameEnd hand.old hand.new }
-    ensures rests { is_taking machine.old ≡ false → (machine.new ≡ machine.old) × (hand.new ≡ hand.old) }
-    ensures over { (calls : Takes) → TakerReady hand.old machine.old calls → is_taking machine.old ≡ true → TakerOver hand.new machine.new calls }
-    ensures answered { AreAnswered hand.old hand.new (O.answers oracle.old) (O.answers oracle.new) }
+fn finish<'a, O: Oracle>(stepper: &mut Stepper<'a>, machine: &mut Consumer, oracle: &mut O)
+    requires ready { (calls : Takes) × TakerReady stepper.old machine.old calls }
+    ensures same { IsSameEnd stepper.old stepper.new }
+    ensures rests { is_taking machine.old ≡ false → (machine.new ≡ machine.old) × (stepper.new ≡ stepper.old) }
+    ensures over { (calls : Takes) → TakerReady stepper.old machine.old calls → is_taking machine.old ≡ true → TakerOver stepper.new machine.new calls }
+    ensures answered { AreAnswered stepper.old stepper.new (O.answers oracle.old) (O.answers oracle.new) }
 {
     laws_below();
     'accesses: loop {
-        finish_scan(hand, machine, oracle);
-        read_word(hand, machine, oracle);
-        write_count(hand, machine, oracle);
+        finish_scan(stepper, machine, oracle);
+        read_word(stepper, machine, oracle);
+        write_count(stepper, machine, oracle);
         let Some(access) = machine.next() else {
             return;
         };
         let _expects = machine.expects_one();
-        let ring = hand.ring.again();
-        let answer = hand.make(&ring, access, oracle);
+        let ring = stepper.ring.again();
+        let answer = stepper.make(&ring, access, oracle);
         machine.feed(answer);
     }
 }
@@ -214,7 +214,7 @@ impl<'a> TakeCore<'a> {
         ensures shape { result ≡ self.now.end.ring.shape }
         ensures lawful { StandsAs C self.now.end }
     {
-        self.hand.ring.shape()
+        self.stepper.ring.shape()
     }
 
     // One step of a take, which begins where none is under way. The reply comes with the last step. Once a
@@ -231,7 +231,7 @@ impl<'a> TakeCore<'a> {
     {
         laws_below();
         begin_take(&mut self.machine);
-        advance(&mut self.hand, &mut self.machine, oracle);
+        advance(&mut self.stepper, &mut self.machine, oracle);
         self.steps = steps_behind(self.steps, &self.machine);
         self.machine.reply()
     }
@@ -248,7 +248,7 @@ impl<'a> TakeCore<'a> {
         ensures answered { AreAnswered self.old.end self.new.end (O.answers oracle.old) (O.answers oracle.new) }
     {
         begin_take(&mut self.machine);
-        finish(&mut self.hand, &mut self.machine, oracle);
+        finish(&mut self.stepper, &mut self.machine, oracle);
         match self.machine.reply() {
             Some(reply) => reply,
             None => unreachable!(),

@@ -29,7 +29,7 @@ pub struct View {
     /// What the putter knew at the last meeting.
     pub known: LinkedList<Event>,
     /// What the taker knew at the last meeting.
-    pub also: LinkedList<Event>,
+    pub known_by_taker: LinkedList<Event>,
     /// The first load of the read that is open.
     pub first: u64,
     /// What the loads of each read found that has ended since the ends were made or last met.
@@ -56,7 +56,7 @@ impl TableRule<(), View, Shape> for FlickerRule {
 }
 
 // What a step adds to the list of its seat.
-pub trait Note {
+pub trait AddedEvent {
     ghost use Rattle.std.specs.Prelude.{ℕ};
     ghost use Rattle.bits_core.specs.declared.shapes.Shape.{Shape};
     ghost use Rattle.bits_core.specs.declared.events.Event.{Event};
@@ -67,7 +67,7 @@ pub trait Note {
     ghost event: { ℕ → Event };
 }
 
-impl Note for Brand {
+impl AddedEvent for Brand {
     ghost use Rattle.ring_run.specs.Rule.{no_event};
     ghost use Rattle.ring_run.specs.Words.{no_shape};
 
@@ -81,7 +81,7 @@ pub struct Adds<N> {
     note: PhantomData<N>,
 }
 
-impl<N: Note> Play<(), View> for Adds<N> {
+impl<N: AddedEvent> Play<(), View> for Adds<N> {
     ghost use Rattle.ring_run.specs.Rule.{Added};
 
     ghost then = { λ _. Added N.shape N.event };
@@ -92,7 +92,7 @@ pub struct Learns<N> {
     note: PhantomData<N>,
 }
 
-impl<N: Note> Play<(), View> for Learns<N> {
+impl<N: AddedEvent> Play<(), View> for Learns<N> {
     ghost use Rattle.ring_run.specs.Rule.{Learned};
 
     ghost then = { λ _ m _. Learned N.shape m };
@@ -103,7 +103,7 @@ pub struct Finds<N> {
     note: PhantomData<N>,
 }
 
-impl<N: Note> Play<(), View> for Finds<N> {
+impl<N: AddedEvent> Play<(), View> for Finds<N> {
     ghost use Rattle.ring_run.specs.Rule.{KeepsFlickerRule, IsWordFound};
 
     ghost then = { λ step _ n _. IsWordFound (KeepsFlickerRule N.shape) step.word n };

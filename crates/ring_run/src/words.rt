@@ -8,7 +8,7 @@ ghost use Rattle.ring_run.specs.Words.{word_place};
 
 use crate::below::laws_below;
 use crate::layout::place_of;
-use crate::views::{Adds, Both, Cut, Finds, FlickerRule, Learns, Note, View};
+use crate::views::{AddedEvent, Adds, Both, Cut, Finds, FlickerRule, Learns, View};
 use atomic_table::{Seat, Shared};
 use bits_core::{Bit, Shape, Side};
 use std::marker::{Brand, Model};
@@ -71,7 +71,7 @@ impl<'a> Words<'a> {
     }
 
     // A load. `side` and `about` are for the proof.
-    pub(crate) fn load_noted<N: Note, T>(
+    pub(crate) fn load_noted<N: AddedEvent, T>(
         &self,
         seat: &mut Seat<(), View>,
         bit: Bit,
@@ -89,7 +89,7 @@ impl<'a> Words<'a> {
 
     // The same at the word of the bit.
     #[inline(always)]
-    pub(crate) fn load_at<N: Note, T>(
+    pub(crate) fn load_at<N: AddedEvent, T>(
         &self,
         seat: &mut Seat<(), View>,
         word: usize,
@@ -107,7 +107,7 @@ impl<'a> Words<'a> {
     }
 
     // A store.
-    pub(crate) fn store_noted<N: Note, T>(
+    pub(crate) fn store_noted<N: AddedEvent, T>(
         &self,
         seat: &mut Seat<(), View>,
         bit: Bit,
@@ -126,7 +126,7 @@ impl<'a> Words<'a> {
 
     // The same at the word of the bit.
     #[inline(always)]
-    pub(crate) fn store_at<N: Note, T>(
+    pub(crate) fn store_at<N: AddedEvent, T>(
         &self,
         seat: &mut Seat<(), View>,
         word: usize,
@@ -145,7 +145,7 @@ impl<'a> Words<'a> {
     }
 
     // A load by no end.
-    pub(crate) fn find<N: Note>(&self, word: usize) -> u64
+    pub(crate) fn find<N: AddedEvent>(&self, word: usize) -> u64
         requires own { word < word_count self.now.shape }
         requires shape { N.shape ≡ self.now.shape }
         ensures { IsWordFound (KeepsFlickerRule self.now.shape) word result }
@@ -175,7 +175,7 @@ impl<'a> Words<'a> {
     }
 
     // The joint seat learns the history.
-    pub(crate) fn learn<N: Note>(&self, seat: &mut Seat<(), View>)
+    pub(crate) fn learn<N: AddedEvent>(&self, seat: &mut Seat<(), View>)
         requires own { (seat.old.table_id ≡ self.now.id) × (seat.old.me.0.puts ≡ true) × (seat.old.me.0.takes ≡ true) }
         requires idle { IsIdle P seat.old.me.0.put × IsIdle C seat.old.me.0.taken }
         requires shape { N.shape ≡ self.now.shape }

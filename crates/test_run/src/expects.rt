@@ -1,7 +1,7 @@
 //! What relays come to.
 ghost use Rattle.std.specs.Prelude.{◌≡◌, None, false, []};
 ghost use Rattle.bits_core.specs.Shape.{AllFit};
-ghost use Rattle.ring_run.specs.Hands.{IsSameEnd};
+ghost use Rattle.ring_run.specs.Steppers.{IsSameEnd};
 
 use bits_core::{Flip, Oracle, Shape};
 use ring_run::{

@@ -1,6 +1,6 @@
 ghost use Rattle.std.specs.Prelude.{◌≡◌, ◌∷◌, [], IfOk};
 ghost use Rattle.bits_core.specs.Shape.{AllFit};
-ghost use Rattle.ring_run.specs.Hands.{IsSameEnd};
+ghost use Rattle.ring_run.specs.Steppers.{IsSameEnd};
 
 use crate::expects::{ITEMS, Kind, Numbers, ONE, expect_relay};
 use bits_core::{Flip, Shape};

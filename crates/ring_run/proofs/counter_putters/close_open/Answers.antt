@@ -11,11 +11,11 @@ use Rattle.ring_run.proofs.CounterPutterCalls.{same_shape}
 use Rattle.ring_run.proofs.counter_putters.close_open.Goals as goal
 
 pub write_close-requires-clause-program : goal.write_close-requires-clause-program
-write_close-requires-clause-program c = to_close c.laws_below.ensures c.args.hand.now.ring.shape c.args.hand.now.list c.requires.at.0 c.requires.at.2 c.requires.at.3
+write_close-requires-clause-program c = to_close c.laws_below.ensures c.args.stepper.now.ring.shape c.args.stepper.now.list c.requires.at.0 c.requires.at.2 c.requires.at.3
 
 pub returns-clause-has : goal.returns-clause-has
 returns-clause-has c =
-    let a = c.args.hand.now in
+    let a = c.args.stepper.now in
     let b = c.write_close.new.self in
     let g = c.write_close.ensures in
     λ calls has opened. subst (λ (z : Shape × List Event). HasPuts z.0 z.1 (and_close calls))

@@ -7,12 +7,12 @@ use Rattle.ring_run.proofs.CounterPutterCalls.{Fitting, same_shape, to_scan, ful
 use Rattle.ring_run.proofs.counter_putters.put_open.Goals as goal
 
 pub scan-seen-requires : goal.scan-seen-requires
-scan-seen-requires c = record { program = to_scan c.laws_below.ensures c.args.hand.now c.args.count c.args.cell c.args.items.now c.requires.at.0 c.requires.at.1 c.requires.at.2 c.requires.batch }
+scan-seen-requires c = record { program = to_scan c.laws_below.ensures c.args.stepper.now c.args.count c.args.cell c.args.items.now c.requires.at.0 c.requires.at.1 c.requires.at.2 c.requires.batch }
 
 pub returns-then-most-eq0 : goal.returns-then-most-eq0
 returns-then-most-eq0 c =
-    let a = c.args.hand.now in
-    let shape : c.shape-shape.result ≡ a.ring.shape = c.shape-shape.ensures ∙ ap (λ (e : RingEnd). e.ring.shape) c.hand.view_is in
+    let a = c.args.stepper.now in
+    let shape : c.shape-shape.result ≡ a.ring.shape = c.shape-shape.ensures ∙ ap (λ (e : RingEnd). e.ring.shape) c.stepper.view_is in
     let e = c.fitting-most.ensures in
     let fit : Fitting a.ring.shape c.args.count c.scan-seen.result c.args.items.now c.fitting-most.result =
     subst (λ (s : Shape). Fitting s c.args.count c.scan-seen.result c.args.items.now c.fitting-most.result) shape (record { few = e.few; room = e.room; all = e.all }) in
@@ -20,12 +20,12 @@ returns-then-most-eq0 c =
 
 pub write_items-requires-clause-fit : goal.write_items-requires-clause-fit
 write_items-requires-clause-fit c =
-    subst (λ (s : Shape). AllFit s (take c.fitting-most.result c.args.items.now)) (sym (same_shape c.args.hand.now c.scan-seen.new.self c.scan-seen.ensures.grows.same)) (first_fit c.args.hand.now.ring.shape c.fitting-most.result c.args.items.now c.requires.batch.fit)
+    subst (λ (s : Shape). AllFit s (take c.fitting-most.result c.args.items.now)) (sym (same_shape c.args.stepper.now c.scan-seen.new.self c.scan-seen.ensures.grows.same)) (first_fit c.args.stepper.now.ring.shape c.fitting-most.result c.args.items.now c.requires.batch.fit)
 
 pub write_items-requires-clause-program : goal.write_items-requires-clause-program
 write_items-requires-clause-program c =
-    let a = c.args.hand.now in
-    let shape : c.shape-shape.result ≡ a.ring.shape = c.shape-shape.ensures ∙ ap (λ (e : RingEnd). e.ring.shape) c.hand.view_is in
+    let a = c.args.stepper.now in
+    let shape : c.shape-shape.result ≡ a.ring.shape = c.shape-shape.ensures ∙ ap (λ (e : RingEnd). e.ring.shape) c.stepper.view_is in
     let e = c.fitting-most.ensures in
     let fit : Fitting a.ring.shape c.args.count c.scan-seen.result c.args.items.now c.fitting-most.result =
     subst (λ (s : Shape). Fitting s c.args.count c.scan-seen.result c.args.items.now c.fitting-most.result) shape (record { few = e.few; room = e.room; all = e.all }) in
@@ -33,8 +33,8 @@ write_items-requires-clause-program c =
 
 pub write_count-requires-clause-program : goal.write_count-requires-clause-program
 write_count-requires-clause-program c =
-    let a = c.args.hand.now in
-    let shape : c.shape-shape.result ≡ a.ring.shape = c.shape-shape.ensures ∙ ap (λ (e : RingEnd). e.ring.shape) c.hand.view_is in
+    let a = c.args.stepper.now in
+    let shape : c.shape-shape.result ≡ a.ring.shape = c.shape-shape.ensures ∙ ap (λ (e : RingEnd). e.ring.shape) c.stepper.view_is in
     let e = c.fitting-most.ensures in
     let fit : Fitting a.ring.shape c.args.count c.scan-seen.result c.args.items.now c.fitting-most.result =
     subst (λ (s : Shape). Fitting s c.args.count c.scan-seen.result c.args.items.now c.fitting-most.result) shape (record { few = e.few; room = e.room; all = e.all }) in
@@ -43,8 +43,8 @@ write_count-requires-clause-program c =
 
 pub returns : goal.returns
 returns c =
-    let a = c.args.hand.now in
-    let shape : c.shape-shape.result ≡ a.ring.shape = c.shape-shape.ensures ∙ ap (λ (e : RingEnd). e.ring.shape) c.hand.view_is in
+    let a = c.args.stepper.now in
+    let shape : c.shape-shape.result ≡ a.ring.shape = c.shape-shape.ensures ∙ ap (λ (e : RingEnd). e.ring.shape) c.stepper.view_is in
     let e = c.fitting-most.ensures in
     let fit : Fitting a.ring.shape c.args.count c.scan-seen.result c.args.items.now c.fitting-most.result =
     subst (λ (s : Shape). Fitting s c.args.count c.scan-seen.result c.args.items.now c.fitting-most.result) shape (record { few = e.few; room = e.room; all = e.all }) in

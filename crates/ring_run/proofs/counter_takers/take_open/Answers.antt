@@ -4,9 +4,9 @@ pub fetch-requires : goal.fetch-requires
 fetch-requires c =
     let r = c.requires.at in
     let found = c.in-None.ensures r.0 r.1 r.2 in
-    record { at = (c.args.hand.now, r.0, record { at = r.1; opened = r.2; look = found.0; found = found.1 }) }
+    record { at = (c.args.stepper.now, r.0, record { at = r.1; opened = r.2; look = found.0; found = found.1 }) }
 
 pub returns-in-None : goal.returns-in-None
 returns-in-None c = λ calls at opened.
     let found = c.in-None.ensures calls at opened in
-    c.fetch.ensures c.args.hand.now calls (record { at = at; opened = opened; look = found.0; found = found.1 })
+    c.fetch.ensures c.args.stepper.now calls (record { at = at; opened = opened; look = found.0; found = found.1 })

@@ -9,7 +9,7 @@ use Rattle.ring_run.proofs.putters.write_count.Goals as goal
 
 pub make-answer-requires-clause-right : goal.make-answer-requires-clause-right
 make-answer-requires-clause-right g c =
-    let e = c.writes.hand in
+    let e = c.writes.stepper in
     let n = c.writes.machine in
     let rests = c.writes.invariant.4 in
     let (calls, one, was) = c.requires.goes (λ none. busy_at n (Put n.items) (at_call n Counting (Put n.items) (c.is_counting.ensures.0 c.writes-test.true) refl) (ap call_of (rests none).0 ∙ none)) in
@@ -21,7 +21,7 @@ make-answer-requires-clause-right g c =
 
 pub make-answer-requires-clause-can : goal.make-answer-requires-clause-can
 make-answer-requires-clause-can g c =
-    let e = c.writes.hand in
+    let e = c.writes.stepper in
     let n = c.writes.machine in
     let rests = c.writes.invariant.4 in
     let (calls, one, was) = c.requires.goes (λ none. busy_at n (Put n.items) (at_call n Counting (Put n.items) (c.is_counting.ensures.0 c.writes-test.true) refl) (ap call_of (rests none).0 ∙ none)) in
@@ -38,7 +38,7 @@ writes-smaller g c =
 
 pub writes-preserved : goal.writes-preserved
 writes-preserved g c =
-    let e = c.writes.hand in
+    let e = c.writes.stepper in
     let n = c.writes.machine in
     let rests = c.writes.invariant.4 in
     let i = c.in-Some.ensures in

@@ -2,15 +2,15 @@ use Rattle.std.proofs.Common.{◌≡◌, ◌≤◌, None, length}
 use Rattle.register_core.specs.UnaryState.{due_writes}
 use Rattle.ring_core.specs.Puts.{Puts}
 use Rattle.ring_core.specs.ProducerState.{Call, call_of}
-use Rattle.ring_run.specs.Hands.{AreAnswered, IsSameEnd}
+use Rattle.ring_run.specs.Steppers.{AreAnswered, IsSameEnd}
 use Rattle.ring_run.specs.Machines.{PutterIn}
 use Rattle.ring_run.proofs.putters.write_count.Given as goal
 
 abbrev pub invariant-writes : goal.invariant-writes
 invariant-writes g l =
-    (l.ring ≡ l.hand.ring) × IsSameEnd l.fn.hand l.hand × (l.machine.batched ≡ l.fn.machine.batched) × (length l.fn.hand.list ≤ length l.hand.list) × (call_of l.fn.machine ≡ None → (l.machine ≡ l.fn.machine) × (l.hand ≡ l.fn.hand)) ×
-    ((calls : Puts) (c : Call) → PutterIn l.fn.hand l.fn.machine calls c → PutterIn l.hand l.machine calls c) ×
-    AreAnswered l.fn.hand l.hand (g.O.Oracle.answers l.fn.oracle) (g.O.Oracle.answers l.oracle)
+    (l.ring ≡ l.stepper.ring) × IsSameEnd l.fn.stepper l.stepper × (l.machine.batched ≡ l.fn.machine.batched) × (length l.fn.stepper.list ≤ length l.stepper.list) × (call_of l.fn.machine ≡ None → (l.machine ≡ l.fn.machine) × (l.stepper ≡ l.fn.stepper)) ×
+    ((calls : Puts) (c : Call) → PutterIn l.fn.stepper l.fn.machine calls c → PutterIn l.stepper l.machine calls c) ×
+    AreAnswered l.fn.stepper l.stepper (g.O.Oracle.answers l.fn.oracle) (g.O.Oracle.answers l.oracle)
 
 abbrev pub decreases-writes : goal.decreases-writes
 decreases-writes g l = length (due_writes l.machine.row)

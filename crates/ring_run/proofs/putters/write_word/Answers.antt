@@ -15,13 +15,13 @@ pub make-answer-requires-clause-right : goal.make-answer-requires-clause-right
 make-answer-requires-clause-right g c =
     let (calls, one, was) = c.requires.goes (busy_at c.args.machine.now (Put (c.args.machine.now).items) (at_call c.args.machine.now Storing (Put (c.args.machine.now).items) (c.in-Some.ensures.some.1) refl)) in
     let on = c.writes.invariant.5 calls one was in
-    right_there c.writes.hand c.writes.word calls on.made on.at c.next-access.result c.next-access.ensures.right
+    right_there c.writes.stepper c.writes.word calls on.made on.at c.next-access.result c.next-access.ensures.right
 
 pub make-answer-requires-clause-can : goal.make-answer-requires-clause-can
 make-answer-requires-clause-can g c =
     let (calls, one, was) = c.requires.goes (busy_at c.args.machine.now (Put (c.args.machine.now).items) (at_call c.args.machine.now Storing (Put (c.args.machine.now).items) (c.in-Some.ensures.some.1) refl)) in
     let n = c.next-access in
-    can_go c.laws_below.ensures c.writes.hand c.writes.word calls one (c.writes.invariant.5 calls one was) n.result n.ensures.due n.ensures.goes_on n.ensures.bounded false
+    can_go c.laws_below.ensures c.writes.stepper c.writes.word calls one (c.writes.invariant.5 calls one was) n.result n.ensures.due n.ensures.goes_on n.ensures.bounded false
     (λ (t : false ≡ true). absurd (true≢false (sym t)), n.ensures.not_last)
     (λ k made stands t. absurd (true≢false (sym t)))
 
@@ -44,14 +44,14 @@ returns-then-last-clause-goes g c calls one was =
     let moved : ProducerHasMoved word new calls (on.made ++ answered n.result m.result ∷ []) =
     subst (λ (p : ProducerState). ProducerHasMoved p new calls (on.made ++ answered n.result m.result ∷ [])) state
     (c.feed_word.ensures.stands calls on.made n.result (subst (λ (p : ProducerState). ProducerStands p calls on.made) (sym state) on.at.stands) (ap due_put state ∙ n.ensures.due)) in
-    went c.laws_below.ensures c.writes.hand word calls one on n.result n.ensures.due n.ensures.goes_on n.ensures.bounded false
+    went c.laws_below.ensures c.writes.stepper word calls one on n.result n.ensures.due n.ensures.goes_on n.ensures.bounded false
     (λ (t : false ≡ true). absurd (true≢false (sym t)), n.ensures.not_last)
     (λ k made stands t. absurd (true≢false (sym t))) m.new.self m.result m.ensures.made new
     (c.feed_word.ensures.shape ∙ ap (λ (p : ProducerState). p.shape) state) moved
 
 pub writes-preserved : goal.writes-preserved
 writes-preserved g c =
-    let e = c.writes.hand in
+    let e = c.writes.stepper in
     let word = c.writes.word in
     let n = c.next-access in
     let m = c.make-answer in
@@ -80,10 +80,10 @@ returns-then-last-clause-answered g c = answered_then _ _ _ _ _ _ c.writes.invar
 
 pub writes-init : goal.writes-init
 writes-init g c =
-    let e = c.args.hand.now in
+    let e = c.args.stepper.now in
     let m = c.args.machine.now in
     let some = c.in-Some.ensures.some in (
-      c.again-ring.ensures ∙ ap (λ (x : RingEnd). x.ring) c.hand.view_is,
+      c.again-ring.ensures ∙ ap (λ (x : RingEnd). x.ring) c.stepper.view_is,
       record { ring = refl; side = refl; known = refl },
       refl,
       some.0 ∙ ap (λ (x : ProducerState). record m { word = x.word }) (sym some.0),

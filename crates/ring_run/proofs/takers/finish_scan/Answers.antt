@@ -14,14 +14,14 @@ pub make-answer-requires-clause-right : goal.make-answer-requires-clause-right
 make-answer-requires-clause-right g c =
     let (calls, was) = c.requires.goes c.in-Some.ensures.some.1 in
     let on = c.reads.invariant.5 calls was in
-    right_there c.reads.hand c.reads.scan calls on.made on.at c.next-access.result c.next-access.ensures.right
+    right_there c.reads.stepper c.reads.scan calls on.made on.at c.next-access.result c.next-access.ensures.right
 
 pub make-answer-requires-clause-can : goal.make-answer-requires-clause-can
 make-answer-requires-clause-can g c =
     let (calls, was) = c.requires.goes c.in-Some.ensures.some.1 in
     let n = c.next-access in
     let x = c.expects_one-expects in
-    can_go c.laws_below.ensures c.reads.hand c.reads.scan calls (c.reads.invariant.5 calls was) n.result n.ensures.due n.ensures.goes_on n.ensures.bounded x.result x.ensures.due x.ensures.stands
+    can_go c.laws_below.ensures c.reads.stepper c.reads.scan calls (c.reads.invariant.5 calls was) n.result n.ensures.due n.ensures.goes_on n.ensures.bounded x.result x.ensures.due x.ensures.stands
 
 pub returns-then-answer-clause-goes : goal.returns-then-answer-clause-goes
 returns-then-answer-clause-goes g c calls was =
@@ -35,7 +35,7 @@ returns-then-answer-clause-goes g c calls was =
     let moved : ConsumerHasMoved scan new calls (on.made ++ answered n.result true ∷ []) =
     subst (λ (p : ConsumerState). ConsumerHasMoved p new calls (on.made ++ answered n.result true ∷ [])) state
     (c.feed.ensures.stands calls on.made n.result (subst (λ (p : ConsumerState). ConsumerStands p calls on.made) (sym state) on.at.stands) (ap due_take state ∙ n.ensures.due)) in
-    went c.laws_below.ensures c.reads.hand scan calls on n.result n.ensures.due n.ensures.goes_on n.ensures.bounded x.result x.ensures.due x.ensures.stands m.new.self m.result m.ensures.made new
+    went c.laws_below.ensures c.reads.stepper scan calls on n.result n.ensures.due n.ensures.goes_on n.ensures.bounded x.result x.ensures.due x.ensures.stands m.new.self m.result m.ensures.made new
     (c.feed.ensures.shape ∙ ap (λ (p : ConsumerState). p.shape) state)
     (subst (λ (v : Bool). ConsumerHasMoved scan new calls (on.made ++ answered n.result v ∷ [])) (sym c.if-answer.true) moved)
 
@@ -48,13 +48,13 @@ zero-requires g c =
     record {
       not_last = λ last.
           sym c.if-answer.false ∙
-          may_feed c.laws_below.ensures c.reads.hand c.reads.scan calls (c.reads.invariant.5 calls was) n.result n.ensures.due n.ensures.goes_on n.ensures.bounded x.result x.ensures.due x.ensures.stands
+          may_feed c.laws_below.ensures c.reads.stepper c.reads.scan calls (c.reads.invariant.5 calls was) n.result n.ensures.due n.ensures.goes_on n.ensures.bounded x.result x.ensures.due x.ensures.stands
           m.new.self m.result m.ensures.made last;
     }
 
 pub reads-preserved : goal.reads-preserved
 reads-preserved g c =
-    let e = c.reads.hand in
+    let e = c.reads.stepper in
     let scan = c.reads.scan in
     let n = c.next-access in
     let x = c.expects_one-expects in
@@ -83,10 +83,10 @@ returns-then-answer-clause-answered g c = answered_then _ _ _ _ _ _ c.reads.inva
 
 pub reads-init : goal.reads-init
 reads-init g c =
-    let e = c.args.hand.now in
+    let e = c.args.stepper.now in
     let m = c.args.machine.now in
     let some = c.in-Some.ensures.some in (
-      c.again-ring.ensures ∙ ap (λ (x : RingEnd). x.ring) c.hand.view_is,
+      c.again-ring.ensures ∙ ap (λ (x : RingEnd). x.ring) c.stepper.view_is,
       record { ring = refl; side = refl; known = refl },
       refl,
       some.0 ∙ ap (λ (x : ConsumerState). record m { scan = x.scan }) (sym some.0),

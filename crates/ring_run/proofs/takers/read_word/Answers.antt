@@ -15,13 +15,13 @@ pub make-answer-requires-clause-right : goal.make-answer-requires-clause-right
 make-answer-requires-clause-right g c =
     let (calls, was) = c.requires.goes (taking_at c.args.machine.now Loading (c.in-Some.ensures.some.1) refl) in
     let on = c.reads.invariant.5 calls was in
-    right_there c.reads.hand c.reads.word calls on.made on.at c.next-access.result c.next-access.ensures.right
+    right_there c.reads.stepper c.reads.word calls on.made on.at c.next-access.result c.next-access.ensures.right
 
 pub make-answer-requires-clause-can : goal.make-answer-requires-clause-can
 make-answer-requires-clause-can g c =
     let (calls, was) = c.requires.goes (taking_at c.args.machine.now Loading (c.in-Some.ensures.some.1) refl) in
     let n = c.next-access in
-    can_go c.laws_below.ensures c.reads.hand c.reads.word calls (c.reads.invariant.5 calls was) n.result n.ensures.due n.ensures.goes_on n.ensures.bounded false
+    can_go c.laws_below.ensures c.reads.stepper c.reads.word calls (c.reads.invariant.5 calls was) n.result n.ensures.due n.ensures.goes_on n.ensures.bounded false
     (λ (t : false ≡ true). absurd (true≢false (sym t)), n.ensures.not_last)
     (λ k made stands t. absurd (true≢false (sym t)))
 
@@ -39,14 +39,14 @@ returns-then-last-clause-goes g c calls was =
     let moved : ConsumerHasMoved word new calls (on.made ++ answered n.result m.result ∷ []) =
     subst (λ (p : ConsumerState). ConsumerHasMoved p new calls (on.made ++ answered n.result m.result ∷ [])) state
     (c.feed_word.ensures.stands calls on.made n.result (subst (λ (p : ConsumerState). ConsumerStands p calls on.made) (sym state) on.at.stands) (ap due_take state ∙ n.ensures.due)) in
-    went c.laws_below.ensures c.reads.hand word calls on n.result n.ensures.due n.ensures.goes_on n.ensures.bounded false
+    went c.laws_below.ensures c.reads.stepper word calls on n.result n.ensures.due n.ensures.goes_on n.ensures.bounded false
     (λ (t : false ≡ true). absurd (true≢false (sym t)), n.ensures.not_last)
     (λ k made stands t. absurd (true≢false (sym t))) m.new.self m.result m.ensures.made new
     (c.feed_word.ensures.shape ∙ ap (λ (p : ConsumerState). p.shape) state) moved
 
 pub reads-preserved : goal.reads-preserved
 reads-preserved g c =
-    let e = c.reads.hand in
+    let e = c.reads.stepper in
     let word = c.reads.word in
     let n = c.next-access in
     let m = c.make-answer in
@@ -75,10 +75,10 @@ returns-then-last-clause-answered g c = answered_then _ _ _ _ _ _ c.reads.invari
 
 pub reads-init : goal.reads-init
 reads-init g c =
-    let e = c.args.hand.now in
+    let e = c.args.stepper.now in
     let m = c.args.machine.now in
     let some = c.in-Some.ensures.some in (
-      c.again-ring.ensures ∙ ap (λ (x : RingEnd). x.ring) c.hand.view_is,
+      c.again-ring.ensures ∙ ap (λ (x : RingEnd). x.ring) c.stepper.view_is,
       record { ring = refl; side = refl; known = refl },
       refl,
       some.0 ∙ ap (λ (x : ConsumerState). record m { word = x.word }) (sym some.0),

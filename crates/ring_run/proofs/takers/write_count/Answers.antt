@@ -13,7 +13,7 @@ not_false false h = absurd (h refl)
 
 pub make-answer-requires-clause-right : goal.make-answer-requires-clause-right
 make-answer-requires-clause-right g c =
-    let e = c.writes.hand in
+    let e = c.writes.stepper in
     let n = c.writes.machine in
     let rests = c.writes.invariant.3 in
     let (calls, was) = c.requires.goes (not_false (is_taking c.args.machine.now) (λ none. true≢false (sym (taking_at n Counting (c.is_counting.ensures.0 c.writes-test.true) refl) ∙ ap is_taking (rests none).0 ∙ none))) in
@@ -25,7 +25,7 @@ make-answer-requires-clause-right g c =
 
 pub make-answer-requires-clause-can : goal.make-answer-requires-clause-can
 make-answer-requires-clause-can g c =
-    let e = c.writes.hand in
+    let e = c.writes.stepper in
     let n = c.writes.machine in
     let rests = c.writes.invariant.3 in
     let (calls, was) = c.requires.goes (not_false (is_taking c.args.machine.now) (λ none. true≢false (sym (taking_at n Counting (c.is_counting.ensures.0 c.writes-test.true) refl) ∙ ap is_taking (rests none).0 ∙ none))) in
@@ -42,7 +42,7 @@ writes-smaller g c =
 
 pub writes-preserved : goal.writes-preserved
 writes-preserved g c =
-    let e = c.writes.hand in
+    let e = c.writes.stepper in
     let n = c.writes.machine in
     let rests = c.writes.invariant.3 in
     let i = c.in-Some.ensures in

@@ -11,7 +11,7 @@ pub load_new_seat-found-requires : goal.load_new_seat-found-requires
 load_new_seat-found-requires g c =
     let t = c.self.inside.shared.now in
     let shape : c.self.inside.shape ≡ c.args.self.now.shape = ap (λ (r : Ring). r.shape) c.self.view_is in
-    let key : t.key ≡ g.N.Note.shape = c.self.invariant.0 ∙ (shape ∙ sym c.requires.shape) in (
+    let key : t.key ≡ g.N.AddedEvent.shape = c.self.invariant.0 ∙ (shape ∙ sym c.requires.shape) in (
       subst (λ (n : ℕ). c.args.word < n) (sym (c.self.invariant.1 ∙ ap words_of shape)) c.requires.own,
       subst (λ (z : Shape). Enters (KeptWords t.key) t.table_id.slots c.args.word (λ n _. IsWordFound (KeptWords z) c.args.word n)) key (finds words_of ShowsWords t.key t.table_id.slots c.args.word),
     )

@@ -14,6 +14,6 @@ load-requires g c =
     let words = sym (c.self.invariant.1 ∙ ap words_of shape) in (
       c.requires.own.0 ∙ sym (ap (λ (r : Ring). r.id) c.self.view_is),
       subst (λ (n : ℕ). c.args.word < n) words c.requires.own.1,
-      subst (λ (z : Shape). Allows (KeptWords z) t.table_id.slots c.args.seat.now.id c.args.seat.now.me c.args.word (λ n. n) (AddedAll g.N.Block.shape g.N.Block.side g.N.Block.made g.N.Block.tells c.args.seat.now.me)) key
+      subst (λ (z : Shape). Allows (KeptWords z) t.table_id.slots c.args.seat.now.id c.args.seat.now.me c.args.word (λ n. n) (AddedAll g.N.AddedEvents.shape g.N.AddedEvents.side g.N.AddedEvents.made g.N.AddedEvents.tells c.args.seat.now.me)) key
           (c.requires.rule t.table_id.slots),
     )

@@ -1,7 +1,7 @@
 use Rattle.std.proofs.Common.{◌≡◌, None, [], ◌∷◌, refl, ap, sym, subst, ◌∙◌}
 use Rattle.ring_core.specs.ProducerState.{Put, call_of}
 use Rattle.ring_run.specs.Ends.{PutterState, HasPut, HasPutAll}
-use Rattle.ring_run.specs.Hands.{IsSameEnd, AreAnswered}
+use Rattle.ring_run.specs.Steppers.{IsSameEnd, AreAnswered}
 use Rattle.ring_run.specs.Machines.{without_last}
 use Rattle.ring_run.proofs.PutterCalls.{rest_marked}
 use Rattle.ring_run.proofs.PutterWhole.{ready, idle_after, is_putter, lawful_after, item_told, put_ended, some_item}
@@ -13,7 +13,7 @@ finish-requires g c =
     let i = c.self.invariant.0 in
     let idle : call_of p.machine ≡ None = ap (λ (s : PutterState (Unit {0})). s.call) c.self.view_is ∙ c.requires.idle in
     let begins = c.begin_put.ensures.begins i.calls i.made i.at.stands in
-    record { ready = (i.calls, ready p.hand p.machine i.calls i.made i.at idle (Put (c.args.item ∷ [])) c.begin_put.new.machine begins) }
+    record { ready = (i.calls, ready p.stepper p.machine i.calls i.made i.at idle (Put (c.args.item ∷ [])) c.begin_put.new.machine begins) }
 
 pub invariant_of-self : goal.invariant_of-self
 invariant_of-self g c =
@@ -21,8 +21,8 @@ invariant_of-self g c =
     let i = c.self.invariant.0 in
     let idle : call_of p.machine ≡ None = ap (λ (s : PutterState (Unit {0})). s.call) c.self.view_is ∙ c.requires.idle in
     let begins = c.begin_put.ensures.begins i.calls i.made i.at.stands in
-    let e = c.finish.new.hand in
-    (is_putter p.hand p.machine i.calls i.made i.at idle (Put (c.args.item ∷ [])) c.begin_put.new.machine begins c.finish.new.hand c.finish.new.machine c.finish.ensures.same c.finish.ensures.rests (c.finish.ensures.over i.calls) (without_last p.steps e.list), rest_marked p.hand.list e.list p.machine.shape c.finish.new.machine.shape p.steps (call_of p.machine) (call_of c.finish.new.machine) idle c.self.invariant.1)
+    let e = c.finish.new.stepper in
+    (is_putter p.stepper p.machine i.calls i.made i.at idle (Put (c.args.item ∷ [])) c.begin_put.new.machine begins c.finish.new.stepper c.finish.new.machine c.finish.ensures.same c.finish.ensures.rests (c.finish.ensures.over i.calls) (without_last p.steps e.list), rest_marked p.stepper.list e.list p.machine.shape c.finish.new.machine.shape p.steps (call_of p.machine) (call_of c.finish.new.machine) idle c.self.invariant.1)
 
 pub unreachable-requires : goal.unreachable-requires
 unreachable-requires g c =
@@ -30,7 +30,7 @@ unreachable-requires g c =
     let i = c.self.invariant.0 in
     let idle : call_of p.machine ≡ None = ap (λ (s : PutterState (Unit {0})). s.call) c.self.view_is ∙ c.requires.idle in
     let begins = c.begin_put.ensures.begins i.calls i.made i.at.stands in
-    let (x, is, has) = item_told c.finish.new.machine (HasPutAll c.finish.new.hand.ring.shape (c.args.item ∷ []) p.hand.list c.finish.new.hand.list) (put_ended p.hand p.machine i.calls i.made i.at idle (Put (c.args.item ∷ [])) c.begin_put.new.machine begins c.finish.new.hand c.finish.new.machine c.finish.ensures.same c.finish.ensures.rests (c.finish.ensures.over i.calls) (c.args.item ∷ []) refl) (c.finish.ensures.kind ∙ c.begin_put.ensures.kind) c.reply.result c.reply.ensures.state in
+    let (x, is, has) = item_told c.finish.new.machine (HasPutAll c.finish.new.stepper.ring.shape (c.args.item ∷ []) p.stepper.list c.finish.new.stepper.list) (put_ended p.stepper p.machine i.calls i.made i.at idle (Put (c.args.item ∷ [])) c.begin_put.new.machine begins c.finish.new.stepper c.finish.new.machine c.finish.ensures.same c.finish.ensures.rests (c.finish.ensures.over i.calls) (c.args.item ∷ []) refl) (c.finish.ensures.kind ∙ c.begin_put.ensures.kind) c.reply.result c.reply.ensures.state in
     some_item x (sym is ∙ c.in-None.is)
 
 pub returns-clause-same : goal.returns-clause-same
@@ -39,7 +39,7 @@ returns-clause-same g c =
     let i = c.self.invariant.0 in
     let idle : call_of p.machine ≡ None = ap (λ (s : PutterState (Unit {0})). s.call) c.self.view_is ∙ c.requires.idle in
     let begins = c.begin_put.ensures.begins i.calls i.made i.at.stands in
-    subst (λ (s : PutterState (Unit {0})). IsSameEnd s.end c.finish.new.hand) c.self.view_is c.finish.ensures.same
+    subst (λ (s : PutterState (Unit {0})). IsSameEnd s.end c.finish.new.stepper) c.self.view_is c.finish.ensures.same
 
 pub returns-clause-lawful : goal.returns-clause-lawful
 returns-clause-lawful g c =
@@ -47,7 +47,7 @@ returns-clause-lawful g c =
     let i = c.self.invariant.0 in
     let idle : call_of p.machine ≡ None = ap (λ (s : PutterState (Unit {0})). s.call) c.self.view_is ∙ c.requires.idle in
     let begins = c.begin_put.ensures.begins i.calls i.made i.at.stands in
-    lawful_after p.hand p.machine i.calls i.made i.at idle (Put (c.args.item ∷ [])) c.begin_put.new.machine begins c.finish.new.hand c.finish.new.machine c.finish.ensures.same c.finish.ensures.rests (c.finish.ensures.over i.calls)
+    lawful_after p.stepper p.machine i.calls i.made i.at idle (Put (c.args.item ∷ [])) c.begin_put.new.machine begins c.finish.new.stepper c.finish.new.machine c.finish.ensures.same c.finish.ensures.rests (c.finish.ensures.over i.calls)
 
 pub returns-clause-idle : goal.returns-clause-idle
 returns-clause-idle g c =
@@ -55,7 +55,7 @@ returns-clause-idle g c =
     let i = c.self.invariant.0 in
     let idle : call_of p.machine ≡ None = ap (λ (s : PutterState (Unit {0})). s.call) c.self.view_is ∙ c.requires.idle in
     let begins = c.begin_put.ensures.begins i.calls i.made i.at.stands in
-    idle_after p.hand p.machine i.calls i.made i.at idle (Put (c.args.item ∷ [])) c.begin_put.new.machine begins c.finish.new.hand c.finish.new.machine c.finish.ensures.same c.finish.ensures.rests (c.finish.ensures.over i.calls)
+    idle_after p.stepper p.machine i.calls i.made i.at idle (Put (c.args.item ∷ [])) c.begin_put.new.machine begins c.finish.new.stepper c.finish.new.machine c.finish.ensures.same c.finish.ensures.rests (c.finish.ensures.over i.calls)
 
 pub returns-clause-phrase : goal.returns-clause-phrase
 returns-clause-phrase g c =
@@ -63,8 +63,8 @@ returns-clause-phrase g c =
     let i = c.self.invariant.0 in
     let idle : call_of p.machine ≡ None = ap (λ (s : PutterState (Unit {0})). s.call) c.self.view_is ∙ c.requires.idle in
     let begins = c.begin_put.ensures.begins i.calls i.made i.at.stands in
-    let (x, is, has) = item_told c.finish.new.machine (HasPutAll c.finish.new.hand.ring.shape (c.args.item ∷ []) p.hand.list c.finish.new.hand.list) (put_ended p.hand p.machine i.calls i.made i.at idle (Put (c.args.item ∷ [])) c.begin_put.new.machine begins c.finish.new.hand c.finish.new.machine c.finish.ensures.same c.finish.ensures.rests (c.finish.ensures.over i.calls) (c.args.item ∷ []) refl) (c.finish.ensures.kind ∙ c.begin_put.ensures.kind) c.reply.result c.reply.ensures.state in
-    subst (λ (s : PutterState (Unit {0})). HasPut c.finish.new.hand.ring.shape c.args.item s.end.list c.finish.new.hand.list c.in-Some.reply) c.self.view_is (x, sym c.in-Some.is ∙ is, has)
+    let (x, is, has) = item_told c.finish.new.machine (HasPutAll c.finish.new.stepper.ring.shape (c.args.item ∷ []) p.stepper.list c.finish.new.stepper.list) (put_ended p.stepper p.machine i.calls i.made i.at idle (Put (c.args.item ∷ [])) c.begin_put.new.machine begins c.finish.new.stepper c.finish.new.machine c.finish.ensures.same c.finish.ensures.rests (c.finish.ensures.over i.calls) (c.args.item ∷ []) refl) (c.finish.ensures.kind ∙ c.begin_put.ensures.kind) c.reply.result c.reply.ensures.state in
+    subst (λ (s : PutterState (Unit {0})). HasPut c.finish.new.stepper.ring.shape c.args.item s.end.list c.finish.new.stepper.list c.in-Some.reply) c.self.view_is (x, sym c.in-Some.is ∙ is, has)
 
 pub returns-clause-answered : goal.returns-clause-answered
-returns-clause-answered g c = subst (λ (z : PutterState (Unit {0})). AreAnswered z.end c.finish.new.hand (g.O.Oracle.answers c.args.oracle.now) (g.O.Oracle.answers c.finish.new.oracle)) c.self.view_is c.finish.ensures.answered
+returns-clause-answered g c = subst (λ (z : PutterState (Unit {0})). AreAnswered z.end c.finish.new.stepper (g.O.Oracle.answers c.args.oracle.now) (g.O.Oracle.answers c.finish.new.oracle)) c.self.view_is c.finish.ensures.answered

@@ -1,6 +1,6 @@
 use Rattle.std.proofs.Common.{subst}
 use Rattle.ring_run.specs.Ends.{PutterState}
-use Rattle.ring_run.specs.Hands.{StandsAs}
+use Rattle.ring_run.specs.Steppers.{StandsAs}
 use Rattle.bits_core.specs.declared.events.Side.TheVariants.{P}
 use Rattle.ring_run.proofs.putters.PutCore.shape.Goals as goal
 

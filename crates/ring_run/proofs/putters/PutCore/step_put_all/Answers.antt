@@ -6,7 +6,7 @@ use Rattle.bits_core.specs.declared.shapes.Shape.{Shape}
 use Rattle.ring_core.specs.Puts.{IsBatch}
 use Rattle.ring_core.specs.ProducerState.{Put, call_of}
 use Rattle.ring_core.specs.ProducerCalls.{longest_of}
-use Rattle.ring_run.specs.Hands.{Grows, IsSameEnd, AreAnswered}
+use Rattle.ring_run.specs.Steppers.{Grows, IsSameEnd, AreAnswered}
 use Rattle.ring_run.specs.Ends.{PutterState, puts_whole, whole_put, HasPutAll, HasPutPart}
 use Rattle.ring_run.specs.Machines.{IsPutter, without_last}
 use Rattle.ring_run.proofs.PutterCalls.{same_step, step_marked, step_putter, step_few, whole_marked, few_accesses, few_marked, batch_one, batch_none, batch_some}
@@ -16,11 +16,11 @@ pub steps_behind-self-inside-requires-clause-stands : goal.steps_behind-self-ins
 steps_behind-self-inside-requires-clause-stands g c =
     let p = c.self.inside in
     let i = c.self.invariant.0 in
-    let st = without_last p.steps p.hand.list in
-    let s : PutterState (Unit {0}) = record { end = p.hand; call = call_of p.machine; batched = p.machine.batched; start = st; oracle = tt } in
-    let w = whole_marked s.call p.machine.shape p.steps p.hand.list c.self.invariant.1 in
+    let st = without_last p.steps p.stepper.list in
+    let s : PutterState (Unit {0}) = record { end = p.stepper; call = call_of p.machine; batched = p.machine.batched; start = st; oracle = tt } in
+    let w = whole_marked s.call p.machine.shape p.steps p.stepper.list c.self.invariant.1 in
     let there = step_putter s p.machine st i.calls i.made (Put c.args.items.now) i.at refl w i.whole_is
-    c.begin_put_all.new.machine (c.begin_put_all.ensures.begins i.calls i.made i.at.stands) c.advance.new.hand c.advance.new.machine c.advance.ensures.rests (c.advance.ensures.steps i.calls i.made) in
+    c.begin_put_all.new.machine (c.begin_put_all.ensures.begins i.calls i.made i.at.stands) c.advance.new.stepper c.advance.new.machine c.advance.ensures.rests (c.advance.ensures.steps i.calls i.made) in
     (there.calls, there.made, there.at.stands)
 
 pub steps_behind-self-inside-requires-clause-few : goal.steps_behind-self-inside-requires-clause-few
@@ -29,23 +29,23 @@ steps_behind-self-inside-requires-clause-few g c =
     let i = c.self.invariant.0 in
     let is : call_of p.machine ≡ c.args.self.now.call = ap (λ (s : PutterState (Unit {0})). s.call) c.self.view_is in
     let batch : IsBatch p.machine.shape c.args.items.now = subst (λ (z : Shape). IsBatch z c.args.items.now) (sym (i.at.shape_is ∙ ap (λ (s : PutterState (Unit {0})). s.end.ring.shape) c.self.view_is)) c.requires.batch in
-    few_marked p.machine.shape (call_of p.machine) (Put c.args.items.now) p.steps p.hand.list c.self.invariant.1
+    few_marked p.machine.shape (call_of p.machine) (Put c.args.items.now) p.steps p.stepper.list c.self.invariant.1
     (⊎_elim (λ none. inl (is ∙ none)) (λ same. inr (is ∙ same.0)) c.requires.call) (few_accesses p.machine.shape c.args.items.now batch)
 
 pub invariant_of-self : goal.invariant_of-self
 invariant_of-self g c =
     let p = c.self.inside in
     let i = c.self.invariant.0 in
-    let st = without_last p.steps p.hand.list in
-    let s : PutterState (Unit {0}) = record { end = p.hand; call = call_of p.machine; batched = p.machine.batched; start = st; oracle = tt } in
-    let w = whole_marked s.call p.machine.shape p.steps p.hand.list c.self.invariant.1 in
-    let e = c.advance.new.hand in
+    let st = without_last p.steps p.stepper.list in
+    let s : PutterState (Unit {0}) = record { end = p.stepper; call = call_of p.machine; batched = p.machine.batched; start = st; oracle = tt } in
+    let w = whole_marked s.call p.machine.shape p.steps p.stepper.list c.self.invariant.1 in
+    let e = c.advance.new.stepper in
     let m = c.advance.new.machine in
     let moved = step_marked s p.machine st i.calls i.made (Put c.args.items.now) i.at refl w i.whole_is
-    c.begin_put_all.new.machine (c.begin_put_all.ensures.begins i.calls i.made i.at.stands) c.advance.new.hand c.advance.new.machine c.advance.ensures.rests (c.advance.ensures.steps i.calls i.made)
+    c.begin_put_all.new.machine (c.begin_put_all.ensures.begins i.calls i.made i.at.stands) c.advance.new.stepper c.advance.new.machine c.advance.ensures.rests (c.advance.ensures.steps i.calls i.made)
     p.steps c.steps_behind-self-inside.result refl c.self.invariant.1.0 c.steps_behind-self-inside.ensures.rests c.steps_behind-self-inside.ensures.goes in (
       subst (IsPutter e m) moved.0 (step_putter s p.machine st i.calls i.made (Put c.args.items.now) i.at refl w i.whole_is
-          c.begin_put_all.new.machine (c.begin_put_all.ensures.begins i.calls i.made i.at.stands) c.advance.new.hand c.advance.new.machine c.advance.ensures.rests (c.advance.ensures.steps i.calls i.made)),
+          c.begin_put_all.new.machine (c.begin_put_all.ensures.begins i.calls i.made i.at.stands) c.advance.new.stepper c.advance.new.machine c.advance.ensures.rests (c.advance.ensures.steps i.calls i.made)),
       moved.1,
     )
 
@@ -53,74 +53,74 @@ pub returns-clause-same : goal.returns-clause-same
 returns-clause-same g c =
     let p = c.self.inside in
     let i = c.self.invariant.0 in
-    let st = without_last p.steps p.hand.list in
-    let s : PutterState (Unit {0}) = record { end = p.hand; call = call_of p.machine; batched = p.machine.batched; start = st; oracle = tt } in
-    let w = whole_marked s.call p.machine.shape p.steps p.hand.list c.self.invariant.1 in
-    subst (λ (z : PutterState (Unit {0})). IsSameEnd z.end c.advance.new.hand) c.self.view_is
+    let st = without_last p.steps p.stepper.list in
+    let s : PutterState (Unit {0}) = record { end = p.stepper; call = call_of p.machine; batched = p.machine.batched; start = st; oracle = tt } in
+    let w = whole_marked s.call p.machine.shape p.steps p.stepper.list c.self.invariant.1 in
+    subst (λ (z : PutterState (Unit {0})). IsSameEnd z.end c.advance.new.stepper) c.self.view_is
     (same_step s p.machine st i.calls i.made (Put c.args.items.now) i.at refl w i.whole_is
-    c.begin_put_all.new.machine (c.begin_put_all.ensures.begins i.calls i.made i.at.stands) c.advance.new.hand c.advance.new.machine c.advance.ensures.rests (c.advance.ensures.steps i.calls i.made))
+    c.begin_put_all.new.machine (c.begin_put_all.ensures.begins i.calls i.made i.at.stands) c.advance.new.stepper c.advance.new.machine c.advance.ensures.rests (c.advance.ensures.steps i.calls i.made))
 
 pub returns-clause-lawful : goal.returns-clause-lawful
 returns-clause-lawful g c =
     let p = c.self.inside in
     let i = c.self.invariant.0 in
-    let st = without_last p.steps p.hand.list in
-    let s : PutterState (Unit {0}) = record { end = p.hand; call = call_of p.machine; batched = p.machine.batched; start = st; oracle = tt } in
-    let w = whole_marked s.call p.machine.shape p.steps p.hand.list c.self.invariant.1 in
+    let st = without_last p.steps p.stepper.list in
+    let s : PutterState (Unit {0}) = record { end = p.stepper; call = call_of p.machine; batched = p.machine.batched; start = st; oracle = tt } in
+    let w = whole_marked s.call p.machine.shape p.steps p.stepper.list c.self.invariant.1 in
     (step_putter s p.machine st i.calls i.made (Put c.args.items.now) i.at refl w i.whole_is
-    c.begin_put_all.new.machine (c.begin_put_all.ensures.begins i.calls i.made i.at.stands) c.advance.new.hand c.advance.new.machine c.advance.ensures.rests (c.advance.ensures.steps i.calls i.made)).at.lawful
+    c.begin_put_all.new.machine (c.begin_put_all.ensures.begins i.calls i.made i.at.stands) c.advance.new.stepper c.advance.new.machine c.advance.ensures.rests (c.advance.ensures.steps i.calls i.made)).at.lawful
 
 pub returns-clause-one : goal.returns-clause-one
 returns-clause-one g c =
     let p = c.self.inside in
     let i = c.self.invariant.0 in
-    let st = without_last p.steps p.hand.list in
-    let s : PutterState (Unit {0}) = record { end = p.hand; call = call_of p.machine; batched = p.machine.batched; start = st; oracle = tt } in
-    let w = whole_marked s.call p.machine.shape p.steps p.hand.list c.self.invariant.1 in
-    subst (λ (z : PutterState (Unit {0})). ((c.batch_reply.result ≡ Some Closed) × (c.advance.new.hand ≡ z.end)) ⊎ ((e : Event) × Grows z.end c.advance.new.hand e)) c.self.view_is
+    let st = without_last p.steps p.stepper.list in
+    let s : PutterState (Unit {0}) = record { end = p.stepper; call = call_of p.machine; batched = p.machine.batched; start = st; oracle = tt } in
+    let w = whole_marked s.call p.machine.shape p.steps p.stepper.list c.self.invariant.1 in
+    subst (λ (z : PutterState (Unit {0})). ((c.batch_reply.result ≡ Some Closed) × (c.advance.new.stepper ≡ z.end)) ⊎ ((e : Event) × Grows z.end c.advance.new.stepper e)) c.self.view_is
     (batch_one s p.machine st i.calls i.made (Put c.args.items.now) i.at refl w i.whole_is
-    c.begin_put_all.new.machine (c.begin_put_all.ensures.begins i.calls i.made i.at.stands) c.advance.new.hand c.advance.new.machine c.advance.ensures.rests (c.advance.ensures.steps i.calls i.made)
+    c.begin_put_all.new.machine (c.begin_put_all.ensures.begins i.calls i.made i.at.stands) c.advance.new.stepper c.advance.new.machine c.advance.ensures.rests (c.advance.ensures.steps i.calls i.made)
     c.args.items.now refl (c.advance.ensures.kind ∙ c.begin_put_all.ensures.kind) c.batch_reply.result c.batch_reply.ensures.state)
 
 pub returns-clause-none : goal.returns-clause-none
 returns-clause-none g c =
     let p = c.self.inside in
     let i = c.self.invariant.0 in
-    let st = without_last p.steps p.hand.list in
-    let s : PutterState (Unit {0}) = record { end = p.hand; call = call_of p.machine; batched = p.machine.batched; start = st; oracle = tt } in
-    let w = whole_marked s.call p.machine.shape p.steps p.hand.list c.self.invariant.1 in
+    let st = without_last p.steps p.stepper.list in
+    let s : PutterState (Unit {0}) = record { end = p.stepper; call = call_of p.machine; batched = p.machine.batched; start = st; oracle = tt } in
+    let w = whole_marked s.call p.machine.shape p.steps p.stepper.list c.self.invariant.1 in
     let m = c.advance.new.machine in
     let moved = step_marked s p.machine st i.calls i.made (Put c.args.items.now) i.at refl w i.whole_is
-    c.begin_put_all.new.machine (c.begin_put_all.ensures.begins i.calls i.made i.at.stands) c.advance.new.hand c.advance.new.machine c.advance.ensures.rests (c.advance.ensures.steps i.calls i.made)
+    c.begin_put_all.new.machine (c.begin_put_all.ensures.begins i.calls i.made i.at.stands) c.advance.new.stepper c.advance.new.machine c.advance.ensures.rests (c.advance.ensures.steps i.calls i.made)
     p.steps c.steps_behind-self-inside.result refl c.self.invariant.1.0 c.steps_behind-self-inside.ensures.rests c.steps_behind-self-inside.ensures.goes in
-    subst (λ (l : List Event). IfNone c.batch_reply.result ((call_of m ≡ Some (Put c.args.items.now)) × (m.batched ≡ true) × (l ≡ puts_whole c.args.self.now) × HasPutPart c.advance.new.hand.ring.shape (Put c.args.items.now) l c.advance.new.hand.list)) moved.0
-    (subst (λ (z : PutterState (Unit {0})). IfNone c.batch_reply.result ((call_of m ≡ Some (Put c.args.items.now)) × (m.batched ≡ true) × (whole_put (call_of m) c.advance.new.hand.list st ≡ puts_whole z) × HasPutPart c.advance.new.hand.ring.shape (Put c.args.items.now) (whole_put (call_of m) c.advance.new.hand.list st) c.advance.new.hand.list)) c.self.view_is
+    subst (λ (l : List Event). IfNone c.batch_reply.result ((call_of m ≡ Some (Put c.args.items.now)) × (m.batched ≡ true) × (l ≡ puts_whole c.args.self.now) × HasPutPart c.advance.new.stepper.ring.shape (Put c.args.items.now) l c.advance.new.stepper.list)) moved.0
+    (subst (λ (z : PutterState (Unit {0})). IfNone c.batch_reply.result ((call_of m ≡ Some (Put c.args.items.now)) × (m.batched ≡ true) × (whole_put (call_of m) c.advance.new.stepper.list st ≡ puts_whole z) × HasPutPart c.advance.new.stepper.ring.shape (Put c.args.items.now) (whole_put (call_of m) c.advance.new.stepper.list st) c.advance.new.stepper.list)) c.self.view_is
     (batch_none s p.machine st i.calls i.made (Put c.args.items.now) i.at refl w i.whole_is
-    c.begin_put_all.new.machine (c.begin_put_all.ensures.begins i.calls i.made i.at.stands) c.advance.new.hand m c.advance.ensures.rests (c.advance.ensures.steps i.calls i.made)
+    c.begin_put_all.new.machine (c.begin_put_all.ensures.begins i.calls i.made i.at.stands) c.advance.new.stepper m c.advance.ensures.rests (c.advance.ensures.steps i.calls i.made)
     c.args.items.now refl (c.advance.ensures.kind ∙ c.begin_put_all.ensures.kind) c.batch_reply.result c.batch_reply.ensures.state))
 
 pub returns-clause-some : goal.returns-clause-some
 returns-clause-some g c =
     let p = c.self.inside in
     let i = c.self.invariant.0 in
-    let st = without_last p.steps p.hand.list in
-    let s : PutterState (Unit {0}) = record { end = p.hand; call = call_of p.machine; batched = p.machine.batched; start = st; oracle = tt } in
-    let w = whole_marked s.call p.machine.shape p.steps p.hand.list c.self.invariant.1 in
-    subst (λ (z : PutterState (Unit {0})). IfSome c.batch_reply.result (λ r. (call_of c.advance.new.machine ≡ None) × HasPutAll c.advance.new.hand.ring.shape c.args.items.now (puts_whole z) c.advance.new.hand.list r)) c.self.view_is
+    let st = without_last p.steps p.stepper.list in
+    let s : PutterState (Unit {0}) = record { end = p.stepper; call = call_of p.machine; batched = p.machine.batched; start = st; oracle = tt } in
+    let w = whole_marked s.call p.machine.shape p.steps p.stepper.list c.self.invariant.1 in
+    subst (λ (z : PutterState (Unit {0})). IfSome c.batch_reply.result (λ r. (call_of c.advance.new.machine ≡ None) × HasPutAll c.advance.new.stepper.ring.shape c.args.items.now (puts_whole z) c.advance.new.stepper.list r)) c.self.view_is
     (batch_some s p.machine st i.calls i.made (Put c.args.items.now) i.at refl w i.whole_is
-    c.begin_put_all.new.machine (c.begin_put_all.ensures.begins i.calls i.made i.at.stands) c.advance.new.hand c.advance.new.machine c.advance.ensures.rests (c.advance.ensures.steps i.calls i.made)
+    c.begin_put_all.new.machine (c.begin_put_all.ensures.begins i.calls i.made i.at.stands) c.advance.new.stepper c.advance.new.machine c.advance.ensures.rests (c.advance.ensures.steps i.calls i.made)
     c.args.items.now refl (c.advance.ensures.kind ∙ c.begin_put_all.ensures.kind) c.batch_reply.result c.batch_reply.ensures.state)
 
 pub returns-clause-few : goal.returns-clause-few
 returns-clause-few g c =
     let p = c.self.inside in
     let i = c.self.invariant.0 in
-    let st = without_last p.steps p.hand.list in
-    let s : PutterState (Unit {0}) = record { end = p.hand; call = call_of p.machine; batched = p.machine.batched; start = st; oracle = tt } in
-    let w = whole_marked s.call p.machine.shape p.steps p.hand.list c.self.invariant.1 in
-    subst (λ (z : PutterState (Unit {0})). length c.advance.new.hand.list ≤ length (puts_whole z) + 2 * longest_of c.advance.new.hand.ring.shape c.args.items.now) c.self.view_is
+    let st = without_last p.steps p.stepper.list in
+    let s : PutterState (Unit {0}) = record { end = p.stepper; call = call_of p.machine; batched = p.machine.batched; start = st; oracle = tt } in
+    let w = whole_marked s.call p.machine.shape p.steps p.stepper.list c.self.invariant.1 in
+    subst (λ (z : PutterState (Unit {0})). length c.advance.new.stepper.list ≤ length (puts_whole z) + 2 * longest_of c.advance.new.stepper.ring.shape c.args.items.now) c.self.view_is
     (step_few s p.machine st i.calls i.made (Put c.args.items.now) i.at refl w i.whole_is
-    c.begin_put_all.new.machine (c.begin_put_all.ensures.begins i.calls i.made i.at.stands) c.advance.new.hand c.advance.new.machine c.advance.ensures.rests (c.advance.ensures.steps i.calls i.made))
+    c.begin_put_all.new.machine (c.begin_put_all.ensures.begins i.calls i.made i.at.stands) c.advance.new.stepper c.advance.new.machine c.advance.ensures.rests (c.advance.ensures.steps i.calls i.made))
 
 pub returns-clause-answered : goal.returns-clause-answered
-returns-clause-answered g c = subst (λ (z : PutterState (Unit {0})). AreAnswered z.end c.advance.new.hand (g.O.Oracle.answers c.args.oracle.now) (g.O.Oracle.answers c.advance.new.oracle)) c.self.view_is c.advance.ensures.answered
+returns-clause-answered g c = subst (λ (z : PutterState (Unit {0})). AreAnswered z.end c.advance.new.stepper (g.O.Oracle.answers c.args.oracle.now) (g.O.Oracle.answers c.advance.new.oracle)) c.self.view_is c.advance.ensures.answered

@@ -9,7 +9,7 @@ use Rattle.ring_run.proofs.words.Words.learn.Goals as goal
 pub load-requires : goal.load-requires
 load-requires g c =
     let t = c.self.inside.shared.now in
-    let key : t.key ≡ g.N.Note.shape = c.self.invariant.0 ∙ (ap (λ (r : Ring). r.shape) c.self.view_is ∙ sym c.requires.shape) in
+    let key : t.key ≡ g.N.AddedEvent.shape = c.self.invariant.0 ∙ (ap (λ (r : Ring). r.shape) c.self.view_is ∙ sym c.requires.shape) in
     let words = c.self.invariant.1 in (
       c.requires.own.0 ∙ sym (ap (λ (r : Ring). r.id) c.self.view_is),
       omega arith,

@@ -17,6 +17,6 @@ store-requires g c =
     let words = sym (c.self.invariant.1 ∙ ap word_count shape) in (
       c.requires.own.0 ∙ sym (ap (λ (r : Ring). r.id) c.self.view_is),
       subst (λ (z : ℕ × ℕ). z.0 < z.1) (λ i. (word i, words i)) (place_below now.shape c.args.bit c.requires.own.1),
-      subst (λ (z : Shape × ℕ). Allows (KeepsFlickerRule z.0) t.table_id.slots c.args.seat.now.id c.args.seat.now.me z.1 (λ _. c.args.new) (λ _. Added g.N.Note.shape g.N.Note.event c.args.seat.now.me c.args.new)) (λ i. (key i, word i))
+      subst (λ (z : Shape × ℕ). Allows (KeepsFlickerRule z.0) t.table_id.slots c.args.seat.now.id c.args.seat.now.me z.1 (λ _. c.args.new) (λ _. Added g.N.AddedEvent.shape g.N.AddedEvent.event c.args.seat.now.me c.args.new)) (λ i. (key i, word i))
           (c.requires.rule t.table_id.slots),
     )

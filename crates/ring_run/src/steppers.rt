@@ -1,0 +1,231 @@
+//! The four steps of an end, for either side.
+ghost use Rattle.std.specs.Prelude.{◌≡◌, ℕ, ◌+◌, ◌⊎◌, Bool, true, false, [], ◌∷◌, ◌++◌, Some, IfSome, IfNone};
+ghost use Rattle.bits_core.specs.declared.events.Access.TheVariants.{Read, Write};
+ghost use Rattle.bits_core.specs.Shape.{belongs};
+ghost use Rattle.bits_core.specs.Bits.{reader, writer};
+ghost use Rattle.bits_core.specs.Open.{IsOpenRight};
+ghost use Rattle.bits_core.specs.History.{open_access};
+ghost use Rattle.ring_run.specs.Words.{value_word, agrees, answer_of};
+ghost use Rattle.ring_run.specs.Programs.{Follows, GoesOn, begin_of, ending_event};
+ghost use Rattle.ring_run.specs.Rule.{IsIdle};
+ghost use Rattle.ring_run.specs.Steppers.{AreAnswered, Grows, CanMake, CanStep, HasMade, HasStepped, IsAskedOnce};
+
+use crate::below::laws_below;
+use crate::views::View;
+use crate::words::Words;
+use atomic_table::Seat;
+use bits_core::{Access, Bit, Oracle, Side};
+use std::marker::{Brand, Model};
+
+// A seat of one side, with its open access and the first load of its open read.
+#[derive(Drop)]
+pub struct Stepper<'a> {
+    pub(crate) ring: Words<'a>,
+    pub(crate) seat: Seat<(), View>,
+    pub(crate) side: Side,
+    pub(crate) opened: Option<Access>,
+    pub(crate) first: u64,
+}
+
+impl<'a> Model for Stepper<'a> {
+    ghost use Rattle.std.specs.Prelude.{◌≡◌, true, false, []};
+    ghost use Rattle.bits_core.specs.Bits.{other};
+    ghost use Rattle.bits_core.specs.History.{open_access};
+    ghost use Rattle.ring_run.specs.Ring.{RingEnd};
+    ghost use Rattle.ring_run.specs.Rule.{list_of, may_step};
+
+    ghost Value = { RingEnd };
+
+    ghost view = { λ h. record { ring = h.ring; side = h.side; list = list_of h.side h.seat.me.0; known = h.seat.me.0.known; loads = h.seat.me.0.loads } };
+
+    ghost invariant = { λ h. (h.seat.table_id ≡ h.ring.id) × (h.seat.me.1 ≡ []) × (may_step h.side h.seat.me.0 ≡ true) × (may_step (other h.side) h.seat.me.0 ≡ false) × (h.seat.me.0.first ≡ h.first) × (h.opened ≡ open_access h.side (list_of h.side h.seat.me.0)) };
+}
+
+impl<'a> Stepper<'a> {
+    fn begin_read(&mut self, bit: Bit)
+        requires bit { (belongs self.old.ring.shape bit ≡ true) × (self.old.side ≡ reader bit) }
+        requires idle { IsIdle self.old.side self.old.list }
+        requires program { Follows self.old.ring.shape self.old.side (self.old.list ++ begin_of self.old.side (Read bit) ∷ []) }
+        ensures grows { Grows self.old self.new (begin_of self.old.side (Read bit)) }
+        ensures quiet { (said : ℕ → Bool) → AreAnswered self.old self.new said said }
+    {
+        laws_below();
+        let side = self.side;
+        self.first = self
+            .ring
+            .load_noted::<Brand, ()>(&mut self.seat, bit, side, &());
+        self.opened = Some(Access::Read(bit));
+    }
+
+    // The second load, and the answer by both. The oracle is asked at most once.
+    fn end_read<O: Oracle>(&mut self, bit: Bit, oracle: &mut O) -> bool
+        requires bit { (belongs self.old.ring.shape bit ≡ true) × (self.old.side ≡ reader bit) }
+        requires at { open_access self.old.side self.old.list ≡ Some (Read bit) }
+        requires program { GoesOn self.old.ring.shape self.old.side (Read bit) self.old.list }
+        ensures grows { Grows self.old self.new (ending_event self.old.side (Read bit) result) }
+        ensures oracle { IsAskedOnce O.answers oracle.old oracle.new }
+        ensures answered { AreAnswered self.old self.new (O.answers oracle.old) (O.answers oracle.new) }
+    {
+        laws_below();
+        let side = self.side;
+        let found = self
+            .ring
+            .load_noted::<Brand, O>(&mut self.seat, bit, side, oracle);
+        self.opened = None;
+        answer(self.first, found, oracle)
+    }
+
+    fn begin_write(&mut self, bit: Bit, value: bool)
+        requires bit { (belongs self.old.ring.shape bit ≡ true) × (self.old.side ≡ writer bit) }
+        requires idle { IsIdle self.old.side self.old.list }
+        requires program { Follows self.old.ring.shape self.old.side (self.old.list ++ begin_of self.old.side (Write bit value) ∷ []) }
+        ensures grows { Grows self.old self.new (begin_of self.old.side (Write bit value)) }
+        ensures quiet { (said : ℕ → Bool) → AreAnswered self.old self.new said said }
+    {
+        laws_below();
+        let side = self.side;
+        self.ring
+            .store_noted::<Brand, bool>(&mut self.seat, bit, side, &value, 2);
+        self.opened = Some(Access::Write(bit, value));
+    }
+
+    fn end_write(&mut self, bit: Bit, value: bool)
+        requires bit { (belongs self.old.ring.shape bit ≡ true) × (self.old.side ≡ writer bit) }
+        requires at { open_access self.old.side self.old.list ≡ Some (Write bit value) }
+        requires program { GoesOn self.old.ring.shape self.old.side (Write bit value) self.old.list }
+        ensures grows { Grows self.old self.new (ending_event self.old.side (Write bit value) value) }
+        ensures quiet { (said : ℕ → Bool) → AreAnswered self.old self.new said said }
+    {
+        laws_below();
+        let side = self.side;
+        let new = word_of(value);
+        self.ring
+            .store_noted::<Brand, bool>(&mut self.seat, bit, side, &value, new);
+        self.opened = None;
+    }
+
+    fn begin(&mut self, access: Access)
+        requires right { IsOpenRight self.old.ring.shape self.old.side access }
+        requires idle { IsIdle self.old.side self.old.list }
+        requires program { Follows self.old.ring.shape self.old.side (self.old.list ++ begin_of self.old.side access ∷ []) }
+        ensures grows { Grows self.old self.new (begin_of self.old.side access) }
+        ensures quiet { (said : ℕ → Bool) → AreAnswered self.old self.new said said }
+    {
+        match access {
+            Access::Read(bit) => self.begin_read(bit),
+            Access::Write(bit, value) => self.begin_write(bit, value),
+        }
+    }
+
+    fn end<O: Oracle>(&mut self, access: Access, oracle: &mut O) -> bool
+        requires right { IsOpenRight self.old.ring.shape self.old.side access }
+        requires at { open_access self.old.side self.old.list ≡ Some access }
+        requires program { GoesOn self.old.ring.shape self.old.side access self.old.list }
+        ensures grows { Grows self.old self.new (ending_event self.old.side access result) }
+        ensures oracle { IsAskedOnce O.answers oracle.old oracle.new }
+        ensures answered { AreAnswered self.old self.new (O.answers oracle.old) (O.answers oracle.new) }
+    {
+        match access {
+            Access::Read(bit) => self.end_read(bit, oracle),
+            Access::Write(bit, value) => {
+                self.end_write(bit, value);
+                value
+            }
+        }
+    }
+
+    // The two loads of a read, and the answer by both. The oracle is asked at most once. The words are the stepper's own,
+    // held by the caller, so that they lie at hand from one access to the next.
+    #[inline(always)]
+    fn read<O: Oracle>(&mut self, ring: &Words<'a>, bit: Bit, oracle: &mut O) -> bool
+        requires ring { ring.now ≡ self.old.ring }
+        requires bit { (belongs self.old.ring.shape bit ≡ true) × (self.old.side ≡ reader bit) }
+        requires can { CanMake self.old (Read bit) }
+        ensures made { HasMade self.old self.new (Read bit) result }
+        ensures oracle { IsAskedOnce O.answers oracle.old oracle.new }
+        ensures answered { AreAnswered self.old self.new (O.answers oracle.old) (O.answers oracle.new) }
+    {
+        laws_below();
+        let side = self.side;
+        let word = ring.word_of(bit);
+        let first = ring.load_at::<Brand, ()>(&mut self.seat, word, bit, side, &());
+        let again = ring.load_at::<Brand, O>(&mut self.seat, word, bit, side, oracle);
+        self.first = first;
+        answer(first, again, oracle)
+    }
+
+    // The two stores of a write.
+    #[inline(always)]
+    fn write(&mut self, ring: &Words<'a>, bit: Bit, value: bool)
+        requires ring { ring.now ≡ self.old.ring }
+        requires bit { (belongs self.old.ring.shape bit ≡ true) × (self.old.side ≡ writer bit) }
+        requires can { CanMake self.old (Write bit value) }
+        ensures made { HasMade self.old self.new (Write bit value) value }
+        ensures quiet { (said : ℕ → Bool) → AreAnswered self.old self.new said said }
+    {
+        laws_below();
+        let side = self.side;
+        let word = ring.word_of(bit);
+        let new = word_of(value);
+        ring.store_at::<Brand, bool>(&mut self.seat, word, bit, side, &value, 2);
+        ring.store_at::<Brand, ()>(&mut self.seat, word, bit, side, &(), new);
+    }
+
+    // The whole access, and the answer. The words are the stepper's own.
+    #[inline(always)]
+    pub fn make<O: Oracle>(&mut self, ring: &Words<'a>, access: Access, oracle: &mut O) -> bool
+        requires ring { ring.now ≡ self.old.ring }
+        requires right { IsOpenRight self.old.ring.shape self.old.side access }
+        requires can { CanMake self.old access }
+        ensures made { HasMade self.old self.new access result }
+        ensures oracle { IsAskedOnce O.answers oracle.old oracle.new }
+        ensures answered { AreAnswered self.old self.new (O.answers oracle.old) (O.answers oracle.new) }
+    {
+        match access {
+            Access::Read(bit) => self.read(ring, bit, oracle),
+            Access::Write(bit, value) => {
+                self.write(ring, bit, value);
+                value
+            }
+        }
+    }
+
+    // One step: the access begins, or, where it is open, it ends with the answer.
+    pub fn step<O: Oracle>(&mut self, access: Access, oracle: &mut O) -> Option<bool>
+        requires right { IsOpenRight self.old.ring.shape self.old.side access }
+        requires can { CanStep self.old access }
+        ensures stepped { HasStepped self.old self.new access result }
+        ensures oracle { IsAskedOnce O.answers oracle.old oracle.new }
+        ensures answered { AreAnswered self.old self.new (O.answers oracle.old) (O.answers oracle.new) }
+    {
+        match self.opened {
+            None => {
+                self.begin(access);
+                None
+            }
+            Some(_) => Some(self.end(access, oracle)),
+        }
+    }
+}
+
+// The answer of a read by the words that its two loads found: where both are 0, or both 1, it is that, and the oracle is
+// not asked; else the oracle is asked once.
+#[inline(always)]
+fn answer<O: Oracle>(first: u64, found: u64, oracle: &mut O) -> bool
+    ensures answer { result ≡ answer_of first found (O.answers oracle.old 0) }
+    ensures agree { agrees first found ≡ true → oracle.new ≡ oracle.old }
+    ensures asks { agrees first found ≡ false → (i : ℕ) → O.answers oracle.new i ≡ O.answers oracle.old (i + 1) }
+{
+    if first == found && found < 2 {
+        found == 1
+    } else {
+        oracle.answer()
+    }
+}
+
+#[inline(always)]
+fn word_of(value: bool) -> u64
+    ensures { result ≡ value_word value }
+{
+    if value { 1 } else { 0 }
+}
