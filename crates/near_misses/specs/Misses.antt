@@ -1,0 +1,29 @@
+-- What the near misses do otherwise than a ring.
+use Rattle.std.specs.Prelude.{◌≡◌, ℕ, ◌+◌, ◌<◌, ◌≤◌, Bool, true, false, List, codes, slice_index_or}
+use Rattle.bits_core.specs.declared.shapes.Shape.{Shape}
+use Rattle.bits_core.specs.Shape.{capacity_of, modulus_of}
+use Rattle.near_misses.specs.declared.misses.NearMiss.{NearMiss}
+use Rattle.near_misses.specs.declared.misses.NearMiss.TheVariants.{CountBeforeCell, NoSecondScan, SmallModulus, ClearsUpwards}
+
+-- the word for each
+abbrev pub name_of : NearMiss → List ℕ
+name_of CountBeforeCell = codes "count-before-cell"
+name_of NoSecondScan = codes "no-second-scan"
+name_of SmallModulus = codes "small-modulus"
+name_of ClearsUpwards = codes "clears-upwards"
+
+-- where the counts go round
+abbrev pub near_modulus : NearMiss → Shape → ℕ
+near_modulus SmallModulus shape = capacity_of shape + 1
+near_modulus _ shape = modulus_of shape
+
+-- the bits from a place to below another are clear
+abbrev pub AreClear : List Bool → ℕ → ℕ → Type 0
+AreClear bits from below = (k : ℕ) → from ≤ k → k < below → slice_index_or bits k false ≡ false
+
+-- a bit is the lowest set one below a place, or the highest
+abbrev pub IsLowestSet : List Bool → ℕ → ℕ → Type 0
+IsLowestSet bits below i = (i < below) × (slice_index_or bits i false ≡ true) × AreClear bits 0 i
+
+abbrev pub IsHighestSet : List Bool → ℕ → ℕ → Type 0
+IsHighestSet bits below i = (i < below) × (slice_index_or bits i false ≡ true) × AreClear bits (i + 1) below

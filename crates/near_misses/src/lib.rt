@@ -1,0 +1,12 @@
+//! Four rings that are nearly right, to be played as a script says: each breaks one rule of the ring, and what comes of
+//! that is for the audits to find. Nothing of the ring's law is promised here.
+#![tactic(auto)]
+
+mod misses;
+mod plays;
+mod putting;
+mod rows;
+mod taking;
+
+pub use misses::NearMiss;
+pub use plays::{NearFault, NearPlay, play_near};

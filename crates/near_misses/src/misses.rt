@@ -1,0 +1,63 @@
+//! Which rule is broken.
+ghost use Rattle.std.specs.Prelude.{◌≡◌, IfSome, codes};
+ghost use Rattle.bits_core.specs.Shape.{capacity_of, modulus_of};
+ghost use Rattle.near_misses.specs.Misses.{name_of, near_modulus};
+
+use bits_core::Shape;
+
+/// A ring that is nearly right. Both sides break the same rule, where it is one of both.
+#[derive(Clone, Copy, PartialEq, Eq, Debug)]
+pub enum NearMiss {
+    /// A put writes its count, and then the item's cell. So a consumer that reads the new count may read the cell too soon.
+    CountBeforeCell,
+    /// A take that finds no item and reads the close bit as 1 is told Closed at once, without a second scan. So an item that was
+    /// stored between its scan and that read is lost.
+    NoSecondScan,
+    /// The counts go round at capacity + 1, one too few. So a count that was read before the other side wrote it again may look
+    /// like one a whole round on.
+    SmallModulus,
+    /// A count write sets its bit and then clears the bits below from the lowest up. So a scan between two of these writes gives a
+    /// count that was never there.
+    ClearsUpwards,
+}
+
+impl NearMiss {
+    /// The word for it: `count-before-cell`, `no-second-scan`, `small-modulus`, `clears-upwards`.
+    pub fn name(self) -> &'static str
+        ensures { result.now ≡ name_of self }
+    {
+        match self {
+            NearMiss::CountBeforeCell => "count-before-cell",
+            NearMiss::NoSecondScan => "no-second-scan",
+            NearMiss::SmallModulus => "small-modulus",
+            NearMiss::ClearsUpwards => "clears-upwards",
+        }
+    }
+
+    /// The near miss of this name.
+    pub fn named(name: &str) -> Option<NearMiss>
+        ensures { IfSome result (λ miss. name_of miss ≡ name.now) }
+    {
+        for miss in [
+            NearMiss::CountBeforeCell,
+            NearMiss::NoSecondScan,
+            NearMiss::SmallModulus,
+            NearMiss::ClearsUpwards,
+        ] {
+            if miss.name() == name {
+                return Some(miss);
+            }
+        }
+        None
+    }
+
+    /// The number at which its counts go round.
+    pub fn modulus(self, shape: &Shape) -> u64
+        ensures { result ≡ near_modulus self shape.now }
+    {
+        match self {
+            NearMiss::SmallModulus => shape.capacity() + 1,
+            _ => shape.modulus(),
+        }
+    }
+}
