@@ -1,20 +1,21 @@
 -- What the near misses do otherwise than a ring.
 use Rattle.std.specs.Prelude.{◌≡◌, ℕ, ◌+◌, ◌<◌, ◌≤◌, Bool, true, false, List, codes, slice_index_or}
 use Rattle.bits_core.specs.declared.shapes.Shape.{Shape}
-use Rattle.bits_core.specs.Shape.{capacity_of, modulus_of}
+use Rattle.bits_core.specs.Shape.{batch_of, capacity_of, modulus_of}
 use Rattle.near_misses.specs.declared.misses.NearMiss.{NearMiss}
-use Rattle.near_misses.specs.declared.misses.NearMiss.TheVariants.{CountBeforeCell, NoSecondScan, SmallModulus, ClearsUpwards}
+use Rattle.near_misses.specs.declared.misses.NearMiss.TheVariants.{CountBeforeCell, NoSecondScan, SmallModulus, ClearsFirst, ClearsUpwards}
 
 -- the word for each
 abbrev pub name_of : NearMiss → List ℕ
 name_of CountBeforeCell = codes "count-before-cell"
 name_of NoSecondScan = codes "no-second-scan"
 name_of SmallModulus = codes "small-modulus"
+name_of ClearsFirst = codes "clears-first"
 name_of ClearsUpwards = codes "clears-upwards"
 
 -- where the counts go round
 abbrev pub near_modulus : NearMiss → Shape → ℕ
-near_modulus SmallModulus shape = capacity_of shape + 1
+near_modulus SmallModulus shape = capacity_of shape + batch_of shape
 near_modulus _ shape = modulus_of shape
 
 -- the bits from a place to below another are clear

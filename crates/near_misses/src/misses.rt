@@ -13,16 +13,19 @@ pub enum NearMiss {
     /// A take that finds no item and reads the close bit as 1 is told Closed at once, without a second scan. So an item that was
     /// stored between its scan and that read is lost.
     NoSecondScan,
-    /// The counts go round at capacity + 1, one too few. So a count that was read before the other side wrote it again may look
+    /// The counts go round at capacity + batch, one too few. So a count that was read before the other side wrote it again may look
     /// like one a whole round on.
     SmallModulus,
-    /// A count write sets its bit and then clears the bits below from the lowest up. So a scan between two of these writes gives a
-    /// count that was never there.
+    /// A count write clears the bits below its own first, and sets its own last. So a scan in between gives a count of long ago, or
+    /// none.
+    ClearsFirst,
+    /// A count write sets its bit and then clears the bits below from the lowest up. So a scan in between may give a count that was
+    /// never there: one between the old and the new, where one write counts several items.
     ClearsUpwards,
 }
 
 impl NearMiss {
-    /// The word for it: `count-before-cell`, `no-second-scan`, `small-modulus`, `clears-upwards`.
+    /// The word for it: `count-before-cell`, `no-second-scan`, `small-modulus`, `clears-first`, `clears-upwards`.
     pub fn name(self) -> &'static str
         ensures { result.now ≡ name_of self }
     {
@@ -30,6 +33,7 @@ impl NearMiss {
             NearMiss::CountBeforeCell => "count-before-cell",
             NearMiss::NoSecondScan => "no-second-scan",
             NearMiss::SmallModulus => "small-modulus",
+            NearMiss::ClearsFirst => "clears-first",
             NearMiss::ClearsUpwards => "clears-upwards",
         }
     }
@@ -42,6 +46,7 @@ impl NearMiss {
             NearMiss::CountBeforeCell,
             NearMiss::NoSecondScan,
             NearMiss::SmallModulus,
+            NearMiss::ClearsFirst,
             NearMiss::ClearsUpwards,
         ] {
             if miss.name() == name {
@@ -56,7 +61,7 @@ impl NearMiss {
         ensures { result ≡ near_modulus self shape.now }
     {
         match self {
-            NearMiss::SmallModulus => shape.capacity() + 1,
+            NearMiss::SmallModulus => shape.capacity() + shape.batch(),
             _ => shape.modulus(),
         }
     }

@@ -3,7 +3,6 @@ ghost use Rattle.std.specs.Prelude.{◌≡◌, None, IfOk};
 ghost use Rattle.bits_core.specs.History.{open_access};
 ghost use Rattle.bits_core.specs.Lawful.{IsLawful};
 ghost use Rattle.bits_core.specs.Open.{IsOpenRight, IsReading, IsWriting};
-ghost use Rattle.bits_core.specs.Shape.{batch_of};
 ghost use Rattle.bits_core.specs.Trace.{AreOfShape};
 
 use crate::misses::NearMiss;
@@ -18,9 +17,6 @@ use thiserror::Error;
 /// Why a script was not played.
 #[derive(Clone, Copy, PartialEq, Eq, Debug, Error)]
 pub enum NearFault {
-    /// Its batch is more than 1: a near miss puts its items one by one.
-    #[error("a near miss puts its items one by one: the batch must be 1")]
-    Batch,
     /// Memory ran out.
     #[error("out of memory")]
     OutOfMemory,
@@ -189,7 +185,7 @@ impl<A: Allocator> NearWorld<'_, A> {
 /// Plays a script by a near miss: one step for each letter of its schedule. The history of the bits is lawful, as a memory of safe
 /// bits makes it; of the items put and taken nothing is promised.
 ///
-/// `Batch` where the script's batch is more than 1; `OutOfMemory` tells that memory ran out.
+/// `OutOfMemory` tells that memory ran out.
 pub fn play_near<A: Allocator + Copy, B: Allocator>(
     alloc: A,
     miss: NearMiss,
@@ -200,9 +196,6 @@ pub fn play_near<A: Allocator + Copy, B: Allocator>(
 {
     let script = script.as_ref();
     let shape = script.shape();
-    if shape.batch() > 1 {
-        return Err(NearFault::Batch);
-    }
     let mut world = NearWorld {
         memory: Memory::new(alloc, shape),
         putter: NearPutter::new(miss, shape, script.items(), script.closes()),

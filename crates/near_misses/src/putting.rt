@@ -2,7 +2,7 @@
 ghost use Rattle.std.specs.Prelude.{◌≡◌};
 
 use crate::misses::NearMiss;
-use crate::rows::{Row, read_bit};
+use crate::rows::{Order, Row, read_bit};
 use bits_core::{Access, Bit, Shape, Side};
 use ring_core::distance;
 use ring_player::Told;
@@ -13,14 +13,14 @@ enum Stage {
     Between,
     // so many bits of the consumer's count answered 0
     Scanning(u8),
-    // so many digits of the item are written
-    Storing(u8),
+    // so many items of the put are stored, and so many digits of the next one
+    Storing(usize, u8),
     Counting,
     Closing,
     Over,
 }
 
-/// The producer of a script: it puts the items one by one, and then perhaps closes.
+/// The producer of a script: it puts the items, as many at a time as a batch may have, and then perhaps closes.
 #[derive(Drop)]
 pub struct NearPutter<'a> {
     miss: NearMiss,
@@ -28,6 +28,8 @@ pub struct NearPutter<'a> {
     items: &'a [u64],
     closes: bool,
     stored: usize,
+    // how many items the put under way stores
+    storing: usize,
     count: u8,
     stage: Stage,
     row: Row,
@@ -41,9 +43,10 @@ impl<'a> NearPutter<'a> {
             items,
             closes,
             stored: 0,
+            storing: 0,
             count: 0,
             stage: Stage::Between,
-            row: Row::new(Side::P, miss == NearMiss::ClearsUpwards),
+            row: Row::new(Side::P, Order::of(miss)),
         }
     }
 
@@ -73,16 +76,17 @@ impl<'a> NearPutter<'a> {
         match self.stage {
             Stage::Between | Stage::Over => None,
             Stage::Scanning(zeros) => Some(Access::Read(read_bit(Side::P, zeros))),
-            Stage::Storing(digit) => Some(self.digit_write(digit)),
+            Stage::Storing(done, digit) => Some(self.digit_write(done, digit)),
             Stage::Counting => self.row.next(),
             Stage::Closing => Some(Access::Write(Bit::X, true)),
         }
     }
 
-    // The write of a digit of the item to its cell.
-    fn digit_write(&self, digit: u8) -> Access {
-        let cell = self.stored as u64 % self.shape.capacity();
-        let item = self.items.get(self.stored).copied().unwrap_or(0);
+    // The write of a digit of an item to its cell, behind so many of the put.
+    fn digit_write(&self, done: usize, digit: u8) -> Access {
+        let number = self.stored.saturating_add(done);
+        let cell = number as u64 % self.shape.capacity();
+        let item = self.items.get(number).copied().unwrap_or(0);
         let value = (item >> u32::from(digit.min(63))) & 1 == 1;
         Access::Write(Bit::Cell(cell as u8, digit), value)
     }
@@ -98,7 +102,7 @@ impl<'a> NearPutter<'a> {
                     self.scan_on(zeros)
                 }
             }
-            Stage::Storing(digit) => self.stored_digit(digit),
+            Stage::Storing(done, digit) => self.stored_digit(done, digit),
             Stage::Counting => self.counted(),
             Stage::Closing => {
                 self.stage = Stage::Over;
@@ -117,30 +121,46 @@ impl<'a> NearPutter<'a> {
         None
     }
 
-    // The scan gave this count: a put that finds room goes on, with its item or with its count.
-    fn scanned(&mut self, seen: u64) -> Option<Told> {
+    // How many items a put stores that sees this count: as many as there is room for, of those that are left, and no more than a batch.
+    fn room_behind(&self, seen: u64) -> u64 {
         let modulus = self.miss.modulus(&self.shape);
         let count = u64::from(self.count);
-        if !(seen < modulus
-            && count < modulus
-            && distance(count, seen, modulus) < self.shape.capacity())
-        {
+        let capacity = self.shape.capacity();
+        if !(seen < modulus && count < modulus) {
+            return 0;
+        }
+        let left = self.items.len().saturating_sub(self.stored) as u64;
+        capacity
+            .saturating_sub(distance(count, seen, modulus))
+            .min(left)
+            .min(self.shape.batch())
+    }
+
+    // The scan gave this count: a put that finds room goes on, with its items or with its count.
+    fn scanned(&mut self, seen: u64) -> Option<Told> {
+        let most = self.room_behind(seen);
+        if most == 0 {
             self.stage = Stage::Between;
             return Some(Told::PutFull);
         }
-        self.row.write(((count + 1) % modulus) as u8);
+        let modulus = self.miss.modulus(&self.shape);
+        self.storing = most as usize;
+        self.row.write(((u64::from(self.count).saturating_add(most)) % modulus) as u8);
         self.stage = if self.miss == NearMiss::CountBeforeCell {
             Stage::Counting
         } else {
-            Stage::Storing(0)
+            Stage::Storing(0, 0)
         };
         None
     }
 
     // A digit was written.
-    fn stored_digit(&mut self, digit: u8) -> Option<Told> {
+    fn stored_digit(&mut self, done: usize, digit: u8) -> Option<Told> {
         if u64::from(digit) + 1 < self.shape.width() {
-            self.stage = Stage::Storing(digit + 1);
+            self.stage = Stage::Storing(done, digit + 1);
+            None
+        } else if done.saturating_add(1) < self.storing {
+            self.stage = Stage::Storing(done + 1, 0);
             None
         } else if self.miss == NearMiss::CountBeforeCell {
             Some(self.put_is_over())
@@ -156,7 +176,7 @@ impl<'a> NearPutter<'a> {
         if self.row.next().is_some() {
             None
         } else if self.miss == NearMiss::CountBeforeCell {
-            self.stage = Stage::Storing(0);
+            self.stage = Stage::Storing(0, 0);
             None
         } else {
             Some(self.put_is_over())
@@ -165,8 +185,8 @@ impl<'a> NearPutter<'a> {
 
     fn put_is_over(&mut self) -> Told {
         self.count = self.row.value();
-        self.stored = self.stored.saturating_add(1);
+        self.stored = self.stored.saturating_add(self.storing);
         self.stage = Stage::Between;
-        Told::PutStored(1)
+        Told::PutStored(self.storing)
     }
 }

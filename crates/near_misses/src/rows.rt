@@ -2,6 +2,7 @@
 ghost use Rattle.std.specs.Prelude.{◌≡◌, IfNone, IfSome};
 ghost use Rattle.near_misses.specs.Misses.{AreClear, IsHighestSet, IsLowestSet};
 
+use crate::misses::NearMiss;
 use bits_core::{Access, Bit, Side};
 
 // Bit i of the count that a side writes.
@@ -48,23 +49,45 @@ fn highest_set(bits: &[bool; 256], below: u8) -> Option<u8>
     None
 }
 
+/// In which order a count write makes its writes.
+#[derive(Clone, Copy, PartialEq, Eq, Debug)]
+pub enum Order {
+    /// It sets its bit, and clears those below from the highest down, as a ring does.
+    Downwards,
+    /// It sets its bit, and clears those below from the lowest up.
+    Upwards,
+    /// It clears those below from the highest down, and then sets its bit.
+    ClearsFirst,
+}
+
+impl Order {
+    /// The order of a near miss.
+    pub fn of(miss: NearMiss) -> Order {
+        match miss {
+            NearMiss::ClearsUpwards => Order::Upwards,
+            NearMiss::ClearsFirst => Order::ClearsFirst,
+            _ => Order::Downwards,
+        }
+    }
+}
+
 /// The bits of a count, as the side that writes them remembers them, and the value that they are to show.
 #[derive(Drop)]
 pub struct Row {
     side: Side,
-    upwards: bool,
+    order: Order,
     bits: [bool; 256],
     value: u8,
 }
 
 impl Row {
     /// A row that shows 0: its bit 0 is set.
-    pub fn new(side: Side, upwards: bool) -> Row {
+    pub fn new(side: Side, order: Order) -> Row {
         let mut bits = [false; 256];
         bits[0] = true;
         Row {
             side,
-            upwards,
+            order,
             bits,
             value: 0,
         }
@@ -80,17 +103,27 @@ impl Row {
         self.value
     }
 
-    // The bit that is written next, with its new value: the value's own bit is set first.
+    // The bit that is written next, with its new value.
     fn due(&self) -> Option<(u8, bool)> {
-        if !self.bits[self.value as usize] {
-            return Some((self.value, true));
-        }
-        let bit = if self.upwards {
-            lowest_set(&self.bits, self.value)
-        } else {
-            highest_set(&self.bits, self.value)
+        let clear = match self.order {
+            Order::Upwards => lowest_set(&self.bits, self.value),
+            Order::Downwards | Order::ClearsFirst => highest_set(&self.bits, self.value),
         };
-        bit.map(|bit| (bit, false))
+        let is_set = self.bits[self.value as usize];
+        let clears = is_set || self.order == Order::ClearsFirst;
+        match clear {
+            Some(bit) if clears => Some((bit, false)),
+            _ => self.set_due(is_set),
+        }
+    }
+
+    // The write that sets the value's own bit, where that is clear.
+    fn set_due(&self, is_set: bool) -> Option<(u8, bool)> {
+        if is_set {
+            None
+        } else {
+            Some((self.value, true))
+        }
     }
 
     /// The access that is due, and none once the row shows the value.

@@ -1,6 +1,6 @@
 //! The consumer of a near miss.
 use crate::misses::NearMiss;
-use crate::rows::{Row, read_bit};
+use crate::rows::{Order, Row, read_bit};
 use bits_core::{Access, Bit, Shape, Side};
 use ring_core::distance;
 use ring_player::Told;
@@ -44,7 +44,7 @@ impl NearTaker {
             count: 0,
             item: 0,
             stage: Stage::Between,
-            row: Row::new(Side::C, miss == NearMiss::ClearsUpwards),
+            row: Row::new(Side::C, Order::of(miss)),
         }
     }
 
