@@ -1,5 +1,5 @@
 -- What one step of a side over a memory comes to.
-use Rattle.std.specs.Prelude.{◌≡◌, Bool, false, if◌then◌else◌, Option, Some, None, List, [], ◌∷◌, ◌++◌}
+use Rattle.std.specs.Prelude.{◌≡◌, Bool, false, if◌then◌else◌, Option, Some, None, [], ◌∷◌, ◌++◌}
 use Rattle.bits_core.specs.declared.events.Side.{Side}
 use Rattle.bits_core.specs.declared.events.Access.{Access}
 use Rattle.bits_core.specs.declared.events.Access.TheVariants.{Read, Write}
@@ -13,9 +13,9 @@ use Rattle.ring_steps.specs.declared.Step.TheVariants.{Nothing, Begin, End}
 
 -- what the open access is answered: a read that a write overlapped what an oracle says, any other read what its bit held where it
 -- began, and a write false
-abbrev pub IsAnswer : Side → MemoryState → Bool → Access → Bool → Type 0
-IsAnswer side m said (Read bit) v = v ≡ (if is_read_overlapped side m.events then said else held_for_read side m.events)
-IsAnswer side m said (Write bit value) v = v ≡ false
+abbrev pub IsAnswerOf : Side → MemoryState → Bool → Access → Bool → Type 0
+IsAnswerOf side m said (Read bit) v = v ≡ (if is_read_overlapped side m.events then said else held_for_read side m.events)
+IsAnswerOf side m said (Write bit value) v = v ≡ false
 
 -- whether an access is due that the side may make
 abbrev pub MayBegin : Shape → Side → Option Access → Type 0
@@ -29,4 +29,4 @@ HasMadeStep side due said m m' Nothing = (m' ≡ m) × (open_access side m.event
 HasMadeStep side due said m m' Begin =
     (access : Access) × (due ≡ Some access) × (open_access side m.events ≡ None) × (m'.events ≡ m.events ++ opening_event side access ∷ [])
 HasMadeStep side due said m m' (End v) =
-    (access : Access) × (open_access side m.events ≡ Some access) × IsAnswer side m said access v × (m'.events ≡ m.events ++ end_event side (answered access v) ∷ [])
+    (access : Access) × (open_access side m.events ≡ Some access) × IsAnswerOf side m said access v × (m'.events ≡ m.events ++ end_event side (answered access v) ∷ [])

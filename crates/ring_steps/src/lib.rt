@@ -4,6 +4,7 @@
 //! open and tells its answer, which is then fed to the machine; between two steps of the one side come those of the other, as
 //! one likes. The crate `uses` has a whole put so.
 #![tactic(auto)]
+
 ghost use Rattle.std.specs.Prelude.{◌≡◌, IfOk, OnErr};
 ghost use Rattle.ring_steps.specs.Steps.{HasMadeStep};
 

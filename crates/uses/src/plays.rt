@@ -24,3 +24,11 @@ pub fn takes_of(alloc: Global, text: &[u8]) -> Result<(usize, bool), Unplayed> {
     let report = play(alloc, &script)?;
     Ok((report.taken.len(), report.told))
 }
+
+/// How many items of a script are still in the ring where its schedule ends, and how many reads a write overlapped. The
+/// difference is no less than 0: by the sentence of the ring, which holds of every play, those taken are a beginning of those put.
+pub fn left_inside(alloc: Global, text: &[u8]) -> Result<(usize, u64), Unplayed> {
+    let script = Script::read(alloc, text)?;
+    let report = play(alloc, &script)?;
+    Ok((report.put.len() - report.taken.len(), report.flicker))
+}
