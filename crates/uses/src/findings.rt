@@ -2,6 +2,7 @@
 ghost use Rattle.std.specs.Prelude.{◌≡◌, ◌+◌, ◌↔◌, IfOk, IfSome, IsSome, flat_map};
 ghost use Rattle.ring_audit.specs.Audit.{IsOfPrograms};
 ghost use Rattle.queue_calls.specs.Recordings.{IsFindingOf};
+ghost use Rattle.uses.specs.Judged.{JudgesLine};
 
 use bits_core::{Event, Shape};
 use queue_calls::{CallsFinding, Recording, RecordingFault};
@@ -56,11 +57,16 @@ pub fn found_in<A: Allocator + Copy>(
     recording.finding()
 }
 
-/// The line at which a recording stops being linearizable, counted from 1.
-pub fn line_at_fault(finding: CallsFinding) -> Option<u64> {
-    match finding {
-        CallsFinding::Lawful(_) => None,
-        CallsFinding::OutOfTurn { line } => Some(line),
-        CallsFinding::NotLinearizable { line, cause: _ } => Some(line),
+/// The line at which the history of such a text stops being linearizable, counted from 1; none where it never does.
+pub fn line_at_fault<A: Allocator + Copy>(
+    alloc: A,
+    pieces: &[&[u8]],
+) -> Result<Option<u64>, RecordingFault>
+    ensures { IfOk result (JudgesLine (flat_map (λ piece. piece.now) pieces.now)) }
+{
+    match found_in(alloc, pieces)? {
+        CallsFinding::Lawful(_) => Ok(None),
+        CallsFinding::OutOfTurn { line } => Ok(Some(line)),
+        CallsFinding::NotLinearizable { line, cause: _ } => Ok(Some(line)),
     }
 }
