@@ -7,7 +7,7 @@ use std::rt::HostRuntime;
 use std::test::Fail;
 use uses::audits::{is_lawful, is_of_ring};
 use uses::calls::first_at_fault;
-use uses::findings::{found_in, line_at_fault, sentence_of};
+use uses::findings::{line_at_fault, sentence_of};
 use uses::plays::takes_of;
 use uses::{findings, plays};
 
@@ -86,10 +86,8 @@ fn calls_are_audited(rt: HostRuntime) -> Result<(), Fail> {
 #[test]
 fn a_recording_is_read_in_pieces(rt: HostRuntime) -> Result<(), Fail> {
     let pieces: [&[u8]; 3] = [b"queue 8\nP put 12\nP sto", b"red\nC ta", b"ke\nC empty\n"];
-    let found = found_in(rt.alloc(), &pieces)?;
-    assert_eq!(rt; line_at_fault(found), Some(5));
+    assert_eq!(rt; line_at_fault(rt.alloc(), &pieces)?, Some(5));
     let lawful: [&[u8]; 2] = [b"queue 8\nP put 12\nP stored\nC take\n", b"C item 12\n"];
-    let found = found_in(rt.alloc(), &lawful)?;
-    assert_eq!(rt; line_at_fault(found), None);
+    assert_eq!(rt; line_at_fault(rt.alloc(), &lawful)?, None);
     Ok(())
 }
