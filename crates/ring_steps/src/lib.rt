@@ -1,12 +1,19 @@
-//! One event of a side over a memory of safe bits, for tests that let machines and memory meet.
+//! One step of a side over a memory of safe bits: for who drives a machine of the ring by hand.
+//!
+//! A machine, as `ring_core`'s `Producer`, tells the access that is due. Each step here begins it, or ends the one that is
+//! open and tells its answer, which is then fed to the machine; between two steps of the one side come those of the other, as
+//! one likes. The crate `uses` has a whole put so.
 #![tactic(auto)]
+
+ghost use Rattle.std.specs.Prelude.{◌≡◌, IfOk, OnErr};
+ghost use Rattle.ring_steps.specs.Steps.{HasMadeStep};
 
 use bits_core::{Access, Event, Memory, MemoryFault, Oracle, Side, Store};
 
 /// What a step of a side was.
-#[derive(Drop)]
+#[derive(Clone, Copy, PartialEq, Eq, Debug)]
 pub enum Step {
-    /// No access is open and none is due.
+    /// No access is open, and none is due that the side may make.
     Nothing,
     /// The due access was begun.
     Begin,
@@ -14,13 +21,21 @@ pub enum Step {
     End(bool),
 }
 
-/// The side's next event: the end of the access that it has open, or the begin of the one that is due.
+/// The side's next event: the end of the access that it has open, or the begin of the one that is due. An access that is due is
+/// begun only where it is of a bit of the memory's shape and by the side that may. The oracle is asked where a read ends that a
+/// write overlapped.
+///
+/// `OutOfMemory` leaves all as it was.
 pub fn next_event<S: Store<Event>, O: Oracle>(
     memory: &mut Memory<S>,
     side: Side,
     due: Option<Access>,
     oracle: &mut O,
-) -> Result<Step, MemoryFault> {
+) -> Result<Step, MemoryFault>
+    ensures shape { memory.new.shape ≡ memory.old.shape }
+    ensures step { IfOk result (HasMadeStep side due (O.answers oracle.old 0) memory.old memory.new) }
+    ensures fault { OnErr result ((memory.new ≡ memory.old) × (oracle.new ≡ oracle.old)) }
+{
     match memory.pending(side) {
         Some(Access::Read(_)) => return Ok(Step::End(memory.end_read(side, oracle)?)),
         Some(Access::Write(_, _)) => {

@@ -1,7 +1,6 @@
 //! A script, played.
-ghost use Rattle.std.specs.Prelude.{IfOk, IfErr, ◌≡◌, Some, None};
-ghost use Rattle.ring_script.specs.Script.{IsScript};
-ghost use Rattle.ring_script.specs.Content.{Content};
+ghost use Rattle.std.specs.Prelude.{IfOk};
+ghost use Rattle.uses.specs.Plays.{LeavesInside, TakesSoMany};
 
 use ring_player::{PlayFault, Script, ScriptFault, play};
 use std::alloc::Global;
@@ -19,8 +18,21 @@ pub enum Unplayed {
 }
 
 /// How many items the consumer of a script takes, and whether it is told that the ring is closed.
-pub fn takes_of(alloc: Global, text: &[u8]) -> Result<(usize, bool), Unplayed> {
+pub fn takes_of(alloc: Global, text: &[u8]) -> Result<(usize, bool), Unplayed>
+    ensures { IfOk result (λ r. TakesSoMany text.now r.0 r.1) }
+{
     let script = Script::read(alloc, text)?;
     let report = play(alloc, &script)?;
     Ok((report.taken.len(), report.told))
+}
+
+/// How many items of a script are still in the ring where its schedule ends, and how many reads a write overlapped. The
+/// difference is no less than 0: by the sentence of the ring, which holds of every play, those taken are a beginning of those put.
+pub fn left_inside(alloc: Global, text: &[u8]) -> Result<(usize, u64), Unplayed>
+    ensures { IfOk result (λ r. LeavesInside text.now r.0 r.1) }
+{
+    let script = Script::read(alloc, text)?;
+    let report = play(alloc, &script)?;
+    let left = report.put.len() - report.taken.len();
+    Ok((left, report.flicker))
 }

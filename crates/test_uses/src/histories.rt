@@ -1,0 +1,93 @@
+//! Uses of plays, of histories that are audited, and of recorded calls.
+use bits_core::{Act, Bit, Event, Shape, Side};
+use queue_calls::Event as Call;
+use ring_audit::audit;
+use std::alloc::AllocGlobal;
+use std::rt::HostRuntime;
+use std::test::Fail;
+use uses::audits::{is_lawful, is_of_ring};
+use uses::calls::first_at_fault;
+use uses::findings::{line_at_fault, sentence_of};
+use uses::plays::takes_of;
+use uses::{findings, plays};
+
+const SCRIPT: &[u8] =
+    br#"{"capacity":1, "modulus":3, "width":1, "items":[1], "takes":2, "close":true, "schedule":"C2P10C22", "oracle":""}"#;
+
+// The same without the consumer's last steps.
+const CUT: &[u8] =
+    br#"{"capacity":1, "modulus":3, "width":1, "items":[1], "takes":2, "close":true, "schedule":"C2P10", "oracle":""}"#;
+
+#[test]
+fn a_script_is_played(rt: HostRuntime) -> Result<(), Fail> {
+    assert_eq!(rt; takes_of(rt.alloc(), SCRIPT)?, (1, true));
+    assert_eq!(rt; plays::left_inside(rt.alloc(), SCRIPT)?, (0, 0));
+    assert_eq!(rt; plays::left_inside(rt.alloc(), CUT)?, (1, 0));
+    Ok(())
+}
+
+// A producer that writes its count at once.
+fn count_first() -> [Event; 4] {
+    let event = |bit, act| Event {
+        side: Side::P,
+        bit,
+        act,
+    };
+    [
+        event(Bit::R(0), Act::ReadBegin),
+        event(Bit::R(0), Act::ReadEnd(true)),
+        event(Bit::S(1), Act::WriteBegin(true)),
+        event(Bit::S(1), Act::WriteEnd),
+    ]
+}
+
+#[test]
+fn a_history_is_audited(rt: HostRuntime) -> Result<(), Fail> {
+    let shape = Shape::new(1, 3, 1)?;
+    let events = count_first();
+    assert!(rt; is_lawful(&shape, &events));
+    assert!(rt; !is_of_ring(rt.alloc(), &shape, &events)?);
+    assert!(rt; is_of_ring(rt.alloc(), &shape, &events[..2])?);
+    assert_eq!(rt; findings::left_inside(rt.alloc(), &shape, &events)?, None);
+    assert_eq!(rt;
+        findings::left_inside(rt.alloc(), &shape, &events[..2])?,
+        Some(0)
+    );
+    Ok(())
+}
+
+#[test]
+fn a_finding_is_told_in_words(rt: HostRuntime) -> Result<(), Fail> {
+    let shape = Shape::new(1, 3, 1)?;
+    let events = count_first();
+    let fault = sentence_of(rt.alloc(), &audit(rt.alloc(), &shape, &events)?)?;
+    assert_eq!(rt; fault.as_str(), "event 2 is at fault: not of the program");
+    let lawful = sentence_of(rt.alloc(), &audit(rt.alloc(), &shape, &events[..2])?)?;
+    assert_eq!(rt;
+        lawful.as_str(),
+        "a history of the ring: 0 put, 0 taken, open"
+    );
+    Ok(())
+}
+
+#[test]
+fn calls_are_audited(rt: HostRuntime) -> Result<(), Fail> {
+    let calls = [
+        Call::PutBegins(&[5]),
+        Call::PutStored(1),
+        Call::TakeBegins(1),
+        Call::TakeEmpty,
+    ];
+    assert_eq!(rt; first_at_fault(rt.alloc(), 8, &calls)?, Some(3));
+    assert_eq!(rt; first_at_fault(rt.alloc(), 8, &calls[..3])?, None);
+    Ok(())
+}
+
+#[test]
+fn a_recording_is_read_in_pieces(rt: HostRuntime) -> Result<(), Fail> {
+    let pieces: [&[u8]; 3] = [b"queue 8\nP put 12\nP sto", b"red\nC ta", b"ke\nC empty\n"];
+    assert_eq!(rt; line_at_fault(rt.alloc(), &pieces)?, Some(5));
+    let lawful: [&[u8]; 2] = [b"queue 8\nP put 12\nP stored\nC take\n", b"C item 12\n"];
+    assert_eq!(rt; line_at_fault(rt.alloc(), &lawful)?, None);
+    Ok(())
+}

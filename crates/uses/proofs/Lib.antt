@@ -1,0 +1,4 @@
+pub mod Driving
+pub mod Packing
+pub mod Passing
+pub mod Played

@@ -1,0 +1,7 @@
+pub mod ByHand
+pub mod Judged
+pub mod Minstd
+pub mod Passed
+pub mod Plays
+pub mod Reading
+pub mod Stepping

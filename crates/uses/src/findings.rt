@@ -1,0 +1,72 @@
+//! What an audit found, read: how many items are still inside, a sentence, and the finding of a text that comes in pieces.
+ghost use Rattle.std.specs.Prelude.{◌≡◌, ◌+◌, ◌↔◌, IfOk, IfSome, IsSome, flat_map};
+ghost use Rattle.ring_audit.specs.Audit.{IsOfPrograms};
+ghost use Rattle.queue_calls.specs.Recordings.{IsFindingOf};
+ghost use Rattle.uses.specs.Judged.{JudgesLine};
+
+use bits_core::{Event, Shape};
+use queue_calls::{CallsFinding, Recording, RecordingFault};
+use ring_audit::{AuditFault, Finding, audit};
+use std::alloc::{AllocError, Allocator};
+
+/// How many items of a history of the ring were put and not taken. None where the history is not one.
+pub fn left_inside<A: Allocator + Copy>(
+    alloc: A,
+    shape: &Shape,
+    events: &[Event],
+) -> Result<Option<usize>, AuditFault>
+    ensures { IfOk result (λ left. IsSome left ↔ IsOfPrograms shape.now events.now) }
+{
+    match audit(alloc, shape, events)? {
+        Finding::Lawful {
+            put,
+            taken,
+            told: _,
+        } => Ok(Some(put.len() - taken.len())),
+        Finding::Fault { place: _, kind: _ } => Ok(None),
+    }
+}
+
+/// The finding in words.
+pub fn sentence_of<A: Allocator, B: Allocator>(
+    alloc: A,
+    finding: &Finding<B>,
+) -> Result<String<A>, AllocError> {
+    match finding {
+        Finding::Lawful { put, taken, told } => {
+            let put = put.len();
+            let taken = taken.len();
+            let end = if *told { "closed" } else { "open" };
+            format!(in alloc; "a history of the ring: {put} put, {taken} taken, {end}")
+        }
+        Finding::Fault { place, kind } => format!(in alloc; "event {place} is at fault: {kind}"),
+    }
+}
+
+/// What is found of a text of recorded calls that comes in pieces, cut anywhere.
+pub fn found_in<A: Allocator + Copy>(
+    alloc: A,
+    pieces: &[&[u8]],
+) -> Result<CallsFinding, RecordingFault>
+    ensures { IfOk result (IsFindingOf (flat_map (λ piece. piece.now) pieces.now)) }
+{
+    let mut recording = Recording::new(alloc);
+    'pieces: for piece in pieces {
+        recording.read(piece)?;
+    }
+    recording.finding()
+}
+
+/// The line at which the history of such a text stops being linearizable, counted from 1; none where it never does.
+pub fn line_at_fault<A: Allocator + Copy>(
+    alloc: A,
+    pieces: &[&[u8]],
+) -> Result<Option<u64>, RecordingFault>
+    ensures { IfOk result (JudgesLine (flat_map (λ piece. piece.now) pieces.now)) }
+{
+    match found_in(alloc, pieces)? {
+        CallsFinding::Lawful(_) => Ok(None),
+        CallsFinding::OutOfTurn { line } => Ok(Some(line)),
+        CallsFinding::NotLinearizable { line, cause: _ } => Ok(Some(line)),
+    }
+}
