@@ -9,6 +9,7 @@ pub mod PutSteps
 pub mod PutItems
 pub mod PutEnds
 pub mod Readings
+pub mod Rooms
 pub mod Breaks
 pub mod Findings
 pub mod Sentences

@@ -12,7 +12,7 @@ use Rattle.ring_audit.specs.declared.takes.TakeStep.TheVariants as c
 use Rattle.ring_audit.specs.Sides.{AreOfPuts, AreOfTakes}
 use Rattle.ring_audit.specs.PutReading.{PutReading, PutsStand, HasReadPut}
 use Rattle.ring_audit.specs.TakeReading.{TakeReading, TakesStand, HasReadTake}
-use Rattle.ring_audit.specs.Reading.{Reading, ReadingStands, BothFollow}
+use Rattle.ring_audit.specs.Reading.{Reading, ReadingStands, BothFollow, reading}
 
 pub own_more : OwnChanges → (s t : Side) (h : List Event) (e : Event) → e.side ≡ t → own s (h ++ e ∷ []) ≡ (if same_side s t then own s h ++ e ∷ [] else own s h)
 own_more changes s t h e by = changes s h e ∙ ap (λ (u : Side). if same_side s u then own s h ++ e ∷ [] else own s h) by
@@ -93,3 +93,12 @@ take_takes changes shape r new e item taken by read more h st = record {
   put_is = st.put_is;
   counted_is = st.counted_is;
 }
+
+-- ---- the shape of the readers is this one
+
+pub followed :
+    (of shape : Shape) (puts : PutReading) (takes : TakeReading) (counted : ℕ) (put taken : List ℕ) (h : List Event) → of ≡ shape →
+    ((g : List Event) (items ended : List ℕ) → ReadingStands of (reading puts takes counted items ended) g → BothFollow of g) →
+    ReadingStands shape (reading puts takes counted put taken) h → BothFollow shape h
+followed of shape puts takes counted put taken h same follow st =
+    subst (λ s. BothFollow s h) same (follow h put taken (subst (λ s. ReadingStands s (reading puts takes counted put taken) h) (sym same) st))

@@ -1,16 +1,19 @@
 -- What an audit of a history says: of its bits and of the programs of its two sides.
-use Rattle.std.specs.Prelude.{◌≡◌, ℕ, suc, ◌<◌, ◌↔◌, Bool, true, false, IsTrue, List, length, take}
+use Rattle.std.specs.Prelude.{◌≡◌, ℕ, suc, ◌+◌, ◌<◌, ◌≤◌, ◌⊎◌, ◌↔◌, Bool, true, false, IsTrue, List, length, take}
 use Rattle.bits_core.specs.declared.events.Event.{Event}
 use Rattle.bits_core.specs.declared.audits.Kind.{Kind}
 use Rattle.bits_core.specs.declared.audits.Kind.TheVariants.{WrongSide, OutOfTurn, NotPermitted, NotProgram}
 use Rattle.bits_core.specs.declared.audits.Verdict.{Verdict}
 use Rattle.bits_core.specs.declared.audits.Verdict.TheVariants as bits
 use Rattle.bits_core.specs.declared.shapes.Shape.{Shape}
+use Rattle.bits_core.specs.Shape.{batch_of}
 use Rattle.bits_core.specs.Audit.{IsFirstFault}
 use Rattle.bits_core.specs.Lawful.{IsLawful}
 use Rattle.bits_core.specs.Made.{IsBeginning}
 use Rattle.ring_audit.specs.declared.audits.Finding.{Finding}
 use Rattle.ring_audit.specs.declared.audits.Finding.TheVariants as findings
+use Rattle.ring_audit.specs.declared.audits.Found.{Found}
+use Rattle.ring_audit.specs.declared.audits.Found.TheVariants as slots
 use Rattle.ring_core.specs.Puts.{Puts}
 use Rattle.ring_core.specs.Takes.{Takes}
 use Rattle.ring_core.specs.Items.{items_put_in, items_taken_in, ToldIn}
@@ -52,6 +55,26 @@ pub data Statement : Type 0 where
 abbrev pub statement : {A : Type 0} → Finding A → Statement
 statement (findings.Lawful put taken told) = Lawful put.items taken.items told
 statement (findings.Fault place kind) = Fault place kind
+
+-- and where the items lie in the first slots
+abbrev pub statement_in : List ℕ → List ℕ → Found → Statement
+statement_in put taken (slots.Lawful put_count taken_count told) = Lawful (take put_count put) (take taken_count taken) told
+statement_in put taken (slots.Fault place kind) = Fault place kind
+
+-- there are no more items than slots
+abbrev pub FitsIn : ℕ → ℕ → Found → Type 0
+FitsIn put_slots taken_slots (slots.Lawful put taken told) = (put ≤ put_slots) × (taken ≤ taken_slots)
+FitsIn put_slots taken_slots (slots.Fault place kind) = Unit {0}
+
+-- By some first events, which are lawful and of the programs, more items were taken than there are slots for them, or more put than
+-- there are slots for them and a batch more.
+pub record HasTooFewSlots (shape : Shape) (h : List Event) (put_slots taken_slots : ℕ) : Type 0 where
+  pub until : ℕ
+  pub put : List ℕ
+  pub taken : List ℕ
+  pub told : Bool
+  pub found : IsFound shape (take until h) put taken told
+  pub short : (put_slots < length put + batch_of shape) ⊎ (taken_slots < length taken)
 
 -- what may be said of a history
 abbrev pub IsFinding : Shape → List Event → Statement → Type 0

@@ -1,19 +1,18 @@
 //! The audit of a history: of its bits and of the programs of its two sides.
-ghost use Rattle.std.specs.Prelude.{◌≡◌, ◌↔◌, ◌++◌, ◌∷◌, [], ℕ, List, Bool, true, false, IfOk, IsTrue, ◌≤◌, length};
+ghost use Rattle.std.specs.Prelude.{◌≡◌, ◌↔◌, ◌⊎◌, ◌++◌, ◌∷◌, [], ℕ, ◌+◌, List, Bool, true, false, IfOk, OnErr, OnOk, IsTrue, ◌<◌, ◌≤◌, length, take};
 ghost use Rattle.bits_core.specs.declared.events.Event.{Event as AnEvent};
 ghost use Rattle.bits_core.specs.Lawful.{IsLawful};
-ghost use Rattle.ring_audit.specs.Audit.{IsFinding, IsOfPrograms, SaysLinearizable, SaysSentence, lawful_until, statement, tells_lawful};
+ghost use Rattle.ring_audit.specs.Audit.{FitsIn, HasTooFewSlots, IsFinding, IsFound, IsOfPrograms, SaysLinearizable, SaysSentence, lawful_until, statement, statement_in, tells_lawful};
 ghost use Rattle.bits_core.specs.Audit.{IsVerdict};
-ghost use Rattle.ring_audit.specs.Reading.{ReadingStands, BothFollow};
+ghost use Rattle.ring_audit.specs.Reading.{NeedsRoom, ReadingStands, BothFollow, reading};
 
 use crate::faults::AuditFault;
 use crate::puts::{PutReader, PutStep};
 use crate::takes::{TakeReader, TakeStep};
 use bits_core::laws::{beginning_is_lawful, fault_breaks, own_changes};
-use bits_core::{Event, Kind, Shape, Side, Verdict, audit_bits};
+use bits_core::{Event, Filled, Kind, Shape, Side, Store, Verdict, audit_bits};
 use ring_core::laws::{closed_stays, ring_is_linearizable, ring_law};
 use std::alloc::Allocator;
-use std::marker::Model;
 
 /// What an audit finds.
 #[derive(Drop)]
@@ -32,48 +31,78 @@ pub enum Finding<A: Allocator> {
     },
 }
 
-// The readers of both sides, with the items that they read.
+/// What an audit finds, where the items lie in the first slots of two slices of the caller's.
+#[derive(Clone, Copy, PartialEq, Eq, Debug)]
+pub enum Found {
+    /// The history is lawful and both sides follow their programs, by which so many items were put and
+    /// taken, and the consumer was told that the ring is closed or not.
+    Lawful {
+        put: usize,
+        taken: usize,
+        told: bool,
+    },
+    /// The event at `place`, counted from 0, is the first up to and with which that fails.
+    Fault {
+        place: usize,
+        kind: Kind,
+    },
+}
+
+// One item more, where the store has room for it.
+fn push<S: Store<u64>>(store: &mut S, item: u64) -> Result<(), AuditFault>
+    ensures pushed { OnOk result (S.items store.new ≡ S.items store.old ++ item ∷ []) }
+    ensures full { OnErr result (S.room store.old ≤ length (S.items store.old)) }
+    ensures kept { S.room store.new ≡ S.room store.old }
+    ensures slots { (first : S) → S.same_slots first store.old → S.same_slots first store.new }
+{
+    store.reserve()?;
+    store.add(item);
+    Ok(())
+}
+
+// The readers of both sides, and how many of the items that were stored are counted.
 #[derive(Drop)]
-struct Reading<A: Allocator> {
+struct Readers {
     puts: PutReader,
     takes: TakeReader,
-    put: Vec<u64, A>,
     counted: usize,
-    taken: Vec<u64, A>,
 }
 
-impl<A: Allocator> Model for Reading<A> {
-    ghost use Rattle.ring_audit.specs.Reading.{Reading as TheReading};
-
-    ghost Value = { TheReading };
-
-    ghost view = { λ r. record { puts = r.puts; takes = r.takes; put = r.put.items; counted = r.counted; taken = r.taken.items } };
-}
-
-impl<A: Allocator> Reading<A> {
-    fn new(alloc: A, shape: &Shape) -> Reading<A>
-    where
-        A: Copy,
+impl Readers {
+    fn new(shape: &Shape) -> Readers
         ensures put_shape { result.puts.shape ≡ shape.now }
         ensures take_shape { result.takes.consumer.shape ≡ shape.now }
-        ensures stands { ReadingStands shape.now result [] }
+        ensures stands { ReadingStands shape.now (reading result.puts result.takes result.counted [] []) [] }
     {
-        Reading {
+        Readers {
             puts: PutReader::new(shape),
             takes: TakeReader::new(shape),
-            put: Vec::new(alloc),
             counted: 0,
-            taken: Vec::new(alloc),
         }
     }
 
-    // Reads the next event: whether it is the next one of its side's program.
-    fn read(&mut self, event: Event) -> Result<bool, AuditFault>
+    // Reads the next event: whether it is the next one of its side's program. The items that were stored grow in
+    // the one store, and those that were taken in the other.
+    fn read<S: Store<u64>>(
+        &mut self,
+        event: Event,
+        put: &mut S,
+        taken: &mut S,
+    ) -> Result<bool, AuditFault>
         requires { self.old.takes.consumer.shape ≡ self.old.puts.shape }
         ensures put_shape { self.new.puts.shape ≡ self.old.puts.shape }
         ensures take_shape { self.new.takes.consumer.shape ≡ self.old.takes.consumer.shape }
-        ensures goes_on { IfOk result (λ on. on ≡ true → (h : List AnEvent) → ReadingStands self.old.puts.shape self.old h → ReadingStands self.old.puts.shape self.new (h ++ event ∷ [])) }
-        ensures stops { IfOk result (λ on. on ≡ false → (h : List AnEvent) → ReadingStands self.old.puts.shape self.old h → ¬ BothFollow self.old.puts.shape (h ++ event ∷ [])) }
+        ensures goes_on { IfOk result (λ on. on ≡ true → (h : List AnEvent) → ReadingStands self.old.puts.shape (reading self.old.puts self.old.takes self.old.counted (S.items put.old) (S.items taken.old)) h
+            → ReadingStands self.old.puts.shape (reading self.new.puts self.new.takes self.new.counted (S.items put.new) (S.items taken.new)) (h ++ event ∷ [])) }
+        ensures stops { IfOk result (λ on. on ≡ false → (h : List AnEvent) → ReadingStands self.old.puts.shape (reading self.old.puts self.old.takes self.old.counted (S.items put.old) (S.items taken.old)) h
+            → ¬ BothFollow self.old.puts.shape (h ++ event ∷ [])) }
+        ensures refused { OnErr result ((h : List AnEvent) → ReadingStands self.old.puts.shape (reading self.old.puts self.old.takes self.old.counted (S.items put.old) (S.items taken.old)) h
+            → NeedsRoom self.old.puts.shape self.new.puts self.new.takes self.new.counted (S.room put.old) (S.room taken.old) (h ++ event ∷ [])) }
+        ensures full { OnErr result ((S.room put.old ≤ length (S.items put.old)) ⊎ (S.room taken.old ≤ length (S.items taken.old))) }
+        ensures few { IfOk result (λ on. (length (S.items put.new) ≤ length (S.items put.old) + 1) × (length (S.items taken.new) ≤ length (S.items taken.old) + 1)) }
+        ensures rooms { (S.room put.new ≡ S.room put.old) × (S.room taken.new ≡ S.room taken.old) }
+        ensures put_slots { (first : S) → S.same_slots first put.old → S.same_slots first put.new }
+        ensures taken_slots { (first : S) → S.same_slots first taken.old → S.same_slots first taken.new }
     {
         own_changes();
         match event.side {
@@ -81,11 +110,11 @@ impl<A: Allocator> Reading<A> {
                 PutStep::Stops => Ok(false),
                 PutStep::GoesOn => Ok(true),
                 PutStep::Stores(item) => {
-                    self.put.push(item)?;
+                    push(put, item)?;
                     Ok(true)
                 }
                 PutStep::Counts => {
-                    self.counted = self.put.len();
+                    self.counted = put.as_slice().len();
                     Ok(true)
                 }
             },
@@ -93,41 +122,22 @@ impl<A: Allocator> Reading<A> {
                 TakeStep::Stops => Ok(false),
                 TakeStep::GoesOn => Ok(true),
                 TakeStep::Takes(item) => {
-                    self.taken.push(item)?;
+                    push(taken, item)?;
                     Ok(true)
                 }
             },
         }
     }
 
-    // What was read so far is of the programs.
-    fn follows(&self)
+    // Whether a take was told that the ring is closed. What was read so far is of the programs.
+    fn told(&self) -> bool
         requires { self.now.takes.consumer.shape ≡ self.now.puts.shape }
-        ensures { (h : List AnEvent) → ReadingStands self.now.puts.shape self.now h → BothFollow self.now.puts.shape h }
+        ensures follow { (h : List AnEvent) (put taken : List ℕ) → ReadingStands self.now.puts.shape (reading self.now.puts self.now.takes self.now.counted put taken) h → BothFollow self.now.puts.shape h }
+        ensures found { (h : List AnEvent) (put taken : List ℕ) → IsLawful self.now.puts.shape h → ReadingStands self.now.puts.shape (reading self.now.puts self.now.takes self.now.counted put taken) h
+            → IsFound self.now.puts.shape h (take self.now.counted put) taken result }
     {
         self.puts.follow();
-        let _told = self.takes.told();
-    }
-
-    // What was found of a lawful history that was read to its end.
-    fn finding(self) -> Finding<A>
-        requires { self.takes.consumer.shape ≡ self.puts.shape }
-        ensures { (h : List AnEvent) → IsLawful self.puts.shape h → ReadingStands self.puts.shape self h → IsFinding self.puts.shape h (statement result) }
-    {
-        let Reading {
-            puts,
-            takes,
-            mut put,
-            counted,
-            taken,
-        } = self;
-        puts.follow();
-        put.truncate(counted);
-        Finding::Lawful {
-            put,
-            taken,
-            told: takes.told(),
-        }
+        self.takes.told()
     }
 }
 
@@ -171,7 +181,7 @@ pub fn audit<A: Allocator + Copy>(
     Ok(found)
 }
 
-// What is found of the events.
+// What is found of the events, with the items in lists.
 fn find<A: Allocator + Copy>(
     alloc: A,
     shape: &Shape,
@@ -179,23 +189,120 @@ fn find<A: Allocator + Copy>(
 ) -> Result<Finding<A>, AuditFault>
     ensures { IfOk result (λ found. IsFinding shape.now events.now (statement found)) }
 {
+    let mut put = Vec::new(alloc);
+    let mut taken = Vec::new(alloc);
+    match find_in(shape, events, &mut put, &mut taken)? {
+        Found::Lawful {
+            put: counted,
+            taken: ended,
+            told,
+        } => {
+            put.truncate(counted);
+            taken.truncate(ended);
+            Ok(Finding::Lawful { put, taken, told })
+        }
+        Found::Fault { place, kind } => Ok(Finding::Fault { place, kind }),
+    }
+}
+
+// What is found of the events, with the items in slots.
+fn find_filled<'a>(
+    shape: &Shape,
+    events: &[Event],
+    put: &mut Filled<'a, u64>,
+    taken: &mut Filled<'a, u64>,
+) -> Result<Found, AuditFault>
+    requires no_put { put.old.used ≡ 0 }
+    requires none_taken { taken.old.used ≡ 0 }
+    ensures found { IfOk result (λ found. IsFinding shape.now events.now (statement_in put.new.slots.now taken.new.slots.now found)) }
+    ensures exact { IfOk result (λ found. IsTrue (tells_lawful (statement_in put.new.slots.now taken.new.slots.now found)) ↔ IsOfPrograms shape.now events.now) }
+    ensures sentence { IfOk result (λ found. SaysSentence shape.now events.now (statement_in put.new.slots.now taken.new.slots.now found)) }
+    ensures within { IfOk result (λ found. FitsIn (length put.new.slots.now) (length taken.new.slots.now) found) }
+    ensures refused { OnErr result (HasTooFewSlots shape.now events.now (length put.new.slots.now) (length taken.new.slots.now)) }
+    ensures few { OnErr result ((length put.new.slots.now < length events.now) ⊎ (length taken.new.slots.now < length events.now)) }
+    ensures put_slots { put.new.slots.ghost_name ≡ put.old.slots.ghost_name }
+    ensures taken_slots { taken.new.slots.ghost_name ≡ taken.old.slots.ghost_name }
+{
+    beginning_is_lawful();
+    ring_law();
+    closed_stays();
+    let found = find_in(shape, events, put, taken)?;
+    Ok(found)
+}
+
+/// The audit of [`audit`], with the items in the first slots of two slices of the caller's: it tells how many there
+/// are of each. It takes no memory.
+///
+/// `OutOfMemory` tells that a slice is too short: some first events are lawful and of the programs, and by these more
+/// items were taken than there are slots for them, or more put than there are slots for them and a batch more, since
+/// the items of a batch are kept from the end of their word on, and put once their count is written. As many slots
+/// in each as there are events are always enough.
+///
+/// The first slots may hold items whatever is told: after a fault those of the events before it.
+pub fn audit_into(
+    shape: &Shape,
+    events: &[Event],
+    put: &mut [u64],
+    taken: &mut [u64],
+) -> Result<Found, AuditFault>
+    ensures found { IfOk result (λ found. IsFinding shape.now events.now (statement_in put.new taken.new found)) }
+    ensures exact { IfOk result (λ found. IsTrue (tells_lawful (statement_in put.new taken.new found)) ↔ IsOfPrograms shape.now events.now) }
+    ensures sentence { IfOk result (λ found. SaysSentence shape.now events.now (statement_in put.new taken.new found)) }
+    ensures linearizable { IfOk result (λ found. SaysLinearizable shape.now events.now (statement_in put.new taken.new found)) }
+    // There are no more items than slots.
+    ensures within { IfOk result (λ found. FitsIn (length put.new) (length taken.new) found) }
+    // It is refused only where the slots are too few.
+    ensures refused { OnErr result (HasTooFewSlots shape.now events.now (length put.new) (length taken.new)) }
+    ensures few { OnErr result ((length put.new < length events.now) ⊎ (length taken.new < length events.now)) }
+{
+    ring_is_linearizable();
+    let mut put_list = Filled::new(put);
+    let mut taken_list = Filled::new(taken);
+    let found = find_filled(shape, events, &mut put_list, &mut taken_list)?;
+    Ok(found)
+}
+
+// What is found of the events. The items that were stored and those that were taken grow in these stores, which
+// are empty.
+fn find_in<S: Store<u64>>(
+    shape: &Shape,
+    events: &[Event],
+    put: &mut S,
+    taken: &mut S,
+) -> Result<Found, AuditFault>
+    requires no_put { S.items put.old ≡ [] }
+    requires none_taken { S.items taken.old ≡ [] }
+    ensures found { IfOk result (λ found. IsFinding shape.now events.now (statement_in (S.items put.new) (S.items taken.new) found)) }
+    ensures within { IfOk result (λ found. FitsIn (length (S.items put.new)) (length (S.items taken.new)) found) }
+    ensures refused { OnErr result (HasTooFewSlots shape.now events.now (S.room put.new) (S.room taken.new)) }
+    ensures few { OnErr result ((S.room put.new < length events.now) ⊎ (S.room taken.new < length events.now)) }
+    ensures rooms { (S.room put.new ≡ S.room put.old) × (S.room taken.new ≡ S.room taken.old) }
+    ensures put_slots { (first : S) → S.same_slots first put.old → S.same_slots first put.new }
+    ensures taken_slots { (first : S) → S.same_slots first taken.old → S.same_slots first taken.new }
+{
     beginning_is_lawful();
     fault_breaks();
     let verdict = audit_bits(shape, events);
     let lawful = &events[..lawful_length(shape, events, verdict)];
-    let mut reading = Reading::new(alloc, shape);
+    let mut readers = Readers::new(shape);
+    readers.told();
     for i in 0..lawful.len() {
-        reading.follows();
-        if !reading.read(lawful[i])? {
-            return Ok(Finding::Fault {
+        let on = readers.read(lawful[i], put, taken);
+        readers.told();
+        if !on? {
+            return Ok(Found::Fault {
                 place: i,
                 kind: Kind::NotProgram,
             });
         }
     }
-    reading.follows();
+    let told = readers.told();
     match verdict {
-        Verdict::Lawful => Ok(reading.finding()),
-        Verdict::Fault { place, kind } => Ok(Finding::Fault { place, kind }),
+        Verdict::Lawful => Ok(Found::Lawful {
+            put: readers.counted,
+            taken: taken.as_slice().len(),
+            told,
+        }),
+        Verdict::Fault { place, kind } => Ok(Found::Fault { place, kind }),
     }
 }

@@ -7,7 +7,7 @@ use thiserror::Error;
 /// Why an audit gave no finding.
 #[derive(Clone, Copy, PartialEq, Eq, Debug, Error)]
 pub enum AuditFault {
-    /// Memory for the lists of a finding ran out.
+    /// Memory for the lists of a finding ran out, or the slots for them did.
     #[error("out of memory")]
     OutOfMemory,
 }

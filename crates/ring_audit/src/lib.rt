@@ -8,5 +8,5 @@ mod puts;
 mod sides;
 mod takes;
 
-pub use audits::{Finding, audit};
+pub use audits::{Finding, Found, audit, audit_into};
 pub use faults::AuditFault;

@@ -1,0 +1,118 @@
+-- Where the slots are too few.
+use Rattle.std.specs.Prelude.{OnErr}
+use Rattle.std.proofs.Common.{◌≡◌, Result, Ok, Err, inl, inr, ℕ, suc, ◌+◌, ◌<◌, ◌≤◌, Bool, List, [], ◌∷◌, ◌++◌, length, take, get_or, refl, sym, ap, subst, ◌∙◌, arith, length-append}
+use Rattle.std.proofs.lemmas.List.{take_more, take-take, take_at, length-take-le}
+use Rattle.bits_core.specs.declared.events.Event.{Event}
+use Rattle.bits_core.specs.declared.shapes.Shape.{Shape}
+use Rattle.bits_core.specs.Shape.{batch_of}
+use Rattle.bits_core.specs.declared.events.Side.TheVariants.{P, C}
+use Rattle.bits_core.specs.Laws.{BeginningIsLawful, OwnChanges}
+use Rattle.bits_core.specs.Lawful.{IsLawful}
+use Rattle.ring_core.specs.Puts.{Put}
+use Rattle.bits_core.specs.Made.{Made}
+use Rattle.ring_audit.specs.declared.puts.Stage.{Stage}
+use Rattle.ring_audit.specs.declared.puts.Stage.TheVariants.{Resting, Scanning, Choosing, Storing, Counting, Closing, Closed}
+use Rattle.ring_audit.specs.Audit.{IsFound, IsFinding, FitsIn, HasTooFewSlots, statement_in}
+use Rattle.ring_audit.specs.declared.audits.Found.{Found}
+use Rattle.ring_audit.specs.declared.audits.Found.TheVariants as slots
+use Rattle.ring_audit.specs.declared.puts.PutStep.TheVariants as p
+use Rattle.ring_audit.specs.declared.takes.TakeStep.TheVariants as c
+use Rattle.ring_audit.specs.PutReading.{PutReading, PutsStand, HasReadPut, MadeWhile}
+use Rattle.ring_audit.specs.TakeReading.{TakeReading, HasReadTake}
+use Rattle.ring_audit.specs.Reading.{ReadingStands, NeedsRoom, reading}
+use Rattle.ring_audit.proofs.Breaks.{lawful_take}
+use Rattle.ring_audit.proofs.Readings.{put_stores, take_takes}
+
+pub on_err : {A E : Type 0} {G : Type 0} (r : Result A E) → G → OnErr r G
+on_err (Ok a) g = tt
+on_err (Err x) g = g
+
+-- ---- an event for whose item there is no room
+
+pub put_needs :
+    OwnChanges → (shape : Shape) (puts new : PutReading) (takes : TakeReading) (counted : ℕ) (put taken : List ℕ) (e : Event) (item put_room taken_room : ℕ) → e.side ≡ P →
+    HasReadPut shape puts new e (p.Stores item) → put_room ≤ length put → (h : List Event) → ReadingStands shape (reading puts takes counted put taken) h →
+    NeedsRoom shape new takes counted put_room taken_room (h ++ e ∷ [])
+put_needs changes shape puts new takes counted put taken e item put_room taken_room by read full h st = record {
+  put = put ++ item ∷ [];
+  taken = taken;
+  stands = put_stores changes shape (reading puts takes counted put taken) new e item (put ++ item ∷ []) by read refl h st;
+  short = inl (omega (arith, full, length-append put (item ∷ [])));
+}
+
+pub take_needs :
+    OwnChanges → (shape : Shape) (puts : PutReading) (takes new : TakeReading) (counted : ℕ) (put taken : List ℕ) (e : Event) (item put_room taken_room : ℕ) → e.side ≡ C →
+    HasReadTake shape takes new e (c.Takes item) → taken_room ≤ length taken → (h : List Event) → ReadingStands shape (reading puts takes counted put taken) h →
+    NeedsRoom shape puts new counted put_room taken_room (h ++ e ∷ [])
+take_needs changes shape puts takes new counted put taken e item put_room taken_room by read full h st = record {
+  put = put;
+  taken = taken ++ item ∷ [];
+  stands = take_takes changes shape (reading puts takes counted put taken) new e item (taken ++ item ∷ []) by read refl h st;
+  short = inr (omega (arith, full, length-append taken (item ∷ [])));
+}
+
+-- ---- what is told of it
+
+-- no more items are stored and not counted than one count write may count
+few_at :
+    (stage : Stage) (shape : Shape) (r : PutReading) (puts : List Put) (items stored : List ℕ) (made : List Made) → MadeWhile stage shape r puts items stored made →
+    length stored ≤ batch_of shape
+few_at Resting shape r puts items stored made (rests, is) = omega (arith, ap length rests.none_stored)
+few_at Scanning shape r puts items stored made (rests, is) = omega (arith, ap length rests.none_stored)
+few_at Choosing shape r puts items stored made (s, is) = omega (arith, s.may.few)
+few_at Storing shape r puts items stored made (s, reads, stands, is) = omega (arith, s.may.few)
+few_at Counting shape r puts items stored made (s, is) = omega (arith, ap length s.none_stored)
+few_at Closing shape r puts items stored made (rests, is) = omega (arith, ap length rests.none_stored)
+few_at Closed shape r puts items stored made (rests, is) = omega (arith, ap length rests.none_stored)
+
+pub few_stored : (shape : Shape) (r : PutReading) (es : List Event) (items stored : List ℕ) → PutsStand shape r es items stored → length stored ≤ batch_of shape
+few_stored shape r es items stored st = few_at r.stage shape r st.puts items stored st.made st.made_is
+
+-- one event more of the part that is looked at
+pub one_more :
+    (h part : List Event) (n i : ℕ) (d : Event) → part ≡ take n h → i < length part → i < n → (take (suc i) part ≡ take i part ++ get_or part i d ∷ []) × (take (suc i) part ≡ take (suc i) h)
+one_more h part n i d part_is within below =
+    let one : suc i ≡ i + 1 = omega arith in
+    (ap (λ k. take k part) one ∙ take_more part i d within, ap (take (suc i)) part_is ∙ take-take (suc i) n h (omega (arith, below)))
+
+-- the counted ones are those that stand in front
+pub counted_are : (shape : Shape) (puts : PutReading) (takes : TakeReading) (counted : ℕ) (put taken : List ℕ) (h : List Event) (st : ReadingStands shape (reading puts takes counted put taken) h) →
+    take counted put ≡ st.items
+counted_are shape puts takes counted put taken h st = ap (λ n. take n put) st.counted_is ∙ ap (take (length st.items)) st.put_is ∙ take_at st.items st.stored (length st.items) refl
+
+pub too_few_slots :
+    BeginningIsLawful → (of shape : Shape) (h part : List Event) (n i : ℕ) (d : Event) (puts : PutReading) (takes : TakeReading) (counted put_room taken_room : ℕ) (told : Bool) →
+    of ≡ shape → part ≡ take n h → i < length part → i < n → IsLawful shape part →
+    NeedsRoom of puts takes counted put_room taken_room (take i part ++ get_or part i d ∷ []) →
+    ((g : List Event) (put taken : List ℕ) → IsLawful of g → ReadingStands of (reading puts takes counted put taken) g → IsFound of g (take counted put) taken told) →
+    HasTooFewSlots shape h put_room taken_room
+too_few_slots law of shape h part n i d puts takes counted put_room taken_room told same part_is within below lawful needs found =
+    let (more, after) = one_more h part n i d part_is within below in
+    let g : List Event = take i part ++ get_or part i d ∷ [] in
+    let lawful_so : IsLawful of g = subst (λ s. IsLawful s g) (sym same) (subst (IsLawful shape) more (lawful_take law shape part (suc i) lawful)) in
+    let are : IsFound of g (take counted needs.put) needs.taken told = found g needs.put needs.taken lawful_so needs.stands in
+    let items_are : take counted needs.put ≡ needs.stands.items = counted_are of puts takes counted needs.put needs.taken g needs.stands in
+    let few : length needs.stands.stored ≤ batch_of of = few_stored of puts _ needs.stands.items needs.stands.stored needs.stands.puts_stand in
+    let long : length needs.put ≡ length needs.stands.items + length needs.stands.stored = ap length needs.stands.put_is ∙ length-append needs.stands.items needs.stands.stored in
+    record {
+      until = suc i;
+      put = take counted needs.put;
+      taken = needs.taken;
+      told = told;
+      found = subst (λ k. IsFound shape k (take counted needs.put) needs.taken told) (sym more ∙ after) (subst (λ s. IsFound s g (take counted needs.put) needs.taken told) same are);
+      short = elim needs.short [
+        | inl put_short ↦ inl (omega (arith, put_short, long, few, ap batch_of same, ap length items_are))
+        | inr taken_short ↦ inr taken_short
+      ];
+    }
+
+-- the items of the lists stand in the first slots
+pub in_slots :
+    (shape : Shape) (h : List Event) (put_slots taken_slots : List ℕ) (put_used taken_used : ℕ) (found : Found) → put_used ≤ length put_slots → taken_used ≤ length taken_slots →
+    FitsIn (length (take put_used put_slots)) (length (take taken_used taken_slots)) found → IsFinding shape h (statement_in (take put_used put_slots) (take taken_used taken_slots) found) →
+    IsFinding shape h (statement_in put_slots taken_slots found)
+in_slots shape h put_slots taken_slots put_used taken_used (slots.Fault place kind) put_few taken_few fits is = is
+in_slots shape h put_slots taken_slots put_used taken_used (slots.Lawful put taken told) put_few taken_few (fits, fits') is =
+    let put_is : take put (take put_used put_slots) ≡ take put put_slots = take-take put put_used put_slots (omega (arith, fits, length-take-le put_used put_slots put_few)) in
+    let taken_is : take taken (take taken_used taken_slots) ≡ take taken taken_slots = take-take taken taken_used taken_slots (omega (arith, fits', length-take-le taken_used taken_slots taken_few)) in
+    subst (λ l. IsFound shape h (take put put_slots) l told) taken_is (subst (λ l. IsFound shape h l (take taken (take taken_used taken_slots)) told) put_is is)

@@ -1,0 +1,46 @@
+use Rattle.std.proofs.Common.{ap, length, subst}
+use Rattle.ring_audit.specs.declared.takes.TakeStep.TheVariants as takes
+use Rattle.ring_audit.specs.TakeReading.{HasReadTake}
+use Rattle.ring_audit.specs.Reading.{reading}
+use Rattle.ring_audit.proofs.Readings.{put_stops, put_stores, put_counts, take_stops}
+use Rattle.ring_audit.proofs.Rooms.{on_err, put_needs, take_needs}
+use Rattle.ring_audit.proofs.audits.Readers.read.Goals as goal
+
+pub returns-in_err-push-in-Stores-clause-refused : goal.returns-in_err-push-in-Stores-clause-refused
+returns-in_err-push-in-Stores-clause-refused g c =
+    let r = c.args.self.now in
+    on_err c.from_residual.result
+    (put_needs c.own_changes.ensures r.puts.shape r.puts c.read.new.self r.takes r.counted (g.S.Store.items c.args.put.now) (g.S.Store.items c.args.taken.now) c.args.event c.in-Stores.item
+    (g.S.Store.room c.args.put.now) (g.S.Store.room c.args.taken.now) c.in-P.is c.in-Stores.ensures.read c.in_err-push-in-Stores.ensures.full)
+
+pub returns-in_err-push-in-Takes-clause-refused : goal.returns-in_err-push-in-Takes-clause-refused
+returns-in_err-push-in-Takes-clause-refused g c =
+    let r = c.args.self.now in
+    let read : HasReadTake r.puts.shape r.takes c.read-in-C.new.self c.args.event (takes.Takes c.in-Takes.item) =
+    subst (λ s. HasReadTake s r.takes c.read-in-C.new.self c.args.event (takes.Takes c.in-Takes.item)) c.requires c.in-Takes.ensures.read in
+    on_err c.from_residual-in_err-push-in-Takes.result
+    (take_needs c.own_changes.ensures r.puts.shape r.puts r.takes c.read-in-C.new.self r.counted (g.S.Store.items c.args.put.now) (g.S.Store.items c.args.taken.now) c.args.event c.in-Takes.item
+    (g.S.Store.room c.args.put.now) (g.S.Store.room c.args.taken.now) c.in-C.is read c.in_err-push-in-Takes.ensures.full)
+
+pub returns-in-Stops-clause-stops : goal.returns-in-Stops-clause-stops
+returns-in-Stops-clause-stops g c f =
+    let r = c.args.self.now in
+    put_stops c.own_changes.ensures r.puts.shape (reading r.puts r.takes r.counted (g.S.Store.items c.args.put.now) (g.S.Store.items c.args.taken.now)) c.read.new.self c.args.event c.in-P.is c.in-Stops.ensures.read
+
+pub returns-in_ok-push-in-Stores-clause-goes_on : goal.returns-in_ok-push-in-Stores-clause-goes_on
+returns-in_ok-push-in-Stores-clause-goes_on g c f =
+    let r = c.args.self.now in
+    put_stores c.own_changes.ensures r.puts.shape (reading r.puts r.takes r.counted (g.S.Store.items c.args.put.now) (g.S.Store.items c.args.taken.now)) c.read.new.self c.args.event c.in-Stores.item
+    (g.S.Store.items c.push.new.store) c.in-P.is c.in-Stores.ensures.read c.in_ok-push-in-Stores.ensures.pushed
+
+pub returns-in-Counts-clause-goes_on : goal.returns-in-Counts-clause-goes_on
+returns-in-Counts-clause-goes_on g c f =
+    let r = c.args.self.now in
+    put_counts c.own_changes.ensures r.puts.shape (reading r.puts r.takes r.counted (g.S.Store.items c.args.put.now) (g.S.Store.items c.args.taken.now)) c.read.new.self c.args.event
+    (length c.as_slice.result.now) c.in-P.is c.in-Counts.ensures.read (ap length c.as_slice.ensures)
+
+pub returns-in-Stops-read-clause-stops : goal.returns-in-Stops-read-clause-stops
+returns-in-Stops-read-clause-stops g c f =
+    let r = c.args.self.now in
+    let read : HasReadTake r.puts.shape r.takes c.read-in-C.new.self c.args.event takes.Stops = subst (λ s. HasReadTake s r.takes c.read-in-C.new.self c.args.event takes.Stops) c.requires c.in-Stops-read.ensures.read in
+    take_stops c.own_changes.ensures r.puts.shape (reading r.puts r.takes r.counted (g.S.Store.items c.args.put.now) (g.S.Store.items c.args.taken.now)) c.read-in-C.new.self c.args.event c.in-C.is read
