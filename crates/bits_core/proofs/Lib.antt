@@ -16,6 +16,9 @@ pub mod TraceLemmas
 pub mod DecideLemmas
 pub mod TraceReadings
 pub mod TraceTotal
+pub mod LineEnds
+pub mod TraceTexts
+pub mod TraceFindings
 pub mod Tapes
 pub mod OpenAccesses
 pub mod Flickers

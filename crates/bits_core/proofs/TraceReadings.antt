@@ -16,7 +16,8 @@ use Rattle.bits_core.specs.declared.traces.TraceFault.TheVariants.{BadShape, Bad
 use Rattle.bits_core.specs.Shape.{IsRefusedBatch, batch_of, belongs, capacity_of, modulus_of, width_of}
 use Rattle.bits_core.specs.TraceText.{event_line, shape_line, trace_text}
 use Rattle.bits_core.specs.TraceReading.{event_at, shape_at}
-use Rattle.bits_core.specs.Trace.{AreOfShape, BeginsWithShape, IsTraceAndMore, HasMore, HasNoEvent, HasBadLine, HasBadShape, HasShapeLine, IsTooLong, IsTrace, IsTraceFault}
+use Rattle.bits_core.specs.Trace.{AreOfShape, BeginsWithShape, IsTraceAndMore, HasMore, HasNoEvent, HasBadEventLine, HasBadLine, HasBadShape, HasShapeLine, IsTooLong, IsTrace, IsTraceFault, IsTraceText}
+use Rattle.bits_core.specs.Laws.{RefusedIsNoText, TraceIsText}
 use Rattle.bits_core.proofs.TraceLines.{event_at-again, shape_at-again, small_indices}
 use Rattle.bits_core.proofs.TraceLemmas.{line_takes}
 
@@ -157,6 +158,9 @@ record Read (bytes : List ℕ) (s : Shape) (es : List Event) (rest : List ℕ) :
 Read-from : (bytes : List ℕ) (s : Shape) (es : List Event) (rest : List ℕ) → IsTraceAndMore bytes s es rest → Read bytes s es rest
 Read-from bytes s es rest g = record { text = g.text; each = EachOf-from s es g.of_shape }
 
+Read-text : (bytes : List ℕ) (s : Shape) (es : List Event) → IsTraceText bytes s es → Read bytes s es []
+Read-text bytes s es trace = record { text = trace.text ∙ sym (append-nil (trace_text s es)); each = EachOf-from s es trace.of_shape }
+
 Read-whole : (bytes : List ℕ) (s : Shape) (es : List Event) → IsTrace bytes s es → Read bytes s es []
 Read-whole bytes s es trace = record { text = trace.text ∙ sym (append-nil (trace_text s es)); each = EachOf-from s es trace.of_shape }
 
@@ -183,16 +187,19 @@ nothing_left [] rest e = (refl, sym e)
 nothing_left (x ∷ more) rest e = absurd (some_line x (lines more ++ rest) (sym (append_assoc (event_line x) (lines more) rest) ∙ sym e))
 
 -- a text has one reading
-pub one_reading : (bytes : List ℕ) (s t : Shape) (es fs : List Event) → IsTrace bytes s es → IsTrace bytes t fs → (s ≡ t) × (es ≡ fs)
+pub one_text_reading : (bytes : List ℕ) (s t : Shape) (es fs : List Event) → IsTraceText bytes s es → IsTraceText bytes t fs → (s ≡ t) × (es ≡ fs)
 unfolding Compared
-one_reading bytes s t es fs a b =
-    let both = agree bytes s t es fs [] [] (Read-whole bytes s es a) (Read-whole bytes t fs b) in (
+one_text_reading bytes s t es fs a b =
+    let both = agree bytes s t es fs [] [] (Read-text bytes s es a) (Read-text bytes t fs b) in (
       both.shape,
       elim both.events [
         | inl r ↦ sym (r.1 ∙ ap (λ (ys : List Event). es ++ ys) (nothing_left r.0 [] r.2).0 ∙ append-nil es)
         | inr r ↦ r.1 ∙ ap (λ (ys : List Event). fs ++ ys) (nothing_left r.0 [] r.2).0 ∙ append-nil fs
       ],
     )
+
+pub one_reading : (bytes : List ℕ) (s t : Shape) (es fs : List Event) → IsTrace bytes s es → IsTrace bytes t fs → (s ≡ t) × (es ≡ fs)
+one_reading bytes s t es fs a b = one_text_reading bytes s t es fs (record { text = a.text; of_shape = a.of_shape }) (record { text = b.text; of_shape = b.of_shape })
 
 -- ---- faults
 
@@ -276,6 +283,34 @@ faulty_is_no_trace bytes (BadLine n) s es (inl none) trace = none.1 (capacity_of
 faulty_is_no_trace bytes (BadLine n) s es (inr bad) trace = bad_line_no_trace bytes n s es bad trace
 faulty_is_no_trace bytes TooLong s es fault trace = too_long_no_trace bytes s es fault trace
 faulty_is_no_trace bytes OutOfMemory s es fault trace = fault
+
+-- ---- traces of any length
+
+-- a trace is one of no more events than a trace may have
+pub trace_is_text : TraceIsText
+trace_is_text bytes shape events = (
+  λ trace. (record { text = trace.text; of_shape = trace.of_shape }, trace.within),
+  λ both. record { text = both.0.text; of_shape = both.0.of_shape; within = both.1 },
+)
+
+bad_line_no_text : (bytes : List ℕ) (n : ℕ) (t : Shape) (fs : List Event) → HasBadEventLine bytes n → ¬ IsTraceText bytes t fs
+unfolding Compared
+bad_line_no_text bytes n t fs a b =
+    let both = agree bytes a.shape t a.events fs a.rest [] (Read-from bytes a.shape a.events a.rest a.goes_on) (Read-text bytes t fs b) in
+    elim both.events [
+      | inl r ↦
+          let none : r.0 ≡ [] = no_more a.shape t r.0 a.rest [] both.shape a.no_event r.2 r.3 in
+          a.goes_on.more (r.2 ∙ ap (λ (es : List Event). lines es ++ []) none)
+      | inr r ↦ a.goes_on.more (nothing_left r.0 a.rest r.2).1
+    ]
+
+-- bytes that are refused are none
+pub refused_is_no_text : RefusedIsNoText
+refused_is_no_text bytes (BadShape f) s es counted fault trace = shape_not_bad bytes s (lines es) f trace.text fault
+refused_is_no_text bytes (BadLine n) s es counted (inl none) trace = none.1 (capacity_of s) (modulus_of s) (width_of s) (batch_of s) (shape_has_line bytes s (lines es) trace.text)
+refused_is_no_text bytes (BadLine n) s es counted (inr bad) trace = bad_line_no_text bytes n s es bad trace
+refused_is_no_text bytes TooLong s es counted fault trace = counted refl
+refused_is_no_text bytes OutOfMemory s es counted fault trace = fault
 
 -- bytes have one fault
 pub one_fault : (bytes : List ℕ) (f g : TraceFault) → IsTraceFault bytes f → IsTraceFault bytes g → f ≡ g

@@ -1,5 +1,5 @@
 -- The laws that the layers above stand on.
-use Rattle.std.specs.Prelude.{◌≡◌, ℕ, suc, ◌*◌, ◌<◌, ◌≤◌, ◌⊎◌, ◌↔◌, ◌||◌, Bool, true, false, Some, None, List, [], ◌∷◌, ◌++◌, length, take, slice_get, if◌then◌else◌, is_some, unwrap_or}
+use Rattle.std.specs.Prelude.{◌≡◌, ◌≢◌, ℕ, suc, ◌*◌, ◌<◌, ◌≤◌, ◌⊎◌, ◌↔◌, ◌||◌, Bool, true, false, Some, None, List, [], ◌∷◌, ◌++◌, length, take, slice_get, if◌then◌else◌, is_some, unwrap_or}
 use Rattle.bits_core.specs.declared.events.Side.{Side}
 use Rattle.bits_core.specs.declared.events.Bit.{Bit}
 use Rattle.bits_core.specs.declared.events.Access.{Access}
@@ -7,9 +7,11 @@ use Rattle.bits_core.specs.declared.events.Event.{Event}
 use Rattle.bits_core.specs.declared.audits.Kind.{Kind}
 use Rattle.bits_core.specs.declared.audits.Verdict.{Verdict}
 use Rattle.bits_core.specs.declared.shapes.Shape.{Shape}
+use Rattle.bits_core.specs.declared.traces.TheConstants.{EVENT_LIMIT}
 use Rattle.bits_core.specs.declared.traces.TraceFault.{TraceFault}
+use Rattle.bits_core.specs.declared.traces.TraceFault.TheVariants.{TooLong}
 use Rattle.bits_core.specs.Audit.{IsFirstFault, IsVerdict}
-use Rattle.bits_core.specs.Trace.{IsTrace, IsTraceFault}
+use Rattle.bits_core.specs.Trace.{IsTrace, IsTraceFault, IsTraceText, RefusesTraceText}
 use Rattle.bits_core.specs.Bits.{reader, writer, is_by, begun_by, write_of}
 use Rattle.bits_core.specs.History.{before_last, open_access, open_write, held, held_at_begin, is_overlapped}
 use Rattle.bits_core.specs.Intervals.{IsAccess, IsHeld, IsOpenAt, IsRead, HasOverlap}
@@ -83,6 +85,18 @@ TraceOrFault = (bytes : List ℕ) → ((shape : Shape) × (events : List Event) 
 -- and they have one fault
 abbrev pub OneFault : Type 0
 OneFault = (bytes : List ℕ) (f g : TraceFault) → IsTraceFault bytes f → IsTraceFault bytes g → f ≡ g
+
+-- a trace is a trace of any length of no more events than it may have, and the other way round
+abbrev pub TraceIsText : Type 0
+TraceIsText = (bytes : List ℕ) (shape : Shape) (events : List Event) → IsTrace bytes shape events ↔ (IsTraceText bytes shape events × (length events ≤ EVENT_LIMIT))
+
+-- one of any length has one reading too
+abbrev pub OneTextReading : Type 0
+OneTextReading = (bytes : List ℕ) (s t : Shape) (es fs : List Event) → IsTraceText bytes s es → IsTraceText bytes t fs → (s ≡ t) × (es ≡ fs)
+
+-- and bytes that are refused as one are none, but where they are too many
+abbrev pub RefusedIsNoText : Type 0
+RefusedIsNoText = (bytes : List ℕ) (fault : TraceFault) (shape : Shape) (events : List Event) → fault ≢ TooLong → RefusesTraceText bytes fault → ¬ IsTraceText bytes shape events
 
 -- the reads that count as flickers are those that a write overlaps
 abbrev pub FlickerIsByInterval : Type 0

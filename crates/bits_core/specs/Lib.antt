@@ -9,9 +9,12 @@ pub mod Laws
 pub mod TraceText
 pub mod Trace
 pub mod TraceReading
+pub mod TraceLines
 pub mod Oracle
 pub mod Open
 pub mod Memory
 pub mod Made
 pub mod Marks
+pub mod Auditors
+pub mod TraceAudits
 pub mod Seen

@@ -1,5 +1,5 @@
 -- Which bytes are a trace, and why others are none.
-use Rattle.std.specs.Prelude.{◌≡◌, ◌≢◌, ◌⊎◌, ℕ, ◌+◌, ◌<◌, ◌≤◌, true, List, [], ◌∷◌, ◌++◌, All, length}
+use Rattle.std.specs.Prelude.{◌≡◌, ◌≢◌, ◌⊎◌, ℕ, ◌+◌, ◌-◌, ◌^◌, ◌<◌, ◌≤◌, true, List, [], ◌∷◌, ◌++◌, All, length}
 use Rattle.bits_core.specs.declared.traces.TheConstants.{EVENT_LIMIT}
 use Rattle.bits_core.specs.declared.events.Event.{Event}
 use Rattle.bits_core.specs.declared.shapes.Shape.{Shape}
@@ -25,6 +25,11 @@ pub record IsTrace (bytes : List ℕ) (shape : Shape) (events : List Event) : Ty
   pub text : bytes ≡ trace_text shape events
   pub of_shape : AreOfShape shape events
   pub within : length events ≤ EVENT_LIMIT
+
+-- the bytes are the text of the shape and of the events, which are of the shape: a trace of any length
+pub record IsTraceText (bytes : List ℕ) (shape : Shape) (events : List Event) : Type 0 where
+  pub text : bytes ≡ trace_text shape events
+  pub of_shape : AreOfShape shape events
 
 -- the bytes begin with a line of three numbers, or of four where the last is not 1, of at most four digits each
 pub record HasShapeLine (bytes : List ℕ) (capacity modulus width batch : ℕ) : Type 0 where
@@ -94,3 +99,20 @@ IsTraceFault bytes (BadShape fault) = HasBadShape bytes fault
 IsTraceFault bytes (BadLine line) = ((line ≡ 1) × ((capacity modulus width batch : ℕ) → ¬ HasShapeLine bytes capacity modulus width batch)) ⊎ HasBadLine bytes line
 IsTraceFault bytes TooLong = IsTooLong bytes
 IsTraceFault bytes OutOfMemory = ⊥
+
+-- events are followed by something that does not begin with the line of an event
+pub record HasBadEventLine (bytes : List ℕ) (line : ℕ) : Type 0 where
+  pub shape : Shape
+  pub events : List Event
+  pub rest : List ℕ
+  pub goes_on : IsTraceAndMore bytes shape events rest
+  pub no_event : HasNoEvent shape rest
+  pub number : line ≡ length events + 2
+
+-- why bytes are no trace of any length that is read to its end: the first fault, line by line; or so many bytes that their lines may
+-- be too many to be counted
+abbrev pub RefusesTraceText : List ℕ → TraceFault → Type 0
+RefusesTraceText bytes (BadShape fault) = HasBadShape bytes fault
+RefusesTraceText bytes (BadLine line) = ((line ≡ 1) × ((capacity modulus width batch : ℕ) → ¬ HasShapeLine bytes capacity modulus width batch)) ⊎ HasBadEventLine bytes line
+RefusesTraceText bytes TooLong = 2 ^ 64 - 1 ≤ length bytes
+RefusesTraceText bytes OutOfMemory = ⊥

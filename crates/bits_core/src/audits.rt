@@ -1,5 +1,5 @@
 //! The audit of a recorded history of safe bits.
-ghost use Rattle.std.specs.Prelude.{◌≡◌, ℕ, ◌↔◌, IsTrue, List, [], ◌∷◌, ◌++◌, MatchOption, slice_set};
+ghost use Rattle.std.specs.Prelude.{◌≡◌, ℕ, ◌↔◌, IsTrue, List, [], ◌∷◌, ◌++◌, IfNone, MatchOption, slice_set};
 ghost use Rattle.bits_core.specs.declared.events.Event.{Event};
 ghost use Rattle.bits_core.specs.declared.shapes.Shape.{Shape};
 ghost use Rattle.bits_core.specs.Bits.{doer};
@@ -138,7 +138,8 @@ fn is_permitted(marks: &Marks, event: Event) -> bool
 
 // What is wrong with an event after the events before it.
 fn fault_of(shape: &Shape, marks: &Marks, event: Event) -> Option<Kind>
-    ensures { (past : List Event) → AreMarks shape.now past marks.now → MatchOption result (MayFollow shape.now past event) (IsFaultAfter shape.now past event) }
+    ensures found { (past : List Event) → AreMarks shape.now past marks.now → MatchOption result (MayFollow shape.now past event) (IsFaultAfter shape.now past event) }
+    ensures in_table { IfNone result (IsInTable event.bit) }
 {
     if !is_by_right_side(shape, event) {
         return Some(Kind::WrongSide);
@@ -152,6 +153,47 @@ fn fault_of(shape: &Shape, marks: &Marks, event: Event) -> Option<Kind>
     None
 }
 
+/// The audit of [`audit_bits`], of events that come one by one. It takes no memory, however many they are.
+#[derive(Drop)]
+pub struct BitAuditor {
+    shape: Shape,
+    marks: Marks,
+}
+
+impl BitAuditor {
+    ghost use Rattle.std.specs.Prelude.{None, IfNone, IfSome};
+    ghost use Rattle.bits_core.specs.Auditors.{HeardEvents};
+
+    /// An auditor of this shape, which heard no event.
+    pub fn new(shape: &Shape) -> BitAuditor
+        ensures { HeardEvents result shape.now [] }
+    {
+        BitAuditor {
+            shape: *shape,
+            marks: Marks::new(),
+        }
+    }
+
+    /// Hears the next event. `None` tells that it may follow the events heard so far, so that they are a lawful history with it
+    /// too. Otherwise the first kind of fault that applies to it is told, and the auditor is unchanged, as though it had not
+    /// heard it.
+    pub fn feed(&mut self, event: Event) -> Option<Kind>
+        // It is accepted exactly where it may follow.
+        ensures accepts { (shape : Shape) (past : List Event) → HeardEvents self.old shape past → (result ≡ None) ↔ MayFollow shape past event }
+        ensures kind { (shape : Shape) (past : List Event) → HeardEvents self.old shape past → IfSome result (IsFaultAfter shape past event) }
+        ensures heard { IfNone result ((shape : Shape) (past : List Event) → HeardEvents self.old shape past → HeardEvents self.new shape (past ++ event ∷ [])) }
+        ensures unchanged { IfSome result (λ kind. self.new ≡ self.old) }
+    {
+        match fault_of(&self.shape, &self.marks, event) {
+            Some(kind) => Some(kind),
+            None => {
+                self.marks.record(event);
+                None
+            }
+        }
+    }
+}
+
 /// Whether the events are a lawful history of safe bits of the shape (Lamport, 1986), and where
 /// they are not, the first event at fault and the first kind that applies to it.
 ///
@@ -163,11 +205,11 @@ pub fn audit_bits(shape: &Shape, events: &[Event]) -> Verdict
     ensures verdict { IsVerdict shape.now events.now result }
     ensures lawful { (result ≡ Verdict.Lawful) ↔ IsLawful shape.now events.now }
 {
-    let mut marks = Marks::new();
+    let mut auditor = BitAuditor::new(shape);
     for (place, event) in events.iter().enumerate() {
-        match fault_of(shape, &marks, *event) {
+        match auditor.feed(*event) {
             Some(kind) => return Verdict::Fault { place, kind },
-            None => marks.record(*event),
+            None => {}
         }
     }
     Verdict::Lawful

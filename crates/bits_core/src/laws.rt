@@ -1,6 +1,6 @@
 //! The laws of histories and of trace text that the layers above stand on, each the contract of a
 //! function that does nothing.
-ghost use Rattle.bits_core.specs.Laws.{AccessIsMade, BeforeLastChanges, BeginningIsLawful, ClockCountsPlaces, EmptyIsLawful, FaultBreaks, FaultyIsNoTrace, FlickerIsByInterval, HeldAtBeginChanges, HeldChanges, HeldIsByInterval, LawfulByOneMore, MadeIsAccess, MadeLeaveNoneOpen, OneFault, OneReading, OneVerdict, OpenChanges, OpenFromOwn, OpenIsByInterval, OpenWriteChanges, OverlapChanges, OverlapIsByInterval, OverlapIsDecidable, OwnChanges, OwnHasOnePlace, OwnHasPlace, QuietIsHeld, TraceOrFault};
+ghost use Rattle.bits_core.specs.Laws.{AccessIsMade, BeforeLastChanges, BeginningIsLawful, ClockCountsPlaces, EmptyIsLawful, FaultBreaks, FaultyIsNoTrace, FlickerIsByInterval, HeldAtBeginChanges, HeldChanges, HeldIsByInterval, LawfulByOneMore, MadeIsAccess, MadeLeaveNoneOpen, OneFault, OneReading, OneTextReading, OneVerdict, OpenChanges, OpenFromOwn, OpenIsByInterval, OpenWriteChanges, OverlapChanges, OverlapIsByInterval, OverlapIsDecidable, OwnChanges, OwnHasOnePlace, OwnHasPlace, QuietIsHeld, RefusedIsNoText, TraceIsText, TraceOrFault};
 
 /// The history with no event is lawful.
 pub fn empty_is_lawful()
@@ -90,6 +90,21 @@ pub fn faulty_is_no_trace()
 /// Bytes have at most one fault.
 pub fn one_fault()
     ensures { OneFault }
+{}
+
+/// A trace is a trace of any length of at most [`EVENT_LIMIT`](crate::EVENT_LIMIT) events, and the other way round.
+pub fn trace_is_text()
+    ensures { TraceIsText }
+{}
+
+/// A text of any length is that of one shape and one list of events.
+pub fn one_text_reading()
+    ensures { OneTextReading }
+{}
+
+/// Bytes that are refused as a trace of any length are none, but where they are too many to be counted.
+pub fn refused_is_no_text()
+    ensures { RefusedIsNoText }
 {}
 
 /// The ended reads that count as flickers are those that a write overlaps.

@@ -2,6 +2,7 @@
 #![tactic(auto)]
 
 mod audits;
+mod cuts;
 mod events;
 pub mod laws;
 mod marks;
@@ -10,14 +11,16 @@ mod oracles;
 mod reading;
 mod shapes;
 mod stores;
+mod trace_audits;
 mod traces;
 mod writing;
 
-pub use audits::{Kind, Seen, Verdict, audit_bits, audit_bits_into};
+pub use audits::{BitAuditor, Kind, Seen, Verdict, audit_bits, audit_bits_into};
 pub use events::{Access, Act, Bit, Event, Side};
 pub use memory::{Memory, MemoryFault};
 pub use oracles::{Always, Flip, Oracle, Tape};
 pub use shapes::{Shape, ShapeFault};
 pub use stores::{Filled, Store};
+pub use trace_audits::TraceAudit;
 pub use traces::{EVENT_LIMIT, TraceFault, read_trace, read_trace_into};
 pub use writing::write_trace;

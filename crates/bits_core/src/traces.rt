@@ -87,8 +87,8 @@ fn read_shape(bytes: &[u8]) -> Result<(Shape, &[u8]), TraceFault>
     }
 }
 
-// The event of the shape whose line stands at the front, and the bytes after the line.
-fn read_event<'a>(shape: &Shape, bytes: &'a [u8]) -> Option<(Event, &'a [u8])>
+/// The event of the shape whose line stands at the front, and the bytes after the line.
+pub fn read_event<'a>(shape: &Shape, bytes: &'a [u8]) -> Option<(Event, &'a [u8])>
     ensures { MatchOption result (HasNoEvent shape.now bytes.now) (λ x. BeginsWithEvent shape.now bytes.now x.0 x.1.now) }
 {
     let (event, rest) = event_at(bytes)?;

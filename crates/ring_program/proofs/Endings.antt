@@ -2,7 +2,7 @@
 use Rattle.std.proofs.Common.{◌≡◌, ℕ, List, Option, Some, None, Result, Ok, Err, IfErr, IfOk, IfSome, inl, inr}
 use Rattle.std.specs.Prelude.{OnErr}
 use Rattle.std.specs.Io.KnownBytes.{Appends}
-use Rattle.ring_program.specs.Answers.{AnswersCalls, AnswersWithin, EndsBy, EndsCalls, EndsOn, IsCallsCause, IsCause, Refused, RefusedCalls, RefusedOn, status_of}
+use Rattle.ring_program.specs.Answers.{AnswersCalls, AnswersLongBits, AnswersWithin, EndsBy, EndsCalls, EndsLongBits, EndsOn, IsCallsCause, IsCause, IsLongBitsCause, Refused, RefusedCalls, RefusedLongBits, RefusedOn, status_of}
 use Rattle.ring_program.specs.declared.answers.Ending.{Ending}
 use Rattle.ring_program.specs.declared.command_line.Question.{Question}
 use Rattle.ring_program.specs.declared.faults.Refusal.{Refusal}
@@ -35,3 +35,11 @@ pub ends_calls : (input before after : Option (List ℕ)) (r : Result Ending Ref
 ends_calls None before after r status written refused is one = tt
 ends_calls (Some bytes) before after r status written refused is one =
     ends_by (AnswersCalls bytes) (IsCallsCause bytes) before after r status written refused is one
+
+pub ends_long_bits : (input before after : Option (List ℕ)) (r : Result Ending Refusal) (status : ℕ)
+    → IfSome input (λ bytes. IfOk r (IsWritten (AnswersLongBits bytes) before after))
+    → IfSome input (λ bytes. IfErr r (RefusedLongBits bytes before after))
+    → IfOk r (λ ending. status ≡ status_of ending) → OnErr r (status ≡ 1) → IfSome input (λ bytes. EndsLongBits bytes before after status)
+ends_long_bits None before after r status written refused is one = tt
+ends_long_bits (Some bytes) before after r status written refused is one =
+    ends_by (AnswersLongBits bytes) (IsLongBitsCause bytes) before after r status written refused is one

@@ -5,7 +5,7 @@ use Rattle.clap.specs.Kinds.{IsAmong, Kinds}
 use Rattle.clap.specs.declared.error.kind.ErrorKind.{ErrorKind}
 use Rattle.clap.specs.declared.error.kind.ErrorKind.TheVariants as kind
 use Rattle.bits_core.specs.Audit.{IsVerdict}
-use Rattle.bits_core.specs.Trace.{IsTrace, IsTraceFault}
+use Rattle.bits_core.specs.Trace.{IsTrace, IsTraceFault, IsTraceText, RefusesTraceText}
 use Rattle.bits_core.specs.declared.audits.Verdict.{Verdict}
 use Rattle.bits_core.specs.declared.audits.Verdict.TheVariants.{Lawful, Fault}
 use Rattle.bits_core.specs.declared.events.Event.{Event}
@@ -94,6 +94,16 @@ pub record AuditsBits (input text : List ℕ) (ending : Ending) : Type 0 where
   pub events : List Event
   pub verdict : Verdict
   pub is_trace : IsTrace input shape events
+  pub is_verdict : IsVerdict shape events verdict
+  pub words : text ≡ verdict_text_of verdict
+  pub ends : ending ≡ verdict_ending_of verdict
+
+-- the same where the input is a trace of any length
+pub record AnswersLongBits (input text : List ℕ) (ending : Ending) : Type 0 where
+  pub shape : Shape
+  pub events : List Event
+  pub verdict : Verdict
+  pub is_trace : IsTraceText input shape events
   pub is_verdict : IsVerdict shape events verdict
   pub words : text ≡ verdict_text_of verdict
   pub ends : ending ≡ verdict_ending_of verdict
@@ -233,6 +243,11 @@ unfoldable pub IsCallsCause : List ℕ → Refusal → Type 0
 IsCallsCause input e = (e ≡ refusal.App app.OutOfMemory) ⊎ ((e ≡ refusal.App app.ReadFailed)
     ⊎ ((fault : RecordingFault) × (e ≡ refusal.Calls fault) × RefusesText fault input))
 
+-- a true cause of a refusal of a trace of any length: memory ran out, or a read failed, or the input is no such trace
+unfoldable pub IsLongBitsCause : List ℕ → Refusal → Type 0
+IsLongBitsCause input e = (e ≡ refusal.App app.OutOfMemory) ⊎ ((e ≡ refusal.App app.ReadFailed)
+    ⊎ ((fault : TraceFault) × (e ≡ refusal.Trace fault) × RefusesTraceText input fault))
+
 -- what is answered to a question on an input that is not too large
 abbrev pub AnswersWithin : Question → List ℕ → List ℕ → Ending → Type 0
 AnswersWithin question input text ending = (length input ≤ INPUT_LIMIT) × Answers question input text ending
@@ -285,10 +300,18 @@ RefusedCalls input = Refused (AnswersCalls input) (IsCallsCause input)
 abbrev pub EndsCalls : List ℕ → Option (List ℕ) → Option (List ℕ) → ℕ → Type 0
 EndsCalls input = EndsBy (AnswersCalls input) (IsCallsCause input)
 
+-- how it ends on a trace of any length
+abbrev pub RefusedLongBits : List ℕ → Option (List ℕ) → Option (List ℕ) → Refusal → Type 0
+RefusedLongBits input = Refused (AnswersLongBits input) (IsLongBitsCause input)
+
+abbrev pub EndsLongBits : List ℕ → Option (List ℕ) → Option (List ℕ) → ℕ → Type 0
+EndsLongBits input = EndsBy (AnswersLongBits input) (IsLongBitsCause input)
+
 -- how it ends on a request, where the reader tells that this is its input
 abbrev pub Ends : Request → Option (List ℕ) → Option (List ℕ) → Option (List ℕ) → ℕ → Type 0
 Ends (OnInput question) input before after status = IfSome input (λ bytes. EndsOn question bytes before after status)
 Ends request.Calls input before after status = IfSome input (λ bytes. EndsCalls bytes before after status)
+Ends request.LongBits input before after status = IfSome input (λ bytes. EndsLongBits bytes before after status)
 Ends (request.Run run) input before after status = EndsRun run before after status
 
 -- help or the version was asked for
@@ -341,6 +364,7 @@ IsStatusOn PlayCalls status = (status ≡ 0) ⊎ (status ≡ 1)
 abbrev pub IsStatusOf : Request → ℕ → Type 0
 IsStatusOf (OnInput question) status = IsStatusOn question status
 IsStatusOf request.Calls status = (status ≡ 0) ⊎ ((status ≡ 1) ⊎ (status ≡ 3))
+IsStatusOf request.LongBits status = (status ≡ 0) ⊎ ((status ≡ 1) ⊎ (status ≡ 3))
 IsStatusOf (request.Run run) status = (status ≡ 0) ⊎ (status ≡ 1)
 
 -- and of words that ask for this request or for nothing
@@ -352,5 +376,6 @@ IsStatus None status = (status ≡ 0) ⊎ ((status ≡ 1) ⊎ (status ≡ 2))
 abbrev pub AsksNoInput : Option Request → Type 0
 AsksNoInput (Some (OnInput question)) = ⊥
 AsksNoInput (Some request.Calls) = ⊥
+AsksNoInput (Some request.LongBits) = ⊥
 AsksNoInput (Some (request.Run run)) = Unit {0}
 AsksNoInput None = Unit {0}

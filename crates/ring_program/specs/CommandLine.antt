@@ -26,9 +26,13 @@ bits = record (new_rule (codes "bits")) { long = Some (codes "bits"); action = S
 abbrev pub calls : Rule
 calls = record (new_rule (codes "calls")) { long = Some (codes "calls"); action = Some SetTrue }
 
--- `audit [--bits]` and `audit --calls`
+-- `--long`
+abbrev pub long_flag : Rule
+long_flag = record (new_rule (codes "long")) { long = Some (codes "long"); action = Some SetTrue }
+
+-- `audit [--bits [--long]]` and `audit --calls`
 abbrev pub audit_command : App
-audit_command = with_rule (with_rule (new_app (codes "audit")) bits) calls
+audit_command = with_rule (with_rule (with_rule (new_app (codes "audit")) bits) long_flag) calls
 
 -- `--trace`
 abbrev pub trace : Rule
@@ -85,15 +89,16 @@ application =
 abbrev pub is_flag_given : Text → List Row → Bool
 is_flag_given id rows = option_map_or (λ t. bytes_eq t (codes "true")) (first_of id rows) false
 
--- an audit is of bits or of calls, and not of both
-abbrev pub audit_request : Bool → Bool → Option Request
-audit_request true true = None
-audit_request true false = Some (OnInput AuditBits)
-audit_request false true = Some request.Calls
-audit_request false false = Some (OnInput Audit)
+-- an audit is of bits or of calls, and not of both; of bits alone it may be long
+abbrev pub audit_request : Bool → Bool → Bool → Option Request
+audit_request true false false = Some (OnInput AuditBits)
+audit_request true true false = Some request.LongBits
+audit_request false false true = Some request.Calls
+audit_request false false false = Some (OnInput Audit)
+audit_request _ _ _ = None
 
 abbrev pub audit_request_of : List Row → Option Request
-audit_request_of rows = audit_request (is_flag_given (codes "bits") rows) (is_flag_given (codes "calls") rows)
+audit_request_of rows = audit_request (is_flag_given (codes "bits") rows) (is_flag_given (codes "long") rows) (is_flag_given (codes "calls") rows)
 
 -- a play prints a trace or its calls, and not both
 abbrev pub play_request : Bool → Bool → Option Request

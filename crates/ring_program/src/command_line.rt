@@ -1,9 +1,9 @@
 //! The command line.
 ghost use Rattle.std.specs.Prelude.{◌≡◌, ◌⊎◌, ◌∷◌, ℕ, List, Some, codes, true, false, [], IfOk, IfErr, OnOk, None, map, option_map};
-ghost use Rattle.clap.specs.Words.{HasKind, app_of, fault_of, found_of, kind_of, rows_of, subcommand_of, subcommand_rows_of};
+ghost use Rattle.clap.specs.Words.{HasKind, app_of, fault_of, found_of, kind_of, rows_of, rule_of, subcommand_of, subcommand_rows_of};
 ghost use Rattle.clap.specs.declared.builder.command.Command.TheViews.{out-Command};
 ghost use Rattle.ring_program.specs.declared.run_line.RingKind.TheVariants as kind;
-ghost use Rattle.ring_program.specs.CommandLine.{application, audit_command, audit_request_of, big_run, long_run, play_command, play_request_of, record_run, report_and_record, report_run, request_in, request_of, run_of_numbers, short_run, torus_run};
+ghost use Rattle.ring_program.specs.CommandLine.{application, audit_command, audit_request_of, big_run, bits, calls, long_flag, long_run, play_command, play_request_of, record_run, report_and_record, report_run, request_in, request_of, run_of_numbers, short_run, torus_run};
 
 use crate::options::is_given;
 use crate::run_line::{Run, RunText, run_command, run_found};
@@ -15,7 +15,7 @@ use std::alloc::{AllocError, Global};
 const VERSION: &str = "0.1.0";
 
 // The usage, which is also told where a word of `audit` is wrong, such as the name of a file.
-const AUDIT_USAGE: &str = "lamport_ring audit [--bits] < TRACE
+const AUDIT_USAGE: &str = "lamport_ring audit [--bits [--long]] < TRACE
        lamport_ring audit --calls < CALLS";
 
 const AUDIT_HELP: &str = "\
@@ -32,7 +32,8 @@ Bits are s0, s1, .. and r0, r1, .., x, and cJ.I for digit I of cell J.
 The answer is `lawful` where each read's answer is one that safe bits may give
 and both sides follow the ring's programs, with the items put, the items taken
 and whether the consumer was told that the ring is closed. Else it is the first
-line at fault and why. With --bits the programs are left out, and the items too.
+line at fault and why. With --bits the programs are left out, and the items too;
+with --bits --long the trace is read in pieces, and may have any length.
 
 With --calls the input is a recording of the calls of any queue of one producer
 and one consumer: a line `queue CAPACITY`, and then a line where each call
@@ -128,29 +129,60 @@ pub enum Request {
     OnInput(Question),
     /// `audit --calls`, which reads its input in pieces.
     Calls,
+    /// `audit --bits --long`, which reads its input in pieces.
+    LongBits,
     /// `run`, which reads no input.
     Run(Run),
+}
+
+// The flag of the bits.
+fn bits_option<'a>(alloc: Global) -> Arg<'a>
+    ensures rule { rule_of result ≡ bits }
+    ensures local { result.global ≡ false }
+{
+    Arg::new(alloc, "bits")
+        .long("bits")
+        .action(ArgAction::SetTrue)
+        .help("Check the bits alone, not the programs of the two sides")
+}
+
+// The flag of any length.
+fn long_option<'a>(alloc: Global) -> Arg<'a>
+    ensures rule { rule_of result ≡ long_flag }
+    ensures local { result.global ≡ false }
+{
+    Arg::new(alloc, "long")
+        .long("long")
+        .action(ArgAction::SetTrue)
+        .help("With --bits: read a trace of any length, in pieces")
+}
+
+// The flag of recorded calls.
+fn calls_option<'a>(alloc: Global) -> Arg<'a>
+    ensures rule { rule_of result ≡ calls }
+    ensures local { result.global ≡ false }
+{
+    Arg::new(alloc, "calls")
+        .long("calls")
+        .action(ArgAction::SetTrue)
+        .help("Audit a recording of the calls of any queue")
 }
 
 fn audit<'a>(alloc: Global) -> Result<Command<'a>, AllocError>
     ensures made { IfOk result (λ command. app_of command ≡ audit_command) }
     ensures local { IfOk result (λ command. (out-Command command).has_globals ≡ false) }
 {
-    let bits = Arg::new(alloc, "bits")
-        .long("bits")
-        .action(ArgAction::SetTrue)
-        .help("Check the bits alone, not the programs of the two sides");
-    let calls = Arg::new(alloc, "calls")
-        .long("calls")
-        .action(ArgAction::SetTrue)
-        .help("Audit a recording of the calls of any queue");
     let command = Command::new(alloc, "audit")
         .about(
             "Audit a trace of a ring's accesses to safe bits, or recorded calls, from standard input",
         )
         .override_usage(AUDIT_USAGE)
-        .after_help(AUDIT_HELP)
-        .arg(bits)?;
+        .after_help(AUDIT_HELP);
+    let bits = bits_option(alloc);
+    let command = command.arg(bits)?;
+    let long = long_option(alloc);
+    let command = command.arg(long)?;
+    let calls = calls_option(alloc);
     let command = command.arg(calls)?;
     Ok(command)
 }
@@ -212,15 +244,17 @@ fn named<'m, 'a>(matches: &'m ArgMatches<'a>) -> Option<(&'a str, &'m ArgMatches
     matches.subcommand()
 }
 
-// What `audit` is asked for; nothing where it is both.
+// What `audit` is asked for; nothing where it is both, or long and not of bits.
 fn audit_request(matches: &ArgMatches<'_>) -> Option<Request>
     ensures { result ≡ audit_request_of (rows_of (found_of matches.now)) }
 {
-    match (is_given(matches, "bits"), is_given(matches, "calls")) {
-        (true, true) => None,
-        (true, false) => Some(Request::OnInput(Question::AuditBits)),
-        (false, true) => Some(Request::Calls),
-        (false, false) => Some(Request::OnInput(Question::Audit)),
+    let long = is_given(matches, "long");
+    match (is_given(matches, "bits"), long, is_given(matches, "calls")) {
+        (true, false, false) => Some(Request::OnInput(Question::AuditBits)),
+        (true, true, false) => Some(Request::LongBits),
+        (false, false, true) => Some(Request::Calls),
+        (false, false, false) => Some(Request::OnInput(Question::Audit)),
+        _ => None,
     }
 }
 
@@ -271,6 +305,9 @@ pub fn command_lines()
     ensures audit_bits { (name : List ℕ) → request_of (name ∷ codes "audit" ∷ codes "--bits" ∷ []) ≡ Some (Request.OnInput Question.AuditBits) }
     ensures audit_calls { (name : List ℕ) → request_of (name ∷ codes "audit" ∷ codes "--calls" ∷ []) ≡ Some Request.Calls }
     ensures audit_both { (name : List ℕ) → request_of (name ∷ codes "audit" ∷ codes "--bits" ∷ codes "--calls" ∷ []) ≡ None }
+    ensures audit_long { (name : List ℕ) → request_of (name ∷ codes "audit" ∷ codes "--bits" ∷ codes "--long" ∷ []) ≡ Some Request.LongBits }
+    ensures long_alone { (name : List ℕ) → request_of (name ∷ codes "audit" ∷ codes "--long" ∷ []) ≡ None }
+    ensures long_calls { (name : List ℕ) → request_of (name ∷ codes "audit" ∷ codes "--calls" ∷ codes "--long" ∷ []) ≡ None }
     ensures twice { (name : List ℕ) → request_of (name ∷ codes "audit" ∷ codes "--bits" ∷ codes "--bits" ∷ []) ≡ None }
     ensures play { (name : List ℕ) → request_of (name ∷ codes "play" ∷ []) ≡ Some (Request.OnInput Question.Play) }
     ensures play_trace { (name : List ℕ) → request_of (name ∷ codes "play" ∷ codes "--trace" ∷ []) ≡ Some (Request.OnInput Question.PlayTrace) }

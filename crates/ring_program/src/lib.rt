@@ -8,6 +8,7 @@ mod command_line;
 mod faults;
 mod inputs;
 mod lines;
+mod long_bits;
 mod mistakes;
 mod options;
 mod program;

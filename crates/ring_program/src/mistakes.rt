@@ -66,6 +66,11 @@ fn asks_two_audits(words: &[&str]) -> bool {
     words.get(1) == Some(&"audit") && words.contains(&"--bits") && words.contains(&"--calls")
 }
 
+// The words ask for a long audit, and not of bits.
+fn asks_long_alone(words: &[&str]) -> bool {
+    words.get(1) == Some(&"audit") && words.contains(&"--long") && !words.contains(&"--bits")
+}
+
 // The words ask for the trace and the calls of one play.
 fn asks_two_plays(words: &[&str]) -> bool {
     words.get(1) == Some(&"play") && words.contains(&"--trace") && words.contains(&"--calls")
@@ -76,30 +81,41 @@ fn asks_two_texts(words: &[&str]) -> bool {
     words.get(1) == Some(&"run") && words.contains(&"--report") && words.contains(&"--record")
 }
 
-/// The words were taken, and name no command, no ring, two audits, or two texts of a play or of a run. Tells it, and gives the exit status.
+// What is told of words that ask for what does not go together.
+fn clash(words: &[&str]) -> Option<&'static str> {
+    if asks_two_texts(words) {
+        return Some(
+            "error: a run prints a report or a recording: --report and --record do not go together\n\nFor more information, try '--help'.\n",
+        );
+    }
+    if asks_two_plays(words) {
+        return Some(
+            "error: a play prints a trace or its calls: --trace and --calls do not go together\n\nFor more information, try '--help'.\n",
+        );
+    }
+    if asks_two_audits(words) {
+        return Some(
+            "error: an audit is of bits or of calls: --bits and --calls do not go together\n\nFor more information, try '--help'.\n",
+        );
+    }
+    if asks_long_alone(words) {
+        return Some(
+            "error: a trace of any length is audited for its bits alone: --long goes with --bits\n\nFor more information, try '--help'.\n",
+        );
+    }
+    None
+}
+
+/// The words were taken, and name no command, no ring, two audits, a long audit that is not of bits, or two texts of a play or of a run. Tells it, and gives the exit status.
 pub fn unnamed<E: Write>(words: &[&str], err: &mut E) -> u8
     ensures { result ≡ 2 }
 {
-    if asks_two_texts(words) {
-        complain(
-            err,
-            "error: a run prints a report or a recording: --report and --record do not go together\n\nFor more information, try '--help'.\n",
-        );
-        return 2;
-    }
-    if asks_two_plays(words) {
-        complain(
-            err,
-            "error: a play prints a trace or its calls: --trace and --calls do not go together\n\nFor more information, try '--help'.\n",
-        );
-        return 2;
-    }
-    if asks_two_audits(words) {
-        complain(
-            err,
-            "error: an audit is of bits or of calls: --bits and --calls do not go together\n\nFor more information, try '--help'.\n",
-        );
-        return 2;
+    match clash(words) {
+        Some(text) => {
+            complain(err, text);
+            return 2;
+        }
+        None => {}
     }
     match ring_named(words) {
         Some(name) => {

@@ -12,6 +12,7 @@ use crate::causes::cause_of;
 use crate::command_line::{Question, Request, read_words};
 use crate::faults::{AppFault, Refusal};
 use crate::inputs::load;
+use crate::long_bits::answer_long_bits;
 use crate::mistakes::{tell_mistake, unnamed};
 use crate::recordings::answer_calls;
 use crate::reports::report_text;
@@ -28,8 +29,8 @@ use std::io::{Read, Write};
 use std::thread::Threads;
 use std::time::Clock;
 
-// How an audit with this verdict ends.
-fn verdict_ending(verdict: Verdict) -> Ending
+/// How an audit with this verdict ends.
+pub fn verdict_ending(verdict: Verdict) -> Ending
     ensures { result ≡ verdict_ending_of verdict }
 {
     match verdict {
@@ -274,7 +275,7 @@ fn explain<A: Allocator, O: Write, E: Write>(
 /// The whole program: `words` are its name and its arguments, and the answer is the exit status.
 ///
 /// It reads the command line, then the whole input, then works, and writes the answer on `out` once
-/// it is complete; recorded calls are read in pieces, and not kept; a run has no input, and none is read for it. Status 0 says that it is done, and 3 that
+/// it is complete; recorded calls and a trace of any length are read in pieces, and not kept; a run has no input, and none is read for it. Status 0 says that it is done, and 3 that
 /// the audit found a fault. With status 1 it refuses and says why on `err`; then nothing was written on
 /// `out`, unless a write failed, or a run reached a limit, whose text is written all the same. With status 2
 /// the command line is wrong. Where the words ask for help or the version, that is written on `out`, and
@@ -308,6 +309,7 @@ pub fn execute<
             answer_question(alloc, rt.alloc(), question, input, out, err)
         }
         Request::Calls => answer_calls(alloc, input, out, err),
+        Request::LongBits => answer_long_bits(alloc, input, out, err),
         Request::Run(run) => answer_run(rt, alloc, run, out, err),
     }
 }

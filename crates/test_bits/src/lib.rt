@@ -10,4 +10,6 @@ mod shapes;
 #[cfg(test)]
 mod stores;
 #[cfg(test)]
+mod trace_audits;
+#[cfg(test)]
 mod traces;

@@ -17,6 +17,8 @@ use std::time::{Clock, Duration};
 
 pub const BITS: &[&str] = &["lamport_ring", "audit", "--bits"];
 
+pub const LONG: &[&str] = &["lamport_ring", "audit", "--bits", "--long"];
+
 pub const AUDIT: &[&str] = &["lamport_ring", "audit"];
 
 pub const PLAY: &[&str] = &["lamport_ring", "play"];

@@ -1,5 +1,5 @@
 use crate::expects::{
-    BITS, expect_faults, expect_load, expect_run_on, expect_statuses, expect_texts,
+    BITS, LONG, expect_faults, expect_load, expect_run_on, expect_statuses, expect_texts,
     expect_verdicts, expect_words,
 };
 use bits_core::Kind;
@@ -63,8 +63,16 @@ fn tells_the_verdict(rt: HostRuntime) {
     expect_verdicts(&rt, BITS, &VERDICTS);
 }
 
+#[test]
+fn tells_the_verdict_of_a_trace_of_any_length(rt: HostRuntime) {
+    expect_verdicts(&rt, LONG, &VERDICTS);
+}
+
 // What the words ask for decides the status.
-const STATUSES: [(&[&str], u8); 25] = [
+const STATUSES: [(&[&str], u8); 28] = [
+    (&["lamport_ring", "audit", "--long"], 2),
+    (&["lamport_ring", "audit", "--calls", "--long"], 2),
+    (&["lamport_ring", "audit", "--bits", "--calls", "--long"], 2),
     (&["lamport_ring", "audit", "--bits", "--bits"], 2),
     (&["lamport_ring", "audit", "--bits=true"], 2),
     (&["lamport_ring", "audit", "x"], 2),
@@ -112,7 +120,7 @@ const PLAY_EXAMPLE: &str = "  lamport_ring play < examples/plain_path.json\n";
 const CALLS_EXAMPLE: &str =
     "  lamport_ring play --calls < examples/plain_path.json | lamport_ring audit --calls\n";
 
-const WORDS: [(&[&str], u8, &str); 28] = [
+const WORDS: [(&[&str], u8, &str); 29] = [
     (HELP, 0, EXAMPLE),
     (HELP, 0, PLAY_EXAMPLE),
     (HELP, 0, AUDIT_EXAMPLE),
@@ -133,7 +141,7 @@ const WORDS: [(&[&str], u8, &str); 28] = [
     (
         AUDIT_HELP,
         0,
-        "Usage: lamport_ring audit [--bits] < TRACE\n",
+        "Usage: lamport_ring audit [--bits [--long]] < TRACE\n",
     ),
     (AUDIT_HELP, 0, "from standard input\n"),
     (AUDIT_HELP, 0, "  2  the command line is wrong\n"),
@@ -142,7 +150,7 @@ const WORDS: [(&[&str], u8, &str); 28] = [
     (
         &["lamport_ring", "audit", "x.trace"],
         2,
-        "error: unexpected argument 'x.trace' found\n\nUsage: lamport_ring audit [--bits] < TRACE\n",
+        "error: unexpected argument 'x.trace' found\n\nUsage: lamport_ring audit [--bits [--long]] < TRACE\n",
     ),
     (
         &["lamport_ring", "go"],
@@ -184,6 +192,11 @@ const WORDS: [(&[&str], u8, &str); 28] = [
         &["lamport_ring", "audit", "--bits", "--calls"],
         2,
         "error: an audit is of bits or of calls: --bits and --calls do not go together\n",
+    ),
+    (
+        &["lamport_ring", "audit", "--long"],
+        2,
+        "error: a trace of any length is audited for its bits alone: --long goes with --bits\n",
     ),
     (&["lamport_ring"], 2, "Usage: lamport_ring <COMMAND>\n"),
     (&["lamport_ring", "-V"], 0, "lamport_ring 0.1.0\n"),

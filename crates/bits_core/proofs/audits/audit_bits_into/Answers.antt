@@ -19,7 +19,7 @@ returns-in-Some-clause-verdict c =
     let h = c.args.events.now in
     let past = take c.loop-place.place h in
     let steps = IsLawful-to c.args.shape.now past c.loop-place.invariant.marks.lawful in
-    let fault = c.in-Some.ensures past c.loop-place.invariant.marks in
+    let fault = c.in-Some.ensures.found past c.loop-place.invariant.marks in
     IsFirstFault-at c.args.shape.now h c.loop-place.place _ c.in-Some.kind (omega arith) steps fault
 
 pub loop-place-preserved : goal.loop-place-preserved
@@ -29,7 +29,7 @@ loop-place-preserved c =
     let n = c.loop-place.place in
     let past = take n h in
     let so_far = c.loop-place.invariant in
-    let follows = c.in_default.ensures past so_far.marks in
+    let follows = c.in_default.ensures.found past so_far.marks in
     let more = sym (take_more h n _ (omega arith)) in
     record {
       marks = subst (λ t. AreMarks shape t c.see.new.marks) more (c.see.ensures.marks shape past so_far.marks follows);
@@ -38,5 +38,5 @@ loop-place-preserved c =
 
 pub see-requires : goal.see-requires
 see-requires c =
-    let follows = c.in_default.ensures (take c.loop-place.place c.args.events.now) c.loop-place.invariant.marks in
+    let follows = c.in_default.ensures.found (take c.loop-place.place c.args.events.now) c.loop-place.invariant.marks in
     IsInTable-belongs c.args.shape.now _ follows.right_side.in_shape

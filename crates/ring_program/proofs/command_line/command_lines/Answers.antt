@@ -74,3 +74,15 @@ returns-clause-run_with_record c name = refl
 pub returns-clause-run_with_both : goal.returns-clause-run_with_both
 unfolding clap_on_literals application request_of
 returns-clause-run_with_both c name = refl
+
+pub returns-clause-audit_long : goal.returns-clause-audit_long
+unfolding clap_on_literals application request_of
+returns-clause-audit_long c name = refl
+
+pub returns-clause-long_alone : goal.returns-clause-long_alone
+unfolding clap_on_literals application request_of
+returns-clause-long_alone c name = refl
+
+pub returns-clause-long_calls : goal.returns-clause-long_calls
+unfolding clap_on_literals application request_of
+returns-clause-long_calls c name = refl

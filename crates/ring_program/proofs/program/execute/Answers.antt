@@ -3,11 +3,11 @@ use Rattle.clap.specs.Words.{HasKind, Kinds, kind_of}
 use Rattle.clap.specs.declared.error.Error.{Error}
 use Rattle.clap.specs.declared.error.kind.ErrorKind.{ErrorKind}
 use Rattle.clap.specs.declared.error.kind.ErrorKind.TheVariants as kind
-use Rattle.ring_program.specs.Answers.{Ends, EndsUnasked, Explains, IsCallsCause, IsHelp, IsOutOfMemory, IsShortage, IsStatus, IsStatusOf, IsStatusOn, NoMemory, WasWritten}
+use Rattle.ring_program.specs.Answers.{Ends, EndsUnasked, Explains, IsCallsCause, IsHelp, IsLongBitsCause, IsOutOfMemory, IsShortage, IsStatus, IsStatusOf, IsStatusOn, NoMemory, WasWritten}
 use Rattle.ring_program.specs.declared.command_line.Question.{Question}
 use Rattle.ring_program.specs.declared.command_line.Question.TheVariants.{Audit, AuditBits, Play, PlayTrace, PlayCalls}
 use Rattle.ring_program.specs.declared.command_line.Request.{Request}
-use Rattle.ring_program.specs.declared.command_line.Request.TheVariants.{OnInput, Calls, Run}
+use Rattle.ring_program.specs.declared.command_line.Request.TheVariants.{OnInput, Calls, LongBits, Run}
 use Rattle.ring_program.specs.declared.faults.AppFault.TheVariants as app
 use Rattle.ring_program.specs.declared.faults.Refusal.TheVariants as refusal
 use Rattle.ring_program.proofs.program.execute.Goals as goal
@@ -24,11 +24,13 @@ only_memory k before after status (inr (inr mistake)) is = absurd (mistake.1 is)
 
 -- a request is refused for want of memory
 short_of : (r : Request) (input before after : Option (List ℕ)) (status : ℕ) → NoMemory before after status → Ends r input before after status
-unfolding IsCallsCause IsOutOfMemory IsShortage
+unfolding IsCallsCause IsLongBitsCause IsOutOfMemory IsShortage
 short_of (OnInput question) None before after status short = tt
 short_of (OnInput question) (Some bytes) before after status short = inr (short.0, refusal.App app.OutOfMemory, inl (inl (inl (inl refl)), short.1))
 short_of Calls None before after status short = tt
 short_of Calls (Some bytes) before after status short = inr (short.0, refusal.App app.OutOfMemory, inl (inl refl, short.1))
+short_of LongBits None before after status short = tt
+short_of LongBits (Some bytes) before after status short = inr (short.0, refusal.App app.OutOfMemory, inl (inl refl, short.1))
 short_of (Run run) input before after status short = inr (short.0, refusal.App app.OutOfMemory, inl (inl (inl refl), short.1))
 
 -- words that ask for something are refused for want of memory alone
@@ -69,6 +71,7 @@ refused_on PlayCalls status is = inr is
 refused_status : (r : Request) (status : ℕ) → status ≡ 1 → IsStatusOf r status
 refused_status (OnInput question) status is = refused_on question status is
 refused_status Calls status is = inr (inl is)
+refused_status LongBits status is = inr (inl is)
 refused_status (Run run) status is = inr is
 
 status_by : (request : Option Request) (k : ErrorKind) (before after : Option (List ℕ)) (status : ℕ) → Explains k before after status → (k ≡ kind.OutOfMemory) ⊎ (request ≡ None) → IsStatus request status

@@ -1,0 +1,73 @@
+use Rattle.std.proofs.Common.{rules, arith, ◌≡◌, ◌≢◌, ◌≤◌, ◌+◌, ◌-◌, ◌^◌, length-append, ℕ, zero, suc, List, [], ◌++◌, Option, Some, None, Result, Ok, Err, IfErr, IfSome, inr, subst, sym, refl, take, length, append_assoc}
+use Rattle.std.specs.Result.{IsErrAnd}
+use Rattle.std.proofs.KnownBytes.{Consumes-nil, Consumes-trans, Consumes-whole}
+use Rattle.std.proofs.lemmas.List.{append-nil, length-take-le}
+use Rattle.std.specs.Io.KnownBytes.{Consumes}
+use Rattle.bits_core.specs.Trace.{RefusesTraceText}
+use Rattle.bits_core.specs.declared.audits.Verdict.{Verdict}
+use Rattle.bits_core.specs.declared.traces.TraceFault.{TraceFault}
+use Rattle.ring_program.specs.Answers.{IsLongBitsCause}
+use Rattle.ring_program.specs.declared.faults.Refusal.{Refusal}
+use Rattle.ring_program.specs.declared.faults.Refusal.TheVariants as refusal
+use Rattle.ring_program.proofs.long_bits.read_long_bits.Goals as goal
+
+-- what holds of the bytes that came, whatever comes behind them, holds of the input
+of_front : (before after : Option (List ℕ)) (came : List ℕ) (P : List ℕ → Type 0) → Consumes before after came → ((more : List ℕ) → P (came ++ more)) → IfSome before P
+of_front None after came P same holds = tt
+of_front (Some bytes) None came P same holds = absurd same
+of_front (Some bytes) (Some rest) came P same holds = subst P (sym same) (holds rest)
+
+none_more : (count : ℕ) (piece came : List ℕ) → count ≡ 0 → came ++ take count piece ≡ came
+none_more zero piece came same = append-nil came
+none_more (suc count) piece came same = cc
+
+-- a fault of the text, of these bytes
+told : (result : Result Verdict Refusal) (fault : TraceFault) (bytes : List ℕ) → IsErrAnd result (λ e. e ≡ refusal.Trace fault) → RefusesTraceText bytes fault → IfErr result (IsLongBitsCause bytes)
+unfolding IsLongBitsCause
+told (Ok verdict) fault bytes is refuses = tt
+told (Err e) fault bytes is refuses = inr (inr (fault, is, refuses))
+
+-- a piece that is not empty makes the bytes more
+one_more : (turns count : ℕ) (came piece : List ℕ) → turns ≤ length came → count ≢ 0 → count ≤ length piece → turns + 1 ≤ length (came ++ take count piece)
+one_more turns count came piece before some within = omega (arith, before, some, within, length-append came (take count piece), length-take-le count piece within)
+
+-- so many turns have read so many bytes
+all_turns : (turns : ℕ) (came more : List ℕ) → turns ≤ length came → 18446744073709551615 ≤ turns → 2 ^ 64 - 1 ≤ length (came ++ more)
+all_turns turns came more read over = omega (arith, read, over, length-append came more)
+
+pub loop-init : goal.loop-init
+loop-init g c = ([], Consumes-nil _, c.new-audit.ensures, search rules)
+
+pub loop-preserved : goal.loop-preserved
+loop-preserved g c = (
+  _,
+  Consumes-trans _ _ _ _ _ c.loop.invariant.1 c.in-Ok.ensures.bytes.0,
+  c.in_ok-read.ensures.read _ c.loop.invariant.2,
+  one_more _ _ _ _ c.loop.invariant.3 c.if-count-eq0.false c.in-Ok.ensures.bound.0,
+)
+
+pub returns-then-count-eq0-clause-told : goal.returns-then-count-eq0-clause-told
+returns-then-count-eq0-clause-told g c =
+    let came = c.loop.invariant.0 in
+    let all = subst (Consumes _ _) (none_more c.in-Ok.count _ came c.if-count-eq0.true) (Consumes-trans _ _ _ _ _ c.loop.invariant.1 c.in-Ok.ensures.bytes.0) in
+    Consumes-whole _ _ came _ all (c.in-Ok.ensures.bytes.1 c.if-count-eq0.true (search rules)) (c.in_ok-verdict.ensures.told came c.loop.invariant.2)
+
+pub returns-in_err-verdict-clause-refused : goal.returns-in_err-verdict-clause-refused
+returns-in_err-verdict-clause-refused g c =
+    let came = c.loop.invariant.0 in
+    let all = subst (Consumes _ _) (none_more c.in-Ok.count _ came c.if-count-eq0.true) (Consumes-trans _ _ _ _ _ c.loop.invariant.1 c.in-Ok.ensures.bytes.0) in
+    Consumes-whole _ _ came _ all (c.in-Ok.ensures.bytes.1 c.if-count-eq0.true (search rules))
+    (told c.from_residual.result c.in_err-verdict.field-0.0 came c.from_residual.ensures.1 (c.in_err-verdict.ensures.refused came c.loop.invariant.2))
+
+pub returns-in_err-read-clause-refused : goal.returns-in_err-read-clause-refused
+returns-in_err-read-clause-refused g c =
+    let came = c.loop.invariant.0 in
+    of_front _ _ _ _ (Consumes-trans _ _ _ _ _ c.loop.invariant.1 c.in-Ok.ensures.bytes.0)
+    (λ more. told c.from_residual-in_err-read.result c.in_err-read.field-0.0 _ c.from_residual-in_err-read.ensures.1
+    (subst (λ t. RefusesTraceText t c.in_err-read.field-0.0) (sym (append_assoc came _ more)) (c.in_err-read.ensures.refused came more c.loop.invariant.2)))
+
+pub returns-clause-refused : goal.returns-clause-refused
+unfolding IsLongBitsCause
+returns-clause-refused g c =
+    let came = c.loop.invariant.0 in
+    of_front _ _ _ _ c.loop.invariant.1 (λ more. inr (inr (_, refl, all_turns _ came more c.loop.invariant.3 c.loop-test.false)))
