@@ -6,12 +6,12 @@ use Rattle.near_misses.specs.declared.misses.NearMiss.{NearMiss}
 use Rattle.near_misses.specs.declared.misses.NearMiss.TheVariants.{CountBeforeCell, NoSecondScan, SmallModulus, ClearsFirst, ClearsUpwards}
 
 -- the word for each
-abbrev pub name_of : NearMiss → List ℕ
-name_of CountBeforeCell = codes "count-before-cell"
-name_of NoSecondScan = codes "no-second-scan"
-name_of SmallModulus = codes "small-modulus"
-name_of ClearsFirst = codes "clears-first"
-name_of ClearsUpwards = codes "clears-upwards"
+abbrev pub miss_name : NearMiss → List ℕ
+miss_name CountBeforeCell = codes "count-before-cell"
+miss_name NoSecondScan = codes "no-second-scan"
+miss_name SmallModulus = codes "small-modulus"
+miss_name ClearsFirst = codes "clears-first"
+miss_name ClearsUpwards = codes "clears-upwards"
 
 -- where the counts go round
 abbrev pub near_modulus : NearMiss → Shape → ℕ

@@ -1,4 +1,4 @@
-//! Four rings that are nearly right, to be played as a script says: each breaks one rule of the ring, and what comes of
+//! Five rings that are nearly right, to be played as a script says: each breaks one rule of the ring, and what comes of
 //! that is for the audits to find. Nothing of the ring's law is promised here.
 #![tactic(auto)]
 

@@ -1,7 +1,7 @@
 //! Which rule is broken.
 ghost use Rattle.std.specs.Prelude.{◌≡◌, IfSome, codes};
 ghost use Rattle.bits_core.specs.Shape.{capacity_of, modulus_of};
-ghost use Rattle.near_misses.specs.Misses.{name_of, near_modulus};
+ghost use Rattle.near_misses.specs.Misses.{miss_name, near_modulus};
 
 use bits_core::Shape;
 
@@ -27,7 +27,7 @@ pub enum NearMiss {
 impl NearMiss {
     /// The word for it: `count-before-cell`, `no-second-scan`, `small-modulus`, `clears-first`, `clears-upwards`.
     pub fn name(self) -> &'static str
-        ensures { result.now ≡ name_of self }
+        ensures { result.now ≡ miss_name self }
     {
         match self {
             NearMiss::CountBeforeCell => "count-before-cell",
@@ -40,7 +40,7 @@ impl NearMiss {
 
     /// The near miss of this name.
     pub fn named(name: &str) -> Option<NearMiss>
-        ensures { IfSome result (λ miss. name_of miss ≡ name.now) }
+        ensures { IfSome result (λ miss. miss_name miss ≡ name.now) }
     {
         for miss in [
             NearMiss::CountBeforeCell,
