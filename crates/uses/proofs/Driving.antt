@@ -1,6 +1,5 @@
 -- A producer that is driven by hand: one event more.
-use Rattle.std.proofs.Common.{◌≡◌, ◌≢◌, ◌⊎◌, ⊎_elim, inl, inr, ℕ, zero, suc, ◌*◌, ◌↔◌, Bool, true, false, IsTrue, if◌then◌else◌, Some, None, Option, List, [], ◌∷◌, ◌++◌, length, refl, ap, sym, subst, ◌∙◌, arith, append-nil, append_assoc}
-use Rattle.std.specs.Prelude.{IfSome}
+use Rattle.std.proofs.Common.{◌≡◌, ◌≢◌, ◌⊎◌, ⊎_elim, inl, inr, ℕ, zero, suc, ◌*◌, ◌↔◌, Bool, true, false, IsTrue, if◌then◌else◌, Some, None, List, [], ◌∷◌, ◌++◌, length, refl, ap, sym, subst, ◌∙◌, arith, append-nil, append_assoc}
 use Rattle.std.proofs.lemmas.List.{length-append}
 use Rattle.bits_core.specs.declared.shapes.Shape.{Shape}
 use Rattle.bits_core.specs.declared.events.Side.{Side}
@@ -18,15 +17,13 @@ use Rattle.bits_core.specs.Memory.{MemoryState}
 use Rattle.bits_core.specs.Shape.{modulus_of}
 use Rattle.register_core.specs.Phrases.{row_read_by, zero_reads}
 use Rattle.ring_core.specs.Calls.{EndsInZeros, LastBitIsDue}
-use Rattle.ring_core.specs.declared.producers.BatchReply.{BatchReply}
-use Rattle.ring_core.specs.declared.producers.PutReply.{PutReply}
-use Rattle.ring_core.specs.Puts.{Puts, put_program, ArePuts}
+use Rattle.ring_core.specs.Puts.{Puts}
 use Rattle.ring_core.specs.Takes.{Takes, take_program, FollowsTakes}
-use Rattle.ring_core.specs.ProducerState.{ProducerState, Call, call_of, due_put, item_reply}
-use Rattle.ring_core.specs.ProducerCalls.{ProducerStands, ProducerHasMoved, IsReplyToCall, no_puts}
+use Rattle.ring_core.specs.ProducerState.{ProducerState, due_put}
+use Rattle.ring_core.specs.ProducerCalls.{ProducerStands, ProducerHasMoved, no_puts}
 use Rattle.ring_core.specs.ConsumerCalls.{no_takes}
 use Rattle.ring_core.specs.RunLaws.{TakesAreSeen}
-use Rattle.uses.specs.ByHand.{HasReplied, IsDriven}
+use Rattle.uses.specs.ByHand.{IsDriven}
 
 -- ---- the events of an access
 
@@ -211,19 +208,6 @@ module _ (m : MemoryState) (p : ProducerState) (d : IsDriven m p) where
     own_is = inl (whole_own none);
     takes = d.takes;
     others = d.others;
-  }
-
-  -- the last call was answered
-  pub replied : due_put p ≡ None → call_of p ≡ None → d.made ≡ put_program p.shape d.calls → (reply : Option PutReply) → (answer : Option BatchReply) × IsReplyToCall d.calls (call_of p) answer × (reply ≡ item_reply answer) → IfSome reply (HasReplied m)
-  replied none idle whole None said = tt
-  replied none idle whole (Some r) (None, answered, is) = absurd (cc)
-  replied none idle whole (Some r) (Some b, answered, is) = record {
-    calls = d.calls;
-    are = subst (λ (s : Shape). ArePuts s 0 d.calls.puts) d.shape_is d.stands.are;
-    own_is = whole_own none ∙ ap (events_of P) (whole ∙ ap (λ (s : Shape). put_program s d.calls) d.shape_is);
-    answer = b;
-    reply_is = is;
-    answered = subst (λ (c : Option Call). IsReplyToCall d.calls c (Some b)) idle answered;
   }
 
 -- nothing was done yet

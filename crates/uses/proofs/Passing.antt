@@ -21,14 +21,14 @@ use Rattle.ring_core.specs.Takes as takes
 use Rattle.ring_core.specs.Takes.{Take, Takes, End, Open, Closed, take_program}
 use Rattle.ring_core.specs.Items.{all_put, all_taken, items_put, items_taken, events_in, Tells, IsTold}
 use Rattle.ring_core.specs.Readings.{PutsAreRead, TakesAreRead}
-use Rattle.ring_core.specs.ProducerCalls.{no_puts, and_put, and_close, count_of}
+use Rattle.ring_core.specs.ProducerCalls.{no_puts, and_put, count_of}
 use Rattle.ring_core.specs.ConsumerCalls.{no_takes, ends_closed, reply_at_end, last_take_reply, take_reply_to}
 use Rattle.ring_core.specs.RingLaw.{IsRun, InEveryRun, TakenArePrefix, ClosedIsTrue}
 use Rattle.ring_core.specs.Whole.{WholePutsCount, WholeTakesCount}
 use Rattle.ring_run.specs.Ring.{Ring, RingEnd}
 use Rattle.ring_run.specs.Hands.{IsSameEnd}
 use Rattle.ring_run.specs.Meetings.{Meets, TellsAre}
-use Rattle.ring_run.specs.Ends.{HasPuts, HasPut, HasPutAll, PutAdds, HasClosed, CloseAdds, HasTakes, HasTaken, TakeAdds}
+use Rattle.ring_run.specs.Ends.{HasPuts, HasPut, HasPutAll, PutAdds, HasTakes, HasTaken, TakeAdds}
 use Rattle.uses.specs.Passed.{HasStored, HasTook, items_answered}
 
 -- ---- lists
@@ -208,14 +208,6 @@ module _ (read : PutsAreRead) (a b : RingEnd) (same : b.ring ≡ a.ring) (items 
   one_late item (several.Stored m, is, h) = absurd (cc)
   one_late item (several.Full, is, h) = absurd (cc)
   one_late item (several.Closed, is, h) = stored_late (item ∷ []) h
-
-  closed_by_one : (calls : Puts) → HasPuts b.ring.shape a.list calls → (closes : Bool) → CloseAdds closes b.ring.shape calls a.list b.list → HasStored b items
-  closed_by_one calls has true kept = put_unchanged calls has kept
-  closed_by_one calls has false after = record { calls = and_close calls; list_is = after; items_are = put_items_of calls has }
-
-  -- a close stores nothing
-  pub stored_closed : HasClosed b.ring.shape a.list b.list → HasStored b items
-  stored_closed h = closed_by_one h.calls h.before_is h.calls.closes h.adds
 
 -- ---- takes
 

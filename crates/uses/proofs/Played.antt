@@ -1,5 +1,5 @@
 -- What a play's report says of its items.
-use Rattle.std.proofs.Common.{◌+◌, ◌≡◌, ◌↔◌, ◌≤◌, ◌++◌, ◌∙◌, Bool, true, List, ap, arith, length, subst, sym, ℕ}
+use Rattle.std.proofs.Common.{◌+◌, ◌≡◌, ◌↔◌, ◌≤◌, ◌∙◌, Bool, true, List, ap, arith, length, subst, sym, ℕ}
 use Rattle.std.proofs.lemmas.List.{length-append}
 use Rattle.std.proofs.Math.Seq.{take-length}
 use Rattle.bits_core.specs.declared.events.Side.{Side}

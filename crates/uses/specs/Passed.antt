@@ -1,5 +1,7 @@
 -- What the lists of a ring's two ends came to.
 use Rattle.std.specs.Prelude.{◌≡◌, ℕ, List, [], ◌∷◌}
+use Rattle.ring_core.specs.declared.producers.BatchReply.{BatchReply}
+use Rattle.ring_core.specs.declared.producers.BatchReply.TheVariants as several
 use Rattle.ring_core.specs.declared.consumers.TakeReply.{TakeReply}
 use Rattle.ring_core.specs.declared.consumers.TakeReply.TheVariants.{Item, Empty, Closed}
 use Rattle.ring_core.specs.Puts.{Puts}
@@ -25,3 +27,9 @@ abbrev pub items_answered : TakeReply → List ℕ
 items_answered (Item item) = item ∷ []
 items_answered Empty = []
 items_answered Closed = []
+
+-- how many items a put of several stored, as it was answered
+abbrev pub number_stored : BatchReply → ℕ
+number_stored (several.Stored m) = m
+number_stored several.Full = 0
+number_stored several.Closed = 0

@@ -1,4 +1,5 @@
-use Rattle.std.proofs.Common.{List, ℕ, append-nil, sym, subst}
+use Rattle.std.proofs.Common.{List, append-nil, refl, subst, sym, ℕ}
+use Rattle.ring_core.specs.declared.producers.BatchReply.TheVariants as reply
 use Rattle.uses.specs.Passed.{HasStored}
 use Rattle.uses.proofs.Passing.{few_stored, stored_late, stored_more, stored_none}
 use Rattle.uses.proofs.batches.put_batch.Goals as goal
@@ -28,3 +29,12 @@ returns-in-Closed-clause-stored g c before has =
     let b = g.E.PutEnd.end c.put_all.new.self in
     subst (λ (l : List ℕ). HasStored b l) (sym (append-nil before))
     (stored_late c.puts_are_read.ensures a b c.in-Closed.ensures.same.ring before has c.args.items.now c.in-Closed.ensures.phrase)
+
+pub returns-in-Stored-clause-made : goal.returns-in-Stored-clause-made
+returns-in-Stored-clause-made g c = (reply.Stored c.in-Stored.stored, c.in-Stored.ensures.phrase, refl)
+
+pub returns-in-Full-clause-made : goal.returns-in-Full-clause-made
+returns-in-Full-clause-made g c = (reply.Full, c.in-Full.ensures.phrase, refl)
+
+pub returns-in-Closed-clause-made : goal.returns-in-Closed-clause-made
+returns-in-Closed-clause-made g c = (reply.Closed, c.in-Closed.ensures.phrase, refl)
