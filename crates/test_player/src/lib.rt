@@ -2,6 +2,8 @@
 #![tactic(auto)]
 
 #[cfg(test)]
+mod near_misses;
+#[cfg(test)]
 mod play_growths;
 #[cfg(test)]
 mod play_scripts;

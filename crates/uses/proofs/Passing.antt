@@ -26,7 +26,7 @@ use Rattle.ring_core.specs.ConsumerCalls.{no_takes, ends_closed, reply_at_end, l
 use Rattle.ring_core.specs.RingLaw.{IsRun, InEveryRun, TakenArePrefix, ClosedIsTrue}
 use Rattle.ring_core.specs.Whole.{WholePutsCount, WholeTakesCount}
 use Rattle.ring_run.specs.Ring.{Ring, RingEnd}
-use Rattle.ring_run.specs.Hands.{IsSameEnd}
+use Rattle.ring_run.specs.Steppers.{IsSameEnd}
 use Rattle.ring_run.specs.Meetings.{Meets, TellsAre}
 use Rattle.ring_run.specs.Ends.{HasPuts, HasPut, HasPutAll, PutAdds, HasTakes, HasTaken, TakeAdds}
 use Rattle.uses.specs.Passed.{HasStored, HasTook, items_answered}

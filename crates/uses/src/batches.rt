@@ -2,7 +2,7 @@
 ghost use Rattle.std.specs.Prelude.{◌≡◌, ℕ, List, ◌≤◌, ◌++◌, length, take};
 ghost use Rattle.ring_core.specs.declared.producers.BatchReply.{BatchReply as AReply};
 ghost use Rattle.ring_core.specs.Puts.{IsBatch};
-ghost use Rattle.ring_run.specs.Hands.{IsSameEnd};
+ghost use Rattle.ring_run.specs.Steppers.{IsSameEnd};
 ghost use Rattle.ring_run.specs.Ends.{HasPutAll};
 ghost use Rattle.uses.specs.Passed.{HasStored, number_stored};
 

@@ -2,7 +2,7 @@
 ghost use Rattle.std.specs.Prelude.{◌≡◌, ◌≤◌, true, [], IfOk, length, take};
 ghost use Rattle.bits_core.specs.Made.{IsBeginning};
 ghost use Rattle.bits_core.specs.Shape.{AllFit};
-ghost use Rattle.ring_run.specs.Hands.{IsSameEnd};
+ghost use Rattle.ring_run.specs.Steppers.{IsSameEnd};
 ghost use Rattle.uses.specs.Passed.{HasStored, HasTook};
 
 use crate::batches::put_batch;

@@ -1,5 +1,5 @@
 use Rattle.std.proofs.Common.{◌≡◌, ◌≤◌, length, take}
-use Rattle.ring_run.specs.Hands.{IsSameEnd}
+use Rattle.ring_run.specs.Steppers.{IsSameEnd}
 use Rattle.uses.specs.Passed.{HasStored}
 use Rattle.uses.proofs.two_threads.put_each.Given as goal
 

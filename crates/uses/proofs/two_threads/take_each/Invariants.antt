@@ -1,4 +1,4 @@
-use Rattle.ring_run.specs.Hands.{IsSameEnd}
+use Rattle.ring_run.specs.Steppers.{IsSameEnd}
 use Rattle.uses.specs.Passed.{HasTook}
 use Rattle.uses.proofs.two_threads.take_each.Given as goal
 

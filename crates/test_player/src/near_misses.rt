@@ -1,0 +1,155 @@
+use crate::play_scripts::{Asked, Numbers, ONE, text_of};
+use bits_core::{Verdict, audit_bits};
+use near_misses::{NearFault, NearMiss, play_near};
+use refusing::Refusing;
+use ring_player::{Script, Told};
+use std::alloc::{AllocGlobal, Global};
+use std::process::Abort;
+use std::test::Fail;
+
+// What a near miss is to tell of a script.
+type Near<'a> = (NearMiss, Numbers, Asked<'a>, &'a [Told]);
+
+const CASES: [Near<'static>; 5] = [
+    // The count write spans the take, which reads the cell before the item is there: 0 for 1.
+    (
+        NearMiss::CountBeforeCell,
+        ONE,
+        ("[1]", 1, false, "P5C10", ""),
+        &[Told::PutBegins(0), Told::TakeBegins, Told::TakeItem(0)],
+    ),
+    // Item 1 is stored, and the take that began before is told Closed.
+    (
+        NearMiss::NoSecondScan,
+        ONE,
+        ("[1]", 2, true, "C2P10C2", ""),
+        &[
+            Told::TakeBegins,
+            Told::PutBegins(0),
+            Told::PutStored(1),
+            Told::CloseBegins,
+            Told::CloseEnds,
+            Told::TakeClosed,
+        ],
+    ),
+    // The count write is open: it is seen new, and then old, which looks like a round more, and item 1 is taken twice.
+    (
+        NearMiss::SmallModulus,
+        [1, 3, 2, 1],
+        ("[1,2,3]", 3, false, "P9C20", "01"),
+        &[
+            Told::PutBegins(0),
+            Told::TakeBegins,
+            Told::TakeItem(1),
+            Told::TakeBegins,
+            Told::TakeItem(1),
+        ],
+    ),
+    // The fifth put has cleared s0 and not yet set s1, so a scan finds s3, which was set a round ago: Empty, with the fourth item inside.
+    (
+        NearMiss::ClearsFirst,
+        [2, 4, 2, 1],
+        ("[1,2,3,1,2]", 5, false, "P10C12P12C14P14C16P27C10", ""),
+        &[
+            Told::PutBegins(0),
+            Told::PutStored(1),
+            Told::TakeBegins,
+            Told::TakeItem(1),
+            Told::PutBegins(1),
+            Told::PutStored(1),
+            Told::TakeBegins,
+            Told::TakeItem(2),
+            Told::PutBegins(2),
+            Told::PutStored(1),
+            Told::TakeBegins,
+            Told::TakeItem(3),
+            Told::PutBegins(3),
+            Told::PutStored(1),
+            Told::PutBegins(4),
+            Told::TakeBegins,
+            Told::TakeEmpty,
+        ],
+    ),
+    // Where nothing overlaps, it is as with a ring: a batch of two, of which the second put finds room for one.
+    (
+        NearMiss::ClearsUpwards,
+        [3, 6, 2, 2],
+        ("[1,2,3,1]", 1, false, "P26", ""),
+        &[
+            Told::PutBegins(0),
+            Told::PutStored(2),
+            Told::PutBegins(2),
+            Told::PutStored(1),
+            Told::PutBegins(3),
+            Told::PutFull,
+        ],
+    ),
+];
+
+fn expect_told(rt: &(impl Abort + AllocGlobal), cases: &[Near]) -> Result<(), Fail> {
+    for (miss, shape, asked, wanted) in cases {
+        let text = text_of(rt.alloc(), shape, asked)?;
+        let script = Script::read(rt.alloc(), text.as_bytes())?;
+        let played = play_near(rt.alloc(), *miss, &script)?;
+        assert!(rt; played.told.as_slice() == *wanted, "{miss:?}");
+        let verdict = audit_bits(&script.shape(), played.history.as_slice());
+        assert_eq!(rt; verdict, Verdict::Lawful);
+    }
+    Ok(())
+}
+
+#[test]
+fn near_misses_lose_double_and_tell_too_soon(rt: HostRuntime) -> Result<(), Fail> {
+    expect_told(&rt, &CASES)
+}
+
+#[test]
+fn near_misses_have_their_names(rt: HostRuntime) -> Result<(), Fail> {
+    for (miss, name) in [
+        (NearMiss::CountBeforeCell, "count-before-cell"),
+        (NearMiss::NoSecondScan, "no-second-scan"),
+        (NearMiss::SmallModulus, "small-modulus"),
+        (NearMiss::ClearsFirst, "clears-first"),
+        (NearMiss::ClearsUpwards, "clears-upwards"),
+    ] {
+        assert!(rt; miss.name() == name && NearMiss::named(name) == Some(miss));
+    }
+    assert!(rt; NearMiss::named("torus").is_none());
+    Ok(())
+}
+
+// As many allocations as none makes.
+const MANY: u64 = 1_000_000;
+
+// Whether the play was refused, where the allocation after so many is.
+fn is_refused(rt: &(impl Abort + AllocGlobal), allocations: u64) -> Result<bool, Fail> {
+    let alloc: Refusing<Global> = Refusing::after(rt.alloc(), MANY);
+    let (miss, shape, asked, wanted) = CASES[2];
+    let text = text_of(rt.alloc(), &shape, &asked)?;
+    let script = Script::read_in(&alloc, rt.alloc(), text.as_bytes())?;
+    alloc.refuse_after(allocations);
+    match play_near(&alloc, miss, &script) {
+        Err(fault) => {
+            assert!(rt; fault == NearFault::OutOfMemory && alloc.has_refused());
+            Ok(true)
+        }
+        Ok(played) => {
+            assert!(rt; !alloc.has_refused() && played.told.as_slice() == wanted);
+            Ok(false)
+        }
+    }
+}
+
+#[test]
+fn each_growth_of_a_near_miss_may_be_refused(rt: HostRuntime) -> Result<(), Fail> {
+    let mut refused: u64 = 0;
+    for allocations in 0..40 {
+        if !is_refused(&rt, allocations)? {
+            break;
+        }
+        refused = refused.saturating_add(1);
+    }
+    // the first growths of the history and of what is told
+    assert!(rt; 2 <= refused && refused < 40);
+    Ok(())
+}
