@@ -113,7 +113,7 @@ length_part (e ∷ h) (suc n) l = ap suc (length_part h n (omega (arith, l)))
 own-append : (s : Side) (h g : List Event) → own s (h ++ g) ≡ own s h ++ own s g
 own-append s h g = filter-append (is_by s) h g
 
-begins_take : (s : Side) (h : List Event) (n : ℕ) (all : List Event) → IsBeginning (own s h) all → IsBeginning (own s (take n h)) all
+pub begins_take : (s : Side) (h : List Event) (n : ℕ) (all : List Event) → IsBeginning (own s h) all → IsBeginning (own s (take n h)) all
 begins_take s h n all (rest, e) = (
   own s (drop n h) ++ rest,
   sym (append_assoc (own s (take n h)) (own s (drop n h)) rest) ∙ ap (λ l. l ++ rest) (sym (own-append s (take n h) (drop n h)) ∙ ap (own s) (take-append-drop n h)) ∙ e,

@@ -13,3 +13,4 @@ pub mod Rooms
 pub mod Breaks
 pub mod Findings
 pub mod Sentences
+pub mod DueLemmas

@@ -2,4 +2,5 @@ pub mod Sides
 pub mod TakeReading
 pub mod PutReading
 pub mod Reading
+pub mod Dues
 pub mod Audit

@@ -2,6 +2,8 @@
 #![tactic(auto)]
 
 mod audits;
+mod choices;
+mod dues;
 mod faults;
 pub mod laws;
 mod puts;
@@ -9,4 +11,6 @@ mod sides;
 mod takes;
 
 pub use audits::{Finding, Found, audit, audit_into};
+pub use choices::Dues;
+pub use dues::due_behind;
 pub use faults::AuditFault;

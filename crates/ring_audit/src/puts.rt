@@ -6,8 +6,12 @@ ghost use Rattle.bits_core.specs.declared.events.Event.{Event as AnEvent};
 ghost use Rattle.bits_core.specs.Made.{answered, end_event, opening_event};
 ghost use Rattle.bits_core.specs.Shape.{modulus_of, batch_of};
 ghost use Rattle.ring_core.specs.Counts.{LeavesRoom, LeavesRoomFor};
+ghost use Rattle.bits_core.specs.declared.events.Access.{Access as AnAccess};
+ghost use Rattle.ring_audit.specs.Sides.{AreOfPuts};
+ghost use Rattle.ring_audit.specs.Dues.{IsNoneOf};
 ghost use Rattle.ring_audit.specs.PutReading.{PutsStand, HasReadPut, WerePut};
 
+use crate::choices::{Dues, ends, only, opening, writes};
 use crate::sides::{answer_to, begun_by, is_same, told_by, writes_next};
 use bits_core::{Access, Bit, Event, Shape, Side};
 use register_core::{UnaryScan, UnaryWriter, WordReader};
@@ -350,6 +354,52 @@ impl PutReader {
         self.open_access = None;
         self.stage = Stage::Closed;
         PutStep::GoesOn
+    }
+
+    /// The events of which the next one of any puts has to be one. Nothing else is said of the reader then.
+    pub fn candidates(&mut self) -> Dues
+        ensures { (es : List AnEvent) (items stored : List ℕ) (e : AnEvent) → PutsStand self.old.shape self.old es items stored → e.side ≡ P → IsNoneOf result e → ¬ AreOfPuts self.old.shape (es ++ e ∷ []) }
+    {
+        match self.open_access {
+            Some(access) => ends(Side::P, access),
+            None => self.openings(),
+        }
+    }
+
+    // While no access is open: the begins of which the next one has to be one.
+    fn openings(&mut self) -> Dues
+        requires { self.old.open_access ≡ None }
+        ensures { (es : List AnEvent) (items stored : List ℕ) (access : AnAccess) → PutsStand self.old.shape self.old es items stored → IsNoneOf result (opening_event P access) → ¬ AreOfPuts self.old.shape (es ++ opening_event P access ∷ []) }
+    {
+        puts_go_on();
+        calls_are_first();
+        match self.stage {
+            Stage::Resting => Dues {
+                first: opening(Side::P, Some(Access::Write(Bit::X, true))),
+                second: opening(Side::P, Some(Access::Read(Bit::R(0)))),
+                third: None,
+            },
+            Stage::Scanning => only(opening(Side::P, self.scan.next())),
+            Stage::Choosing => self.word_or_count(),
+            Stage::Storing => writes(self.word.next(), None),
+            Stage::Counting => only(opening(Side::P, self.row.next())),
+            Stage::Closing => only(None),
+            Stage::Closed => only(None),
+        }
+    }
+
+    // Behind a scan that found room, or a whole word: the begins of the next word, and of the count write.
+    fn word_or_count(&mut self) -> Dues
+        requires none { self.old.open_access ≡ None }
+        requires stage { self.old.stage ≡ Choosing }
+        ensures { (es : List AnEvent) (items stored : List ℕ) (access : AnAccess) → PutsStand self.old.shape self.old es items stored → IsNoneOf result (opening_event P access) → ¬ AreOfPuts self.old.shape (es ++ opening_event P access ∷ []) }
+    {
+        puts_go_on();
+        let word = WordReader::new(&self.shape, self.cell).next();
+        self.row.write(self.next);
+        // it has stopped, with a row that is at rest no more
+        self.stage = Stage::Closed;
+        writes(word, opening(Side::P, self.row.next()))
     }
 
     /// What was read so far is a beginning of the events of puts.

@@ -6,10 +6,12 @@ ghost use Rattle.bits_core.specs.declared.events.Access.{Access as AnAccess};
 ghost use Rattle.bits_core.specs.Made.{answered, end_event, opening_event};
 ghost use Rattle.ring_core.specs.ConsumerState.{due_take};
 ghost use Rattle.ring_audit.specs.Sides.{AreOfTakes};
+ghost use Rattle.ring_audit.specs.Dues.{IsNoneOf};
 ghost use Rattle.ring_audit.specs.TakeReading.{TakesStand, HasReadTake, WereTaken, step_by, tells_closed};
 
+use crate::choices::{Dues, ends, only, opening};
 use crate::sides::{answer_to, begun_by, is_same};
-use bits_core::{Access, Event, Shape};
+use bits_core::{Access, Event, Shape, Side};
 use ring_core::laws::{calls_are_first, last_reads_are_one, takes_go_on_alike};
 use ring_core::{Consumer, TakeReply};
 use std::marker::Model;
@@ -130,6 +132,16 @@ impl TakeReader {
         self.open_access = None;
         self.consumer.feed(answer);
         step_of(self.consumer.reply())
+    }
+
+    /// The events of which the next one of any takes has to be one. Nothing else is said of the reader then.
+    pub fn candidates(&mut self) -> Dues
+        ensures { (es : List AnEvent) (items : List ℕ) (e : AnEvent) → TakesStand self.old.consumer.shape self.old es items → e.side ≡ C → IsNoneOf result e → ¬ AreOfTakes self.old.consumer.shape (es ++ e ∷ []) }
+    {
+        match self.open_access {
+            Some(access) => ends(Side::C, access),
+            None => only(opening(Side::C, self.due())),
+        }
     }
 
     /// Whether a take was told that the ring is closed, and what was read so far.

@@ -2,6 +2,8 @@
 #![tactic(auto)]
 
 #[cfg(test)]
+mod dues;
+#[cfg(test)]
 mod expects;
 #[cfg(test)]
 mod growths;

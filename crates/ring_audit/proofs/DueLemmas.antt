@@ -1,0 +1,220 @@
+-- No event but a few may come next.
+use Rattle.std.proofs.Common.{◌≡◌, ◌≢◌, ◌⊎◌, ◌↔◌, IsTrue, inl, inr, ℕ, ◌+◌, ◌<◌, Bool, true, false, Option, Some, None, List, [], ◌∷◌, ◌++◌, take, length, get_or, refl, sym, ap, subst, ◌∙◌, arith}
+use Rattle.std.proofs.lemmas.Bool.{cases_order}
+use Rattle.std.proofs.lemmas.List.{take_more, take-append-le}
+use Rattle.bits_core.specs.declared.events.Side.{Side}
+use Rattle.bits_core.specs.declared.events.Side.TheVariants.{P, C}
+use Rattle.bits_core.specs.declared.events.Bit.{Bit}
+use Rattle.bits_core.specs.declared.events.Bit.TheVariants.{S, R, X, Cell}
+use Rattle.bits_core.specs.declared.events.Act.{Act}
+use Rattle.bits_core.specs.declared.events.Act.TheVariants.{ReadBegin, ReadEnd, WriteBegin, WriteEnd}
+use Rattle.bits_core.specs.declared.events.Access.{Access}
+use Rattle.bits_core.specs.declared.events.Event.{Event}
+use Rattle.bits_core.specs.declared.shapes.Shape.{Shape}
+use Rattle.bits_core.specs.Bits.{begun_by}
+use Rattle.bits_core.specs.Made.{opening_event}
+use Rattle.ring_core.specs.Puts.{put_program}
+use Rattle.ring_core.specs.Takes.{take_program}
+use Rattle.ring_audit.specs.Sides.{EndsSo, AreOfPuts, AreOfTakes}
+use Rattle.ring_audit.specs.PutReading.{PutReading, PutsStand}
+use Rattle.ring_audit.specs.TakeReading.{TakeReading, TakesStand}
+use Rattle.ring_audit.specs.Reading.{BothFollow}
+use Rattle.ring_audit.specs.Dues.{GoesOnBehind, IsDueOf, IsNoneOf}
+use Rattle.ring_audit.specs.declared.choices.Dues.{Dues}
+use Rattle.ring_audit.proofs.Beginnings.{begins_so}
+use Rattle.ring_audit.proofs.Breaks.{begins_take}
+use Rattle.ring_audit.proofs.Readers.{end_at_rest, wrong_end}
+
+-- ---- an access is open, or none is
+
+pub put_open :
+    (shape : Shape) (r : PutReading) (es : List Event) (items stored : List ℕ) (a : Access) (e : Event) → PutsStand shape r es items stored → r.open_access ≡ Some a → e.side ≡ P →
+    ((v : Bool) → EndsSo a e v → ⊥) → AreOfPuts shape (es ++ e ∷ []) → ⊥
+put_open shape r es items stored a e st some by no_end of_puts = wrong_end P es st.made (put_program shape of_puts.0) r.open_access a e st.events_are some by no_end of_puts.2
+
+pub take_open :
+    (shape : Shape) (r : TakeReading) (es : List Event) (items : List ℕ) (a : Access) (e : Event) → TakesStand shape r es items → r.open_access ≡ Some a → e.side ≡ C →
+    ((v : Bool) → EndsSo a e v → ⊥) → AreOfTakes shape (es ++ e ∷ []) → ⊥
+take_open shape r es items a e st some by no_end of_takes = wrong_end C es st.made (take_program shape of_takes.0) r.open_access a e st.events_are some by no_end of_takes.2
+
+pub put_rest :
+    (shape : Shape) (r : PutReading) (es : List Event) (items stored : List ℕ) (e : Event) → PutsStand shape r es items stored → r.open_access ≡ None → e.side ≡ P →
+    ((a : Access) → e ≡ opening_event P a → AreOfPuts shape (es ++ opening_event P a ∷ []) → ⊥) → AreOfPuts shape (es ++ e ∷ []) → ⊥
+put_rest shape r es items stored e st none by wrong of_puts =
+    elim (begun_by e) as (λ o. begun_by e ≡ o → ⊥) [
+      | None ↦ λ no_begin. end_at_rest P es st.made (put_program shape of_puts.0) r.open_access e st.events_are none no_begin of_puts.2
+      | Some a ↦ λ begun. wrong a (begins_so P e a by begun) (subst (λ d. AreOfPuts shape (es ++ d ∷ [])) (begins_so P e a by begun) of_puts)
+    ] refl
+
+pub take_rest :
+    (shape : Shape) (r : TakeReading) (es : List Event) (items : List ℕ) (e : Event) → TakesStand shape r es items → r.open_access ≡ None → e.side ≡ C →
+    ((a : Access) → e ≡ opening_event C a → AreOfTakes shape (es ++ opening_event C a ∷ []) → ⊥) → AreOfTakes shape (es ++ e ∷ []) → ⊥
+take_rest shape r es items e st none by wrong of_takes =
+    elim (begun_by e) as (λ o. begun_by e ≡ o → ⊥) [
+      | None ↦ λ no_begin. end_at_rest C es st.made (take_program shape of_takes.0) r.open_access e st.events_are none no_begin of_takes.2
+      | Some a ↦ λ begun. wrong a (begins_so C e a by begun) (subst (λ d. AreOfTakes shape (es ++ d ∷ [])) (begins_so C e a by begun) of_takes)
+    ] refl
+
+-- ---- the events before it
+
+-- where the events up to one are not of the programs, no event goes on behind them all
+pub follow_before : (shape : Shape) (h : List Event) (i : ℕ) (d e : Event) → i < length h → (BothFollow shape (take i h ++ get_or h i d ∷ []) → ⊥) → BothFollow shape (h ++ e ∷ []) → ⊥
+follow_before shape h i d e within stops ((puts, are, events), (takes, are', events')) =
+    let one : take (i + 1) (h ++ e ∷ []) ≡ take i h ++ get_or h i d ∷ [] = take-append-le (i + 1) h (e ∷ []) (omega (arith, within)) ∙ take_more h i d within in
+    stops (subst (BothFollow shape) one ((puts, are, begins_take P (h ++ e ∷ []) (i + 1) _ events), (takes, are', begins_take C (h ++ e ∷ []) (i + 1) _ events')))
+
+-- ---- whether an event is another
+
+same_number : (a b : ℕ) → (a ≡ b) ⊎ (a ≢ b)
+same_number a b = elim (cases_order a b) [
+  | inl same ↦ inl same
+  | inr other ↦ elim other [
+    | inl below ↦ inr (λ same. omega (arith, below, same))
+    | inr above ↦ inr (λ same. omega (arith, above, same))
+  ]
+]
+
+same_truth : (a b : Bool) → (a ≡ b) ⊎ (a ≢ b)
+same_truth true true = inl refl
+same_truth false false = inl refl
+same_truth true false = inr (λ same. (absurd (cc)))
+same_truth false true = inr (λ same. (absurd (cc)))
+
+same_side : (s t : Side) → (s ≡ t) ⊎ (s ≢ t)
+same_side P P = inl refl
+same_side C C = inl refl
+same_side P C = inr (λ same. (absurd (cc)))
+same_side C P = inr (λ same. (absurd (cc)))
+
+one_of : (f : ℕ → Bit) (a b : ℕ) → (f a ≡ f b → a ≡ b) → (f a ≡ f b) ⊎ (f a ≢ f b)
+one_of f a b back = elim (same_number a b) [
+  | inl same ↦ inl (ap f same)
+  | inr other ↦ inr (λ same. other (back same))
+]
+
+same_bit : (b c : Bit) → (b ≡ c) ⊎ (b ≢ c)
+same_bit (S i) (S k) = one_of S i k (λ same. cc)
+same_bit (R i) (R k) = one_of R i k (λ same. cc)
+same_bit X X = inl refl
+same_bit (Cell j i) (Cell l k) =
+    elim (same_number j l) [
+      | inl row ↦ elim (same_number i k) [
+        | inl digit ↦ inl (ap (λ z. Cell z i) row ∙ ap (Cell l) digit)
+        | inr other ↦ inr (λ same. other (cc))
+      ]
+      | inr other ↦ inr (λ same. other (cc))
+    ]
+same_bit (S i) (R k) = inr (λ same. (absurd (cc)))
+same_bit (S i) X = inr (λ same. (absurd (cc)))
+same_bit (S i) (Cell l k) = inr (λ same. (absurd (cc)))
+same_bit (R i) (S k) = inr (λ same. (absurd (cc)))
+same_bit (R i) X = inr (λ same. (absurd (cc)))
+same_bit (R i) (Cell l k) = inr (λ same. (absurd (cc)))
+same_bit X (S k) = inr (λ same. (absurd (cc)))
+same_bit X (R k) = inr (λ same. (absurd (cc)))
+same_bit X (Cell l k) = inr (λ same. (absurd (cc)))
+same_bit (Cell j i) (S k) = inr (λ same. (absurd (cc)))
+same_bit (Cell j i) (R k) = inr (λ same. (absurd (cc)))
+same_bit (Cell j i) X = inr (λ same. (absurd (cc)))
+
+one_act : (f : Bool → Act) (v w : Bool) → (f v ≡ f w → v ≡ w) → (f v ≡ f w) ⊎ (f v ≢ f w)
+one_act f v w back = elim (same_truth v w) [
+  | inl same ↦ inl (ap f same)
+  | inr other ↦ inr (λ same. other (back same))
+]
+
+same_act : (a b : Act) → (a ≡ b) ⊎ (a ≢ b)
+same_act ReadBegin ReadBegin = inl refl
+same_act WriteEnd WriteEnd = inl refl
+same_act (ReadEnd v) (ReadEnd w) = one_act ReadEnd v w (λ same. cc)
+same_act (WriteBegin v) (WriteBegin w) = one_act WriteBegin v w (λ same. cc)
+same_act ReadBegin WriteEnd = inr (λ same. (absurd (cc)))
+same_act ReadBegin (ReadEnd w) = inr (λ same. (absurd (cc)))
+same_act ReadBegin (WriteBegin w) = inr (λ same. (absurd (cc)))
+same_act WriteEnd ReadBegin = inr (λ same. (absurd (cc)))
+same_act WriteEnd (ReadEnd w) = inr (λ same. (absurd (cc)))
+same_act WriteEnd (WriteBegin w) = inr (λ same. (absurd (cc)))
+same_act (ReadEnd v) ReadBegin = inr (λ same. (absurd (cc)))
+same_act (ReadEnd v) WriteEnd = inr (λ same. (absurd (cc)))
+same_act (ReadEnd v) (WriteBegin w) = inr (λ same. (absurd (cc)))
+same_act (WriteBegin v) ReadBegin = inr (λ same. (absurd (cc)))
+same_act (WriteBegin v) WriteEnd = inr (λ same. (absurd (cc)))
+same_act (WriteBegin v) (ReadEnd w) = inr (λ same. (absurd (cc)))
+
+event : Side → Bit → Act → Event
+event s b x = record { side = s; bit = b; act = x }
+
+same_event : (e d : Event) → (e ≡ d) ⊎ (e ≢ d)
+unfolding event
+same_event e d =
+    elim (same_side e.side d.side) [
+      | inr other ↦ inr (λ same. other (ap (λ (z : Event). z.side) same))
+      | inl side ↦ elim (same_bit e.bit d.bit) [
+        | inr other ↦ inr (λ same. other (ap (λ (z : Event). z.bit) same))
+        | inl bit ↦ elim (same_act e.act d.act) [
+          | inr other ↦ inr (λ same. other (ap (λ (z : Event). z.act) same))
+          | inl act ↦ inl (all_same e.side d.side e.bit d.bit e.act d.act side bit act)
+        ]
+      ]
+    ]
+  where
+    all_same : (s t : Side) (b c : Bit) (x y : Act) → s ≡ t → b ≡ c → x ≡ y → event s b x ≡ event t c y
+    all_same s t b c x y side bit act = cc
+
+-- whether an event that may be there is this one
+pub is_event : (o : Option Event) (e : Event) → (o ≡ Some e) ⊎ (o ≢ Some e)
+is_event None e = inr (λ same. (absurd (cc)))
+is_event (Some d) e = elim (same_event d e) [
+  | inl same ↦ inl (ap Some same)
+  | inr other ↦ inr (λ same. other (cc))
+]
+
+-- what each event that is told meets, and each that meets it and is among these is told
+pub all_told :
+    (shape : Shape) (h : List Event) (s : Side) (candidates told : Dues) →
+    ((e : Event) → (told.first ≡ Some e) ↔ ((candidates.first ≡ Some e) × (e.side ≡ s) × GoesOnBehind shape h e)) →
+    ((e : Event) → (told.second ≡ Some e) ↔ ((candidates.second ≡ Some e) × (e.side ≡ s) × GoesOnBehind shape h e)) →
+    ((e : Event) → (told.third ≡ Some e) ↔ ((candidates.third ≡ Some e) × (e.side ≡ s) × GoesOnBehind shape h e)) →
+    ((e : Event) → e.side ≡ s → IsNoneOf candidates e → GoesOnBehind shape h e → ⊥) → (e : Event) →
+    IsDueOf told e ↔ ((e.side ≡ s) × GoesOnBehind shape h e)
+all_told shape h s candidates told first second third all e = (of_told, back)
+  where
+    of_told : IsDueOf told e → (e.side ≡ s) × GoesOnBehind shape h e
+    of_told (inl is) = (((first e).0 is).1, ((first e).0 is).2)
+    of_told (inr (inl is)) = (((second e).0 is).1, ((second e).0 is).2)
+    of_told (inr (inr is)) = (((third e).0 is).1, ((third e).0 is).2)
+
+    back : (e.side ≡ s) × GoesOnBehind shape h e → IsDueOf told e
+    back (by, on) =
+        elim (is_event candidates.first e) [
+          | inl is ↦ inl ((first e).1 (is, by, on))
+          | inr no_first ↦ elim (is_event candidates.second e) [
+            | inl is ↦ inr (inl ((second e).1 (is, by, on)))
+            | inr no_second ↦ elim (is_event candidates.third e) [
+              | inl is ↦ inr (inr ((third e).1 (is, by, on)))
+              | inr no_third ↦ absurd (all e by (no_first, no_second, no_third) on)
+            ]
+          ]
+        ]
+
+-- ---- what the reader of puts has inside
+
+abbrev pub BeginsNoOther : PutReading → Dues → Type 0
+BeginsNoOther r dues =
+    (es : List Event) (items stored : List ℕ) (access : Access) → PutsStand r.shape r es items stored → IsNoneOf dues (opening_event P access) →
+    AreOfPuts r.shape (es ++ opening_event P access ∷ []) → ⊥
+
+pub begins_by : (r now : PutReading) (dues : Dues) → r ≡ now → BeginsNoOther r dues → BeginsNoOther now dues
+begins_by r now dues is others = subst (λ (z : PutReading). BeginsNoOther z dues) is others
+
+-- ---- in the pass over the events
+
+pub stops_here :
+    (of shape : Shape) (h : List Event) (i : ℕ) (d e : Event) → of ≡ shape → i < length h → (BothFollow of (take i h ++ get_or h i d ∷ []) → ⊥) → BothFollow shape (h ++ e ∷ []) → ⊥
+stops_here of shape h i d e same within stops = follow_before shape h i d e within (λ f. stops (subst (λ s. BothFollow s (take i h ++ get_or h i d ∷ [])) (sym same) f))
+
+pub decides :
+    (of shape : Shape) (h : List Event) (e : Event) (on : Bool) → of ≡ shape → (on ≡ true → BothFollow of (h ++ e ∷ [])) → (on ≡ false → BothFollow of (h ++ e ∷ []) → ⊥) →
+    IsTrue on ↔ GoesOnBehind shape h e
+decides of shape h e true same goes never = (λ t. subst (λ s. GoesOnBehind s h e) same (goes refl), λ on. refl)
+decides of shape h e false same goes never = (λ t. absurd (cc), λ on. absurd (never refl (subst (λ s. GoesOnBehind s h e) (sym same) on)))

@@ -1,0 +1,28 @@
+use Rattle.std.proofs.Common.{◌∙◌, ◌+◌, List, take, subst, sym}
+use Rattle.std.proofs.lemmas.List.{take_more}
+use Rattle.bits_core.specs.declared.events.Event.{Event}
+use Rattle.ring_audit.specs.Dues.{BothStand}
+use Rattle.ring_audit.proofs.DueLemmas.{stops_here}
+use Rattle.ring_audit.proofs.dues.read_all.Goals as goal
+
+pub returns-then-not-read-clause-stands : goal.returns-then-not-read-clause-stands
+returns-then-not-read-clause-stands c e =
+    let h : List Event = c.args.events.now in
+    let r = c.loop-i.readers in
+    let l = c.loop-i.invariant in
+    let old : BothStand r.puts.shape r.puts r.takes (take c.loop-i.i h) = subst (λ s. BothStand s r.puts r.takes (take c.loop-i.i h)) (sym l.put_shape) l.stands in
+    stops_here r.puts.shape c.args.shape.now h c.loop-i.i _ e l.put_shape c.loop-i-test.true (c.read.ensures.stops c.if-not-read.true (take c.loop-i.i h) old)
+
+pub loop-i-preserved : goal.loop-i-preserved
+loop-i-preserved c =
+    let h : List Event = c.args.events.now in
+    let r = c.loop-i.readers in
+    let new = c.read.new.self in
+    let l = c.loop-i.invariant in
+    let old : BothStand r.puts.shape r.puts r.takes (take c.loop-i.i h) = subst (λ s. BothStand s r.puts r.takes (take c.loop-i.i h)) (sym l.put_shape) l.stands in
+    let on = c.read.ensures.goes_on c.if-not-read.false (take c.loop-i.i h) old in
+    record {
+      put_shape = c.read.ensures.put_shape ∙ l.put_shape;
+      take_shape = c.read.ensures.take_shape ∙ l.take_shape;
+      stands = subst (λ s. BothStand s new.puts new.takes (take (c.loop-i.i + 1) h)) l.put_shape (subst (BothStand r.puts.shape new.puts new.takes) (sym (take_more h c.loop-i.i _ c.loop-i-test.true)) on);
+    }

@@ -1,0 +1,97 @@
+//! The few events of one side of which the next one has to be one.
+ghost use Rattle.std.specs.Prelude.{◌≡◌, ◌≢◌, Bool, Some};
+ghost use Rattle.bits_core.specs.declared.events.Side.TheVariants.{P};
+ghost use Rattle.bits_core.specs.declared.events.Bit.{Bit as ABit};
+ghost use Rattle.bits_core.specs.declared.events.Event.{Event as AnEvent};
+ghost use Rattle.bits_core.specs.declared.events.Access.{Access as AnAccess};
+ghost use Rattle.bits_core.specs.declared.events.Access.TheVariants as begins;
+ghost use Rattle.bits_core.specs.Made.{opening_event};
+ghost use Rattle.ring_audit.specs.Sides.{EndsSo};
+
+use bits_core::{Access, Act, Event, Side};
+
+/// The events of a side that are due: at most three.
+#[derive(Clone, Copy, PartialEq, Eq, Debug)]
+pub struct Dues {
+    pub first: Option<Event>,
+    pub second: Option<Event>,
+    pub third: Option<Event>,
+}
+
+// The event with which the side begins the access.
+pub fn opening(side: Side, access: Option<Access>) -> Option<Event>
+    ensures { (a : AnAccess) → access ≡ Some a → result ≡ Some (opening_event side a) }
+{
+    match access {
+        Some(Access::Read(bit)) => Some(Event {
+            side,
+            bit,
+            act: Act::ReadBegin,
+        }),
+        Some(Access::Write(bit, value)) => Some(Event {
+            side,
+            bit,
+            act: Act::WriteBegin(value),
+        }),
+        None => None,
+    }
+}
+
+// The events with which the side may end the access.
+pub fn ends(side: Side, access: Access) -> Dues
+    ensures { (e : AnEvent) (v : Bool) → e.side ≡ side → EndsSo access e v → result.first ≢ Some e → result.second ≢ Some e → ⊥ }
+{
+    match access {
+        Access::Read(bit) => Dues {
+            first: Some(Event {
+                side,
+                bit,
+                act: Act::ReadEnd(false),
+            }),
+            second: Some(Event {
+                side,
+                bit,
+                act: Act::ReadEnd(true),
+            }),
+            third: None,
+        },
+        Access::Write(bit, _) => Dues {
+            first: Some(Event {
+                side,
+                bit,
+                act: Act::WriteEnd,
+            }),
+            second: None,
+            third: None,
+        },
+    }
+}
+
+// The producer's writes of either value to the bit that would be read next, and another event.
+pub fn writes(read: Option<Access>, other: Option<Event>) -> Dues
+    ensures writes { (b : ABit) (v : Bool) → read ≡ Some (begins.Read b) → result.first ≢ Some (opening_event P (begins.Write b v)) → result.second ≢ Some (opening_event P (begins.Write b v)) → ⊥ }
+    ensures other { result.third ≡ other }
+{
+    match read {
+        Some(access) => match access {
+            Access::Read(bit) => Dues {
+                first: opening(Side::P, Some(Access::Write(bit, false))),
+                second: opening(Side::P, Some(Access::Write(bit, true))),
+                third: other,
+            },
+            Access::Write(_, _) => only(other),
+        },
+        None => only(other),
+    }
+}
+
+// One event, if there is one.
+pub fn only(event: Option<Event>) -> Dues
+    ensures { result.third ≡ event }
+{
+    Dues {
+        first: None,
+        second: None,
+        third: event,
+    }
+}

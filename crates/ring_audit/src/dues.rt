@@ -1,0 +1,148 @@
+//! Which events of a side go on with the programs behind a history.
+ghost use Rattle.std.specs.Prelude.{◌≡◌, ◌↔◌, ◌++◌, ◌∷◌, [], List, Some, IsTrue, IfSome, MatchOption, true, false};
+ghost use Rattle.bits_core.specs.declared.events.Event.{Event as AnEvent};
+ghost use Rattle.ring_audit.specs.Reading.{BothFollow};
+ghost use Rattle.ring_audit.specs.Dues.{BothStand, GoesOnBehind, IsDueOf, IsNoneOf};
+
+use crate::choices::{Dues, only};
+use crate::puts::{PutReader, PutStep};
+use crate::takes::{TakeReader, TakeStep};
+use bits_core::laws::own_changes;
+use bits_core::{Event, Shape, Side};
+
+// The readers of both sides.
+#[derive(Drop)]
+struct Followers {
+    puts: PutReader,
+    takes: TakeReader,
+}
+
+impl Followers {
+    fn new(shape: &Shape) -> Followers
+        ensures put_shape { result.puts.shape ≡ shape.now }
+        ensures take_shape { result.takes.consumer.shape ≡ shape.now }
+        ensures stands { BothStand shape.now result.puts result.takes [] }
+    {
+        Followers {
+            puts: PutReader::new(shape),
+            takes: TakeReader::new(shape),
+        }
+    }
+
+    // Reads the next event: whether it is the next one of its side's program.
+    fn read(&mut self, event: Event) -> bool
+        requires { self.old.takes.consumer.shape ≡ self.old.puts.shape }
+        ensures put_shape { self.new.puts.shape ≡ self.old.puts.shape }
+        ensures take_shape { self.new.takes.consumer.shape ≡ self.old.takes.consumer.shape }
+        ensures goes_on { result ≡ true → (h : List AnEvent) → BothStand self.old.puts.shape self.old.puts self.old.takes h → BothStand self.old.puts.shape self.new.puts self.new.takes (h ++ event ∷ []) }
+        ensures stops { result ≡ false → (h : List AnEvent) → BothStand self.old.puts.shape self.old.puts self.old.takes h → ¬ BothFollow self.old.puts.shape (h ++ event ∷ []) }
+    {
+        own_changes();
+        match event.side {
+            Side::P => match self.puts.read(event) {
+                PutStep::Stops => false,
+                PutStep::GoesOn => true,
+                PutStep::Stores(_) => true,
+                PutStep::Counts => true,
+            },
+            Side::C => match self.takes.read(event) {
+                TakeStep::Stops => false,
+                TakeStep::GoesOn => true,
+                TakeStep::Takes(_) => true,
+            },
+        }
+    }
+
+    // What was read so far is of the programs.
+    fn follow(&self)
+        requires { self.now.takes.consumer.shape ≡ self.now.puts.shape }
+        ensures { (h : List AnEvent) → BothStand self.now.puts.shape self.now.puts self.now.takes h → BothFollow self.now.puts.shape h }
+    {
+        self.puts.follow();
+        let _told = self.takes.told();
+    }
+
+    // The events of the side of which the next one has to be one.
+    fn candidates(&mut self, side: Side) -> Dues
+        requires { self.old.takes.consumer.shape ≡ self.old.puts.shape }
+        ensures { (h : List AnEvent) (e : AnEvent) → BothStand self.old.puts.shape self.old.puts self.old.takes h → e.side ≡ side → IsNoneOf result e → ¬ GoesOnBehind self.old.puts.shape h e }
+    {
+        own_changes();
+        match side {
+            Side::P => self.puts.candidates(),
+            Side::C => self.takes.candidates(),
+        }
+    }
+}
+
+// The readers after these events, where they are of the programs.
+fn read_all(shape: &Shape, events: &[Event]) -> Option<Followers>
+    ensures shapes { IfSome result (λ readers. (readers.puts.shape ≡ shape.now) × (readers.takes.consumer.shape ≡ shape.now)) }
+    ensures stands { MatchOption result ((e : AnEvent) → ¬ GoesOnBehind shape.now events.now e) (λ readers. BothStand shape.now readers.puts readers.takes events.now) }
+{
+    let mut readers = Followers::new(shape);
+    for i in 0..events.len() {
+        if !readers.read(events[i]) {
+            return None;
+        }
+    }
+    Some(readers)
+}
+
+// Whether the event goes on with the programs behind these.
+fn goes_on(shape: &Shape, events: &[Event], event: Event) -> bool
+    ensures { IsTrue result ↔ GoesOnBehind shape.now events.now event }
+{
+    match read_all(shape, events) {
+        None => false,
+        Some(mut readers) => {
+            let on = readers.read(event);
+            readers.follow();
+            on
+        }
+    }
+}
+
+// The event, where it is of the side and goes on with the programs behind these.
+fn kept(shape: &Shape, events: &[Event], side: Side, event: Option<Event>) -> Option<Event>
+    ensures { (e : AnEvent) → (result ≡ Some e) ↔ ((event ≡ Some e) × (e.side ≡ side) × GoesOnBehind shape.now events.now e) }
+{
+    match event {
+        None => None,
+        Some(next) => {
+            if next.side == side && goes_on(shape, events, next) {
+                Some(next)
+            } else {
+                None
+            }
+        }
+    }
+}
+
+// Events of which each is one that is of the side and goes on with the programs behind these.
+fn candidates(shape: &Shape, events: &[Event], side: Side) -> Dues
+    ensures { (e : AnEvent) → e.side ≡ side → IsNoneOf result e → ¬ GoesOnBehind shape.now events.now e }
+{
+    match read_all(shape, events) {
+        None => only(None),
+        Some(mut readers) => readers.candidates(side),
+    }
+}
+
+/// The events of the side that go on with the programs behind these: each event of it with which both sides still
+/// follow their programs is told, and no other. There are at most three; where these events are not of the
+/// programs, or the side has made its last call, there is none.
+///
+/// Said of the programs alone: whether the bits permit the answer of a read is the audit's to say. Where an audit
+/// tells `NotProgram` at a place, the events before that place are to be passed. It goes over them at most four
+/// times and takes no memory.
+pub fn due_behind(shape: &Shape, events: &[Event], side: Side) -> Dues
+    ensures { (e : AnEvent) → IsDueOf result e ↔ ((e.side ≡ side) × GoesOnBehind shape.now events.now e) }
+{
+    let some = candidates(shape, events, side);
+    Dues {
+        first: kept(shape, events, side, some.first),
+        second: kept(shape, events, side, some.second),
+        third: kept(shape, events, side, some.third),
+    }
+}
