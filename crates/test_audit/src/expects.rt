@@ -1,5 +1,5 @@
 use bits_core::{Event, Kind, Shape};
-use ring_audit::{Finding, audit};
+use ring_audit::{Finding, Found, audit, audit_into};
 use std::alloc::{AllocGlobal, Allocator};
 use std::process::Abort;
 use std::test::Fail;
@@ -22,6 +22,36 @@ pub fn is_found<A: Allocator>(finding: &Finding<A>, expected: Expected) -> bool 
     }
 }
 
+/// Whether this was found, with the items in the first slots.
+pub fn is_found_in(found: &Found, put: &[u64], taken: &[u64], expected: Expected) -> bool {
+    match (found, expected) {
+        (
+            Found::Lawful {
+                put: puts,
+                taken: takes,
+                told,
+            },
+            Expected::Lawful(items, got, end),
+        ) => put.get(..*puts) == Some(items) && taken.get(..*takes) == Some(got) && *told == end,
+        (Found::Fault { place, kind }, Expected::Fault(at, why)) => *place == at && *kind == why,
+        _ => false,
+    }
+}
+
+// How many items of each kind there are slots for.
+const SLOTS: usize = 64;
+
+// So does the audit in slots, unless there are too few.
+fn expect_found_in_slots(rt: &impl Abort, shape: &Shape, events: &[Event], expected: Expected) {
+    let mut put = [0; SLOTS];
+    let mut taken = [0; SLOTS];
+    let found = audit_into(shape, events, &mut put, &mut taken);
+    match found {
+        Ok(found) => assert!(rt; is_found_in(&found, &put, &taken, expected)),
+        Err(_) => assert!(rt; events.len() > SLOTS),
+    }
+}
+
 /// The audit finds this of the events.
 pub fn expect_found(
     rt: &(impl Abort + AllocGlobal),
@@ -31,5 +61,6 @@ pub fn expect_found(
 ) -> Result<(), Fail> {
     let finding = audit(rt.alloc(), shape, events)?;
     assert!(rt; is_found(&finding, expected));
+    expect_found_in_slots(rt, shape, events, expected);
     Ok(())
 }

@@ -10,4 +10,6 @@ mod growths;
 #[cfg(test)]
 mod plays;
 #[cfg(test)]
+mod slots;
+#[cfg(test)]
 mod traces;
