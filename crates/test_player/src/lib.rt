@@ -2,7 +2,7 @@
 #![tactic(auto)]
 
 #[cfg(test)]
-mod near_misses;
+mod misses;
 #[cfg(test)]
 mod play_growths;
 #[cfg(test)]
