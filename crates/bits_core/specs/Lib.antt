@@ -18,3 +18,4 @@ pub mod Marks
 pub mod Auditors
 pub mod TraceAudits
 pub mod Seen
+pub mod Reasons

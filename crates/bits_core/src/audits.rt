@@ -85,7 +85,7 @@ pub struct Seen {
 }
 
 // The side that may do this to the bit.
-fn doer(bit: Bit, act: Act) -> Side
+pub fn doer(bit: Bit, act: Act) -> Side
     ensures { result ≡ doer bit act }
 {
     match act {
@@ -95,7 +95,7 @@ fn doer(bit: Bit, act: Act) -> Side
 }
 
 // Whether the event's bit is in the shape, and its side may do this to it.
-fn is_by_right_side(shape: &Shape, event: Event) -> bool
+pub fn is_by_right_side(shape: &Shape, event: Event) -> bool
     ensures { IsTrue result ↔ IsByRightSide shape.now event }
 {
     shape.has(event.bit) && event.side == doer(event.bit, event.act)
@@ -116,14 +116,14 @@ fn fits_open(bit: Bit, act: Act, opened: Option<Access>) -> bool
 }
 
 // Whether the event is in turn.
-fn is_in_turn(marks: &Marks, event: Event) -> bool
+pub fn is_in_turn(marks: &Marks, event: Event) -> bool
     ensures { (shape : Shape) (past : List Event) → AreMarks shape past marks.now → IsTrue result ↔ IsInTurn past event }
 {
     fits_open(event.bit, event.act, marks.open_access(event.side))
 }
 
 // Whether the answer is permitted, where the event is a read's end and in turn.
-fn is_permitted(marks: &Marks, event: Event) -> bool
+pub fn is_permitted(marks: &Marks, event: Event) -> bool
     requires { IsInTable event.bit }
     ensures { (shape : Shape) (past : List Event) → AreMarks shape past marks.now → IsInTurn past event → IsTrue result ↔ IsPermitted past event }
 {
@@ -137,7 +137,7 @@ fn is_permitted(marks: &Marks, event: Event) -> bool
 }
 
 // What is wrong with an event after the events before it.
-fn fault_of(shape: &Shape, marks: &Marks, event: Event) -> Option<Kind>
+pub fn fault_of(shape: &Shape, marks: &Marks, event: Event) -> Option<Kind>
     ensures found { (past : List Event) → AreMarks shape.now past marks.now → MatchOption result (MayFollow shape.now past event) (IsFaultAfter shape.now past event) }
     ensures in_table { IfNone result (IsInTable event.bit) }
 {

@@ -86,3 +86,26 @@ pub enum Access {
     Read(Bit),
     Write(Bit, bool),
 }
+
+impl Access {
+    ghost use Rattle.std.specs.Prelude.{◌≡◌};
+    ghost use Rattle.bits_core.specs.Made.{opening_event};
+
+    /// The event with which a side begins the access.
+    pub fn opening(self, side: Side) -> Event
+        ensures { result ≡ opening_event side self }
+    {
+        match self {
+            Access::Read(bit) => Event {
+                side,
+                bit,
+                act: Act::ReadBegin,
+            },
+            Access::Write(bit, value) => Event {
+                side,
+                bit,
+                act: Act::WriteBegin(value),
+            },
+        }
+    }
+}

@@ -83,7 +83,7 @@ fn write_value(values: &mut [bool; BIT_COUNT], bit: Bit, value: Option<bool>)
 }
 
 // Whether the two bits are one.
-fn same_bit(a: Bit, b: Bit) -> bool
+pub fn same_bit(a: Bit, b: Bit) -> bool
     ensures { result ≡ same_bit a b }
 {
     match (a, b) {

@@ -3,16 +3,15 @@ ghost use Rattle.std.specs.Prelude.{◌≡◌, ◌+◌, ◌-◌, ◌^◌, ◌≤
 ghost use Rattle.bits_core.specs.declared.events.Event.{Event as AnEvent};
 ghost use Rattle.bits_core.specs.declared.shapes.Shape.{Shape as AShape};
 ghost use Rattle.bits_core.specs.Audit.{IsVerdict};
-ghost use Rattle.bits_core.specs.Trace.{BeginsWithShape, HasBadShape, HasShapeLine, IsTraceText, RefusesTraceText};
+ghost use Rattle.bits_core.specs.Trace.{IsTraceText, RefusesTraceText};
 ghost use Rattle.bits_core.specs.TraceAudits.{BeginsWithNoLine, HasEnded, HasReadTrace, HeardTrace, IsFaultBehind};
 ghost use Rattle.bits_core.specs.TraceLines.{EndsAtFeed, IsFeedless};
 
 use crate::audits::{BitAuditor, Verdict};
 use crate::cuts::Cut;
 use crate::events::Event;
-use crate::reading::shape_at;
-use crate::shapes::{Shape, ShapeFault};
-use crate::traces::{TraceFault, read_event};
+use crate::shapes::Shape;
+use crate::traces::{TraceFault, first_shape, read_event};
 
 // The events of the lines that have ended, with what is found of them so far.
 #[derive(Drop)]
@@ -78,25 +77,6 @@ fn next_fault(hearing: &Option<Hearing>) -> TraceFault
     match hearing {
         None => TraceFault::BadLine(1),
         Some(heard) => fault_behind(heard.count),
-    }
-}
-
-// The shape of the first line, where one stands at the front, and the bytes behind it.
-fn first_shape(bytes: &[u8]) -> Result<Option<(Shape, &[u8])>, ShapeFault>
-    ensures read { IfOk result (λ found. MatchOption found ((capacity modulus width batch : ℕ) → ¬ HasShapeLine bytes.now capacity modulus width batch) (λ x. BeginsWithShape bytes.now x.0 x.1.now)) }
-    ensures refused { IfErr result (HasBadShape bytes.now) }
-{
-    let Some((numbers, rest)) = shape_at(bytes) else {
-        return Ok(None);
-    };
-    match Shape::with_batch(
-        numbers.capacity,
-        numbers.modulus,
-        numbers.width,
-        numbers.batch,
-    ) {
-        Ok(shape) => Ok(Some((shape, rest))),
-        Err(fault) => Err(fault),
     }
 }
 

@@ -1,8 +1,8 @@
 //! Reading the text of a trace.
-ghost use Rattle.std.specs.Prelude.{◌≡◌, ◌<◌, ◌≤◌, ◌⊎◌, List, [], IfOk, IfErr, MatchOption, MatchResult, length, take};
+ghost use Rattle.std.specs.Prelude.{◌≡◌, ◌<◌, ◌≤◌, ◌⊎◌, ℕ, List, [], IfOk, IfErr, MatchOption, MatchResult, length, take};
 ghost use Rattle.bits_core.specs.declared.events.Event.{Event};
 ghost use Rattle.bits_core.specs.declared.shapes.Shape.{Shape};
-ghost use Rattle.bits_core.specs.Trace.{BeginsWithEvent, BeginsWithShape, HasMore, HasNoEvent, IsTrace, IsTraceFault};
+ghost use Rattle.bits_core.specs.Trace.{BeginsWithEvent, BeginsWithShape, HasBadShape, HasMore, HasNoEvent, HasShapeLine, IsTrace, IsTraceFault};
 
 use crate::events::Event;
 use crate::reading::{event_at, shape_at};
@@ -68,13 +68,13 @@ impl<T: Drop> From<AllocFailed<T>> for TraceFault {
     }
 }
 
-// The shape of the first line, and the bytes after the line.
-fn read_shape(bytes: &[u8]) -> Result<(Shape, &[u8]), TraceFault>
-    ensures read { IfOk result (λ x. BeginsWithShape bytes.now x.0 x.1.now) }
-    ensures refused { IfErr result (IsTraceFault bytes.now) }
+/// The shape of the first line, where one stands at the front, and the bytes behind it.
+pub fn first_shape(bytes: &[u8]) -> Result<Option<(Shape, &[u8])>, ShapeFault>
+    ensures read { IfOk result (λ found. MatchOption found ((capacity modulus width batch : ℕ) → ¬ HasShapeLine bytes.now capacity modulus width batch) (λ x. BeginsWithShape bytes.now x.0 x.1.now)) }
+    ensures refused { IfErr result (HasBadShape bytes.now) }
 {
     let Some((numbers, rest)) = shape_at(bytes) else {
-        return Err(TraceFault::BadLine(1));
+        return Ok(None);
     };
     match Shape::with_batch(
         numbers.capacity,
@@ -82,7 +82,19 @@ fn read_shape(bytes: &[u8]) -> Result<(Shape, &[u8]), TraceFault>
         numbers.width,
         numbers.batch,
     ) {
-        Ok(shape) => Ok((shape, rest)),
+        Ok(shape) => Ok(Some((shape, rest))),
+        Err(fault) => Err(fault),
+    }
+}
+
+// The shape of the first line, and the bytes after the line.
+fn read_shape(bytes: &[u8]) -> Result<(Shape, &[u8]), TraceFault>
+    ensures read { IfOk result (λ x. BeginsWithShape bytes.now x.0 x.1.now) }
+    ensures refused { IfErr result (IsTraceFault bytes.now) }
+{
+    match first_shape(bytes) {
+        Ok(Some(found)) => Ok(found),
+        Ok(None) => Err(TraceFault::BadLine(1)),
         Err(fault) => Err(TraceFault::BadShape(fault)),
     }
 }

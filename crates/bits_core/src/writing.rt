@@ -78,7 +78,10 @@ fn push_bit<A: Allocator>(text: &mut String<A>, bit: Bit) -> Result<(), TraceFau
     }
 }
 
-fn push_event<A: Allocator>(text: &mut String<A>, event: Event) -> Result<(), TraceFault>
+/// Adds the line of an event behind a text, as `P write c0.1 1` and a line feed.
+///
+/// The only fault is `OutOfMemory`; a front of the line may have been added then.
+pub fn push_event<A: Allocator>(text: &mut String<A>, event: Event) -> Result<(), TraceFault>
     ensures ok { OnOk result (string_bytes text.new ≡ string_bytes text.old ++ event_line event) }
     ensures err { IfErr result (λ e. e ≡ TraceFault.OutOfMemory) }
 {

@@ -1,5 +1,6 @@
 -- What the near misses do otherwise than a ring.
-use Rattle.std.specs.Prelude.{◌≡◌, ℕ, ◌+◌, ◌<◌, ◌≤◌, Bool, true, false, List, codes, slice_index_or}
+use Rattle.std.specs.Prelude.{◌≡◌, ℕ, ◌+◌, ◌<◌, ◌≤◌, Bool, true, false, List, [], ◌∷◌, Option, Some, None, codes, if◌then◌else◌, slice_index_or}
+use Rattle.std.specs.Str.{bytes_eq}
 use Rattle.bits_core.specs.declared.shapes.Shape.{Shape}
 use Rattle.bits_core.specs.Shape.{batch_of, capacity_of, modulus_of}
 use Rattle.near_misses.specs.declared.misses.NearMiss.{NearMiss}
@@ -12,6 +13,15 @@ miss_name NoSecondScan = codes "no-second-scan"
 miss_name SmallModulus = codes "small-modulus"
 miss_name ClearsFirst = codes "clears-first"
 miss_name ClearsUpwards = codes "clears-upwards"
+
+-- the first of these with this word
+abbrev pub first_named : List ℕ → List NearMiss → Option NearMiss
+first_named name [] = None
+first_named name (miss ∷ misses) = (if bytes_eq name (miss_name miss) then Some miss else first_named name misses)
+
+-- the near miss of this word
+abbrev pub miss_named : List ℕ → Option NearMiss
+miss_named name = first_named name (CountBeforeCell ∷ NoSecondScan ∷ SmallModulus ∷ ClearsFirst ∷ ClearsUpwards ∷ [])
 
 -- where the counts go round
 abbrev pub near_modulus : NearMiss → Shape → ℕ

@@ -1,7 +1,7 @@
 //! Which rule is broken.
-ghost use Rattle.std.specs.Prelude.{◌≡◌, IfSome, codes};
+ghost use Rattle.std.specs.Prelude.{◌≡◌, codes};
 ghost use Rattle.bits_core.specs.Shape.{capacity_of, modulus_of};
-ghost use Rattle.near_misses.specs.Misses.{miss_name, near_modulus};
+ghost use Rattle.near_misses.specs.Misses.{miss_name, miss_named, near_modulus};
 
 use bits_core::Shape;
 
@@ -40,20 +40,21 @@ impl NearMiss {
 
     /// The near miss of this name.
     pub fn named(name: &str) -> Option<NearMiss>
-        ensures { IfSome result (λ miss. miss_name miss ≡ name.now) }
+        ensures { result ≡ miss_named name.now }
     {
-        for miss in [
-            NearMiss::CountBeforeCell,
-            NearMiss::NoSecondScan,
-            NearMiss::SmallModulus,
-            NearMiss::ClearsFirst,
-            NearMiss::ClearsUpwards,
-        ] {
-            if miss.name() == name {
-                return Some(miss);
-            }
+        if name == NearMiss::CountBeforeCell.name() {
+            Some(NearMiss::CountBeforeCell)
+        } else if name == NearMiss::NoSecondScan.name() {
+            Some(NearMiss::NoSecondScan)
+        } else if name == NearMiss::SmallModulus.name() {
+            Some(NearMiss::SmallModulus)
+        } else if name == NearMiss::ClearsFirst.name() {
+            Some(NearMiss::ClearsFirst)
+        } else if name == NearMiss::ClearsUpwards.name() {
+            Some(NearMiss::ClearsUpwards)
+        } else {
+            None
         }
-        None
     }
 
     /// The number at which its counts go round.

@@ -1,10 +1,11 @@
 -- What the program answers to a request on an input, and how it ends.
-use Rattle.std.specs.Prelude.{◌≡◌, ◌≢◌, ◌⊎◌, ◌<◌, ◌≤◌, ◌+◌, ℕ, Bool, true, false, List, [], Option, Some, None, IfSome, length, take}
+use Rattle.std.specs.Prelude.{◌≡◌, ◌≢◌, ◌⊎◌, ◌<◌, ◌≤◌, ◌+◌, ◌++◌, ℕ, Bool, true, false, List, [], Option, Some, None, IfSome, length, take}
 use Rattle.std.specs.Io.KnownBytes.{Appends, Keeps}
 use Rattle.clap.specs.Kinds.{IsAmong, Kinds}
 use Rattle.clap.specs.declared.error.kind.ErrorKind.{ErrorKind}
 use Rattle.clap.specs.declared.error.kind.ErrorKind.TheVariants as kind
 use Rattle.bits_core.specs.Audit.{IsVerdict}
+use Rattle.bits_core.specs.Lawful.{IsLawful}
 use Rattle.bits_core.specs.Trace.{IsTrace, IsTraceFault, IsTraceText, RefusesTraceText}
 use Rattle.bits_core.specs.declared.audits.Verdict.{Verdict}
 use Rattle.bits_core.specs.declared.audits.Verdict.TheVariants.{Lawful, Fault}
@@ -38,12 +39,13 @@ use Rattle.ring_program.specs.Reports.{Reports}
 use Rattle.ring_run.specs.Relays.{IsRelayed}
 use Rattle.ring_run.specs.declared.faults.RunFault.TheVariants as run
 use Rattle.ring_program.specs.Runs.{run_items}
-use Rattle.ring_program.specs.Texts.{Summary, audit_text_of, calls_text_of, relay_report_of, relay_text_of, report_text_of, verdict_text_of}
+use Rattle.ring_program.specs.Texts.{Summary, audit_text_of, calls_text_of, relay_report_of, relay_text_of, report_text_of, told_text_of, verdict_text_of}
+use Rattle.ring_program.specs.Why.{TellsWhy, verdict_in}
 use Rattle.ring_program.specs.declared.inputs.TheConstants.{INPUT_LIMIT}
 use Rattle.ring_program.specs.declared.answers.Ending.{Ending}
 use Rattle.ring_program.specs.declared.answers.Ending.TheVariants.{Done, FaultFound, LimitReached}
 use Rattle.ring_program.specs.declared.command_line.Question.{Question}
-use Rattle.ring_program.specs.declared.command_line.Question.TheVariants.{Audit, AuditBits, Play, PlayTrace, PlayCalls}
+use Rattle.ring_program.specs.declared.command_line.Question.TheVariants.{Audit, AuditBits, AuditWhy, AuditBitsWhy, Play, PlayTrace, PlayCalls, WrongTrace, WrongCalls}
 use Rattle.ring_program.specs.declared.command_line.Request.{Request}
 use Rattle.ring_program.specs.declared.command_line.Request.TheVariants.{OnInput}
 use Rattle.ring_program.specs.declared.command_line.Request.TheVariants as request
@@ -88,17 +90,37 @@ pub record AnswersCalls (input text : List ℕ) (ending : Ending) : Type 0 where
   pub words : text ≡ calls_text_of found
   pub ends : ending ≡ calls_ending_of found
 
--- the input is a trace, and the text and the ending are those of the verdict on its bits
-pub record AuditsBits (input text : List ℕ) (ending : Ending) : Type 0 where
+-- the text of a verdict; and that with lines behind it which say why the event at fault is
+abbrev pub TellsVerdict : Shape → List Event → Verdict → List ℕ → Type 0
+TellsVerdict shape events verdict text = text ≡ verdict_text_of verdict
+
+abbrev pub TellsVerdictWhy : Shape → List Event → Verdict → List ℕ → Type 0
+TellsVerdictWhy shape events verdict text = (more : List ℕ) × (text ≡ verdict_text_of verdict ++ more) × TellsWhy shape events verdict more
+
+-- the same of a finding
+abbrev pub TellsFinding : Shape → List Event → Statement → List ℕ → Type 0
+TellsFinding shape events found text = text ≡ audit_text_of found
+
+abbrev pub TellsFindingWhy : Shape → List Event → Statement → List ℕ → Type 0
+TellsFindingWhy shape events found text = (more : List ℕ) × (text ≡ audit_text_of found ++ more) × TellsWhy shape events (verdict_in found) more
+
+-- the input is a trace, the text tells the verdict on its bits in this way, and the ending is the verdict's
+pub record AuditsBitsBy (Tells : Shape → List Event → Verdict → List ℕ → Type 0) (input text : List ℕ) (ending : Ending) : Type 0 where
   pub shape : Shape
   pub events : List Event
   pub verdict : Verdict
   pub is_trace : IsTrace input shape events
   pub is_verdict : IsVerdict shape events verdict
-  pub words : text ≡ verdict_text_of verdict
+  pub words : Tells shape events verdict text
   pub ends : ending ≡ verdict_ending_of verdict
 
--- the same where the input is a trace of any length
+abbrev pub AuditsBits : List ℕ → List ℕ → Ending → Type 0
+AuditsBits = AuditsBitsBy TellsVerdict
+
+abbrev pub AuditsBitsWhy : List ℕ → List ℕ → Ending → Type 0
+AuditsBitsWhy = AuditsBitsBy TellsVerdictWhy
+
+-- the input is a trace of any length, and the text and the ending are those of the verdict on its bits
 pub record AnswersLongBits (input text : List ℕ) (ending : Ending) : Type 0 where
   pub shape : Shape
   pub events : List Event
@@ -108,9 +130,9 @@ pub record AnswersLongBits (input text : List ℕ) (ending : Ending) : Type 0 wh
   pub words : text ≡ verdict_text_of verdict
   pub ends : ending ≡ verdict_ending_of verdict
 
--- The input is a trace, and the text and the ending are those of the one finding of its bits and of the programs of its two
--- sides. Lists that it tells meet the sentence of the ring, and their calls are linearizable
-pub record AuditsPrograms (input text : List ℕ) (ending : Ending) : Type 0 where
+-- The input is a trace, the text tells the one finding of its bits and of the programs of its two sides in this way, and the ending
+-- is the finding's. Lists that it tells meet the sentence of the ring, and their calls are linearizable
+pub record AuditsProgramsBy (Tells : Shape → List Event → Statement → List ℕ → Type 0) (input text : List ℕ) (ending : Ending) : Type 0 where
   pub shape : Shape
   pub events : List Event
   pub found : Statement
@@ -118,8 +140,14 @@ pub record AuditsPrograms (input text : List ℕ) (ending : Ending) : Type 0 whe
   pub is_finding : IsFinding shape events found
   pub sentence : SaysSentence shape events found
   pub linearizable : SaysLinearizable shape events found
-  pub words : text ≡ audit_text_of found
+  pub words : Tells shape events found text
   pub ends : ending ≡ finding_ending_of found
+
+abbrev pub AuditsPrograms : List ℕ → List ℕ → Ending → Type 0
+AuditsPrograms = AuditsProgramsBy TellsFinding
+
+abbrev pub AuditsProgramsWhy : List ℕ → List ℕ → Ending → Type 0
+AuditsProgramsWhy = AuditsProgramsBy TellsFindingWhy
 
 -- the input is a script, and the text is that of a report of its play, by the letters of its schedule, whose calls are linearizable
 pub record PlaysScript (input text : List ℕ) (ending : Ending) : Type 0 where
@@ -153,6 +181,23 @@ pub record RecordsScript (input text : List ℕ) (ending : Ending) : Type 0 wher
   pub plays : IsPlayOf content content.letters history
   pub records : RecordsPlay content history told
   pub is_recording : IsRecording text (exactly (capacity_of content.shape)) (call_events content told)
+  pub ends : ending ≡ Done
+
+-- the input is a script, and the text is a trace, of a lawful history of the bits; of its items nothing is said
+pub record TracesWrong (input text : List ℕ) (ending : Ending) : Type 0 where
+  pub content : Content
+  pub history : List Event
+  pub is_script : IsScript input content
+  pub lawful : IsLawful content.shape history
+  pub is_trace : IsTrace text content.shape history
+  pub ends : ending ≡ Done
+
+-- the input is a script, and the text has a line of the ring's capacity and then a line for each begin and end of a call
+pub record RecordsWrong (input text : List ℕ) (ending : Ending) : Type 0 where
+  pub content : Content
+  pub told : List play_told.Told
+  pub is_script : IsScript input content
+  pub words : text ≡ told_text_of content told
   pub ends : ending ≡ Done
 
 -- the text of a run: how many items were put and taken, or that and what was counted and timed; or a recording of some calls of a
@@ -198,17 +243,25 @@ IsRunCause run e = IsOutOfMemory e
 abbrev pub Answers : Question → List ℕ → List ℕ → Ending → Type 0
 Answers Audit input text ending = AuditsPrograms input text ending
 Answers AuditBits input text ending = AuditsBits input text ending
+Answers AuditWhy input text ending = AuditsProgramsWhy input text ending
+Answers AuditBitsWhy input text ending = AuditsBitsWhy input text ending
 Answers Play input text ending = PlaysScript input text ending
 Answers PlayTrace input text ending = TracesScript input text ending
 Answers PlayCalls input text ending = RecordsScript input text ending
+Answers (WrongTrace miss) input text ending = TracesWrong input text ending
+Answers (WrongCalls miss) input text ending = RecordsWrong input text ending
 
 -- how a question that was answered may end: an audit alone may have found a fault
 abbrev pub MayEnd : Question → Ending → Type 0
 MayEnd Audit ending = (ending ≡ Done) ⊎ (ending ≡ FaultFound)
 MayEnd AuditBits ending = (ending ≡ Done) ⊎ (ending ≡ FaultFound)
+MayEnd AuditWhy ending = (ending ≡ Done) ⊎ (ending ≡ FaultFound)
+MayEnd AuditBitsWhy ending = (ending ≡ Done) ⊎ (ending ≡ FaultFound)
 MayEnd Play ending = ending ≡ Done
 MayEnd PlayTrace ending = ending ≡ Done
 MayEnd PlayCalls ending = ending ≡ Done
+MayEnd (WrongTrace miss) ending = ending ≡ Done
+MayEnd (WrongCalls miss) ending = ending ≡ Done
 
 -- the input is no trace, for this cause
 abbrev pub RefusesTrace : List ℕ → Refusal → Type 0
@@ -222,9 +275,13 @@ RefusesScript input e = (fault : ScriptFault) × (e ≡ refusal.Script fault) ×
 abbrev pub Refuses : Question → List ℕ → Refusal → Type 0
 Refuses Audit input e = RefusesTrace input e
 Refuses AuditBits input e = RefusesTrace input e
+Refuses AuditWhy input e = RefusesTrace input e
+Refuses AuditBitsWhy input e = RefusesTrace input e
 Refuses Play input e = RefusesScript input e
 Refuses PlayTrace input e = RefusesScript input e
 Refuses PlayCalls input e = RefusesScript input e
+Refuses (WrongTrace miss) input e = RefusesScript input e
+Refuses (WrongCalls miss) input e = RefusesScript input e
 
 -- more bytes came than an input may have
 abbrev pub IsTooLarge : List ℕ → Refusal → Type 0
@@ -356,9 +413,13 @@ EndsUnasked kinds before after status = NoMemory before after status
 abbrev pub IsStatusOn : Question → ℕ → Type 0
 IsStatusOn Audit status = (status ≡ 0) ⊎ ((status ≡ 1) ⊎ (status ≡ 3))
 IsStatusOn AuditBits status = (status ≡ 0) ⊎ ((status ≡ 1) ⊎ (status ≡ 3))
+IsStatusOn AuditWhy status = (status ≡ 0) ⊎ ((status ≡ 1) ⊎ (status ≡ 3))
+IsStatusOn AuditBitsWhy status = (status ≡ 0) ⊎ ((status ≡ 1) ⊎ (status ≡ 3))
 IsStatusOn Play status = (status ≡ 0) ⊎ (status ≡ 1)
 IsStatusOn PlayTrace status = (status ≡ 0) ⊎ (status ≡ 1)
 IsStatusOn PlayCalls status = (status ≡ 0) ⊎ (status ≡ 1)
+IsStatusOn (WrongTrace miss) status = (status ≡ 0) ⊎ (status ≡ 1)
+IsStatusOn (WrongCalls miss) status = (status ≡ 0) ⊎ (status ≡ 1)
 
 -- of a request
 abbrev pub IsStatusOf : Request → ℕ → Type 0

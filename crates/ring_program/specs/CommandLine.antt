@@ -7,7 +7,9 @@ use Rattle.clap.specs.declared.builder.action.ArgAction.TheVariants.{Set, SetTru
 use Rattle.clap.specs.ValueTests.{is_unsigned_in}
 use Rattle.clap.specs.declared.builder.value_parser.ValueParser.TheVariants.{Unsigned}
 use Rattle.std.specs.Str.Parse.{digits_value, without_leading_plus}
-use Rattle.ring_program.specs.declared.command_line.Question.TheVariants.{Audit, AuditBits, Play, PlayTrace, PlayCalls}
+use Rattle.near_misses.specs.Misses.{miss_named}
+use Rattle.near_misses.specs.declared.misses.NearMiss.{NearMiss}
+use Rattle.ring_program.specs.declared.command_line.Question.TheVariants.{Audit, AuditBits, AuditWhy, AuditBitsWhy, Play, PlayTrace, PlayCalls, WrongTrace, WrongCalls}
 use Rattle.ring_program.specs.declared.command_line.Request.{Request}
 use Rattle.ring_program.specs.declared.command_line.Request.TheVariants.{OnInput}
 use Rattle.ring_program.specs.declared.command_line.Request.TheVariants as request
@@ -18,29 +20,23 @@ use Rattle.ring_program.specs.declared.run_line.RunText.{RunText}
 use Rattle.ring_program.specs.declared.run_line.RunText.TheVariants.{Totals, Report, Recording}
 use Rattle.ring_program.specs.declared.run_line.TheConstants.{ITEM_LIMIT}
 
--- `--bits`
-abbrev pub bits : Rule
-bits = record (new_rule (codes "bits")) { long = Some (codes "bits"); action = Some SetTrue }
+-- an option that is given or not
+abbrev pub flag_rule : Text → Rule
+flag_rule id = record (new_rule id) { long = Some id; action = Some SetTrue }
 
--- `--calls`
-abbrev pub calls : Rule
-calls = record (new_rule (codes "calls")) { long = Some (codes "calls"); action = Some SetTrue }
-
--- `--long`
-abbrev pub long_flag : Rule
-long_flag = record (new_rule (codes "long")) { long = Some (codes "long"); action = Some SetTrue }
-
--- `audit [--bits [--long]]` and `audit --calls`
+-- `audit [--bits] [--why]`, `audit --bits --long` and `audit --calls`
 abbrev pub audit_command : App
-audit_command = with_rule (with_rule (with_rule (new_app (codes "audit")) bits) long_flag) calls
+audit_command =
+    with_rule (with_rule (with_rule (with_rule (new_app (codes "audit"))
+    (flag_rule (codes "bits"))) (flag_rule (codes "long"))) (flag_rule (codes "calls"))) (flag_rule (codes "why"))
 
--- `--trace`
-abbrev pub trace : Rule
-trace = record (new_rule (codes "trace")) { long = Some (codes "trace"); action = Some SetTrue }
+-- `--wrong`
+abbrev pub wrong_rule : Rule
+wrong_rule = record (new_rule (codes "wrong")) { long = Some (codes "wrong"); action = Some Set; value_names = 1 }
 
--- `play [--trace | --calls]`
+-- `play [--trace | --calls]`, and `play --wrong NAME` with one of the two
 abbrev pub play_command : App
-play_command = with_rule (with_rule (new_app (codes "play")) trace) calls
+play_command = with_rule (with_rule (with_rule (new_app (codes "play")) (flag_rule (codes "trace"))) (flag_rule (codes "calls"))) wrong_rule
 
 -- an option whose value is a number up to the most
 abbrev pub number_rule : Text → ℕ → Rule
@@ -62,21 +58,13 @@ batch_rule = record (number_rule (codes "batch") largest) { defaults = codes "1"
 abbrev pub ring_rule : Rule
 ring_rule = record (new_rule (codes "ring")) { long = Some (codes "ring"); action = Some Set; value_names = 1; defaults = codes "flicker" ∷ [] }
 
--- `--report`
-abbrev pub report_rule : Rule
-report_rule = record (new_rule (codes "report")) { long = Some (codes "report"); action = Some SetTrue }
-
--- `--record`
-abbrev pub record_rule : Rule
-record_rule = record (new_rule (codes "record")) { long = Some (codes "record"); action = Some SetTrue }
-
 -- `run`, with the five options that have to be given, three that may be left out, and two flags
 abbrev pub run_application : App
 run_application =
     with_rule (with_rule (with_rule (with_rule (with_rule (with_rule (with_rule (with_rule (with_rule (with_rule (new_app (codes "run"))
     (required_rule (codes "capacity") largest)) (required_rule (codes "modulus") largest)) (required_rule (codes "width") largest))
     (required_rule (codes "count") ITEM_LIMIT)) (required_rule (codes "limit") largest)) (number_rule (codes "takes") largest)) batch_rule) ring_rule)
-    report_rule) record_rule
+    (flag_rule (codes "report"))) (flag_rule (codes "record"))
 
 -- the program, which has a version, and of which one command has to be named
 unfoldable pub application : App
@@ -89,16 +77,19 @@ application =
 abbrev pub is_flag_given : Text → List Row → Bool
 is_flag_given id rows = option_map_or (λ t. bytes_eq t (codes "true")) (first_of id rows) false
 
--- an audit is of bits or of calls, and not of both; of bits alone it may be long
-abbrev pub audit_request : Bool → Bool → Bool → Option Request
-audit_request true false false = Some (OnInput AuditBits)
-audit_request true true false = Some request.LongBits
-audit_request false false true = Some request.Calls
-audit_request false false false = Some (OnInput Audit)
-audit_request _ _ _ = None
+-- an audit is of bits or of calls, and not of both; of bits alone it may be long; where it keeps the trace it may say why
+abbrev pub audit_request : Bool → Bool → Bool → Bool → Option Request
+audit_request true false false false = Some (OnInput AuditBits)
+audit_request true false false true = Some (OnInput AuditBitsWhy)
+audit_request true true false false = Some request.LongBits
+audit_request false false true false = Some request.Calls
+audit_request false false false false = Some (OnInput Audit)
+audit_request false false false true = Some (OnInput AuditWhy)
+audit_request _ _ _ _ = None
 
 abbrev pub audit_request_of : List Row → Option Request
-audit_request_of rows = audit_request (is_flag_given (codes "bits") rows) (is_flag_given (codes "long") rows) (is_flag_given (codes "calls") rows)
+audit_request_of rows =
+    audit_request (is_flag_given (codes "bits") rows) (is_flag_given (codes "long") rows) (is_flag_given (codes "calls") rows) (is_flag_given (codes "why") rows)
 
 -- a play prints a trace or its calls, and not both
 abbrev pub play_request : Bool → Bool → Option Request
@@ -107,8 +98,19 @@ play_request true false = Some (OnInput PlayTrace)
 play_request false true = Some (OnInput PlayCalls)
 play_request false false = Some (OnInput Play)
 
+-- a play by a near miss prints one of the two
+abbrev pub wrong_request : Bool → Bool → NearMiss → Option Request
+wrong_request true false miss = Some (OnInput (WrongTrace miss))
+wrong_request false true miss = Some (OnInput (WrongCalls miss))
+wrong_request _ _ miss = None
+
+-- by the name of a near miss, where one is given
+abbrev pub play_by : Option Text → Bool → Bool → Option Request
+play_by None trace calls = play_request trace calls
+play_by (Some name) trace calls = option_and_then (wrong_request trace calls) (miss_named name)
+
 abbrev pub play_request_of : List Row → Option Request
-play_request_of rows = play_request (is_flag_given (codes "trace") rows) (is_flag_given (codes "calls") rows)
+play_request_of rows = play_by (first_of (codes "wrong") rows) (is_flag_given (codes "trace") rows) (is_flag_given (codes "calls") rows)
 
 -- the number that a text writes in decimal, where it writes one of 64 bits
 abbrev pub number_in : Text → Option ℕ

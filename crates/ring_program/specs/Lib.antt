@@ -4,3 +4,4 @@ pub mod Faults
 pub mod Reports
 pub mod Runs
 pub mod Texts
+pub mod Why

@@ -6,12 +6,20 @@ use Rattle.bits_core.specs.declared.audits.Verdict.{Verdict}
 use Rattle.bits_core.specs.declared.audits.Verdict.TheVariants as bits
 use Rattle.bits_core.specs.declared.audits.Kind.{Kind}
 use Rattle.bits_core.specs.declared.events.Event.{Event}
+use Rattle.bits_core.specs.Shape.{capacity_of}
 use Rattle.queue_calls.specs.Causes.{cause_words}
+use Rattle.queue_calls.specs.Recordings.{line, lines_text}
+use Rattle.queue_calls.specs.Tellings.{lines_of}
+use Rattle.queue_calls.specs.declared.lines.Word.TheVariants as word
+use Rattle.queue_calls.specs.declared.recordings.Begun.TheVariants as begun
 use Rattle.queue_calls.specs.declared.recordings.CallsFinding.{CallsFinding}
 use Rattle.queue_calls.specs.declared.recordings.CallsFinding.TheVariants as calls
 use Rattle.queue_calls.specs.declared.reports.Report as calls_report
 use Rattle.ring_audit.specs.Audit.{Statement, Lawful, Fault}
+use Rattle.ring_player.specs.Tellings.{call_events}
+use Rattle.ring_player.specs.declared.tellings.Told.{Told}
 use Rattle.ring_player.specs.declared.worlds.Report.{Report}
+use Rattle.ring_script.specs.Content.{Content}
 
 -- a fault in one line; the event at place i, from 0, stands on line i + 2 of its trace
 abbrev pub fault_line : ℕ → Kind → List ℕ
@@ -131,3 +139,9 @@ abbrev pub relay_report_of : ℕ → ℕ → ℕ → ℕ → ℕ → Bool → Op
 relay_report_of put calls full taken empty closed time =
     relay_text_of put taken closed ++ (count_line (codes "calls") calls ++ (count_line (codes "full") full
     ++ (count_line (codes "empty") empty ++ pace_line (option_and_then (pace_of taken) time))))
+
+-- ---- the text of the calls that were told
+
+-- a line of the ring's capacity, and the line of each event of calls
+abbrev pub told_text_of : Content → List Told → List ℕ
+told_text_of script told = lines_text (line word.Queue (capacity_of script.shape ∷ []) ∷ lines_of begun.Nothing (call_events script told))

@@ -3,19 +3,22 @@ ghost use Rattle.std.specs.Prelude.{◌≡◌, ◌⊎◌, ◌∷◌, ℕ, List, 
 ghost use Rattle.clap.specs.Words.{HasKind, app_of, fault_of, found_of, kind_of, rows_of, rule_of, subcommand_of, subcommand_rows_of};
 ghost use Rattle.clap.specs.declared.builder.command.Command.TheViews.{out-Command};
 ghost use Rattle.ring_program.specs.declared.run_line.RingKind.TheVariants as kind;
-ghost use Rattle.ring_program.specs.CommandLine.{application, audit_command, audit_request_of, big_run, bits, calls, long_flag, long_run, play_command, play_request_of, record_run, report_and_record, report_run, request_in, request_of, run_of_numbers, short_run, torus_run};
+ghost use Rattle.near_misses.specs.declared.misses.NearMiss.TheVariants as miss;
+ghost use Rattle.ring_program.specs.CommandLine.{application, audit_command, audit_request_of, big_run, long_run, play_command, play_request, play_request_of, record_run, report_and_record, report_run, request_in, request_of, run_of_numbers, short_run, torus_run, wrong_request, wrong_rule};
 
-use crate::options::is_given;
+use crate::options::{flag_option, is_given};
 use crate::run_line::{Run, RunText, run_command, run_found};
 use clap::error::ErrorKind;
 use clap::{Arg, ArgAction, ArgMatches, Command, Error};
+use near_misses::NearMiss;
 use std::alloc::{AllocError, Global};
 
 /// The program's version, which `--version` prints behind its name.
 const VERSION: &str = "0.1.0";
 
 // The usage, which is also told where a word of `audit` is wrong, such as the name of a file.
-const AUDIT_USAGE: &str = "lamport_ring audit [--bits [--long]] < TRACE
+const AUDIT_USAGE: &str = "lamport_ring audit [--bits] [--why] < TRACE
+       lamport_ring audit --bits --long < TRACE
        lamport_ring audit --calls < CALLS";
 
 const AUDIT_HELP: &str = "\
@@ -32,8 +35,18 @@ Bits are s0, s1, .. and r0, r1, .., x, and cJ.I for digit I of cell J.
 The answer is `lawful` where each read's answer is one that safe bits may give
 and both sides follow the ring's programs, with the items put, the items taken
 and whether the consumer was told that the ring is closed. Else it is the first
-line at fault and why. With --bits the programs are left out, and the items too;
-with --bits --long the trace is read in pieces, and may have any length.
+line at fault and of what kind the fault is. With --bits the programs are left
+out, and the items too; with --bits --long the trace is read in pieces, and may
+have any length. With --why a fault has further lines:
+
+  due: P write c0.0 1           an event of this side that is of its program; or
+  due: nothing                  there is none, as it has made its last call
+  held: 0 since line 5, where the read began at line 6
+                                what the bit held, which no write overlapped
+  open since line 5: P write s1 1
+                                the access that this side has not ended
+  open: nothing                 or that it has none to end
+  only by: P                    the side that may do this to the bit
 
 With --calls the input is a recording of the calls of any queue of one producer
 and one consumer: a line `queue CAPACITY`, and then a line where each call
@@ -52,6 +65,7 @@ may have any length. docs/FORMATS.md has the whole format.
 Examples:
   lamport_ring audit < examples/plain_path.trace
   lamport_ring audit --bits < examples/new_old_inversion.trace
+  lamport_ring audit --why < examples/count_before_cell.trace
   lamport_ring audit --calls < examples/calls/plain.calls
 
 Exit status:
@@ -61,7 +75,8 @@ Exit status:
   2  the command line is wrong
   3  the audit found a fault";
 
-const PLAY_USAGE: &str = "lamport_ring play [--trace|--calls] < SCRIPT";
+const PLAY_USAGE: &str = "lamport_ring play [--trace|--calls] < SCRIPT
+       lamport_ring play --wrong NAME --trace|--calls < SCRIPT";
 
 const PLAY_HELP: &str = "\
 A script is a JSON object:
@@ -81,10 +96,21 @@ The answer says how many events there were, the items put and taken, whether
 the consumer was told that the ring is closed, how many puts found the ring
 full, how many takes found it empty, and how many reads a write overlapped.
 
+With --wrong the script is played by a ring that is nearly right, and breaks
+one rule. Its bits are lawful, and of its items nothing is promised:
+
+  count-before-cell  a put writes its count before the item's cell
+  no-second-scan     a take that reads the close bit as 1 scans no second time
+  small-modulus      the counts go round one too soon
+  clears-first       a count write clears the bits below before it sets its own
+  clears-upwards     a count write clears the bits below from the lowest up
+
 Examples:
   lamport_ring play < examples/plain_path.json
   lamport_ring play --trace < examples/plain_path.json | lamport_ring audit
   lamport_ring play --calls < examples/plain_path.json | lamport_ring audit --calls
+  lamport_ring play --wrong no-second-scan --calls \\
+    < examples/wrong/no_second_scan.json
 
 Exit status:
   0  the script was played
@@ -114,12 +140,20 @@ pub enum Question {
     Audit,
     /// `audit --bits`
     AuditBits,
+    /// `audit --why`
+    AuditWhy,
+    /// `audit --bits --why`
+    AuditBitsWhy,
     /// `play`
     Play,
     /// `play --trace`
     PlayTrace,
     /// `play --calls`
     PlayCalls,
+    /// `play --wrong NAME --trace`
+    WrongTrace(NearMiss),
+    /// `play --wrong NAME --calls`
+    WrongCalls(NearMiss),
 }
 
 /// What the words ask for.
@@ -135,39 +169,6 @@ pub enum Request {
     Run(Run),
 }
 
-// The flag of the bits.
-fn bits_option<'a>(alloc: Global) -> Arg<'a>
-    ensures rule { rule_of result ≡ bits }
-    ensures local { result.global ≡ false }
-{
-    Arg::new(alloc, "bits")
-        .long("bits")
-        .action(ArgAction::SetTrue)
-        .help("Check the bits alone, not the programs of the two sides")
-}
-
-// The flag of any length.
-fn long_option<'a>(alloc: Global) -> Arg<'a>
-    ensures rule { rule_of result ≡ long_flag }
-    ensures local { result.global ≡ false }
-{
-    Arg::new(alloc, "long")
-        .long("long")
-        .action(ArgAction::SetTrue)
-        .help("With --bits: read a trace of any length, in pieces")
-}
-
-// The flag of recorded calls.
-fn calls_option<'a>(alloc: Global) -> Arg<'a>
-    ensures rule { rule_of result ≡ calls }
-    ensures local { result.global ≡ false }
-{
-    Arg::new(alloc, "calls")
-        .long("calls")
-        .action(ArgAction::SetTrue)
-        .help("Audit a recording of the calls of any queue")
-}
-
 fn audit<'a>(alloc: Global) -> Result<Command<'a>, AllocError>
     ensures made { IfOk result (λ command. app_of command ≡ audit_command) }
     ensures local { IfOk result (λ command. (out-Command command).has_globals ≡ false) }
@@ -178,33 +179,63 @@ fn audit<'a>(alloc: Global) -> Result<Command<'a>, AllocError>
         )
         .override_usage(AUDIT_USAGE)
         .after_help(AUDIT_HELP);
-    let bits = bits_option(alloc);
+    let bits = flag_option(
+        alloc,
+        "bits",
+        "Check the bits alone, not the programs of the two sides",
+    );
     let command = command.arg(bits)?;
-    let long = long_option(alloc);
+    let long = flag_option(
+        alloc,
+        "long",
+        "With --bits: read a trace of any length, in pieces",
+    );
     let command = command.arg(long)?;
-    let calls = calls_option(alloc);
+    let calls = flag_option(
+        alloc,
+        "calls",
+        "Audit a recording of the calls of any queue",
+    );
     let command = command.arg(calls)?;
+    let why = flag_option(alloc, "why", "Tell of a fault what was due, in further lines");
+    let command = command.arg(why)?;
     Ok(command)
+}
+
+// The option of the near miss.
+fn wrong_option<'a>(alloc: Global) -> Arg<'a>
+    ensures rule { rule_of result ≡ wrong_rule }
+    ensures local { result.global ≡ false }
+{
+    Arg::new(alloc, "wrong")
+        .long("wrong")
+        .value_name("NAME")
+        .action(ArgAction::Set)
+        .help("Play by the ring of this name, which breaks one rule")
 }
 
 fn play<'a>(alloc: Global) -> Result<Command<'a>, AllocError>
     ensures made { IfOk result (λ command. app_of command ≡ play_command) }
     ensures local { IfOk result (λ command. (out-Command command).has_globals ≡ false) }
 {
-    let trace = Arg::new(alloc, "trace")
-        .long("trace")
-        .action(ArgAction::SetTrue)
-        .help("Print the whole history, as a trace, in place of the report");
-    let calls = Arg::new(alloc, "calls")
-        .long("calls")
-        .action(ArgAction::SetTrue)
-        .help("Print the calls of the play, as recorded calls, in place of the report");
     let command = Command::new(alloc, "play")
         .about("Play a script of the ring's two sides, from standard input")
         .override_usage(PLAY_USAGE)
-        .after_help(PLAY_HELP)
-        .arg(trace)?;
+        .after_help(PLAY_HELP);
+    let trace = flag_option(
+        alloc,
+        "trace",
+        "Print the whole history, as a trace, in place of the report",
+    );
+    let command = command.arg(trace)?;
+    let calls = flag_option(
+        alloc,
+        "calls",
+        "Print the calls of the play, as recorded calls, in place of the report",
+    );
     let command = command.arg(calls)?;
+    let wrong = wrong_option(alloc);
+    let command = command.arg(wrong)?;
     Ok(command)
 }
 
@@ -244,29 +275,55 @@ fn named<'m, 'a>(matches: &'m ArgMatches<'a>) -> Option<(&'a str, &'m ArgMatches
     matches.subcommand()
 }
 
-// What `audit` is asked for; nothing where it is both, or long and not of bits.
+// What `audit` is asked for; nothing where the flags do not go together.
 fn audit_request(matches: &ArgMatches<'_>) -> Option<Request>
     ensures { result ≡ audit_request_of (rows_of (found_of matches.now)) }
 {
+    let bits = is_given(matches, "bits");
     let long = is_given(matches, "long");
-    match (is_given(matches, "bits"), long, is_given(matches, "calls")) {
-        (true, false, false) => Some(Request::OnInput(Question::AuditBits)),
-        (true, true, false) => Some(Request::LongBits),
-        (false, false, true) => Some(Request::Calls),
-        (false, false, false) => Some(Request::OnInput(Question::Audit)),
+    let calls = is_given(matches, "calls");
+    match (bits, long, calls, is_given(matches, "why")) {
+        (true, false, false, false) => Some(Request::OnInput(Question::AuditBits)),
+        (true, false, false, true) => Some(Request::OnInput(Question::AuditBitsWhy)),
+        (true, true, false, false) => Some(Request::LongBits),
+        (false, false, true, false) => Some(Request::Calls),
+        (false, false, false, false) => Some(Request::OnInput(Question::Audit)),
+        (false, false, false, true) => Some(Request::OnInput(Question::AuditWhy)),
         _ => None,
     }
 }
 
-// What `play` is asked for; nothing where it is both.
-fn play_request(matches: &ArgMatches<'_>) -> Option<Request>
-    ensures { result ≡ play_request_of (rows_of (found_of matches.now)) }
+// What `play` is asked for, by a near miss or by none; nothing where the flags do not go together.
+fn asked_of_play(trace: bool, calls: bool) -> Option<Request>
+    ensures { result ≡ play_request trace calls }
 {
-    match (is_given(matches, "trace"), is_given(matches, "calls")) {
+    match (trace, calls) {
         (true, true) => None,
         (true, false) => Some(Request::OnInput(Question::PlayTrace)),
         (false, true) => Some(Request::OnInput(Question::PlayCalls)),
         (false, false) => Some(Request::OnInput(Question::Play)),
+    }
+}
+
+fn asked_of_miss(trace: bool, calls: bool, miss: NearMiss) -> Option<Request>
+    ensures { result ≡ wrong_request trace calls miss }
+{
+    match (trace, calls) {
+        (true, false) => Some(Request::OnInput(Question::WrongTrace(miss))),
+        (false, true) => Some(Request::OnInput(Question::WrongCalls(miss))),
+        _ => None,
+    }
+}
+
+// What `play` is asked for; nothing where its options do not go together, or no near miss has this name.
+fn play_request(matches: &ArgMatches<'_>) -> Option<Request>
+    ensures { result ≡ play_request_of (rows_of (found_of matches.now)) }
+{
+    let trace = is_given(matches, "trace");
+    let calls = is_given(matches, "calls");
+    match matches.get_str("wrong") {
+        None => asked_of_play(trace, calls),
+        Some(name) => asked_of_miss(trace, calls, NearMiss::named(name)?),
     }
 }
 
@@ -308,11 +365,19 @@ pub fn command_lines()
     ensures audit_long { (name : List ℕ) → request_of (name ∷ codes "audit" ∷ codes "--bits" ∷ codes "--long" ∷ []) ≡ Some Request.LongBits }
     ensures long_alone { (name : List ℕ) → request_of (name ∷ codes "audit" ∷ codes "--long" ∷ []) ≡ None }
     ensures long_calls { (name : List ℕ) → request_of (name ∷ codes "audit" ∷ codes "--calls" ∷ codes "--long" ∷ []) ≡ None }
+    ensures audit_why { (name : List ℕ) → request_of (name ∷ codes "audit" ∷ codes "--why" ∷ []) ≡ Some (Request.OnInput Question.AuditWhy) }
+    ensures audit_bits_why { (name : List ℕ) → request_of (name ∷ codes "audit" ∷ codes "--bits" ∷ codes "--why" ∷ []) ≡ Some (Request.OnInput Question.AuditBitsWhy) }
+    ensures long_why { (name : List ℕ) → request_of (name ∷ codes "audit" ∷ codes "--bits" ∷ codes "--long" ∷ codes "--why" ∷ []) ≡ None }
+    ensures calls_why { (name : List ℕ) → request_of (name ∷ codes "audit" ∷ codes "--calls" ∷ codes "--why" ∷ []) ≡ None }
     ensures twice { (name : List ℕ) → request_of (name ∷ codes "audit" ∷ codes "--bits" ∷ codes "--bits" ∷ []) ≡ None }
     ensures play { (name : List ℕ) → request_of (name ∷ codes "play" ∷ []) ≡ Some (Request.OnInput Question.Play) }
     ensures play_trace { (name : List ℕ) → request_of (name ∷ codes "play" ∷ codes "--trace" ∷ []) ≡ Some (Request.OnInput Question.PlayTrace) }
     ensures play_calls { (name : List ℕ) → request_of (name ∷ codes "play" ∷ codes "--calls" ∷ []) ≡ Some (Request.OnInput Question.PlayCalls) }
     ensures play_both { (name : List ℕ) → request_of (name ∷ codes "play" ∷ codes "--trace" ∷ codes "--calls" ∷ []) ≡ None }
+    ensures wrong_trace { (name : List ℕ) → request_of (name ∷ codes "play" ∷ codes "--wrong" ∷ codes "small-modulus" ∷ codes "--trace" ∷ []) ≡ Some (Request.OnInput (Question.WrongTrace miss.SmallModulus)) }
+    ensures wrong_calls { (name : List ℕ) → request_of (name ∷ codes "play" ∷ codes "--wrong=count-before-cell" ∷ codes "--calls" ∷ []) ≡ Some (Request.OnInput (Question.WrongCalls miss.CountBeforeCell)) }
+    ensures wrong_report { (name : List ℕ) → request_of (name ∷ codes "play" ∷ codes "--wrong" ∷ codes "clears-first" ∷ []) ≡ None }
+    ensures wrong_name { (name : List ℕ) → request_of (name ∷ codes "play" ∷ codes "--wrong" ∷ codes "right" ∷ codes "--calls" ∷ []) ≡ None }
     ensures run { (name : List ℕ) → request_of (name ∷ short_run) ≡ Some (Request.Run (run_of_numbers kind.Flicker 1 3 6 1 64 9 9 RunText.Totals)) }
     ensures run_with_all { (name : List ℕ) → request_of (name ∷ long_run) ≡ Some (Request.Run (run_of_numbers kind.Counter 3 7 6 3 64 9 8 RunText.Totals)) }
     ensures run_with_report { (name : List ℕ) → request_of (name ∷ report_run) ≡ Some (Request.Run (run_of_numbers kind.Flicker 1 3 6 1 64 9 9 RunText.Report)) }

@@ -2,6 +2,7 @@
 ghost use Rattle.std.specs.Prelude.{◌≡◌};
 
 use bits_core::{ShapeFault, TraceFault};
+use near_misses::NearFault;
 use queue_calls::RecordingFault;
 use ring_audit::AuditFault;
 use ring_player::{PlayFault, ScriptFault};
@@ -138,6 +139,18 @@ impl From<PlayFault> for Refusal {
 
     fn from(fault: PlayFault) -> Refusal {
         Refusal::Play(fault)
+    }
+}
+
+impl From<NearFault> for Refusal {
+    ghost use Rattle.ring_program.specs.declared.faults.AppFault.TheVariants.{OutOfMemory};
+    ghost use Rattle.ring_program.specs.declared.faults.Refusal.TheVariants.{App};
+
+    ghost from_gives = { λ _ e. e ≡ App OutOfMemory };
+
+    // (there is no other fault of a play by a near miss)
+    fn from(_fault: NearFault) -> Refusal {
+        Refusal::App(AppFault::OutOfMemory)
     }
 }
 

@@ -19,6 +19,7 @@ mod runs;
 mod tellings;
 mod texts;
 mod trace_lines;
+mod why;
 
 pub use answers::{complain, refuse};
 pub use faults::{AppFault, Refusal};

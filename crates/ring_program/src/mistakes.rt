@@ -51,14 +51,22 @@ impl Display for Told<'_> {
     }
 }
 
-// The name of the ring that the words ask for.
-fn ring_named<'a>(words: &[&'a str]) -> Option<&'a str> {
+// What stands behind an option, with a space or with `=`.
+fn value_of<'a>(words: &[&'a str], option: &str) -> Option<&'a str> {
     let (_program, words) = words.split_first()?;
-    if let Some(name) = words.iter().find_map(|word| word.strip_prefix("--ring=")) {
-        return Some(name);
+    for (place, word) in words.iter().enumerate() {
+        if *word == option {
+            return words.get(place + 1).copied();
+        }
+        match word.strip_prefix(option) {
+            Some(rest) => match rest.strip_prefix("=") {
+                Some(value) => return Some(value),
+                None => {}
+            },
+            None => {}
+        }
     }
-    let place = words.iter().position(|word| *word == "--ring")?;
-    words.get(place + 1).copied()
+    None
 }
 
 // The words ask for an audit of bits and of calls at once.
@@ -76,6 +84,20 @@ fn asks_two_plays(words: &[&str]) -> bool {
     words.get(1) == Some(&"play") && words.contains(&"--trace") && words.contains(&"--calls")
 }
 
+// The words ask why, and keep no trace.
+fn asks_why_of_pieces(words: &[&str]) -> bool {
+    words.get(1) == Some(&"audit")
+        && words.contains(&"--why")
+        && (words.contains(&"--long") || words.contains(&"--calls"))
+}
+
+// The words ask for a play by a near miss, and not for just one of its texts.
+fn asks_wrong_alone(words: &[&str]) -> bool {
+    words.get(1) == Some(&"play")
+        && value_of(words, "--wrong").is_some()
+        && words.contains(&"--trace") == words.contains(&"--calls")
+}
+
 // The words ask for a report and a recording of one run.
 fn asks_two_texts(words: &[&str]) -> bool {
     words.get(1) == Some(&"run") && words.contains(&"--report") && words.contains(&"--record")
@@ -86,6 +108,11 @@ fn clash(words: &[&str]) -> Option<&'static str> {
     if asks_two_texts(words) {
         return Some(
             "error: a run prints a report or a recording: --report and --record do not go together\n\nFor more information, try '--help'.\n",
+        );
+    }
+    if asks_wrong_alone(words) {
+        return Some(
+            "error: a play by a near miss prints its trace or its calls: --wrong goes with --trace or with --calls\n\nFor more information, try '--help'.\n",
         );
     }
     if asks_two_plays(words) {
@@ -103,10 +130,27 @@ fn clash(words: &[&str]) -> Option<&'static str> {
             "error: a trace of any length is audited for its bits alone: --long goes with --bits\n\nFor more information, try '--help'.\n",
         );
     }
+    if asks_why_of_pieces(words) {
+        return Some(
+            "error: --why goes with a trace that is kept, so neither with --long nor with --calls\n\nFor more information, try '--help'.\n",
+        );
+    }
     None
 }
 
-/// The words were taken, and name no command, no ring, two audits, a long audit that is not of bits, or two texts of a play or of a run. Tells it, and gives the exit status.
+// The words name no such near miss.
+fn tell_miss<E: Write>(name: &str, err: &mut E) {
+    let name = Told(name);
+    complain(
+        err,
+        format_args!(
+            "error: no near miss is called '{name}': there are count-before-cell, no-second-scan, small-modulus, clears-first and clears-upwards\n\nFor more information, try '--help'.\n"
+        ),
+    );
+}
+
+/// The words were taken, and name no command, no ring, no near miss, or options that do not go together. Tells it, and
+/// gives the exit status.
 pub fn unnamed<E: Write>(words: &[&str], err: &mut E) -> u8
     ensures { result ≡ 2 }
 {
@@ -117,7 +161,14 @@ pub fn unnamed<E: Write>(words: &[&str], err: &mut E) -> u8
         }
         None => {}
     }
-    match ring_named(words) {
+    match value_of(words, "--wrong") {
+        Some(name) => {
+            tell_miss(name, err);
+            return 2;
+        }
+        None => {}
+    }
+    match value_of(words, "--ring") {
         Some(name) => {
             let name = Told(name);
             complain(

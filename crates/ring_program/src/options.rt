@@ -1,9 +1,21 @@
 //! What the words say of one option.
-ghost use Rattle.std.specs.Prelude.{◌≡◌};
-ghost use Rattle.clap.specs.Words.{found_of, rows_of};
-ghost use Rattle.ring_program.specs.CommandLine.{is_flag_given, number_given, number_in};
+ghost use Rattle.std.specs.Prelude.{◌≡◌, false};
+ghost use Rattle.clap.specs.Words.{found_of, rows_of, rule_of};
+ghost use Rattle.ring_program.specs.CommandLine.{flag_rule, is_flag_given, number_given, number_in};
 
-use clap::ArgMatches;
+use clap::{Arg, ArgAction, ArgMatches};
+use std::alloc::Global;
+
+/// An option that is given or not, by this word.
+pub fn flag_option<'a>(alloc: Global, id: &'a str, help: &'a str) -> Arg<'a>
+    ensures rule { rule_of result ≡ flag_rule id.entry.now }
+    ensures local { result.global ≡ false }
+{
+    Arg::new(alloc, id)
+        .long(id)
+        .action(ArgAction::SetTrue)
+        .help(help)
+}
 
 /// Whether the flag of this id was given.
 pub fn is_given(matches: &ArgMatches<'_>, id: &str) -> bool

@@ -2,7 +2,7 @@
 ghost use Rattle.std.specs.Prelude.{◌≡◌, ◌≢◌, ◌≤◌, ◌⊎◌, List, ℕ, None, IfOk, IfErr, IfSome, IfNone, OnOk, OnErr, length, map, string_bytes, take};
 ghost use Rattle.std.specs.Io.KnownBytes.{Appends, Keeps};
 ghost use Rattle.clap.specs.Words.{fault_of, kind_of};
-ghost use Rattle.ring_program.specs.Answers.{Answers, AnswersWithin, AsksNoInput, AuditsBits, AuditsPrograms, Ends, EndsOn, EndsUnasked, Explains, IsCause, IsOutOfMemory, IsShortage, IsStatus, IsStatusOn, MayEnd, PlaysScript, RecordsScript, RefusedOn, Refuses, RefusesScript, RefusesTrace, TracesScript, finding_ending_of, status_of, verdict_ending_of};
+ghost use Rattle.ring_program.specs.Answers.{Answers, AnswersWithin, AsksNoInput, AuditsBits, AuditsBitsWhy, AuditsPrograms, AuditsProgramsWhy, Ends, EndsOn, EndsUnasked, Explains, IsCause, IsOutOfMemory, IsShortage, IsStatus, IsStatusOn, MayEnd, PlaysScript, RecordsScript, RecordsWrong, RefusedOn, Refuses, RefusesScript, RefusesTrace, TracesScript, TracesWrong, finding_ending_of, status_of, verdict_ending_of};
 ghost use Rattle.ring_audit.specs.Audit.{statement};
 ghost use Rattle.ring_program.specs.declared.inputs.TheConstants.{INPUT_LIMIT};
 ghost use Rattle.ring_program.specs.CommandLine.{application, request_of};
@@ -17,11 +17,13 @@ use crate::mistakes::{tell_mistake, unnamed};
 use crate::recordings::answer_calls;
 use crate::reports::report_text;
 use crate::runs::answer_run;
-use crate::tellings::calls_text;
+use crate::tellings::{calls_text, told_text};
 use crate::texts::{audit_text, verdict_text};
+use crate::why::{push_why, verdict_of};
 use bits_core::{Verdict, audit_bits, read_trace, write_trace};
 use clap::Error;
 use clap::error::ErrorKind;
+use near_misses::{NearMiss, play_near};
 use ring_audit::{Finding, audit};
 use ring_player::{Script, play, play_calls};
 use std::alloc::{AllocGlobal, Allocator, Global};
@@ -73,6 +75,38 @@ fn audit_bits_answer<A: Allocator + Copy>(alloc: A, input: &[u8]) -> Result<Answ
     let (shape, events) = read_trace(alloc, input)?;
     let verdict = audit_bits(&shape, events.as_slice());
     let text = verdict_text(alloc, &verdict)?;
+    Ok(Answer {
+        text,
+        ending: verdict_ending(verdict),
+    })
+}
+
+// The answer of `audit --why` on an input.
+#[tactic(auto, unfolding(crate::specs::Answers::IsOutOfMemory))]
+fn audit_why_answer<A: Allocator + Copy>(alloc: A, input: &[u8]) -> Result<Answer<A>, Refusal>
+    ensures answered { IfOk result (λ answer. AuditsProgramsWhy input.now (string_bytes answer.text) answer.ending) }
+    ensures refused { IfErr result (λ e. IsOutOfMemory e ⊎ RefusesTrace input.now e) }
+    ensures unwritten { IfErr result (λ e. e ≢ Refusal.App AppFault.WriteFailed) }
+{
+    let (shape, events) = read_trace(alloc, input)?;
+    let finding = audit(alloc, &shape, events.as_slice())?;
+    let mut text = audit_text(alloc, &finding)?;
+    push_why(&mut text, &shape, events.as_slice(), verdict_of(&finding))?;
+    let ending = finding_ending(&finding);
+    Ok(Answer { text, ending })
+}
+
+// The answer of `audit --bits --why` on an input.
+#[tactic(auto, unfolding(crate::specs::Answers::IsOutOfMemory))]
+fn audit_bits_why_answer<A: Allocator + Copy>(alloc: A, input: &[u8]) -> Result<Answer<A>, Refusal>
+    ensures answered { IfOk result (λ answer. AuditsBitsWhy input.now (string_bytes answer.text) answer.ending) }
+    ensures refused { IfErr result (λ e. IsOutOfMemory e ⊎ RefusesTrace input.now e) }
+    ensures unwritten { IfErr result (λ e. e ≢ Refusal.App AppFault.WriteFailed) }
+{
+    let (shape, events) = read_trace(alloc, input)?;
+    let verdict = audit_bits(&shape, events.as_slice());
+    let mut text = verdict_text(alloc, &verdict)?;
+    push_why(&mut text, &shape, events.as_slice(), verdict)?;
     Ok(Answer {
         text,
         ending: verdict_ending(verdict),
@@ -139,6 +173,48 @@ fn telling_answer<A: Allocator + Copy>(
     })
 }
 
+// The answer of `play --wrong NAME --trace` on an input.
+#[tactic(auto, unfolding(crate::specs::Answers::IsOutOfMemory))]
+fn wrong_trace_answer<A: Allocator + Copy>(
+    alloc: A,
+    json: Global,
+    miss: NearMiss,
+    input: &[u8],
+) -> Result<Answer<A>, Refusal>
+    ensures answered { IfOk result (λ answer. TracesWrong input.now (string_bytes answer.text) answer.ending) }
+    ensures refused { IfErr result (λ e. IsOutOfMemory e ⊎ RefusesScript input.now e) }
+    ensures unwritten { IfErr result (λ e. e ≢ Refusal.App AppFault.WriteFailed) }
+{
+    let script = Script::read_in(alloc, json, input)?;
+    let play = play_near(alloc, miss, &script)?;
+    let text = write_trace(alloc, &script.shape(), play.history.as_slice())?;
+    Ok(Answer {
+        text,
+        ending: Ending::Done,
+    })
+}
+
+// The answer of `play --wrong NAME --calls` on an input.
+#[tactic(auto, unfolding(crate::specs::Answers::IsOutOfMemory))]
+fn wrong_calls_answer<A: Allocator + Copy>(
+    alloc: A,
+    json: Global,
+    miss: NearMiss,
+    input: &[u8],
+) -> Result<Answer<A>, Refusal>
+    ensures answered { IfOk result (λ answer. RecordsWrong input.now (string_bytes answer.text) answer.ending) }
+    ensures refused { IfErr result (λ e. IsOutOfMemory e ⊎ RefusesScript input.now e) }
+    ensures unwritten { IfErr result (λ e. e ≢ Refusal.App AppFault.WriteFailed) }
+{
+    let script = Script::read_in(alloc, json, input)?;
+    let play = play_near(alloc, miss, &script)?;
+    let text = told_text(alloc, &script, play.told.as_slice())?;
+    Ok(Answer {
+        text,
+        ending: Ending::Done,
+    })
+}
+
 // The answer to a question on an input.
 fn answer_to<A: Allocator + Copy>(
     alloc: A,
@@ -154,9 +230,13 @@ fn answer_to<A: Allocator + Copy>(
     match question {
         Question::Audit => audit_answer(alloc, input),
         Question::AuditBits => audit_bits_answer(alloc, input),
+        Question::AuditWhy => audit_why_answer(alloc, input),
+        Question::AuditBitsWhy => audit_bits_why_answer(alloc, input),
         Question::Play => play_answer(alloc, json, input),
         Question::PlayTrace => trace_answer(alloc, json, input),
         Question::PlayCalls => telling_answer(alloc, json, input),
+        Question::WrongTrace(miss) => wrong_trace_answer(alloc, json, miss, input),
+        Question::WrongCalls(miss) => wrong_calls_answer(alloc, json, miss, input),
     }
 }
 

@@ -2,9 +2,9 @@
 ghost use Rattle.std.specs.Prelude.{◌≡◌, IfOk, Some, false, option_map};
 ghost use Rattle.clap.specs.Words.{app_of, first_of, found_of, rows_of, rule_of};
 ghost use Rattle.clap.specs.declared.builder.command.Command.TheViews.{out-Command};
-ghost use Rattle.ring_program.specs.CommandLine.{batch_rule, number_rule, record_rule, report_rule, required_rule, ring_given, ring_in, ring_rule, run_application, run_in, text_given};
+ghost use Rattle.ring_program.specs.CommandLine.{batch_rule, number_rule, required_rule, ring_given, ring_in, ring_rule, run_application, run_in, text_given};
 
-use crate::options::{is_given, number_found};
+use crate::options::{flag_option, is_given, number_found};
 use clap::builder::ValueParser;
 use clap::{Arg, ArgAction, ArgMatches, Command};
 use ring_run::Limits;
@@ -148,28 +148,6 @@ fn ring_option<'a>(alloc: Global) -> Arg<'a>
         .help("flicker or counter")
 }
 
-// The flag of the report.
-fn report_option<'a>(alloc: Global) -> Arg<'a>
-    ensures rule { rule_of result ≡ report_rule }
-    ensures local { result.global ≡ false }
-{
-    Arg::new(alloc, "report")
-        .long("report")
-        .action(ArgAction::SetTrue)
-        .help("Tell the calls, and the items a second")
-}
-
-// The flag of the recording.
-fn record_option<'a>(alloc: Global) -> Arg<'a>
-    ensures rule { rule_of result ≡ record_rule }
-    ensures local { result.global ≡ false }
-{
-    Arg::new(alloc, "record")
-        .long("record")
-        .action(ArgAction::SetTrue)
-        .help("Print a recording of the calls in place of the text")
-}
-
 /// The command.
 pub fn run_command<'a>(alloc: Global) -> Result<Command<'a>, AllocError>
     ensures made { IfOk result (λ command. app_of command ≡ run_application) }
@@ -195,9 +173,13 @@ pub fn run_command<'a>(alloc: Global) -> Result<Command<'a>, AllocError>
     let command = command.arg(batch)?;
     let ring = ring_option(alloc);
     let command = command.arg(ring)?;
-    let report = report_option(alloc);
+    let report = flag_option(alloc, "report", "Tell the calls, and the items a second");
     let command = command.arg(report)?;
-    let record = record_option(alloc);
+    let record = flag_option(
+        alloc,
+        "record",
+        "Print a recording of the calls in place of the text",
+    );
     let command = command.arg(record)?;
     Ok(command)
 }

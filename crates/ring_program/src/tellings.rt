@@ -5,11 +5,12 @@ ghost use Rattle.queue_calls.specs.Calls.{IsLinearizable};
 ghost use Rattle.queue_calls.specs.Lines.{AreSmall};
 ghost use Rattle.queue_calls.specs.Queue.{exactly};
 ghost use Rattle.queue_calls.specs.Recordings.{IsRecording, begun_after, text_of};
-ghost use Rattle.queue_calls.specs.Tellings.{line_of, numbers_in, offered_last};
+ghost use Rattle.queue_calls.specs.Tellings.{TellsSmall, line_of, numbers_in, offered_last};
 ghost use Rattle.queue_calls.specs.declared.recordings.Begun.{Begun};
 ghost use Rattle.queue_calls.specs.declared.recordings.Begun.TheVariants as begun;
 ghost use Rattle.ring_player.specs.Plays.{offered};
 ghost use Rattle.ring_player.specs.Tellings.{event_of, call_events};
+ghost use Rattle.ring_program.specs.Texts.{told_text_of};
 ghost use Rattle.ring_script.specs.Content.{Content};
 
 use crate::faults::AppFault;
@@ -87,6 +88,26 @@ fn push_told<A: Allocator, B: Allocator>(
     }
 }
 
+/// A line of the ring's capacity, and the lines of the begins and ends of calls that a play told.
+pub fn told_text<A: Allocator, B: Allocator>(
+    alloc: A,
+    script: &Script<B>,
+    told: &[Told],
+) -> Result<String<A>, AppFault>
+    ensures text { IfOk result (λ text. string_bytes text ≡ told_text_of script.now told.now) }
+    ensures small { OnOk result (TellsSmall (call_events script.now told.now)) }
+    ensures memory { IfErr result (λ e. e ≡ AppFault.OutOfMemory) }
+{
+    let mut text = String::new(alloc);
+    push_list(&mut text, Word::Queue.text(), &[script.shape().capacity()])?;
+    let mut offers = 0;
+    for event in told {
+        push_told(&mut text, script, offers, *event)?;
+        offers = offers_behind(script, offers, *event);
+    }
+    Ok(text)
+}
+
 /// The text of a recording of the calls that a play told, by a queue of the ring's capacity.
 pub fn calls_text<A: Allocator, B: Allocator>(
     alloc: A,
@@ -99,12 +120,6 @@ pub fn calls_text<A: Allocator, B: Allocator>(
 {
     linearizable_is_in_turn();
     history_has_a_recording();
-    let mut text = String::new(alloc);
-    push_list(&mut text, Word::Queue.text(), &[script.shape().capacity()])?;
-    let mut offers = 0;
-    for event in told {
-        push_told(&mut text, script, offers, *event)?;
-        offers = offers_behind(script, offers, *event);
-    }
-    Ok(text)
+    let _capacity = script.shape().capacity();
+    told_text(alloc, script, told)
 }

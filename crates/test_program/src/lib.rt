@@ -18,4 +18,8 @@ mod refusals;
 #[cfg(test)]
 mod runs;
 #[cfg(test)]
+mod whys;
+#[cfg(test)]
 mod words;
+#[cfg(test)]
+mod wrong_plays;

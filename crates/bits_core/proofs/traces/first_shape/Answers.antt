@@ -1,10 +1,10 @@
-use Rattle.std.proofs.Common.{refl, inl, sym}
+use Rattle.std.proofs.Common.{sym}
 use Rattle.bits_core.proofs.TraceLines.{shape_at-text, begins_numbers, bad_numbers}
 use Rattle.bits_core.proofs.TraceLemmas.{no_shape_read}
-use Rattle.bits_core.proofs.traces.read_shape.Goals as goal
+use Rattle.bits_core.proofs.traces.first_shape.Goals as goal
 
-pub returns-in_default-clause-refused : goal.returns-in_default-clause-refused
-returns-in_default-clause-refused c = inl (refl, no_shape_read c.args.bytes.now (sym c.in_default.ensures))
+pub returns-in_default-clause-read : goal.returns-in_default-clause-read
+returns-in_default-clause-read c = no_shape_read c.args.bytes.now (sym c.in_default.ensures)
 
 pub returns-in-Ok-clause-read : goal.returns-in-Ok-clause-read
 returns-in-Ok-clause-read c =

@@ -1,0 +1,66 @@
+use crate::expects::{expect_run_on, expect_runs};
+use std::test::Fail;
+
+const PLAIN: &str = "{\"capacity\":1,\"modulus\":3,\"width\":1,\"items\":[1],\"takes\":1,\"close\":false,\"schedule\":\"P5C10\",\"oracle\":\"\"}";
+
+const TRACE: &str = "shape 1 3 1\nP read r0\nP got r0 1\nP write s1 1\nP wrote s1\nP write s0 0\nC read s0\nC got s0 0\nC read s1\nC got s1 1\nC read c0.0\nC got c0.0 0\nC write r1 1\nC wrote r1\nC write r0 0\nC wrote r0\n";
+
+const CALLS: &str = "queue 1\nP put 1\nC take\nC item 0\n";
+
+const WRONG: &[&str] = &["lamport_ring", "play", "--wrong", "count-before-cell"];
+
+#[test]
+fn plays_a_script_by_a_near_miss(rt: HostRuntime) -> Result<(), Fail> {
+    for (option, out) in [("--trace", TRACE), ("--calls", CALLS)] {
+        let mut words = WRONG.to_vec(rt.alloc())?;
+        words.push(option)?;
+        let mut bytes = PLAIN.as_bytes();
+        expect_run_on(&rt, words.as_slice(), &mut bytes, 0, out, "");
+    }
+    Ok(())
+}
+
+// Words behind the program's name that do not go together.
+const CLASHES: [(&[&str], u8, &str, &str); 6] = [
+    (
+        &["play", "--wrong", "torus", "--calls"],
+        2,
+        "",
+        "error: no near miss is called 'torus': there are count-before-cell, no-second-scan, small-modulus, clears-first and clears-upwards\n\nFor more information, try '--help'.\n",
+    ),
+    (
+        &["play", "--wrong=small-modulus"],
+        2,
+        "",
+        "error: a play by a near miss prints its trace or its calls: --wrong goes with --trace or with --calls\n\nFor more information, try '--help'.\n",
+    ),
+    (
+        &["play", "--wrong", "small-modulus", "--calls", "--trace"],
+        2,
+        "",
+        "error: a play by a near miss prints its trace or its calls: --wrong goes with --trace or with --calls\n\nFor more information, try '--help'.\n",
+    ),
+    (
+        &["audit", "--why", "--calls"],
+        2,
+        "",
+        "error: --why goes with a trace that is kept, so neither with --long nor with --calls\n\nFor more information, try '--help'.\n",
+    ),
+    (
+        &["audit", "--bits", "--long", "--why"],
+        2,
+        "",
+        "error: --why goes with a trace that is kept, so neither with --long nor with --calls\n\nFor more information, try '--help'.\n",
+    ),
+    (
+        &["play", "--trace", "--calls"],
+        2,
+        "",
+        "error: a play prints a trace or its calls: --trace and --calls do not go together\n\nFor more information, try '--help'.\n",
+    ),
+];
+
+#[test]
+fn refuses_words_that_do_not_go_together(rt: HostRuntime) -> Result<(), Fail> {
+    expect_runs(&rt, &["lamport_ring"], &CLASHES)
+}
