@@ -28,3 +28,4 @@ pub mod MadeLemmas
 pub mod MarkLemmas
 pub mod OwnOpen
 pub mod SeenLemmas
+pub mod ReasonLemmas

@@ -74,10 +74,10 @@ fn marks_of(shape: &Shape, events: &[Event]) -> Option<Marks>
 {
     let mut marks = Marks::new();
     for (place, event) in events.iter().enumerate() {
-        if fault_of(shape, &marks, *event).is_some() {
-            return None;
+        match fault_of(shape, &marks, *event) {
+            Some(_) => return None,
+            None => marks.record(*event),
         }
-        marks.record(*event);
     }
     Some(marks)
 }

@@ -23,16 +23,7 @@ pub fn opening(side: Side, access: Option<Access>) -> Option<Event>
     ensures { (a : AnAccess) → access ≡ Some a → result ≡ Some (opening_event side a) }
 {
     match access {
-        Some(Access::Read(bit)) => Some(Event {
-            side,
-            bit,
-            act: Act::ReadBegin,
-        }),
-        Some(Access::Write(bit, value)) => Some(Event {
-            side,
-            bit,
-            act: Act::WriteBegin(value),
-        }),
+        Some(access) => Some(access.opening(side)),
         None => None,
     }
 }
