@@ -17,6 +17,8 @@ use crate::shapes::Shape;
 use std::fmt;
 
 /// What is wrong with an event. Where more than one kind applies, the first is told.
+///
+/// For example, it is printed as `not permitted`. In use: `uses::audits::is_lawful`, whose audit tells it.
 #[derive(Clone, Copy, PartialEq, Eq, Debug)]
 pub enum Kind {
     /// The bit is not in the shape, or the side is not its reader or writer, as this act needs.
@@ -64,6 +66,8 @@ impl fmt::Display for Kind {
 }
 
 /// What an audit tells of a history.
+///
+/// In use: `uses::audits::is_lawful`.
 #[derive(Clone, Copy, PartialEq, Eq, Debug)]
 pub enum Verdict {
     /// The history is lawful.
@@ -73,6 +77,9 @@ pub enum Verdict {
 }
 
 /// What an event of a lawful history finds and leaves.
+///
+/// For example, at `C got s0 0` during a write of s0 it is `overlapped`. In use: the page, which draws what was
+/// seen.
 #[derive(Clone, Copy, PartialEq, Eq, Debug)]
 pub struct Seen {
     /// What the event's bit holds just after the event: the value of the last write of it that
@@ -154,6 +161,9 @@ pub fn fault_of(shape: &Shape, marks: &Marks, event: Event) -> Option<Kind>
 }
 
 /// The audit of [`audit_bits`], of events that come one by one. It takes no memory, however many they are.
+///
+/// For example, a new one of the shape `1 3 1` hears `P write s1 1`, and refuses `C got s1 0` behind it as
+/// `OutOfTurn`: C has no read open.
 #[derive(Drop)]
 pub struct BitAuditor {
     shape: Shape,
@@ -201,6 +211,8 @@ impl BitAuditor {
 /// change the bit; any other read answers the value that the bit held where the read began. An
 /// access may be open at the end. It goes through the events once, takes no memory, and serves a
 /// slice of any length.
+///
+/// In use: `uses::audits::is_lawful`.
 pub fn audit_bits(shape: &Shape, events: &[Event]) -> Verdict
     ensures verdict { IsVerdict shape.now events.now result }
     ensures lawful { (result ≡ Verdict.Lawful) ↔ IsLawful shape.now events.now }
@@ -253,6 +265,8 @@ fn tell(seen: &mut [Seen], place: usize, found: Seen)
 /// The audit of [`audit_bits`], which also tells what is seen at each event before the first that is
 /// at fault, or at each event where none is: in the order of the events, for as many as there is
 /// room for. The rest of the room stays as it was. It takes no memory.
+///
+/// In use: the page, which has room for so many events and no allocator.
 pub fn audit_bits_into(shape: &Shape, events: &[Event], seen: &mut [Seen]) -> Verdict
     ensures verdict { IsVerdict shape.now events.now result }
     ensures seen { AreSeen events.now (sound_count events.now result) seen.old seen.new }

@@ -1,6 +1,8 @@
 //! Sides, bits, and the events of a history.
 
 /// The two users of the bits: the producer `P` and the consumer `C`.
+///
+/// For example, `Bit::X` is written by `Side::P` and read by `Side::C`.
 #[derive(Clone, Copy, PartialEq, Eq, Debug)]
 pub enum Side {
     P,
@@ -12,6 +14,8 @@ pub enum Side {
 /// Each bit has one writer and one reader. `S(i)` and `X` are written by the producer and read by
 /// the consumer, and so is each `Cell(j, i)`; `R(i)` is written by the consumer and read by the
 /// producer. At first `S(0)` and `R(0)` are 1, and all other bits are 0.
+///
+/// For example, in a trace `Bit::S(1)` is `s1`, and `Bit::Cell(0, 2)`, digit 2 of cell 0, is `c0.2`.
 #[derive(Clone, Copy, PartialEq, Eq, Debug)]
 pub enum Bit {
     /// Bit `i` of the producer's count.
@@ -60,6 +64,9 @@ impl Bit {
 }
 
 /// What an event does to its bit.
+///
+/// For example, in a trace `WriteBegin(true)` is `write` with the value `1`, `ReadEnd(false)` is `got` with the
+/// answer `0`.
 #[derive(Clone, Copy, PartialEq, Eq, Debug)]
 pub enum Act {
     /// A read begins.
@@ -73,6 +80,8 @@ pub enum Act {
 }
 
 /// The begin or the end of one access to one bit by one side.
+///
+/// For example, `C got s1 0` in a trace is `Event { side: Side::C, bit: Bit::S(1), act: Act::ReadEnd(false) }`.
 #[derive(Clone, Copy, PartialEq, Eq, Debug)]
 pub struct Event {
     pub side: Side,
@@ -81,6 +90,8 @@ pub struct Event {
 }
 
 /// What an access does: it reads a bit, or writes a value to it.
+///
+/// For example, `Access::Write(Bit::S(1), true).opening(Side::P)` is the event `P write s1 1`.
 #[derive(Clone, Copy, PartialEq, Eq, Debug)]
 pub enum Access {
     Read(Bit),

@@ -20,6 +20,8 @@ use std::marker::Model;
 use thiserror::Error;
 
 /// Why a memory made no event.
+///
+/// In use: `uses::by_hand::step_producer`.
 #[derive(Clone, Copy, PartialEq, Eq, Debug, Error)]
 pub enum MemoryFault {
     /// Memory for the history ran out.
@@ -56,6 +58,8 @@ impl<T: Drop> From<AllocFailed<T>> for MemoryFault {
 /// whatever an oracle says; any other read answers the value that the bit held where the read
 /// began. Each history that a memory makes is lawful. What a bit holds and every overlap it knows from
 /// marks, which it keeps up event by event. The history is kept in a store of the caller's choice.
+///
+/// In use: `uses::by_hand::put_by_hand`.
 #[derive(Drop)]
 pub struct Memory<S: Store<Event>> {
     shape: Shape,

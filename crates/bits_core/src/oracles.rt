@@ -4,6 +4,8 @@ ghost use Rattle.std.specs.Prelude.{◌≡◌, ℕ, ◌+◌, ◌%◌, ◌==◌, 
 /// A source of answers for reads that a write overlaps.
 ///
 /// Its meaning is the sequence of its answers from now on, number 0 first.
+///
+/// In use: `uses::oracles::Minstd`.
 pub trait Oracle {
     /// Answer number i from now.
     ghost answers: { Self → ℕ → Bool };
@@ -15,6 +17,8 @@ pub trait Oracle {
 }
 
 /// Always gives the same answer.
+///
+/// For example, `Always(true)` has each overlapped read answer 1.
 #[derive(Clone, Copy, PartialEq, Eq, Debug)]
 pub struct Always(pub bool);
 
@@ -27,6 +31,8 @@ impl Oracle for Always {
 }
 
 /// Gives 0, 1, 0, 1 and so on.
+///
+/// In use: `uses::steps` and the tests of `test_uses`.
 #[derive(Clone, Copy, PartialEq, Eq, Debug)]
 pub struct Flip {
     next: bool,
@@ -64,6 +70,8 @@ impl Oracle for Flip {
 
 /// Gives the answers of a list in turn, and begins again at its end. Without an answer in its list
 /// it gives 0 always.
+///
+/// For example, a tape of the answers 0 and 1 gives 0, 1, 0, 1, as `Flip` does.
 #[derive(Clone, Copy, Debug)]
 pub struct Tape<'a> {
     answers: &'a [bool],

@@ -15,6 +15,9 @@ use crate::marks::{Marks, same_bit};
 use crate::shapes::Shape;
 
 /// Why an event may not follow the events before it. Places are counted from 0.
+///
+/// For example, `Held { value: true, since: None, begun: 0 }` where the first event began a read of s0, which holds
+/// 1 from the start, and the next says that it answered 0.
 #[derive(Clone, Copy, PartialEq, Eq, Debug)]
 pub enum Reason {
     /// The bit is not in the shape.
@@ -134,6 +137,8 @@ fn answer_reason(shape: &Shape, marks: &Marks, past: &[Event], event: Event) -> 
 ///
 /// Where an audit tells a fault at a place, other than `NotProgram`, the events before that place are to be passed, and
 /// the event there. It goes over them at most three times and takes no memory.
+///
+/// In use: `lamport_ring audit --why`, which prints it.
 pub fn reason_behind(shape: &Shape, past: &[Event], event: Event) -> Option<Reason>
     ensures none { result ≡ None → IsLawful shape.now past.now → MayFollow shape.now past.now event }
     ensures reason { IfSome result (λ reason. IsLawful shape.now past.now × (¬ MayFollow shape.now past.now event) × IsReasonBehind shape.now past.now event reason) }

@@ -5,6 +5,9 @@ use crate::events::Bit;
 use thiserror::Error;
 
 /// Why numbers are no shape.
+///
+/// For example, `Shape::new(1, 2, 1)` is refused by `ShapeFault::Modulus`: with one cell a count needs three
+/// values.
 #[derive(Clone, Copy, PartialEq, Eq, Debug, Error)]
 pub enum ShapeFault {
     #[error("capacity must be from 1 to 64")]
@@ -38,6 +41,8 @@ impl ShapeFault {
 ///
 /// The counts run modulo a number above the capacity and the batch together, so that a count that is read
 /// while it is being written can still be told from all others that may be read then.
+///
+/// In use: `uses::two_threads::pass_through`.
 #[derive(Clone, Copy, PartialEq, Eq, Debug)]
 pub struct Shape {
     capacity: u64,

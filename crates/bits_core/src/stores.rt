@@ -5,6 +5,8 @@ use std::alloc::{AllocError, Allocator};
 use std::fmt;
 
 /// A list that grows at its end: a `Vec`, or the front of a slice of the caller's.
+///
+/// In use: `uses::by_hand::put_by_hand`.
 pub trait Store<T>: Drop {
     ghost use Rattle.std.specs.Prelude.{◌≡◌, ◌≤◌, ℕ, List, [], ◌∷◌, ◌++◌, OnErr, OnOk, length};
 
@@ -74,6 +76,8 @@ impl<T: Drop, A: Allocator> Store<T> for Vec<T, A> {
 /// A list in a slice of the caller's: its first slots hold the items, and it is counted how many.
 ///
 /// It takes no memory. There is room as long as a slot is left; `AllocError` tells that none is.
+///
+/// In use: the page, whose events lie in its own memory.
 #[derive(Drop)]
 pub struct Filled<'a, T: Copy> {
     slots: &'a mut [T],

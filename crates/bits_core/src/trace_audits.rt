@@ -155,6 +155,9 @@ fn read_lines<'a>(hearing: &mut Option<Hearing>, bytes: &'a [u8]) -> Result<&'a 
 ///
 /// The text comes in pieces, cut anywhere, and neither it nor its events are kept. No memory is taken. A piece takes time linear
 /// in its bytes.
+///
+/// In use: `lamport_ring audit --bits --long`. `uses::findings::found_in` reads a recording of calls in pieces in
+/// the same way.
 #[derive(Drop)]
 pub struct TraceAudit {
     // nothing before the first line

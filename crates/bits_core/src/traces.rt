@@ -12,9 +12,13 @@ use std::alloc::{AllocError, AllocFailed, Allocator};
 use thiserror::Error;
 
 /// The most events that a trace may have.
+///
+/// For example, `lamport_ring audit` refuses a trace of one event more as `trace has too many events`.
 pub const EVENT_LIMIT: usize = 1_000_000;
 
 /// Why bytes are no trace.
+///
+/// For example, it is printed as `trace line 3 is not a line of the format`.
 #[derive(Clone, Copy, PartialEq, Eq, Debug, Error)]
 pub enum TraceFault {
     /// The numbers of line 1 are no shape.
@@ -141,6 +145,8 @@ fn read_lines<S: Store<Event>>(store: &mut S, bytes: &[u8]) -> Result<Shape, Tra
 /// unfinished, not of its form, or names a bit that is not in the shape. Neither sides nor turns
 /// are looked at: that is the audit's work. Memory is wanted for the events alone, and want of it
 /// is told where a growth was refused.
+///
+/// For example, the text `shape 1 3 1` with its line feed is a trace of no event.
 pub fn read_trace<A: Allocator>(
     alloc: A,
     bytes: &[u8],
@@ -175,6 +181,8 @@ fn read_filled(filled: &mut Filled<'_, Event>, bytes: &[u8]) -> Result<Shape, Tr
 ///
 /// `OutOfMemory` tells that the slice has no slot left for an event whose line is right. Whatever
 /// fault is told, the first slots may hold the events of the lines before it.
+///
+/// In use: the page, which reads into slots of its own.
 pub fn read_trace_into(bytes: &[u8], events: &mut [Event]) -> Result<(Shape, usize), TraceFault>
     // What is read is a trace.
     ensures read { IfOk result (λ trace. IsTrace bytes.now trace.0 (take trace.1 events.new)) }

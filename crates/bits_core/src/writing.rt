@@ -81,6 +81,8 @@ fn push_bit<A: Allocator>(text: &mut String<A>, bit: Bit) -> Result<(), TraceFau
 /// Adds the line of an event behind a text, as `P write c0.1 1` and a line feed.
 ///
 /// The only fault is `OutOfMemory`; a front of the line may have been added then.
+///
+/// In use: `lamport_ring audit --why`, which prints the events that were due.
 pub fn push_event<A: Allocator>(text: &mut String<A>, event: Event) -> Result<(), TraceFault>
     ensures ok { OnOk result (string_bytes text.new ≡ string_bytes text.old ++ event_line event) }
     ensures err { IfErr result (λ e. e ≡ TraceFault.OutOfMemory) }
@@ -132,6 +134,8 @@ fn push_shape<A: Allocator>(text: &mut String<A>, shape: &Shape) -> Result<(), T
 ///
 /// The only fault is `OutOfMemory`. A text of at most `EVENT_LIMIT` events is read again as this
 /// shape and these events, and the text that is written for what was read is the text that was read.
+///
+/// In use: `lamport_ring play --trace`.
 pub fn write_trace<A: Allocator>(
     alloc: A,
     shape: &Shape,

@@ -6,6 +6,8 @@ ghost use Rattle.near_misses.specs.Misses.{miss_name, miss_named, near_modulus};
 use bits_core::Shape;
 
 /// A ring that is nearly right. Both sides break the same rule, where it is one of both.
+///
+/// For example, `NearMiss::named("no-second-scan")`. In use: `lamport_ring play --wrong`.
 #[derive(Clone, Copy, PartialEq, Eq, Debug)]
 pub enum NearMiss {
     /// A put writes its count, and then the item's cell. So a consumer that reads the new count may read the cell too soon.

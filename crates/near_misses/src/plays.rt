@@ -15,6 +15,8 @@ use std::alloc::{AllocError, AllocFailed, Allocator};
 use thiserror::Error;
 
 /// Why a script was not played.
+///
+/// In use: `lamport_ring play --wrong`.
 #[derive(Clone, Copy, PartialEq, Eq, Debug, Error)]
 pub enum NearFault {
     /// Memory ran out.
@@ -41,6 +43,8 @@ impl From<MemoryFault> for NearFault {
 }
 
 /// What was played: the history of the bits, and the begins and ends of the calls.
+///
+/// In use: `lamport_ring play --wrong`.
 #[derive(Drop)]
 pub struct NearPlay<A: Allocator> {
     pub history: Vec<Event, A>,
@@ -186,6 +190,8 @@ impl<A: Allocator> NearWorld<'_, A> {
 /// bits makes it; of the items put and taken nothing is promised.
 ///
 /// `OutOfMemory` tells that memory ran out.
+///
+/// In use: `lamport_ring play --wrong`.
 pub fn play_near<A: Allocator + Copy, B: Allocator>(
     alloc: A,
     miss: NearMiss,

@@ -21,6 +21,8 @@ use std::collections::VecDeque;
 ///
 /// An event takes constant time, amortized, for each item that it tells, and the memory is that of the
 /// items inside and of those offered by the put under way.
+///
+/// In use: `uses::calls::first_at_fault`.
 #[derive(Drop)]
 pub struct CallAuditor<A: Allocator> {
     capacity: Capacity,

@@ -3,6 +3,9 @@ ghost use Rattle.std.specs.Prelude.{◌≡◌};
 ghost use Rattle.queue_calls.specs.declared.capacities.Capacity.TheVariants.{Between};
 
 /// How many items a queue may hold.
+///
+/// For example, `exactly(8)` is what `queue 8` tells in a recording; `queue 2 4` tells a queue that may call itself
+/// full from 2 items on, and holds at most 4.
 #[derive(Clone, Copy, PartialEq, Eq, Debug)]
 pub enum Capacity {
     /// Any number: it never lacks room.
@@ -13,6 +16,8 @@ pub enum Capacity {
 }
 
 /// The capacity of a queue that holds just so many items.
+///
+/// In use: `uses::calls::first_at_fault`.
 pub fn exactly(capacity: usize) -> Capacity
     ensures { result ≡ Between capacity capacity }
 {

@@ -5,6 +5,9 @@ use std::fmt;
 ///
 /// Lines are counted from 1. An item is told with the line that began its put (`offered_at`), ended it (`stored_at`) or
 /// ended its take (`taken_at`).
+///
+/// For example, it is printed as `empty, but item 1 was inside since line 3`. In use:
+/// `uses::findings::line_at_fault`.
 #[derive(Clone, Copy, PartialEq, Eq, Debug)]
 pub enum Cause {
     /// Items were stored by a put that began after a close had ended.

@@ -1,6 +1,9 @@
 //! The events of a history.
 
 /// An event of a history of calls: a call begins, or it ends with an answer.
+///
+/// For example, `Event::PutBegins(&[5, 6])` is what `P put 5 6` tells in a recording. In use:
+/// `uses::calls::first_at_fault`.
 #[derive(Clone, Copy)]
 pub enum Event<'a> {
     /// A put of these items begins.

@@ -2,6 +2,8 @@
 use thiserror::Error;
 
 /// Why an auditor refuses an event.
+///
+/// In use: `uses::calls::first_at_fault`.
 #[derive(Clone, Copy, PartialEq, Eq, Debug, Error)]
 pub enum Fault {
     /// A call begins while one of its side is under way, or a call ends that is not under way.

@@ -1,4 +1,10 @@
-//! What follows of the queue and of histories of its calls.
+//! What follows of the queue and of histories of its calls. Each law is the contract of a function that does nothing: a body
+//! that calls it has the statement at hand in its proof.
+//!
+//! - `moments_are_orders`, `counts_are_exact`, `counted_is_linearizable`: linearizable said in three ways. For who proves that
+//!   calls of his own queue are linearizable: the rules of counting need neither moments nor an order to be found.
+//! - `beginning_is_linearizable`, `linearizable_is_in_turn`, `operations_lead_one_way`: for who reads a finding.
+//! - `history_has_a_recording` and the laws of the text: for who writes recordings.
 ghost use Rattle.queue_calls.specs.RecordingLaws.{RecordingHasNoBadLine, RecordingIsOne};
 ghost use Rattle.queue_calls.specs.Counting.{CountedIsLinearizable, CountsAreExact};
 ghost use Rattle.queue_calls.specs.Tellings.{HistoryHasARecording, LinearizableIsInTurn};

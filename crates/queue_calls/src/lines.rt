@@ -6,6 +6,8 @@ ghost use Rattle.queue_calls.specs.LineReading.{ReadsNumbers, bytes_behind, digi
 use std::alloc::{AllocError, Allocator};
 
 /// The words that a line of a recording begins with.
+///
+/// For example, `Word::Put.text()` is `P put`.
 #[derive(Clone, Copy, PartialEq, Eq, Debug)]
 pub enum Word {
     /// `queue`: what queue it is.

@@ -9,6 +9,9 @@ use std::alloc::{AllocError, Allocator};
 use std::collections::VecDeque;
 
 /// How many of the items taken last are looked through for one that comes again.
+///
+/// For example, where so many others were taken in between, an item that comes again is told as one that was not
+/// put.
 pub const TAKEN_LIMIT: usize = 65_536;
 
 // An item that was offered and not taken, with the lines that began and ended its put; the latter is 0 until it comes.

@@ -22,6 +22,8 @@ use std::alloc::{AllocError, Allocator};
 use thiserror::Error;
 
 /// What is found of a recording.
+///
+/// In use: `uses::findings::line_at_fault`.
 #[derive(Clone, Copy, PartialEq, Eq, Debug)]
 pub enum CallsFinding {
     /// The history is linearizable.
@@ -34,6 +36,8 @@ pub enum CallsFinding {
 }
 
 /// Why bytes are no recording.
+///
+/// In use: `uses::findings::found_in`.
 #[derive(Clone, Copy, PartialEq, Eq, Debug, Error)]
 pub enum RecordingFault {
     /// This line, counted from 1, is missing or unfinished, or not of the format.
@@ -254,6 +258,8 @@ impl<A: Allocator + Copy> Lines<A> {
 ///
 /// The text comes in pieces, cut anywhere, and is not kept: the memory is that of the items inside, of the longest line and of
 /// the last [`TAKEN_LIMIT`](crate::TAKEN_LIMIT) items taken. A piece takes time linear in its bytes.
+///
+/// In use: `uses::findings::found_in`.
 #[derive(Drop)]
 pub struct Recording<A: Allocator> {
     lines: Lines<A>,

@@ -3,6 +3,8 @@
 /// What is told of a history that is linearizable: how much of what an author wanted to try it has reached.
 ///
 /// Numbers past the largest stay at the largest.
+///
+/// In use: `uses::findings::found_in`.
 #[derive(Clone, Copy, PartialEq, Eq, Debug)]
 pub struct Report {
     /// Calls that have begun.

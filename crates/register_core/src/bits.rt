@@ -7,6 +7,8 @@ use bits_core::{Access, Bit};
 use std::marker::Model;
 
 /// Writes values to a bit: one write where the value changes, and none where it does not. It remembers the bit.
+///
+/// In use: `ring_core::Producer` closes with one, the bit `X`.
 #[derive(Clone, Debug, Drop)]
 pub struct BitWriter {
     bit: Bit,

@@ -1,4 +1,6 @@
-//! What reads of registers can answer in a lawful history, whatever overlapped safe bits answer.
+//! What reads of registers can answer in a lawful history, whatever overlapped safe bits answer. Each law is the contract of a
+//! function that does nothing: a body that calls it has the statement at hand in its proof. For who builds something else than
+//! a ring from a word, a bit or a unary count.
 ghost use Rattle.register_core.specs.BitLaw.{BitIsRegular};
 ghost use Rattle.register_core.specs.MadeWrites.{CellWritesAreMade, CountWritesAreMade, BitWritesAreMade, WordsWrite, CountsWrite, PartsWrite, BitsWrite};
 ghost use Rattle.register_core.specs.MadeReads.{ScansAreMade, ZerosAreMade, WordReadsAreMade};

@@ -7,6 +7,9 @@ use bits_core::{Access, Bit, Shape, Side};
 use std::marker::Model;
 
 /// Reads the bits of the other side's count from number 0 upwards, until one answers 1.
+///
+/// For example, with s0 clear and s1 set it reads s0, then s1, and gives 1. In use: each put and take of
+/// `ring_core` begins with one.
 #[derive(Clone, Copy, Debug)]
 pub struct UnaryScan {
     modulus: u64,

@@ -11,6 +11,8 @@ use std::marker::Model;
 
 /// Writes values to a side's own count: it sets the value's bit where that is clear, and then clears
 /// the set bits below it, from the highest down. It remembers the bits.
+///
+/// For example, from 1 to 2 it sets s2 and clears s1. In use: the own count of `ring_core::Producer`.
 #[derive(Clone, Debug, Drop)]
 pub struct UnaryWriter {
     side: Side,

@@ -9,6 +9,8 @@ use bits_core::{Access, Bit, Shape};
 use std::marker::Model;
 
 /// Writes an item to a cell, every digit from number 0 upwards, whether it changes or not.
+///
+/// For example, of item 5 and three digits it writes 1, 0 and 1. In use: a put of `ring_core::Producer`.
 #[derive(Clone, Copy, Debug)]
 pub struct WordWriter {
     width: u64,
@@ -84,6 +86,8 @@ impl WordWriter {
 }
 
 /// Reads an item from a cell, every digit from number 0 upwards.
+///
+/// For example, of three digits that answer 1, 0 and 1 it makes 5. In use: a take of `ring_core::Consumer`.
 #[derive(Clone, Copy, Debug)]
 pub struct WordReader {
     width: u64,

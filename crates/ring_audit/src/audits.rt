@@ -15,6 +15,8 @@ use ring_core::laws::{closed_stays, ring_is_linearizable, ring_law};
 use std::alloc::Allocator;
 
 /// What an audit finds.
+///
+/// In use: `uses::findings::left_inside`.
 #[derive(Drop)]
 pub enum Finding<A: Allocator> {
     /// The history is lawful and both sides follow their programs, by which these items were put and
@@ -32,6 +34,8 @@ pub enum Finding<A: Allocator> {
 }
 
 /// What an audit finds, where the items lie in the first slots of two slices of the caller's.
+///
+/// In use: the page, which has no allocator.
 #[derive(Clone, Copy, PartialEq, Eq, Debug)]
 pub enum Found {
     /// The history is lawful and both sides follow their programs, by which so many items were put and
@@ -163,6 +167,8 @@ fn lawful_length(shape: &Shape, events: &[Event], verdict: Verdict) -> usize
 /// linearizable.
 ///
 /// It goes over the events once, takes memory for the two lists alone, and tells `OutOfMemory` where a growth was refused.
+///
+/// In use: `uses::audits::is_of_ring`.
 pub fn audit<A: Allocator + Copy>(
     alloc: A,
     shape: &Shape,
@@ -239,6 +245,8 @@ fn find_filled<'a>(
 /// in each as there are events are always enough.
 ///
 /// The first slots may hold items whatever is told: after a fault those of the events before it.
+///
+/// In use: the page, which has no allocator.
 pub fn audit_into(
     shape: &Shape,
     events: &[Event],

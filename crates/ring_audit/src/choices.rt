@@ -11,6 +11,8 @@ ghost use Rattle.ring_audit.specs.Sides.{EndsSo};
 use bits_core::{Access, Act, Event, Side};
 
 /// The events of a side that are due: at most three.
+///
+/// In use: `lamport_ring audit --why`, which prints them.
 #[derive(Clone, Copy, PartialEq, Eq, Debug)]
 pub struct Dues {
     pub first: Option<Event>,

@@ -136,6 +136,9 @@ fn candidates(shape: &Shape, events: &[Event], side: Side) -> Dues
 /// Said of the programs alone: whether the bits permit the answer of a read is the audit's to say. Where an audit
 /// tells `NotProgram` at a place, the events before that place are to be passed. It goes over them at most four
 /// times and takes no memory.
+///
+/// For example, behind no event they are `P read r0`, the begin of a put, and `P write x 1`, that of the close. In
+/// use: `lamport_ring audit --why`.
 pub fn due_behind(shape: &Shape, events: &[Event], side: Side) -> Dues
     ensures { (e : AnEvent) → IsDueOf result e ↔ ((e.side ≡ side) × GoesOnBehind shape.now events.now e) }
 {

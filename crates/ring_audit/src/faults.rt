@@ -5,6 +5,8 @@ use std::alloc::{AllocError, AllocFailed};
 use thiserror::Error;
 
 /// Why an audit gave no finding.
+///
+/// In use: `uses::audits::is_of_ring`.
 #[derive(Clone, Copy, PartialEq, Eq, Debug, Error)]
 pub enum AuditFault {
     /// Memory for the lists of a finding ran out, or the slots for them did.

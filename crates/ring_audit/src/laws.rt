@@ -1,4 +1,5 @@
-//! What holds of every finding. Each law is the contract of a function that does nothing.
+//! What holds of every finding. The law is the contract of a function that does nothing: a body that calls it has the statement
+//! at hand in its proof. For who compares two findings of one history.
 ghost use Rattle.ring_audit.specs.Audit.{OneFinding};
 
 use bits_core::laws::{beginning_is_lawful, fault_breaks, one_verdict};

@@ -11,6 +11,8 @@ use std::marker::Model;
 use std::snapshot::Snapshot;
 
 /// What a take was answered.
+///
+/// In use: `uses::steps::take_amid_put`.
 #[derive(Clone, Copy, PartialEq, Eq, Debug)]
 pub enum TakeReply {
     /// This item was taken.
@@ -33,6 +35,8 @@ enum Stage {
 }
 
 /// The side that takes items (Lamport 1977): it tells the accesses of its takes one by one. It takes no memory.
+///
+/// In use: as its counterpart, the producer, is in `uses::by_hand`.
 #[derive(Clone, Debug, Drop)]
 pub struct Consumer {
     shape: Shape,
@@ -326,6 +330,8 @@ impl Consumer {
 ///
 /// Its reads stand one behind the other, so a caller makes them in a loop of its own, with no look at how far the
 /// take has come.
+///
+/// In use: a take of `ring_run`, whose scans are loops of loads.
 #[derive(Drop)]
 pub struct TakeScan {
     scan: UnaryScan,
@@ -393,6 +399,8 @@ impl TakeScan {
 ///
 /// Its reads stand one behind the other, so a caller makes them in a loop of its own, with no look at how far the
 /// take has come.
+///
+/// In use: a take of `ring_run`.
 #[derive(Drop)]
 pub struct TakeWord {
     word: WordReader,

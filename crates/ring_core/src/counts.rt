@@ -6,6 +6,8 @@ ghost use Rattle.ring_core.specs.Counts as counts;
 use bits_core::Shape;
 
 /// How far `a` is ahead of `b` modulo a modulus above both. It is below the modulus.
+///
+/// For example, `distance(0, 2, 3)` is 1: from 2 the next count modulo 3 is 0.
 #[inline(always)]
 pub fn distance(a: u64, b: u64, modulus: u64) -> u64
     requires a { a < modulus }
@@ -18,6 +20,9 @@ pub fn distance(a: u64, b: u64, modulus: u64) -> u64
 
 /// Whether the producer's count `c` shows an item to a consumer that has taken `k`: `c` is 1 to the
 /// capacity ahead of it. Both are below the modulus.
+///
+/// For example, with one cell and counts modulo 3, the count 0 shows no item to a consumer that has taken 1: it is
+/// two ahead, and so an old one.
 #[inline(always)]
 pub fn has_item(shape: &Shape, c: u64, k: u64) -> bool
     requires c { c < modulus_of shape.now }
@@ -30,6 +35,9 @@ pub fn has_item(shape: &Shape, c: u64, k: u64) -> bool
 
 /// Whether the consumer's count `d` leaves room to a producer that has put `n`: it is less than the
 /// capacity ahead of `d`. Both are below the modulus.
+///
+/// For example, with one cell and counts modulo 3, a producer that has put 1 finds no room where it sees the count
+/// 0.
 #[inline(always)]
 pub fn has_room(shape: &Shape, n: u64, d: u64) -> bool
     requires n { n < modulus_of shape.now }

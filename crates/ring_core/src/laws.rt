@@ -1,4 +1,9 @@
-//! The law of the ring, and what the programs of its two sides say of their accesses.
+//! The law of the ring, and what the programs of its two sides say of their accesses. Each law is the contract of a function that
+//! does nothing: a body that calls it has the statement at hand in its proof.
+//!
+//! - `ring_law`, `ring_is_linearizable`, `recorded_is_linearizable`: of every run. With `puts_are_read`, `takes_are_read` and
+//!   `whole_calls_count` an author who drives the two ends gets from them what came through: `uses::two_threads`.
+//! - The laws of programs, as `last_bit_is_one`: for who drives a machine, as `uses::by_hand` does.
 ghost use Rattle.ring_core.specs.CountWrites.{CountsAreWritten, CountsShowNumbers};
 ghost use Rattle.ring_core.specs.Following.{PutsAreFollowed, TakesAreFollowed};
 ghost use Rattle.ring_core.specs.GoingOn.{LastPutsReadOne, LastTakesReadOne, PutsGoOnByOne, TakesGoOnAlike, TakesGoOnByOne};

@@ -13,6 +13,8 @@ use std::marker::Model;
 use std::snapshot::Snapshot;
 
 /// What a put was answered.
+///
+/// In use: `uses::by_hand::put_by_hand`.
 #[derive(Clone, Copy, PartialEq, Eq, Debug)]
 pub enum PutReply {
     /// The item was stored.
@@ -24,6 +26,8 @@ pub enum PutReply {
 }
 
 /// What a put of several items was answered.
+///
+/// In use: `uses::batches::put_batch`.
 #[derive(Clone, Copy, PartialEq, Eq, Debug)]
 pub enum BatchReply {
     /// So many items were stored, from the first on.
@@ -74,6 +78,8 @@ enum Stage {
 }
 
 /// The side that puts items (Lamport 1977): it tells the accesses of its calls one by one. It takes no memory.
+///
+/// In use: `uses::by_hand::step_producer`.
 #[derive(Clone, Debug, Drop)]
 pub struct Producer {
     shape: Shape,
@@ -429,6 +435,8 @@ impl Producer {
 ///
 /// Its reads stand one behind the other, so a caller makes them in a loop of its own, with no look at how far the
 /// call has come.
+///
+/// In use: a put of `ring_run`, whose scans are loops of loads.
 #[derive(Drop)]
 pub struct PutScan {
     scan: UnaryScan,
@@ -494,6 +502,8 @@ impl PutScan {
 ///
 /// Its writes stand one behind the other, so a caller makes them in a loop of its own, with no look at how far the
 /// call has come.
+///
+/// In use: a put of `ring_run`.
 #[derive(Drop)]
 pub struct PutWord {
     word: WordWriter,

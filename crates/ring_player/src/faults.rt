@@ -6,6 +6,8 @@ use std::alloc::AllocError;
 use thiserror::Error;
 
 /// Why a play made no event.
+///
+/// In use: `uses::plays::takes_of`.
 #[derive(Clone, Copy, PartialEq, Eq, Debug, Error)]
 pub enum PlayFault {
     /// Memory ran out.

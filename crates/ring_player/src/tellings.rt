@@ -19,6 +19,8 @@ use ring_script::Script;
 use std::alloc::{AllocError, Allocator};
 
 /// What an event of a play tells of a call: it begins, with its first own event, or it ends, with its last.
+///
+/// For example, `Told::TakeItem(5)` is what `C item 5` tells in a recording.
 #[derive(Clone, Copy, PartialEq, Eq, Debug)]
 pub enum Told {
     /// A put begins, behind so many stored items of the script. It is offered those that follow, as many as a batch may have.
@@ -310,6 +312,8 @@ fn repeat_told<E: Store<Event>, T: Store<u64>, A: Allocator>(
 /// ring's capacity.
 ///
 /// `OutOfMemory` tells that memory ran out.
+///
+/// In use: `lamport_ring play --calls`.
 pub fn play_calls<A: Allocator + Copy, B: Allocator>(
     alloc: A,
     script: &Script<B>,

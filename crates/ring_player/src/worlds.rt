@@ -29,6 +29,8 @@ use std::marker::Model;
 
 /// The two sides of a script at work on one memory. The history and the items taken are kept in stores of the
 /// caller's choice.
+///
+/// For example, [`play`] makes a new one, and one step for each letter.
 #[derive(Drop)]
 pub struct World<'a, E: Store<Event>, T: Store<u64>> {
     script: ScriptRef<'a>,
@@ -330,6 +332,8 @@ fn run_first<E: Store<Event>, T: Store<u64>>(
 /// What was played: the history; the items put, which are the script's; the items taken; whether a take was told that
 /// the ring is closed; how many puts ended that found the ring full, and takes that found it empty; and how many reads
 /// ended that a write overlapped.
+///
+/// In use: `uses::plays::left_inside`.
 #[derive(Debug, Drop)]
 pub struct Report<'a, E: Store<Event>, T: Store<u64>> {
     pub history: E,
@@ -342,6 +346,8 @@ pub struct Report<'a, E: Store<Event>, T: Store<u64>> {
 }
 
 /// Plays a script: a new world, one step for each letter of its schedule, and its report.
+///
+/// In use: `uses::plays::takes_of`.
 pub fn play<'a, A: Allocator + Copy, B: Allocator>(
     alloc: A,
     script: &'a Script<B>,
@@ -364,6 +370,8 @@ pub fn play<'a, A: Allocator + Copy, B: Allocator>(
 ///
 /// `OutOfMemory` tells that one of the stores had no room: the history for an event, or the items taken for one item
 /// more, which is wanted wherever an access of the consumer ends.
+///
+/// In use: the page, which shows a play up to a letter.
 pub fn play_first<'a, E: Store<Event>, T: Store<u64>>(
     script: ScriptRef<'a>,
     letters: u64,

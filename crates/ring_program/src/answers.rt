@@ -80,11 +80,15 @@ impl<W: Write> Write for Unretried<'_, W> {
 }
 
 /// Writes the text on the standard error, and ignores a fault of it.
+///
+/// In use: `lamport_ring`, for words that are no text.
 pub fn complain<E: Write, D: Display + Drop>(err: &mut E, text: D) {
     let _ = Unretried { inner: err }.write_fmt(text);
 }
 
 /// Says why the program refuses, and gives its exit status.
+///
+/// In use: `lamport_ring`.
 pub fn refuse<E: Write>(refusal: Refusal, err: &mut E) -> u8
     ensures { result ≡ 1 }
 {

@@ -11,6 +11,8 @@ use std::alloc::AllocError;
 use thiserror::Error;
 
 /// A fault of the program's surroundings.
+///
+/// For example, it is printed as `input is too large`.
 #[derive(Clone, Copy, Debug, PartialEq, Eq, Error)]
 pub enum AppFault {
     /// A read of the input failed.
@@ -54,6 +56,8 @@ impl From<AllocError> for AppFault {
 }
 
 /// Why a command gave no answer.
+///
+/// For example, it is printed as the fault that it holds: `trace line 3 is not a line of the format`.
 #[derive(Clone, Copy, Debug, PartialEq, Eq, Error)]
 pub enum Refusal {
     /// For the program's surroundings.

@@ -7,6 +7,8 @@ use std::alloc::Allocator;
 use std::io::Read;
 
 /// The most bytes that an input may have.
+///
+/// For example, a trace of so many bytes is read, and one byte more is refused as `input is too large`.
 pub const INPUT_LIMIT: usize = 33_554_432;
 
 /// Reads to the end of the input, every byte of it.
@@ -14,6 +16,8 @@ pub const INPUT_LIMIT: usize = 33_554_432;
 /// `ReadFailed` at the first fault of the reader, whichever it is, an interruption too; `TooLarge`
 /// once more than `INPUT_LIMIT` bytes came, so that a reader without an end is left; `OutOfMemory`
 /// where a growth was refused. After a fault the bytes read so far are gone.
+///
+/// In use: each command on an input that is kept.
 pub fn load<A: Allocator, R: Read>(alloc: A, input: &mut R) -> Result<Vec<u8, A>, AppFault>
     // Every byte of the input, in order.
     ensures whole { IfOk result (λ bytes. Consumes (R.remaining input.old) (R.remaining input.new) bytes.items) }

@@ -360,6 +360,8 @@ fn explain<A: Allocator, O: Write, E: Write>(
 /// `out`, unless a write failed, or a run reached a limit, whose text is written all the same. With status 2
 /// the command line is wrong. Where the words ask for help or the version, that is written on `out`, and
 /// nothing is read. A fault of `err` itself is ignored.
+///
+/// In use: `main` of `lamport_ring` hands it the words and the streams of the process.
 pub fn execute<
     'a,
     R: AllocGlobal + Threads + Clock,

@@ -69,6 +69,8 @@ fn closed_words(closed: bool) -> &'static str
 
 /// The text of a relay: a line each of how many items were put, how many were taken, and whether the taker was told that
 /// the ring is closed.
+///
+/// In use: `lamport_ring run`.
 pub fn relay_text<A: Allocator, B: Allocator>(
     alloc: A,
     outcome: &Outcome<B>,
@@ -109,6 +111,8 @@ fn push_pace<A: Allocator>(text: &mut String<A>, pace: Option<u64>) -> Result<()
 /// The text of a relay and, behind it, a line each of how many puts were made, how many of them found the ring full, how many
 /// takes found it empty, and how many items a second were taken. The last is `unknown` where there is no time, or none passed,
 /// or the number takes more than 64 bits.
+///
+/// In use: `lamport_ring run --report`.
 pub fn relay_report<A: Allocator, B: Allocator>(
     alloc: A,
     outcome: &Outcome<B>,

@@ -19,6 +19,8 @@ fn fault_text<A: Allocator>(alloc: A, place: usize, kind: Kind) -> Result<String
 }
 
 /// The text of a verdict, one line.
+///
+/// In use: `lamport_ring audit --bits`.
 pub fn verdict_text<A: Allocator>(alloc: A, verdict: &Verdict) -> Result<String<A>, AppFault>
     ensures text { IfOk result (λ text. string_bytes text ≡ verdict_text_of verdict.now) }
     ensures memory { IfErr result (λ e. e ≡ AppFault.OutOfMemory) }
@@ -48,6 +50,8 @@ fn lists_text<A: Allocator>(
 
 /// The text of a finding: `lawful`, with the items put, the items taken and whether the consumer was told that the
 /// ring is closed, a line each; or the one line of the fault.
+///
+/// In use: `lamport_ring audit`.
 pub fn audit_text<A: Allocator, B: Allocator>(
     alloc: A,
     finding: &Finding<B>,

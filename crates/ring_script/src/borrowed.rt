@@ -12,6 +12,8 @@ use crate::scripts::{ITEM_LIMIT, read_parts};
 use bits_core::Shape;
 
 /// The values of a script's fields.
+///
+/// In use: the page, which makes a script of the values of its form.
 #[derive(Clone, Copy, Debug)]
 pub struct Fields<'a> {
     pub capacity: u64,
@@ -26,6 +28,8 @@ pub struct Fields<'a> {
 }
 
 /// A script, borrowed. To a contract its content is what the script is.
+///
+/// In use: the page, whose script is not kept in a `Script`.
 #[derive(Clone, Copy, Debug)]
 pub struct ScriptRef<'a> {
     pub(crate) shape: Shape,

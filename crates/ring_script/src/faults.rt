@@ -9,6 +9,8 @@ use std::fmt;
 use thiserror::Error;
 
 /// A field of a script. It is printed as its name.
+///
+/// For example, it is printed as `schedule`.
 #[derive(Clone, Copy, PartialEq, Eq, Debug)]
 pub enum Field {
     /// `capacity`: how many cells the ring has, a whole number.
@@ -57,6 +59,8 @@ impl fmt::Display for Field {
 }
 
 /// Why bytes are no script.
+///
+/// For example, it is printed with the byte that cannot stand in the schedule. In use: `uses::plays::takes_of`.
 #[derive(Clone, Copy, PartialEq, Eq, Debug, Error)]
 pub enum ScriptFault {
     /// The bytes are not UTF-8, or not the text of one JSON value, or arrays and objects stand in one

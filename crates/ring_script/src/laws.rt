@@ -1,4 +1,5 @@
-//! What a script is, in the words of its format. Each law is the contract of a function that does nothing.
+//! What a script is, in the words of its format. Each law is the contract of a function that does nothing: a body that calls it
+//! has the statement at hand in its proof. For who reads scripts, or refuses them.
 ghost use Rattle.ring_script.specs.Laws.{DecimalIsCount, FaultyIsNoScript, OneScriptFault, OneScriptReading, OneSpelling, ScriptOrFault};
 
 /// Bytes are a script or have a fault.

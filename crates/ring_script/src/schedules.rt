@@ -8,9 +8,13 @@ use crate::stores::push;
 use bits_core::{Side, Store};
 
 /// The most letters that the schedule of a script may stand for.
+///
+/// For example, `P1000000` is the longest schedule of one run, and `P1000000C` is refused.
 pub const LETTER_LIMIT: u64 = 1_000_000;
 
 /// The same letter of a schedule, some times over.
+///
+/// For example, `P8C10` is two runs: `P` eight times, and `C` ten times.
 #[derive(Clone, Copy, PartialEq, Eq, Debug)]
 pub struct Run {
     pub side: Side,

@@ -21,9 +21,13 @@ use std::alloc::{Allocator, Global};
 use std::marker::Model;
 
 /// The most items that a script may have.
+///
+/// For example, a script whose list has one item more is refused.
 pub const ITEM_LIMIT: usize = 1_000;
 
 /// An interleaving of the two sides of a ring, to be played.
+///
+/// In use: `uses::plays::takes_of`.
 #[derive(Drop)]
 pub struct Script<A: Allocator> {
     shape: Shape,

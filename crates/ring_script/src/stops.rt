@@ -9,6 +9,8 @@ use std::alloc::Global;
 use std::fmt;
 
 /// Why bytes are no JSON. It is printed as the JSON reader's words, with a line and a column.
+///
+/// In use: `lamport_ring play`, which tells it beside the refusal.
 #[derive(Drop)]
 pub struct JsonFault {
     error: Error,
@@ -21,6 +23,8 @@ impl fmt::Display for JsonFault {
 }
 
 /// Why bytes are no JSON. `None` where they are JSON, and where memory ran out.
+///
+/// In use: `lamport_ring play`, which tells it beside the refusal.
 pub fn json_fault(json: Global, bytes: &[u8]) -> Option<JsonFault>
     ensures { OnSome result (IsScriptFault bytes.now ScriptFault.NotJson) }
 {
@@ -38,6 +42,8 @@ pub fn json_fault(json: Global, bytes: &[u8]) -> Option<JsonFault>
 
 /// The byte at a place, counted from 0, of the text that a field holds. `None` where bytes are no JSON object, where
 /// it has no such field or no such place, or the field is no text, and where memory ran out.
+///
+/// In use: `lamport_ring play`, which tells the byte that cannot stand there.
 pub fn byte_of_text(json: Global, bytes: &[u8], field: Field, place: u64) -> Option<u8>
     ensures { IfSome result (HasByte bytes.now field place) }
 {
