@@ -1,5 +1,5 @@
 //! What holds of every play of a script. Each law is the contract of a function that does nothing: a body that calls it has the
-//! statement at hand in its proof. For who reads a report: `uses::plays::left_inside`.
+//! statement at hand in its proof. For who has the history of a play, and no report of it.
 ghost use Rattle.ring_player.specs.Headline.{EveryPlayFills, EveryPlayHolds};
 ghost use Rattle.ring_player.specs.Laws.{FlickersAreCounted};
 
