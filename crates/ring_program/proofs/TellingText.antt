@@ -43,8 +43,14 @@ telling_goes_on capacity h event rest offers text offers_after after pushed offe
       λ others. smalls (small, others),
     )
 
-pub telling_ends : (capacity n : ℕ) (h : List Event) (offers : ℕ) (text : List ℕ) → n ≡ capacity → 0 < n → n ≤ 64 → HistoryHasARecording → CallsAreInTurn h
-    → IsToldSoFar capacity h [] offers text → IsRecording text (exactly capacity) h
-telling_ends capacity n h offers text same some few law in_turn (b, is, whole, smalls) =
-    subst (λ (t : List ℕ). IsRecording t (exactly capacity) h) (whole ∙ append-nil text)
-    (law capacity h (omega (arith, same, some)) (omega (arith, same, few)) in_turn (smalls tt))
+pub telling_is_told : (capacity : ℕ) (h : List Event) (offers : ℕ) (text : List ℕ) → IsToldSoFar capacity h [] offers text
+    → text ≡ lines_text (line Queue (capacity ∷ []) ∷ lines_of begun.Nothing h)
+telling_is_told capacity h offers text (b, is, whole, smalls) = sym (whole ∙ append-nil text)
+
+pub telling_is_small : (capacity : ℕ) (h : List Event) (offers : ℕ) (text : List ℕ) → IsToldSoFar capacity h [] offers text → TellsSmall h
+telling_is_small capacity h offers text (b, is, whole, smalls) = smalls tt
+
+pub told_is_recording : (capacity n : ℕ) (h : List Event) (text : List ℕ) → n ≡ capacity → 0 < n → n ≤ 64 → HistoryHasARecording → CallsAreInTurn h → TellsSmall h
+    → text ≡ lines_text (line Queue (capacity ∷ []) ∷ lines_of begun.Nothing h) → IsRecording text (exactly capacity) h
+told_is_recording capacity n h text same some few law in_turn small is =
+    subst (λ (t : List ℕ). IsRecording t (exactly capacity) h) (sym is) (law capacity h (omega (arith, same, some)) (omega (arith, same, few)) in_turn small)

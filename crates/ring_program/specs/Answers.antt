@@ -189,7 +189,7 @@ pub record TracesWrong (input text : List ℕ) (ending : Ending) : Type 0 where
   pub history : List Event
   pub is_script : IsScript input content
   pub lawful : IsLawful content.shape history
-  pub is_trace : IsTrace text content.shape history
+  pub is_trace : IsTraceText text content.shape history
   pub ends : ending ≡ Done
 
 -- the input is a script, and the text has a line of the ring's capacity and then a line for each begin and end of a call

@@ -8,6 +8,7 @@ use Rattle.bits_core.specs.declared.audits.Kind.{Kind}
 use Rattle.bits_core.specs.declared.audits.Kind.TheVariants.{WrongSide, OutOfTurn, NotPermitted, NotProgram}
 use Rattle.bits_core.specs.declared.audits.Verdict.{Verdict}
 use Rattle.bits_core.specs.declared.audits.Verdict.TheVariants.{Lawful, Fault}
+use Rattle.bits_core.specs.declared.events.Access.{Access}
 use Rattle.bits_core.specs.declared.events.Event.{Event}
 use Rattle.bits_core.specs.declared.events.Side.{Side}
 use Rattle.bits_core.specs.declared.events.Side.TheVariants.{P, C}
@@ -50,14 +51,26 @@ abbrev pub side_letter : Side → List ℕ
 side_letter P = codes "P"
 side_letter C = codes "C"
 
+-- that this side alone may do it
+abbrev pub only_line : Side → List ℕ
+only_line doer = codes "only by: " ++ (side_letter doer ++ codes "\n")
+
+-- that the side has this access open
+abbrev pub open_line : Side → Access → ℕ → List ℕ
+open_line side access begun = codes "open since" ++ (line_words begun ++ (codes ": " ++ event_line (opening_event side access)))
+
+-- what the bit held where a read began
+abbrev pub held_line : Bool → Option ℕ → ℕ → List ℕ
+held_line value since begun =
+    codes "held:" ++ (digit_text value ++ (since_words since ++ (codes ", where the read began at" ++ (line_words begun ++ codes "\n"))))
+
 -- why the bits do not permit an event of the side
 abbrev pub reason_line : Side → Reason → List ℕ
 reason_line side NotInShape = codes "outside: no bit of the shape\n"
-reason_line side (OnlyBy doer) = codes "only by: " ++ (side_letter doer ++ codes "\n")
-reason_line side (StillOpen access begun) = codes "open since" ++ (line_words begun ++ (codes ": " ++ event_line (opening_event side access)))
+reason_line side (OnlyBy doer) = only_line doer
+reason_line side (StillOpen access begun) = open_line side access begun
 reason_line side NothingOpen = codes "open: nothing\n"
-reason_line side (Held value since begun) =
-    codes "held:" ++ (digit_text value ++ (since_words since ++ (codes ", where the read began at" ++ (line_words begun ++ codes "\n"))))
+reason_line side (Held value since begun) = held_line value since begun
 
 -- ---- what they say
 

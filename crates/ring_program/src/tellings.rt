@@ -121,5 +121,6 @@ pub fn calls_text<A: Allocator, B: Allocator>(
     linearizable_is_in_turn();
     history_has_a_recording();
     let _capacity = script.shape().capacity();
-    told_text(alloc, script, told)
+    let text = told_text(alloc, script, told)?;
+    Ok(text)
 }

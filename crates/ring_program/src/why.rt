@@ -1,12 +1,11 @@
 //! The lines that say why the event at fault is.
 ghost use Rattle.std.specs.Prelude.{◌≡◌, ◌++◌, ℕ, List, IfErr, OnOk, string_bytes};
-ghost use Rattle.bits_core.specs.declared.events.Side.{Side as ASide};
 ghost use Rattle.ring_audit.specs.declared.choices.Dues.{Dues as ADues};
 ghost use Rattle.bits_core.specs.Lawful.{IsLawful};
 ghost use Rattle.bits_core.specs.Steps.{MayFollow};
 ghost use Rattle.bits_core.specs.TraceText.{digit_text, event_line};
 ghost use Rattle.ring_audit.specs.Audit.{statement};
-ghost use Rattle.ring_program.specs.Why.{AreDues, IsFaultThere, TellsReason, TellsWhy, due_line, due_lines, line_words, reason_line, side_letter, since_words, verdict_in};
+ghost use Rattle.ring_program.specs.Why.{AreDues, IsFaultThere, TellsReason, TellsWhy, due_line, due_lines, held_line, line_words, only_line, open_line, reason_line, side_letter, since_words, verdict_in};
 
 use crate::faults::AppFault;
 use bits_core::laws::{fault_breaks, lawful_by_one_more};
@@ -93,7 +92,7 @@ fn digit_of(value: bool) -> &'static str
 
 // That only this side may do it.
 fn push_doer<A: Allocator>(text: &mut String<A>, doer: Side) -> Result<(), AppFault>
-    ensures ok { OnOk result ((side : ASide) → string_bytes text.new ≡ string_bytes text.old ++ reason_line side (Reason.OnlyBy doer)) }
+    ensures ok { OnOk result (string_bytes text.new ≡ string_bytes text.old ++ only_line doer) }
     ensures err { IfErr result (λ e. e ≡ AppFault.OutOfMemory) }
 {
     text.push_str("only by: ")?;
@@ -108,7 +107,7 @@ fn push_open<A: Allocator>(
     access: Access,
     begun: usize,
 ) -> Result<(), AppFault>
-    ensures ok { OnOk result (string_bytes text.new ≡ string_bytes text.old ++ reason_line side (Reason.StillOpen access begun)) }
+    ensures ok { OnOk result (string_bytes text.new ≡ string_bytes text.old ++ open_line side access begun) }
     ensures err { IfErr result (λ e. e ≡ AppFault.OutOfMemory) }
 {
     text.push_str("open since")?;
@@ -124,7 +123,7 @@ fn push_held<A: Allocator>(
     since: Option<usize>,
     begun: usize,
 ) -> Result<(), AppFault>
-    ensures ok { OnOk result ((side : ASide) → string_bytes text.new ≡ string_bytes text.old ++ reason_line side (Reason.Held value since begun)) }
+    ensures ok { OnOk result (string_bytes text.new ≡ string_bytes text.old ++ held_line value since begun) }
     ensures err { IfErr result (λ e. e ≡ AppFault.OutOfMemory) }
 {
     text.push_str("held:")?;

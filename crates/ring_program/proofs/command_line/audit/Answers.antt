@@ -11,15 +11,17 @@ pub returns-clause-made : goal.returns-clause-made
 returns-clause-made c =
     let named : app_of c.after_help-command.result ≡ new_app (codes "audit") =
     ap app_of_fields c.after_help-command.ensures ∙ ap app_of_fields c.override_usage.ensures ∙ ap app_of_fields c.about.ensures ∙ c.new.ensures.app in
-    let r1 = c.in_ok-command.ensures.shape c.bits_option-bits.ensures.local ∙ ap₂ with_rule named c.bits_option-bits.ensures.rule in
-    let r2 = c.in_ok-command-2.ensures.shape c.long_option-long.ensures.local ∙ ap₂ with_rule r1 c.long_option-long.ensures.rule in
-    c.in_ok-command-3.ensures.shape c.calls_option-calls.ensures.local ∙ ap₂ with_rule r2 c.calls_option-calls.ensures.rule
+    let r1 = c.in_ok-command.ensures.shape c.flag_option-bits.ensures.local ∙ ap₂ with_rule named c.flag_option-bits.ensures.rule in
+    let r2 = c.in_ok-command-2.ensures.shape c.flag_option-long.ensures.local ∙ ap₂ with_rule r1 c.flag_option-long.ensures.rule in
+    let r3 = c.in_ok-command-3.ensures.shape c.flag_option-calls.ensures.local ∙ ap₂ with_rule r2 c.flag_option-calls.ensures.rule in
+    c.in_ok-command-4.ensures.shape c.flag_option-why.ensures.local ∙ ap₂ with_rule r3 c.flag_option-why.ensures.rule
 
 pub returns-clause-local : goal.returns-clause-local
 returns-clause-local c =
     let globals : Command-F Command → Bool = λ d. d.has_globals in
     let none : globals (out-Command c.after_help-command.result) ≡ false =
     ap globals c.after_help-command.ensures ∙ ap globals c.override_usage.ensures ∙ ap globals c.about.ensures ∙ c.new.ensures.local in
-    let l1 = c.in_ok-command.ensures.globals ∙ ap₂ (λ x y. x || y) none c.bits_option-bits.ensures.local in
-    let l2 = c.in_ok-command-2.ensures.globals ∙ ap₂ (λ x y. x || y) l1 c.long_option-long.ensures.local in
-    c.in_ok-command-3.ensures.globals ∙ ap₂ (λ x y. x || y) l2 c.calls_option-calls.ensures.local
+    let l1 = c.in_ok-command.ensures.globals ∙ ap₂ (λ x y. x || y) none c.flag_option-bits.ensures.local in
+    let l2 = c.in_ok-command-2.ensures.globals ∙ ap₂ (λ x y. x || y) l1 c.flag_option-long.ensures.local in
+    let l3 = c.in_ok-command-3.ensures.globals ∙ ap₂ (λ x y. x || y) l2 c.flag_option-calls.ensures.local in
+    c.in_ok-command-4.ensures.globals ∙ ap₂ (λ x y. x || y) l3 c.flag_option-why.ensures.local

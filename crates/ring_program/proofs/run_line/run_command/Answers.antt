@@ -19,8 +19,8 @@ returns-clause-made c =
     let r6 = c.in_ok-command-6.ensures.shape c.number_option-takes.ensures.local ∙ ap₂ with_rule r5 c.number_option-takes.ensures.rule in
     let r7 = c.in_ok-command-7.ensures.shape c.batch_option-batch.ensures.local ∙ ap₂ with_rule r6 c.batch_option-batch.ensures.rule in
     let r8 = c.in_ok-command-8.ensures.shape c.ring_option-ring.ensures.local ∙ ap₂ with_rule r7 c.ring_option-ring.ensures.rule in
-    let r9 = c.in_ok-command-9.ensures.shape c.report_option-report.ensures.local ∙ ap₂ with_rule r8 c.report_option-report.ensures.rule in
-    c.in_ok-command-10.ensures.shape c.record_option-record.ensures.local ∙ ap₂ with_rule r9 c.record_option-record.ensures.rule
+    let r9 = c.in_ok-command-9.ensures.shape c.flag_option-report.ensures.local ∙ ap₂ with_rule r8 c.flag_option-report.ensures.rule in
+    c.in_ok-command-10.ensures.shape c.flag_option-record.ensures.local ∙ ap₂ with_rule r9 c.flag_option-record.ensures.rule
 
 pub returns-clause-local : goal.returns-clause-local
 returns-clause-local c =
@@ -35,5 +35,5 @@ returns-clause-local c =
     let l6 = c.in_ok-command-6.ensures.globals ∙ ap₂ (λ x y. x || y) l5 c.number_option-takes.ensures.local in
     let l7 = c.in_ok-command-7.ensures.globals ∙ ap₂ (λ x y. x || y) l6 c.batch_option-batch.ensures.local in
     let l8 = c.in_ok-command-8.ensures.globals ∙ ap₂ (λ x y. x || y) l7 c.ring_option-ring.ensures.local in
-    let l9 = c.in_ok-command-9.ensures.globals ∙ ap₂ (λ x y. x || y) l8 c.report_option-report.ensures.local in
-    c.in_ok-command-10.ensures.globals ∙ ap₂ (λ x y. x || y) l9 c.record_option-record.ensures.local
+    let l9 = c.in_ok-command-9.ensures.globals ∙ ap₂ (λ x y. x || y) l8 c.flag_option-report.ensures.local in
+    c.in_ok-command-10.ensures.globals ∙ ap₂ (λ x y. x || y) l9 c.flag_option-record.ensures.local

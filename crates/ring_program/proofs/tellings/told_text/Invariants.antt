@@ -2,7 +2,7 @@ use Rattle.std.specs.Prelude.{drop, string_bytes}
 use Rattle.bits_core.specs.Shape.{capacity_of}
 use Rattle.ring_player.specs.Tellings.{call_events}
 use Rattle.ring_program.proofs.TellingText.{IsToldSoFar}
-use Rattle.ring_program.proofs.tellings.calls_text.Given as goal
+use Rattle.ring_program.proofs.tellings.told_text.Given as goal
 
 -- the text has gained the lines of what was told so far
 abbrev pub invariant-loop-event : goal.invariant-loop-event
