@@ -25,7 +25,10 @@ pub enum Reason {
     /// Only this side may do this to the bit.
     OnlyBy(Side),
     /// The side has this access open, which began at the place `begun`.
-    StillOpen { access: Access, begun: usize },
+    StillOpen {
+        access: Access,
+        begun: usize,
+    },
     /// The side has no access open.
     NothingOpen,
     /// No write overlapped the read, which began at the place `begun`. There the bit held `value`, since the place

@@ -3,3 +3,4 @@ mod RecordingText
 mod Endings
 mod RunItems
 mod TellingText
+pub mod WhyLemmas

@@ -197,7 +197,11 @@ fn audit<'a>(alloc: Global) -> Result<Command<'a>, AllocError>
         "Audit a recording of the calls of any queue",
     );
     let command = command.arg(calls)?;
-    let why = flag_option(alloc, "why", "Tell of a fault what was due, in further lines");
+    let why = flag_option(
+        alloc,
+        "why",
+        "Tell of a fault what was due, in further lines",
+    );
     let command = command.arg(why)?;
     Ok(command)
 }

@@ -89,7 +89,11 @@ const HELD: [(&str, u8, &str); 3] = [
         3,
         "fault: line 10: not permitted\nheld: 1 since line 7, where the read began at line 8\n",
     ),
-    ("shape 1 3 1\nP write s0 0\nC read s0\nC got s0 1\n", 0, "lawful\n"),
+    (
+        "shape 1 3 1\nP write s0 0\nC read s0\nC got s0 1\n",
+        0,
+        "lawful\n",
+    ),
 ];
 
 #[test]

@@ -1,9 +1,11 @@
 use crate::expects::{expect_run_on, expect_runs};
 use std::test::Fail;
 
-const PLAIN: &str = "{\"capacity\":1,\"modulus\":3,\"width\":1,\"items\":[1],\"takes\":1,\"close\":false,\"schedule\":\"P5C10\",\"oracle\":\"\"}";
+const PLAIN: &str =
+    "{\"capacity\":1,\"modulus\":3,\"width\":1,\"items\":[1],\"takes\":1,\"close\":false,\"schedule\":\"P5C10\",\"oracle\":\"\"}";
 
-const TRACE: &str = "shape 1 3 1\nP read r0\nP got r0 1\nP write s1 1\nP wrote s1\nP write s0 0\nC read s0\nC got s0 0\nC read s1\nC got s1 1\nC read c0.0\nC got c0.0 0\nC write r1 1\nC wrote r1\nC write r0 0\nC wrote r0\n";
+const TRACE: &str =
+    "shape 1 3 1\nP read r0\nP got r0 1\nP write s1 1\nP wrote s1\nP write s0 0\nC read s0\nC got s0 0\nC read s1\nC got s1 1\nC read c0.0\nC got c0.0 0\nC write r1 1\nC wrote r1\nC write r0 0\nC wrote r0\n";
 
 const CALLS: &str = "queue 1\nP put 1\nC take\nC item 0\n";
 

@@ -1,4 +1,4 @@
-use Rattle.std.proofs.Common.{ℕ, ◌≤◌}
+use Rattle.std.proofs.Common.{◌≤◌}
 use Rattle.near_misses.specs.Misses.{AreClear}
 use Rattle.near_misses.proofs.rows.highest_set.Given as goal
 

@@ -86,3 +86,35 @@ returns-clause-long_alone c name = refl
 pub returns-clause-long_calls : goal.returns-clause-long_calls
 unfolding clap_on_literals application request_of
 returns-clause-long_calls c name = refl
+
+pub returns-clause-audit_why : goal.returns-clause-audit_why
+unfolding clap_on_literals application request_of
+returns-clause-audit_why c name = refl
+
+pub returns-clause-audit_bits_why : goal.returns-clause-audit_bits_why
+unfolding clap_on_literals application request_of
+returns-clause-audit_bits_why c name = refl
+
+pub returns-clause-long_why : goal.returns-clause-long_why
+unfolding clap_on_literals application request_of
+returns-clause-long_why c name = refl
+
+pub returns-clause-calls_why : goal.returns-clause-calls_why
+unfolding clap_on_literals application request_of
+returns-clause-calls_why c name = refl
+
+pub returns-clause-wrong_trace : goal.returns-clause-wrong_trace
+unfolding clap_on_literals application request_of
+returns-clause-wrong_trace c name = refl
+
+pub returns-clause-wrong_calls : goal.returns-clause-wrong_calls
+unfolding clap_on_literals application request_of
+returns-clause-wrong_calls c name = refl
+
+pub returns-clause-wrong_report : goal.returns-clause-wrong_report
+unfolding clap_on_literals application request_of
+returns-clause-wrong_report c name = refl
+
+pub returns-clause-wrong_name : goal.returns-clause-wrong_name
+unfolding clap_on_literals application request_of
+returns-clause-wrong_name c name = refl

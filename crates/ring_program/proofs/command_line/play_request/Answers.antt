@@ -1,8 +1,7 @@
-use Rattle.std.proofs.Common.{◌≡◌, ◌∙◌, ap, ap₂, codes, None, Some}
+use Rattle.std.proofs.Common.{◌∙◌, ap, ap₂, codes, None}
 use Rattle.std.specs.Prelude.{option_and_then}
 use Rattle.clap.proofs.WalkLemmas.{first_value-rows}
-use Rattle.clap.specs.Words.{first_of, found_of, rows_of}
-use Rattle.near_misses.specs.Misses.{miss_named}
+use Rattle.clap.specs.Words.{found_of, rows_of}
 use Rattle.ring_program.specs.CommandLine.{is_flag_given, play_by, wrong_request}
 use Rattle.ring_program.proofs.command_line.play_request.Goals as goal
 
@@ -19,7 +18,7 @@ returns-in_ok-named-in-Some c =
     let found = found_of c.args.matches.now in
     let trace = is_flag_given (codes "trace") (rows_of found) in
     let calls = is_flag_given (codes "calls") (rows_of found) in
-    c.asked_of_miss.ensures ∙ ap₂ (λ t k. wrong_request t k c.in_ok-named-in-Some.miss) c.is_given-trace.ensures c.is_given-calls.ensures
+    c.asked_of_miss.ensures ∙ ap₂ (λ t k. wrong_request t k c.in_ok-named-in-Some.field-0) c.is_given-trace.ensures c.is_given-calls.ensures
     ∙ ap (option_and_then (wrong_request trace calls)) c.in_ok-named-in-Some.ensures
     ∙ ap (λ w. play_by w trace calls) (c.in-Some.ensures ∙ first_value-rows found (codes "wrong"))
 

@@ -5,7 +5,7 @@ use Rattle.clap.specs.declared.error.kind.ErrorKind.{ErrorKind}
 use Rattle.clap.specs.declared.error.kind.ErrorKind.TheVariants as kind
 use Rattle.ring_program.specs.Answers.{Ends, EndsUnasked, Explains, IsCallsCause, IsHelp, IsLongBitsCause, IsOutOfMemory, IsShortage, IsStatus, IsStatusOf, IsStatusOn, NoMemory, WasWritten}
 use Rattle.ring_program.specs.declared.command_line.Question.{Question}
-use Rattle.ring_program.specs.declared.command_line.Question.TheVariants.{Audit, AuditBits, Play, PlayTrace, PlayCalls}
+use Rattle.ring_program.specs.declared.command_line.Question.TheVariants.{Audit, AuditBits, AuditWhy, AuditBitsWhy, Play, PlayTrace, PlayCalls, WrongTrace, WrongCalls}
 use Rattle.ring_program.specs.declared.command_line.Request.{Request}
 use Rattle.ring_program.specs.declared.command_line.Request.TheVariants.{OnInput, Calls, LongBits, Run}
 use Rattle.ring_program.specs.declared.faults.AppFault.TheVariants as app
@@ -64,9 +64,13 @@ status_unasked k before after status (inr (inr mistake)) = inr (inr mistake.2)
 refused_on : (question : Question) (status : ℕ) → status ≡ 1 → IsStatusOn question status
 refused_on Audit status is = inr (inl is)
 refused_on AuditBits status is = inr (inl is)
+refused_on AuditWhy status is = inr (inl is)
+refused_on AuditBitsWhy status is = inr (inl is)
 refused_on Play status is = inr is
 refused_on PlayTrace status is = inr is
 refused_on PlayCalls status is = inr is
+refused_on (WrongTrace miss) status is = inr is
+refused_on (WrongCalls miss) status is = inr is
 
 refused_status : (r : Request) (status : ℕ) → status ≡ 1 → IsStatusOf r status
 refused_status (OnInput question) status is = refused_on question status is

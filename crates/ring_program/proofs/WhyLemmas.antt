@@ -1,0 +1,53 @@
+-- Why the event at fault is.
+use Rattle.std.proofs.Common.{◌≡◌, ℕ, suc, ◌+◌, ◌<◌, List, [], ◌∷◌, ◌++◌, Result, Ok, Err, OnOk, subst, sym, arith, length, take, ap, ◌∙◌}
+use Rattle.std.proofs.Math.ListN.{get_or}
+use Rattle.std.proofs.lemmas.List.{take_more}
+use Rattle.std.proofs.lemmas.Option.{slice_get-get_or, slice_get_within}
+use Rattle.bits_core.specs.Audit.{IsFirstFault}
+use Rattle.bits_core.specs.Laws.{FaultBreaks, LawfulByOneMore}
+use Rattle.bits_core.specs.Lawful.{IsLawful}
+use Rattle.bits_core.specs.Steps.{MayFollow}
+use Rattle.bits_core.specs.declared.audits.Kind.{Kind}
+use Rattle.bits_core.specs.declared.audits.Kind.TheVariants.{WrongSide, OutOfTurn, NotPermitted, NotProgram}
+use Rattle.bits_core.specs.declared.audits.Verdict.{Verdict}
+use Rattle.bits_core.specs.declared.audits.Verdict.TheVariants.{Fault}
+use Rattle.bits_core.specs.declared.events.Event.{Event}
+use Rattle.bits_core.specs.declared.shapes.Shape.{Shape}
+use Rattle.ring_program.specs.Why.{IsFaultThere, TellsWhy, TellsWhyAt}
+
+-- what holds where a call went well, from what did
+pub map_ok : {A E P Q : Type 0} → (r : Result A E) → (P → Q) → OnOk r P → OnOk r Q
+map_ok (Ok x) f p = f p
+map_ok (Err e) f p = tt
+
+-- the event at the first fault may not follow those before it
+pub not_following : FaultBreaks → LawfulByOneMore → (shape : Shape) (h : List Event) (place : ℕ) (kind : Kind) (d : Event) → IsFirstFault shape h place kind
+    → ¬ MayFollow shape (take place h) (get_or h place d)
+not_following breaks more shape h place kind d first follows =
+    let parts = breaks shape h place kind first in
+    let within : place < length h = slice_get_within h place first.event first.at_place in
+    let next : place + 1 ≡ suc place = omega arith in
+    let longer : take (suc place) h ≡ take place h ++ get_or h place d ∷ [] = ap (λ (n : ℕ). take n h) (sym next) ∙ take_more h place d within in
+    parts.1 (subst (λ t. IsLawful shape t) (sym longer) ((more shape (take place h) (get_or h place d)).1 (parts.0, follows)))
+
+-- a fault that there is, by its kind
+first_of_kind : (shape : Shape) (h : List Event) (place : ℕ) (kind : Kind) → IsFaultThere shape h (Fault place kind) → place < length h
+first_of_kind shape h place WrongSide there = slice_get_within h place there.event there.at_place
+first_of_kind shape h place OutOfTurn there = slice_get_within h place there.event there.at_place
+first_of_kind shape h place NotPermitted there = slice_get_within h place there.event there.at_place
+first_of_kind shape h place NotProgram there = there
+
+pub fault_within : (shape : Shape) (h : List Event) (verdict : Verdict) (place : ℕ) (kind : Kind) → verdict ≡ Fault place kind → IsFaultThere shape h verdict → place < length h
+fault_within shape h verdict place kind is there = first_of_kind shape h place kind (subst (λ v. IsFaultThere shape h v) is there)
+
+pub fault_of_kind : (shape : Shape) (h : List Event) (verdict : Verdict) (place : ℕ) (kind k : Kind) → verdict ≡ Fault place kind → kind ≡ k → IsFaultThere shape h verdict
+    → IsFaultThere shape h (Fault place k)
+fault_of_kind shape h verdict place kind k is kind_is there = subst (λ x. IsFaultThere shape h (Fault place x)) kind_is (subst (λ v. IsFaultThere shape h v) is there)
+
+-- why it is, told of the event there
+pub why_there : (shape : Shape) (h : List Event) (verdict : Verdict) (place : ℕ) (kind k : Kind) (d : Event) (more : List ℕ) → verdict ≡ Fault place kind → kind ≡ k
+    → IsFaultThere shape h verdict → TellsWhyAt shape (take place h) (get_or h place d) k more → TellsWhy shape h verdict more
+why_there shape h verdict place kind k d more is kind_is there told =
+    let within = fault_within shape h verdict place kind is there in
+    subst (λ v. TellsWhy shape h v more) (sym is)
+    (get_or h place d, slice_get-get_or h place d within, subst (λ x. TellsWhyAt shape (take place h) (get_or h place d) x more) (sym kind_is) told)

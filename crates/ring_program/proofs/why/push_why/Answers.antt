@@ -1,0 +1,41 @@
+use Rattle.bits_core.specs.declared.audits.Kind.TheVariants.{WrongSide, OutOfTurn, NotPermitted, NotProgram}
+use Rattle.ring_program.proofs.WhyLemmas.{fault_of_kind, map_ok, not_following, why_there}
+use Rattle.ring_program.proofs.why.push_why.Goals as goal
+
+pub push_fault-requires-in-OutOfTurn-clause-faulty : goal.push_fault-requires-in-OutOfTurn-clause-faulty
+push_fault-requires-in-OutOfTurn-clause-faulty g c =
+    let shape = c.args.shape.now in
+    let h = c.args.events.now in
+    let first = fault_of_kind shape h c.args.verdict c.in-Fault.place c.in-Fault.kind OutOfTurn c.in-Fault.is c.in-OutOfTurn.is c.requires.there in
+    not_following c.fault_breaks.ensures c.lawful_by_one_more.ensures shape h c.in-Fault.place OutOfTurn _ first
+
+pub push_fault-requires-in-NotPermitted-clause-faulty : goal.push_fault-requires-in-NotPermitted-clause-faulty
+push_fault-requires-in-NotPermitted-clause-faulty g c =
+    let shape = c.args.shape.now in
+    let h = c.args.events.now in
+    let first = fault_of_kind shape h c.args.verdict c.in-Fault.place c.in-Fault.kind NotPermitted c.in-Fault.is c.in-NotPermitted.is c.requires.there in
+    not_following c.fault_breaks.ensures c.lawful_by_one_more.ensures shape h c.in-Fault.place NotPermitted _ first
+
+pub returns-in-NotProgram-clause-told : goal.returns-in-NotProgram-clause-told
+returns-in-NotProgram-clause-told g c =
+    map_ok c.push_instead.result
+    (λ t. (t.0, t.1, why_there c.args.shape.now c.args.events.now c.args.verdict c.in-Fault.place c.in-Fault.kind NotProgram _ t.0 c.in-Fault.is c.in-NotProgram.is c.requires.there (t.2, t.3, t.4)))
+    c.push_instead.ensures.told
+
+pub returns-in-WrongSide-clause-told : goal.returns-in-WrongSide-clause-told
+returns-in-WrongSide-clause-told g c =
+    map_ok c.push_fault.result
+    (λ t. (t.0, t.1, why_there c.args.shape.now c.args.events.now c.args.verdict c.in-Fault.place c.in-Fault.kind WrongSide _ t.0 c.in-Fault.is c.in-WrongSide.is c.requires.there t.2))
+    c.push_fault.ensures.told
+
+pub returns-in-OutOfTurn-clause-told : goal.returns-in-OutOfTurn-clause-told
+returns-in-OutOfTurn-clause-told g c =
+    map_ok c.push_fault-in-OutOfTurn.result
+    (λ t. (t.0, t.1, why_there c.args.shape.now c.args.events.now c.args.verdict c.in-Fault.place c.in-Fault.kind OutOfTurn _ t.0 c.in-Fault.is c.in-OutOfTurn.is c.requires.there t.2))
+    c.push_fault-in-OutOfTurn.ensures.told
+
+pub returns-in-NotPermitted-clause-told : goal.returns-in-NotPermitted-clause-told
+returns-in-NotPermitted-clause-told g c =
+    map_ok c.push_fault-in-NotPermitted.result
+    (λ t. (t.0, t.1, why_there c.args.shape.now c.args.events.now c.args.verdict c.in-Fault.place c.in-Fault.kind NotPermitted _ t.0 c.in-Fault.is c.in-NotPermitted.is c.requires.there t.2))
+    c.push_fault-in-NotPermitted.ensures.told
