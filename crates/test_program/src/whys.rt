@@ -24,11 +24,11 @@ const DUES: [(&str, u8, &str); 5] = [
         3,
         "fault: line 6: not of the program\ndue: P write s1 1\n",
     ),
-    // a scan that read 0 goes on
+    // between two calls: the close, or the scan of a put
     (
         "shape 1 3 1\nP write s1 1\n",
         3,
-        "fault: line 2: not of the program\ndue: P read r0\ndue: P write x 1\n",
+        "fault: line 2: not of the program\ndue: P write x 1\ndue: P read r0\n",
     ),
     // behind its close the producer makes no call
     (

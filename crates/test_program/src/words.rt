@@ -141,7 +141,7 @@ const WORDS: [(&[&str], u8, &str); 29] = [
     (
         AUDIT_HELP,
         0,
-        "Usage: lamport_ring audit [--bits [--long]] < TRACE\n",
+        "Usage: lamport_ring audit [--bits] [--why] < TRACE\n",
     ),
     (AUDIT_HELP, 0, "from standard input\n"),
     (AUDIT_HELP, 0, "  2  the command line is wrong\n"),
@@ -150,7 +150,7 @@ const WORDS: [(&[&str], u8, &str); 29] = [
     (
         &["lamport_ring", "audit", "x.trace"],
         2,
-        "error: unexpected argument 'x.trace' found\n\nUsage: lamport_ring audit [--bits [--long]] < TRACE\n",
+        "error: unexpected argument 'x.trace' found\n\nUsage: lamport_ring audit [--bits] [--why] < TRACE\n",
     ),
     (
         &["lamport_ring", "go"],
