@@ -162,9 +162,9 @@ def test_sizes(page, same, _):
 def test_reach(page, same, _):
     """Each bar is reached by keys, and what it is, the step and the reason of a fault are told."""
     page.open("example=stale_read_after_inversion")
-    told = page.browser.run("return ['verdict', 'why', 'step'].map(id => document.getElementById(id).getAttribute('role'))")
-    same("what is announced", told, ["status"] * 3)
-    same("the reason", words(page, "why"), "no write overlaps the read, so it has to answer what the bit held")
+    told = page.browser.run("return ['verdict', 'why', 'due', 'step'].map(id => document.getElementById(id).getAttribute('role'))")
+    same("what is announced", told, ["status"] * 4)
+    same("the reason", words(page, "why"), "s0 holds 0 since line 7, and no write overlaps the read of line 8: it has to answer 0")
     same("the step", words(page, "step"), "line 9: C got s0 1")
     page.browser.press("left")
     same("no reason", [words(page, "why"), words(page, "step")], ["", "line 8: C read s0"])
@@ -183,6 +183,62 @@ def test_reach(page, same, _):
     page.browser.run("document.querySelector('#picture [tabindex=\"0\"]').focus()")
     page.browser.press("left")
     same("the focus stays", page.browser.run("return document.activeElement.dataset.line"), "18")
+
+
+REASONS = [  # a text, and the reasons beside its two verdicts
+    ("shape 1 3 1\nC read s0\nC got s0 0\n", "s0 holds 1 from the start, and no write overlaps the read of line 2: it has to answer 1", ""),
+    ("shape 1 3 1\nP write s0 0\nP wrote s0\nP write s0 1\nP wrote s0\nC read s0\nC got s0 0\n",
+     "s0 holds 1 since line 5, and no write overlaps the read of line 6: it has to answer 1", "in line 2 was due: P write x 1, or read r0"),
+    ("shape 1 3 1\nP write s0 0\nP wrote s1\n", "a side has one access open at a time, and ends the one it began", "in line 2 was due: P write x 1, or read r0"),
+    ("shape 1 3 1\nP read r0\nP got r0 1\nP read r0\n", "", "in line 4 was due: P write c0.0 0 or 1"),
+    ("shape 1 3 1\nP read r0\nC got s0 1\n", "a side has one access open at a time, and ends the one it began", ""),
+    ("shape 1 3 1\nP read r0\nP got r0 1\nP write c0.0 1\nP wrote c0.0\nP write c0.0 0\n", "", "in line 6 was due: P write s1 1"),
+    ("shape 1 3 1\nC read s0\nC got s0 1\nC read s0\n", "", "in line 4 was due: C read x"),
+    ("shape 1 3 1\nP write x 1\nP wrote x\nP read r0\n", "", "in line 4 nothing was due of P: it has made its last call"),
+    ("shape 1 3 1\nC write s0 0\n", "the bit is not of the shape, or this side may not do this to it", ""),
+]
+
+
+def test_reasons(page, same, _):
+    """Beside a fault stands what was due: what the bit holds and since when, and the accesses with which the program goes on."""
+    page.open("example=count_before_cell")
+    same("what was due", words(page, "due"), "in line 4 was due: P write c0.0 0 or 1")
+    page.browser.press("home", "right", "right")
+    same("before it is shown", [words(page, "ring"), words(page, "due")], ["ring: follows the programs", ""])
+    for text, why, due in REASONS:
+        page.write(text)
+        same(f"the reasons of {text!r}", [words(page, "why"), words(page, "due")], [why, due])
+
+
+def calls_of(page):
+    return page.browser.run("return [...document.querySelectorAll('#picture [data-call] title')].map(it => it.textContent)")
+
+
+def test_calls(page, same, _):
+    """Braces over the lanes: each call with its reply, from its first own event to its last."""
+    page.open("example=plain_path")
+    same("calls of a trace", calls_of(page), ["P put 1, lines 2 to 9", "C take: 1, lines 10 to 19"])
+    same("their parts", page.browser.run("return [...document.querySelectorAll('#picture .part')].map(it => it.textContent)"),
+         ["scan 0", "word", "count 1", "scan 1", "word", "count 1"])
+    page.browser.press("left")
+    same("a call under way", calls_of(page), ["P put 1, lines 2 to 9", "C take, from line 10, under way"])
+    page.browser.press("home", *["right"] * 8)
+    same("one that has ended", calls_of(page), ["P put 1, lines 2 to 9"])
+    page.browser.press("left")
+    same("and one that has not", calls_of(page), ["P put, from line 2, under way"])
+    for name, calls in [("full_at_capacity_one", ["P put 1, letters 1 to 8", "P put: full, letters 9 to 10"]),
+                        ("second_scan_finds_the_item", None), ("batch_of_three", None), ("cut_before_closed", None)]:
+        page.open(f"script={name}")
+        got = calls_of(page)
+        if calls:
+            same(f"calls of {name}", got[:2], calls)
+        same(f"{name} has braces", len(got) > 1, True)
+    page.open("example=count_before_cell")
+    same("calls before the break", calls_of(page), ["P put, from line 2, under way"])
+    page.open("example=new_old_inversion")
+    same("no calls of bits alone", page.count("#picture [data-call]"), 0)
+    page.write("shape 1 3 1\n" + "P read r0\nP got r0 1\n" * 301)
+    same("too many events for braces", page.count("#picture [data-call]"), 0)
 
 
 def test_waves(page, same, _):
@@ -234,4 +290,4 @@ def test_speed(page, same, _):
     same("10,000 events step in 100 ms", [trace[5] < 100, play[5] < 100], [True, True])
 
 
-TESTS = [test_own, test_refusals, test_lessons, test_sizes, test_reach, test_waves, test_numbers, test_speed]
+TESTS = [test_own, test_refusals, test_lessons, test_sizes, test_reach, test_reasons, test_calls, test_waves, test_numbers, test_speed]
