@@ -2,15 +2,15 @@
 
 export const MOST_CALLED = 600; // events of a history whose calls are told
 
-// The calls of the first events, as many as are of the programs: {side, kind, begin, end, reply, items}, from the place of the first own event to
-// that of the last, or to Infinity with no reply where it has not ended. A call of the producer begins where it may close, and ends where it may
+// The calls of the first events, as many as are of the programs: {side, kind, begin, end, reply, items, count}, from the place of the first own
+// event to that of the last, or to Infinity with no reply where it has not ended; `count` items are put, or taken, up to and with it. A call of the producer begins where it may close, and ends where it may
 // close again. One of the consumer begins with a scan, but for the second scan of a take, behind its read of the close bit as 1; it ends with
 // the item that it takes, where it is told that the ring is closed, or where a scan may begin again.
 export function callsOf(events, {found, put, taken}) {
   const calls = [], open = {P: null, C: null}, last = {P: null, C: null};
-  const begin = (side, kind, place) => calls.push(open[side] = {side, kind, begin: place, end: Infinity, reply: "", items: []});
+  const begin = (side, kind, place) => calls.push(open[side] = {side, kind, begin: place, end: Infinity, reply: "", items: [], count: null});
   const end = (side, place, reply, items = []) => {
-    Object.assign(open[side], {end: place, reply, items});
+    Object.assign(open[side], {end: place, reply, items, count: side === "P" ? found[place + 1].put : found[place + 1].taken});
     open[side] = null;
   };
   for (let place = 0; place + 1 < found.length && found[place + 1].isRun; place++) {
@@ -36,7 +36,7 @@ export function callsOf(events, {found, put, taken}) {
 
 // The calls of a beginning, of so many events, of a history with these calls.
 export function callsUntil(calls, count) {
-  return calls.filter(it => it.begin < count).map(it => it.end < count ? it : {...it, end: Infinity, reply: "", items: []});
+  return calls.filter(it => it.begin < count).map(it => it.end < count ? it : {...it, end: Infinity, reply: "", items: [], count: null});
 }
 
 // The words of a call: short ones, and those with what it was.
@@ -44,6 +44,14 @@ export function callWords({kind, reply, items}) {
   if (!reply) return ["", kind];
   const short = reply === "stored" || reply === "item" ? items.join(" ") : reply;
   return [short, kind === "close" ? "close" : reply === "stored" ? `put ${short}` : `${kind}: ${short}`];
+}
+
+// The words of a part of a call, long and short: n counts the items put and k those taken; a scan gives the other side's count, modulo the modulus.
+export function partWords({name, value}, {side, count}, modulus) {
+  const [own, other] = side === "P" ? ["n", "k"] : ["k", "n"];
+  const short = value === undefined ? name : `${name} ${value}`;
+  if (name === "scan" && value !== undefined) return [`${other} mod ${modulus} = ${value}`, short];
+  return name === "count" && count !== null ? [`${own} = ${count}`, short] : [short];
 }
 
 // The parts of a call: its scans with the bit that answered 1, its words and its count write, each {name, begin, end}, by its accesses.

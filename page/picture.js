@@ -1,7 +1,7 @@
 // The picture of a history: events as module.js makes them go in, the text of an SVG comes out. It places rectangles:
 // what a bit holds, which reads a write overlapped and where a read and a write clash are numbers of the module.
 
-import { callWords, partsOfCall } from "./calls.js";
+import { callWords, partWords, partsOfCall } from "./calls.js";
 
 // ---- accesses and waves ----------------------------------------------------------------------------------------------
 
@@ -263,16 +263,18 @@ export function picture({shape, events, whole = events, fault = null, wholeFault
     const [line, tip, label, below] = isPut ? [-22, -15, -28, -4] : [ROW + 22, ROW + 15, ROW + 37, ROW + 8];
     const fits = (text, wide) => text.length * 7.4 + 4 <= wide;
     out.push(`<g class="call" data-call="${call.begin + 2}"><title>${call.side} ${escape(long)}, ${when}</title>`);
-    partsOf(call.begin, call.end).forEach(({y, from, to, begins, ends}) => {
-      const left = begins ? `M${from} ${y + tip}V${y + line}` : `M${from} ${y + line}`, right = ends ? `H${to}V${y + tip}` : `H${to}`;
+    const until = call.end === Infinity && broken !== null ? broken : call.end; // nothing is told of calls behind a break
+    partsOf(call.begin, until).forEach(({y, from, to, begins, ends}) => {
+      const left = begins ? `M${from} ${y + tip}V${y + line}` : `M${from} ${y + line}`, right = ends && call.end < Infinity ? `H${to}V${y + tip}` : `H${to}`;
       out.push(`<path d="${left}${right}"/>`);
       const text = [long, short].find(it => it && fits(it, to - from + unit * 0.8));
       if (text) out.push(`<text class="callwords" x="${round((from + to) / 2)}" y="${y + label}">${escape(text)}</text>`);
     });
-    for (const part of partsOfCall(call, accesses)) {
-      const text = part.value === undefined ? part.name : `${part.name} ${part.value}`;
-      for (const {y, from, to} of partsOf(part.begin, part.end))
-        if (fits(text, (to - from + unit * 0.8) * 1.1)) out.push(`<text class="part" x="${round((from + to) / 2)}" y="${y + below}">${text}</text>`);
+    for (const part of partsOfCall({...call, end: until}, accesses.filter(it => it.begin !== broken))) {
+      for (const {y, from, to} of partsOf(part.begin, part.end)) {
+        const text = partWords(part, call, shape.modulus).find(it => it.length * 6.6 <= to - from + unit * 0.8);
+        if (text) out.push(`<text class="part" x="${round((from + to) / 2)}" y="${y + below}">${text}</text>`);
+      }
     }
     out.push("</g>");
   };
@@ -327,6 +329,7 @@ export function picture({shape, events, whole = events, fault = null, wholeFault
       `<text class="legend" x="32" y="24">a write of the bit overlaps the read: any answer is permitted</text>`);
     if (waveBits.length) out.push(`<path class="level s" d="M353 -10h14M383 3h14"/>`,
       `<rect class="underway" x="367" y="-11" width="16" height="15"/><text class="legend" x="407" y="0">what the bit holds</text>`);
+    if (hasCalls) out.push(`<g class="call"><path d="M530 24v-8h30v8"/></g><text class="legend" x="570" y="24">a call</text>`);
     out.push("</g>");
   };
 

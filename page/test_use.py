@@ -214,12 +214,42 @@ def calls_of(page):
     return page.browser.run("return [...document.querySelectorAll('#picture [data-call] title')].map(it => it.textContent)")
 
 
+# The words over braces, parts, bars and flags that lie on one another, or out of the picture.
+COLLISIONS = """const texts = [...document.querySelectorAll("#picture .callwords, #picture .part, #picture .bit, #picture .flagwords, #picture .legend")].map(it => [it.textContent, it.getBoundingClientRect()]);
+const room = document.querySelector("#picture svg").getBoundingClientRect(), found = texts.filter(([, it]) => it.left < room.left - 1 || it.right > room.right + 1).map(([text]) => text);
+texts.forEach(([text, a], i) => texts.slice(0, i).forEach(([other, b]) => {
+  if (a.left < b.right - 1 && b.left < a.right - 1 && a.top < b.bottom - 3 && b.top < a.bottom - 3) found.push(`${text} on ${other}`);
+}));
+return found;"""
+
+
+def test_collisions(page, same, _):
+    """No word of the picture lies on another, at three sizes, light and dark."""
+    lessons = pack.lessons()
+    for wide, high, scale in SIZES:
+        resize(page, wide, high, scale)
+        for it in lessons if wide == 1366 else lessons[::4]:
+            for theme in ("light", "dark") if it is lessons[0] or it["name"] == "stale_item" else ("light",):
+                page.open(f"{'example' if it['mode'] == 'trace' else 'script'}={it['name']}&theme={theme}")
+                same(f"words on words, {wide} {theme} {it['mode']} {it['name']}", page.browser.run(COLLISIONS), [])
+    for wide, high, scale in SIZES:
+        resize(page, wide, high, scale)
+        for theme in ("light", "dark"):
+            page.open(f"example=stale_item&theme={theme}")
+            seen_both = page.browser.run("""return ["bits", "ring", "due"].map(id => document.getElementById(id).getBoundingClientRect()).every(it => it.height > 8 && it.top >= 0 && it.bottom <= innerHeight / 2
+                && it.right <= innerWidth)""")
+            same(f"both verdicts are seen first, {wide} {theme}", seen_both, True)
+            colours = page.browser.run("return ['bits', 'ring'].map(id => getComputedStyle(document.getElementById(id)).color)")
+            same(f"their colours, {wide} {theme}", colours, ["rgb(8, 120, 79)", "rgb(204, 31, 45)"] if theme == "light" else ["rgb(67, 210, 150)", "rgb(255, 106, 106)"])
+    resize(page)
+
+
 def test_calls(page, same, _):
     """Braces over the lanes: each call with its reply, from its first own event to its last."""
     page.open("example=plain_path")
     same("calls of a trace", calls_of(page), ["P put 1, lines 2 to 9", "C take: 1, lines 10 to 19"])
     same("their parts", page.browser.run("return [...document.querySelectorAll('#picture .part')].map(it => it.textContent)"),
-         ["scan 0", "word", "count 1", "scan 1", "word", "count 1"])
+         ["k mod 3 = 0", "word", "n = 1", "n mod 3 = 1", "word", "k = 1"])
     page.browser.press("left")
     same("a call under way", calls_of(page), ["P put 1, lines 2 to 9", "C take, from line 10, under way"])
     page.browser.press("home", *["right"] * 8)
@@ -290,4 +320,4 @@ def test_speed(page, same, _):
     same("10,000 events step in 100 ms", [trace[5] < 100, play[5] < 100], [True, True])
 
 
-TESTS = [test_own, test_refusals, test_lessons, test_sizes, test_reach, test_reasons, test_calls, test_waves, test_numbers, test_speed]
+TESTS = [test_own, test_refusals, test_lessons, test_sizes, test_reach, test_reasons, test_calls, test_collisions, test_waves, test_numbers, test_speed]
