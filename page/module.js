@@ -9,8 +9,7 @@ const SIDES = ["P", "C"];
 const ACTS = ["read", "got", "write", "wrote"];
 const FAMILIES = ["s", "r", "x", "c"];
 const KINDS = ["", "wrong side", "out of turn", "not permitted", "not of the program"];
-const WHYS = ["", "the bit is not of the shape, or this side may not do this to it",
-  "a side has one access open at a time, and ends the one it began"];
+const WHYS = ["", "the bit is not of the shape, or this side may not do this to it"];
 const TOLD = 10 + 8 + 3 * 6; // numbers of what an audit tells: of the trace, of its programs, of three events that were due
 const SHAPE_FAULTS = ["", "capacity must be from 1 to 64", "modulus must be from capacity + batch + 1 to 256",
   "width must be from 1 to 64", "batch must be from 1 to capacity"];

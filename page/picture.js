@@ -233,7 +233,8 @@ export function picture({shape, events, whole = events, fault = null, wholeFault
       fault !== null && it.begin > fault && "pale"].filter(Boolean).join(" ");
     const does = it.isWrite ? `writes ${it.value} to ${it.bit}` : it.ended ? `reads ${it.bit}: ${it.value}` : `reads ${it.bit}`;
     const when = it.ended ? `${counted}s ${numberOf(it.begin)} to ${numberOf(it.end)}` : `from ${counted} ${numberOf(it.begin)}, open`;
-    out.push(`<g class="${classes}" data-line="${it.begin + 2}"><title>${it.side} ${does}, ${when}</title>`);
+    const call = broken !== null && it.begin >= broken ? undefined : calls.find(of => of.side === it.side && of.begin <= it.begin && it.begin <= of.end);
+    out.push(`<g class="${classes}" data-line="${it.begin + 2}"><title>${it.side} ${does}, ${when}${call ? `, of ${callWords(call)[1]}` : ""}</title>`);
     for (const {y: rowTop, from, to, begins, ends} of parts) {
       const y = rowTop + lane(it.side), [quarter, half, most, low] = [1, 2, 3, 4].map(n => y + n * BAR / 4);
       const right = ends && it.ended ? `V${low}` : `L${round(to - TOOTH)} ${quarter}L${to} ${half}L${round(to - TOOTH)} ${most}L${to} ${low}`;

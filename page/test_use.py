@@ -188,10 +188,13 @@ def test_reach(page, same, _):
 REASONS = [  # a text, and the reasons beside its two verdicts
     ("shape 1 3 1\nC read s0\nC got s0 0\n", "s0 holds 1 from the start, and no write overlaps the read of line 2: it has to answer 1", ""),
     ("shape 1 3 1\nP write s0 0\nP wrote s0\nP write s0 1\nP wrote s0\nC read s0\nC got s0 0\n",
-     "s0 holds 1 since line 5, and no write overlaps the read of line 6: it has to answer 1", "in line 2 was due: P write x 1, or read r0"),
-    ("shape 1 3 1\nP write s0 0\nP wrote s1\n", "a side has one access open at a time, and ends the one it began", "in line 2 was due: P write x 1, or read r0"),
+     "s0 holds 1 since line 5, and no write overlaps the read of line 6: it has to answer 1", ""),
+    ("shape 1 3 1\nP write s0 0\nP wrote s1\n", "P's write of s0 in line 2 is open: its end was to come", ""),
+    ("shape 1 3 1\nC read s0\nP read r1\n", "", "in line 3 was due: P write x 1, or read r0"),
     ("shape 1 3 1\nP read r0\nP got r0 1\nP read r0\n", "", "in line 4 was due: P write c0.0 0 or 1"),
-    ("shape 1 3 1\nP read r0\nC got s0 1\n", "a side has one access open at a time, and ends the one it began", ""),
+    ("shape 1 3 1\nP read r0\nC got s0 1\n", "C has no access open that this could end", ""),
+    ("shape 1 3 1\nP read r0\nP got r0 1\nP got r0 1\n", "P has no access open that this could end", ""),
+    ("shape 1 3 1\nP read r0\nP read r1\n", "P's read of r0 in line 2 is open: its end was to come", ""),
     ("shape 1 3 1\nP read r0\nP got r0 1\nP write c0.0 1\nP wrote c0.0\nP write c0.0 0\n", "", "in line 6 was due: P write s1 1"),
     ("shape 1 3 1\nC read s0\nC got s0 1\nC read s0\n", "", "in line 4 was due: C read x"),
     ("shape 1 3 1\nP write x 1\nP wrote x\nP read r0\n", "", "in line 4 nothing was due of P: it has made its last call"),
@@ -250,6 +253,7 @@ def test_calls(page, same, _):
     same("calls of a trace", calls_of(page), ["P put 1, lines 2 to 9", "C take: 1, lines 10 to 19"])
     same("their parts", page.browser.run("return [...document.querySelectorAll('#picture .part')].map(it => it.textContent)"),
          ["k mod 3 = 0", "word", "n = 1", "n mod 3 = 1", "word", "k = 1"])
+    same("the call of a bar", page.browser.run("return document.querySelector('#picture [data-line=\"4\"]').getAttribute('aria-label')"), "P writes 1 to c0.0, lines 4 to 5, of put 1")
     page.browser.press("left")
     same("a call under way", calls_of(page), ["P put 1, lines 2 to 9", "C take, from line 10, under way"])
     page.browser.press("home", *["right"] * 8)

@@ -7,16 +7,18 @@ export function ringVerdict({isRun, kind, place}) {
   return {words: `ring: line ${place + 2} is not of the program`, mood: place ? "bad" : "dim"};
 }
 
-// Why the bits do not permit the event at fault: what its bit holds, and since which line.
+// Why the bits do not permit the event at fault: the access of its side that is open, or that none is; or what its bit holds, and since which line.
 export function whyOf({events, place, kind, why, since}) {
-  if (kind !== "not permitted") return why;
-  const {side, bit} = events[place], read = events.slice(0, place).findLastIndex(it => it.side === side), {held} = events[read];
-  return `${bit} holds ${held} ${since ? `since line ${since + 1}` : "from the start"}, and no write overlaps the read of line ${read + 2}: it has to answer ${held}`;
+  if (kind !== "not permitted" && kind !== "out of turn") return why;
+  const {side, bit} = events[place], last = events.slice(0, place).findLastIndex(it => it.side === side), before = events[last];
+  if (kind === "not permitted")
+    return `${bit} holds ${before.held} ${since ? `since line ${since + 1}` : "from the start"}, and no write overlaps the read of line ${last + 2}: it has to answer ${before.held}`;
+  return before?.act === "read" || before?.act === "write" ? `${side}'s ${before.act} of ${before.bit} in line ${last + 2} is open: its end was to come` : `${side} has no access open that this could end`;
 }
 
-// What was due in place of an event that is not of its side's program.
+// What was due in place of an event that is not of its side's program, behind some that are.
 export function dueOf({events, programs: {isRun, kind, place, due}}) {
-  if (isRun || kind !== "not of the program") return "";
+  if (isRun || kind !== "not of the program" || place === 0) return "";
   const {side} = events[place], groups = new Map();
   for (const {act, bit, value} of due) groups.set(`${act} ${bit}`, [...groups.get(`${act} ${bit}`) ?? [], ...value === undefined ? [] : [value]]);
   const words = [...groups].map(([name, values]) => [name, values.join(" or ")].filter(Boolean).join(" "));
