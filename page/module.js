@@ -117,7 +117,7 @@ export async function openModule(bytes) {
   };
 
   // What the audit of programs tells of the first events of a trace, of none, one, two and so on up to `most`; and the items put and taken
-  // by the last of these.
+  // by the last of these, in decimal.
   const moments = (text, most) => {
     const bytes = new TextEncoder().encode(text), slots = most + 64;
     const [told, put, taken, at] = lay([TOLD * 8, slots * 8, slots * 8, bytes.length]);
@@ -127,8 +127,8 @@ export async function openModule(bytes) {
       call("page_audit", at, past, told, 0, put, slots, taken, slots, told);
       found.push(programsOf(getNumbers(told, TOLD).slice(10)));
     }
-    const last = found.at(-1);
-    return {found, put: getNumbers(put, last.put), taken: getNumbers(taken, last.taken)};
+    const last = found.at(-1), items = (place, count) => [...new BigUint64Array(exports.memory.buffer, place, count)].map(String);
+    return {found, put: items(put, last.put), taken: items(taken, last.taken)};
   };
 
   // The play of the first letters of a script: {refused} or {shape, events, report, letters}, where `letters` is how

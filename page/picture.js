@@ -161,7 +161,7 @@ export function picture({shape, events, whole = events, fault = null, wholeFault
   const up = hasCalls ? CALLS : 0; // above a row, and as much below it
   const {tall, rows, each, unit, width} = layout(whole.length, waveBits.length, 2 * up, head, aspect);
   const {accesses, strays} = accessesOf(events);
-  const count = events.length;
+  const count = events.length, stop = Math.min(broken ?? Infinity, fault ?? Infinity);
   const rowOf = place => Math.floor(place / each);
   const x = place => round(LEFT + (place % each + 0.5) * unit);
   const edge = LEFT + each * unit;
@@ -233,7 +233,7 @@ export function picture({shape, events, whole = events, fault = null, wholeFault
       fault !== null && it.begin > fault && "pale"].filter(Boolean).join(" ");
     const does = it.isWrite ? `writes ${it.value} to ${it.bit}` : it.ended ? `reads ${it.bit}: ${it.value}` : `reads ${it.bit}`;
     const when = it.ended ? `${counted}s ${numberOf(it.begin)} to ${numberOf(it.end)}` : `from ${counted} ${numberOf(it.begin)}, open`;
-    const call = broken !== null && it.begin >= broken ? undefined : calls.find(of => of.side === it.side && of.begin <= it.begin && it.begin <= of.end);
+    const call = it.begin >= stop ? undefined : calls.find(of => of.side === it.side && of.begin <= it.begin && it.begin <= of.end);
     out.push(`<g class="${classes}" data-line="${it.begin + 2}"><title>${it.side} ${does}, ${when}${call ? `, of ${callWords(call)[1]}` : ""}</title>`);
     for (const {y: rowTop, from, to, begins, ends} of parts) {
       const y = rowTop + lane(it.side), [quarter, half, most, low] = [1, 2, 3, 4].map(n => y + n * BAR / 4);
@@ -264,14 +264,14 @@ export function picture({shape, events, whole = events, fault = null, wholeFault
     const [line, tip, label, below] = isPut ? [-22, -15, -28, -4] : [ROW + 22, ROW + 15, ROW + 37, ROW + 8];
     const fits = (text, wide) => text.length * 7.4 + 4 <= wide;
     out.push(`<g class="call" data-call="${call.begin + 2}"><title>${call.side} ${escape(long)}, ${when}</title>`);
-    const until = call.end === Infinity && broken !== null ? broken : call.end; // nothing is told of calls behind a break
+    const until = Math.min(call.end, stop); // nothing is told of calls from there on
     partsOf(call.begin, until).forEach(({y, from, to, begins, ends}) => {
       const left = begins ? `M${from} ${y + tip}V${y + line}` : `M${from} ${y + line}`, right = ends && call.end < Infinity ? `H${to}V${y + tip}` : `H${to}`;
       out.push(`<path d="${left}${right}"/>`);
       const text = [long, short].find(it => it && fits(it, to - from + unit * 0.8));
       if (text) out.push(`<text class="callwords" x="${round((from + to) / 2)}" y="${y + label}">${escape(text)}</text>`);
     });
-    for (const part of partsOfCall({...call, end: until}, accesses.filter(it => it.begin !== broken))) {
+    for (const part of partsOfCall({...call, end: until}, accesses.filter(it => it.begin < stop))) {
       for (const {y, from, to} of partsOf(part.begin, part.end)) {
         const text = partWords(part, call, shape.modulus).find(it => it.length * 6.6 <= to - from + unit * 0.8);
         if (text) out.push(`<text class="part" x="${round((from + to) / 2)}" y="${y + below}">${text}</text>`);

@@ -267,6 +267,13 @@ def test_calls(page, same, _):
         if calls:
             same(f"calls of {name}", got[:2], calls)
         same(f"{name} has braces", len(got) > 1, True)
+    page.open("example=plain_path")
+    page.write(page.text().replace("C got s1 1", "C got s1 0"))
+    same("calls before a fault of the bits", [page.words(), calls_of(page)], ["fault: line 13: not permitted", ["P put 1, lines 2 to 9", "C take, from line 10, under way"]])
+    ends = page.browser.run("const of = it => Math.round(document.querySelector(it).getBoundingClientRect().right); return [of('#picture [data-call=\"10\"] path'), of('#picture .faultline')]")
+    same("its brace stops there", abs(ends[0] - ends[1]) <= 2, True)
+    page.write("shape 1 3 64\nP read r0\nP got r0 1\n" + "".join(f"P write c0.{i} 1\nP wrote c0.{i}\n" for i in range(64)) + "P write s1 1\nP wrote s1\nP write s0 0\nP wrote s0\n")
+    same("the largest item", calls_of(page), [f"P put {2**64 - 1}, lines 2 to 135"])
     page.open("example=count_before_cell")
     same("calls before the break", calls_of(page), ["P put, from line 2, under way"])
     page.open("example=new_old_inversion")
