@@ -172,7 +172,7 @@ function draw() {
   if (page.drawn === null) return frame.replaceChildren();
   const room = document.querySelector("main");
   const aspect = isSmall.matches ? 0.9 : (room.clientHeight - 20) / (room.clientWidth - 20);
-  const text = picture({...page.drawn, why: "", due: "", aspect}); // the verdicts and their reasons stand above the picture
+  const text = picture({...page.drawn, ring: null, why: "", due: "", aspect}); // the verdicts and their reasons stand above the picture
   const drawing = new DOMParser().parseFromString(text, "image/svg+xml").documentElement;
   const {width, height} = drawing.viewBox.baseVal;
   drawing.setAttribute("viewBox", `0 ${HEADING} ${width} ${height - HEADING}`);

@@ -165,6 +165,8 @@ export function picture({shape, events, whole = events, fault = null, wholeFault
   const rowOf = place => Math.floor(place / each);
   const x = place => round(LEFT + (place % each + 0.5) * unit);
   const edge = LEFT + each * unit;
+  const heading = Math.max((words.length + (ring?.words ? ring.words.length + 3 : 0)) * 12.1, ...[why, due].map(it => it.length * 9.1));
+  const breadth = Math.max(width, Math.ceil(LEFT + heading)); // of the picture, which has room for its heading
 
   // Of a long history a window of rows is drawn, around the fault or else the last event.
   const middle = rowOf(Math.max(0, fault ?? broken ?? count - 1));
@@ -346,6 +348,6 @@ export function picture({shape, events, whole = events, fault = null, wholeFault
   if (fault !== null) drawFlag(fault, kind);
   drawLegend();
   const style = theme === undefined ? "" : `<style>${styleOf(theme)}</style>`;
-  return `<svg xmlns="http://www.w3.org/2000/svg" class="ring" viewBox="0 0 ${width} ${height}" role="img" aria-label="${escape(words)}">`
-    + `${style}<rect class="bg" width="${width}" height="${height}"/>${out.join("\n")}</svg>\n`;
+  return `<svg xmlns="http://www.w3.org/2000/svg" class="ring" viewBox="0 0 ${breadth} ${height}" role="img" aria-label="${escape(words)}">`
+    + `${style}<rect class="bg" width="${breadth}" height="${height}"/>${out.join("\n")}</svg>\n`;
 }
