@@ -8,10 +8,9 @@ const PAGE = 65536; // bytes by which memory grows
 const SIDES = ["P", "C"];
 const ACTS = ["read", "got", "write", "wrote"];
 const FAMILIES = ["s", "r", "x", "c"];
-const KINDS = ["", "wrong side", "out of turn", "not permitted"];
-const WHYS = ["", "the bit is not of the shape, or this side may not do this to it",
-  "a side has one access open at a time, and ends the one it began",
-  "no write overlaps the read, so it has to answer what the bit held"];
+const KINDS = ["", "wrong side", "out of turn", "not permitted", "not of the program"];
+const WHYS = ["", "the bit is not of the shape, or this side may not do this to it"];
+const TOLD = 10 + 8 + 3 * 6; // numbers of what an audit tells: of the trace, of its programs, of three events that were due
 const SHAPE_FAULTS = ["", "capacity must be from 1 to 64", "modulus must be from capacity + batch + 1 to 256",
   "width must be from 1 to 64", "batch must be from 1 to capacity"];
 
@@ -31,8 +30,17 @@ function scriptFault({number, place, shapeFault}) {
 function eventOf([side, row, index, digit, act, value, held, overlapped, clashes]) {
   const family = FAMILIES[row];
   const bit = family === "x" ? "x" : family === "c" ? `c${index}.${digit}` : family + index;
-  return {side: SIDES[side], bit, family, rank: (row * 256 + index) * 256 + digit, act: ACTS[act],
+  return {side: SIDES[side], bit, family, index, cell: family === "c" ? index : undefined, rank: (row * 256 + index) * 256 + digit, act: ACTS[act],
     value: act === 1 || act === 2 ? value : undefined, held, overlapped: overlapped === 1, clashes: clashes === 1};
+}
+
+// What the audit of programs tells: of a history that is of the programs `isRun`, how many items were put and taken, whether a take was
+// told that the ring is closed, and whether a close, and a scan of the consumer, may begin next; else the place where it stops being of
+// them, the kind of the fault, and which events of that side were due.
+function programsOf([outcome, number, place, put, taken, told, mayClose, mayScan, ...dues]) {
+  const due = [0, 6, 12].map(at => dues.slice(at, at + 6)).filter(([isDue]) => isDue === 1)
+    .map(([, row, index, digit, act, value]) => eventOf([0, row, index, digit, act, value, 0, 0, 0]));
+  return {isRun: outcome === 0, kind: KINDS[number], place, put, taken, told: told === 1, mayClose: mayClose === 1, mayScan: mayScan === 1, due};
 }
 
 // The text of a trace, as docs/FORMATS.md has it.
@@ -42,7 +50,7 @@ export function traceOf({capacity, modulus, width, batch}, events) {
   return [shape, ...lines, ""].join("\n");
 }
 
-// Compiles the module. The answer has `audit` and `play`.
+// Compiles the module. The answer has `audit`, `moments` and `play`.
 export async function openModule(bytes) {
   const compiled = await WebAssembly.compile(bytes);
   let exports = (await WebAssembly.instantiate(compiled)).exports;
@@ -90,22 +98,37 @@ export async function openModule(bytes) {
     }
   };
 
-  // The verdict of the audit of bits on this text: {refused, line} or {words, kind, why, place, shape, events}, where
-  // `place` is that of the event at fault, or null.
+  // The verdicts on this text: {refused, line}, or that of the audit of bits, {words, kind, why, place, since, shape, events}, where `place` is
+  // that of the event at fault, or null, and `since` behind how many events the bit holds what an answer had to be; and `programs`.
   const audit = text => {
     const bytes = new TextEncoder().encode(text);
-    const [told, marks, at] = lay([9 * 8, EVENTS * MARK, bytes.length]);
+    const [told, marks, put, taken, at] = lay([TOLD * 8, EVENTS * MARK, EVENTS * 8, EVENTS * 8, bytes.length]);
     setBytes(at, bytes);
-    call("page_audit", at, bytes.length, marks, EVENTS, told);
-    const [outcome, number, place, shapeFault, count, capacity, modulus, width, batch] = getNumbers(told, 9);
+    call("page_audit", at, bytes.length, marks, EVENTS, put, EVENTS, taken, EVENTS, told);
+    const [outcome, number, place, shapeFault, count, capacity, modulus, width, batch, since, ...found] = getNumbers(told, TOLD);
     if (outcome === 2) {
       const line = number === 2 ? place : number === 1 ? 1 : 0;
       return {refused: traceFault({number, place, shapeFault}), line};
     }
-    const shape = {capacity, modulus, width, batch}, events = getEvents(marks, count);
-    if (outcome === 0) return {words: "lawful", kind: "", why: "", place: null, shape, events};
+    const shape = {capacity, modulus, width, batch}, events = getEvents(marks, count), programs = programsOf(found);
+    if (outcome === 0) return {words: "lawful", kind: "", why: "", place: null, shape, events, programs};
     const kind = KINDS[number];
-    return {words: `fault: line ${place + 2}: ${kind}`, kind, why: WHYS[number], place, shape, events};
+    return {words: `fault: line ${place + 2}: ${kind}`, kind, why: WHYS[number] ?? "", place, since, shape, events, programs};
+  };
+
+  // What the audit of programs tells of the first events of a trace, of none, one, two and so on up to `most`; and the items put and taken
+  // by the last of these, in decimal.
+  const moments = (text, most) => {
+    const bytes = new TextEncoder().encode(text), slots = most + 64;
+    const [told, put, taken, at] = lay([TOLD * 8, slots * 8, slots * 8, bytes.length]);
+    setBytes(at, bytes);
+    const found = [];
+    for (let past = bytes.indexOf(10) + 1; found.length <= most && past > 0; past = bytes.indexOf(10, past) + 1) {
+      call("page_audit", at, past, told, 0, put, slots, taken, slots, told);
+      found.push(programsOf(getNumbers(told, TOLD).slice(10)));
+    }
+    const last = found.at(-1), items = (place, count) => [...new BigUint64Array(exports.memory.buffer, place, count)].map(String);
+    return {found, put: items(put, last.put), taken: items(taken, last.taken)};
   };
 
   // The play of the first letters of a script: {refused} or {shape, events, report, letters}, where `letters` is how
@@ -129,5 +152,5 @@ export async function openModule(bytes) {
     return {shape: {capacity, modulus, width, batch}, events: getEvents(marks, Math.min(count, room)), report, letters: all};
   };
 
-  return {audit, play};
+  return {audit, moments, play};
 }

@@ -1,10 +1,12 @@
 // The page: a text in the editor, the proved module's word on it, and its picture.
+import { MOST_CALLED, callsOf, callsUntil } from "./calls.js";
 import { lessonOptions, showLesson } from "./lessons.js";
 import { openModule, traceOf } from "./module.js";
 import { picture, styleWithin } from "./picture.js";
 import { excerpt, placeOf } from "./places.js";
 import { LISTED_LETTERS, MOST_MOMENTS, lettersOf, momentsOf } from "./plays.js";
 import { laidOut, readScript } from "./script.js";
+import { breakOf, dueOf, ringVerdict, whyOf } from "./verdicts.js";
 
 const HEADING = 34; // of a picture, its verdict
 const LONG = 1.2; // so much higher than the window a picture is scrolled, and not shrunk
@@ -47,14 +49,19 @@ let whole = {}; // what the module says of the whole text: {refused}, or of its 
 // numbering is of a kind: a trace has lines, of which the shape's is the first; a script has letters.
 const views = {
   trace: {
-    read: text => module.audit(text),
+    read(text) {
+      const it = module.audit(text);
+      return it.refused ? it : {...it, calls: callsIn(text, it.events, it.programs.isRun ? it.events.length : it.programs.place)};
+    },
     most: () => whole.events.length,
     // A beginning of a trace is a trace of its own, and its verdict is asked for.
     at(shown, text) {
       let past = text.indexOf("\n");
       for (let line = 0; line < shown; line++) past = text.indexOf("\n", past + 1);
       const it = shown < whole.events.length ? module.audit(text.slice(0, past + 1)) : whole;
-      return {...it, note: "audit of the bits", fault: it.place, mood: it.place === null ? "good" : "bad", line: it.place === null ? 0 : it.place + 2,
+      const broken = breakOf(it), line = Math.min(it.place ?? Infinity, broken ?? Infinity) + 2;
+      return {...it, words: `bits: ${it.words}`, why: whyOf(it), ring: ringVerdict(it.programs), due: dueOf(it), fault: it.place, broken,
+        mood: it.place === null ? "good" : "bad", line: line === Infinity ? 0 : line,
         step: shown ? stepWords(it.events[shown - 1], `line ${shown + 1}`, it.place === null || shown - 1 < it.place) : ""};
     },
     place: shown => `line ${shown + 1} / ${whole.events.length + 1}`,
@@ -67,7 +74,7 @@ const views = {
       if (none.refused) return none;
       const all = module.play(script, none.letters);
       if (all.refused) return all;
-      return {...all, script, numbers: lettersOf(script.schedule, all.events),
+      return {...all, script, numbers: lettersOf(script.schedule, all.events), calls: callsIn(traceOf(all.shape, all.events), all.events, all.events.length),
         moments: momentsOf(letters => module.play(script, letters, false).report, all)};
     },
     most: () => whole.letters,
@@ -80,6 +87,11 @@ const views = {
     place: shown => `letter ${shown} / ${whole.letters}`,
   },
 };
+
+// The calls of the first events of a trace, which are of the programs.
+function callsIn(text, events, count) {
+  return events.length > MOST_CALLED || count === 0 ? [] : callsOf(events, module.moments(text, count));
+}
 
 // What an event is, and what the module tells of the moment just after it, where it tells of it.
 function stepWords({side, act, bit, value, held, overlapped, clashes}, where, isTold) {
@@ -113,17 +125,22 @@ function show(isStep = false) {
   const view = views[page.mode], text = $("text").value;
   const most = whole.refused ? 0 : view.most(), shown = Math.min(page.shown, most);
   const it = whole.refused ? whole : orStopped(() => view.at(shown, text));
-  page.drawn = it.refused ? null : {...it, whole: whole.events, wholeFault: whole.place ?? null, waves: $("waves").value};
+  page.drawn = it.refused ? null : {...it, whole: whole.events, wholeFault: whole.place ?? null, wholeBroken: breakOf(whole), waves: $("waves").value,
+    calls: callsUntil(whole.calls, it.events.length), hasCalls: whole.calls.length > 0};
   page.place = it.refused ? placeOf(page.mode, text, it) : null;
   $("shown").max = most;
   $("shown").value = shown;
   $("place").textContent = it.refused ? "" : view.place(shown);
   $("shown").setAttribute("aria-valuetext", $("place").textContent);
-  $("verdict").textContent = it.refused ? `refused: ${it.refused}` : it.words;
-  $("verdict").className = it.refused ? "refused" : it.mood;
+  $("bits").textContent = it.refused ? `refused: ${it.refused}` : it.words;
+  $("bits").className = it.refused ? "refused" : it.mood;
+  $("ring").textContent = it.ring?.words ?? "";
+  $("ring").className = it.ring?.mood ?? "";
   $("why").textContent = it.refused ? page.place?.cause ?? "" : it.why ?? "";
+  $("due").textContent = it.due ?? "";
+  $("due").className = it.ring?.mood ?? "";
   $("step").textContent = it.refused ? "" : it.step;
-  document.title = it.refused ? "refused" : it.words;
+  document.title = it.refused ? "refused" : [it.words, it.ring?.words].filter(Boolean).join(", ");
   refuse(it.refused);
   showLesson(examples.lessons, examples.lessons.findIndex(it => it.mode === page.mode && it.name === page.example));
   draw();
@@ -155,7 +172,7 @@ function draw() {
   if (page.drawn === null) return frame.replaceChildren();
   const room = document.querySelector("main");
   const aspect = isSmall.matches ? 0.9 : (room.clientHeight - 20) / (room.clientWidth - 20);
-  const text = picture({...page.drawn, why: "", aspect}); // the verdict and its reason stand above the picture
+  const text = picture({...page.drawn, ring: null, why: "", due: "", aspect}); // the verdicts and their reasons stand above the picture
   const drawing = new DOMParser().parseFromString(text, "image/svg+xml").documentElement;
   const {width, height} = drawing.viewBox.baseVal;
   drawing.setAttribute("viewBox", `0 ${HEADING} ${width} ${height - HEADING}`);
@@ -441,9 +458,9 @@ async function start() {
     examples = JSON.parse(await textOf("examples.json"));
     module = await openModule(await fileOf("ring_page.wasm"));
   } catch (error) {
-    $("verdict").className = "refused";
+    $("bits").className = "refused";
     const needs = error instanceof WebAssembly.CompileError ? " It needs 64-bit memory of WebAssembly: Chromium from 133, Firefox from 134." : "";
-    $("verdict").textContent = `The proved module does not run here: ${error.message}.${needs}`;
+    $("bits").textContent = `The proved module does not run here: ${error.message}.${needs}`;
     $("picture").replaceChildren();
     document.title = "not run";
     return;

@@ -1,6 +1,8 @@
 // The picture of a history: events as module.js makes them go in, the text of an SVG comes out. It places rectangles:
 // what a bit holds, which reads a write overlapped and where a read and a write clash are numbers of the module.
 
+import { callWords, partWords, partsOfCall } from "./calls.js";
+
 // ---- accesses and waves ----------------------------------------------------------------------------------------------
 
 // The accesses of events, by their places: each runs from its begin to the next event of its side (`ended` where that is
@@ -67,14 +69,15 @@ const HEAD = 68, WHY = 22, FOOT = 62; // above and below them; a fault's words t
 const LEAST = 34, MOST = 92; // between two events
 const NARROWEST = 720, WIDEST = 1280; // of a picture
 const MOST_ROWS = 12; // in one picture
+const CALLS = 50; // the height of a side's braces
 const ROW = 176, WAVES = 14, WAVE = 27, SWING = 18; // heights: of a row, around its waves, of one, of its step
 const P_BAR = 44, C_BAR = 122, BAR = 28, RULER = 101; // within a row
 const TOOTH = 5;
 
 // How the events are laid out in rows: with the widest letters with which the whole picture fits a frame of this height
 // over width; where none does, with the least. As many events in a row as fit, and the rows evenly filled.
-function layout(count, waves, head, aspect) {
-  const tall = ROW + (waves ? WAVES + waves * WAVE : 0);
+function layout(count, waves, calls, head, aspect) {
+  const tall = ROW + calls + (waves ? WAVES + waves * WAVE : 0);
   let found;
   for (let widest = NARROWEST; widest <= WIDEST; widest += 40) {
     const most = Math.floor((widest - LEFT - RIGHT) / LEAST);
@@ -107,7 +110,8 @@ const FORMS = `
 .ring .flagwords{font-size:14px;font-weight:700}
 .ring .wavename{font-size:14px;font-weight:600;text-anchor:end}.ring .level{fill:none;stroke-width:2.5}
 .ring .held{font-size:12.5px;font-weight:600}.ring .becomes{font-size:12.5px;font-weight:600;text-anchor:middle}
-.ring .underway{stroke-width:1.5}`;
+.ring .underway{stroke-width:1.5}
+.ring .call path{fill:none;stroke-width:1.5}.ring .callwords{font-size:12.5px;font-weight:600;text-anchor:middle}.ring .part{font-size:11px;text-anchor:middle}`;
 
 function paints(it) {
   const families = ["s", "r", "x", "c"].map(name => `.ring .${name} text,.ring text.${name}{fill:${it[name]}}`
@@ -120,7 +124,8 @@ function paints(it) {
 ${families}
 .ring .write .digit{fill:${it.bg}}.ring .read.free path{fill:${it.may};fill-opacity:${it.shade}}
 .ring .underway{fill:${it.may};fill-opacity:${it.shade};stroke:${it.may}}.ring .becomes{fill:${it.mayInk}}
-.ring .verdict.good{fill:${it.good}}.ring .verdict.bad,.ring .title.bad{fill:${it.bad}}
+.ring .call path{stroke:${it.dim}}.ring .part{fill:${it.dim}}
+.ring .verdict.good,.ring tspan.good{fill:${it.good}}.ring .verdict.bad,.ring .title.bad,.ring tspan.bad{fill:${it.bad}}.ring tspan.dim{fill:${it.dim}}
 .ring .fault path,.ring .faultline{stroke:${it.bad}}.ring .fault .bit,.ring .read.fault .digit{fill:${it.bad}}
 .ring .flag{fill:${it.bad}}.ring .flagwords,.ring .line.bad{fill:${it.bg}}`;
 }
@@ -144,27 +149,30 @@ export function styleOf(theme) {
 const round = x => Math.round(x * 10) / 10;
 const escape = text => String(text).replace(/&/g, "&amp;").replace(/</g, "&lt;").replace(/>/g, "&gt;").replace(/"/g, "&quot;");
 
-// The picture of `events`, of which the one at place `fault` is at fault (null: none is), in a frame with room for the
-// events `whole`. `words` is its heading, of the mood "good", "bad" or none, `note` stands below it; `kind` and `why` tell of the fault. `waves` is
-// "some", "all" or "none". The events have the numbers of their lines, or else `numbers`, which count what is `counted` up to `total`.
+// The picture of `events`, of which the one at place `fault` is at fault (null: none is), and the one at `broken` not of the program, in a
+// frame with room for the events `whole`. `words` is its heading, of the mood "good", "bad" or none, with that of the `ring`; `kind` and `why`
+// tell of the fault, `due` of what was due. `calls` are braced, with room for braces where it `hasCalls`. `waves` is "some", "all" or "none". The events have the numbers of their lines, or else `numbers`, which count what is `counted` up to `total`.
 // The style sheet is in the picture where `theme` is given.
-export function picture({shape, events, whole = events, fault = null, wholeFault = fault, words, note = "", mood = "", kind = "",
-  why = "", waves = "some", counted = "line", numbers = null, total = whole.length + 1, aspect = 9 / 16, theme}) {
+export function picture({shape, events, whole = events, fault = null, wholeFault = fault, broken = null, wholeBroken = broken, words, mood = "",
+  ring = null, kind = "", why = "", due = "", calls = [], hasCalls = calls.length > 0, waves = "some", counted = "line", numbers = null, total = whole.length + 1, aspect = 9 / 16, theme}) {
   const {drawn: waveBits, of: wavesInAll} = wavesOf(whole, wholeFault, waves);
   const numberOf = place => numbers ? numbers[place] : place + 2;
-  const head = HEAD + (wholeFault === null ? 0 : WHY);
-  const {tall, rows, each, unit, width} = layout(whole.length, waveBits.length, head, aspect);
+  const head = HEAD + (wholeFault === null ? 0 : WHY) + (wholeBroken === null ? 0 : WHY);
+  const up = hasCalls ? CALLS : 0; // above a row, and as much below it
+  const {tall, rows, each, unit, width} = layout(whole.length, waveBits.length, 2 * up, head, aspect);
   const {accesses, strays} = accessesOf(events);
-  const count = events.length;
+  const count = events.length, stop = Math.min(broken ?? Infinity, fault ?? Infinity);
   const rowOf = place => Math.floor(place / each);
   const x = place => round(LEFT + (place % each + 0.5) * unit);
   const edge = LEFT + each * unit;
+  const heading = Math.max((words.length + (ring?.words ? ring.words.length + 3 : 0)) * 12.1, ...[why, due].map(it => it.length * 9.1));
+  const breadth = Math.max(width, Math.ceil(LEFT + heading)); // of the picture, which has room for its heading
 
   // Of a long history a window of rows is drawn, around the fault or else the last event.
-  const middle = rowOf(Math.max(0, fault ?? count - 1));
+  const middle = rowOf(Math.max(0, fault ?? broken ?? count - 1));
   const first = Math.max(0, Math.min(middle - (MOST_ROWS >> 1), rows - MOST_ROWS)), past = Math.min(rows, first + MOST_ROWS);
   const isDrawn = row => first <= row && row < past;
-  const top = row => head + (row - first) * tall;
+  const top = row => head + (row - first) * tall + up;
   const height = head + (past - first) * tall + FOOT;
   const lane = side => side === "P" ? P_BAR : C_BAR;
   const name = side => side === "P" ? P_BAR - 7 : C_BAR + BAR + 18;
@@ -214,7 +222,7 @@ export function picture({shape, events, whole = events, fault = null, wholeFault
       const [from, to] = events[place].side === "P" ? [P_BAR + BAR + 2, RULER - 12] : [RULER + 4, C_BAR - 2];
       ties.push(`M${at} ${y + from}V${y + to}`);
       const isWide = String(numberOf(place)).length > 5 && place % 2; // of two numbers that have no room side by side, one
-      if (place !== fault && !isWide) out.push(`<text class="line" x="${at}" y="${y + RULER}">${numberOf(place)}</text>`);
+      if (place !== fault && place !== broken && !isWide) out.push(`<text class="line" x="${at}" y="${y + RULER}">${numberOf(place)}</text>`);
     }
     if (ties.length) out.push(`<path class="tie" d="${ties.join("")}"/>`);
   };
@@ -222,12 +230,13 @@ export function picture({shape, events, whole = events, fault = null, wholeFault
   const drawAccess = it => {
     const parts = partsOf(it.begin, it.end);
     if (!parts.length) return;
-    const isFault = fault !== null && (it.begin === fault || it.ended && it.end === fault);
+    const isFault = [fault, broken].some(at => at !== null && (it.begin === at || it.ended && it.end === at));
     const classes = [it.isWrite ? "write" : "read", it.family, it.overlapped && "free", isFault && "fault",
       fault !== null && it.begin > fault && "pale"].filter(Boolean).join(" ");
     const does = it.isWrite ? `writes ${it.value} to ${it.bit}` : it.ended ? `reads ${it.bit}: ${it.value}` : `reads ${it.bit}`;
     const when = it.ended ? `${counted}s ${numberOf(it.begin)} to ${numberOf(it.end)}` : `from ${counted} ${numberOf(it.begin)}, open`;
-    out.push(`<g class="${classes}" data-line="${it.begin + 2}"><title>${it.side} ${does}, ${when}</title>`);
+    const call = it.begin >= stop ? undefined : calls.find(of => of.side === it.side && of.begin <= it.begin && it.begin <= of.end);
+    out.push(`<g class="${classes}" data-line="${it.begin + 2}"><title>${it.side} ${does}, ${when}${call ? `, of ${callWords(call)[1]}` : ""}</title>`);
     for (const {y: rowTop, from, to, begins, ends} of parts) {
       const y = rowTop + lane(it.side), [quarter, half, most, low] = [1, 2, 3, 4].map(n => y + n * BAR / 4);
       const right = ends && it.ended ? `V${low}` : `L${round(to - TOOTH)} ${quarter}L${to} ${half}L${round(to - TOOTH)} ${most}L${to} ${low}`;
@@ -251,8 +260,30 @@ export function picture({shape, events, whole = events, fault = null, wholeFault
       `<path d="M${at - 10} ${bar}H${at}V${bar + BAR}H${at - 10}"/><text class="bit" x="${at}" y="${y + name(it.side)}">${it.bit}</text></g>`);
   };
 
+  // A call is a brace over the lane of its side, with what it came to; between the brace and the bars stand its parts.
+  const drawCall = call => {
+    const isPut = call.side === "P", [short, long] = callWords(call), when = call.end < Infinity ? `${counted}s ${numberOf(call.begin)} to ${numberOf(call.end)}` : `from ${counted} ${numberOf(call.begin)}, under way`;
+    const [line, tip, label, below] = isPut ? [-22, -15, -28, -4] : [ROW + 22, ROW + 15, ROW + 37, ROW + 8];
+    const fits = (text, wide) => text.length * 7.4 + 4 <= wide;
+    out.push(`<g class="call" data-call="${call.begin + 2}"><title>${call.side} ${escape(long)}, ${when}</title>`);
+    const until = Math.min(call.end, stop); // nothing is told of calls from there on
+    partsOf(call.begin, until).forEach(({y, from, to, begins, ends}) => {
+      const left = begins ? `M${from} ${y + tip}V${y + line}` : `M${from} ${y + line}`, right = ends && call.end < Infinity ? `H${to}V${y + tip}` : `H${to}`;
+      out.push(`<path d="${left}${right}"/>`);
+      const text = [long, short].find(it => it && fits(it, to - from + unit * 0.8));
+      if (text) out.push(`<text class="callwords" x="${round((from + to) / 2)}" y="${y + label}">${escape(text)}</text>`);
+    });
+    for (const part of partsOfCall({...call, end: until}, accesses.filter(it => it.begin < stop))) {
+      for (const {y, from, to} of partsOf(part.begin, part.end)) {
+        const text = partWords(part, call, shape.modulus).find(it => it.length * 6.6 <= to - from + unit * 0.8);
+        if (text) out.push(`<text class="part" x="${round((from + to) / 2)}" y="${y + below}">${text}</text>`);
+      }
+    }
+    out.push("</g>");
+  };
+
   const drawWave = (bit, number) => {
-    const down = ROW + 6 + number * WAVE;
+    const down = ROW + up + 6 + number * WAVE;
     for (let row = first; row < past && row <= rowOf(Math.max(0, (fault ?? count) - 1)); row++)
       out.push(`<text class="wavename ${bit.family}" x="${LEFT - 16}" y="${top(row) + down + 14}">${bit.bit}</text>`);
     for (const {from, to, held, write} of waveOf(bit, events, accesses, fault ?? count, fault ?? count - 0.5)) {
@@ -271,8 +302,9 @@ export function picture({shape, events, whole = events, fault = null, wholeFault
     }
   };
 
-  const drawFault = () => {
+  const drawFlag = (fault, kind) => {
     const y = top(rowOf(fault)), at = x(fault), line = `line ${fault + 2}: ${kind}`, wide = line.length * 8.5 + 20;
+    if (!isDrawn(rowOf(fault))) return;
     const from = round(Math.max(LEFT - 10, Math.min(at - wide / 2, edge + 10 - wide)));
     out.push(`<path class="faultline" d="M${at} ${y + 20}V${y + C_BAR + BAR + 6}"/>`,
       `<rect class="flag" x="${from}" y="${y + 2}" width="${wide}" height="22" rx="4"/>`,
@@ -282,13 +314,14 @@ export function picture({shape, events, whole = events, fault = null, wholeFault
   };
 
   const drawHead = () => {
-    const parts = [...(note ? [escape(note)] : []), `capacity ${shape.capacity}`, `modulus ${shape.modulus}`, `width ${shape.width}`];
+    const parts = [`capacity ${shape.capacity}`, `modulus ${shape.modulus}`, `width ${shape.width}`];
     if (shape.batch > 1) parts.push(`batch ${shape.batch}`);
     if (past - first < rows) parts.push(`${counted}s ${numberOf(first * each)} to ${numberOf(Math.min(past * each, whole.length) - 1)} of ${total}`);
     if (wavesInAll > MOST_WAVES) parts.push(waveBits.length < wavesInAll ? `waveforms of ${waveBits.length} of ${wavesInAll} bits` : `waveforms of all ${wavesInAll} bits`);
-    out.push(`<text class="verdict ${mood}" x="${LEFT - 10}" y="30">${escape(words)}</text>`,
+    const second = ring?.words ? `<tspan class="${ring.mood}" dx="28">${escape(ring.words)}</tspan>` : "";
+    out.push(`<text class="verdict ${mood}" x="${LEFT - 10}" y="30">${escape(words)}${second}</text>`,
       `<text class="title" x="${LEFT - 10}" y="52">${parts.join(" · ")}</text>`);
-    if (why) out.push(`<text class="title bad" x="${LEFT - 10}" y="${52 + WHY}">${escape(why)}</text>`);
+    [why, due].filter(Boolean).forEach((line, i) => out.push(`<text class="title bad" x="${LEFT - 10}" y="${52 + (i + 1) * WHY}">${escape(line)}</text>`));
   };
 
   const drawLegend = () => {
@@ -299,6 +332,7 @@ export function picture({shape, events, whole = events, fault = null, wholeFault
       `<text class="legend" x="32" y="24">a write of the bit overlaps the read: any answer is permitted</text>`);
     if (waveBits.length) out.push(`<path class="level s" d="M353 -10h14M383 3h14"/>`,
       `<rect class="underway" x="367" y="-11" width="16" height="15"/><text class="legend" x="407" y="0">what the bit holds</text>`);
+    if (hasCalls) out.push(`<g class="call"><path d="M530 24v-8h30v8"/></g><text class="legend" x="570" y="24">a call</text>`);
     out.push("</g>");
   };
 
@@ -309,9 +343,11 @@ export function picture({shape, events, whole = events, fault = null, wholeFault
   accesses.forEach(drawAccess);
   strays.forEach(drawStray);
   waveBits.forEach(drawWave);
-  if (fault !== null) drawFault();
+  calls.forEach(drawCall);
+  if (broken !== null) drawFlag(broken, "not of the program");
+  if (fault !== null) drawFlag(fault, kind);
   drawLegend();
   const style = theme === undefined ? "" : `<style>${styleOf(theme)}</style>`;
-  return `<svg xmlns="http://www.w3.org/2000/svg" class="ring" viewBox="0 0 ${width} ${height}" role="img" aria-label="${escape(words)}">`
-    + `${style}<rect class="bg" width="${width}" height="${height}"/>${out.join("\n")}</svg>\n`;
+  return `<svg xmlns="http://www.w3.org/2000/svg" class="ring" viewBox="0 0 ${breadth} ${height}" role="img" aria-label="${escape(words)}">`
+    + `${style}<rect class="bg" width="${breadth}" height="${height}"/>${out.join("\n")}</svg>\n`;
 }

@@ -162,9 +162,9 @@ def test_sizes(page, same, _):
 def test_reach(page, same, _):
     """Each bar is reached by keys, and what it is, the step and the reason of a fault are told."""
     page.open("example=stale_read_after_inversion")
-    told = page.browser.run("return ['verdict', 'why', 'step'].map(id => document.getElementById(id).getAttribute('role'))")
-    same("what is announced", told, ["status"] * 3)
-    same("the reason", words(page, "why"), "no write overlaps the read, so it has to answer what the bit held")
+    told = page.browser.run("return ['verdict', 'why', 'due', 'step'].map(id => document.getElementById(id).getAttribute('role'))")
+    same("what is announced", told, ["status"] * 4)
+    same("the reason", words(page, "why"), "s0 holds 0 since line 7, and no write overlaps the read of line 8: it has to answer 0")
     same("the step", words(page, "step"), "line 9: C got s0 1")
     page.browser.press("left")
     same("no reason", [words(page, "why"), words(page, "step")], ["", "line 8: C read s0"])
@@ -183,6 +183,103 @@ def test_reach(page, same, _):
     page.browser.run("document.querySelector('#picture [tabindex=\"0\"]').focus()")
     page.browser.press("left")
     same("the focus stays", page.browser.run("return document.activeElement.dataset.line"), "18")
+
+
+REASONS = [  # a text, and the reasons beside its two verdicts
+    ("shape 1 3 1\nC read s0\nC got s0 0\n", "s0 holds 1 from the start, and no write overlaps the read of line 2: it has to answer 1", ""),
+    ("shape 1 3 1\nP write s0 0\nP wrote s0\nP write s0 1\nP wrote s0\nC read s0\nC got s0 0\n",
+     "s0 holds 1 since line 5, and no write overlaps the read of line 6: it has to answer 1", ""),
+    ("shape 1 3 1\nP write s0 0\nP wrote s1\n", "P's write of s0 in line 2 is open: its end was to come", ""),
+    ("shape 1 3 1\nC read s0\nP read r1\n", "", "in line 3 was due: P write x 1, or read r0"),
+    ("shape 1 3 1\nP read r0\nP got r0 1\nP read r0\n", "", "in line 4 was due: P write c0.0 0 or 1"),
+    ("shape 1 3 1\nP read r0\nC got s0 1\n", "C has no access open that this could end", ""),
+    ("shape 1 3 1\nP read r0\nP got r0 1\nP got r0 1\n", "P has no access open that this could end", ""),
+    ("shape 1 3 1\nP read r0\nP read r1\n", "P's read of r0 in line 2 is open: its end was to come", ""),
+    ("shape 1 3 1\nP read r0\nP got r0 1\nP write c0.0 1\nP wrote c0.0\nP write c0.0 0\n", "", "in line 6 was due: P write s1 1"),
+    ("shape 1 3 1\nC read s0\nC got s0 1\nC read s0\n", "", "in line 4 was due: C read x"),
+    ("shape 1 3 1\nP write x 1\nP wrote x\nP read r0\n", "", "in line 4 nothing was due of P: it has made its last call"),
+    ("shape 1 3 1\nC write s0 0\n", "the bit is not of the shape, or this side may not do this to it", ""),
+]
+
+
+def test_reasons(page, same, _):
+    """Beside a fault stands what was due: what the bit holds and since when, and the accesses with which the program goes on."""
+    page.open("example=count_before_cell")
+    same("what was due", words(page, "due"), "in line 4 was due: P write c0.0 0 or 1")
+    page.browser.press("home", "right", "right")
+    same("before it is shown", [words(page, "ring"), words(page, "due")], ["ring: follows the programs", ""])
+    for text, why, due in REASONS:
+        page.write(text)
+        same(f"the reasons of {text!r}", [words(page, "why"), words(page, "due")], [why, due])
+
+
+def calls_of(page):
+    return page.browser.run("return [...document.querySelectorAll('#picture [data-call] title')].map(it => it.textContent)")
+
+
+# The words over braces, parts, bars and flags that lie on one another, or out of the picture.
+COLLISIONS = """const texts = [...document.querySelectorAll("#picture .callwords, #picture .part, #picture .bit, #picture .flagwords, #picture .legend")].map(it => [it.textContent, it.getBoundingClientRect()]);
+const room = document.querySelector("#picture svg").getBoundingClientRect(), found = texts.filter(([, it]) => it.left < room.left - 1 || it.right > room.right + 1).map(([text]) => text);
+texts.forEach(([text, a], i) => texts.slice(0, i).forEach(([other, b]) => {
+  if (a.left < b.right - 1 && b.left < a.right - 1 && a.top < b.bottom - 3 && b.top < a.bottom - 3) found.push(`${text} on ${other}`);
+}));
+return found;"""
+
+
+def test_collisions(page, same, _):
+    """No word of the picture lies on another, at three sizes, light and dark."""
+    lessons = pack.lessons()
+    for wide, high, scale in SIZES:
+        resize(page, wide, high, scale)
+        for it in lessons if wide == 1366 else lessons[::4]:
+            for theme in ("light", "dark") if it is lessons[0] or it["name"] == "stale_item" else ("light",):
+                page.open(f"{'example' if it['mode'] == 'trace' else 'script'}={it['name']}&theme={theme}")
+                same(f"words on words, {wide} {theme} {it['mode']} {it['name']}", page.browser.run(COLLISIONS), [])
+    for wide, high, scale in SIZES:
+        resize(page, wide, high, scale)
+        for theme in ("light", "dark"):
+            page.open(f"example=stale_item&theme={theme}")
+            seen_both = page.browser.run("""return ["bits", "ring", "due"].map(id => document.getElementById(id).getBoundingClientRect()).every(it => it.height > 8 && it.top >= 0 && it.bottom <= innerHeight / 2
+                && it.right <= innerWidth)""")
+            same(f"both verdicts are seen first, {wide} {theme}", seen_both, True)
+            colours = page.browser.run("return ['bits', 'ring'].map(id => getComputedStyle(document.getElementById(id)).color)")
+            same(f"their colours, {wide} {theme}", colours, ["rgb(8, 120, 79)", "rgb(204, 31, 45)"] if theme == "light" else ["rgb(67, 210, 150)", "rgb(255, 106, 106)"])
+    resize(page)
+
+
+def test_calls(page, same, _):
+    """Braces over the lanes: each call with its reply, from its first own event to its last."""
+    page.open("example=plain_path")
+    same("calls of a trace", calls_of(page), ["P put 1, lines 2 to 9", "C take: 1, lines 10 to 19"])
+    same("their parts", page.browser.run("return [...document.querySelectorAll('#picture .part')].map(it => it.textContent)"),
+         ["k mod 3 = 0", "word", "n = 1", "n mod 3 = 1", "word", "k = 1"])
+    same("the call of a bar", page.browser.run("return document.querySelector('#picture [data-line=\"4\"]').getAttribute('aria-label')"), "P writes 1 to c0.0, lines 4 to 5, of put 1")
+    page.browser.press("left")
+    same("a call under way", calls_of(page), ["P put 1, lines 2 to 9", "C take, from line 10, under way"])
+    page.browser.press("home", *["right"] * 8)
+    same("one that has ended", calls_of(page), ["P put 1, lines 2 to 9"])
+    page.browser.press("left")
+    same("and one that has not", calls_of(page), ["P put, from line 2, under way"])
+    for name, calls in [("full_at_capacity_one", ["P put 1, letters 1 to 8", "P put: full, letters 9 to 10"]),
+                        ("second_scan_finds_the_item", None), ("batch_of_three", None), ("cut_before_closed", None)]:
+        page.open(f"script={name}")
+        got = calls_of(page)
+        if calls:
+            same(f"calls of {name}", got[:2], calls)
+        same(f"{name} has braces", len(got) > 1, True)
+    page.open("example=plain_path")
+    page.write(page.text().replace("C got s1 1", "C got s1 0"))
+    same("calls before a fault of the bits", [page.words(), calls_of(page)], ["fault: line 13: not permitted", ["P put 1, lines 2 to 9", "C take, from line 10, under way"]])
+    ends = page.browser.run("const of = it => Math.round(document.querySelector(it).getBoundingClientRect().right); return [of('#picture [data-call=\"10\"] path'), of('#picture .faultline')]")
+    same("its brace stops there", abs(ends[0] - ends[1]) <= 2, True)
+    page.write("shape 1 3 64\nP read r0\nP got r0 1\n" + "".join(f"P write c0.{i} 1\nP wrote c0.{i}\n" for i in range(64)) + "P write s1 1\nP wrote s1\nP write s0 0\nP wrote s0\n")
+    same("the largest item", calls_of(page), [f"P put {2**64 - 1}, lines 2 to 135"])
+    page.open("example=count_before_cell")
+    same("calls before the break", calls_of(page), ["P put, from line 2, under way"])
+    page.open("example=new_old_inversion")
+    same("no calls of bits alone", page.count("#picture [data-call]"), 0)
+    page.write("shape 1 3 1\n" + "P read r0\nP got r0 1\n" * 301)
+    same("too many events for braces", page.count("#picture [data-call]"), 0)
 
 
 def test_waves(page, same, _):
@@ -234,4 +331,4 @@ def test_speed(page, same, _):
     same("10,000 events step in 100 ms", [trace[5] < 100, play[5] < 100], [True, True])
 
 
-TESTS = [test_own, test_refusals, test_lessons, test_sizes, test_reach, test_waves, test_numbers, test_speed]
+TESTS = [test_own, test_refusals, test_lessons, test_sizes, test_reach, test_reasons, test_calls, test_collisions, test_waves, test_numbers, test_speed]

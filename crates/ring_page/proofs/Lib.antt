@@ -1,3 +1,4 @@
 pub mod Puts
+pub mod Sinces
 pub mod Rooms
 pub mod Shown

@@ -14,6 +14,8 @@ use Rattle.bits_core.specs.declared.shapes.Shape.{Shape}
 use Rattle.bits_core.specs.declared.traces.TraceFault.{TraceFault}
 use Rattle.bits_core.specs.declared.traces.TraceFault.TheVariants.{BadShape, BadLine, TooLong, OutOfMemory}
 use Rattle.ring_page.specs.Marks.{act_number, digit_of, index_of, row_of, side_number, value_of}
+use Rattle.ring_page.specs.Programs.{TellsPrograms, unjudged}
+use Rattle.ring_page.specs.Reasons.{TellsSince}
 use Rattle.ring_page.specs.declared.audits.TheConstants.{EVENT_ROOM}
 use Rattle.ring_page.specs.declared.audits.Told.{Told}
 use Rattle.ring_page.specs.declared.marks.Mark.{Mark}
@@ -70,8 +72,9 @@ pub record TellsShape (shape : Shape) (told : Told) : Type 0 where
   pub batch : told.batch ≡ batch_of shape
   pub no_fault : told.shape_fault ≡ 0
 
--- the text is a trace, this is the verdict on it, and these are the marks of its events
-pub record TellsAudit (text : List ℕ) (marks : List Mark) (told : Told) : Type 0 where
+-- the text is a trace, this is the verdict on it, and these are the marks of its events; and this is found of its programs, with the items
+-- put and taken
+pub record TellsAudit (text : List ℕ) (marks : List Mark) (put taken : List ℕ) (told : Told) : Type 0 where
   pub shape : Shape
   pub events : List Event
   pub verdict : Verdict
@@ -80,6 +83,8 @@ pub record TellsAudit (text : List ℕ) (marks : List Mark) (told : Told) : Type
   pub tells : TellsVerdict verdict told
   pub tells_shape : TellsShape shape told
   pub count : told.count ≡ length events
+  pub since : TellsSince events verdict told.since
+  pub programs : TellsPrograms shape events put taken told.programs
   pub are_marks : AreMarksOf events (sound_count events verdict) marks
 
 -- ---- no trace
@@ -98,6 +103,8 @@ pub record TellsNoTrace (told : Told) : Type 0 where
   pub modulus : told.modulus ≡ 0
   pub width : told.width ≡ 0
   pub batch : told.batch ≡ 0
+  pub since : told.since ≡ 0
+  pub programs : told.programs ≡ unjudged
 
 -- the fault, as numbers
 pub record TellsFault (fault : TraceFault) (told : Told) : Type 0 where
@@ -113,5 +120,5 @@ pub record TellsRefusal (text : List ℕ) (told : Told) : Type 0 where
   pub tells : TellsFault fault told
 
 -- what is told of a text
-abbrev pub TellsText : List ℕ → List Mark → Told → Type 0
-TellsText text marks told = TellsAudit text marks told ⊎ TellsRefusal text told
+abbrev pub TellsText : List ℕ → List Mark → List ℕ → List ℕ → Told → Type 0
+TellsText text marks put taken told = TellsAudit text marks put taken told ⊎ TellsRefusal text told

@@ -1,3 +1,5 @@
 pub mod Marks
+pub mod Reasons
+pub mod Programs
 pub mod Audit
 pub mod Play

@@ -1,5 +1,5 @@
 -- Events as numbers.
-use Rattle.std.specs.Prelude.{◌≡◌, Bool, false, ℕ, Some, List, slice_get}
+use Rattle.std.specs.Prelude.{◌≡◌, Bool, true, false, ℕ, Some, List, slice_get}
 use Rattle.bits_core.specs.declared.audits.Seen.{Seen}
 use Rattle.bits_core.specs.declared.events.Act.{Act}
 use Rattle.bits_core.specs.declared.events.Act.TheVariants.{ReadBegin, ReadEnd, WriteBegin, WriteEnd}
@@ -49,6 +49,10 @@ value_of ReadBegin = false
 value_of (ReadEnd v) = v
 value_of (WriteBegin v) = v
 value_of WriteEnd = false
+
+abbrev pub bit_number : Bool → ℕ
+bit_number true = 1
+bit_number false = 0
 
 -- an event and what is seen there
 abbrev pub mark_of : Event → Seen → Mark

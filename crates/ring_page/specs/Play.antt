@@ -1,5 +1,5 @@
 -- What the page is told of a play.
-use Rattle.std.specs.Prelude.{◌≡◌, ◌⊎◌, ◌↔◌, ◌<◌, min, Bool, true, false, not, nat_eq, ℕ, List, length, take}
+use Rattle.std.specs.Prelude.{◌≡◌, ◌⊎◌, ◌↔◌, ◌<◌, min, not, nat_eq, ℕ, List, length, take}
 use Rattle.bits_core.specs.Shape.{shape_fault_number}
 use Rattle.bits_core.specs.declared.events.Event.{Event}
 use Rattle.ring_core.specs.Items.{ToldIn, items_put_in, items_taken_in}
@@ -34,10 +34,6 @@ fields_of asked items schedule oracle = record {
   oracle = oracle;
   batch = asked.batch;
 }
-
-abbrev pub bit_number : Bool → ℕ
-bit_number true = 1
-bit_number false = 0
 
 -- the list stands at the front of the room, as much of it as there is room for
 abbrev pub Fills : List ℕ → List ℕ → Type 0

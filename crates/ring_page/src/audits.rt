@@ -5,6 +5,8 @@ ghost use Rattle.bits_core.specs.Trace.{IsTraceFault};
 ghost use Rattle.ring_page.specs.Audit.{IsNothingSeen, TellsText, TellsFault, TellsShape, TellsVerdict};
 
 use crate::marks::{Mark, put_marks};
+use crate::programs::{Judged, tell_programs, unjudged};
+use crate::reasons::since_when;
 use bits_core::laws::{fault_breaks, flicker_is_by_interval};
 use bits_core::{
     Act, Bit, Event, Seen, Shape, Side, TraceFault, Verdict, audit_bits_into, read_trace_into,
@@ -32,12 +34,24 @@ pub struct Told {
     pub modulus: u64,
     pub width: u64,
     pub batch: u64,
+    /// Of an answer that is not permitted: behind how many events the last write of its bit had ended; 0 where none had.
+    pub since: u64,
+    /// What the audit of programs tells.
+    pub programs: Judged,
 }
 
-fn told_verdict(verdict: Verdict, shape: &Shape, count: usize) -> Told
+fn told_verdict(
+    verdict: Verdict,
+    shape: &Shape,
+    count: usize,
+    since: usize,
+    programs: Judged,
+) -> Told
     ensures verdict { TellsVerdict verdict result }
     ensures shape { TellsShape shape.now result }
     ensures count { result.count ≡ count }
+    ensures since { result.since ≡ since }
+    ensures programs { result.programs ≡ programs }
 {
     let (outcome, number, place) = match verdict {
         Verdict::Lawful => (0, 0, 0),
@@ -53,6 +67,8 @@ fn told_verdict(verdict: Verdict, shape: &Shape, count: usize) -> Told
         modulus: shape.modulus(),
         width: shape.width(),
         batch: shape.batch(),
+        since: since as u64,
+        programs,
     }
 }
 
@@ -74,14 +90,23 @@ fn told_fault(fault: TraceFault) -> Told
         modulus: 0,
         width: 0,
         batch: 0,
+        since: 0,
+        programs: unjudged(),
     }
 }
 
 // What is told of the text, with the marks of its events.
-fn audited(text: &[u8], events: &mut [Event], seen: &mut [Seen], marks: &mut [Mark]) -> Told
+fn audited(
+    text: &[u8],
+    events: &mut [Event],
+    seen: &mut [Seen],
+    marks: &mut [Mark],
+    put: &mut [u64],
+    taken: &mut [u64],
+) -> Told
     requires room { length events.old ≡ EVENT_ROOM }
     requires seen { (length seen.old ≡ EVENT_ROOM) × IsNothingSeen seen.old }
-    ensures { TellsText text.now marks.new result }
+    ensures { TellsText text.now marks.new put.new taken.new result }
 {
     fault_breaks();
     flicker_is_by_interval();
@@ -90,7 +115,9 @@ fn audited(text: &[u8], events: &mut [Event], seen: &mut [Seen], marks: &mut [Ma
             let read = &events[..count];
             let verdict = audit_bits_into(&shape, read, seen);
             put_marks(read, seen, marks);
-            told_verdict(verdict, &shape, count)
+            let since = since_when(read, verdict);
+            let programs = tell_programs(&shape, read, put, taken);
+            told_verdict(verdict, &shape, count, since, programs)
         }
         Err(fault) => told_fault(fault),
     }
@@ -121,13 +148,20 @@ pub fn nothing_seen() -> [Seen; EVENT_ROOM]
     [nothing; EVENT_ROOM]
 }
 
-/// Tells the verdict on the trace that the text is, with the marks of its events, as many as there is room
-/// for; or why it is no trace, or that it has more events than `EVENT_ROOM`. It takes no memory.
+/// Tells the verdict on the trace that the text is, with the marks of its events, as many as there is room for, and what the
+/// audit of programs finds of it, with the items put and taken in the first slots of two slices; or why it is no trace, or that
+/// it has more events than `EVENT_ROOM`. As many slots as there are events are enough. It takes no memory.
 #[unsafe(no_mangle)]
-pub extern "C" fn page_audit(text: &[u8], marks: &mut [Mark], told: &mut Told)
-    ensures { TellsText text.now marks.new told.new }
+pub extern "C" fn page_audit(
+    text: &[u8],
+    marks: &mut [Mark],
+    put: &mut [u64],
+    taken: &mut [u64],
+    told: &mut Told,
+)
+    ensures { TellsText text.now marks.new put.new taken.new told.new }
 {
     let mut events = no_events();
     let mut seen = nothing_seen();
-    *told = audited(text, &mut events, &mut seen, marks);
+    *told = audited(text, &mut events, &mut seen, marks, put, taken);
 }

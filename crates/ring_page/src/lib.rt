@@ -4,10 +4,13 @@
 mod audits;
 mod marks;
 mod plays;
+mod programs;
+mod reasons;
 
 pub use audits::{EVENT_ROOM, Told, page_audit};
 pub use marks::Mark;
 pub use plays::{ANSWER_ROOM, Asked, Played, RUN_ROOM, page_play};
+pub use programs::{Due, Judged};
 
 #[cfg(test)]
 mod tests;

@@ -2,7 +2,7 @@
 ghost use Rattle.std.specs.Prelude.{◌≡◌, ℕ, ◌<◌, ◌≤◌, List, length, Some, slice_get};
 ghost use Rattle.bits_core.specs.declared.events.Event.{Event};
 ghost use Rattle.bits_core.specs.declared.audits.Seen.{Seen};
-ghost use Rattle.ring_page.specs.Marks.{ArePut, act_number, digit_of, index_of, mark_of, row_of, side_number, value_of};
+ghost use Rattle.ring_page.specs.Marks.{ArePut, act_number, bit_number, digit_of, index_of, mark_of, row_of, side_number, value_of};
 
 use bits_core::{Act, Bit, Event, Seen, Side};
 
@@ -39,7 +39,8 @@ fn side_number(side: Side) -> u8
     }
 }
 
-fn row_of(bit: Bit) -> u8
+/// The number of the bit's row.
+pub fn row_of(bit: Bit) -> u8
     ensures { result ≡ row_of bit }
 {
     match bit {
@@ -50,7 +51,8 @@ fn row_of(bit: Bit) -> u8
     }
 }
 
-fn index_of(bit: Bit) -> u8
+/// The number of the bit in its row.
+pub fn index_of(bit: Bit) -> u8
     ensures { result ≡ index_of bit }
 {
     match bit {
@@ -60,7 +62,8 @@ fn index_of(bit: Bit) -> u8
     }
 }
 
-fn digit_of(bit: Bit) -> u8
+/// The digit, of a cell's bit.
+pub fn digit_of(bit: Bit) -> u8
     ensures { result ≡ digit_of bit }
 {
     match bit {
@@ -69,7 +72,8 @@ fn digit_of(bit: Bit) -> u8
     }
 }
 
-fn act_number(act: Act) -> u8
+/// The number of the act.
+pub fn act_number(act: Act) -> u8
     ensures { result ≡ act_number act }
 {
     match act {
@@ -80,13 +84,21 @@ fn act_number(act: Act) -> u8
     }
 }
 
-fn value_of(act: Act) -> bool
+/// The value that it tells.
+pub fn value_of(act: Act) -> bool
     ensures { result ≡ value_of act }
 {
     match act {
         Act::ReadEnd(value) | Act::WriteBegin(value) => value,
         Act::ReadBegin | Act::WriteEnd => false,
     }
+}
+
+/// 1 for true.
+pub fn bit_number(value: bool) -> u64
+    ensures { result ≡ bit_number value }
+{
+    if value { 1 } else { 0 }
 }
 
 fn mark_of(event: Event, seen: Seen) -> Mark

@@ -5,10 +5,10 @@ ghost use Rattle.bits_core.specs.declared.shapes.Shape.{Shape};
 ghost use Rattle.bits_core.specs.Lawful.{IsLawful};
 ghost use Rattle.ring_script.specs.Borrowed.{content_of, held_of};
 ghost use Rattle.ring_page.specs.Audit.{AreMarksOf, IsNothingSeen};
-ghost use Rattle.ring_page.specs.Play.{Fills, TellsFirstLetters, TellsPlay, TellsPlayFault, bit_number, fields_of};
+ghost use Rattle.ring_page.specs.Play.{Fills, TellsFirstLetters, TellsPlay, TellsPlayFault, fields_of};
 
 use crate::audits::{EVENT_ROOM, no_events, nothing_seen};
-use crate::marks::{Mark, put_marks};
+use crate::marks::{Mark, bit_number, put_marks};
 use bits_core::laws::{fault_breaks, flicker_is_by_interval, one_verdict};
 use bits_core::{Event, Filled, Seen, Shape, Side, audit_bits_into};
 use ring_player::{PlayFault, play_first};
@@ -59,12 +59,6 @@ pub struct Played {
     pub flickers: u64,
     /// How many letters the schedule stands for.
     pub all_letters: u64,
-}
-
-fn bit_number(value: bool) -> u64
-    ensures { result ≡ bit_number value }
-{
-    if value { 1 } else { 0 }
 }
 
 fn told_fault(fault: ScriptFault) -> Played

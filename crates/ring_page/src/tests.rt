@@ -1,4 +1,7 @@
-use crate::{ANSWER_ROOM, Asked, EVENT_ROOM, Mark, Played, RUN_ROOM, Told, page_audit, page_play};
+use crate::{
+    ANSWER_ROOM, Asked, Due, EVENT_ROOM, Judged, Mark, Played, RUN_ROOM, Told, page_audit,
+    page_play,
+};
 use std::alloc::AllocGlobal;
 use std::process::Abort;
 use std::test::Fail;
@@ -15,6 +18,29 @@ const NO_MARK: Mark = Mark {
     clashes: true,
 };
 
+const NO_DUE: Due = Due {
+    is_due: 0,
+    row: 0,
+    index: 0,
+    digit: 0,
+    act: 0,
+    value: 0,
+};
+
+const UNJUDGED: Judged = Judged {
+    outcome: 2,
+    number: 0,
+    place: 0,
+    put: 0,
+    taken: 0,
+    told: 0,
+    may_close: 0,
+    may_scan: 0,
+    first: NO_DUE,
+    second: NO_DUE,
+    third: NO_DUE,
+};
+
 // What is told before anything is told.
 const NOTHING_TOLD: Told = Told {
     outcome: 9,
@@ -26,12 +52,25 @@ const NOTHING_TOLD: Told = Told {
     modulus: 9,
     width: 9,
     batch: 9,
+    since: 9,
+    programs: UNJUDGED,
 };
 
 fn audit(text: &str, marks: &mut [Mark]) -> Told {
     let mut told = NOTHING_TOLD;
-    page_audit(text.as_bytes(), marks, &mut told);
+    let mut put = [7; 4];
+    let mut taken = [7; 4];
+    page_audit(text.as_bytes(), marks, &mut put, &mut taken, &mut told);
     told
+}
+
+// What the audit of programs tells, with the first items put and taken.
+fn judge(text: &str) -> (Judged, [u64; 4], [u64; 4]) {
+    let mut told = NOTHING_TOLD;
+    let mut put = [7; 4];
+    let mut taken = [7; 4];
+    page_audit(text.as_bytes(), &mut [], &mut put, &mut taken, &mut told);
+    (told.programs, put, taken)
 }
 
 // The numbers of a mark, and what it shows: held, overlapped, clashes.
@@ -70,8 +109,9 @@ const INVERSION_ROWS: [Row; 8] = [
 #[test]
 fn a_lawful_trace_is_told_with_its_marks(rt: HostRuntime) -> Result<(), Fail> {
     let mut marks = [NO_MARK; 9];
+    let told = audit(INVERSION, &mut marks);
     assert_eq!(rt;
-        audit(INVERSION, &mut marks),
+        told,
         Told {
             outcome: 0,
             number: 0,
@@ -82,6 +122,8 @@ fn a_lawful_trace_is_told_with_its_marks(rt: HostRuntime) -> Result<(), Fail> {
             modulus: 3,
             width: 1,
             batch: 1,
+            since: 0,
+            programs: told.programs,
         }
     );
     expect_rows(&rt, &marks, &INVERSION_ROWS);
@@ -116,6 +158,8 @@ fn marks_show_nothing_from_the_fault_on(rt: HostRuntime) -> Result<(), Fail> {
             modulus: 7,
             width: 3,
             batch: 2,
+            since: 0,
+            programs: told.programs,
         }
     );
     expect_rows(
@@ -128,6 +172,83 @@ fn marks_show_nothing_from_the_fault_on(rt: HostRuntime) -> Result<(), Fail> {
             ([0, 3, 1, 2, 3], false, [false, false, false]),
         ],
     );
+    Ok(())
+}
+
+const PUT: &str = "shape 1 3 1\nP read r0\nP got r0 1\nP write c0.0 1\nP wrote c0.0\n";
+
+#[test]
+fn what_the_programs_have_done_is_told(rt: HostRuntime) -> Result<(), Fail> {
+    let (judged, put, _) = judge(PUT);
+    assert_eq!(rt;
+        judged,
+        Judged {
+            outcome: 0,
+            may_scan: 1,
+            ..UNJUDGED
+        }
+    );
+    assert_eq!(rt; put[0], 1);
+    let (judged, _, _) = judge("shape 1 3 1\nP read r0\nP got r0 1\n");
+    assert_eq!(rt;
+        [judged.outcome, judged.may_close, judged.may_scan],
+        [0, 0, 1]
+    );
+    let (judged, _, _) = judge("shape 1 3 1\nC read s0\nC got s0 1\n");
+    assert_eq!(rt;
+        [judged.outcome, judged.may_close, judged.may_scan],
+        [0, 1, 0]
+    );
+    Ok(())
+}
+
+#[test]
+fn what_was_due_is_told(rt: HostRuntime) -> Result<(), Fail> {
+    // the count before the cell
+    let (judged, _, _) = judge("shape 1 3 1\nP read r0\nP got r0 1\nP write s1 1\n");
+    let cell = Due {
+        is_due: 1,
+        row: 3,
+        act: 2,
+        ..NO_DUE
+    };
+    let mut dues = [judged.first, judged.second, judged.third];
+    if dues[0].value == 1 {
+        dues = [dues[1], dues[0], dues[2]];
+    }
+    assert_eq!(rt; [judged.outcome, judged.number, judged.place], [1, 4, 2]);
+    assert_eq!(rt; dues, [cell, Due { value: 1, ..cell }, NO_DUE]);
+    // none is told of a fault of the bits
+    let (judged, _, _) = judge("shape 1 3 1\nC write s0 1\n");
+    assert_eq!(rt;
+        judged,
+        Judged {
+            outcome: 1,
+            number: 1,
+            ..UNJUDGED
+        }
+    );
+    Ok(())
+}
+
+#[test]
+fn since_when_a_bit_holds_its_value_is_told(rt: HostRuntime) -> Result<(), Fail> {
+    let mut marks = [NO_MARK; 1];
+    let told = audit("shape 1 3 1\nC read s0\nC got s0 0\n", &mut marks);
+    assert_eq!(rt; [told.number, told.place, told.since], [3, 1, 0]);
+    let text = "shape 1 3 1\nP write s0 0\nP wrote s0\nP write s1 1\nC read s0\nC got s0 1\n";
+    let told = audit(text, &mut marks);
+    assert_eq!(rt; [told.number, told.place, told.since], [3, 4, 2]);
+    Ok(())
+}
+
+// Two items put, and slots for one.
+#[test]
+fn too_few_slots_are_told(rt: HostRuntime) -> Result<(), Fail> {
+    let mut told = NOTHING_TOLD;
+    let mut taken = [7; 4];
+    page_audit(PUT.as_bytes(), &mut [], &mut [], &mut taken, &mut told);
+    assert_eq!(rt; (told.outcome, told.programs), (0, UNJUDGED));
     Ok(())
 }
 

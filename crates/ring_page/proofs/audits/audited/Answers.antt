@@ -1,7 +1,14 @@
-use Rattle.std.proofs.Common.{◌≤◌, ◌∙◌, sym, inl, take, length, arith}
+use Rattle.std.proofs.Common.{◌≤◌, ◌∙◌, ℕ, sym, subst, inl, take, length, arith}
+use Rattle.ring_page.specs.Programs.{TellsPrograms}
+use Rattle.ring_page.specs.Reasons.{TellsSince}
+use Rattle.ring_page.specs.declared.programs.Judged.{Judged}
 use Rattle.std.proofs.lemmas.List.{length-take-le}
 use Rattle.ring_page.proofs.Shown.{AreMarksOf-audited}
+use Rattle.ring_page.proofs.Sinces.{fault_within}
 use Rattle.ring_page.proofs.audits.audited.Goals as goal
+
+pub since_when-since-requires : goal.since_when-since-requires
+since_when-since-requires c = fault_within c.in-Ok.shape _ c.audit_bits_into-verdict.result c.audit_bits_into-verdict.ensures.verdict
 
 pub returns-in-Ok : goal.returns-in-Ok
 returns-in-Ok c =
@@ -19,6 +26,8 @@ returns-in-Ok c =
       tells = c.told_verdict.ensures.verdict;
       tells_shape = c.told_verdict.ensures.shape;
       count = c.told_verdict.ensures.count ∙ sym count;
+      since = subst (λ (n : ℕ). TellsSince events verdict n) (sym c.told_verdict.ensures.since) c.since_when-since.ensures;
+      programs = subst (λ (j : Judged). TellsPrograms shape events c.tell_programs-programs.new.put c.tell_programs-programs.new.taken j) (sym c.told_verdict.ensures.programs) c.tell_programs-programs.ensures;
       are_marks = AreMarksOf-audited c.fault_breaks.ensures c.flicker_is_by_interval.ensures shape events verdict c.args.seen.now c.audit_bits_into-verdict.new.seen c.put_marks.new.marks
           c.audit_bits_into-verdict.ensures.verdict c.requires.seen.1 c.audit_bits_into-verdict.ensures.seen few c.put_marks.ensures;
     })

@@ -1,0 +1,124 @@
+-- What the page is told of the programs of a trace's two sides.
+use Rattle.std.specs.Prelude.{◌≡◌, ◌⊎◌, ◌↔◌, ◌<◌, ℕ, Bool, true, IsTrue, Option, Some, None, List, length, take, slice_get}
+use Rattle.bits_core.specs.Audit.{kind_number}
+use Rattle.bits_core.specs.declared.audits.Kind.{Kind}
+use Rattle.bits_core.specs.declared.audits.Kind.TheVariants.{WrongSide, OutOfTurn, NotPermitted, NotProgram}
+use Rattle.bits_core.specs.declared.events.Act.TheVariants.{ReadBegin, WriteBegin}
+use Rattle.bits_core.specs.declared.events.Bit.TheVariants.{S, X}
+use Rattle.bits_core.specs.declared.events.Event.{Event}
+use Rattle.bits_core.specs.declared.events.Side.TheVariants.{P, C}
+use Rattle.bits_core.specs.declared.shapes.Shape.{Shape}
+use Rattle.ring_audit.specs.Audit.{HasTooFewSlots, IsFinding, statement_in}
+use Rattle.ring_audit.specs.Dues.{GoesOnBehind, IsDueOf}
+use Rattle.ring_audit.specs.declared.audits.Found.{Found}
+use Rattle.ring_audit.specs.declared.audits.Found.TheVariants.{Lawful, Fault}
+use Rattle.ring_audit.specs.declared.choices.Dues.{Dues}
+use Rattle.ring_page.specs.Marks.{act_number, bit_number, digit_of, index_of, row_of, value_of}
+use Rattle.ring_page.specs.declared.programs.Due.{Due}
+use Rattle.ring_page.specs.declared.programs.Judged.{Judged}
+
+-- an event as numbers, and none
+abbrev pub due_event : Event → Due
+due_event e = record { is_due = 1; row = row_of e.bit; index = index_of e.bit; digit = digit_of e.bit; act = act_number e.act; value = bit_number (value_of e.act) }
+
+abbrev pub no_due : Due
+no_due = record { is_due = 0; row = 0; index = 0; digit = 0; act = 0; value = 0 }
+
+abbrev pub told_due : Option Event → Due
+told_due None = no_due
+told_due (Some e) = due_event e
+
+-- the events with which the producer begins to close, and the consumer to scan
+abbrev pub begins_closing : Event
+begins_closing = record { side = P; bit = X; act = WriteBegin true }
+
+abbrev pub begins_scanning : Event
+begins_scanning = record { side = C; bit = S 0; act = ReadBegin }
+
+-- the history is of the programs: so many items put and taken, whether the consumer was told that the ring is closed, and whether a
+-- close may begin next, and a scan of the consumer
+abbrev pub of_programs : ℕ → ℕ → Bool → Bool → Bool → Judged
+of_programs put taken told may_close may_scan = record {
+  outcome = 0;
+  number = 0;
+  place = 0;
+  put = put;
+  taken = taken;
+  told = bit_number told;
+  may_close = bit_number may_close;
+  may_scan = bit_number may_scan;
+  first = no_due;
+  second = no_due;
+  third = no_due;
+}
+
+-- it is not, from the event at a place on, where these were due
+abbrev pub broken : Kind → ℕ → Dues → Judged
+broken kind place dues = record {
+  outcome = 1;
+  number = kind_number kind;
+  place = place;
+  put = 0;
+  taken = 0;
+  told = 0;
+  may_close = 0;
+  may_scan = 0;
+  first = told_due dues.first;
+  second = told_due dues.second;
+  third = told_due dues.third;
+}
+
+-- nothing is told
+abbrev pub unjudged : Judged
+unjudged = record {
+  outcome = 2;
+  number = 0;
+  place = 0;
+  put = 0;
+  taken = 0;
+  told = 0;
+  may_close = 0;
+  may_scan = 0;
+  first = no_due;
+  second = no_due;
+  third = no_due;
+}
+
+abbrev pub none_due : Dues
+none_due = record { first = None; second = None; third = None }
+
+-- Where an event is not of its side's program, these were due of its side: each that goes on with the programs behind the events before
+-- it, and no other. None is told of a fault of the bits.
+abbrev pub WereDue : Kind → Shape → List Event → ℕ → Dues → Type 0
+WereDue WrongSide shape h place dues = dues ≡ none_due
+WereDue OutOfTurn shape h place dues = dues ≡ none_due
+WereDue NotPermitted shape h place dues = dues ≡ none_due
+WereDue NotProgram shape h place dues =
+    (e : Event) → slice_get h place ≡ Some e → (due : Event) → IsDueOf dues due ↔ ((due.side ≡ e.side) × GoesOnBehind shape (take place h) due)
+
+-- what was found, as numbers
+abbrev pub TellsFound : Shape → List Event → Found → Judged → Type 0
+TellsFound shape h (Lawful put taken told) judged =
+    (may_close : Bool) × (may_scan : Bool) × (IsTrue may_close ↔ GoesOnBehind shape h begins_closing) × (IsTrue may_scan ↔ GoesOnBehind shape h begins_scanning) ×
+    (judged ≡ of_programs put taken told may_close may_scan)
+TellsFound shape h (Fault place kind) judged = (dues : Dues) × WereDue kind shape h place dues × (judged ≡ broken kind place dues)
+
+-- a break is at one of so many events
+abbrev pub BreakIsWithin : ℕ → Found → Type 0
+BreakIsWithin count (Lawful put taken told) = Unit {0}
+BreakIsWithin count (Fault place kind) = place < count
+
+-- the audit of programs found this, with the items in the first slots of both rooms
+pub record TellsFinding (shape : Shape) (h : List Event) (put taken : List ℕ) (judged : Judged) : Type 0 where
+  pub found : Found
+  pub finding : IsFinding shape h (statement_in put taken found)
+  pub tells : TellsFound shape h found judged
+
+-- or the rooms have too few slots, fewer than there are events
+pub record HasNoSlots (shape : Shape) (h : List Event) (put taken : List ℕ) (judged : Judged) : Type 0 where
+  pub nothing : judged ≡ unjudged
+  pub too_few : HasTooFewSlots shape h (length put) (length taken)
+  pub fewer : (length put < length h) ⊎ (length taken < length h)
+
+abbrev pub TellsPrograms : Shape → List Event → List ℕ → List ℕ → Judged → Type 0
+TellsPrograms shape h put taken judged = TellsFinding shape h put taken judged ⊎ HasNoSlots shape h put taken judged
