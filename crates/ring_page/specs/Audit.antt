@@ -83,7 +83,7 @@ pub record TellsAudit (text : List ℕ) (marks : List Mark) (put taken : List �
   pub tells : TellsVerdict verdict told
   pub tells_shape : TellsShape shape told
   pub count : told.count ≡ length events
-  pub since : TellsSince events verdict told.since
+  pub since : TellsSince shape events verdict told.since
   pub programs : TellsPrograms shape events put taken told.programs
   pub are_marks : AreMarksOf events (sound_count events verdict) marks
 

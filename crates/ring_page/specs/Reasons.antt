@@ -1,30 +1,40 @@
 -- Why an answer was not permitted.
-use Rattle.std.specs.Prelude.{◌≡◌, ◌≢◌, ℕ, zero, suc, ◌<◌, List, Some, slice_get}
-use Rattle.bits_core.specs.Bits.{writer}
-use Rattle.bits_core.specs.declared.audits.Kind.TheVariants.{WrongSide, OutOfTurn, NotPermitted, NotProgram}
+use Rattle.std.specs.Prelude.{◌≡◌, ℕ, suc, ◌<◌, Option, Some, None, List, length, take, slice_get}
+use Rattle.bits_core.specs.Lawful.{IsLawful}
+use Rattle.bits_core.specs.Reasons.{IsReasonBehind}
+use Rattle.bits_core.specs.Steps.{MayFollow}
 use Rattle.bits_core.specs.declared.audits.Verdict.{Verdict}
 use Rattle.bits_core.specs.declared.audits.Verdict.TheVariants.{Lawful, Fault}
-use Rattle.bits_core.specs.declared.events.Act.TheVariants.{WriteEnd}
-use Rattle.bits_core.specs.declared.events.Bit.{Bit}
 use Rattle.bits_core.specs.declared.events.Event.{Event}
+use Rattle.bits_core.specs.declared.reasons.Reason.{Reason}
+use Rattle.bits_core.specs.declared.reasons.Reason.TheVariants.{NotInShape, OnlyBy, StillOpen, NothingOpen, Held}
+use Rattle.bits_core.specs.declared.shapes.Shape.{Shape}
 
--- a write of the bit ends
-abbrev pub ends_write : Bit → Event
-ends_write b = record { side = writer b; bit = b; act = WriteEnd }
+-- behind how many events a place is; 0 for none
+abbrev pub behind : Option ℕ → ℕ
+behind None = 0
+behind (Some place) = suc place
 
--- behind so many events the last write of the bit ended that ended before the place; 0 where none did
-abbrev pub IsSince : List Event → ℕ → Bit → ℕ → Type 0
-IsSince h place b zero = (p : ℕ) → p < place → slice_get h p ≢ Some (ends_write b)
-IsSince h place b (suc last) =
-    (last < place) × (slice_get h last ≡ Some (ends_write b)) × ((p : ℕ) → last < p → p < place → slice_get h p ≢ Some (ends_write b))
+-- of an answer that is not permitted: behind how many events the last write of its bit had ended, since when the bit held what it
+-- held; 0 where none had, and of any other reason
+abbrev pub since_in : Option Reason → ℕ
+since_in None = 0
+since_in (Some NotInShape) = 0
+since_in (Some (OnlyBy side)) = 0
+since_in (Some (StillOpen access begun)) = 0
+since_in (Some NothingOpen) = 0
+since_in (Some (Held value since begun)) = behind since
 
--- since when the bit held what it holds at the place of an answer that is not permitted; 0 of any other verdict
-abbrev pub TellsSince : List Event → Verdict → ℕ → Type 0
-TellsSince h Lawful since = since ≡ 0
-TellsSince h (Fault place WrongSide) since = since ≡ 0
-TellsSince h (Fault place OutOfTurn) since = since ≡ 0
-TellsSince h (Fault place NotPermitted) since = (e : Event) → slice_get h place ≡ Some e → IsSince h place e.bit since
-TellsSince h (Fault place NotProgram) since = since ≡ 0
+-- this is why the event may not follow lawful ones, and it is none only where it may
+abbrev pub IsReasonOf : Shape → List Event → Event → Option Reason → Type 0
+IsReasonOf shape past e None = IsLawful shape past → MayFollow shape past e
+IsReasonOf shape past e (Some reason) = IsReasonBehind shape past e reason
+
+-- since when the bit held what it had to be, where a verdict tells a fault; 0 of a lawful history
+abbrev pub TellsSince : Shape → List Event → Verdict → ℕ → Type 0
+TellsSince shape h Lawful since = since ≡ 0
+TellsSince shape h (Fault place kind) since =
+    (e : Event) → slice_get h place ≡ Some e → (reason : Option Reason) × IsReasonOf shape (take place h) e reason × (since ≡ since_in reason)
 
 -- a fault is at one of so many events
 abbrev pub FaultIsWithin : ℕ → Verdict → Type 0

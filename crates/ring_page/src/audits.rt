@@ -115,7 +115,7 @@ fn audited(
             let read = &events[..count];
             let verdict = audit_bits_into(&shape, read, seen);
             put_marks(read, seen, marks);
-            let since = since_when(read, verdict);
+            let since = since_when(&shape, read, verdict);
             let programs = tell_programs(&shape, read, put, taken);
             told_verdict(verdict, &shape, count, since, programs)
         }

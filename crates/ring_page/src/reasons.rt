@@ -1,45 +1,34 @@
 //! Why an answer was not permitted.
-ghost use Rattle.std.specs.Prelude.{◌≡◌, ◌≢◌, ◌⊎◌, ◌+◌, ◌^◌, ◌<◌, ◌≤◌, length};
-ghost use Rattle.ring_page.specs.Reasons.{FaultIsWithin, IsSince, TellsSince};
+ghost use Rattle.std.specs.Prelude.{◌≡◌, ◌<◌, Option, Some, length, slice_get, take};
+ghost use Rattle.bits_core.specs.declared.events.Event.{Event as AnEvent};
+ghost use Rattle.bits_core.specs.declared.reasons.Reason.{Reason as AReason};
+ghost use Rattle.ring_page.specs.Reasons.{FaultIsWithin, IsReasonOf, TellsSince, since_in};
 
-use bits_core::{Act, Bit, Event, Kind, Verdict};
+use bits_core::{Event, Reason, Shape, Verdict, reason_behind};
 
-// Behind how many events the last one ended, with the event at the place behind so many.
-fn last_with(event: Event, end: Event, place: usize, last: usize) -> usize
-    requires { place + 1 < 2 ^ 64 }
-    ensures { ((event ≡ end) × (result ≡ place + 1)) ⊎ ((event ≢ end) × (result ≡ last)) }
+// Why the event at the place may not follow those before it, and since when its bit held what it held.
+fn since_at(shape: &Shape, events: &[Event], place: usize) -> usize
+    requires { place < length events.now }
+    ensures { (e : AnEvent) → slice_get events.now place ≡ Some e → (reason : Option AReason) × IsReasonOf shape.now (take place events.now) e reason × (result ≡ since_in reason) }
 {
-    if event == end { place + 1 } else { last }
-}
-
-// Behind how many events the last write of the bit ended that ended before the place; 0 where none did.
-fn since(events: &[Event], place: usize, bit: Bit) -> usize
-    requires { place ≤ length events.now }
-    ensures { IsSince events.now place bit result }
-{
-    let end = Event {
-        side: bit.writer(),
-        bit,
-        act: Act::WriteEnd,
-    };
-    let mut last = 0;
-    for i in 0..place {
-        last = last_with(events[i], end, i, last);
+    match reason_behind(shape, &events[..place], events[place]) {
+        Some(Reason::Held {
+            value: _,
+            since: Some(last),
+            begun: _,
+        }) => last + 1,
+        _ => 0,
     }
-    last
 }
 
 /// Of an answer that is not permitted: behind how many events the last write of its bit had ended, since when the bit
 /// holds what the read had to answer; 0 where none had. And 0 of any other verdict.
-pub fn since_when(events: &[Event], verdict: Verdict) -> usize
+pub fn since_when(shape: &Shape, events: &[Event], verdict: Verdict) -> usize
     requires { FaultIsWithin (length events.now) verdict }
-    ensures { TellsSince events.now verdict result }
+    ensures { TellsSince shape.now events.now verdict result }
 {
     match verdict {
         Verdict::Lawful => 0,
-        Verdict::Fault { place, kind } => match kind {
-            Kind::NotPermitted => since(events, place, events[place].bit),
-            Kind::WrongSide | Kind::OutOfTurn | Kind::NotProgram => 0,
-        },
+        Verdict::Fault { place, kind: _ } => since_at(shape, events, place),
     }
 }

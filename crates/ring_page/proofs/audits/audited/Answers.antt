@@ -26,7 +26,7 @@ returns-in-Ok c =
       tells = c.told_verdict.ensures.verdict;
       tells_shape = c.told_verdict.ensures.shape;
       count = c.told_verdict.ensures.count ∙ sym count;
-      since = subst (λ (n : ℕ). TellsSince events verdict n) (sym c.told_verdict.ensures.since) c.since_when-since.ensures;
+      since = subst (λ (n : ℕ). TellsSince c.in-Ok.shape events verdict n) (sym c.told_verdict.ensures.since) c.since_when-since.ensures;
       programs = subst (λ (j : Judged). TellsPrograms shape events c.tell_programs-programs.new.put c.tell_programs-programs.new.taken j) (sym c.told_verdict.ensures.programs) c.tell_programs-programs.ensures;
       are_marks = AreMarksOf-audited c.fault_breaks.ensures c.flicker_is_by_interval.ensures shape events verdict c.args.seen.now c.audit_bits_into-verdict.new.seen c.put_marks.new.marks
           c.audit_bits_into-verdict.ensures.verdict c.requires.seen.1 c.audit_bits_into-verdict.ensures.seen few c.put_marks.ensures;
