@@ -1,5 +1,5 @@
 -- Why an answer was not permitted.
-use Rattle.std.specs.Prelude.{◌≡◌, ℕ, suc, ◌<◌, Option, Some, None, List, length, take, slice_get}
+use Rattle.std.specs.Prelude.{◌≡◌, ℕ, suc, ◌<◌, Option, Some, None, List, take, slice_get}
 use Rattle.bits_core.specs.Lawful.{IsLawful}
 use Rattle.bits_core.specs.Reasons.{IsReasonBehind}
 use Rattle.bits_core.specs.Steps.{MayFollow}

@@ -12,11 +12,13 @@ fn since_at(shape: &Shape, events: &[Event], place: usize) -> usize
     ensures { (e : AnEvent) → slice_get events.now place ≡ Some e → (reason : Option AReason) × IsReasonOf shape.now (take place events.now) e reason × (result ≡ since_in reason) }
 {
     match reason_behind(shape, &events[..place], events[place]) {
-        Some(Reason::Held {
-            value: _,
-            since: Some(last),
-            begun: _,
-        }) => last + 1,
+        Some(
+            Reason::Held {
+                value: _,
+                since: Some(last),
+                begun: _,
+            },
+        ) => last + 1,
         _ => 0,
     }
 }
