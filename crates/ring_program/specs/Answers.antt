@@ -91,18 +91,18 @@ pub record AnswersCalls (input text : List ℕ) (ending : Ending) : Type 0 where
   pub ends : ending ≡ calls_ending_of found
 
 -- the text of a verdict; and that with lines behind it which say why the event at fault is
-abbrev pub TellsVerdict : Shape → List Event → Verdict → List ℕ → Type 0
-TellsVerdict shape events verdict text = text ≡ verdict_text_of verdict
+abbrev pub WritesVerdict : Shape → List Event → Verdict → List ℕ → Type 0
+WritesVerdict shape events verdict text = text ≡ verdict_text_of verdict
 
-abbrev pub TellsVerdictWhy : Shape → List Event → Verdict → List ℕ → Type 0
-TellsVerdictWhy shape events verdict text = (more : List ℕ) × (text ≡ verdict_text_of verdict ++ more) × TellsWhy shape events verdict more
+abbrev pub WritesVerdictWhy : Shape → List Event → Verdict → List ℕ → Type 0
+WritesVerdictWhy shape events verdict text = (more : List ℕ) × (text ≡ verdict_text_of verdict ++ more) × TellsWhy shape events verdict more
 
 -- the same of a finding
-abbrev pub TellsFinding : Shape → List Event → Statement → List ℕ → Type 0
-TellsFinding shape events found text = text ≡ audit_text_of found
+abbrev pub WritesFinding : Shape → List Event → Statement → List ℕ → Type 0
+WritesFinding shape events found text = text ≡ audit_text_of found
 
-abbrev pub TellsFindingWhy : Shape → List Event → Statement → List ℕ → Type 0
-TellsFindingWhy shape events found text = (more : List ℕ) × (text ≡ audit_text_of found ++ more) × TellsWhy shape events (verdict_in found) more
+abbrev pub WritesFindingWhy : Shape → List Event → Statement → List ℕ → Type 0
+WritesFindingWhy shape events found text = (more : List ℕ) × (text ≡ audit_text_of found ++ more) × TellsWhy shape events (verdict_in found) more
 
 -- the input is a trace, the text tells the verdict on its bits in this way, and the ending is the verdict's
 pub record AuditsBitsBy (Tells : Shape → List Event → Verdict → List ℕ → Type 0) (input text : List ℕ) (ending : Ending) : Type 0 where
@@ -115,10 +115,10 @@ pub record AuditsBitsBy (Tells : Shape → List Event → Verdict → List ℕ �
   pub ends : ending ≡ verdict_ending_of verdict
 
 abbrev pub AuditsBits : List ℕ → List ℕ → Ending → Type 0
-AuditsBits = AuditsBitsBy TellsVerdict
+AuditsBits = AuditsBitsBy WritesVerdict
 
 abbrev pub AuditsBitsWhy : List ℕ → List ℕ → Ending → Type 0
-AuditsBitsWhy = AuditsBitsBy TellsVerdictWhy
+AuditsBitsWhy = AuditsBitsBy WritesVerdictWhy
 
 -- the input is a trace of any length, and the text and the ending are those of the verdict on its bits
 pub record AnswersLongBits (input text : List ℕ) (ending : Ending) : Type 0 where
@@ -144,10 +144,10 @@ pub record AuditsProgramsBy (Tells : Shape → List Event → Statement → List
   pub ends : ending ≡ finding_ending_of found
 
 abbrev pub AuditsPrograms : List ℕ → List ℕ → Ending → Type 0
-AuditsPrograms = AuditsProgramsBy TellsFinding
+AuditsPrograms = AuditsProgramsBy WritesFinding
 
 abbrev pub AuditsProgramsWhy : List ℕ → List ℕ → Ending → Type 0
-AuditsProgramsWhy = AuditsProgramsBy TellsFindingWhy
+AuditsProgramsWhy = AuditsProgramsBy WritesFindingWhy
 
 -- the input is a script, and the text is that of a report of its play, by the letters of its schedule, whose calls are linearizable
 pub record PlaysScript (input text : List ℕ) (ending : Ending) : Type 0 where
