@@ -21,8 +21,9 @@ export function accessesOf(events) {
         last.overlapped = event.overlapped;
       }
     }
-    open[event.side] = isBegin ? {...event, isWrite, begin: place, end: Infinity, ended: false, overlapped: false} : null;
-    if (isBegin) accesses.push(open[event.side]);
+    const {side, bit, family, index, cell, value} = event;
+    open[side] = isBegin ? {side, bit, family, index, cell, value, isWrite, begin: place, end: Infinity, ended: false, overlapped: false} : null;
+    if (isBegin) accesses.push(open[side]);
     else if (!ended) strays.push({...event, place});
   });
   return {accesses, strays};
@@ -172,6 +173,7 @@ export function picture({shape, events, whole = events, fault = null, wholeFault
   const middle = rowOf(Math.max(0, fault ?? broken ?? count - 1));
   const first = Math.max(0, Math.min(middle - (MOST_ROWS >> 1), rows - MOST_ROWS)), past = Math.min(rows, first + MOST_ROWS);
   const isDrawn = row => first <= row && row < past;
+  const isOutside = (begin, end) => begin >= past * each || Math.min(end, count - 1) < first * each;
   const top = row => head + (row - first) * tall + up;
   const height = head + (past - first) * tall + FOOT;
   const lane = side => side === "P" ? P_BAR : C_BAR;
@@ -206,7 +208,7 @@ export function picture({shape, events, whole = events, fault = null, wholeFault
 
   // Where a read and a write of one bit are open, the stretch from one event to the next is shaded between the lanes.
   const drawClashes = () => events.forEach((event, place) => {
-    if (!event.clashes) return;
+    if (!event.clashes || isOutside(place, place + 1)) return;
     for (const {y, from, to, begins, ends} of partsOf(place, place + 1)) {
       out.push(`<rect class="clash" x="${from}" y="${y + P_BAR + BAR}" width="${round(to - from)}" height="${C_BAR - P_BAR - BAR}"/>`);
       if (begins) out.push(`<path class="clashedge" d="M${from} ${y + P_BAR + BAR}V${y + C_BAR}"/>`);
@@ -228,6 +230,7 @@ export function picture({shape, events, whole = events, fault = null, wholeFault
   };
 
   const drawAccess = it => {
+    if (isOutside(it.begin, it.end)) return;
     const parts = partsOf(it.begin, it.end);
     if (!parts.length) return;
     const isFault = [fault, broken].some(at => at !== null && (it.begin === at || it.ended && it.end === at));
@@ -287,6 +290,7 @@ export function picture({shape, events, whole = events, fault = null, wholeFault
     for (let row = first; row < past && row <= rowOf(Math.max(0, (fault ?? count) - 1)); row++)
       out.push(`<text class="wavename ${bit.family}" x="${LEFT - 16}" y="${top(row) + down + 14}">${bit.bit}</text>`);
     for (const {from, to, held, write} of waveOf(bit, events, accesses, fault ?? count, fault ?? count - 0.5)) {
+      if (from > past * each || to < first * each - 1) continue;
       for (let row = Math.max(first, rowOf(Math.max(from, 0))); row < past && row * each - 0.5 < to; row++) {
         const low = Math.max(from, row * each - 0.5), high = Math.min(to, (row + 1) * each - 0.5);
         if (low >= high) continue;
