@@ -145,7 +145,7 @@ impl<'a, O: Oracle + Drop> PutEnd for Putter<'a, O> {
     ghost answered = { λ p q. AreAnswered p.end q.end (O.answers p.oracle) (O.answers q.oracle) };
 
     fn shape(&self) -> Shape {
-        self.core.shape()
+        self.shape()
     }
 
     fn put(&mut self, item: u64) -> PutReply {
@@ -172,7 +172,7 @@ impl<'a, O: Oracle + Drop> TakeEnd for Taker<'a, O> {
     ghost answered = { λ p q. AreAnswered p.end q.end (O.answers p.oracle) (O.answers q.oracle) };
 
     fn shape(&self) -> Shape {
-        self.core.shape()
+        self.shape()
     }
 
     fn take(&mut self) -> TakeReply {

@@ -7,10 +7,10 @@ ghost use Rattle.ring_run.specs.Rule.{IsIdle};
 ghost use Rattle.ring_run.specs.Meetings.{KeepsEnd, Meets, ClosesAre, TellsAre, closed_reply};
 
 use crate::below::laws_below;
-use crate::putters::{PutCore, Putter};
+use crate::putters::Putter;
 use crate::rings::{FlickerRing, Start};
 use crate::steppers::Stepper;
-use crate::takers::{TakeCore, Taker};
+use crate::takers::Taker;
 use crate::views::View;
 use crate::words::Words;
 use atomic_table::Seat;
@@ -69,17 +69,22 @@ impl<A: Allocator> FlickerRing<A> {
         ensures lawful { StandsAs P result.0.end × StandsAs C result.1.end }
         ensures oracles { (result.0.oracle ≡ oracle_p) × (result.1.oracle ≡ oracle_c) }
     {
-        let (p, c) = first_cores(self.words(), self.words(), start);
+        let shape = self.shape();
+        let (p, c) = first_steppers(self.words(), self.words(), start);
         (
             Putter {
                 before: [0; 8],
-                core: p,
+                stepper: p,
+                machine: Producer::new(shape),
+                steps: 0,
                 oracle: oracle_p,
                 after: [0; 8],
             },
             Taker {
                 before: [0; 8],
-                core: c,
+                stepper: c,
+                machine: Consumer::new(shape),
+                steps: 0,
                 oracle: oracle_c,
                 after: [0; 8],
             },
@@ -106,30 +111,37 @@ impl FlickerRing<Global> {
         ensures lawful { StandsAs P result.0.end × StandsAs C result.1.end }
         ensures oracles { (result.0.oracle ≡ putter.entry.oracle) × (result.1.oracle ≡ taker.entry.oracle) }
     {
+        laws_below();
         ring_is_linearizable();
         let Putter {
-            before: _,
-            core: p,
+            stepper: p,
+            machine: producer,
+            steps: steps_p,
             oracle: oracle_p,
-            after: _,
+            ..
         } = putter;
         let Taker {
-            before: _,
-            core: c,
+            stepper: c,
+            machine: consumer,
+            steps: steps_c,
             oracle: oracle_c,
-            after: _,
+            ..
         } = taker;
-        let (p, c) = meet_cores(p, c);
+        let (p, c) = meet_steppers(p, c);
         (
             Putter {
                 before: [0; 8],
-                core: p,
+                stepper: p,
+                machine: producer,
+                steps: steps_p,
                 oracle: oracle_p,
                 after: [0; 8],
             },
             Taker {
                 before: [0; 8],
-                core: c,
+                stepper: c,
+                machine: consumer,
+                steps: steps_c,
                 oracle: oracle_c,
                 after: [0; 8],
             },
@@ -150,102 +162,23 @@ impl FlickerRing<Global> {
         ensures closed { ClosesAre putter.entry.end.ring.shape putter.entry.end.list result.closed }
         ensures told { TellsAre taker.entry.end.ring.shape taker.entry.end.list result.told }
     {
+        laws_below();
         ring_is_linearizable();
         let Putter {
-            before: _,
-            core: p,
-            oracle: _,
-            after: _,
-        } = putter;
-        let Taker {
-            before: _,
-            core: c,
-            oracle: _,
-            after: _,
-        } = taker;
-        finish_cores(p, c)
-    }
-}
-
-fn first_cores<'a>(ring: Words<'a>, same: Words<'a>, start: Start) -> (PutCore<'a>, TakeCore<'a>)
-    requires { (same ≡ ring) × (start ≡ ring.id) }
-    ensures putter { (result.0.end ≡ record { ring = ring.entry; side = P; list = []; known = []; loads = [] }) × (result.0.call ≡ None) }
-    ensures taker { (result.1.end ≡ record { ring = ring.entry; side = C; list = []; known = []; loads = [] }) × (result.1.taking ≡ false) }
-    ensures lawful { StandsAs P result.0.end × StandsAs C result.1.end }
-{
-    let shape = ring.shape();
-    let (p, c) = first_steppers(ring, same, start);
-    (
-        PutCore {
-            stepper: p,
-            machine: Producer::new(shape),
-            steps: 0,
-        },
-        TakeCore {
-            stepper: c,
-            machine: Consumer::new(shape),
-            steps: 0,
-        },
-    )
-}
-
-fn meet_cores<'a>(putter: PutCore<'a>, taker: TakeCore<'a>) -> (PutCore<'a>, TakeCore<'a>)
-    requires ring { putter.end.ring ≡ taker.end.ring }
-    requires idle { (putter.call ≡ None) × (taker.taking ≡ false) }
-    ensures putter { KeepsEnd putter.entry.end result.0.end × (result.0.call ≡ None) }
-    ensures taker { KeepsEnd taker.entry.end result.1.end × (result.1.taking ≡ false) }
-    ensures one { result.1.end.known ≡ result.0.end.known }
-    ensures meets { Meets putter.entry.end taker.entry.end result.0.end.known }
-    ensures lawful { StandsAs P result.0.end × StandsAs C result.1.end }
-{
-    laws_below();
-    let PutCore {
-        stepper: p,
-        machine: producer,
-        steps: steps_p,
-    } = putter;
-    let TakeCore {
-        stepper: c,
-        machine: consumer,
-        steps: steps_c,
-    } = taker;
-    let (p, c) = meet_steppers(p, c);
-    (
-        PutCore {
             stepper: p,
             machine: producer,
-            steps: steps_p,
-        },
-        TakeCore {
+            ..
+        } = putter;
+        let Taker {
             stepper: c,
             machine: consumer,
-            steps: steps_c,
-        },
-    )
-}
-
-fn finish_cores<'a>(putter: PutCore<'a>, taker: TakeCore<'a>) -> Finished
-    requires ring { putter.end.ring ≡ taker.end.ring }
-    requires idle { (putter.call ≡ None) × (taker.taking ≡ false) }
-    ensures meets { Meets putter.entry.end taker.entry.end result.history }
-    ensures closed { ClosesAre putter.entry.end.ring.shape putter.entry.end.list result.closed }
-    ensures told { TellsAre taker.entry.end.ring.shape taker.entry.end.list result.told }
-{
-    laws_below();
-    let PutCore {
-        stepper: p,
-        machine: producer,
-        steps: _,
-    } = putter;
-    let TakeCore {
-        stepper: c,
-        machine: consumer,
-        steps: _,
-    } = taker;
-    let closed = producer.is_closed();
-    let told = is_closed_reply(consumer.reply());
-    let seat = join_steppers(p, c);
-    Finished { seat, closed, told }
+            ..
+        } = taker;
+        let closed = producer.is_closed();
+        let told = is_closed_reply(consumer.reply());
+        let seat = join_steppers(p, c);
+        Finished { seat, closed, told }
+    }
 }
 
 pub(crate) fn is_closed_reply(reply: Option<TakeReply>) -> bool

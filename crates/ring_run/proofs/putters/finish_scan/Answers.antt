@@ -4,10 +4,12 @@ use Rattle.ring_core.specs.declared.producers.Stage.TheVariants.{Scanning}
 use Rattle.ring_core.specs.ProducerState.{ProducerState, Put, due_put, call_of}
 use Rattle.ring_core.specs.ProducerCalls.{ProducerStands, ProducerHasMoved}
 use Rattle.ring_run.proofs.Accesses.{longer, same}
-use Rattle.ring_run.proofs.PutterMoves.{right_there}
-use Rattle.ring_run.proofs.PutterWhole.{at_call, busy_at, can_go, goes_in, may_feed, same_scan, scan_is, went}
+use Rattle.ring_run.proofs.MachineMoves.{right_there}
+use Rattle.ring_run.proofs.PutterCalls.{busy_at, put_laws}
+use Rattle.ring_run.proofs.MachineWhole.{goes_in}
+use Rattle.ring_run.proofs.PutterWhole.{at_call, can_go, may_feed, same_scan, scan_is, went}
 use Rattle.ring_run.proofs.Answered.{answered_then, answered_same}
-use Rattle.ring_run.specs.Machines.{PutterGoes}
+use Rattle.ring_run.specs.Machines.{MachineGoes, producing}
 use Rattle.ring_run.specs.Ring.{RingEnd}
 use Rattle.ring_run.proofs.putters.finish_scan.Goals as goal
 
@@ -15,7 +17,7 @@ pub make-answer-requires-clause-right : goal.make-answer-requires-clause-right
 make-answer-requires-clause-right g c =
     let (calls, one, was) = c.requires.goes (busy_at c.args.machine.now (Put (c.args.machine.now).items) (at_call c.args.machine.now Scanning (Put (c.args.machine.now).items) (c.in-Some.ensures.some.1) refl)) in
     let on = c.reads.invariant.5 calls one was in
-    right_there c.reads.stepper c.reads.scan calls on.made on.at c.next-access.result c.next-access.ensures.right
+    right_there producing c.reads.stepper c.reads.scan calls on.made on.at c.next-access.result c.next-access.ensures.right
 
 pub make-answer-requires-clause-can : goal.make-answer-requires-clause-can
 make-answer-requires-clause-can g c =
@@ -83,7 +85,7 @@ reads-preserved g c =
           let goes = went c.laws_below.ensures e scan calls one on n.result n.ensures.due n.ensures.goes_on n.ensures.bounded x.result x.ensures.due x.ensures.stands b m.result m.ensures.made next
           (ap (λ (p : ProducerState). p.shape) state)
           (subst (λ (v : Bool). ProducerHasMoved scan next calls (on.made ++ answered n.result v ∷ [])) (sym c.if-answer.false) (c.zero.ensures.stands calls on.made n.result on.at.stands n.ensures.due)) in
-          goes_in b next calls one one goes (ap call_of state ∙ on.call_is),
+          goes_in producing put_laws b next calls one one goes (ap call_of state ∙ on.busy),
       answered_then _ _ _ _ _ _ was.6 m.ensures.answered,
     )
 
@@ -100,6 +102,6 @@ reads-init g c =
       refl,
       some.0 ∙ ap (λ (x : ProducerState). record m { scan = x.scan }) (sym some.0),
       omega arith,
-      λ calls one was. subst (λ (x : ProducerState). PutterGoes e x calls one) (sym some.0) (goes_in e m calls one (Put m.items) was (at_call m Scanning (Put m.items) some.1 refl)),
+      λ calls one was. subst (λ (x : ProducerState). MachineGoes producing e x calls one) (sym some.0) (goes_in producing put_laws e m calls one (Put m.items) was (at_call m Scanning (Put m.items) some.1 refl)),
       answered_same e (g.O.Oracle.answers c.args.oracle.now),
     )

@@ -3,10 +3,12 @@ use Rattle.bits_core.specs.Made.{answered}
 use Rattle.ring_core.specs.ConsumerState.{ConsumerState, due_take, is_taking}
 use Rattle.ring_core.specs.ConsumerCalls.{ConsumerStands, ConsumerHasMoved}
 use Rattle.ring_run.proofs.Accesses.{longer, same}
-use Rattle.ring_run.proofs.TakerMoves.{right_there}
-use Rattle.ring_run.proofs.TakerWhole.{can_go, goes_in, may_feed, same_scan, scan_is, went}
+use Rattle.ring_run.proofs.MachineMoves.{right_there}
+use Rattle.ring_run.proofs.TakerCalls.{take_laws}
+use Rattle.ring_run.proofs.MachineWhole.{goes_in}
+use Rattle.ring_run.proofs.TakerWhole.{can_go, may_feed, same_scan, scan_is, went}
 use Rattle.ring_run.proofs.Answered.{answered_then, answered_same}
-use Rattle.ring_run.specs.Machines.{TakerGoes}
+use Rattle.ring_run.specs.Machines.{MachineGoes, consuming}
 use Rattle.ring_run.specs.Ring.{RingEnd}
 use Rattle.ring_run.proofs.takers.finish_scan.Goals as goal
 
@@ -14,7 +16,7 @@ pub make-answer-requires-clause-right : goal.make-answer-requires-clause-right
 make-answer-requires-clause-right g c =
     let (calls, was) = c.requires.goes c.in-Some.ensures.some.1 in
     let on = c.reads.invariant.5 calls was in
-    right_there c.reads.stepper c.reads.scan calls on.made on.at c.next-access.result c.next-access.ensures.right
+    right_there consuming c.reads.stepper c.reads.scan calls on.made on.at c.next-access.result c.next-access.ensures.right
 
 pub make-answer-requires-clause-can : goal.make-answer-requires-clause-can
 make-answer-requires-clause-can g c =
@@ -74,7 +76,7 @@ reads-preserved g c =
           let goes = went c.laws_below.ensures e scan calls on n.result n.ensures.due n.ensures.goes_on n.ensures.bounded x.result x.ensures.due x.ensures.stands b m.result m.ensures.made next
           (ap (λ (p : ConsumerState). p.shape) state)
           (subst (λ (v : Bool). ConsumerHasMoved scan next calls (on.made ++ answered n.result v ∷ [])) (sym c.if-answer.false) (c.zero.ensures.stands calls on.made n.result on.at.stands n.ensures.due)) in
-          goes_in b next calls goes (ap is_taking state ∙ on.taking),
+          goes_in consuming take_laws b next calls tt tt goes (ap is_taking state ∙ on.busy),
       answered_then _ _ _ _ _ _ was.6 m.ensures.answered,
     )
 
@@ -91,6 +93,6 @@ reads-init g c =
       refl,
       some.0 ∙ ap (λ (x : ConsumerState). record m { scan = x.scan }) (sym some.0),
       omega arith,
-      λ calls was. subst (λ (x : ConsumerState). TakerGoes e x calls) (sym some.0) (goes_in e m calls was some.1),
+      λ calls was. subst (λ (x : ConsumerState). MachineGoes consuming e x calls tt) (sym some.0) (goes_in consuming take_laws e m calls tt tt was some.1),
       answered_same e (g.O.Oracle.answers c.args.oracle.now),
     )

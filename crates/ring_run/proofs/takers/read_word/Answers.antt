@@ -4,10 +4,12 @@ use Rattle.ring_core.specs.declared.consumers.Stage.TheVariants.{Loading}
 use Rattle.ring_core.specs.ConsumerState.{ConsumerState, due_take, is_taking}
 use Rattle.ring_core.specs.ConsumerCalls.{ConsumerStands, ConsumerHasMoved}
 use Rattle.ring_run.proofs.Accesses.{longer, same}
-use Rattle.ring_run.proofs.TakerMoves.{right_there}
-use Rattle.ring_run.proofs.TakerWhole.{taking_at, can_go, goes_in, same_word, went, word_is}
+use Rattle.ring_run.proofs.MachineMoves.{right_there}
+use Rattle.ring_run.proofs.TakerCalls.{take_laws}
+use Rattle.ring_run.proofs.MachineWhole.{goes_in}
+use Rattle.ring_run.proofs.TakerWhole.{taking_at, can_go, same_word, went, word_is}
 use Rattle.ring_run.proofs.Answered.{answered_then, answered_same}
-use Rattle.ring_run.specs.Machines.{TakerGoes}
+use Rattle.ring_run.specs.Machines.{MachineGoes, consuming}
 use Rattle.ring_run.specs.Ring.{RingEnd}
 use Rattle.ring_run.proofs.takers.read_word.Goals as goal
 
@@ -15,7 +17,7 @@ pub make-answer-requires-clause-right : goal.make-answer-requires-clause-right
 make-answer-requires-clause-right g c =
     let (calls, was) = c.requires.goes (taking_at c.args.machine.now Loading (c.in-Some.ensures.some.1) refl) in
     let on = c.reads.invariant.5 calls was in
-    right_there c.reads.stepper c.reads.word calls on.made on.at c.next-access.result c.next-access.ensures.right
+    right_there consuming c.reads.stepper c.reads.word calls on.made on.at c.next-access.result c.next-access.ensures.right
 
 pub make-answer-requires-clause-can : goal.make-answer-requires-clause-can
 make-answer-requires-clause-can g c =
@@ -66,7 +68,7 @@ reads-preserved g c =
           (λ (t : false ≡ true). absurd (true≢false (sym t)), n.ensures.not_last)
           (λ k made stands t. absurd (true≢false (sym t))) b m.result m.ensures.made next
           (ap (λ (p : ConsumerState). p.shape) state) (c.feed.ensures.stands calls on.made n.result on.at.stands n.ensures.due) in
-          goes_in b next calls goes (ap is_taking state ∙ on.taking),
+          goes_in consuming take_laws b next calls tt tt goes (ap is_taking state ∙ on.busy),
       answered_then _ _ _ _ _ _ was.6 m.ensures.answered,
     )
 
@@ -83,6 +85,6 @@ reads-init g c =
       refl,
       some.0 ∙ ap (λ (x : ConsumerState). record m { word = x.word }) (sym some.0),
       omega arith,
-      λ calls was. subst (λ (x : ConsumerState). TakerGoes e x calls) (sym some.0) (goes_in e m calls was (taking_at m Loading some.1 refl)),
+      λ calls was. subst (λ (x : ConsumerState). MachineGoes consuming e x calls tt) (sym some.0) (goes_in consuming take_laws e m calls tt tt was (taking_at m Loading some.1 refl)),
       answered_same e (g.O.Oracle.answers c.args.oracle.now),
     )
