@@ -1,5 +1,5 @@
 -- A whole call of an end, access by access, by its machine, whichever side it is of.
-use Rattle.std.proofs.Common.{◌≡◌, inl, inr, ⊎_elim, ◌+◌, ◌*◌, ◌<◌, ◌↔◌, Bool, true, Some, None, IsTrue, List, [], ◌∷◌, ◌++◌, length, refl, ap, sym, subst, ◌∙◌, arith}
+use Rattle.std.proofs.Common.{◌≡◌, inl, inr, ⊎_elim, ◌+◌, ◌*◌, ◌<◌, ◌↔◌, Bool, true, Some, None, IsTrue, List, [], ◌∷◌, ◌++◌, length, refl, ap, sym, subst, ◌∙◌, arith, ℕ, ◌≤◌}
 use Rattle.bits_core.specs.declared.events.Side.{Side}
 use Rattle.bits_core.specs.declared.events.Access.{Access}
 use Rattle.bits_core.specs.declared.events.Event.{Event}
@@ -9,9 +9,11 @@ use Rattle.bits_core.specs.Made.{Made, answered, events_of}
 use Rattle.ring_core.specs.Calls.{LastBitIsDue, EndsInZeros}
 use Rattle.ring_run.specs.Ring.{Ring, RingEnd}
 use Rattle.ring_run.specs.Programs.{begin_of, ending_event}
-use Rattle.ring_run.specs.Steppers.{CanMake, Grows, HasMade, HasStepped, IsSameEnd, StandsAs}
+use Rattle.ring_run.specs.Steppers.{AreAnswered, CanMake, Grows, HasMade, HasStepped, IsSameEnd, StandsAs}
 use Rattle.ring_run.specs.Machines.{Machine, MachineAt, MachineReady, MachineGoes, MachineOver, MachineIn, MachineMade, IsMachine, CallBegins}
 use Rattle.ring_run.specs.Below.{LawsBelow}
+use Rattle.ring_run.proofs.Accesses.{longer, same, same_on}
+use Rattle.ring_run.proofs.Answered.{answered_same, answered_then}
 use Rattle.ring_run.proofs.Lists.{begun_open, length-events_of}
 use Rattle.ring_run.proofs.MachineMoves.{MachineLaws, Next, at_begun, at_ended, can_make, list_ended, one_there}
 use Rattle.ring_run.proofs.MachineCalls.{none-some, list_rests, rest_list, at_one}
@@ -101,9 +103,58 @@ module _ (k : Machine) (ks : MachineLaws k) where
 
   -- where no access is due, the call is over
   pub over : (e : RingEnd) (m : k.State) (b : RingEnd) (m' : k.State) (calls : k.Calls) (c : k.Call) → k.Busy m c → MachineMade k e m b m' calls → ((made : List Made) → MachineAt k b m' calls made → k.Rests m') → MachineOver k b m' calls c
-  over e m b m' calls c is (inl (none, same, end)) ends = absurd (ks.never m c none is)
+  over e m b m' calls c is (inl (none, stays, end)) ends = absurd (ks.never m c none is)
   over e m b m' calls c is (inr (d, on, inl g)) ends = absurd (ks.never m' d (ends g.made g.at) g.busy)
   over e m b m' calls c is (inr (d, on, inr o)) ends = subst (MachineOver k b m' calls) (ks.one m d c on is) o
+
+-- ---- a part of a call, in a loop of its own
+
+-- whole accesses of the call that was under way were made, and it goes on
+pub record Phase (k : Machine) (e0 : RingEnd) (m0 : k.State) (ring : Ring) (e : RingEnd) (m : k.State) (old now : ℕ → Bool) : Type 0 where
+  pub ring_is : ring ≡ e.ring
+  pub same : IsSameEnd e0 e
+  pub longer : length e0.list ≤ length e.list
+  pub goes : (calls : k.Calls) (c : k.Call) → MachineIn k e0 m0 calls c → MachineGoes k e m calls c
+  pub answered : AreAnswered e0 e old now
+
+pub phase_first : (k : Machine) → MachineLaws k → (e : RingEnd) (m0 m : k.State) (ring : Ring) (old : ℕ → Bool) → ring ≡ e.ring → m ≡ m0 → (d : k.Call) → k.Busy m0 d → Phase k e m0 ring e m old old
+phase_first k ks e m0 m ring old ring_is is d busy = record {
+  ring_is = ring_is;
+  same = record { ring = refl; side = refl; known = refl };
+  longer = omega arith;
+  goes = λ calls c was. subst (λ (x : k.State). MachineGoes k e x calls c) (sym is) (goes_in k ks e m0 calls c d was busy);
+  answered = answered_same e old;
+}
+
+module _ (laws : LawsBelow) (k : Machine) (ks : MachineLaws k) (e0 : RingEnd) (m0 : k.State) (ring : Ring) (e : RingEnd) (m : k.State) (old now : ℕ → Bool) (p : Phase k e0 m0 ring e m old now) (a : Access) (due : k.due m ≡ Some a)
+    (next : (calls : k.Calls) (made : List Made) → k.Stands m calls made → Next k m calls made a)
+    (expects : Bool) (due_is : IsTrue expects ↔ LastBitIsDue (k.shape_of m) k.side (k.due m)) (zeros : (calls : k.Calls) (made : List Made) → k.Stands m calls made → IsTrue expects → EndsInZeros (k.shape_of m) k.side made) where
+  pub phase_can : (calls : k.Calls) (c : k.Call) → MachineIn k e0 m0 calls c → CanMake e a
+  phase_can calls c was = let g = p.goes calls c was in can_go laws k ks e m calls c g a due (next calls g.made g.at.stands) expects due_is zeros
+
+  module _ (b : RingEnd) (v : Bool) (h : HasMade e b a v) where
+    pub phase_feeds : (calls : k.Calls) (c : k.Call) → MachineIn k e0 m0 calls c → LastBitIsDue (k.shape_of m) k.side (k.due m) → v ≡ true
+    phase_feeds calls c was = let g = p.goes calls c was in may_feed laws k ks e m calls c g a due (next calls g.made g.at.stands) expects due_is zeros b v h
+
+    pub phase_same : IsSameEnd e0 b
+    phase_same = same_on p.same (same e b a v h)
+
+    pub phase_longer : length e0.list ≤ length b.list
+    phase_longer = omega (arith, p.longer, longer e b a v h)
+
+    module _ (m' : k.State) (same_shape : k.shape_of m' ≡ k.shape_of m) (moved : (calls : k.Calls) (made : List Made) → k.Stands m calls made → (more : k.Calls) × k.Stands m' more (made ++ answered a v ∷ []) × k.After m m' calls more) where
+      -- it is over, or it goes on
+      pub phase_ends : (calls : k.Calls) (c : k.Call) → MachineIn k e0 m0 calls c → MachineIn k b m' calls c
+      phase_ends calls c was = let g = p.goes calls c was in went laws k ks e m calls c g a due (next calls g.made g.at.stands) expects due_is zeros b v h m' same_shape (moved calls g.made g.at.stands)
+
+      pub phase_more : ((c : k.Call) → k.Busy m c → k.Busy m' c) → (after : ℕ → Bool) → AreAnswered e b now after → Phase k e0 m0 ring b m' old after
+      phase_more busy after one = record {
+        ring_is = p.ring_is ∙ sym (same e b a v h).ring;
+        same = phase_same;
+        longer = phase_longer;
+        goes = λ calls c was. goes_in k ks b m' calls c c (phase_ends calls c was) (busy c (p.goes calls c was).busy);
+        answered = answered_then _ _ _ _ _ _ p.answered one;
+      }
 
 -- ---- a whole call
 

@@ -5,7 +5,7 @@ use Rattle.bits_core.specs.declared.events.Side.TheVariants.{P}
 use Rattle.bits_core.specs.declared.events.Access.{Access}
 use Rattle.bits_core.specs.declared.events.Event.{Event}
 use Rattle.bits_core.specs.declared.shapes.Shape.{Shape}
-use Rattle.bits_core.specs.Made.{Made, events_of}
+use Rattle.bits_core.specs.Made.{Made, answered, events_of}
 use Rattle.bits_core.specs.Shape.{width_of}
 use Rattle.ring_core.specs.declared.producers.Stage.{Stage}
 use Rattle.ring_core.specs.declared.producers.Stage.TheVariants.{Idle, Scanning, Storing, Counting, Closing}
@@ -16,7 +16,7 @@ use Rattle.ring_core.specs.declared.producers.BatchReply.TheVariants as reply
 use Rattle.ring_core.specs.Puts.{IsBatch, Put, Puts, put_program, ArePuts}
 use Rattle.ring_core.specs.ProducerState as producer
 use Rattle.ring_core.specs.ProducerState.{ProducerState, Call, Close, due_put, call_of, call_at, producer_due_at}
-use Rattle.ring_core.specs.ProducerCalls.{ProducerStands, PutGoesOn, longest_of, ProducerMadeAt, HasCallMore, IsAfterCall, IsReplyToCall, longest, put_reply_to, last_put_reply, and_put}
+use Rattle.ring_core.specs.ProducerCalls.{ProducerHasMoved, ProducerStands, PutGoesOn, longest_of, ProducerMadeAt, HasCallMore, IsAfterCall, IsReplyToCall, longest, put_reply_to, last_put_reply, and_put}
 use Rattle.ring_run.specs.Ring.{Ring, RingEnd}
 use Rattle.ring_run.specs.Steppers.{Grows, IsSameEnd, StandsAs}
 use Rattle.ring_run.specs.Ends.{HasPuts, HasPut, HasPutAll, HasPutPart, HasClosed, PutAdds, CloseAdds, PutterState, whole_put, puts_whole}
@@ -72,6 +72,11 @@ pub next_put : (m : ProducerState) (calls : Puts) (made : List Made) (a : Access
     ((c : Call) → call_of m ≡ Some c → length made < length (put_program m.shape calls) + longest m.shape c) → Next producing m calls made a
 next_put m calls made a (c, is, goes) bounded = record { one = c; is = is; goes = goes; few = bounded c is }
 
+pub next_puts : (m : ProducerState) (a : Access) → ((calls : Puts) (made : List Made) → ProducerStands m calls made → (c : Call) × (call_of m ≡ Some c) × PutGoesOn m.shape calls c made a) →
+    ((calls : Puts) (made : List Made) (c : Call) → ProducerStands m calls made → call_of m ≡ Some c → length made < length (put_program m.shape calls) + longest m.shape c) →
+    (calls : Puts) (made : List Made) → ProducerStands m calls made → Next producing m calls made a
+next_puts m a goes_on bounded calls made st = next_put m calls made a (goes_on calls made st) (λ c is. bounded calls made c st is)
+
 pub busy_at : (m : ProducerState) (c : Call) → call_of m ≡ Some c → call_of m ≢ None
 busy_at m c is none = none-some c (sym none ∙ is)
 
@@ -92,6 +97,11 @@ few_marked shape o c n list marked here few = ⊎_elim
     (λ none. let most : longest_at shape o ≡ 0 = ap (longest_at shape) none in omega (arith, marked.1, most))
     (λ is. let most : longest_at shape o ≡ longest shape c = ap (longest_at shape) is in omega (arith, marked.1, most, few))
     here
+
+-- what a machine that came to where a part of its call is makes of the answer, it makes of that part
+pub put_fed : (part m m' : ProducerState) → m ≡ part → (a : Access) (v : Bool) → ((calls : Puts) (made : List Made) (b : Access) → ProducerStands m calls made → due_put m ≡ Some b → ProducerHasMoved m m' calls (made ++ answered b v ∷ [])) → due_put part ≡ Some a →
+    (calls : Puts) (made : List Made) → ProducerStands part calls made → ProducerHasMoved part m' calls (made ++ answered a v ∷ [])
+put_fed part m m' is a v fed due calls made st = subst (λ (p : ProducerState). ProducerHasMoved p m' calls (made ++ answered a v ∷ [])) is (fed calls made a (subst (λ (p : ProducerState). ProducerStands p calls made) (sym is) st) (ap due_put is ∙ due))
 
 -- ---- replies
 

@@ -1,10 +1,10 @@
 -- A whole call of the producer's end, access by access.
-use Rattle.std.proofs.Common.{◌≡◌, cond, ℕ, ◌+◌, ◌<◌, ◌↔◌, Bool, true, false, Option, Some, None, IsTrue, List, [], ◌∷◌, ◌++◌, length, refl, ap, sym, subst, ◌∙◌}
+use Rattle.std.proofs.Common.{◌≡◌, cond, ℕ, Bool, true, false, Option, Some, None, List, [], ◌∷◌, refl, ap, sym, subst, ◌∙◌}
 use Rattle.bits_core.specs.declared.events.Side.TheVariants.{P}
 use Rattle.bits_core.specs.declared.events.Access.{Access}
 use Rattle.bits_core.specs.declared.shapes.Shape.{Shape}
 use Rattle.bits_core.specs.declared.events.Event.{Event}
-use Rattle.bits_core.specs.Made.{Made, answered, events_of}
+use Rattle.bits_core.specs.Made.{events_of}
 use Rattle.register_core.specs.Row.{RowWrite, row_bit}
 use Rattle.register_core.specs.ScanState.{ScanState}
 use Rattle.register_core.specs.UnaryState.{due_unary, due_writes, first_access}
@@ -12,40 +12,20 @@ use Rattle.register_core.specs.WordState.{WriterState}
 use Rattle.ring_core.specs.declared.producers.PutReply as items_replies
 use Rattle.ring_core.specs.declared.producers.BatchReply as replies
 use Rattle.ring_core.specs.declared.producers.BatchReply.TheVariants as reply
-use Rattle.ring_core.specs.Calls.{LastBitIsDue, EndsInZeros}
 use Rattle.ring_core.specs.Puts.{Puts, put_program, ArePuts}
 use Rattle.ring_core.specs.ProducerState as producer
 use Rattle.ring_core.specs.declared.producers.Stage.{Stage}
 use Rattle.ring_core.specs.declared.producers.Stage.TheVariants.{Counting}
 use Rattle.ring_core.specs.ProducerState.{ProducerState, Call, Close, IsProducerButScan, IsProducerButWord, call_at, producer_due_at, due_put, call_of}
-use Rattle.ring_core.specs.ProducerCalls.{HasCallMore, ProducerHasMoved, IsReplyToCall, ProducerStands, PutGoesOn, longest, put_reply_to}
+use Rattle.ring_core.specs.ProducerCalls.{HasCallMore, IsReplyToCall, put_reply_to}
 use Rattle.ring_run.specs.Ring.{Ring, RingEnd}
-use Rattle.ring_run.specs.Steppers.{CanMake, HasMade, IsSameEnd, StandsAs}
+use Rattle.ring_run.specs.Steppers.{IsSameEnd, StandsAs}
 use Rattle.ring_run.specs.Ends.{HasPuts, HasPutAll, HasClosed, PutAdds, CloseAdds, PutterState, whole_put}
-use Rattle.ring_run.specs.Machines.{IsMachine, IsMarked, MachineReady, MachineGoes, MachineIn, MachineOver, CallBegins, IsRefusedAtOnce, producing, longest_at, without_last}
-use Rattle.ring_run.specs.Below.{LawsBelow}
-use Rattle.ring_run.proofs.MachineMoves.{Next}
+use Rattle.ring_run.specs.Machines.{IsMachine, IsMarked, MachineReady, MachineOver, CallBegins, IsRefusedAtOnce, producing, longest_at, without_last}
 use Rattle.ring_run.proofs.MachineCalls.{none-some, rest_marked}
 use Rattle.ring_run.proofs.MachineWhole as whole
 use Rattle.ring_run.proofs.MachineWhole.{Ended, More, Refused}
-use Rattle.ring_run.proofs.PutterCalls.{next_put, over_adds, over_closes, over_reply, put_laws}
-
--- an access of a call that goes on
-module _ (laws : LawsBelow) (e : RingEnd) (m : ProducerState) (calls : Puts) (c : Call) (g : MachineGoes producing e m calls c) (a : Access) (due : due_put m ≡ Some a)
-    (goes_on : (calls : Puts) (made : List Made) → ProducerStands m calls made → (d : Call) × (call_of m ≡ Some d) × PutGoesOn m.shape calls d made a)
-    (bounded : (calls : Puts) (made : List Made) (d : Call) → ProducerStands m calls made → call_of m ≡ Some d → length made < length (put_program m.shape calls) + longest m.shape d)
-    (expects : Bool) (due_is : IsTrue expects ↔ LastBitIsDue m.shape P (due_put m)) (zeros : (calls : Puts) (made : List Made) → ProducerStands m calls made → IsTrue expects → EndsInZeros m.shape P made) where
-  next : Next producing m calls g.made a
-  next = next_put m calls g.made a (goes_on calls g.made g.at.stands) (λ d is. bounded calls g.made d g.at.stands is)
-
-  pub can_go : CanMake e a
-  can_go = whole.can_go laws producing put_laws e m calls c g a due next expects due_is zeros
-
-  pub may_feed : (b : RingEnd) (v : Bool) → HasMade e b a v → LastBitIsDue m.shape P (due_put m) → v ≡ true
-  may_feed = whole.may_feed laws producing put_laws e m calls c g a due next expects due_is zeros
-
-  pub went : (b : RingEnd) (v : Bool) → HasMade e b a v → (m' : ProducerState) → m'.shape ≡ m.shape → ProducerHasMoved m m' calls (g.made ++ answered a v ∷ []) → MachineIn producing b m' calls c
-  went = whole.went laws producing put_laws e m calls c g a due next expects due_is zeros
+use Rattle.ring_run.proofs.PutterCalls.{over_adds, over_closes, over_reply, put_laws}
 
 -- the call under way at a stage
 pub at_call : (m : ProducerState) (st : Stage) (c : Call) → m.stage ≡ st → call_at st m.items ≡ Some c → call_of m ≡ Some c

@@ -5,15 +5,15 @@ use Rattle.bits_core.specs.declared.events.Side.TheVariants.{C}
 use Rattle.bits_core.specs.declared.events.Access.{Access}
 use Rattle.bits_core.specs.declared.events.Event.{Event}
 use Rattle.bits_core.specs.declared.shapes.Shape.{Shape}
-use Rattle.bits_core.specs.Made.{Made, events_of}
+use Rattle.bits_core.specs.Made.{Made, answered, events_of}
 use Rattle.ring_core.specs.declared.consumers.Stage.{Stage}
 use Rattle.ring_core.specs.declared.consumers.Stage.TheVariants.{Idle, Scanning, Checking, Rescanning, Loading, Counting}
 use Rattle.ring_core.specs.declared.consumers.TakeReply as replies
 use Rattle.ring_core.specs.declared.consumers.TakeReply.TheVariants as reply
 use Rattle.ring_core.specs.Lengths.{longest_take}
 use Rattle.ring_core.specs.Takes.{Take, Takes, take_program, AreTakes}
-use Rattle.ring_core.specs.ConsumerState.{ConsumerState, is_taking, takes_at, consumer_due_at}
-use Rattle.ring_core.specs.ConsumerCalls.{ConsumerStands, ConsumerMadeAt, TakeGoesOn, HasTakeMore, IsAfterTake, IsReplyToTake, last_take_reply, reply_at_end, take_reply_to, ends_closed}
+use Rattle.ring_core.specs.ConsumerState.{due_take, ConsumerState, is_taking, takes_at, consumer_due_at}
+use Rattle.ring_core.specs.ConsumerCalls.{ConsumerHasMoved, ConsumerStands, ConsumerMadeAt, TakeGoesOn, HasTakeMore, IsAfterTake, IsReplyToTake, last_take_reply, reply_at_end, take_reply_to, ends_closed}
 use Rattle.ring_run.specs.Ring.{Ring, RingEnd}
 use Rattle.ring_run.specs.Steppers.{Grows, IsSameEnd, StandsAs}
 use Rattle.ring_run.specs.Ends.{HasTaken, HasTakePart, TakeAdds, TakerState, whole_take, takes_whole}
@@ -56,6 +56,16 @@ take_laws = record {
 pub next_take : (m : ConsumerState) (calls : Takes) (made : List Made) (a : Access) → (is_taking m ≡ true) × TakeGoesOn m.shape calls made a →
     (is_taking m ≡ true → length made < length (take_program m.shape calls) + longest_take m.shape) → Next consuming m calls made a
 next_take m calls made a (is, goes) bounded = record { one = tt; is = is; goes = goes; few = bounded is }
+
+pub next_takes : (m : ConsumerState) (a : Access) → ((calls : Takes) (made : List Made) → ConsumerStands m calls made → (is_taking m ≡ true) × TakeGoesOn m.shape calls made a) →
+    ((calls : Takes) (made : List Made) → ConsumerStands m calls made → is_taking m ≡ true → length made < length (take_program m.shape calls) + longest_take m.shape) →
+    (calls : Takes) (made : List Made) → ConsumerStands m calls made → Next consuming m calls made a
+next_takes m a goes_on bounded calls made st = next_take m calls made a (goes_on calls made st) (bounded calls made st)
+
+-- what a machine that came to where a part of its call is makes of the answer, it makes of that part
+pub take_fed : (part m m' : ConsumerState) → m ≡ part → (a : Access) (v : Bool) → ((calls : Takes) (made : List Made) (b : Access) → ConsumerStands m calls made → due_take m ≡ Some b → ConsumerHasMoved m m' calls (made ++ answered b v ∷ [])) → due_take part ≡ Some a →
+    (calls : Takes) (made : List Made) → ConsumerStands part calls made → ConsumerHasMoved part m' calls (made ++ answered a v ∷ [])
+take_fed part m m' is a v fed due calls made st = subst (λ (p : ConsumerState). ConsumerHasMoved p m' calls (made ++ answered a v ∷ [])) is (fed calls made a (subst (λ (p : ConsumerState). ConsumerStands p calls made) (sym is) st) (ap due_take is ∙ due))
 
 -- ---- replies
 

@@ -1,10 +1,10 @@
 -- A whole take of the consumer's end, access by access.
-use Rattle.std.proofs.Common.{◌≡◌, ℕ, ◌+◌, ◌<◌, ◌↔◌, Bool, true, false, Some, IsTrue, List, [], ◌∷◌, ◌++◌, length, refl, ap, sym, subst, ◌∙◌}
+use Rattle.std.proofs.Common.{◌≡◌, ℕ, Bool, true, false, Some, List, [], ◌∷◌, refl, ap, sym, subst, ◌∙◌}
 use Rattle.bits_core.specs.declared.events.Side.TheVariants.{C}
 use Rattle.bits_core.specs.declared.events.Access.{Access}
 use Rattle.bits_core.specs.declared.events.Event.{Event}
 use Rattle.bits_core.specs.declared.shapes.Shape.{Shape}
-use Rattle.bits_core.specs.Made.{Made, answered, events_of}
+use Rattle.bits_core.specs.Made.{events_of}
 use Rattle.register_core.specs.Row.{RowWrite, row_bit}
 use Rattle.register_core.specs.ScanState.{ScanState}
 use Rattle.register_core.specs.UnaryState.{due_unary, due_writes, first_access}
@@ -13,38 +13,17 @@ use Rattle.ring_core.specs.declared.consumers.TakeReply as replies
 use Rattle.ring_core.specs.declared.consumers.TakeReply.TheVariants as reply
 use Rattle.ring_core.specs.declared.consumers.Stage.{Stage}
 use Rattle.ring_core.specs.declared.consumers.Stage.TheVariants.{Counting}
-use Rattle.ring_core.specs.Calls.{LastBitIsDue, EndsInZeros}
-use Rattle.ring_core.specs.Lengths.{longest_take}
 use Rattle.ring_core.specs.Takes.{Takes, take_program, AreTakes}
 use Rattle.ring_core.specs.ConsumerState.{ConsumerState, IsConsumerButScan, IsConsumerButWord, consumer_due_at, due_take, is_taking, takes_at}
-use Rattle.ring_core.specs.ConsumerCalls.{ConsumerStands, ConsumerHasMoved, TakeGoesOn, HasTakeMore, IsReplyToTake, reply_at_end}
+use Rattle.ring_core.specs.ConsumerCalls.{HasTakeMore, IsReplyToTake, reply_at_end}
 use Rattle.ring_run.specs.Ring.{Ring, RingEnd}
-use Rattle.ring_run.specs.Steppers.{CanMake, HasMade, IsSameEnd, StandsAs}
+use Rattle.ring_run.specs.Steppers.{IsSameEnd, StandsAs}
 use Rattle.ring_run.specs.Ends.{HasTakes, HasTaken, TakeAdds, TakerState, whole_take}
-use Rattle.ring_run.specs.Machines.{IsMachine, IsMarked, MachineReady, MachineGoes, MachineIn, MachineOver, CallBegins, consuming, longest_taking, without_last}
-use Rattle.ring_run.specs.Below.{LawsBelow}
-use Rattle.ring_run.proofs.MachineMoves.{Next}
+use Rattle.ring_run.specs.Machines.{IsMachine, IsMarked, MachineReady, MachineOver, CallBegins, consuming, longest_taking, without_last}
 use Rattle.ring_run.proofs.MachineCalls.{none-some, rest_marked}
 use Rattle.ring_run.proofs.MachineWhole as whole
 use Rattle.ring_run.proofs.MachineWhole.{Ended, More, Refused}
-use Rattle.ring_run.proofs.TakerCalls.{next_take, over_adds, over_reply, take_laws}
-
--- an access of a take that goes on
-module _ (laws : LawsBelow) (e : RingEnd) (m : ConsumerState) (calls : Takes) (g : MachineGoes consuming e m calls tt) (a : Access) (due : due_take m ≡ Some a)
-    (goes_on : (calls : Takes) (made : List Made) → ConsumerStands m calls made → (is_taking m ≡ true) × TakeGoesOn m.shape calls made a)
-    (bounded : (calls : Takes) (made : List Made) → ConsumerStands m calls made → is_taking m ≡ true → length made < length (take_program m.shape calls) + longest_take m.shape)
-    (expects : Bool) (due_is : IsTrue expects ↔ LastBitIsDue m.shape C (due_take m)) (zeros : (calls : Takes) (made : List Made) → ConsumerStands m calls made → IsTrue expects → EndsInZeros m.shape C made) where
-  next : Next consuming m calls g.made a
-  next = next_take m calls g.made a (goes_on calls g.made g.at.stands) (bounded calls g.made g.at.stands)
-
-  pub can_go : CanMake e a
-  can_go = whole.can_go laws consuming take_laws e m calls tt g a due next expects due_is zeros
-
-  pub may_feed : (b : RingEnd) (v : Bool) → HasMade e b a v → LastBitIsDue m.shape C (due_take m) → v ≡ true
-  may_feed = whole.may_feed laws consuming take_laws e m calls tt g a due next expects due_is zeros
-
-  pub went : (b : RingEnd) (v : Bool) → HasMade e b a v → (m' : ConsumerState) → m'.shape ≡ m.shape → ConsumerHasMoved m m' calls (g.made ++ answered a v ∷ []) → MachineIn consuming b m' calls tt
-  went = whole.went laws consuming take_laws e m calls tt g a due next expects due_is zeros
+use Rattle.ring_run.proofs.TakerCalls.{over_adds, over_reply, take_laws}
 
 -- a take is under way at a stage
 pub taking_at : (m : ConsumerState) (st : Stage) → m.stage ≡ st → takes_at st ≡ true → is_taking m ≡ true

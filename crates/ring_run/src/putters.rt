@@ -15,7 +15,9 @@ ghost use Rattle.ring_run.specs.Ends.{HasPut, HasPutAll, HasPutPart, HasClosed, 
 ghost use Rattle.ring_run.specs.Machines.{CallBegins, MachineAt, MachineIn, MachineOver, MachineReady, MachineStep, producing};
 
 use crate::below::laws_below;
+use crate::ends::PutEnd;
 use crate::steppers::Stepper;
+use crate::views::Flickering;
 use bits_core::{Oracle, Shape};
 use ring_core::{BatchReply, Producer, PutReply};
 use std::marker::Model;
@@ -30,7 +32,7 @@ use std::marker::Model;
 pub struct Putter<'a, O: Oracle + Drop> {
     // unused, as `after` is: they keep other values off the cache lines of this one
     pub(crate) before: [u64; 8],
-    pub(crate) stepper: Stepper<'a>,
+    pub(crate) stepper: Stepper<'a, Flickering>,
     pub(crate) machine: Producer,
     // how many events of the call under way the list has, and 0 where none is under way
     pub(crate) steps: u64,
@@ -51,7 +53,11 @@ impl<'a, O: Oracle + Drop> Model for Putter<'a, O> {
 }
 
 // One step of the call under way.
-fn advance<'a, O: Oracle>(stepper: &mut Stepper<'a>, machine: &mut Producer, oracle: &mut O)
+fn advance<'a, O: Oracle>(
+    stepper: &mut Stepper<'a, Flickering>,
+    machine: &mut Producer,
+    oracle: &mut O,
+)
     requires at { (calls : Puts) × (made : List Made) × MachineAt producing stepper.old machine.old calls made }
     ensures rests { call_of machine.old ≡ None → (machine.new ≡ machine.old) × (stepper.new ≡ stepper.old) }
     ensures kind { machine.new.batched ≡ machine.old.batched }
@@ -72,7 +78,11 @@ fn advance<'a, O: Oracle>(stepper: &mut Stepper<'a>, machine: &mut Producer, ora
 
 // The rest of the scan of the call under way, where one is.
 #[inline(always)]
-fn finish_scan<'a, O: Oracle>(stepper: &mut Stepper<'a>, machine: &mut Producer, oracle: &mut O)
+fn finish_scan<'a, O: Oracle>(
+    stepper: &mut Stepper<'a, Flickering>,
+    machine: &mut Producer,
+    oracle: &mut O,
+)
     requires goes { call_of machine.old ≢ None → (calls : Puts) × (c : Call) × MachineIn producing stepper.old machine.old calls c }
     ensures same { IsSameEnd stepper.old stepper.new }
     ensures kind { machine.new.batched ≡ machine.old.batched }
@@ -101,7 +111,11 @@ fn finish_scan<'a, O: Oracle>(stepper: &mut Stepper<'a>, machine: &mut Producer,
 
 // The rest of the word of the call under way, where one is written.
 #[inline(always)]
-fn write_word<'a, O: Oracle>(stepper: &mut Stepper<'a>, machine: &mut Producer, oracle: &mut O)
+fn write_word<'a, O: Oracle>(
+    stepper: &mut Stepper<'a, Flickering>,
+    machine: &mut Producer,
+    oracle: &mut O,
+)
     requires goes { call_of machine.old ≢ None → (calls : Puts) × (c : Call) × MachineIn producing stepper.old machine.old calls c }
     ensures same { IsSameEnd stepper.old stepper.new }
     ensures kind { machine.new.batched ≡ machine.old.batched }
@@ -130,7 +144,11 @@ fn write_word<'a, O: Oracle>(stepper: &mut Stepper<'a>, machine: &mut Producer, 
 
 // The rest of the count of the call under way, where it is written.
 #[inline(always)]
-fn write_count<'a, O: Oracle>(stepper: &mut Stepper<'a>, machine: &mut Producer, oracle: &mut O)
+fn write_count<'a, O: Oracle>(
+    stepper: &mut Stepper<'a, Flickering>,
+    machine: &mut Producer,
+    oracle: &mut O,
+)
     requires goes { call_of machine.old ≢ None → (calls : Puts) × (c : Call) × MachineIn producing stepper.old machine.old calls c }
     ensures same { IsSameEnd stepper.old stepper.new }
     ensures kind { machine.new.batched ≡ machine.old.batched }
@@ -153,7 +171,11 @@ fn write_count<'a, O: Oracle>(stepper: &mut Stepper<'a>, machine: &mut Producer,
 
 // The accesses of the call under way, to its end.
 #[inline(always)]
-fn finish<'a, O: Oracle>(stepper: &mut Stepper<'a>, machine: &mut Producer, oracle: &mut O)
+fn finish<'a, O: Oracle>(
+    stepper: &mut Stepper<'a, Flickering>,
+    machine: &mut Producer,
+    oracle: &mut O,
+)
     requires ready { (calls : Puts) × MachineReady producing stepper.old machine.old calls }
     ensures same { IsSameEnd stepper.old stepper.new }
     ensures kind { machine.new.batched ≡ machine.old.batched }
@@ -229,14 +251,6 @@ fn begin_close(machine: &mut Producer)
 }
 
 impl<'a, O: Oracle + Drop> Putter<'a, O> {
-    // The shape of the ring.
-    pub(crate) fn shape(&self) -> Shape
-        ensures shape { result ≡ self.now.end.ring.shape }
-        ensures lawful { StandsAs P self.now.end }
-    {
-        self.stepper.ring.shape()
-    }
-
     /// One step of a put of the item: one event of its accesses. The put begins where no call is under way, and the
     /// reply comes with its last step. After a close it is answered `Closed` at once, with no step. The item has to fit
     /// the width, and to be the same until the reply.
@@ -299,17 +313,23 @@ impl<'a, O: Oracle + Drop> Putter<'a, O> {
         self.steps = steps_behind(self.steps, &self.machine);
         self.machine.next().is_none()
     }
+}
 
-    // Puts the item, or finds the ring full or closed.
-    pub(crate) fn put_item(&mut self, item: u64) -> PutReply
-        requires fits { item < 2 ^ width_of self.old.end.ring.shape }
-        requires idle { self.old.call ≡ None }
-        ensures same { IsSameEnd self.old.end self.new.end }
-        ensures lawful { StandsAs P self.new.end }
-        ensures idle { self.new.call ≡ None }
-        ensures phrase { HasPut self.new.end.ring.shape item self.old.end.list self.new.end.list result }
-        ensures answered { AreAnswered self.old.end self.new.end (O.answers self.old.oracle) (O.answers self.new.oracle) }
-    {
+impl<'a, O: Oracle + Drop> PutEnd for Putter<'a, O> {
+    ghost use Rattle.std.specs.Prelude.{◌≡◌, None};
+    ghost use Rattle.ring_run.specs.Steppers.{AreAnswered};
+
+    ghost end = { λ p. p.end };
+
+    ghost idle = { λ p. p.call ≡ None };
+
+    ghost answered = { λ p q. AreAnswered p.end q.end (O.answers p.oracle) (O.answers q.oracle) };
+
+    fn shape(&self) -> Shape {
+        self.stepper.ring.shape()
+    }
+
+    fn put(&mut self, item: u64) -> PutReply {
         begin_put(&mut self.machine, item);
         finish(&mut self.stepper, &mut self.machine, &mut self.oracle);
         match self.machine.reply() {
@@ -318,16 +338,7 @@ impl<'a, O: Oracle + Drop> Putter<'a, O> {
         }
     }
 
-    // Puts the items under one count write, as many as there is room for, or finds the ring full or closed.
-    pub(crate) fn put_items(&mut self, items: &[u64]) -> BatchReply
-        requires batch { IsBatch self.old.end.ring.shape items.now }
-        requires idle { self.old.call ≡ None }
-        ensures same { IsSameEnd self.old.end self.new.end }
-        ensures lawful { StandsAs P self.new.end }
-        ensures idle { self.new.call ≡ None }
-        ensures phrase { HasPutAll self.new.end.ring.shape items.now self.old.end.list self.new.end.list result }
-        ensures answered { AreAnswered self.old.end self.new.end (O.answers self.old.oracle) (O.answers self.new.oracle) }
-    {
+    fn put_all(&mut self, items: &[u64]) -> BatchReply {
         begin_put_all(&mut self.machine, items);
         finish(&mut self.stepper, &mut self.machine, &mut self.oracle);
         match self.machine.batch_reply() {
@@ -336,15 +347,7 @@ impl<'a, O: Oracle + Drop> Putter<'a, O> {
         }
     }
 
-    // Closes the ring. A second close does nothing.
-    pub(crate) fn close_ring(&mut self)
-        requires idle { self.old.call ≡ None }
-        ensures same { IsSameEnd self.old.end self.new.end }
-        ensures lawful { StandsAs P self.new.end }
-        ensures idle { self.new.call ≡ None }
-        ensures phrase { HasClosed self.new.end.ring.shape self.old.end.list self.new.end.list }
-        ensures answered { AreAnswered self.old.end self.new.end (O.answers self.old.oracle) (O.answers self.new.oracle) }
-    {
+    fn close(&mut self) {
         begin_close(&mut self.machine);
         finish(&mut self.stepper, &mut self.machine, &mut self.oracle);
     }

@@ -13,7 +13,9 @@ ghost use Rattle.ring_run.specs.Ends.{HasTaken, HasTakePart, whole_take, takes_w
 ghost use Rattle.ring_run.specs.Machines.{CallBegins, MachineAt, MachineIn, MachineOver, MachineReady, MachineStep, consuming};
 
 use crate::below::laws_below;
+use crate::ends::TakeEnd;
 use crate::steppers::Stepper;
+use crate::views::Flickering;
 use bits_core::{Oracle, Shape};
 use ring_core::{Consumer, TakeReply};
 use std::marker::Model;
@@ -28,7 +30,7 @@ use std::marker::Model;
 pub struct Taker<'a, O: Oracle + Drop> {
     // unused, as `after` is: they keep other values off the cache lines of this one
     pub(crate) before: [u64; 8],
-    pub(crate) stepper: Stepper<'a>,
+    pub(crate) stepper: Stepper<'a, Flickering>,
     pub(crate) machine: Consumer,
     // how many events of the take under way the list has, and 0 where none is under way
     pub(crate) steps: u64,
@@ -49,7 +51,11 @@ impl<'a, O: Oracle + Drop> Model for Taker<'a, O> {
 }
 
 // One step of the take under way.
-fn advance<'a, O: Oracle>(stepper: &mut Stepper<'a>, machine: &mut Consumer, oracle: &mut O)
+fn advance<'a, O: Oracle>(
+    stepper: &mut Stepper<'a, Flickering>,
+    machine: &mut Consumer,
+    oracle: &mut O,
+)
     requires at { (calls : Takes) × (made : List Made) × MachineAt consuming stepper.old machine.old calls made }
     ensures rests { is_taking machine.old ≡ false → (machine.new ≡ machine.old) × (stepper.new ≡ stepper.old) }
     ensures steps { (calls : Takes) (made : List Made) → MachineAt consuming stepper.old machine.old calls made → is_taking machine.old ≡ true → MachineStep consuming stepper.old machine.old stepper.new machine.new calls }
@@ -69,7 +75,11 @@ fn advance<'a, O: Oracle>(stepper: &mut Stepper<'a>, machine: &mut Consumer, ora
 
 // The rest of a scan of the take under way, where one is.
 #[inline(always)]
-fn finish_scan<'a, O: Oracle>(stepper: &mut Stepper<'a>, machine: &mut Consumer, oracle: &mut O)
+fn finish_scan<'a, O: Oracle>(
+    stepper: &mut Stepper<'a, Flickering>,
+    machine: &mut Consumer,
+    oracle: &mut O,
+)
     requires goes { is_taking machine.old ≡ true → (calls : Takes) × MachineIn consuming stepper.old machine.old calls tt }
     ensures same { IsSameEnd stepper.old stepper.new }
     ensures longer { length stepper.old.list ≤ length stepper.new.list }
@@ -97,7 +107,11 @@ fn finish_scan<'a, O: Oracle>(stepper: &mut Stepper<'a>, machine: &mut Consumer,
 
 // The rest of the word of the take under way, where one is read.
 #[inline(always)]
-fn read_word<'a, O: Oracle>(stepper: &mut Stepper<'a>, machine: &mut Consumer, oracle: &mut O)
+fn read_word<'a, O: Oracle>(
+    stepper: &mut Stepper<'a, Flickering>,
+    machine: &mut Consumer,
+    oracle: &mut O,
+)
     requires goes { is_taking machine.old ≡ true → (calls : Takes) × MachineIn consuming stepper.old machine.old calls tt }
     ensures same { IsSameEnd stepper.old stepper.new }
     ensures longer { length stepper.old.list ≤ length stepper.new.list }
@@ -125,7 +139,11 @@ fn read_word<'a, O: Oracle>(stepper: &mut Stepper<'a>, machine: &mut Consumer, o
 
 // The rest of the count of the take under way, where it is written.
 #[inline(always)]
-fn write_count<'a, O: Oracle>(stepper: &mut Stepper<'a>, machine: &mut Consumer, oracle: &mut O)
+fn write_count<'a, O: Oracle>(
+    stepper: &mut Stepper<'a, Flickering>,
+    machine: &mut Consumer,
+    oracle: &mut O,
+)
     requires goes { is_taking machine.old ≡ true → (calls : Takes) × MachineIn consuming stepper.old machine.old calls tt }
     ensures same { IsSameEnd stepper.old stepper.new }
     ensures longer { length stepper.old.list ≤ length stepper.new.list }
@@ -147,7 +165,11 @@ fn write_count<'a, O: Oracle>(stepper: &mut Stepper<'a>, machine: &mut Consumer,
 
 // The accesses of the take under way, to its end.
 #[inline(always)]
-fn finish<'a, O: Oracle>(stepper: &mut Stepper<'a>, machine: &mut Consumer, oracle: &mut O)
+fn finish<'a, O: Oracle>(
+    stepper: &mut Stepper<'a, Flickering>,
+    machine: &mut Consumer,
+    oracle: &mut O,
+)
     requires ready { (calls : Takes) × MachineReady consuming stepper.old machine.old calls }
     ensures same { IsSameEnd stepper.old stepper.new }
     ensures rests { is_taking machine.old ≡ false → (machine.new ≡ machine.old) × (stepper.new ≡ stepper.old) }
@@ -195,14 +217,6 @@ fn begin_take(machine: &mut Consumer)
 }
 
 impl<'a, O: Oracle + Drop> Taker<'a, O> {
-    // The shape of the ring.
-    pub(crate) fn shape(&self) -> Shape
-        ensures shape { result ≡ self.now.end.ring.shape }
-        ensures lawful { StandsAs C self.now.end }
-    {
-        self.stepper.ring.shape()
-    }
-
     /// One step of a take: one event of its accesses. The take begins where none is under way, and the reply comes with
     /// its last step. Once a take was told `Closed`, each is answered so at once, with no step.
     pub fn step_take(&mut self) -> Option<TakeReply>
@@ -221,16 +235,23 @@ impl<'a, O: Oracle + Drop> Taker<'a, O> {
         self.steps = steps_behind(self.steps, &self.machine);
         self.machine.reply()
     }
+}
 
-    // Takes an item, or finds the ring empty or closed.
-    pub(crate) fn take_item(&mut self) -> TakeReply
-        requires idle { self.old.taking ≡ false }
-        ensures same { IsSameEnd self.old.end self.new.end }
-        ensures lawful { StandsAs C self.new.end }
-        ensures idle { self.new.taking ≡ false }
-        ensures phrase { HasTaken self.new.end.ring.shape self.old.end.list self.new.end.list result }
-        ensures answered { AreAnswered self.old.end self.new.end (O.answers self.old.oracle) (O.answers self.new.oracle) }
-    {
+impl<'a, O: Oracle + Drop> TakeEnd for Taker<'a, O> {
+    ghost use Rattle.std.specs.Prelude.{◌≡◌, false};
+    ghost use Rattle.ring_run.specs.Steppers.{AreAnswered};
+
+    ghost end = { λ p. p.end };
+
+    ghost idle = { λ p. p.taking ≡ false };
+
+    ghost answered = { λ p q. AreAnswered p.end q.end (O.answers p.oracle) (O.answers q.oracle) };
+
+    fn shape(&self) -> Shape {
+        self.stepper.ring.shape()
+    }
+
+    fn take(&mut self) -> TakeReply {
         begin_take(&mut self.machine);
         finish(&mut self.stepper, &mut self.machine, &mut self.oracle);
         match self.machine.reply() {

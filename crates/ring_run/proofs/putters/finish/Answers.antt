@@ -7,9 +7,8 @@ use Rattle.ring_run.specs.Machines.{MachineGoes, MachineMade, MachineReady, prod
 use Rattle.ring_run.proofs.Accesses.{longer, same, same_on}
 use Rattle.ring_run.proofs.Answered.{answered_same, answered_then}
 use Rattle.ring_run.proofs.MachineMoves.{right_there}
-use Rattle.ring_run.proofs.MachineWhole.{below, going, in_there, made_first, made_on, made_rests, over}
-use Rattle.ring_run.proofs.PutterCalls.{put_laws, some_call}
-use Rattle.ring_run.proofs.PutterWhole.{can_go, may_feed, went}
+use Rattle.ring_run.proofs.MachineWhole.{below, can_go, going, in_there, made_first, made_on, made_rests, may_feed, over, went}
+use Rattle.ring_run.proofs.PutterCalls.{next_puts, put_laws, some_call}
 use Rattle.ring_run.proofs.putters.finish.Given.{Over}
 use Rattle.ring_run.proofs.putters.finish.Goals.{After-write_count}
 use Rattle.ring_run.proofs.putters.finish.Goals as goal
@@ -56,7 +55,8 @@ make-answer-requires-clause-can g c =
     let (call, is, on) = goes g (goal.at.make-answer-requires-clause-can g c).After-write_count calls ready c.in-Some.access (sym c.in-Some.ensures.due) in
     let i = c.in-Some.ensures in
     let x = c.expects_one-expects in
-    can_go c.laws_below.ensures c.write_count.new.stepper c.write_count.new.machine calls call on c.in-Some.access (sym i.due) (λ calls made stands. i.goes_on calls made c.in-Some.access stands refl) i.bounded x.result x.ensures.due x.ensures.stands
+    can_go c.laws_below.ensures producing put_laws c.write_count.new.stepper c.write_count.new.machine calls call on c.in-Some.access (sym i.due)
+    (next_puts c.write_count.new.machine c.in-Some.access (λ calls made stands. i.goes_on calls made c.in-Some.access stands refl) i.bounded calls on.made on.at.stands) x.result x.ensures.due x.ensures.stands
 
 pub feed-requires-clause-one : goal.feed-requires-clause-one
 feed-requires-clause-one g c =
@@ -64,7 +64,8 @@ feed-requires-clause-one g c =
     let (call, is, on) = goes g (goal.at.feed-requires-clause-one g c).After-write_count calls ready c.in-Some.access (sym c.in-Some.ensures.due) in
     let i = c.in-Some.ensures in
     let x = c.expects_one-expects in
-    may_feed c.laws_below.ensures c.write_count.new.stepper c.write_count.new.machine calls call on c.in-Some.access (sym i.due) (λ calls made stands. i.goes_on calls made c.in-Some.access stands refl) i.bounded x.result x.ensures.due x.ensures.stands c.make-answer.new.self c.make-answer.result c.make-answer.ensures.made
+    may_feed c.laws_below.ensures producing put_laws c.write_count.new.stepper c.write_count.new.machine calls call on c.in-Some.access (sym i.due)
+    (next_puts c.write_count.new.machine c.in-Some.access (λ calls made stands. i.goes_on calls made c.in-Some.access stands refl) i.bounded calls on.made on.at.stands) x.result x.ensures.due x.ensures.stands c.make-answer.new.self c.make-answer.result c.make-answer.ensures.made
 
 pub accesses-smaller : goal.accesses-smaller
 accesses-smaller g c =
@@ -83,7 +84,12 @@ accesses-preserved g c =
       c.feed.ensures.kind ∙ c.write_count.ensures.kind ∙ c.write_word.ensures.kind ∙ c.finish_scan.ensures.kind ∙ c.accesses.invariant.1,
       λ calls ready.
           let (call, is, on) = goes g (goal.at.accesses-preserved g c).After-write_count calls ready c.in-Some.access (sym c.in-Some.ensures.due) in
-          inr (call, is, went c.laws_below.ensures c.write_count.new.stepper c.write_count.new.machine calls call on c.in-Some.access (sym i.due) (λ calls made stands. i.goes_on calls made c.in-Some.access stands refl) i.bounded x.result x.ensures.due x.ensures.stands c.make-answer.new.self c.make-answer.result c.make-answer.ensures.made c.feed.new.self c.feed.ensures.shape (c.feed.ensures.stands calls on.made c.in-Some.access on.at.stands (sym i.due))),
+          inr (
+            call,
+            is,
+            went c.laws_below.ensures producing put_laws c.write_count.new.stepper c.write_count.new.machine calls call on c.in-Some.access (sym i.due)
+                (next_puts c.write_count.new.machine c.in-Some.access (λ calls made stands. i.goes_on calls made c.in-Some.access stands refl) i.bounded calls on.made on.at.stands) x.result x.ensures.due x.ensures.stands c.make-answer.new.self c.make-answer.result c.make-answer.ensures.made c.feed.new.self c.feed.ensures.shape (c.feed.ensures.stands calls on.made c.in-Some.access on.at.stands (sym i.due)),
+          ),
       answered_then _ _ _ _ _ _ (answered_then _ _ _ _ _ _ (answered_then _ _ _ _ _ _ (answered_then _ _ _ _ _ _ c.accesses.invariant.3 c.finish_scan.ensures.answered) c.write_word.ensures.answered) c.write_count.ensures.answered) c.make-answer.ensures.answered,
     )
 
