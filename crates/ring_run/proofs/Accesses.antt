@@ -64,6 +64,9 @@ pub none_open : LawsBelow → (x : Side) (b : Bit) (a : Act) (got : ℕ) (v w : 
     → opened ≡ open_access x (list_of x w)
 none_open laws x b a got v w is over opened list was none = was ∙ none ∙ sym (opened_by laws x b a got v w is ∙ over)
 
+pub same_on : {a b c : RingEnd} → IsSameEnd a b → IsSameEnd b c → IsSameEnd a c
+same_on s t = record { ring = t.ring ∙ s.ring; side = t.side ∙ s.side; known = t.known ∙ s.known }
+
 -- the end is the same but for its list, which is longer
 module _ (e b : RingEnd) (a : Access) (v : Bool) (h : HasMade e b a v) where
   pub same : IsSameEnd e b

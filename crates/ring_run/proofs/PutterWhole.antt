@@ -1,12 +1,10 @@
 -- A whole call of the producer's end, access by access.
-use Rattle.std.proofs.Common.{◌≡◌, ◌≢◌, cond, ◌⊎◌, inl, inr, ⊎_elim, ℕ, ◌+◌, ◌*◌, ◌<◌, ◌↔◌, Bool, true, false, Option, Some, None, IsTrue, List, [], ◌∷◌, ◌++◌, length, refl, ap, sym, subst, ◌∙◌, arith}
-use Rattle.bits_core.specs.declared.events.Side.{Side}
+use Rattle.std.proofs.Common.{◌≡◌, cond, ℕ, Bool, true, false, Option, Some, None, List, [], ◌∷◌, refl, ap, sym, subst, ◌∙◌}
 use Rattle.bits_core.specs.declared.events.Side.TheVariants.{P}
 use Rattle.bits_core.specs.declared.events.Access.{Access}
-use Rattle.bits_core.specs.declared.events.Event.{Event}
 use Rattle.bits_core.specs.declared.shapes.Shape.{Shape}
-use Rattle.bits_core.specs.History.{open_access}
-use Rattle.bits_core.specs.Made.{Made, answered, events_of}
+use Rattle.bits_core.specs.declared.events.Event.{Event}
+use Rattle.bits_core.specs.Made.{events_of}
 use Rattle.register_core.specs.Row.{RowWrite, row_bit}
 use Rattle.register_core.specs.ScanState.{ScanState}
 use Rattle.register_core.specs.UnaryState.{due_unary, due_writes, first_access}
@@ -14,93 +12,24 @@ use Rattle.register_core.specs.WordState.{WriterState}
 use Rattle.ring_core.specs.declared.producers.PutReply as items_replies
 use Rattle.ring_core.specs.declared.producers.BatchReply as replies
 use Rattle.ring_core.specs.declared.producers.BatchReply.TheVariants as reply
-use Rattle.ring_core.specs.Calls.{LastBitIsDue, EndsInZeros}
 use Rattle.ring_core.specs.Puts.{Puts, put_program, ArePuts}
 use Rattle.ring_core.specs.ProducerState as producer
 use Rattle.ring_core.specs.declared.producers.Stage.{Stage}
 use Rattle.ring_core.specs.declared.producers.Stage.TheVariants.{Counting}
 use Rattle.ring_core.specs.ProducerState.{ProducerState, Call, Close, IsProducerButScan, IsProducerButWord, call_at, producer_due_at, due_put, call_of}
-use Rattle.ring_core.specs.ProducerCalls.{HasCallMore, ProducerHasMoved, IsAfterCall, IsReplyToCall, ProducerStands, PutGoesOn, longest, put_reply_to}
+use Rattle.ring_core.specs.ProducerCalls.{HasCallMore, IsReplyToCall, put_reply_to}
 use Rattle.ring_run.specs.Ring.{Ring, RingEnd}
-use Rattle.ring_run.specs.Programs.{begin_of, ending_event}
-use Rattle.ring_run.specs.Steppers.{CanMake, Grows, HasMade, HasStepped, IsSameEnd, StandsAs}
-use Rattle.ring_run.specs.Ends.{HasPuts, HasPutAll, HasClosed, PutAdds, CloseAdds, whole_put}
-use Rattle.ring_run.specs.Machines.{PutterAt, PutterReady, PutterGoes, PutterOver, PutterIn, PutterMade, IsPutter, IsRefusedAtOnce, CallBegins, longest_at}
-use Rattle.ring_run.specs.Below.{LawsBelow}
-use Rattle.ring_run.proofs.Lists.{begun_open, length-events_of}
-use Rattle.ring_run.proofs.PutterMoves.{Next, at_begun, at_ended, call_are, can_make, list_ended, next_of, one_there}
-use Rattle.ring_run.proofs.PutterCalls.{list_rests, over_adds, over_reply, rest, rest_list}
-
-none-some : {A : Type 0} (a : A) → None ≡ Some a → ⊥
-none-some a e = cc
-
--- ---- one access
-
-module _ (laws : LawsBelow) (e : RingEnd) (m : ProducerState) (calls : Puts) (made : List Made) (at : PutterAt e m calls made) (a : Access) (due : due_put m ≡ Some a) (next : Next m.shape calls (call_of m) made a)
-    (expects : Bool) (due_is : IsTrue expects ↔ LastBitIsDue m.shape P (due_put m)) (zeros : IsTrue expects → EndsInZeros m.shape P made) (is : e.list ≡ events_of P made) (b : RingEnd) (v : Bool) (h : HasMade e b a v) where
-  begun : HasStepped e h.0 a None
-  begun = (ap (λ (x : Side). open_access x e.list) at.side_is ∙ ap (open_access P) is ∙ laws.made_idle P made, h.1)
-
-  at_mid : PutterAt h.0 m calls made
-  at_mid = at_begun laws e m calls made at a due next expects due_is zeros h.0 begun
-
-  ended : HasStepped h.0 b a (Some v)
-  ended = (
-    ap (λ (x : Side). open_access x (h.0).list) (h.1.same.side ∙ at.side_is) ∙ ap (open_access P) (h.1.list ∙ (λ i. is i ++ begin_of (at.side_is i) a ∷ [])) ∙ begun_open laws P (events_of P made) a,
-    subst (λ (x : Side). Grows h.0 b (ending_event x a v)) (sym h.1.same.side) h.2,
-  )
-
-  -- the answer may be fed
-  pub feeds : LastBitIsDue m.shape P (due_put m) → v ≡ true
-  feeds = one_there laws h.0 m calls made at_mid a due next expects due_is zeros b v ended
-
-  list_is : b.list ≡ events_of P (made ++ answered a v ∷ [])
-  list_is = list_ended laws h.0 m calls made at_mid a due next expects due_is zeros b v ended
-
-  module _ (m' : ProducerState) (same_shape : m'.shape ≡ m.shape) (moved : ProducerHasMoved m m' calls (made ++ answered a v ∷ [])) (c : Call) (call_is : call_of m ≡ Some c) where
-    there : PutterAt b m' moved.0 (made ++ answered a v ∷ [])
-    there = at_ended laws h.0 m calls made at_mid a due next expects due_is zeros b v ended m' same_shape moved
-
-    after : (o : Option Call) → call_of m' ≡ o → PutterGoes b m' calls c ⊎ PutterOver b m' calls c
-    after (Some d) is' =
-        let t : IsAfterCall m.shape (Some c) (Some d) calls moved.0 m'.reply = subst (λ (z : Option Call × Option Call). IsAfterCall m.shape z.0 z.1 calls moved.0 m'.reply) (λ i. (call_is i, is' i)) moved.2 in
-        inl (record { made = made ++ answered a v ∷ []; at = subst (λ (k : Puts). PutterAt b m' k (made ++ answered a v ∷ [])) t.1 there; list_is = list_is; call_is = is' ∙ ap (λ (x : Call). Some x) t.0 })
-    after None is' =
-        let t : IsAfterCall m.shape (Some c) None calls moved.0 m'.reply = subst (λ (z : Option Call × Option Call). IsAfterCall m.shape z.0 z.1 calls moved.0 m'.reply) (λ i. (call_is i, is' i)) moved.2 in
-        inr (record { more = moved.0; made = made ++ answered a v ∷ []; at = there; call_is = is'; is_more = subst (λ (z : Shape). HasCallMore z c calls moved.0) (sym same_shape) t.0; no_reply = t.1 })
-
-    pub goes : PutterGoes b m' calls c ⊎ PutterOver b m' calls c
-    goes = after (call_of m') refl
-
--- the same where the call goes on, by what a machine tells of its due access
-module _ (laws : LawsBelow) (e : RingEnd) (m : ProducerState) (calls : Puts) (c : Call) (g : PutterGoes e m calls c) (a : Access) (due : due_put m ≡ Some a)
-    (goes_on : (calls : Puts) (made : List Made) → ProducerStands m calls made → (d : Call) × (call_of m ≡ Some d) × PutGoesOn m.shape calls d made a)
-    (bounded : (calls : Puts) (made : List Made) (d : Call) → ProducerStands m calls made → call_of m ≡ Some d → length made < length (put_program m.shape calls) + longest m.shape d)
-    (expects : Bool) (due_is : IsTrue expects ↔ LastBitIsDue m.shape P (due_put m)) (zeros : (calls : Puts) (made : List Made) → ProducerStands m calls made → IsTrue expects → EndsInZeros m.shape P made) where
-  next : Next m.shape calls (call_of m) g.made a
-  next = next_of m.shape calls (call_of m) g.made a (goes_on calls g.made g.at.stands) (λ d is. bounded calls g.made d g.at.stands is)
-
-  pub can_go : CanMake e a
-  can_go = can_make laws e m calls g.made g.at a due next expects due_is (zeros calls g.made g.at.stands) g.list_is
-
-  module _ (b : RingEnd) (v : Bool) (h : HasMade e b a v) where
-    pub may_feed : LastBitIsDue m.shape P (due_put m) → v ≡ true
-    may_feed = feeds laws e m calls g.made g.at a due next expects due_is (zeros calls g.made g.at.stands) g.list_is b v h
-
-    pub went : (m' : ProducerState) → m'.shape ≡ m.shape → ProducerHasMoved m m' calls (g.made ++ answered a v ∷ []) → PutterIn b m' calls c
-    went m' same_shape moved = goes laws e m calls g.made g.at a due next expects due_is (zeros calls g.made g.at.stands) g.list_is b v h m' same_shape moved c g.call_is
-
--- while a call is under way, it goes on
-pub goes_in : (e : RingEnd) (m : ProducerState) (calls : Puts) (c d : Call) → PutterIn e m calls c → call_of m ≡ Some d → PutterGoes e m calls c
-goes_in e m calls c d (inl g) is = g
-goes_in e m calls c d (inr o) is = absurd (none-some d (sym o.call_is ∙ is))
+use Rattle.ring_run.specs.Steppers.{IsSameEnd, StandsAs}
+use Rattle.ring_run.specs.Ends.{HasPuts, HasPutAll, HasClosed, PutAdds, CloseAdds, PutterState, whole_put}
+use Rattle.ring_run.specs.Machines.{IsMachine, IsMarked, MachineReady, MachineOver, CallBegins, IsRefusedAtOnce, producing, longest_at, without_last}
+use Rattle.ring_run.proofs.MachineCalls.{none-some, rest_marked}
+use Rattle.ring_run.proofs.MachineWhole as whole
+use Rattle.ring_run.proofs.MachineWhole.{Ended, More, Refused}
+use Rattle.ring_run.proofs.PutterCalls.{over_adds, over_closes, over_reply, put_laws}
 
 -- the call under way at a stage
 pub at_call : (m : ProducerState) (st : Stage) (c : Call) → m.stage ≡ st → call_at st m.items ≡ Some c → call_of m ≡ Some c
 at_call m st c e is = ap (λ (x : Stage). call_at x m.items) e ∙ is
-
-pub busy_at : (m : ProducerState) (c : Call) → call_of m ≡ Some c → call_of m ≢ None
-busy_at m c is none = none-some c (sym none ∙ is)
 
 -- while the count is written there is a write of it that is due
 pub count_due : (m : ProducerState) (a : Access) → m.stage ≡ Counting → due_put m ≡ Some a → (x : RowWrite) × (rest : List RowWrite) × (due_writes m.row ≡ x ∷ rest)
@@ -126,149 +55,70 @@ same_scan p q r e f = f ∙ ap (λ (x : ProducerState). record x { scan = r.scan
 pub same_word : (p q r : ProducerState) → IsProducerButWord p q → IsProducerButWord q r → IsProducerButWord p r
 same_word p q r e f = f ∙ ap (λ (x : ProducerState). record x { word = r.word }) e
 
--- ---- the loop over accesses
-
--- while an access is due, the call under way goes on
-pub going : (e : RingEnd) (m : ProducerState) (b : RingEnd) (m' : ProducerState) (calls : Puts) → PutterReady e m calls → PutterMade (call_of m) e m b m' calls → (a : Access) → due_put m' ≡ Some a → (c : Call) × (call_of m ≡ Some c) × PutterGoes b m' calls c
-going e m b m' calls ready made a due = by (call_of m) refl made
-  where
-    by : (o : Option Call) → call_of m ≡ o → PutterMade o e m b m' calls → (c : Call) × (call_of m ≡ Some c) × PutterGoes b m' calls c
-    by None is (same, _) = absurd (none-some a (sym (rest m calls (put_program m.shape calls) ready.at.stands is).1 ∙ ap due_put (sym same) ∙ due))
-    by (Some c) is (inl g) = (c, is, g)
-    by (Some c) is (inr o) = absurd (none-some a (sym (rest m' o.more o.made o.at.stands o.call_is).1 ∙ due))
-
--- what the call under way came to is what was made
-pub made_so : (o : Option Call) (e : RingEnd) (m : ProducerState) (b : RingEnd) (m' : ProducerState) (calls : Puts) (c : Call) → o ≡ Some c → PutterGoes b m' calls c ⊎ PutterOver b m' calls c → PutterMade o e m b m' calls
-made_so None e m b m' calls c is g = absurd (none-some c is)
-made_so (Some d) e m b m' calls c is g = let same : d ≡ c = cc in subst (λ (x : Call). PutterGoes b m' calls x ⊎ PutterOver b m' calls x) (sym same) g
-
--- the list stays below the longest of the call
-pub below : (e : RingEnd) (m : ProducerState) (b : RingEnd) (m' : ProducerState) (calls : Puts) → PutterReady e m calls → IsSameEnd e b → (c : Call) → call_of m ≡ Some c → (g : PutterGoes b m' calls c) → length g.made < length (put_program m'.shape calls) + longest m'.shape c
-    → length b.list < length e.list + 2 * longest_at m.shape (call_of m)
-below e m b m' calls ready same c is g few =
-    let shape : m'.shape ≡ m.shape = g.at.shape_is ∙ ap (λ (r : Ring). r.shape) same.ring ∙ sym ready.at.shape_is in
-    let few' : length g.made < length (put_program m.shape calls) + longest m.shape c = subst (λ (z : Shape). length g.made < length (put_program z calls) + longest z c) shape few in
-    let most : longest_at m.shape (call_of m) ≡ longest m.shape c = ap (longest_at m.shape) is in
-    omega (arith, few', most, ap length g.list_is, length-events_of P g.made, ap length ready.list_is, length-events_of P (put_program m.shape calls))
-
--- what was made goes on, where a call is under way, and stays as it is, where none is
-pub in_there : (o : Option Call) (e : RingEnd) (m : ProducerState) (b : RingEnd) (n : ProducerState) (calls : Puts) → call_of m ≡ o → PutterMade o e m b n calls → call_of n ≢ None → (c : Call) × PutterIn b n calls c
-in_there None e m b n calls is (same, _) busy = absurd (busy (ap call_of same ∙ is))
-in_there (Some c) e m b n calls is there busy = (c, there)
-
-pub made_on : (o : Option Call) (e : RingEnd) (m : ProducerState) (b : RingEnd) (n : ProducerState) (b' : RingEnd) (n' : ProducerState) (calls : Puts) → call_of m ≡ o → PutterMade o e m b n calls
-    → (call_of n ≡ None → (n' ≡ n) × (b' ≡ b)) → ((c : Call) → PutterIn b n calls c → PutterIn b' n' calls c) → PutterMade o e m b' n' calls
-made_on None e m b n b' n' calls is (same, end) rests goes = let (s, t) = rests (ap call_of same ∙ is) in (s ∙ same, t ∙ end)
-made_on (Some c) e m b n b' n' calls is there rests goes = goes c there
-
--- where no access is due, the call is over
-pub over : (e : RingEnd) (m : ProducerState) (b : RingEnd) (m' : ProducerState) (calls : Puts) (c : Call) → call_of m ≡ Some c → PutterMade (call_of m) e m b m' calls → ((made : List Made) → (k : Puts) → PutterAt b m' k made → call_of m' ≡ None) → PutterOver b m' calls c
-over e m b m' calls c is made ends = by (call_of m) is made
-  where
-    by : (o : Option Call) → o ≡ Some c → PutterMade o e m b m' calls → PutterOver b m' calls c
-    by None same g = absurd (none-some c same)
-    by (Some d) same (inl g) = absurd (none-some d (sym (ends g.made calls g.at) ∙ g.call_is))
-    by (Some d) same (inr g) = let q : d ≡ c = cc in subst (PutterOver b m' calls) q g
-
 -- ---- a whole call
 
--- the call is over: it is one of the calls, or it was refused after a close
-pub data Ended (e e' : RingEnd) (m1 m' : ProducerState) (calls : Puts) (c : Call) : Type 0 where
-  More : (o : PutterOver e' m' calls c) → Ended e e' m1 m' calls c
-  Refused : e' ≡ e → m' ≡ m1 → call_of m1 ≡ None → calls.closes ≡ true → IsRefusedAtOnce c m1.reply → Ended e e' m1 m' calls c
+module _ {O : Type 0} (o : O) (e : RingEnd) (m : ProducerState) (n : ℕ) (s : PutterState O) (view : record { end = e; call = call_of m; batched = m.batched; start = without_last n e.list; oracle = o } ≡ s)
+    (was : IsMachine producing e m (whole_put (call_of m) e.list (without_last n e.list)) × IsMarked n e.list (longest_at m.shape (call_of m))) (idle : s.call ≡ None) (c : Call) (m1 : ProducerState) (begins : CallBegins producing m m1 was.0.calls was.0.made c) where
+  idle_there : call_of m ≡ None
+  idle_there = ap (λ (z : PutterState O). z.call) view ∙ idle
 
-module _ (e : RingEnd) (m : ProducerState) (calls : Puts) (made : List Made) (at : PutterAt e m calls made) (idle : call_of m ≡ None) (c : Call) (m1 : ProducerState) (begins : CallBegins m m1 calls made c) where
-  one : PutterAt e m1 calls made
-  one = record { side_is = at.side_is; lawful = at.lawful; shape_is = begins.0 ∙ at.shape_is; stands = begins.1; list_is = inl list_made }
-    where
-      list_made : e.list ≡ events_of P made
-      list_made = list_rests P e.list made (due_put m) at.list_is (rest m calls made at.stands idle).1
+  pub put_ready : MachineReady producing e m1 was.0.calls
+  put_ready = whole.ready producing put_laws e m (whole_put (call_of m) e.list (without_last n e.list)) was.0 idle_there c m1 begins
 
-  made_is : made ≡ put_program m1.shape calls
-  made_is = (rest m calls made at.stands idle).0 ∙ ap (λ (z : Shape). put_program z calls) (sym begins.0)
+  module _ (e' : RingEnd) (m' : ProducerState) (same : IsSameEnd e e') (rests : call_of m1 ≡ None → (m' ≡ m1) × (e' ≡ e)) (overs : (calls : Puts) → MachineReady producing e m1 calls → (d : Call) → call_of m1 ≡ Some d → MachineOver producing e' m' calls d) where
+    pub put_idle : call_of m' ≡ None
+    put_idle = whole.idle_after producing put_laws e m (whole_put (call_of m) e.list (without_last n e.list)) was.0 idle_there c m1 begins e' m' same rests (overs was.0.calls)
 
-  pub ready : PutterReady e m1 calls
-  ready = record {
-    at = subst (PutterAt e m1 calls) made_is one;
-    list_is = list_rests P e.list made (due_put m) at.list_is (rest m calls made at.stands idle).1 ∙ ap (events_of P) made_is;
-  }
+    there : (start : List Event) → IsMachine producing e' m' (whole_put (call_of m') e'.list start)
+    there = whole.is_machine producing put_laws e m (whole_put (call_of m) e.list (without_last n e.list)) was.0 idle_there c m1 begins e' m' same rests (overs was.0.calls)
 
-  module _ (e' : RingEnd) (m' : ProducerState) (same : IsSameEnd e e') (rests : call_of m1 ≡ None → (m' ≡ m1) × (e' ≡ e)) (overs : PutterReady e m1 calls → (d : Call) → call_of m1 ≡ Some d → PutterOver e' m' calls d) where
-    shape_there : m1.shape ≡ e'.ring.shape
-    shape_there = one.shape_is ∙ sym (ap (λ (r : Ring). r.shape) same.ring)
+    pub put_whole : IsMachine producing e' m' (whole_put (call_of m') e'.list (without_last n e'.list)) × IsMarked n e'.list (longest_at m'.shape (call_of m'))
+    put_whole = (there (without_last n e'.list), rest_marked producing put_laws e.list e'.list m m' n idle_there was.1)
 
-    whole : e.list ≡ events_of P (put_program e'.ring.shape calls)
-    whole = ready.list_is ∙ ap (λ (z : Shape). events_of P (put_program z calls)) shape_there
+    pub put_stands : StandsAs P e'
+    put_stands = (there []).at.lawful
 
-    are : ArePuts e'.ring.shape 0 calls.puts
-    are = subst (λ (z : Shape). ArePuts z 0 calls.puts) shape_there one.stands.are
+    pub same_put : IsSameEnd s.end e'
+    same_put = subst (λ (z : PutterState O). IsSameEnd z.end e') view same
 
-    ending : Ended e e' m1 m' calls c
-    ending = ⊎_elim (λ here. More (overs ready c here.0)) (λ gone. let r = rests gone.0 in Refused r.1 r.0 gone.0 gone.3 gone.4) begins.2
+    list_is : e.list ≡ events_of P (put_program e'.ring.shape was.0.calls)
+    list_is = whole.list_there producing put_laws e m (whole_put (call_of m) e.list (without_last n e.list)) was.0 idle_there c m1 begins e' m' same rests (overs was.0.calls)
 
-    pub idle_after : call_of m' ≡ None
-    idle_after = idle_by ending
-      where
-        idle_by : Ended e e' m1 m' calls c → call_of m' ≡ None
-        idle_by (More o) = o.call_is
-        idle_by (Refused same_end same_m none closes refused) = ap call_of same_m ∙ none
+    before_is : HasPuts e'.ring.shape e.list was.0.calls
+    before_is = record { are = subst (λ (z : Shape). ArePuts z 0 was.0.calls.puts) (was.0.at.shape_is ∙ ap (λ (r : Ring). r.shape) (sym same.ring)) was.0.at.stands.are; list_is = list_is }
 
-    pub is_putter : (start : List Event) → IsPutter e' m' (whole_put (call_of m') e'.list start)
-    is_putter start = subst (λ (p : Option Call). IsPutter e' m' (whole_put p e'.list start)) (sym idle_after) (putter_by ending)
-      where
-        putter_by : Ended e e' m1 m' calls c → IsPutter e' m' e'.list
-        putter_by (More o) = record { calls = o.more; made = o.made; at = o.at; whole_is = rest_list e' m' o.more o.made o.at o.call_is }
-        putter_by (Refused same_end same_m none closes refused) =
-            let there : PutterAt e' m' calls made = subst (λ (z : RingEnd × ProducerState). PutterAt z.0 z.1 calls made) (λ i. (sym same_end i, sym same_m i)) one in
-            record { calls = calls; made = made; at = there; whole_is = rest_list e' m' calls made there (ap call_of same_m ∙ none) }
+    ending : Ended producing e e' m1 m' was.0.calls c
+    ending = whole.ending producing put_laws e m (whole_put (call_of m) e.list (without_last n e.list)) was.0 idle_there c m1 begins e' m' same rests (overs was.0.calls)
 
-    pub lawful_after : StandsAs P e'
-    lawful_after = (is_putter []).at.lawful
+    more_there : (z : MachineOver producing e' m' was.0.calls c) → HasCallMore e'.ring.shape c was.0.calls z.more
+    more_there = whole.more_there producing put_laws e m (whole_put (call_of m) e.list (without_last n e.list)) was.0 idle_there c m1 begins e' m' same rests (overs was.0.calls)
 
-    more_there : (o : PutterOver e' m' calls c) → HasCallMore e'.ring.shape c calls o.more
-    more_there o = subst (λ (z : Shape). HasCallMore z c calls o.more) o.at.shape_is o.is_more
-
-    has_more : (o : PutterOver e' m' calls c) → HasPuts e'.ring.shape e'.list o.more
-    has_more o = record { are = call_are e'.ring.shape c calls o.more (more_there o); list_is = rest_list e' m' o.more o.made o.at o.call_is }
-
-    replied : (o : PutterOver e' m' calls c) → IsReplyToCall o.more None m'.reply
-    replied o = subst (λ (z : Option Call). IsReplyToCall o.more z m'.reply) o.call_is o.at.stands.reply_is
+    over_list : (z : MachineOver producing e' m' was.0.calls c) → e'.list ≡ events_of P (put_program e'.ring.shape z.more)
+    over_list = whole.over_list producing put_laws e m (whole_put (call_of m) e.list (without_last n e.list)) was.0 idle_there c m1 begins e' m' same rests (overs was.0.calls)
 
     -- a put was answered, and this is what it added
-    pub put_ended : (items : List ℕ) → c ≡ producer.Put items → (x : replies.BatchReply) × (m'.reply ≡ Some x) × HasPutAll e'.ring.shape items e.list e'.list x
-    put_ended items same_c = put_by ending
+    pub put_ended : (items : List ℕ) → c ≡ producer.Put items → (x : replies.BatchReply) × (m'.reply ≡ Some x) × HasPutAll e'.ring.shape items s.end.list e'.list x
+    put_ended items same_c = subst (λ (z : PutterState O). (x : replies.BatchReply) × (m'.reply ≡ Some x) × HasPutAll e'.ring.shape items z.end.list e'.list x) view (put_by ending)
       where
-        put_by : Ended e e' m1 m' calls c → (x : replies.BatchReply) × (m'.reply ≡ Some x) × HasPutAll e'.ring.shape items e.list e'.list x
-        put_by (More o) =
-            let is_more : HasCallMore e'.ring.shape (producer.Put items) calls o.more = subst (λ (d : Call). HasCallMore e'.ring.shape d calls o.more) same_c (more_there o) in
-            let is : m'.reply ≡ Some (put_reply_to is_more.0) = over_reply e'.ring.shape items calls o.more m'.reply is_more (replied o) in (
-              put_reply_to is_more.0,
-              is,
-              record {
-                calls = calls;
-                before_is = record { are = are; list_is = whole };
-                adds = over_adds e e' m' calls items e.list whole are m'.reply refl (λ more made st. st.reply_is) o.more is_more (has_more o) (put_reply_to is_more.0) is (replied o);
-              },
-            )
-        put_by (Refused same_end same_m none closes refused) = (
+        put_by : Ended producing e e' m1 m' was.0.calls c → (x : replies.BatchReply) × (m'.reply ≡ Some x) × HasPutAll e'.ring.shape items e.list e'.list x
+        put_by (More z) =
+            let is_more : HasCallMore e'.ring.shape (producer.Put items) was.0.calls z.more = subst (λ (d : Call). HasCallMore e'.ring.shape d was.0.calls z.more) same_c (more_there z) in
+            let replied : IsReplyToCall z.more None m'.reply = subst (λ (d : Option Call). IsReplyToCall z.more d m'.reply) z.rests z.at.stands.reply_is in
+            let is : m'.reply ≡ Some (put_reply_to is_more.0) = over_reply e'.ring.shape items was.0.calls z.more m'.reply is_more replied in
+            (put_reply_to is_more.0, is, record { calls = was.0.calls; before_is = before_is; adds = over_adds e'.ring.shape items was.0.calls z.more is_more e.list e'.list (over_list z) (put_reply_to is_more.0) (subst (IsReplyToCall z.more None) is replied) })
+        put_by (Refused same_end same_m none refused) = (
           reply.Closed,
-          ap (λ (x : ProducerState). x.reply) same_m ∙ subst (λ (d : Call). IsRefusedAtOnce d m1.reply) same_c refused,
-          record {
-            calls = calls;
-            before_is = record { are = are; list_is = whole };
-            adds = subst (λ (t : Bool). PutAdds t e'.ring.shape calls items reply.Closed e.list e'.list) (sym closes) (refl, ap (λ (x : RingEnd). x.list) same_end);
-          },
+          subst (λ (d : Call). IsRefusedAtOnce d m'.reply) same_c refused.1,
+          record { calls = was.0.calls; before_is = before_is; adds = subst (λ (t : Bool). PutAdds t e'.ring.shape was.0.calls items reply.Closed e.list e'.list) (sym refused.0) (refl, ap (λ (x : RingEnd). x.list) same_end) },
         )
 
     -- a close added this
-    pub close_ended : c ≡ Close → HasClosed e'.ring.shape e.list e'.list
-    close_ended same_c = record { calls = calls; before_is = record { are = are; list_is = whole }; adds = close_by ending }
+    pub close_ended : c ≡ Close → HasClosed e'.ring.shape s.end.list e'.list
+    close_ended same_c = subst (λ (z : PutterState O). HasClosed e'.ring.shape z.end.list e'.list) view (record { calls = was.0.calls; before_is = before_is; adds = close_by ending })
       where
-        close_by : Ended e e' m1 m' calls c → CloseAdds calls.closes e'.ring.shape calls e.list e'.list
-        close_by (More o) =
-            let is_more : HasCallMore e'.ring.shape Close calls o.more = subst (λ (d : Call). HasCallMore e'.ring.shape d calls o.more) same_c (more_there o) in
-            subst (λ (t : Bool). CloseAdds t e'.ring.shape calls e.list e'.list) (sym is_more.2) (subst (HasPuts e'.ring.shape e'.list) is_more.0 (has_more o))
-        close_by (Refused same_end same_m none closes refused) = subst (λ (t : Bool). CloseAdds t e'.ring.shape calls e.list e'.list) (sym closes) (ap (λ (x : RingEnd). x.list) same_end)
+        close_by : Ended producing e e' m1 m' was.0.calls c → CloseAdds was.0.calls.closes e'.ring.shape was.0.calls e.list e'.list
+        close_by (More z) = over_closes e'.ring.shape was.0.calls z.more (subst (λ (d : Call). HasCallMore e'.ring.shape d was.0.calls z.more) same_c (more_there z)) e.list e'.list (over_list z)
+        close_by (Refused same_end same_m none refused) = subst (λ (t : Bool). CloseAdds t e'.ring.shape was.0.calls e.list e'.list) (sym refused.0) (ap (λ (x : RingEnd). x.list) same_end)
 
 -- ---- the reply of a whole put
 
@@ -285,8 +135,8 @@ some_item (reply.Stored n) e = cc
 some_item reply.Full e = cc
 some_item reply.Closed e = cc
 
-pub some_batch : (x : replies.BatchReply) → Some x ≡ None → ⊥
-some_batch x e = cc
+pub some_reply : {R : Type 0} (x : R) → Some x ≡ None → ⊥
+some_reply x e = cc
 
 pub told_so : {R : Type 0} (F : R → Type 0) (r : Option R) → ((x : R) × (r ≡ Some x) × F x) → (y : R) → r ≡ Some y → F y
 told_so F r (x, is, h) y known_by_taker = let same : Some x ≡ Some y = sym is ∙ known_by_taker in let e : x ≡ y = cc in subst F e h

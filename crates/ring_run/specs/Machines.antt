@@ -19,7 +19,7 @@ use Rattle.ring_core.specs.Lengths.{longest_take}
 use Rattle.ring_run.specs.Ring.{RingEnd}
 use Rattle.ring_run.specs.Programs.{begin_of}
 use Rattle.ring_run.specs.Steppers.{Grows, StandsAs}
-use Rattle.ring_run.specs.Ends.{HasPutPart, HasTakePart}
+use Rattle.ring_run.specs.Ends.{HasPutPart, HasTakePart, whole_put, whole_take}
 
 -- the events of accesses, and perhaps the begin of the one that is due
 abbrev pub ListIs : Side → List Event → List Made → Option Access → Type 0
@@ -33,142 +33,144 @@ without_last n list = take (length list - n) list
 abbrev pub IsMarked : ℕ → List Event → ℕ → Type 0
 IsMarked n list most = (n ≤ length list) × (n ≤ 2 * most)
 
--- ---- the producer
-
--- the machine stands after these calls and accesses, and the end's list, which is lawful, is theirs
-pub record PutterAt (e : RingEnd) (m : ProducerState) (calls : Puts) (made : List Made) : Type 0 where
-  pub side_is : e.side ≡ P
-  pub lawful : StandsAs P e
-  pub shape_is : m.shape ≡ e.ring.shape
-  pub stands : puts.ProducerStands m calls made
-  pub list_is : ListIs P e.list made (due_put m)
-
-pub record IsPutter (e : RingEnd) (m : ProducerState) (whole : List Event) : Type 0 where
-  pub calls : Puts
-  pub made : List Made
-  pub at : PutterAt e m calls made
-  pub whole_is : whole ≡ events_of P (put_program e.ring.shape calls)
-
 -- what a put is answered at once after a close
 abbrev pub IsRefusedAtOnce : Call → Option replies.BatchReply → Type 0
 IsRefusedAtOnce (Put items) answer = answer ≡ Some reply.Closed
 IsRefusedAtOnce Close answer = Unit {0}
 
--- The call was begun, or it is under way; the accesses made stay. After a close it is over at once.
-abbrev pub CallBegins : ProducerState → ProducerState → Puts → List Made → Call → Type 0
-CallBegins m m' calls made c =
-    (m'.shape ≡ m.shape) × puts.ProducerStands m' calls made ×
-    (((call_of m' ≡ Some c) × ((m' ≡ m) ⊎ (due_put m ≡ None) × (call_of m ≡ None)))
-    ⊎ ((call_of m' ≡ None) × (call_of m ≡ None) × (due_put m ≡ None) × (calls.closes ≡ true) × IsRefusedAtOnce c m'.reply))
-
--- one step of the call under way
-pub record PutterStep (a : RingEnd) (m : ProducerState) (b : RingEnd) (m' : ProducerState) (calls : Puts) : Type 0 where
-  pub event : Event
-  pub grows : Grows a b event
-  pub more : Puts
-  pub made : List Made
-  pub at : PutterAt b m' more made
-  pub after : puts.IsAfterCall m.shape (call_of m) (call_of m') calls more m'.reply
-  pub within : (c : Call) → call_of m ≡ Some c → length b.list < 2 * (length (put_program m.shape calls) + puts.longest m.shape c) + 1
-  pub part : (c : Call) → call_of m' ≡ Some c → HasPutPart b.ring.shape c (events_of P (put_program m.shape calls)) b.list
-
--- the most accesses of a call, if there is one
+-- the most accesses of a call, and of a take, if one is under way
 abbrev pub longest_at : Shape → Option Call → ℕ
 longest_at shape None = 0
 longest_at shape (Some c) = puts.longest shape c
 
--- no access of the call under way, if there is one, was made yet
-pub record PutterReady (e : RingEnd) (m : ProducerState) (calls : Puts) : Type 0 where
-  pub at : PutterAt e m calls (put_program m.shape calls)
-  pub list_is : e.list ≡ events_of P (put_program m.shape calls)
-
--- the call under way goes on, and no access is open
-pub record PutterGoes (e : RingEnd) (m : ProducerState) (calls : Puts) (c : Call) : Type 0 where
-  pub made : List Made
-  pub at : PutterAt e m calls made
-  pub list_is : e.list ≡ events_of P made
-  pub call_is : call_of m ≡ Some c
-
--- the call is over, and is one of the calls
-pub record PutterOver (e : RingEnd) (m : ProducerState) (calls : Puts) (c : Call) : Type 0 where
-  pub more : Puts
-  pub made : List Made
-  pub at : PutterAt e m more made
-  pub call_is : call_of m ≡ None
-  pub is_more : puts.HasCallMore m.shape c calls more
-  pub no_reply : c ≡ Close → m.reply ≡ None
-
--- the call goes on, and no access is open, or it is over
-abbrev pub PutterIn : RingEnd → ProducerState → Puts → Call → Type 0
-PutterIn e m calls c = PutterGoes e m calls c ⊎ PutterOver e m calls c
-
--- what whole accesses come to, by the call that was under way
-abbrev pub PutterMade : Option Call → RingEnd → ProducerState → RingEnd → ProducerState → Puts → Type 0
-PutterMade None a m b m' calls = (m' ≡ m) × (b ≡ a)
-PutterMade (Some c) a m b m' calls = PutterIn b m' calls c
-
--- ---- the consumer
-
-pub record TakerAt (e : RingEnd) (m : ConsumerState) (calls : Takes) (made : List Made) : Type 0 where
-  pub side_is : e.side ≡ C
-  pub lawful : StandsAs C e
-  pub shape_is : m.shape ≡ e.ring.shape
-  pub stands : takes.ConsumerStands m calls made
-  pub list_is : ListIs C e.list made (due_take m)
-
-pub record IsTaker (e : RingEnd) (m : ConsumerState) (whole : List Event) : Type 0 where
-  pub calls : Takes
-  pub made : List Made
-  pub at : TakerAt e m calls made
-  pub whole_is : whole ≡ events_of C (take_program e.ring.shape calls)
-
--- A take was begun, or is under way; the accesses made stay. Once one was told that the ring is closed it is over at once.
-abbrev pub TakeWasBegun : ConsumerState → ConsumerState → Takes → List Made → Type 0
-TakeWasBegun m m' calls made =
-    (m'.shape ≡ m.shape) × takes.ConsumerStands m' calls made ×
-    (((is_taking m' ≡ true) × ((m' ≡ m) ⊎ (due_take m ≡ None) × (is_taking m ≡ false)))
-    ⊎ ((is_taking m' ≡ false) × (is_taking m ≡ false) × (due_take m ≡ None) × (takes.ends_closed calls.end ≡ true) × (m'.reply ≡ Some take_reply.Closed)))
-
-pub record TakerStep (a : RingEnd) (m : ConsumerState) (b : RingEnd) (m' : ConsumerState) (calls : Takes) : Type 0 where
-  pub event : Event
-  pub grows : Grows a b event
-  pub more : Takes
-  pub made : List Made
-  pub at : TakerAt b m' more made
-  pub after : takes.IsAfterTake m.shape (is_taking m) (is_taking m') calls more
-  pub within : length b.list < 2 * (length (take_program m.shape calls) + longest_take m.shape) + 1
-  pub part : is_taking m' ≡ true → HasTakePart b.ring.shape (events_of C (take_program m.shape calls)) b.list
-
--- the most accesses of the take under way, if one is
 abbrev pub longest_taking : Shape → Bool → ℕ
 longest_taking shape false = 0
 longest_taking shape true = longest_take shape
 
--- no access of the take under way, if there is one, was made yet
-pub record TakerReady (e : RingEnd) (m : ConsumerState) (calls : Takes) : Type 0 where
-  pub at : TakerAt e m calls (take_program m.shape calls)
-  pub list_is : e.list ≡ events_of C (take_program m.shape calls)
+-- ---- a side's machine
 
--- the take under way goes on, and no access is open
-pub record TakerGoes (e : RingEnd) (m : ConsumerState) (calls : Takes) : Type 0 where
+-- What a side's machine remembers, the calls that it makes, and what it tells: the access that is due, which call is under way,
+-- or that none is. The accesses of calls, one call more, the most accesses of a call, and a part of one. When the machine stands
+-- after calls and accesses, what it comes to by one access more, and when a call is over at once. The list without what was made
+-- of the call under way, and the most accesses of that.
+pub record Machine : Type 1 where
+  pub State : Type 0
+  pub Calls : Type 0
+  pub Call : Type 0
+  pub side : Side
+  pub shape_of : State → Shape
+  pub due : State → Option Access
+  pub Busy : State → Call → Type 0
+  pub Rests : State → Type 0
+  pub program : Shape → Calls → List Made
+  pub More : Shape → Call → Calls → Calls → Type 0
+  pub longest : Shape → Call → ℕ
+  pub Part : Shape → Call → List Event → List Event → Type 0
+  pub Stands : State → Calls → List Made → Type 0
+  pub After : State → State → Calls → Calls → Type 0
+  pub Refuses : Call → Calls → State → Type 0
+  pub whole : State → List Event → List Event → List Event
+  pub most : State → ℕ
+
+abbrev pub producing : Machine
+producing = record {
+  State = ProducerState;
+  Calls = Puts;
+  Call = Call;
+  side = P;
+  shape_of = λ (m : ProducerState). m.shape;
+  due = due_put;
+  Busy = λ (m : ProducerState) (c : Call). call_of m ≡ Some c;
+  Rests = λ (m : ProducerState). call_of m ≡ None;
+  program = put_program;
+  More = puts.HasCallMore;
+  longest = puts.longest;
+  Part = HasPutPart;
+  Stands = puts.ProducerStands;
+  After = λ (m m' : ProducerState) (calls more : Puts). puts.IsAfterCall m.shape (call_of m) (call_of m') calls more m'.reply;
+  Refuses = λ (c : Call) (calls : Puts) (m : ProducerState). (calls.closes ≡ true) × IsRefusedAtOnce c m.reply;
+  whole = λ (m : ProducerState). whole_put (call_of m);
+  most = λ (m : ProducerState). longest_at m.shape (call_of m);
+}
+
+abbrev pub consuming : Machine
+consuming = record {
+  State = ConsumerState;
+  Calls = Takes;
+  Call = Unit {0};
+  side = C;
+  shape_of = λ (m : ConsumerState). m.shape;
+  due = due_take;
+  Busy = λ (m : ConsumerState) (_ : Unit {0}). is_taking m ≡ true;
+  Rests = λ (m : ConsumerState). is_taking m ≡ false;
+  program = take_program;
+  More = λ (shape : Shape) (_ : Unit {0}) (calls more : Takes). takes.HasTakeMore shape calls more;
+  longest = λ (shape : Shape) (_ : Unit {0}). longest_take shape;
+  Part = λ (shape : Shape) (_ : Unit {0}) (whole list : List Event). HasTakePart shape whole list;
+  Stands = takes.ConsumerStands;
+  After = λ (m m' : ConsumerState) (calls more : Takes). takes.IsAfterTake m.shape (is_taking m) (is_taking m') calls more;
+  Refuses = λ (_ : Unit {0}) (calls : Takes) (m : ConsumerState). (takes.ends_closed calls.end ≡ true) × (m.reply ≡ Some take_reply.Closed);
+  whole = λ (m : ConsumerState). whole_take (is_taking m);
+  most = λ (m : ConsumerState). longest_taking m.shape (is_taking m);
+}
+
+-- ---- beside an end
+
+-- the machine stands after these calls and accesses, and the end's list, which is lawful, is theirs
+pub record MachineAt (k : Machine) (e : RingEnd) (m : k.State) (calls : k.Calls) (made : List Made) : Type 0 where
+  pub side_is : e.side ≡ k.side
+  pub lawful : StandsAs k.side e
+  pub shape_is : k.shape_of m ≡ e.ring.shape
+  pub stands : k.Stands m calls made
+  pub list_is : ListIs k.side e.list made (k.due m)
+
+pub record IsMachine (k : Machine) (e : RingEnd) (m : k.State) (whole : List Event) : Type 0 where
+  pub calls : k.Calls
   pub made : List Made
-  pub at : TakerAt e m calls made
-  pub list_is : e.list ≡ events_of C made
-  pub taking : is_taking m ≡ true
+  pub at : MachineAt k e m calls made
+  pub whole_is : whole ≡ events_of k.side (k.program e.ring.shape calls)
 
--- the take is over, and is one of the takes
-pub record TakerOver (e : RingEnd) (m : ConsumerState) (calls : Takes) : Type 0 where
-  pub more : Takes
+-- The call was begun, or it is under way; the accesses made stay. Where it is refused it is over at once.
+abbrev pub CallBegins : (k : Machine) → k.State → k.State → k.Calls → List Made → k.Call → Type 0
+CallBegins k m m' calls made c =
+    (k.shape_of m' ≡ k.shape_of m) × k.Stands m' calls made ×
+    ((k.Busy m' c × ((m' ≡ m) ⊎ (k.due m ≡ None) × k.Rests m)) ⊎ (k.Rests m' × k.Rests m × (k.due m ≡ None) × k.Refuses c calls m'))
+
+-- one step of the call under way
+pub record MachineStep (k : Machine) (a : RingEnd) (m : k.State) (b : RingEnd) (m' : k.State) (calls : k.Calls) : Type 0 where
+  pub event : Event
+  pub grows : Grows a b event
+  pub more : k.Calls
   pub made : List Made
-  pub at : TakerAt e m more made
-  pub taking : is_taking m ≡ false
-  pub is_more : takes.HasTakeMore m.shape calls more
+  pub at : MachineAt k b m' more made
+  pub after : k.After m m' calls more
+  pub within : (c : k.Call) → k.Busy m c → length b.list < 2 * (length (k.program (k.shape_of m) calls) + k.longest (k.shape_of m) c) + 1
+  pub part : (c : k.Call) → k.Busy m' c → k.Part b.ring.shape c (events_of k.side (k.program (k.shape_of m) calls)) b.list
 
--- the take goes on, and no access is open, or it is over
-abbrev pub TakerIn : RingEnd → ConsumerState → Takes → Type 0
-TakerIn e m calls = TakerGoes e m calls ⊎ TakerOver e m calls
+-- no access of the call under way, if there is one, was made yet
+pub record MachineReady (k : Machine) (e : RingEnd) (m : k.State) (calls : k.Calls) : Type 0 where
+  pub at : MachineAt k e m calls (k.program (k.shape_of m) calls)
+  pub list_is : e.list ≡ events_of k.side (k.program (k.shape_of m) calls)
 
--- what whole accesses come to, where a take was under way, and where none was
-abbrev pub TakerMade : Bool → RingEnd → ConsumerState → RingEnd → ConsumerState → Takes → Type 0
-TakerMade false a m b m' calls = (m' ≡ m) × (b ≡ a)
-TakerMade true a m b m' calls = TakerIn b m' calls
+-- the call under way goes on, and no access is open
+pub record MachineGoes (k : Machine) (e : RingEnd) (m : k.State) (calls : k.Calls) (c : k.Call) : Type 0 where
+  pub made : List Made
+  pub at : MachineAt k e m calls made
+  pub list_is : e.list ≡ events_of k.side made
+  pub busy : k.Busy m c
+
+-- the call is over, and is one of the calls
+pub record MachineOver (k : Machine) (e : RingEnd) (m : k.State) (calls : k.Calls) (c : k.Call) : Type 0 where
+  pub more : k.Calls
+  pub made : List Made
+  pub at : MachineAt k e m more made
+  pub rests : k.Rests m
+  pub is_more : k.More (k.shape_of m) c calls more
+
+-- the call goes on, and no access is open, or it is over
+abbrev pub MachineIn : (k : Machine) → RingEnd → k.State → k.Calls → k.Call → Type 0
+MachineIn k e m calls c = MachineGoes k e m calls c ⊎ MachineOver k e m calls c
+
+-- what whole accesses come to, where no call was under way, and where one was
+abbrev pub MachineMade : (k : Machine) → RingEnd → k.State → RingEnd → k.State → k.Calls → Type 0
+MachineMade k a m b m' calls = (k.Rests m × (m' ≡ m) × (b ≡ a)) ⊎ ((c : k.Call) × k.Busy m c × MachineIn k b m' calls c)

@@ -9,7 +9,10 @@ ghost use Rattle.ring_run.specs.Ends.{HasPuts, HasPut, HasPutAll, HasClosed};
 ghost use Rattle.ring_run.specs.CounterEnds.{PutterList, PutMade, PutKept};
 
 use crate::below::laws_below;
-use crate::counter_steppers::{CounterStepper, past_in};
+use crate::counter_steppers::past_in;
+use crate::counter_words::Counting;
+use crate::ends::PutEnd;
+use crate::steppers::Stepper;
 use bits_core::Shape;
 use ring_core::{BatchReply, PutReply, distance};
 use std::marker::Model;
@@ -20,7 +23,7 @@ use std::marker::Model;
 pub struct CounterPutter<'a> {
     // unused, as `after` is: they keep other values off the cache lines of this one
     pub(crate) before: [u64; 8],
-    pub(crate) stepper: CounterStepper<'a>,
+    pub(crate) stepper: Stepper<'a, Counting>,
     pub(crate) count: u64,
     pub(crate) cell: u64,
     pub(crate) closed: bool,
@@ -56,7 +59,7 @@ fn fitting(shape: &Shape, n: u64, seen: u64, offered: usize) -> usize
 
 // A put to an open ring: one load, and where there is room a store for each item that fits it, and one store. Tells
 // how many were stored.
-fn put_open<'a>(stepper: &mut CounterStepper<'a>, items: &[u64], count: u64, cell: u64) -> usize
+fn put_open<'a>(stepper: &mut Stepper<'a, Counting>, items: &[u64], count: u64, cell: u64) -> usize
     requires at { (calls : Puts) × PutterList stepper.old count cell calls × (calls.closes ≡ false) }
     requires batch { IsBatch stepper.old.ring.shape items.now }
     ensures { (calls : Puts) → PutterList stepper.old count cell calls → calls.closes ≡ false → PutMade stepper.old stepper.new calls items.now result }
@@ -76,7 +79,7 @@ fn put_open<'a>(stepper: &mut CounterStepper<'a>, items: &[u64], count: u64, cel
 
 // The same, with the count and the cell.
 fn put_counted<'a>(
-    stepper: &mut CounterStepper<'a>,
+    stepper: &mut Stepper<'a, Counting>,
     items: &[u64],
     count: &mut u64,
     cell: &mut u64,
@@ -92,7 +95,7 @@ fn put_counted<'a>(
     most
 }
 
-fn close_open<'a>(stepper: &mut CounterStepper<'a>)
+fn close_open<'a>(stepper: &mut Stepper<'a, Counting>)
     requires at { (calls : Puts) × (stepper.old.side ≡ P) × HasPuts stepper.old.ring.shape stepper.old.list calls × (calls.closes ≡ false) }
     ensures same { IsSameEnd stepper.old stepper.new }
     ensures stands { StandsAs P stepper.new }
@@ -102,14 +105,26 @@ fn close_open<'a>(stepper: &mut CounterStepper<'a>)
     stepper.write_close();
 }
 
-impl<'a> CounterPutter<'a> {
-    // Puts the items under one count write, as many as there is room for, or finds the ring full or closed.
-    pub(crate) fn put_items(&mut self, items: &[u64]) -> BatchReply
-        requires batch { IsBatch self.old.ring.shape items.now }
-        ensures same { IsSameEnd self.old self.new }
-        ensures lawful { StandsAs P self.new }
-        ensures phrase { HasPutAll self.new.ring.shape items.now self.old.list self.new.list result }
-    {
+impl<'a> PutEnd for CounterPutter<'a> {
+    ghost end = { λ p. p };
+
+    ghost idle = { λ _. Unit {0} };
+
+    ghost answered = { λ _ _. Unit {0} };
+
+    fn shape(&self) -> Shape {
+        self.stepper.ring.shape()
+    }
+
+    fn put(&mut self, item: u64) -> PutReply {
+        match self.put_all(&[item]) {
+            BatchReply::Stored(_) => PutReply::Stored,
+            BatchReply::Full => PutReply::Full,
+            BatchReply::Closed => PutReply::Closed,
+        }
+    }
+
+    fn put_all(&mut self, items: &[u64]) -> BatchReply {
         if self.closed {
             return BatchReply::Closed;
         }
@@ -119,26 +134,7 @@ impl<'a> CounterPutter<'a> {
         }
     }
 
-    // Puts the item, or finds the ring full or closed.
-    pub(crate) fn put_item(&mut self, item: u64) -> PutReply
-        requires fits { item < 2 ^ width_of self.old.ring.shape }
-        ensures same { IsSameEnd self.old self.new }
-        ensures lawful { StandsAs P self.new }
-        ensures phrase { HasPut self.new.ring.shape item self.old.list self.new.list result }
-    {
-        match self.put_items(&[item]) {
-            BatchReply::Stored(_) => PutReply::Stored,
-            BatchReply::Full => PutReply::Full,
-            BatchReply::Closed => PutReply::Closed,
-        }
-    }
-
-    // Closes the ring. A second close does nothing.
-    pub(crate) fn close_ring(&mut self)
-        ensures same { IsSameEnd self.old self.new }
-        ensures lawful { StandsAs P self.new }
-        ensures phrase { HasClosed self.new.ring.shape self.old.list self.new.list }
-    {
+    fn close(&mut self) {
         if !self.closed {
             close_open(&mut self.stepper);
             self.closed = true;

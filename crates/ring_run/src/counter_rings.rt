@@ -1,17 +1,25 @@
-//! The counter ring.
+//! The counter ring: how it is made, and how its two ends are made, meet, and end.
 ghost use Rattle.std.specs.Prelude.{◌≡◌, ◌<◌, [], IfOk};
 ghost use Rattle.ring_run.specs.Rule.{IsWordFound, joint};
 ghost use Rattle.ring_run.specs.Counters.{KeptWords, first_counts, words_of};
+ghost use Rattle.bits_core.specs.declared.events.Side.TheVariants.{P, C};
+ghost use Rattle.ring_core.specs.Linear.{EachReadingIsLinearizable};
+ghost use Rattle.ring_run.specs.Steppers.{StandsAs};
+ghost use Rattle.ring_run.specs.Meetings.{KeepsEnd, Meets, ClosesAre, TellsAre};
 
 use crate::below::laws_below;
-use crate::counter_words::{CounterRule, CounterWords};
+use crate::counter_putters::CounterPutter;
+use crate::counter_takers::CounterTaker;
+use crate::counter_words::Counting;
+use crate::ends::RingOf;
 use crate::faults::RunFault;
-use crate::rings::Start;
-use crate::views::View;
-use atomic_table::{Shared, Table};
+use crate::meetings::{Finished, first_steppers, join_steppers, meet_steppers};
+use crate::rings::{RingIn, Start};
+use atomic_table::Table;
 use bits_core::Shape;
-use std::alloc::{AllocError, Allocator};
-use std::marker::{Brand, Model};
+use ring_core::laws::ring_is_linearizable;
+use std::alloc::{AllocError, Allocator, Global};
+use std::marker::Brand;
 
 /// The ring of one producer and one consumer on a machine with atomic words, shared by two threads with no lock
 /// (Lamport 1977).
@@ -21,29 +29,7 @@ use std::marker::{Brand, Model};
 /// whole access of a cell, a whole unary write or the close, bit by bit and with nothing between: so each call adds
 /// exactly its accesses to one lawful history of safe bits, as on a [`FlickerRing`](crate::FlickerRing), and who holds
 /// the ends cannot tell the rings apart. No call goes through the bits: they are in the contracts alone.
-///
-/// To a contract a ring is its shape, and which ring it is.
-#[derive(Drop)]
-#[repr(C)]
-pub struct CounterRing<A: Allocator> {
-    // unused, as `after` is: they keep other values off the cache lines of this one
-    before: [u64; 8],
-    table: Table<(), View, Shape, CounterRule, A>,
-    shape: Shape,
-    after: [u64; 8],
-}
-
-impl<A: Allocator> Model for CounterRing<A> {
-    ghost use Rattle.std.specs.Prelude.{◌≡◌};
-    ghost use Rattle.ring_run.specs.Counters.{words_of};
-    ghost use Rattle.ring_run.specs.Ring.{Ring};
-
-    ghost Value = { Ring };
-
-    ghost view = { λ r. record { shape = r.shape; id = r.table.shared.table_id } };
-
-    ghost invariant = { λ r. (r.table.shared.key ≡ r.shape) × (r.table.shared.table_id.words ≡ words_of r.shape) };
-}
+pub type CounterRing<A> = RingIn<Counting, A>;
 
 /// The right to make the two ends of one counter ring: to a contract it is which ring it is, as for a flickering ring.
 pub type CounterStart = Start;
@@ -57,32 +43,11 @@ impl<A: Allocator + Copy> CounterRing<A> {
         laws_below();
         let words = starting_counts(alloc, shape)?;
         let (table, seat) = Table::of_words(alloc, words.as_slice(), &shape)?;
-        let ring = CounterRing {
-            before: [0; 8],
-            table,
-            shape,
-            after: [0; 8],
-        };
-        Ok((ring, Start { seat }))
+        Ok((RingIn::of(table, shape), Start { seat }))
     }
 }
 
 impl<A: Allocator> CounterRing<A> {
-    /// The shape of the ring.
-    pub fn shape(&self) -> Shape
-        ensures { result ≡ self.now.shape }
-    {
-        self.shape
-    }
-
-    /// The words of the ring, with the rule that holds of them between any two atomic steps of whichever thread. Its
-    /// type says so: a step of a [`Shared`] has to keep the rule of its type, for its key, which is the ring's shape.
-    pub fn table(&self) -> &Shared<(), View, Shape, CounterRule>
-        ensures { (result.now.key ≡ self.now.shape) × (result.now.table_id ≡ self.now.id) × (result.now.table_id.words ≡ words_of self.now.shape) }
-    {
-        &self.table.shared
-    }
-
     /// Loads a word: number 0 is that of the close bit, 1 the producer's counter, 2 the consumer's, and 3 + j that of
     /// cell j. Any thread may do so at any time, whatever the two ends are at, and it is no event of theirs. The word is
     /// that of a state which keeps the ring's rule ([`CounterRule`]). The place is below 3 and the capacity.
@@ -92,13 +57,6 @@ impl<A: Allocator> CounterRing<A> {
     {
         self.words().find::<Brand>(place)
     }
-
-    // The words as an end reaches them.
-    pub(crate) fn words<'a>(&'a self) -> CounterWords<'a>
-        ensures { result ≡ self.now }
-    {
-        CounterWords::of(&self.table.shared, self.shape)
-    }
 }
 
 // The words before any step.
@@ -107,4 +65,97 @@ fn starting_counts<A: Allocator>(alloc: A, shape: Shape) -> Result<Vec<u64, A>, 
 {
     let words = vec![in alloc; 0u64; 3 + shape.capacity() as usize]?;
     Ok(words)
+}
+
+/// A counter ring whose run is over: what is left of it is what is left of a flickering ring.
+pub type CounterFinished = Finished;
+
+impl<A: Allocator> CounterRing<A> {
+    /// The two ends of the ring: the one puts, the other takes. They have made no call and know the history with no
+    /// event. The start is the one that was made with this ring; it is spent, so a ring has one pair of ends. It takes
+    /// no memory.
+    pub fn ends<'a>(&'a self, start: CounterStart) -> (CounterPutter<'a>, CounterTaker<'a>)
+        requires { start ≡ self.now.id }
+        ensures putter { result.0 ≡ record { ring = self.now; side = P; list = []; known = []; loads = [] } }
+        ensures taker { result.1 ≡ record { ring = self.now; side = C; list = []; known = []; loads = [] } }
+        ensures lawful { StandsAs P result.0 × StandsAs C result.1 }
+    {
+        let (p, c) = first_steppers(self.words(), self.words(), start);
+        (
+            CounterPutter {
+                before: [0; 8],
+                stepper: p,
+                count: 0,
+                cell: 0,
+                closed: false,
+                after: [0; 8],
+            },
+            CounterTaker {
+                before: [0; 8],
+                stepper: c,
+                count: 0,
+                cell: 0,
+                told: false,
+                after: [0; 8],
+            },
+        )
+    }
+}
+
+// With an allocator's name, so that `CounterRing::meet` and `CounterRing::finish` are called with none: ends have none.
+impl CounterRing<Global> {
+    /// Both ends learn one lawful history, whose sides are their two lists and which begins with what each knew. Its calls
+    /// are linearizable. All later calls of both stand behind it. The ends are those of one ring; they come back with the same lists. It
+    /// makes no access and takes no memory.
+    pub fn meet<'a>(
+        mut putter: CounterPutter<'a>,
+        mut taker: CounterTaker<'a>,
+    ) -> (CounterPutter<'a>, CounterTaker<'a>)
+        requires ring { putter.ring ≡ taker.ring }
+        ensures putter { KeepsEnd putter.entry result.0 }
+        ensures taker { KeepsEnd taker.entry result.1 }
+        ensures one { result.1.known ≡ result.0.known }
+        ensures meets { Meets putter.entry taker.entry result.0.known }
+        ensures linearizable { EachReadingIsLinearizable putter.entry.ring.shape result.0.known }
+        ensures lawful { StandsAs P result.0 × StandsAs C result.1 }
+    {
+        laws_below();
+        ring_is_linearizable();
+        let (p, c) = meet_steppers(putter.stepper, taker.stepper);
+        putter.stepper = p;
+        taker.stepper = c;
+        (putter, taker)
+    }
+
+    /// Ends the ring's run, of which one lawful history is left, whose sides are the two lists and which begins with
+    /// what each end knew; its calls are linearizable. The ends are those of one ring. It makes no access and takes no memory.
+    pub fn finish<'a>(putter: CounterPutter<'a>, taker: CounterTaker<'a>) -> CounterFinished
+        requires ring { putter.ring ≡ taker.ring }
+        ensures meets { Meets putter.entry taker.entry result.history }
+        ensures linearizable { EachReadingIsLinearizable putter.entry.ring.shape result.history }
+        ensures closed { ClosesAre putter.entry.ring.shape putter.entry.list result.closed }
+        ensures told { TellsAre taker.entry.ring.shape taker.entry.list result.told }
+    {
+        laws_below();
+        ring_is_linearizable();
+        let seat = join_steppers(putter.stepper, taker.stepper);
+        Finished {
+            seat,
+            closed: putter.closed,
+            told: taker.told,
+        }
+    }
+}
+
+impl<'a, A: Allocator> RingOf<CounterPutter<'a>, CounterTaker<'a>> for CounterRing<A> {
+    fn meet(
+        putter: CounterPutter<'a>,
+        taker: CounterTaker<'a>,
+    ) -> (CounterPutter<'a>, CounterTaker<'a>) {
+        CounterRing::<Global>::meet(putter, taker)
+    }
+
+    fn finish(putter: CounterPutter<'a>, taker: CounterTaker<'a>) -> Finished {
+        CounterRing::<Global>::finish(putter, taker)
+    }
 }

@@ -12,34 +12,12 @@ ghost use Rattle.ring_run.specs.Programs.{Follows};
 ghost use Rattle.ring_run.specs.Counters.{GrowsBy, unary_over, count_place, their_place};
 
 use crate::below::laws_below;
-use crate::counter_words::CounterWords;
-use crate::views::View;
-use atomic_table::Seat;
+use crate::counter_words::Counting;
+use crate::steppers::Stepper;
 use bits_core::Side;
-use std::marker::{Brand, Model};
+use std::marker::Brand;
 
-// A seat of one side of a counter ring.
-#[derive(Drop)]
-pub struct CounterStepper<'a> {
-    pub(crate) ring: CounterWords<'a>,
-    pub(crate) seat: Seat<(), View>,
-    pub(crate) side: Side,
-}
-
-impl<'a> Model for CounterStepper<'a> {
-    ghost use Rattle.std.specs.Prelude.{◌≡◌, true, false, []};
-    ghost use Rattle.bits_core.specs.Bits.{other};
-    ghost use Rattle.ring_run.specs.Ring.{RingEnd};
-    ghost use Rattle.ring_run.specs.Rule.{list_of, may_step};
-
-    ghost Value = { RingEnd };
-
-    ghost view = { λ h. record { ring = h.ring; side = h.side; list = list_of h.side h.seat.me.0; known = h.seat.me.0.known; loads = [] } };
-
-    ghost invariant = { λ h. (h.seat.table_id ≡ h.ring.id) × (h.seat.me.1 ≡ []) × (may_step h.side h.seat.me.0 ≡ true) × (may_step (other h.side) h.seat.me.0 ≡ false) };
-}
-
-impl<'a> CounterStepper<'a> {
+impl<'a> Stepper<'a, Counting> {
     // One load: a whole scan of the other side's count.
     pub(crate) fn scan(&mut self) -> u64
         requires program { (c : ℕ) → c < modulus_of self.old.ring.shape → Follows self.old.ring.shape self.old.side (self.old.list ++ events_of self.old.side (scan_phrase (row_read_by self.old.side) c)) }
@@ -108,7 +86,7 @@ impl<'a> CounterStepper<'a> {
     }
 }
 
-impl<'a> CounterStepper<'a> {
+impl<'a> Stepper<'a, Counting> {
     // One load: a whole word read.
     pub(crate) fn read_cell(&mut self, cell: u64) -> u64
         requires side { self.old.side ≡ C }

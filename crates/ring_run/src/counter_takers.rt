@@ -9,8 +9,12 @@ ghost use Rattle.ring_run.specs.Ring.{RingEnd};
 ghost use Rattle.ring_run.specs.CounterEnds.{TakerList, TakeMade, TakeKept, LookMade, HasLooked, items_brought};
 
 use crate::below::laws_below;
-use crate::counter_steppers::{CounterStepper, past_in};
+use crate::counter_steppers::past_in;
+use crate::counter_words::Counting;
+use crate::ends::TakeEnd;
 use crate::meetings::is_closed_reply;
+use crate::steppers::Stepper;
+use bits_core::Shape;
 use ring_core::{TakeReply, has_item};
 use std::marker::Model;
 
@@ -20,7 +24,7 @@ use std::marker::Model;
 pub struct CounterTaker<'a> {
     // unused, as `after` is: they keep other values off the cache lines of this one
     pub(crate) before: [u64; 8],
-    pub(crate) stepper: CounterStepper<'a>,
+    pub(crate) stepper: Stepper<'a, Counting>,
     pub(crate) count: u64,
     pub(crate) cell: u64,
     pub(crate) told: bool,
@@ -40,7 +44,7 @@ impl<'a> Model for CounterTaker<'a> {
 
 // The scans of a take: nothing where they found an item, and else the reply. One load, and where it shows no item one
 // of the close word; where that is 1, one load more.
-fn look<'a>(stepper: &mut CounterStepper<'a>, count: u64, cell: u64) -> Option<TakeReply>
+fn look<'a>(stepper: &mut Stepper<'a, Counting>, count: u64, cell: u64) -> Option<TakeReply>
     requires at { (calls : Takes) × TakerList stepper.old count cell calls × (calls.end ≡ Open) }
     ensures { (calls : Takes) → TakerList stepper.old count cell calls → calls.end ≡ Open → LookMade stepper.old stepper.new calls result }
 {
@@ -61,7 +65,7 @@ fn look<'a>(stepper: &mut CounterStepper<'a>, count: u64, cell: u64) -> Option<T
 }
 
 // Behind the scans that found an item: one load of its cell, and one store of the count.
-fn fetch<'a>(stepper: &mut CounterStepper<'a>, count: u64, cell: u64) -> u64
+fn fetch<'a>(stepper: &mut Stepper<'a, Counting>, count: u64, cell: u64) -> u64
     requires at { (before : RingEnd) × (calls : Takes) × HasLooked before stepper.old count cell calls }
     ensures { (before : RingEnd) (calls : Takes) → HasLooked before stepper.old count cell calls → TakeMade before stepper.new calls (Item result) }
 {
@@ -74,7 +78,7 @@ fn fetch<'a>(stepper: &mut CounterStepper<'a>, count: u64, cell: u64) -> u64
 }
 
 // A take from a ring that was not told closed.
-fn take_open<'a>(stepper: &mut CounterStepper<'a>, count: u64, cell: u64) -> TakeReply
+fn take_open<'a>(stepper: &mut Stepper<'a, Counting>, count: u64, cell: u64) -> TakeReply
     requires at { (calls : Takes) × TakerList stepper.old count cell calls × (calls.end ≡ Open) }
     ensures { (calls : Takes) → TakerList stepper.old count cell calls → calls.end ≡ Open → TakeMade stepper.old stepper.new calls result }
 {
@@ -96,7 +100,11 @@ fn brought(reply: TakeReply) -> u64
 }
 
 // The same, with the count and the cell.
-fn take_counted<'a>(stepper: &mut CounterStepper<'a>, count: &mut u64, cell: &mut u64) -> TakeReply
+fn take_counted<'a>(
+    stepper: &mut Stepper<'a, Counting>,
+    count: &mut u64,
+    cell: &mut u64,
+) -> TakeReply
     requires at { (calls : Takes) × TakerList stepper.old count.old cell.old calls × (calls.end ≡ Open) }
     ensures { (calls : Takes) → TakerList stepper.old count.old cell.old calls → calls.end ≡ Open → TakeKept stepper.old stepper.new count.new cell.new calls result }
 {
@@ -108,13 +116,18 @@ fn take_counted<'a>(stepper: &mut CounterStepper<'a>, count: &mut u64, cell: &mu
     reply
 }
 
-impl<'a> CounterTaker<'a> {
-    // Takes an item, or finds the ring empty or closed.
-    pub(crate) fn take_item(&mut self) -> TakeReply
-        ensures same { IsSameEnd self.old self.new }
-        ensures lawful { StandsAs C self.new }
-        ensures phrase { HasTaken self.new.ring.shape self.old.list self.new.list result }
-    {
+impl<'a> TakeEnd for CounterTaker<'a> {
+    ghost end = { λ t. t };
+
+    ghost idle = { λ _. Unit {0} };
+
+    ghost answered = { λ _ _. Unit {0} };
+
+    fn shape(&self) -> Shape {
+        self.stepper.ring.shape()
+    }
+
+    fn take(&mut self) -> TakeReply {
         if self.told {
             return TakeReply::Closed;
         }

@@ -134,52 +134,6 @@ pub trait RingOf<E: PutEnd, F: TakeEnd> {
         ensures told { TellsAre (F.end taker).ring.shape (F.end taker).list result.told };
 }
 
-impl<'a, O: Oracle + Drop> PutEnd for Putter<'a, O> {
-    ghost use Rattle.std.specs.Prelude.{◌≡◌, None};
-    ghost use Rattle.ring_run.specs.Steppers.{AreAnswered};
-
-    ghost end = { λ p. p.end };
-
-    ghost idle = { λ p. p.call ≡ None };
-
-    ghost answered = { λ p q. AreAnswered p.end q.end (O.answers p.oracle) (O.answers q.oracle) };
-
-    fn shape(&self) -> Shape {
-        self.core.shape()
-    }
-
-    fn put(&mut self, item: u64) -> PutReply {
-        self.put_item(item)
-    }
-
-    fn put_all(&mut self, items: &[u64]) -> BatchReply {
-        self.put_items(items)
-    }
-
-    fn close(&mut self) {
-        self.close_ring();
-    }
-}
-
-impl<'a, O: Oracle + Drop> TakeEnd for Taker<'a, O> {
-    ghost use Rattle.std.specs.Prelude.{◌≡◌, false};
-    ghost use Rattle.ring_run.specs.Steppers.{AreAnswered};
-
-    ghost end = { λ p. p.end };
-
-    ghost idle = { λ p. p.taking ≡ false };
-
-    ghost answered = { λ p q. AreAnswered p.end q.end (O.answers p.oracle) (O.answers q.oracle) };
-
-    fn shape(&self) -> Shape {
-        self.core.shape()
-    }
-
-    fn take(&mut self) -> TakeReply {
-        self.take_item()
-    }
-}
-
 impl<'a, A: Allocator, O1: Oracle + Drop, O2: Oracle + Drop> RingOf<Putter<'a, O1>, Taker<'a, O2>>
     for FlickerRing<A> {
     fn meet(putter: Putter<'a, O1>, taker: Taker<'a, O2>) -> (Putter<'a, O1>, Taker<'a, O2>) {

@@ -4,10 +4,7 @@
 #![tactic(auto)]
 
 mod below;
-mod counter_ends;
-mod counter_meetings;
 mod counter_putters;
-mod counter_relays;
 mod counter_rings;
 mod counter_steppers;
 mod counter_takers;
@@ -27,19 +24,17 @@ mod takers;
 mod views;
 mod words;
 
-pub use counter_meetings::CounterFinished;
 pub use counter_putters::CounterPutter;
-pub use counter_relays::relay_counter;
-pub use counter_rings::{CounterRing, CounterStart};
+pub use counter_rings::{CounterFinished, CounterRing, CounterStart};
 pub use counter_takers::CounterTaker;
-pub use counter_words::CounterRule;
+pub use counter_words::{CounterRule, Counting};
 pub use ends::{PutEnd, RingOf, TakeEnd};
 pub use faults::RunFault;
 pub use gates::{FreeGate, Gate, YieldGate};
 pub use meetings::Finished;
 pub use putters::Putter;
 pub use recorders::{RecordedLines, Recorder, Slot};
-pub use relays::{Limits, Outcome, relay, relay_flicker};
+pub use relays::{Limits, Outcome, relay, relay_counter, relay_flicker};
 pub use rings::{FlickerRing, Start};
 pub use takers::Taker;
-pub use views::{FlickerRule, Loads, View};
+pub use views::{FlickerRule, Flickering, Keeping, Kind, Loads, RuleOf, View};

@@ -1,17 +1,18 @@
 //! How the two ends of a ring are made, meet, and end.
-ghost use Rattle.std.specs.Prelude.{◌≡◌, false, None, []};
+ghost use Rattle.std.specs.Prelude.{◌≡◌, true, false, None, []};
 ghost use Rattle.bits_core.specs.declared.events.Side.TheVariants.{P, C};
 ghost use Rattle.ring_core.specs.Linear.{EachReadingIsLinearizable};
 ghost use Rattle.ring_run.specs.Steppers.{StandsAs};
-ghost use Rattle.ring_run.specs.Rule.{IsIdle};
+ghost use Rattle.bits_core.specs.Bits.{other};
+ghost use Rattle.ring_run.specs.Rule.{IsIdle, list_of, may_step};
 ghost use Rattle.ring_run.specs.Meetings.{KeepsEnd, Meets, ClosesAre, TellsAre, closed_reply};
 
 use crate::below::laws_below;
-use crate::putters::{PutCore, Putter};
+use crate::putters::Putter;
 use crate::rings::{FlickerRing, Start};
 use crate::steppers::Stepper;
-use crate::takers::{TakeCore, Taker};
-use crate::views::View;
+use crate::takers::Taker;
+use crate::views::{Keeping, View};
 use crate::words::Words;
 use atomic_table::Seat;
 use bits_core::{Oracle, Side};
@@ -69,17 +70,22 @@ impl<A: Allocator> FlickerRing<A> {
         ensures lawful { StandsAs P result.0.end × StandsAs C result.1.end }
         ensures oracles { (result.0.oracle ≡ oracle_p) × (result.1.oracle ≡ oracle_c) }
     {
-        let (p, c) = first_cores(self.words(), self.words(), start);
+        let shape = self.shape();
+        let (p, c) = first_steppers(self.words(), self.words(), start);
         (
             Putter {
                 before: [0; 8],
-                core: p,
+                stepper: p,
+                machine: Producer::new(shape),
+                steps: 0,
                 oracle: oracle_p,
                 after: [0; 8],
             },
             Taker {
                 before: [0; 8],
-                core: c,
+                stepper: c,
+                machine: Consumer::new(shape),
+                steps: 0,
                 oracle: oracle_c,
                 after: [0; 8],
             },
@@ -93,8 +99,8 @@ impl FlickerRing<Global> {
     /// are linearizable. All later calls of both stand behind it. The ends are those of one ring, with no call under way; they come back with
     /// the same lists and the same oracles, which are asked nothing. It makes no access and takes no memory.
     pub fn meet<'a, O1: Oracle + Drop, O2: Oracle + Drop>(
-        putter: Putter<'a, O1>,
-        taker: Taker<'a, O2>,
+        mut putter: Putter<'a, O1>,
+        mut taker: Taker<'a, O2>,
     ) -> (Putter<'a, O1>, Taker<'a, O2>)
         requires ring { putter.end.ring ≡ taker.end.ring }
         requires idle { (putter.call ≡ None) × (taker.taking ≡ false) }
@@ -106,34 +112,12 @@ impl FlickerRing<Global> {
         ensures lawful { StandsAs P result.0.end × StandsAs C result.1.end }
         ensures oracles { (result.0.oracle ≡ putter.entry.oracle) × (result.1.oracle ≡ taker.entry.oracle) }
     {
+        laws_below();
         ring_is_linearizable();
-        let Putter {
-            before: _,
-            core: p,
-            oracle: oracle_p,
-            after: _,
-        } = putter;
-        let Taker {
-            before: _,
-            core: c,
-            oracle: oracle_c,
-            after: _,
-        } = taker;
-        let (p, c) = meet_cores(p, c);
-        (
-            Putter {
-                before: [0; 8],
-                core: p,
-                oracle: oracle_p,
-                after: [0; 8],
-            },
-            Taker {
-                before: [0; 8],
-                core: c,
-                oracle: oracle_c,
-                after: [0; 8],
-            },
-        )
+        let (p, c) = meet_steppers(putter.stepper, taker.stepper);
+        putter.stepper = p;
+        taker.stepper = c;
+        (putter, taker)
     }
 
     /// Ends the ring's run, of which one lawful history is left, whose sides are the two lists and which begins with
@@ -150,102 +134,13 @@ impl FlickerRing<Global> {
         ensures closed { ClosesAre putter.entry.end.ring.shape putter.entry.end.list result.closed }
         ensures told { TellsAre taker.entry.end.ring.shape taker.entry.end.list result.told }
     {
+        laws_below();
         ring_is_linearizable();
-        let Putter {
-            before: _,
-            core: p,
-            oracle: _,
-            after: _,
-        } = putter;
-        let Taker {
-            before: _,
-            core: c,
-            oracle: _,
-            after: _,
-        } = taker;
-        finish_cores(p, c)
+        let closed = putter.machine.is_closed();
+        let told = is_closed_reply(taker.machine.reply());
+        let seat = join_steppers(putter.stepper, taker.stepper);
+        Finished { seat, closed, told }
     }
-}
-
-fn first_cores<'a>(ring: Words<'a>, same: Words<'a>, start: Start) -> (PutCore<'a>, TakeCore<'a>)
-    requires { (same ≡ ring) × (start ≡ ring.id) }
-    ensures putter { (result.0.end ≡ record { ring = ring.entry; side = P; list = []; known = []; loads = [] }) × (result.0.call ≡ None) }
-    ensures taker { (result.1.end ≡ record { ring = ring.entry; side = C; list = []; known = []; loads = [] }) × (result.1.taking ≡ false) }
-    ensures lawful { StandsAs P result.0.end × StandsAs C result.1.end }
-{
-    let shape = ring.shape();
-    let (p, c) = first_steppers(ring, same, start);
-    (
-        PutCore {
-            stepper: p,
-            machine: Producer::new(shape),
-            steps: 0,
-        },
-        TakeCore {
-            stepper: c,
-            machine: Consumer::new(shape),
-            steps: 0,
-        },
-    )
-}
-
-fn meet_cores<'a>(putter: PutCore<'a>, taker: TakeCore<'a>) -> (PutCore<'a>, TakeCore<'a>)
-    requires ring { putter.end.ring ≡ taker.end.ring }
-    requires idle { (putter.call ≡ None) × (taker.taking ≡ false) }
-    ensures putter { KeepsEnd putter.entry.end result.0.end × (result.0.call ≡ None) }
-    ensures taker { KeepsEnd taker.entry.end result.1.end × (result.1.taking ≡ false) }
-    ensures one { result.1.end.known ≡ result.0.end.known }
-    ensures meets { Meets putter.entry.end taker.entry.end result.0.end.known }
-    ensures lawful { StandsAs P result.0.end × StandsAs C result.1.end }
-{
-    laws_below();
-    let PutCore {
-        stepper: p,
-        machine: producer,
-        steps: steps_p,
-    } = putter;
-    let TakeCore {
-        stepper: c,
-        machine: consumer,
-        steps: steps_c,
-    } = taker;
-    let (p, c) = meet_steppers(p, c);
-    (
-        PutCore {
-            stepper: p,
-            machine: producer,
-            steps: steps_p,
-        },
-        TakeCore {
-            stepper: c,
-            machine: consumer,
-            steps: steps_c,
-        },
-    )
-}
-
-fn finish_cores<'a>(putter: PutCore<'a>, taker: TakeCore<'a>) -> Finished
-    requires ring { putter.end.ring ≡ taker.end.ring }
-    requires idle { (putter.call ≡ None) × (taker.taking ≡ false) }
-    ensures meets { Meets putter.entry.end taker.entry.end result.history }
-    ensures closed { ClosesAre putter.entry.end.ring.shape putter.entry.end.list result.closed }
-    ensures told { TellsAre taker.entry.end.ring.shape taker.entry.end.list result.told }
-{
-    laws_below();
-    let PutCore {
-        stepper: p,
-        machine: producer,
-        steps: _,
-    } = putter;
-    let TakeCore {
-        stepper: c,
-        machine: consumer,
-        steps: _,
-    } = taker;
-    let closed = producer.is_closed();
-    let told = is_closed_reply(consumer.reply());
-    let seat = join_steppers(p, c);
-    Finished { seat, closed, told }
 }
 
 pub(crate) fn is_closed_reply(reply: Option<TakeReply>) -> bool
@@ -259,7 +154,12 @@ pub(crate) fn is_closed_reply(reply: Option<TakeReply>) -> bool
     }
 }
 
-fn first_steppers<'a>(ring: Words<'a>, same: Words<'a>, start: Start) -> (Stepper<'a>, Stepper<'a>)
+// The two seats of a ring, of whichever kind.
+pub(crate) fn first_steppers<'a, K: Keeping>(
+    ring: Words<'a, K>,
+    same: Words<'a, K>,
+    start: Start,
+) -> (Stepper<'a, K>, Stepper<'a, K>)
     requires { (same ≡ ring) × (start ≡ ring.id) }
     ensures putter { result.0 ≡ record { ring = ring.entry; side = P; list = []; known = []; loads = [] } }
     ensures taker { result.1 ≡ record { ring = ring.entry; side = C; list = []; known = []; loads = [] } }
@@ -268,25 +168,29 @@ fn first_steppers<'a>(ring: Words<'a>, same: Words<'a>, start: Start) -> (Steppe
     laws_below();
     let Start { mut seat } = start;
     let other = ring.part(&mut seat);
-    (
-        Stepper {
-            ring,
-            seat,
-            side: Side::P,
-            opened: None,
-            first: 0,
-        },
-        Stepper {
-            ring: same,
-            seat: other,
-            side: Side::C,
-            opened: None,
-            first: 0,
-        },
-    )
+    (stepper(ring, seat, Side::P), stepper(same, other, Side::C))
 }
 
-fn meet_steppers<'a>(p: Stepper<'a>, c: Stepper<'a>) -> (Stepper<'a>, Stepper<'a>)
+// A seat that has no access open.
+fn stepper<'a, K: Keeping>(ring: Words<'a, K>, seat: Seat<(), View>, side: Side) -> Stepper<'a, K>
+    requires own { (seat.table_id ≡ ring.id) × (seat.me.1 ≡ []) }
+    requires side { (may_step side seat.me.0 ≡ true) × (may_step (other side) seat.me.0 ≡ false) }
+    requires idle { IsIdle side (list_of side seat.me.0) × (seat.me.0.first ≡ 0) }
+    ensures { result ≡ record { ring = ring.entry; side = side; list = list_of side seat.me.0; known = seat.me.0.known; loads = seat.me.0.loads } }
+{
+    Stepper {
+        ring,
+        seat,
+        side,
+        kept: K::nothing(),
+    }
+}
+
+// The two seats learn one history.
+pub(crate) fn meet_steppers<'a, K: Keeping>(
+    p: Stepper<'a, K>,
+    c: Stepper<'a, K>,
+) -> (Stepper<'a, K>, Stepper<'a, K>)
     requires sides { (p.side ≡ P) × (c.side ≡ C) }
     requires ring { p.ring ≡ c.ring }
     requires idle { IsIdle P p.list × IsIdle C c.list }
@@ -296,60 +200,26 @@ fn meet_steppers<'a>(p: Stepper<'a>, c: Stepper<'a>) -> (Stepper<'a>, Stepper<'a
     ensures meets { Meets p.entry c.entry result.0.known }
     ensures lawful { StandsAs P result.0 × StandsAs C result.1 }
 {
-    let Stepper {
-        ring,
-        mut seat,
-        side: _,
-        opened: _,
-        first: _,
-    } = p;
+    let Stepper { ring, mut seat, .. } = p;
     let Stepper {
         ring: same,
         seat: other,
-        side: _,
-        opened: _,
-        first: _,
+        ..
     } = c;
     ring.rejoin(&mut seat, other);
     let other = ring.part(&mut seat);
-    (
-        Stepper {
-            ring,
-            seat,
-            side: Side::P,
-            opened: None,
-            first: 0,
-        },
-        Stepper {
-            ring: same,
-            seat: other,
-            side: Side::C,
-            opened: None,
-            first: 0,
-        },
-    )
+    (stepper(ring, seat, Side::P), stepper(same, other, Side::C))
 }
 
-fn join_steppers<'a>(p: Stepper<'a>, c: Stepper<'a>) -> Seat<(), View>
+// The two seats end in one that knows the history.
+pub(crate) fn join_steppers<'a, K: Keeping>(p: Stepper<'a, K>, c: Stepper<'a, K>) -> Seat<(), View>
     requires sides { (p.side ≡ P) × (c.side ≡ C) }
     requires ring { p.ring ≡ c.ring }
     requires idle { IsIdle P p.list × IsIdle C c.list }
     ensures { Meets p.entry c.entry result.me.0.known }
 {
-    let Stepper {
-        ring,
-        mut seat,
-        side: _,
-        opened: _,
-        first: _,
-    } = p;
-    let Stepper {
-        ring: _,
-        seat: other,
-        side: _,
-        opened: _,
-        first: _,
-    } = c;
+    let Stepper { ring, mut seat, .. } = p;
+    let Stepper { seat: other, .. } = c;
     ring.rejoin(&mut seat, other);
     seat
 }

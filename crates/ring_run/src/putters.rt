@@ -12,34 +12,15 @@ ghost use Rattle.ring_core.specs.ProducerCalls.{ProducerStands, longest_of};
 ghost use Rattle.ring_run.specs.Steppers.{AreAnswered, Grows, IsAskedOnce, IsSameEnd, StandsAs};
 ghost use Rattle.bits_core.specs.declared.events.Side.TheVariants.{P};
 ghost use Rattle.ring_run.specs.Ends.{HasPut, HasPutAll, HasPutPart, HasClosed, whole_put, puts_whole};
-ghost use Rattle.ring_run.specs.Machines.{PutterAt, PutterIn, PutterOver, PutterReady, PutterStep, CallBegins};
+ghost use Rattle.ring_run.specs.Machines.{CallBegins, MachineAt, MachineIn, MachineOver, MachineReady, MachineStep, producing};
 
 use crate::below::laws_below;
+use crate::ends::PutEnd;
 use crate::steppers::Stepper;
+use crate::views::Flickering;
 use bits_core::{Oracle, Shape};
 use ring_core::{BatchReply, Producer, PutReply};
 use std::marker::Model;
-
-// The producer's end but for its oracle.
-#[derive(Drop)]
-pub struct PutCore<'a> {
-    pub(crate) stepper: Stepper<'a>,
-    pub(crate) machine: Producer,
-    // how many events of the call under way the list has, and 0 where none is under way
-    pub(crate) steps: u64,
-}
-
-impl<'a> Model for PutCore<'a> {
-    ghost use Rattle.ring_core.specs.ProducerState.{call_of};
-    ghost use Rattle.ring_run.specs.Ends.{PutterState, whole_put};
-    ghost use Rattle.ring_run.specs.Machines.{IsMarked, IsPutter, without_last, longest_at};
-
-    ghost Value = { PutterState (Unit {0}) };
-
-    ghost view = { λ p. record { end = p.stepper; call = call_of p.machine; batched = p.machine.batched; start = without_last p.steps p.stepper.list; oracle = tt } };
-
-    ghost invariant = { λ p. IsPutter p.stepper p.machine (whole_put (call_of p.machine) p.stepper.list (without_last p.steps p.stepper.list)) × IsMarked p.steps p.stepper.list (longest_at p.machine.shape (call_of p.machine)) };
-}
 
 /// The producer's end of a ring. Its calls `put`, `put_all` and `close` are those of [`PutEnd`](crate::PutEnd); the step
 /// calls here make one atomic step each of such a call.
@@ -51,25 +32,36 @@ impl<'a> Model for PutCore<'a> {
 pub struct Putter<'a, O: Oracle + Drop> {
     // unused, as `after` is: they keep other values off the cache lines of this one
     pub(crate) before: [u64; 8],
-    pub(crate) core: PutCore<'a>,
+    pub(crate) stepper: Stepper<'a, Flickering>,
+    pub(crate) machine: Producer,
+    // how many events of the call under way the list has, and 0 where none is under way
+    pub(crate) steps: u64,
     pub(crate) oracle: O,
     pub(crate) after: [u64; 8],
 }
 
 impl<'a, O: Oracle + Drop> Model for Putter<'a, O> {
-    ghost use Rattle.ring_run.specs.Ends.{PutterState};
+    ghost use Rattle.ring_core.specs.ProducerState.{call_of};
+    ghost use Rattle.ring_run.specs.Ends.{PutterState, whole_put};
+    ghost use Rattle.ring_run.specs.Machines.{IsMarked, IsMachine, producing, without_last, longest_at};
 
     ghost Value = { PutterState O };
 
-    ghost view = { λ p. record { end = p.core.end; call = p.core.call; batched = p.core.batched; start = p.core.start; oracle = p.oracle } };
+    ghost view = { λ p. record { end = p.stepper; call = call_of p.machine; batched = p.machine.batched; start = without_last p.steps p.stepper.list; oracle = p.oracle } };
+
+    ghost invariant = { λ p. IsMachine producing p.stepper p.machine (whole_put (call_of p.machine) p.stepper.list (without_last p.steps p.stepper.list)) × IsMarked p.steps p.stepper.list (longest_at p.machine.shape (call_of p.machine)) };
 }
 
 // One step of the call under way.
-fn advance<'a, O: Oracle>(stepper: &mut Stepper<'a>, machine: &mut Producer, oracle: &mut O)
-    requires at { (calls : Puts) × (made : List Made) × PutterAt stepper.old machine.old calls made }
+fn advance<'a, O: Oracle>(
+    stepper: &mut Stepper<'a, Flickering>,
+    machine: &mut Producer,
+    oracle: &mut O,
+)
+    requires at { (calls : Puts) × (made : List Made) × MachineAt producing stepper.old machine.old calls made }
     ensures rests { call_of machine.old ≡ None → (machine.new ≡ machine.old) × (stepper.new ≡ stepper.old) }
     ensures kind { machine.new.batched ≡ machine.old.batched }
-    ensures steps { (calls : Puts) (made : List Made) → PutterAt stepper.old machine.old calls made → call_of machine.old ≢ None → PutterStep stepper.old machine.old stepper.new machine.new calls }
+    ensures steps { (calls : Puts) (made : List Made) → MachineAt producing stepper.old machine.old calls made → (c : Call) → call_of machine.old ≡ Some c → MachineStep producing stepper.old machine.old stepper.new machine.new calls }
     ensures oracle { IsAskedOnce O.answers oracle.old oracle.new }
     ensures answered { AreAnswered stepper.old stepper.new (O.answers oracle.old) (O.answers oracle.new) }
 {
@@ -86,13 +78,17 @@ fn advance<'a, O: Oracle>(stepper: &mut Stepper<'a>, machine: &mut Producer, ora
 
 // The rest of the scan of the call under way, where one is.
 #[inline(always)]
-fn finish_scan<'a, O: Oracle>(stepper: &mut Stepper<'a>, machine: &mut Producer, oracle: &mut O)
-    requires goes { call_of machine.old ≢ None → (calls : Puts) × (c : Call) × PutterIn stepper.old machine.old calls c }
+fn finish_scan<'a, O: Oracle>(
+    stepper: &mut Stepper<'a, Flickering>,
+    machine: &mut Producer,
+    oracle: &mut O,
+)
+    requires goes { call_of machine.old ≢ None → (calls : Puts) × (c : Call) × MachineIn producing stepper.old machine.old calls c }
     ensures same { IsSameEnd stepper.old stepper.new }
     ensures kind { machine.new.batched ≡ machine.old.batched }
     ensures longer { length stepper.old.list ≤ length stepper.new.list }
     ensures rests { call_of machine.old ≡ None → (machine.new ≡ machine.old) × (stepper.new ≡ stepper.old) }
-    ensures goes { (calls : Puts) (c : Call) → PutterIn stepper.old machine.old calls c → PutterIn stepper.new machine.new calls c }
+    ensures goes { (calls : Puts) (c : Call) → MachineIn producing stepper.old machine.old calls c → MachineIn producing stepper.new machine.new calls c }
     ensures answered { AreAnswered stepper.old stepper.new (O.answers oracle.old) (O.answers oracle.new) }
 {
     laws_below();
@@ -115,13 +111,17 @@ fn finish_scan<'a, O: Oracle>(stepper: &mut Stepper<'a>, machine: &mut Producer,
 
 // The rest of the word of the call under way, where one is written.
 #[inline(always)]
-fn write_word<'a, O: Oracle>(stepper: &mut Stepper<'a>, machine: &mut Producer, oracle: &mut O)
-    requires goes { call_of machine.old ≢ None → (calls : Puts) × (c : Call) × PutterIn stepper.old machine.old calls c }
+fn write_word<'a, O: Oracle>(
+    stepper: &mut Stepper<'a, Flickering>,
+    machine: &mut Producer,
+    oracle: &mut O,
+)
+    requires goes { call_of machine.old ≢ None → (calls : Puts) × (c : Call) × MachineIn producing stepper.old machine.old calls c }
     ensures same { IsSameEnd stepper.old stepper.new }
     ensures kind { machine.new.batched ≡ machine.old.batched }
     ensures longer { length stepper.old.list ≤ length stepper.new.list }
     ensures rests { call_of machine.old ≡ None → (machine.new ≡ machine.old) × (stepper.new ≡ stepper.old) }
-    ensures goes { (calls : Puts) (c : Call) → PutterIn stepper.old machine.old calls c → PutterIn stepper.new machine.new calls c }
+    ensures goes { (calls : Puts) (c : Call) → MachineIn producing stepper.old machine.old calls c → MachineIn producing stepper.new machine.new calls c }
     ensures answered { AreAnswered stepper.old stepper.new (O.answers oracle.old) (O.answers oracle.new) }
 {
     laws_below();
@@ -144,13 +144,17 @@ fn write_word<'a, O: Oracle>(stepper: &mut Stepper<'a>, machine: &mut Producer, 
 
 // The rest of the count of the call under way, where it is written.
 #[inline(always)]
-fn write_count<'a, O: Oracle>(stepper: &mut Stepper<'a>, machine: &mut Producer, oracle: &mut O)
-    requires goes { call_of machine.old ≢ None → (calls : Puts) × (c : Call) × PutterIn stepper.old machine.old calls c }
+fn write_count<'a, O: Oracle>(
+    stepper: &mut Stepper<'a, Flickering>,
+    machine: &mut Producer,
+    oracle: &mut O,
+)
+    requires goes { call_of machine.old ≢ None → (calls : Puts) × (c : Call) × MachineIn producing stepper.old machine.old calls c }
     ensures same { IsSameEnd stepper.old stepper.new }
     ensures kind { machine.new.batched ≡ machine.old.batched }
     ensures longer { length stepper.old.list ≤ length stepper.new.list }
     ensures rests { call_of machine.old ≡ None → (machine.new ≡ machine.old) × (stepper.new ≡ stepper.old) }
-    ensures goes { (calls : Puts) (c : Call) → PutterIn stepper.old machine.old calls c → PutterIn stepper.new machine.new calls c }
+    ensures goes { (calls : Puts) (c : Call) → MachineIn producing stepper.old machine.old calls c → MachineIn producing stepper.new machine.new calls c }
     ensures answered { AreAnswered stepper.old stepper.new (O.answers oracle.old) (O.answers oracle.new) }
 {
     laws_below();
@@ -167,12 +171,16 @@ fn write_count<'a, O: Oracle>(stepper: &mut Stepper<'a>, machine: &mut Producer,
 
 // The accesses of the call under way, to its end.
 #[inline(always)]
-fn finish<'a, O: Oracle>(stepper: &mut Stepper<'a>, machine: &mut Producer, oracle: &mut O)
-    requires ready { (calls : Puts) × PutterReady stepper.old machine.old calls }
+fn finish<'a, O: Oracle>(
+    stepper: &mut Stepper<'a, Flickering>,
+    machine: &mut Producer,
+    oracle: &mut O,
+)
+    requires ready { (calls : Puts) × MachineReady producing stepper.old machine.old calls }
     ensures same { IsSameEnd stepper.old stepper.new }
     ensures kind { machine.new.batched ≡ machine.old.batched }
     ensures rests { call_of machine.old ≡ None → (machine.new ≡ machine.old) × (stepper.new ≡ stepper.old) }
-    ensures over { (calls : Puts) → PutterReady stepper.old machine.old calls → (c : Call) → call_of machine.old ≡ Some c → PutterOver stepper.new machine.new calls c }
+    ensures over { (calls : Puts) → MachineReady producing stepper.old machine.old calls → (c : Call) → call_of machine.old ≡ Some c → MachineOver producing stepper.new machine.new calls c }
     ensures answered { AreAnswered stepper.old stepper.new (O.answers oracle.old) (O.answers oracle.new) }
 {
     laws_below();
@@ -210,7 +218,7 @@ fn begin_put(machine: &mut Producer, item: u64)
     requires fits { item < 2 ^ width_of machine.old.shape }
     requires call { (call_of machine.old ≡ None) ⊎ ((call_of machine.old ≡ Some (Put (item ∷ []))) × (machine.old.batched ≡ false)) }
     ensures kind { machine.new.batched ≡ false }
-    ensures begins { (calls : Puts) (made : List Made) → ProducerStands machine.old calls made → CallBegins machine.old machine.new calls made (Put (item ∷ [])) }
+    ensures begins { (calls : Puts) (made : List Made) → ProducerStands machine.old calls made → CallBegins producing machine.old machine.new calls made (Put (item ∷ [])) }
 {
     if machine.next().is_none() {
         machine.put(item);
@@ -224,7 +232,7 @@ fn begin_put_all(machine: &mut Producer, items: &[u64])
     requires batch { IsBatch machine.old.shape items.now }
     requires call { (call_of machine.old ≡ None) ⊎ ((call_of machine.old ≡ Some (Put items.now)) × (machine.old.batched ≡ true)) }
     ensures kind { machine.new.batched ≡ true }
-    ensures begins { (calls : Puts) (made : List Made) → ProducerStands machine.old calls made → CallBegins machine.old machine.new calls made (Put items.now) }
+    ensures begins { (calls : Puts) (made : List Made) → ProducerStands machine.old calls made → CallBegins producing machine.old machine.new calls made (Put items.now) }
 {
     if machine.next().is_none() {
         machine.put_all(items);
@@ -235,133 +243,10 @@ fn begin_put_all(machine: &mut Producer, items: &[u64])
 fn begin_close(machine: &mut Producer)
     requires stands { (calls : Puts) × (made : List Made) × ProducerStands machine.old calls made }
     requires call { (call_of machine.old ≡ None) ⊎ (call_of machine.old ≡ Some Close) }
-    ensures begins { (calls : Puts) (made : List Made) → ProducerStands machine.old calls made → CallBegins machine.old machine.new calls made Close }
+    ensures begins { (calls : Puts) (made : List Made) → ProducerStands machine.old calls made → CallBegins producing machine.old machine.new calls made Close }
 {
     if machine.next().is_none() {
         machine.close();
-    }
-}
-
-impl<'a> PutCore<'a> {
-    // The shape of the ring.
-    pub(crate) fn shape(&self) -> Shape
-        ensures shape { result ≡ self.now.end.ring.shape }
-        ensures lawful { StandsAs P self.now.end }
-    {
-        self.stepper.ring.shape()
-    }
-
-    // One step of a put of the item, which begins where no call is under way. The reply comes with the last
-    // step. After a close the put is answered `Closed` at once, with no step.
-    fn step_put<O: Oracle>(&mut self, item: u64, oracle: &mut O) -> Option<PutReply>
-        requires fits { item < 2 ^ width_of self.old.end.ring.shape }
-        requires call { (self.old.call ≡ None) ⊎ ((self.old.call ≡ Some (Put (item ∷ []))) × (self.old.batched ≡ false)) }
-        ensures same { IsSameEnd self.old.end self.new.end }
-        ensures lawful { StandsAs P self.new.end }
-        ensures one { ((result ≡ Some Closed) × (self.new.end ≡ self.old.end)) ⊎ ((e : Event) × Grows self.old.end self.new.end e) }
-        ensures none { IfNone result ((self.new.call ≡ Some (Put (item ∷ []))) × (self.new.batched ≡ false) × (puts_whole self.new ≡ puts_whole self.old) × HasPutPart self.new.end.ring.shape (Put (item ∷ [])) (puts_whole self.new) self.new.end.list) }
-        ensures some { IfSome result (λ r. (self.new.call ≡ None) × HasPut self.new.end.ring.shape item (puts_whole self.old) self.new.end.list r) }
-        ensures few { length self.new.end.list ≤ length (puts_whole self.old) + 2 * longest_put self.new.end.ring.shape }
-        ensures oracle { IsAskedOnce O.answers oracle.old oracle.new }
-        ensures answered { AreAnswered self.old.end self.new.end (O.answers oracle.old) (O.answers oracle.new) }
-    {
-        laws_below();
-        begin_put(&mut self.machine, item);
-        advance(&mut self.stepper, &mut self.machine, oracle);
-        self.steps = steps_behind(self.steps, &self.machine);
-        self.machine.reply()
-    }
-
-    // One step of a put of the items under one count write, which begins where no call is under way. The reply
-    // comes with the last step. After a close the put is answered `Closed` at once, with no step.
-    fn step_put_all<O: Oracle>(&mut self, items: &[u64], oracle: &mut O) -> Option<BatchReply>
-        requires batch { IsBatch self.old.end.ring.shape items.now }
-        requires call { (self.old.call ≡ None) ⊎ ((self.old.call ≡ Some (Put items.now)) × (self.old.batched ≡ true)) }
-        ensures same { IsSameEnd self.old.end self.new.end }
-        ensures lawful { StandsAs P self.new.end }
-        ensures one { ((result ≡ Some batch_reply.Closed) × (self.new.end ≡ self.old.end)) ⊎ ((e : Event) × Grows self.old.end self.new.end e) }
-        ensures none { IfNone result ((self.new.call ≡ Some (Put items.now)) × (self.new.batched ≡ true) × (puts_whole self.new ≡ puts_whole self.old) × HasPutPart self.new.end.ring.shape (Put items.now) (puts_whole self.new) self.new.end.list) }
-        ensures some { IfSome result (λ r. (self.new.call ≡ None) × HasPutAll self.new.end.ring.shape items.now (puts_whole self.old) self.new.end.list r) }
-        ensures few { length self.new.end.list ≤ length (puts_whole self.old) + 2 * longest_of self.new.end.ring.shape items.now }
-        ensures oracle { IsAskedOnce O.answers oracle.old oracle.new }
-        ensures answered { AreAnswered self.old.end self.new.end (O.answers oracle.old) (O.answers oracle.new) }
-    {
-        laws_below();
-        begin_put_all(&mut self.machine, items);
-        advance(&mut self.stepper, &mut self.machine, oracle);
-        self.steps = steps_behind(self.steps, &self.machine);
-        self.machine.batch_reply()
-    }
-
-    // One step of a close, which begins where no call is under way; true with the last step. A second close
-    // is over at once, with no step.
-    fn step_close<O: Oracle>(&mut self, oracle: &mut O) -> bool
-        requires call { (self.old.call ≡ None) ⊎ (self.old.call ≡ Some Close) }
-        ensures same { IsSameEnd self.old.end self.new.end }
-        ensures lawful { StandsAs P self.new.end }
-        ensures one { ((result ≡ true) × (self.new.end ≡ self.old.end)) ⊎ ((e : Event) × Grows self.old.end self.new.end e) }
-        ensures goes_on { result ≡ false → (self.new.call ≡ Some Close) × (puts_whole self.new ≡ puts_whole self.old) × HasPutPart self.new.end.ring.shape Close (puts_whole self.new) self.new.end.list }
-        ensures over { result ≡ true → (self.new.call ≡ None) × HasClosed self.new.end.ring.shape (puts_whole self.old) self.new.end.list }
-        ensures few { length self.new.end.list ≤ length (puts_whole self.old) + 2 }
-        ensures oracle { IsAskedOnce O.answers oracle.old oracle.new }
-        ensures answered { AreAnswered self.old.end self.new.end (O.answers oracle.old) (O.answers oracle.new) }
-    {
-        laws_below();
-        begin_close(&mut self.machine);
-        advance(&mut self.stepper, &mut self.machine, oracle);
-        self.steps = steps_behind(self.steps, &self.machine);
-        self.machine.next().is_none()
-    }
-}
-
-impl<'a> PutCore<'a> {
-    // Puts the item, or finds the ring full or closed.
-    fn put<O: Oracle>(&mut self, item: u64, oracle: &mut O) -> PutReply
-        requires fits { item < 2 ^ width_of self.old.end.ring.shape }
-        requires idle { self.old.call ≡ None }
-        ensures same { IsSameEnd self.old.end self.new.end }
-        ensures lawful { StandsAs P self.new.end }
-        ensures idle { self.new.call ≡ None }
-        ensures phrase { HasPut self.new.end.ring.shape item self.old.end.list self.new.end.list result }
-        ensures answered { AreAnswered self.old.end self.new.end (O.answers oracle.old) (O.answers oracle.new) }
-    {
-        begin_put(&mut self.machine, item);
-        finish(&mut self.stepper, &mut self.machine, oracle);
-        match self.machine.reply() {
-            Some(reply) => reply,
-            None => unreachable!(),
-        }
-    }
-
-    // Puts the items under one count write, as many as there is room for, or finds the ring full or closed.
-    fn put_all<O: Oracle>(&mut self, items: &[u64], oracle: &mut O) -> BatchReply
-        requires batch { IsBatch self.old.end.ring.shape items.now }
-        requires idle { self.old.call ≡ None }
-        ensures same { IsSameEnd self.old.end self.new.end }
-        ensures lawful { StandsAs P self.new.end }
-        ensures idle { self.new.call ≡ None }
-        ensures phrase { HasPutAll self.new.end.ring.shape items.now self.old.end.list self.new.end.list result }
-        ensures answered { AreAnswered self.old.end self.new.end (O.answers oracle.old) (O.answers oracle.new) }
-    {
-        begin_put_all(&mut self.machine, items);
-        finish(&mut self.stepper, &mut self.machine, oracle);
-        match self.machine.batch_reply() {
-            Some(reply) => reply,
-            None => unreachable!(),
-        }
-    }
-
-    // Closes the ring. A second close does nothing.
-    fn close<O: Oracle>(&mut self, oracle: &mut O)
-        requires idle { self.old.call ≡ None }
-        ensures same { IsSameEnd self.old.end self.new.end }
-        ensures lawful { StandsAs P self.new.end }
-        ensures idle { self.new.call ≡ None }
-        ensures phrase { HasClosed self.new.end.ring.shape self.old.end.list self.new.end.list }
-        ensures answered { AreAnswered self.old.end self.new.end (O.answers oracle.old) (O.answers oracle.new) }
-    {
-        begin_close(&mut self.machine);
-        finish(&mut self.stepper, &mut self.machine, oracle);
     }
 }
 
@@ -381,7 +266,11 @@ impl<'a, O: Oracle + Drop> Putter<'a, O> {
         ensures oracle { IsAskedOnce O.answers self.old.oracle self.new.oracle }
         ensures answered { AreAnswered self.old.end self.new.end (O.answers self.old.oracle) (O.answers self.new.oracle) }
     {
-        self.core.step_put(item, &mut self.oracle)
+        laws_below();
+        begin_put(&mut self.machine, item);
+        advance(&mut self.stepper, &mut self.machine, &mut self.oracle);
+        self.steps = steps_behind(self.steps, &self.machine);
+        self.machine.reply()
     }
 
     /// One step of a put of the items under one count write, in the same way. There are 1 to as many items as the
@@ -398,7 +287,11 @@ impl<'a, O: Oracle + Drop> Putter<'a, O> {
         ensures oracle { IsAskedOnce O.answers self.old.oracle self.new.oracle }
         ensures answered { AreAnswered self.old.end self.new.end (O.answers self.old.oracle) (O.answers self.new.oracle) }
     {
-        self.core.step_put_all(items, &mut self.oracle)
+        laws_below();
+        begin_put_all(&mut self.machine, items);
+        advance(&mut self.stepper, &mut self.machine, &mut self.oracle);
+        self.steps = steps_behind(self.steps, &self.machine);
+        self.machine.batch_reply()
     }
 
     /// One step of a close, which begins where no call is under way; true with the last step. A second close is over at
@@ -414,44 +307,48 @@ impl<'a, O: Oracle + Drop> Putter<'a, O> {
         ensures oracle { IsAskedOnce O.answers self.old.oracle self.new.oracle }
         ensures answered { AreAnswered self.old.end self.new.end (O.answers self.old.oracle) (O.answers self.new.oracle) }
     {
-        self.core.step_close(&mut self.oracle)
+        laws_below();
+        begin_close(&mut self.machine);
+        advance(&mut self.stepper, &mut self.machine, &mut self.oracle);
+        self.steps = steps_behind(self.steps, &self.machine);
+        self.machine.next().is_none()
+    }
+}
+
+impl<'a, O: Oracle + Drop> PutEnd for Putter<'a, O> {
+    ghost use Rattle.std.specs.Prelude.{◌≡◌, None};
+    ghost use Rattle.ring_run.specs.Steppers.{AreAnswered};
+
+    ghost end = { λ p. p.end };
+
+    ghost idle = { λ p. p.call ≡ None };
+
+    ghost answered = { λ p q. AreAnswered p.end q.end (O.answers p.oracle) (O.answers q.oracle) };
+
+    fn shape(&self) -> Shape {
+        self.stepper.ring.shape()
     }
 
-    // Puts the item, or finds the ring full or closed.
-    pub(crate) fn put_item(&mut self, item: u64) -> PutReply
-        requires fits { item < 2 ^ width_of self.old.end.ring.shape }
-        requires idle { self.old.call ≡ None }
-        ensures same { IsSameEnd self.old.end self.new.end }
-        ensures lawful { StandsAs P self.new.end }
-        ensures idle { self.new.call ≡ None }
-        ensures phrase { HasPut self.new.end.ring.shape item self.old.end.list self.new.end.list result }
-        ensures answered { AreAnswered self.old.end self.new.end (O.answers self.old.oracle) (O.answers self.new.oracle) }
-    {
-        self.core.put(item, &mut self.oracle)
+    fn put(&mut self, item: u64) -> PutReply {
+        begin_put(&mut self.machine, item);
+        finish(&mut self.stepper, &mut self.machine, &mut self.oracle);
+        match self.machine.reply() {
+            Some(reply) => reply,
+            None => unreachable!(),
+        }
     }
 
-    // Puts the items under one count write, as many as there is room for, or finds the ring full or closed.
-    pub(crate) fn put_items(&mut self, items: &[u64]) -> BatchReply
-        requires batch { IsBatch self.old.end.ring.shape items.now }
-        requires idle { self.old.call ≡ None }
-        ensures same { IsSameEnd self.old.end self.new.end }
-        ensures lawful { StandsAs P self.new.end }
-        ensures idle { self.new.call ≡ None }
-        ensures phrase { HasPutAll self.new.end.ring.shape items.now self.old.end.list self.new.end.list result }
-        ensures answered { AreAnswered self.old.end self.new.end (O.answers self.old.oracle) (O.answers self.new.oracle) }
-    {
-        self.core.put_all(items, &mut self.oracle)
+    fn put_all(&mut self, items: &[u64]) -> BatchReply {
+        begin_put_all(&mut self.machine, items);
+        finish(&mut self.stepper, &mut self.machine, &mut self.oracle);
+        match self.machine.batch_reply() {
+            Some(reply) => reply,
+            None => unreachable!(),
+        }
     }
 
-    // Closes the ring. A second close does nothing.
-    pub(crate) fn close_ring(&mut self)
-        requires idle { self.old.call ≡ None }
-        ensures same { IsSameEnd self.old.end self.new.end }
-        ensures lawful { StandsAs P self.new.end }
-        ensures idle { self.new.call ≡ None }
-        ensures phrase { HasClosed self.new.end.ring.shape self.old.end.list self.new.end.list }
-        ensures answered { AreAnswered self.old.end self.new.end (O.answers self.old.oracle) (O.answers self.new.oracle) }
-    {
-        self.core.close(&mut self.oracle);
+    fn close(&mut self) {
+        begin_close(&mut self.machine);
+        finish(&mut self.stepper, &mut self.machine, &mut self.oracle);
     }
 }

@@ -5,6 +5,7 @@ ghost use Rattle.bits_core.specs.Made.{IsBeginning};
 ghost use Rattle.bits_core.specs.Shape.{AllFit, batch_of, capacity_of};
 ghost use Rattle.ring_run.specs.Relays.{HasMadePuts, HasRelayedPuts, HasRelayedTakes, HasTakenMore, IsRelayed};
 
+use crate::counter_rings::CounterRing;
 use crate::ends::{PutEnd, RingOf, TakeEnd};
 use crate::faults::RunFault;
 use crate::gates::Gate;
@@ -144,11 +145,7 @@ pub struct Outcome<A: Allocator> {
 }
 
 // Room for as many items as can be taken where no more are taken than were put.
-pub(crate) fn room_for<A: Allocator>(
-    alloc: A,
-    items: &[u64],
-    limits: Limits,
-) -> Result<Vec<u64, A>, RunFault>
+fn room_for<A: Allocator>(alloc: A, items: &[u64], limits: Limits) -> Result<Vec<u64, A>, RunFault>
     ensures { IfOk result (λ v. (v.items ≡ []) × (min (length items.now) limits.takes ≤ vec_capacity v)) }
 {
     let room = (items.len() as u64).min(limits.takes);
@@ -236,7 +233,7 @@ pub fn relay<R: Threads, A: Allocator + Copy, E: PutEnd + Send, F: TakeEnd + Sen
 
 // A relay through the two ends of one ring of this kind, whose run it ends. Nothing is refused: there is room for all items
 // that are taken, for by the law of the ring they are no more than were put.
-pub(crate) fn relay_through<
+fn relay_through<
     K: RingOf<E, F>,
     R: Threads,
     A: Allocator,
@@ -268,32 +265,6 @@ pub(crate) fn relay_through<
         Ok(outcome) => outcome,
         Err(_) => unreachable!(),
     }
-}
-
-// Makes a ring and its ends, relays, and ends the ring's run. Once there are the ring and the room, nothing is refused.
-fn relay_ring<
-    R: Threads,
-    A: Allocator + Copy,
-    O1: Oracle + Drop + Send,
-    O2: Oracle + Drop + Send,
-    G: Gate + Sync,
->(
-    rt: &R,
-    alloc: A,
-    shape: Shape,
-    oracle_p: O1,
-    oracle_c: O2,
-    items: &[u64],
-    limits: Limits,
-    gate: &G,
-) -> Result<Outcome<A>, RunFault>
-    requires fit { AllFit shape items.now }
-    ensures { IfOk result (λ r. IsRelayed shape items.now limits.puts limits.takes r.put r.calls r.full r.taken.items r.empty r.closed) }
-{
-    let (ring, start) = FlickerRing::new(alloc, shape)?;
-    let taken = room_for(alloc, items, limits)?;
-    let (putter, taker) = ring.ends(start, oracle_p, oracle_c);
-    Ok(relay_through(&ring, rt, taken, putter, taker, items, limits, gate))
 }
 
 /// Makes a ring and its ends, relays, and ends the ring's run. What it came to is counted in one lawful history of
@@ -328,6 +299,38 @@ pub fn relay_flicker<
 {
     ring_law();
     whole_calls_count();
-    let outcome = relay_ring(rt, alloc, shape, oracle_p, oracle_c, items, limits, gate)?;
-    Ok(outcome)
+    let (ring, start) = FlickerRing::new(alloc, shape)?;
+    let taken = room_for(alloc, items, limits)?;
+    let (putter, taker) = ring.ends(start, oracle_p, oracle_c);
+    Ok(relay_through(&ring, rt, taken, putter, taker, items, limits, gate))
+}
+
+/// Makes a counter ring and its ends, relays, and ends the ring's run. What it came to is counted in one lawful history
+/// of safe bits whose two sides follow their programs, so by the law of the ring (Lamport 1977) the items taken are the
+/// first of those that were stored; once the taker was told that the ring is closed, all items were put and taken; and
+/// no more were stored and not taken than the ring has cells.
+///
+/// Every item has to fit the width. It takes memory for the words of the ring and, before the first put, for all items
+/// that can be taken. `OutOfMemory` is answered only where the allocator refused some: all memory is taken before the ends
+/// are made, so no call was made then, and no item put or taken.
+pub fn relay_counter<R: Threads, A: Allocator + Copy, G: Gate + Sync>(
+    rt: &R,
+    alloc: A,
+    shape: Shape,
+    items: &[u64],
+    limits: Limits,
+    gate: &G,
+) -> Result<Outcome<A>, RunFault>
+    requires fit { AllFit shape items.now }
+    ensures counted { IfOk result (λ r. IsRelayed shape items.now limits.puts limits.takes r.put r.calls r.full r.taken.items r.empty r.closed) }
+    ensures prefix { IfOk result (λ r. IsBeginning r.taken.items (take r.put items.now)) }
+    ensures all { IfOk result (λ r. r.closed ≡ true → (r.put ≡ length items.now) × (r.taken.items ≡ items.now)) }
+    ensures within { IfOk result (λ r. r.put ≤ length r.taken.items + capacity_of shape) }
+{
+    ring_law();
+    whole_calls_count();
+    let (ring, start) = CounterRing::new(alloc, shape)?;
+    let taken = room_for(alloc, items, limits)?;
+    let (putter, taker) = ring.ends(start);
+    Ok(relay_through(&ring, rt, taken, putter, taker, items, limits, gate))
 }

@@ -1,5 +1,5 @@
 //! The ring.
-ghost use Rattle.std.specs.Prelude.{◌≡◌, true, [], IfOk};
+ghost use Rattle.std.specs.Prelude.{◌≡◌, ◌<◌, true, [], IfOk};
 ghost use Rattle.bits_core.specs.Shape.{belongs};
 ghost use Rattle.ring_run.specs.Rule.{KeepsFlickerRule, IsWordFound, joint};
 ghost use Rattle.ring_run.specs.Words.{first_words, word_count, word_place};
@@ -7,12 +7,71 @@ ghost use Rattle.ring_run.specs.Words.{first_words, word_count, word_place};
 use crate::below::laws_below;
 use crate::faults::RunFault;
 use crate::layout::{FIRST_S, first_r, word_count};
-use crate::views::{FlickerRule, View};
+use crate::views::{Flickering, Kind, RuleOf, View};
 use crate::words::Words;
 use atomic_table::{Seat, Shared, Table};
 use bits_core::{Bit, Shape};
 use std::alloc::{AllocError, Allocator};
 use std::marker::{Brand, Model};
+
+/// A ring of one producer and one consumer, of one kind. To a contract a ring is its shape, and which ring it is.
+#[derive(Drop)]
+#[repr(C)]
+pub struct RingIn<K: Kind, A: Allocator> {
+    // unused, as `after` is: they keep other values off the cache lines of this one
+    before: [u64; 8],
+    table: Table<(), View, Shape, RuleOf<K>, A>,
+    shape: Shape,
+    after: [u64; 8],
+}
+
+impl<K: Kind, A: Allocator> Model for RingIn<K, A> {
+    ghost use Rattle.std.specs.Prelude.{◌≡◌, ◌<◌};
+    ghost use Rattle.ring_run.specs.Ring.{Ring};
+
+    ghost Value = { Ring };
+
+    ghost view = { λ r. record { shape = r.shape; id = r.table.shared.table_id } };
+
+    ghost invariant = { λ r. (r.table.shared.key ≡ r.shape) × (r.table.shared.table_id.words ≡ K.count r.shape) × (0 < K.count r.shape) };
+}
+
+impl<K: Kind, A: Allocator> RingIn<K, A> {
+    // The ring of a table whose key is the shape.
+    pub(crate) fn of(table: Table<(), View, Shape, RuleOf<K>, A>, shape: Shape) -> RingIn<K, A>
+        requires { (table.shared.key ≡ shape) × (table.shared.table_id.words ≡ K.count shape) × (0 < K.count shape) }
+        ensures { result ≡ record { shape = shape; id = table.shared.table_id } }
+    {
+        RingIn {
+            before: [0; 8],
+            table,
+            shape,
+            after: [0; 8],
+        }
+    }
+
+    /// The shape of the ring.
+    pub fn shape(&self) -> Shape
+        ensures { result ≡ self.now.shape }
+    {
+        self.shape
+    }
+
+    /// The words of the ring, with the rule that holds of them between any two atomic steps of whichever thread. Its
+    /// type says so: a step of a [`Shared`] has to keep the rule of its type, for its key, which is the ring's shape.
+    pub fn table(&self) -> &Shared<(), View, Shape, RuleOf<K>>
+        ensures { (result.now.key ≡ self.now.shape) × (result.now.table_id ≡ self.now.id) × (result.now.table_id.words ≡ K.count self.now.shape) }
+    {
+        &self.table.shared
+    }
+
+    // The words as an end reaches them.
+    pub(crate) fn words<'a>(&'a self) -> Words<'a, K>
+        ensures { result ≡ self.now }
+    {
+        Words::of(&self.table.shared, self.shape)
+    }
+}
 
 /// The safe bits of one producer and one consumer, shared by two threads with no lock (Lamport 1977, over the
 /// registers of 1986).
@@ -20,29 +79,7 @@ use std::marker::{Brand, Model};
 /// Each bit has an atomic word of its own: 0 or 1, and 2 while a write of the bit is under way. A read loads the word
 /// twice. Where both loads give 0, or both give 1, that is its answer; else a write may overlap the read, and the
 /// reading end's oracle says what it answers. So a bit is no more than safe: it flickers while it is written.
-///
-/// To a contract a ring is its shape, and which ring it is.
-#[derive(Drop)]
-#[repr(C)]
-pub struct FlickerRing<A: Allocator> {
-    // unused, as `after` is: they keep other values off the cache lines of this one
-    before: [u64; 8],
-    table: Table<(), View, Shape, FlickerRule, A>,
-    shape: Shape,
-    after: [u64; 8],
-}
-
-impl<A: Allocator> Model for FlickerRing<A> {
-    ghost use Rattle.std.specs.Prelude.{◌≡◌};
-    ghost use Rattle.ring_run.specs.Words.{word_count};
-    ghost use Rattle.ring_run.specs.Ring.{Ring};
-
-    ghost Value = { Ring };
-
-    ghost view = { λ r. record { shape = r.shape; id = r.table.shared.table_id } };
-
-    ghost invariant = { λ r. (r.table.shared.key ≡ r.shape) × (r.table.shared.table_id.words ≡ word_count r.shape) };
-}
+pub type FlickerRing<A> = RingIn<Flickering, A>;
 
 /// The right to make the two ends of one ring; with no other can they be made. To a contract it is which ring it is.
 #[derive(Drop)]
@@ -74,32 +111,11 @@ impl<A: Allocator + Copy> FlickerRing<A> {
         laws_below();
         let words = starting_words(alloc, shape)?;
         let (table, seat) = Table::of_words(alloc, words.as_slice(), &shape)?;
-        let ring = FlickerRing {
-            before: [0; 8],
-            table,
-            shape,
-            after: [0; 8],
-        };
-        Ok((ring, Start { seat }))
+        Ok((RingIn::of(table, shape), Start { seat }))
     }
 }
 
 impl<A: Allocator> FlickerRing<A> {
-    /// The shape of the ring.
-    pub fn shape(&self) -> Shape
-        ensures { result ≡ self.now.shape }
-    {
-        self.shape
-    }
-
-    /// The words of the ring, with the rule that holds of them between any two atomic steps of whichever thread. Its
-    /// type says so: a step of a [`Shared`] has to keep the rule of its type, for its key, which is the ring's shape.
-    pub fn table(&self) -> &Shared<(), View, Shape, FlickerRule>
-        ensures { (result.now.key ≡ self.now.shape) × (result.now.table_id ≡ self.now.id) × (result.now.table_id.words ≡ word_count self.now.shape) }
-    {
-        &self.table.shared
-    }
-
     /// Loads the word of a bit: 0 or 1, and 2 while a write of the bit is under way. Any thread may do so at any time,
     /// whatever the two ends are at, and it is no event of theirs. The word is that of a state which keeps the ring's
     /// rule ([`FlickerRule`]): so, at each moment, there is one lawful history whose two sides are the lists of the
@@ -111,13 +127,6 @@ impl<A: Allocator> FlickerRing<A> {
         let words = self.words();
         let place = words.word_of(bit);
         words.find::<Brand>(place)
-    }
-
-    // The words as an end reaches them.
-    pub(crate) fn words<'a>(&'a self) -> Words<'a>
-        ensures { result ≡ self.now }
-    {
-        Words::of(&self.table.shared, self.shape)
     }
 }
 

@@ -11,26 +11,24 @@ ghost use Rattle.ring_run.specs.Rule.{IsIdle};
 ghost use Rattle.ring_run.specs.Steppers.{AreAnswered, Grows, CanMake, CanStep, HasMade, HasStepped, IsAskedOnce};
 
 use crate::below::laws_below;
-use crate::views::View;
+use crate::views::{Flickering, Keeping, View};
 use crate::words::Words;
 use atomic_table::Seat;
 use bits_core::{Access, Bit, Oracle, Side};
 use std::marker::{Brand, Model};
 
-// A seat of one side, with its open access and the first load of its open read.
+// A seat of one side, with what the kind of ring keeps of the access that is open.
 #[derive(Drop)]
-pub struct Stepper<'a> {
-    pub(crate) ring: Words<'a>,
+pub struct Stepper<'a, K: Keeping> {
+    pub(crate) ring: Words<'a, K>,
     pub(crate) seat: Seat<(), View>,
     pub(crate) side: Side,
-    pub(crate) opened: Option<Access>,
-    pub(crate) first: u64,
+    pub(crate) kept: K::Kept,
 }
 
-impl<'a> Model for Stepper<'a> {
+impl<'a, K: Keeping> Model for Stepper<'a, K> {
     ghost use Rattle.std.specs.Prelude.{◌≡◌, true, false, []};
     ghost use Rattle.bits_core.specs.Bits.{other};
-    ghost use Rattle.bits_core.specs.History.{open_access};
     ghost use Rattle.ring_run.specs.Ring.{RingEnd};
     ghost use Rattle.ring_run.specs.Rule.{list_of, may_step};
 
@@ -38,10 +36,10 @@ impl<'a> Model for Stepper<'a> {
 
     ghost view = { λ h. record { ring = h.ring; side = h.side; list = list_of h.side h.seat.me.0; known = h.seat.me.0.known; loads = h.seat.me.0.loads } };
 
-    ghost invariant = { λ h. (h.seat.table_id ≡ h.ring.id) × (h.seat.me.1 ≡ []) × (may_step h.side h.seat.me.0 ≡ true) × (may_step (other h.side) h.seat.me.0 ≡ false) × (h.seat.me.0.first ≡ h.first) × (h.opened ≡ open_access h.side (list_of h.side h.seat.me.0)) };
+    ghost invariant = { λ h. (h.seat.table_id ≡ h.ring.id) × (h.seat.me.1 ≡ []) × (may_step h.side h.seat.me.0 ≡ true) × (may_step (other h.side) h.seat.me.0 ≡ false) × K.keeps h.kept h.side h.seat.me.0 };
 }
 
-impl<'a> Stepper<'a> {
+impl<'a> Stepper<'a, Flickering> {
     fn begin_read(&mut self, bit: Bit)
         requires bit { (belongs self.old.ring.shape bit ≡ true) × (self.old.side ≡ reader bit) }
         requires idle { IsIdle self.old.side self.old.list }
@@ -51,10 +49,11 @@ impl<'a> Stepper<'a> {
     {
         laws_below();
         let side = self.side;
-        self.first = self
+        let word = self.ring.word_of(bit);
+        self.kept.first = self
             .ring
-            .load_noted::<Brand, ()>(&mut self.seat, bit, side, &());
-        self.opened = Some(Access::Read(bit));
+            .load_at::<Brand, ()>(&mut self.seat, word, bit, side, &());
+        self.kept.access = Some(Access::Read(bit));
     }
 
     // The second load, and the answer by both. The oracle is asked at most once.
@@ -68,11 +67,12 @@ impl<'a> Stepper<'a> {
     {
         laws_below();
         let side = self.side;
+        let word = self.ring.word_of(bit);
         let found = self
             .ring
-            .load_noted::<Brand, O>(&mut self.seat, bit, side, oracle);
-        self.opened = None;
-        answer(self.first, found, oracle)
+            .load_at::<Brand, O>(&mut self.seat, word, bit, side, oracle);
+        self.kept.access = None;
+        answer(self.kept.first, found, oracle)
     }
 
     fn begin_write(&mut self, bit: Bit, value: bool)
@@ -84,9 +84,10 @@ impl<'a> Stepper<'a> {
     {
         laws_below();
         let side = self.side;
+        let word = self.ring.word_of(bit);
         self.ring
-            .store_noted::<Brand, bool>(&mut self.seat, bit, side, &value, 2);
-        self.opened = Some(Access::Write(bit, value));
+            .store_at::<Brand, bool>(&mut self.seat, word, bit, side, &value, 2);
+        self.kept.access = Some(Access::Write(bit, value));
     }
 
     fn end_write(&mut self, bit: Bit, value: bool)
@@ -98,10 +99,11 @@ impl<'a> Stepper<'a> {
     {
         laws_below();
         let side = self.side;
+        let word = self.ring.word_of(bit);
         let new = word_of(value);
         self.ring
-            .store_noted::<Brand, bool>(&mut self.seat, bit, side, &value, new);
-        self.opened = None;
+            .store_at::<Brand, bool>(&mut self.seat, word, bit, side, &value, new);
+        self.kept.access = None;
     }
 
     fn begin(&mut self, access: Access)
@@ -137,7 +139,7 @@ impl<'a> Stepper<'a> {
     // The two loads of a read, and the answer by both. The oracle is asked at most once. The words are the stepper's own,
     // held by the caller, so that they lie at hand from one access to the next.
     #[inline(always)]
-    fn read<O: Oracle>(&mut self, ring: &Words<'a>, bit: Bit, oracle: &mut O) -> bool
+    fn read<O: Oracle>(&mut self, ring: &Words<'a, Flickering>, bit: Bit, oracle: &mut O) -> bool
         requires ring { ring.now ≡ self.old.ring }
         requires bit { (belongs self.old.ring.shape bit ≡ true) × (self.old.side ≡ reader bit) }
         requires can { CanMake self.old (Read bit) }
@@ -150,13 +152,13 @@ impl<'a> Stepper<'a> {
         let word = ring.word_of(bit);
         let first = ring.load_at::<Brand, ()>(&mut self.seat, word, bit, side, &());
         let again = ring.load_at::<Brand, O>(&mut self.seat, word, bit, side, oracle);
-        self.first = first;
+        self.kept.first = first;
         answer(first, again, oracle)
     }
 
     // The two stores of a write.
     #[inline(always)]
-    fn write(&mut self, ring: &Words<'a>, bit: Bit, value: bool)
+    fn write(&mut self, ring: &Words<'a, Flickering>, bit: Bit, value: bool)
         requires ring { ring.now ≡ self.old.ring }
         requires bit { (belongs self.old.ring.shape bit ≡ true) × (self.old.side ≡ writer bit) }
         requires can { CanMake self.old (Write bit value) }
@@ -173,7 +175,12 @@ impl<'a> Stepper<'a> {
 
     // The whole access, and the answer. The words are the stepper's own.
     #[inline(always)]
-    pub fn make<O: Oracle>(&mut self, ring: &Words<'a>, access: Access, oracle: &mut O) -> bool
+    pub fn make<O: Oracle>(
+        &mut self,
+        ring: &Words<'a, Flickering>,
+        access: Access,
+        oracle: &mut O,
+    ) -> bool
         requires ring { ring.now ≡ self.old.ring }
         requires right { IsOpenRight self.old.ring.shape self.old.side access }
         requires can { CanMake self.old access }
@@ -198,7 +205,7 @@ impl<'a> Stepper<'a> {
         ensures oracle { IsAskedOnce O.answers oracle.old oracle.new }
         ensures answered { AreAnswered self.old self.new (O.answers oracle.old) (O.answers oracle.new) }
     {
-        match self.opened {
+        match self.kept.access {
             None => {
                 self.begin(access);
                 None

@@ -10,34 +10,15 @@ ghost use Rattle.ring_core.specs.ConsumerCalls.{ConsumerStands};
 ghost use Rattle.ring_run.specs.Steppers.{AreAnswered, Grows, IsAskedOnce, IsSameEnd, StandsAs};
 ghost use Rattle.bits_core.specs.declared.events.Side.TheVariants.{C};
 ghost use Rattle.ring_run.specs.Ends.{HasTaken, HasTakePart, whole_take, takes_whole};
-ghost use Rattle.ring_run.specs.Machines.{TakerAt, TakerIn, TakerOver, TakerReady, TakerStep, TakeWasBegun};
+ghost use Rattle.ring_run.specs.Machines.{CallBegins, MachineAt, MachineIn, MachineOver, MachineReady, MachineStep, consuming};
 
 use crate::below::laws_below;
+use crate::ends::TakeEnd;
 use crate::steppers::Stepper;
+use crate::views::Flickering;
 use bits_core::{Oracle, Shape};
 use ring_core::{Consumer, TakeReply};
 use std::marker::Model;
-
-// The consumer's end but for its oracle.
-#[derive(Drop)]
-pub struct TakeCore<'a> {
-    pub(crate) stepper: Stepper<'a>,
-    pub(crate) machine: Consumer,
-    // how many events of the take under way the list has, and 0 where none is under way
-    pub(crate) steps: u64,
-}
-
-impl<'a> Model for TakeCore<'a> {
-    ghost use Rattle.ring_core.specs.ConsumerState.{is_taking};
-    ghost use Rattle.ring_run.specs.Ends.{TakerState, whole_take};
-    ghost use Rattle.ring_run.specs.Machines.{IsMarked, IsTaker, without_last, longest_taking};
-
-    ghost Value = { TakerState (Unit {0}) };
-
-    ghost view = { λ p. record { end = p.stepper; taking = is_taking p.machine; start = without_last p.steps p.stepper.list; oracle = tt } };
-
-    ghost invariant = { λ p. IsTaker p.stepper p.machine (whole_take (is_taking p.machine) p.stepper.list (without_last p.steps p.stepper.list)) × IsMarked p.steps p.stepper.list (longest_taking p.machine.shape (is_taking p.machine)) };
-}
 
 /// The consumer's end of a ring. Its call `take` is that of [`TakeEnd`](crate::TakeEnd); the step call here makes one
 /// atomic step of it.
@@ -49,24 +30,35 @@ impl<'a> Model for TakeCore<'a> {
 pub struct Taker<'a, O: Oracle + Drop> {
     // unused, as `after` is: they keep other values off the cache lines of this one
     pub(crate) before: [u64; 8],
-    pub(crate) core: TakeCore<'a>,
+    pub(crate) stepper: Stepper<'a, Flickering>,
+    pub(crate) machine: Consumer,
+    // how many events of the take under way the list has, and 0 where none is under way
+    pub(crate) steps: u64,
     pub(crate) oracle: O,
     pub(crate) after: [u64; 8],
 }
 
 impl<'a, O: Oracle + Drop> Model for Taker<'a, O> {
-    ghost use Rattle.ring_run.specs.Ends.{TakerState};
+    ghost use Rattle.ring_core.specs.ConsumerState.{is_taking};
+    ghost use Rattle.ring_run.specs.Ends.{TakerState, whole_take};
+    ghost use Rattle.ring_run.specs.Machines.{IsMarked, IsMachine, consuming, without_last, longest_taking};
 
     ghost Value = { TakerState O };
 
-    ghost view = { λ p. record { end = p.core.end; taking = p.core.taking; start = p.core.start; oracle = p.oracle } };
+    ghost view = { λ p. record { end = p.stepper; taking = is_taking p.machine; start = without_last p.steps p.stepper.list; oracle = p.oracle } };
+
+    ghost invariant = { λ p. IsMachine consuming p.stepper p.machine (whole_take (is_taking p.machine) p.stepper.list (without_last p.steps p.stepper.list)) × IsMarked p.steps p.stepper.list (longest_taking p.machine.shape (is_taking p.machine)) };
 }
 
 // One step of the take under way.
-fn advance<'a, O: Oracle>(stepper: &mut Stepper<'a>, machine: &mut Consumer, oracle: &mut O)
-    requires at { (calls : Takes) × (made : List Made) × TakerAt stepper.old machine.old calls made }
+fn advance<'a, O: Oracle>(
+    stepper: &mut Stepper<'a, Flickering>,
+    machine: &mut Consumer,
+    oracle: &mut O,
+)
+    requires at { (calls : Takes) × (made : List Made) × MachineAt consuming stepper.old machine.old calls made }
     ensures rests { is_taking machine.old ≡ false → (machine.new ≡ machine.old) × (stepper.new ≡ stepper.old) }
-    ensures steps { (calls : Takes) (made : List Made) → TakerAt stepper.old machine.old calls made → is_taking machine.old ≡ true → TakerStep stepper.old machine.old stepper.new machine.new calls }
+    ensures steps { (calls : Takes) (made : List Made) → MachineAt consuming stepper.old machine.old calls made → is_taking machine.old ≡ true → MachineStep consuming stepper.old machine.old stepper.new machine.new calls }
     ensures oracle { IsAskedOnce O.answers oracle.old oracle.new }
     ensures answered { AreAnswered stepper.old stepper.new (O.answers oracle.old) (O.answers oracle.new) }
 {
@@ -83,12 +75,16 @@ fn advance<'a, O: Oracle>(stepper: &mut Stepper<'a>, machine: &mut Consumer, ora
 
 // The rest of a scan of the take under way, where one is.
 #[inline(always)]
-fn finish_scan<'a, O: Oracle>(stepper: &mut Stepper<'a>, machine: &mut Consumer, oracle: &mut O)
-    requires goes { is_taking machine.old ≡ true → (calls : Takes) × TakerIn stepper.old machine.old calls }
+fn finish_scan<'a, O: Oracle>(
+    stepper: &mut Stepper<'a, Flickering>,
+    machine: &mut Consumer,
+    oracle: &mut O,
+)
+    requires goes { is_taking machine.old ≡ true → (calls : Takes) × MachineIn consuming stepper.old machine.old calls tt }
     ensures same { IsSameEnd stepper.old stepper.new }
     ensures longer { length stepper.old.list ≤ length stepper.new.list }
     ensures rests { is_taking machine.old ≡ false → (machine.new ≡ machine.old) × (stepper.new ≡ stepper.old) }
-    ensures goes { (calls : Takes) → TakerIn stepper.old machine.old calls → TakerIn stepper.new machine.new calls }
+    ensures goes { (calls : Takes) → MachineIn consuming stepper.old machine.old calls tt → MachineIn consuming stepper.new machine.new calls tt }
     ensures answered { AreAnswered stepper.old stepper.new (O.answers oracle.old) (O.answers oracle.new) }
 {
     laws_below();
@@ -111,12 +107,16 @@ fn finish_scan<'a, O: Oracle>(stepper: &mut Stepper<'a>, machine: &mut Consumer,
 
 // The rest of the word of the take under way, where one is read.
 #[inline(always)]
-fn read_word<'a, O: Oracle>(stepper: &mut Stepper<'a>, machine: &mut Consumer, oracle: &mut O)
-    requires goes { is_taking machine.old ≡ true → (calls : Takes) × TakerIn stepper.old machine.old calls }
+fn read_word<'a, O: Oracle>(
+    stepper: &mut Stepper<'a, Flickering>,
+    machine: &mut Consumer,
+    oracle: &mut O,
+)
+    requires goes { is_taking machine.old ≡ true → (calls : Takes) × MachineIn consuming stepper.old machine.old calls tt }
     ensures same { IsSameEnd stepper.old stepper.new }
     ensures longer { length stepper.old.list ≤ length stepper.new.list }
     ensures rests { is_taking machine.old ≡ false → (machine.new ≡ machine.old) × (stepper.new ≡ stepper.old) }
-    ensures goes { (calls : Takes) → TakerIn stepper.old machine.old calls → TakerIn stepper.new machine.new calls }
+    ensures goes { (calls : Takes) → MachineIn consuming stepper.old machine.old calls tt → MachineIn consuming stepper.new machine.new calls tt }
     ensures answered { AreAnswered stepper.old stepper.new (O.answers oracle.old) (O.answers oracle.new) }
 {
     laws_below();
@@ -139,12 +139,16 @@ fn read_word<'a, O: Oracle>(stepper: &mut Stepper<'a>, machine: &mut Consumer, o
 
 // The rest of the count of the take under way, where it is written.
 #[inline(always)]
-fn write_count<'a, O: Oracle>(stepper: &mut Stepper<'a>, machine: &mut Consumer, oracle: &mut O)
-    requires goes { is_taking machine.old ≡ true → (calls : Takes) × TakerIn stepper.old machine.old calls }
+fn write_count<'a, O: Oracle>(
+    stepper: &mut Stepper<'a, Flickering>,
+    machine: &mut Consumer,
+    oracle: &mut O,
+)
+    requires goes { is_taking machine.old ≡ true → (calls : Takes) × MachineIn consuming stepper.old machine.old calls tt }
     ensures same { IsSameEnd stepper.old stepper.new }
     ensures longer { length stepper.old.list ≤ length stepper.new.list }
     ensures rests { is_taking machine.old ≡ false → (machine.new ≡ machine.old) × (stepper.new ≡ stepper.old) }
-    ensures goes { (calls : Takes) → TakerIn stepper.old machine.old calls → TakerIn stepper.new machine.new calls }
+    ensures goes { (calls : Takes) → MachineIn consuming stepper.old machine.old calls tt → MachineIn consuming stepper.new machine.new calls tt }
     ensures answered { AreAnswered stepper.old stepper.new (O.answers oracle.old) (O.answers oracle.new) }
 {
     laws_below();
@@ -161,11 +165,15 @@ fn write_count<'a, O: Oracle>(stepper: &mut Stepper<'a>, machine: &mut Consumer,
 
 // The accesses of the take under way, to its end.
 #[inline(always)]
-fn finish<'a, O: Oracle>(stepper: &mut Stepper<'a>, machine: &mut Consumer, oracle: &mut O)
-    requires ready { (calls : Takes) × TakerReady stepper.old machine.old calls }
+fn finish<'a, O: Oracle>(
+    stepper: &mut Stepper<'a, Flickering>,
+    machine: &mut Consumer,
+    oracle: &mut O,
+)
+    requires ready { (calls : Takes) × MachineReady consuming stepper.old machine.old calls }
     ensures same { IsSameEnd stepper.old stepper.new }
     ensures rests { is_taking machine.old ≡ false → (machine.new ≡ machine.old) × (stepper.new ≡ stepper.old) }
-    ensures over { (calls : Takes) → TakerReady stepper.old machine.old calls → is_taking machine.old ≡ true → TakerOver stepper.new machine.new calls }
+    ensures over { (calls : Takes) → MachineReady consuming stepper.old machine.old calls → is_taking machine.old ≡ true → MachineOver consuming stepper.new machine.new calls tt }
     ensures answered { AreAnswered stepper.old stepper.new (O.answers oracle.old) (O.answers oracle.new) }
 {
     laws_below();
@@ -201,58 +209,10 @@ fn steps_behind(steps: u64, machine: &Consumer) -> u64
 #[inline(always)]
 fn begin_take(machine: &mut Consumer)
     requires stands { (calls : Takes) × (made : List Made) × ConsumerStands machine.old calls made }
-    ensures begins { (calls : Takes) (made : List Made) → ConsumerStands machine.old calls made → TakeWasBegun machine.old machine.new calls made }
+    ensures begins { (calls : Takes) (made : List Made) → ConsumerStands machine.old calls made → CallBegins consuming machine.old machine.new calls made tt }
 {
     if machine.next().is_none() {
         machine.take();
-    }
-}
-
-impl<'a> TakeCore<'a> {
-    // The shape of the ring.
-    pub(crate) fn shape(&self) -> Shape
-        ensures shape { result ≡ self.now.end.ring.shape }
-        ensures lawful { StandsAs C self.now.end }
-    {
-        self.stepper.ring.shape()
-    }
-
-    // One step of a take, which begins where none is under way. The reply comes with the last step. Once a
-    // take was told `Closed`, each is answered so at once, with no step.
-    fn step_take<O: Oracle>(&mut self, oracle: &mut O) -> Option<TakeReply>
-        ensures same { IsSameEnd self.old.end self.new.end }
-        ensures lawful { StandsAs C self.new.end }
-        ensures one { ((result ≡ Some Closed) × (self.new.end ≡ self.old.end)) ⊎ ((e : Event) × Grows self.old.end self.new.end e) }
-        ensures none { IfNone result ((self.new.taking ≡ true) × (takes_whole self.new ≡ takes_whole self.old) × HasTakePart self.new.end.ring.shape (takes_whole self.new) self.new.end.list) }
-        ensures some { IfSome result (λ r. (self.new.taking ≡ false) × HasTaken self.new.end.ring.shape (takes_whole self.old) self.new.end.list r) }
-        ensures few { length self.new.end.list ≤ length (takes_whole self.old) + 2 * longest_take self.new.end.ring.shape }
-        ensures oracle { IsAskedOnce O.answers oracle.old oracle.new }
-        ensures answered { AreAnswered self.old.end self.new.end (O.answers oracle.old) (O.answers oracle.new) }
-    {
-        laws_below();
-        begin_take(&mut self.machine);
-        advance(&mut self.stepper, &mut self.machine, oracle);
-        self.steps = steps_behind(self.steps, &self.machine);
-        self.machine.reply()
-    }
-}
-
-impl<'a> TakeCore<'a> {
-    // Takes an item, or finds the ring empty or closed.
-    fn take<O: Oracle>(&mut self, oracle: &mut O) -> TakeReply
-        requires idle { self.old.taking ≡ false }
-        ensures same { IsSameEnd self.old.end self.new.end }
-        ensures lawful { StandsAs C self.new.end }
-        ensures idle { self.new.taking ≡ false }
-        ensures phrase { HasTaken self.new.end.ring.shape self.old.end.list self.new.end.list result }
-        ensures answered { AreAnswered self.old.end self.new.end (O.answers oracle.old) (O.answers oracle.new) }
-    {
-        begin_take(&mut self.machine);
-        finish(&mut self.stepper, &mut self.machine, oracle);
-        match self.machine.reply() {
-            Some(reply) => reply,
-            None => unreachable!(),
-        }
     }
 }
 
@@ -269,18 +229,34 @@ impl<'a, O: Oracle + Drop> Taker<'a, O> {
         ensures oracle { IsAskedOnce O.answers self.old.oracle self.new.oracle }
         ensures answered { AreAnswered self.old.end self.new.end (O.answers self.old.oracle) (O.answers self.new.oracle) }
     {
-        self.core.step_take(&mut self.oracle)
+        laws_below();
+        begin_take(&mut self.machine);
+        advance(&mut self.stepper, &mut self.machine, &mut self.oracle);
+        self.steps = steps_behind(self.steps, &self.machine);
+        self.machine.reply()
+    }
+}
+
+impl<'a, O: Oracle + Drop> TakeEnd for Taker<'a, O> {
+    ghost use Rattle.std.specs.Prelude.{◌≡◌, false};
+    ghost use Rattle.ring_run.specs.Steppers.{AreAnswered};
+
+    ghost end = { λ p. p.end };
+
+    ghost idle = { λ p. p.taking ≡ false };
+
+    ghost answered = { λ p q. AreAnswered p.end q.end (O.answers p.oracle) (O.answers q.oracle) };
+
+    fn shape(&self) -> Shape {
+        self.stepper.ring.shape()
     }
 
-    // Takes an item, or finds the ring empty or closed.
-    pub(crate) fn take_item(&mut self) -> TakeReply
-        requires idle { self.old.taking ≡ false }
-        ensures same { IsSameEnd self.old.end self.new.end }
-        ensures lawful { StandsAs C self.new.end }
-        ensures idle { self.new.taking ≡ false }
-        ensures phrase { HasTaken self.new.end.ring.shape self.old.end.list self.new.end.list result }
-        ensures answered { AreAnswered self.old.end self.new.end (O.answers self.old.oracle) (O.answers self.new.oracle) }
-    {
-        self.core.take(&mut self.oracle)
+    fn take(&mut self) -> TakeReply {
+        begin_take(&mut self.machine);
+        finish(&mut self.stepper, &mut self.machine, &mut self.oracle);
+        match self.machine.reply() {
+            Some(reply) => reply,
+            None => unreachable!(),
+        }
     }
 }

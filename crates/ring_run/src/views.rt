@@ -2,7 +2,7 @@
 ghost use Rattle.std.specs.Prelude.{ℕ};
 
 use atomic_table::{Join, Play, Split, TableRule};
-use bits_core::{Event, Shape};
+use bits_core::{Access, Event, Shape};
 use std::collections::LinkedList;
 use std::marker::{Brand, PhantomData};
 
@@ -36,23 +36,94 @@ pub struct View {
     pub loads: LinkedList<Loads>,
 }
 
-/// The rule of a flickering ring's table, for the shape that is the table's key. It holds between any two atomic steps
-/// of whichever thread, for each step has to keep it. There is one lawful history of safe bits whose two sides follow
-/// their programs, such that
-/// - the words show it: the word of a bit is 2 where a write of the bit is open, else what the bit holds;
+/// A kind of ring: how many words a ring of a shape has, and what they show of a history. It stands in contracts and in types
+/// alone: no value of it is made.
+pub trait Kind {
+    ghost use Rattle.std.specs.Prelude.{ℕ, List};
+    ghost use Rattle.bits_core.specs.declared.shapes.Shape.{Shape};
+    ghost use Rattle.bits_core.specs.declared.events.Event.{Event};
+
+    ghost count: { Shape → ℕ };
+
+    ghost shows: { Shape → List ℕ → List Event → Type 0 };
+}
+
+/// What the ends of a kind of ring keep of an access that is open.
+pub trait Keeping: Kind {
+    ghost use Rattle.std.specs.Prelude.{◌≡◌, None};
+    ghost use Rattle.bits_core.specs.declared.events.Side.{Side};
+    ghost use Rattle.bits_core.specs.History.{open_access};
+    ghost use Rattle.ring_run.specs.declared.views.View.{View};
+    ghost use Rattle.ring_run.specs.Rule.{list_of};
+
+    /// What an end keeps.
+    type Kept: Drop;
+
+    // It is what the view of a seat of the side has.
+    ghost keeps: { Self.Kept → Side → View → Type 0 };
+
+    /// What an end keeps that has no access open.
+    fn nothing() -> Self::Kept
+        ensures { (x : Side) (v : View) → open_access x (list_of x v) ≡ None → v.first ≡ 0 → keeps result x v };
+}
+
+/// The rule of a ring's table, for the shape that is the table's key. It holds between any two atomic steps of whichever
+/// thread, for each step has to keep it. There is one lawful history of safe bits whose two sides follow their programs, such
+/// that
+/// - the words show it, as the kind of ring has it;
 /// - for each side of the ring there is one seat that may step for it, and no other, and that seat's list is the
 ///   history's events of the side;
 /// - it begins with what the two sides knew at their last meeting;
 /// - where a read is open, the load that its seat keeps is what the word showed where the read began.
-pub struct FlickerRule;
+pub struct RuleOf<K> {
+    kind: PhantomData<K>,
+}
 
-impl TableRule<(), View, Shape> for FlickerRule {
+impl<K: Kind> TableRule<(), View, Shape> for RuleOf<K> {
     ghost use Rattle.std.specs.Prelude.{[]};
-    ghost use Rattle.ring_run.specs.Rule.{KeepsFlickerRule, joint};
+    ghost use Rattle.ring_run.specs.Rule.{KeptBy, joint};
 
-    ghost holds = { KeepsFlickerRule };
+    ghost holds = { KeptBy K.count K.shows };
 
     ghost first = { λ _. joint [] [] [] [] };
+}
+
+/// The kind of a flickering ring: the word of a bit is 2 where a write of the bit is open, else what the bit holds.
+pub struct Flickering;
+
+/// The rule of a flickering ring's table.
+pub type FlickerRule = RuleOf<Flickering>;
+
+/// What an end of a flickering ring keeps: its open access, and the first load of its open read.
+#[derive(Drop)]
+pub struct Opened {
+    pub(crate) access: Option<Access>,
+    pub(crate) first: u64,
+}
+
+impl Kind for Flickering {
+    ghost use Rattle.ring_run.specs.Words.{word_count, Shows};
+
+    ghost count = { word_count };
+
+    ghost shows = { Shows };
+}
+
+impl Keeping for Flickering {
+    ghost use Rattle.std.specs.Prelude.{◌≡◌};
+    ghost use Rattle.bits_core.specs.History.{open_access};
+    ghost use Rattle.ring_run.specs.Rule.{list_of};
+
+    type Kept = Opened;
+
+    ghost keeps = { λ o x v. (v.first ≡ o.first) × (o.access ≡ open_access x (list_of x v)) };
+
+    fn nothing() -> Opened {
+        Opened {
+            access: None,
+            first: 0,
+        }
+    }
 }
 
 // What a step adds to the list of its seat.
@@ -99,14 +170,15 @@ impl<N: AddedEvent> Play<(), View> for Learns<N> {
 }
 
 // A load by no end, which finds the word of a state that keeps the rule.
-pub struct Finds<N> {
+pub struct Finds<K, N> {
+    kind: PhantomData<K>,
     note: PhantomData<N>,
 }
 
-impl<N: AddedEvent> Play<(), View> for Finds<N> {
-    ghost use Rattle.ring_run.specs.Rule.{KeepsFlickerRule, IsWordFound};
+impl<K: Kind, N: AddedEvent> Play<(), View> for Finds<K, N> {
+    ghost use Rattle.ring_run.specs.Rule.{KeptBy, IsWordFound};
 
-    ghost then = { λ step _ n _. IsWordFound (KeepsFlickerRule N.shape) step.word n };
+    ghost then = { λ step _ n _. IsWordFound (KeptBy K.count K.shows N.shape) step.word n };
 }
 
 // The joint view is cut in two.

@@ -3,41 +3,38 @@ ghost use Rattle.std.specs.Prelude.{◌≡◌, ℕ, ◌<◌, true, []};
 ghost use Rattle.atomic_table.specs.Table.{Allows};
 ghost use Rattle.bits_core.specs.declared.events.Side.TheVariants.{P, C};
 ghost use Rattle.bits_core.specs.Shape.{belongs};
-ghost use Rattle.ring_run.specs.Rule.{KeepsFlickerRule, Added, Learned, Holds, IsWordFound, IsIdle, joint, joined, putter_of, taker_of};
+ghost use Rattle.ring_run.specs.Rule.{KeepsFlickerRule, KeptBy, Added, Learned, Holds, IsWordFound, IsIdle, joint, joined, putter_of, taker_of};
 ghost use Rattle.ring_run.specs.Words.{word_place};
 
 use crate::below::laws_below;
 use crate::layout::place_of;
-use crate::views::{AddedEvent, Adds, Both, Cut, Finds, FlickerRule, Learns, View};
+use crate::views::{AddedEvent, Adds, Both, Cut, Finds, Flickering, Kind, Learns, RuleOf, View};
 use atomic_table::{Seat, Shared};
 use bits_core::{Bit, Shape, Side};
 use std::marker::{Brand, Model};
 
 // The words of a ring, by which one of its ends steps. To a contract they are that ring.
 #[derive(Drop)]
-pub struct Words<'a> {
-    shared: &'a Shared<(), View, Shape, FlickerRule>,
+pub struct Words<'a, K: Kind> {
+    pub(crate) shared: &'a Shared<(), View, Shape, RuleOf<K>>,
     shape: Shape,
 }
 
-impl<'a> Model for Words<'a> {
-    ghost use Rattle.std.specs.Prelude.{◌≡◌};
-    ghost use Rattle.ring_run.specs.Words.{word_count};
+impl<'a, K: Kind> Model for Words<'a, K> {
+    ghost use Rattle.std.specs.Prelude.{◌≡◌, ◌<◌};
     ghost use Rattle.ring_run.specs.Ring.{Ring};
 
     ghost Value = { Ring };
 
     ghost view = { λ w. record { shape = w.shape; id = w.shared.now.table_id } };
 
-    ghost invariant = { λ w. (w.shared.now.key ≡ w.shape) × (w.shared.now.table_id.words ≡ word_count w.shape) };
+    ghost invariant = { λ w. (w.shared.now.key ≡ w.shape) × (w.shared.now.table_id.words ≡ K.count w.shape) × (0 < K.count w.shape) };
 }
 
-impl<'a> Words<'a> {
-    ghost use Rattle.ring_run.specs.Words.{word_count};
-
+impl<'a, K: Kind> Words<'a, K> {
     // The words of a table whose key is the shape.
-    pub(crate) fn of(shared: &'a Shared<(), View, Shape, FlickerRule>, shape: Shape) -> Words<'a>
-        requires { (shared.now.key ≡ shape) × (shared.now.table_id.words ≡ word_count shape) }
+    pub(crate) fn of(shared: &'a Shared<(), View, Shape, RuleOf<K>>, shape: Shape) -> Words<'a, K>
+        requires { (shared.now.key ≡ shape) × (shared.now.table_id.words ≡ K.count shape) × (0 < K.count shape) }
         ensures { result ≡ record { shape = shape; id = shared.now.table_id } }
     {
         Words { shared, shape }
@@ -45,7 +42,7 @@ impl<'a> Words<'a> {
 
     // The same words, held where an access keeps them at hand.
     #[inline(always)]
-    pub(crate) fn again(&self) -> Words<'a>
+    pub(crate) fn again(&self) -> Words<'a, K>
         ensures { result ≡ self.now }
     {
         Words {
@@ -61,96 +58,13 @@ impl<'a> Words<'a> {
         self.shape
     }
 
-    // The place of the bit's word.
-    #[inline(always)]
-    pub(crate) fn word_of(&self, bit: Bit) -> usize
-        requires { belongs self.now.shape bit ≡ true }
-        ensures { result ≡ word_place self.now.shape bit }
-    {
-        place_of(&self.shape, bit)
-    }
-
-    // A load. `side` and `about` are for the proof.
-    pub(crate) fn load_noted<N: AddedEvent, T>(
-        &self,
-        seat: &mut Seat<(), View>,
-        bit: Bit,
-        side: Side,
-        about: &T,
-    ) -> u64
-        requires own { (seat.old.table_id ≡ self.now.id) × (belongs self.now.shape bit ≡ true) }
-        requires rule { (slots : ℕ) → Allows (KeepsFlickerRule self.now.shape) slots seat.old.id seat.old.me (word_place self.now.shape bit) (λ n. n) (Added N.shape N.event seat.old.me) }
-        ensures same { (seat.new.table_id ≡ seat.old.table_id) × (seat.new.id ≡ seat.old.id) }
-        ensures added { Added N.shape N.event seat.old.me result seat.new.me }
-    {
-        let word = self.word_of(bit);
-        self.load_at::<N, T>(seat, word, bit, side, about)
-    }
-
-    // The same at the word of the bit.
-    #[inline(always)]
-    pub(crate) fn load_at<N: AddedEvent, T>(
-        &self,
-        seat: &mut Seat<(), View>,
-        word: usize,
-        bit: Bit,
-        side: Side,
-        about: &T,
-    ) -> u64
-        requires own { (seat.old.table_id ≡ self.now.id) × (belongs self.now.shape bit ≡ true) }
-        requires place { word ≡ word_place self.now.shape bit }
-        requires rule { (slots : ℕ) → Allows (KeepsFlickerRule self.now.shape) slots seat.old.id seat.old.me (word_place self.now.shape bit) (λ n. n) (Added N.shape N.event seat.old.me) }
-        ensures same { (seat.new.table_id ≡ seat.old.table_id) × (seat.new.id ≡ seat.old.id) }
-        ensures added { Added N.shape N.event seat.old.me result seat.new.me }
-    {
-        self.shared.load::<Adds<N>>(seat, word)
-    }
-
-    // A store.
-    pub(crate) fn store_noted<N: AddedEvent, T>(
-        &self,
-        seat: &mut Seat<(), View>,
-        bit: Bit,
-        side: Side,
-        about: &T,
-        new: u64,
-    )
-        requires own { (seat.old.table_id ≡ self.now.id) × (belongs self.now.shape bit ≡ true) }
-        requires rule { (slots : ℕ) → Allows (KeepsFlickerRule self.now.shape) slots seat.old.id seat.old.me (word_place self.now.shape bit) (λ _. new) (λ _. Added N.shape N.event seat.old.me new) }
-        ensures same { (seat.new.table_id ≡ seat.old.table_id) × (seat.new.id ≡ seat.old.id) }
-        ensures added { Added N.shape N.event seat.old.me new seat.new.me }
-    {
-        let word = self.word_of(bit);
-        self.store_at::<N, T>(seat, word, bit, side, about, new);
-    }
-
-    // The same at the word of the bit.
-    #[inline(always)]
-    pub(crate) fn store_at<N: AddedEvent, T>(
-        &self,
-        seat: &mut Seat<(), View>,
-        word: usize,
-        bit: Bit,
-        side: Side,
-        about: &T,
-        new: u64,
-    )
-        requires own { (seat.old.table_id ≡ self.now.id) × (belongs self.now.shape bit ≡ true) }
-        requires place { word ≡ word_place self.now.shape bit }
-        requires rule { (slots : ℕ) → Allows (KeepsFlickerRule self.now.shape) slots seat.old.id seat.old.me (word_place self.now.shape bit) (λ _. new) (λ _. Added N.shape N.event seat.old.me new) }
-        ensures same { (seat.new.table_id ≡ seat.old.table_id) × (seat.new.id ≡ seat.old.id) }
-        ensures added { Added N.shape N.event seat.old.me new seat.new.me }
-    {
-        self.shared.store::<Adds<N>>(seat, word, new);
-    }
-
     // A load by no end.
     pub(crate) fn find<N: AddedEvent>(&self, word: usize) -> u64
-        requires own { word < word_count self.now.shape }
+        requires own { word < K.count self.now.shape }
         requires shape { N.shape ≡ self.now.shape }
-        ensures { IsWordFound (KeepsFlickerRule self.now.shape) word result }
+        ensures { IsWordFound (KeptBy K.count K.shows self.now.shape) word result }
     {
-        let (found, _seat) = self.shared.load_new_seat::<Finds<N>>(word);
+        let (found, _seat) = self.shared.load_new_seat::<Finds<K, N>>(word);
         found
     }
 
@@ -196,5 +110,57 @@ impl<'a> Words<'a> {
     {
         self.unite(seat, other);
         self.learn::<Brand>(seat);
+    }
+}
+
+impl<'a> Words<'a, Flickering> {
+    ghost use Rattle.ring_run.specs.Words.{word_count};
+
+    // The place of the bit's word.
+    #[inline(always)]
+    pub(crate) fn word_of(&self, bit: Bit) -> usize
+        requires { belongs self.now.shape bit ≡ true }
+        ensures { result ≡ word_place self.now.shape bit }
+    {
+        place_of(&self.shape, bit)
+    }
+
+    // A load, at the word of the bit. `side` and `about` are for the proof.
+    #[inline(always)]
+    pub(crate) fn load_at<N: AddedEvent, T>(
+        &self,
+        seat: &mut Seat<(), View>,
+        word: usize,
+        bit: Bit,
+        side: Side,
+        about: &T,
+    ) -> u64
+        requires own { (seat.old.table_id ≡ self.now.id) × (belongs self.now.shape bit ≡ true) }
+        requires place { word ≡ word_place self.now.shape bit }
+        requires rule { (slots : ℕ) → Allows (KeepsFlickerRule self.now.shape) slots seat.old.id seat.old.me (word_place self.now.shape bit) (λ n. n) (Added N.shape N.event seat.old.me) }
+        ensures same { (seat.new.table_id ≡ seat.old.table_id) × (seat.new.id ≡ seat.old.id) }
+        ensures added { Added N.shape N.event seat.old.me result seat.new.me }
+    {
+        self.shared.load::<Adds<N>>(seat, word)
+    }
+
+    // A store, at the word of the bit.
+    #[inline(always)]
+    pub(crate) fn store_at<N: AddedEvent, T>(
+        &self,
+        seat: &mut Seat<(), View>,
+        word: usize,
+        bit: Bit,
+        side: Side,
+        about: &T,
+        new: u64,
+    )
+        requires own { (seat.old.table_id ≡ self.now.id) × (belongs self.now.shape bit ≡ true) }
+        requires place { word ≡ word_place self.now.shape bit }
+        requires rule { (slots : ℕ) → Allows (KeepsFlickerRule self.now.shape) slots seat.old.id seat.old.me (word_place self.now.shape bit) (λ _. new) (λ _. Added N.shape N.event seat.old.me new) }
+        ensures same { (seat.new.table_id ≡ seat.old.table_id) × (seat.new.id ≡ seat.old.id) }
+        ensures added { Added N.shape N.event seat.old.me new seat.new.me }
+    {
+        self.shared.store::<Adds<N>>(seat, word, new);
     }
 }

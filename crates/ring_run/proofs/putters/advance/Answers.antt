@@ -1,6 +1,7 @@
 use Rattle.std.proofs.Common.{refl, sym}
-use Rattle.ring_core.specs.ProducerState.{call_of}
-use Rattle.ring_run.proofs.PutterMoves.{next_of, right_there, can_there, one_there, begun, ended}
+use Rattle.ring_run.specs.Machines.{producing}
+use Rattle.ring_run.proofs.MachineMoves.{right_there, can_there, one_there, begun, ended}
+use Rattle.ring_run.proofs.PutterCalls.{next_put, put_laws}
 use Rattle.ring_run.proofs.putters.advance.Goals as goal
 
 pub step-requires-clause-right : goal.step-requires-clause-right
@@ -8,8 +9,7 @@ step-requires-clause-right g c =
     let calls = c.requires.at.0 in
     let made = c.requires.at.1 in
     let at = c.requires.at.2 in
-    let e = c.in-Some.ensures in
-    right_there c.args.stepper.now c.args.machine.now calls made at c.in-Some.access e.right
+    right_there producing c.args.stepper.now c.args.machine.now calls made at c.in-Some.access c.in-Some.ensures.right
 
 pub step-requires-clause-can : goal.step-requires-clause-can
 step-requires-clause-can g c =
@@ -18,7 +18,8 @@ step-requires-clause-can g c =
     let at = c.requires.at.2 in
     let e = c.in-Some.ensures in
     let x = c.expects_one-expects in
-    can_there c.laws_below.ensures c.args.stepper.now c.args.machine.now calls made at c.in-Some.access (sym e.due) (next_of c.args.machine.now.shape calls (call_of c.args.machine.now) made c.in-Some.access (e.goes_on calls made c.in-Some.access at.stands refl) (λ one is. e.bounded calls made one at.stands is)) x.result x.ensures.due (x.ensures.stands calls made at.stands)
+    let next = next_put c.args.machine.now calls made c.in-Some.access (e.goes_on calls made c.in-Some.access at.stands refl) (λ one is. e.bounded calls made one at.stands is) in
+    can_there c.laws_below.ensures producing put_laws c.args.stepper.now c.args.machine.now calls made at c.in-Some.access (sym e.due) next x.result x.ensures.due (x.ensures.stands calls made at.stands)
 
 pub feed-requires-clause-one : goal.feed-requires-clause-one
 feed-requires-clause-one g c =
@@ -27,17 +28,20 @@ feed-requires-clause-one g c =
     let at = c.requires.at.2 in
     let e = c.in-Some.ensures in
     let x = c.expects_one-expects in
-    one_there c.laws_below.ensures c.args.stepper.now c.args.machine.now calls made at c.in-Some.access (sym e.due) (next_of c.args.machine.now.shape calls (call_of c.args.machine.now) made c.in-Some.access (e.goes_on calls made c.in-Some.access at.stands refl) (λ one is. e.bounded calls made one at.stands is)) x.result x.ensures.due (x.ensures.stands calls made at.stands) c.step.new.self c.in-Some-step.answer c.in-Some-step.ensures.stepped
+    let next = next_put c.args.machine.now calls made c.in-Some.access (e.goes_on calls made c.in-Some.access at.stands refl) (λ one is. e.bounded calls made one at.stands is) in
+    one_there c.laws_below.ensures producing put_laws c.args.stepper.now c.args.machine.now calls made at c.in-Some.access (sym e.due) next x.result x.ensures.due (x.ensures.stands calls made at.stands) c.step.new.self c.in-Some-step.answer c.in-Some-step.ensures.stepped
 
 pub returns-in-None-step-clause-steps : goal.returns-in-None-step-clause-steps
-returns-in-None-step-clause-steps g c calls made at busy =
+returns-in-None-step-clause-steps g c calls made at call busy =
     let e = c.in-Some.ensures in
     let x = c.expects_one-expects in
-    begun c.laws_below.ensures c.args.stepper.now c.args.machine.now calls made at c.in-Some.access (sym e.due) (next_of c.args.machine.now.shape calls (call_of c.args.machine.now) made c.in-Some.access (e.goes_on calls made c.in-Some.access at.stands refl) (λ one is. e.bounded calls made one at.stands is)) x.result x.ensures.due (x.ensures.stands calls made at.stands) c.step.new.self c.in-None-step.ensures.stepped busy
+    let next = next_put c.args.machine.now calls made c.in-Some.access (e.goes_on calls made c.in-Some.access at.stands refl) (λ one is. e.bounded calls made one at.stands is) in
+    begun c.laws_below.ensures producing put_laws c.args.stepper.now c.args.machine.now calls made at c.in-Some.access (sym e.due) next x.result x.ensures.due (x.ensures.stands calls made at.stands) c.step.new.self c.in-None-step.ensures.stepped
 
 pub returns-in-Some-step-clause-steps : goal.returns-in-Some-step-clause-steps
-returns-in-Some-step-clause-steps g c calls made at busy =
+returns-in-Some-step-clause-steps g c calls made at call busy =
+    let moved = c.feed.ensures.stands calls made c.in-Some.access at.stands (sym c.in-Some.ensures.due) in
     let e = c.in-Some.ensures in
     let x = c.expects_one-expects in
-    ended c.laws_below.ensures c.args.stepper.now c.args.machine.now calls made at c.in-Some.access (sym e.due) (next_of c.args.machine.now.shape calls (call_of c.args.machine.now) made c.in-Some.access (e.goes_on calls made c.in-Some.access at.stands refl) (λ one is. e.bounded calls made one at.stands is)) x.result x.ensures.due (x.ensures.stands calls made at.stands) c.step.new.self c.in-Some-step.answer c.in-Some-step.ensures.stepped
-    c.feed.new.self c.feed.ensures.shape (c.feed.ensures.stands calls made c.in-Some.access at.stands (sym e.due))
+    let next = next_put c.args.machine.now calls made c.in-Some.access (e.goes_on calls made c.in-Some.access at.stands refl) (λ one is. e.bounded calls made one at.stands is) in
+    ended c.laws_below.ensures producing put_laws c.args.stepper.now c.args.machine.now calls made at c.in-Some.access (sym e.due) next x.result x.ensures.due (x.ensures.stands calls made at.stands) c.step.new.self c.in-Some-step.answer c.in-Some-step.ensures.stepped c.feed.new.self c.feed.ensures.shape moved.0 moved.1 moved.2

@@ -2,9 +2,12 @@ use Rattle.std.proofs.Common.{refl, ap, sym, ◌∙◌, arith, length}
 use Rattle.ring_core.specs.declared.producers.Stage.TheVariants.{Counting}
 use Rattle.ring_core.specs.ProducerState.{Put, call_of}
 use Rattle.ring_run.proofs.Accesses.{longer, same}
-use Rattle.ring_run.proofs.PutterMoves.{right_there}
-use Rattle.ring_run.proofs.PutterWhole.{at_call, busy_at, can_go, count_due, goes_in, went}
+use Rattle.ring_run.proofs.MachineMoves.{right_there}
+use Rattle.ring_run.proofs.PutterCalls.{next_puts, busy_at, put_laws}
+use Rattle.ring_run.proofs.MachineWhole.{can_go, goes_in, went}
+use Rattle.ring_run.proofs.PutterWhole.{at_call, count_due}
 use Rattle.ring_run.proofs.Answered.{answered_then}
+use Rattle.ring_run.specs.Machines.{producing}
 use Rattle.ring_run.proofs.putters.write_count.Goals as goal
 
 pub make-answer-requires-clause-right : goal.make-answer-requires-clause-right
@@ -16,8 +19,8 @@ make-answer-requires-clause-right g c =
     let i = c.in-Some.ensures in
     let a = c.in-Some.access in
     let x = c.expects_one-expects in
-    let on = goes_in e n calls one (Put n.items) (c.writes.invariant.5 calls one was) (at_call n Counting (Put n.items) (c.is_counting.ensures.0 c.writes-test.true) refl) in
-    right_there e n calls on.made on.at a i.right
+    let on = goes_in producing put_laws e n calls one (Put n.items) (c.writes.invariant.5 calls one was) (at_call n Counting (Put n.items) (c.is_counting.ensures.0 c.writes-test.true) refl) in
+    right_there producing e n calls on.made on.at a i.right
 
 pub make-answer-requires-clause-can : goal.make-answer-requires-clause-can
 make-answer-requires-clause-can g c =
@@ -28,8 +31,8 @@ make-answer-requires-clause-can g c =
     let i = c.in-Some.ensures in
     let a = c.in-Some.access in
     let x = c.expects_one-expects in
-    let on = goes_in e n calls one (Put n.items) (c.writes.invariant.5 calls one was) (at_call n Counting (Put n.items) (c.is_counting.ensures.0 c.writes-test.true) refl) in
-    can_go c.laws_below.ensures e n calls one on a (sym i.due) (λ calls made stands. i.goes_on calls made a stands refl) i.bounded x.result x.ensures.due x.ensures.stands
+    let on = goes_in producing put_laws e n calls one (Put n.items) (c.writes.invariant.5 calls one was) (at_call n Counting (Put n.items) (c.is_counting.ensures.0 c.writes-test.true) refl) in
+    can_go c.laws_below.ensures producing put_laws e n calls one on a (sym i.due) (next_puts n a (λ calls made stands. i.goes_on calls made a stands refl) i.bounded calls on.made on.at.stands) x.result x.ensures.due x.ensures.stands
 
 pub writes-smaller : goal.writes-smaller
 writes-smaller g c =
@@ -54,8 +57,8 @@ writes-preserved g c =
       omega (arith, was.3, longer e b a m.result m.ensures.made),
       λ none. absurd (busy_at n (Put n.items) (at_call n Counting (Put n.items) (c.is_counting.ensures.0 c.writes-test.true) refl) (ap call_of (rests none).0 ∙ none)),
       λ calls one at.
-          let on = goes_in e n calls one (Put n.items) (c.writes.invariant.5 calls one at) (at_call n Counting (Put n.items) (c.is_counting.ensures.0 c.writes-test.true) refl) in
-          went c.laws_below.ensures e n calls one on a (sym i.due) (λ calls made stands. i.goes_on calls made a stands refl) i.bounded x.result x.ensures.due x.ensures.stands b m.result m.ensures.made
+          let on = goes_in producing put_laws e n calls one (Put n.items) (c.writes.invariant.5 calls one at) (at_call n Counting (Put n.items) (c.is_counting.ensures.0 c.writes-test.true) refl) in
+          went c.laws_below.ensures producing put_laws e n calls one on a (sym i.due) (next_puts n a (λ calls made stands. i.goes_on calls made a stands refl) i.bounded calls on.made on.at.stands) x.result x.ensures.due x.ensures.stands b m.result m.ensures.made
           c.feed_count.new.self c.feed_count.ensures.shape (c.feed_count.ensures.stands calls on.made a on.at.stands (sym i.due)),
       answered_then _ _ _ _ _ _ was.6 m.ensures.answered,
     )

@@ -1,15 +1,11 @@
-use Rattle.std.proofs.Common.{◌≡◌, ◌≤◌, ◌-◌, length}
-use Rattle.ring_core.specs.Puts.{Puts}
-use Rattle.ring_core.specs.ProducerState.{Call, IsProducerButWord}
-use Rattle.ring_run.specs.Steppers.{AreAnswered, IsSameEnd}
-use Rattle.ring_run.specs.Machines.{PutterGoes, PutterIn}
+use Rattle.std.proofs.Common.{◌≡◌, ◌-◌}
+use Rattle.ring_core.specs.ProducerState.{IsProducerButWord}
+use Rattle.ring_run.specs.Machines.{producing}
+use Rattle.ring_run.proofs.MachineWhole.{Phase}
 use Rattle.ring_run.proofs.putters.write_word.Given as goal
 
 abbrev pub invariant-writes : goal.invariant-writes
-invariant-writes g l =
-    (l.ring ≡ l.stepper.ring) × IsSameEnd l.fn.stepper l.stepper × (l.machine ≡ l.fn.machine) × IsProducerButWord l.machine l.word × (length l.fn.stepper.list ≤ length l.stepper.list) ×
-    ((calls : Puts) (c : Call) → PutterIn l.fn.stepper l.fn.machine calls c → PutterGoes l.stepper l.word calls c) ×
-    AreAnswered l.fn.stepper l.stepper (g.O.Oracle.answers l.fn.oracle) (g.O.Oracle.answers l.oracle)
+invariant-writes g l = Phase producing l.fn.stepper l.fn.machine l.ring l.stepper l.word (g.O.Oracle.answers l.fn.oracle) (g.O.Oracle.answers l.oracle) × (l.machine ≡ l.fn.machine) × IsProducerButWord l.machine l.word
 
 abbrev pub decreases-writes : goal.decreases-writes
 decreases-writes g l = l.word.word.width - l.word.word.written

@@ -1,16 +1,12 @@
-use Rattle.std.proofs.Common.{◌≡◌, ◌≤◌, ◌-◌, length}
+use Rattle.std.proofs.Common.{◌≡◌, ◌-◌}
 use Rattle.bits_core.specs.Shape.{modulus_of}
-use Rattle.ring_core.specs.Takes.{Takes}
 use Rattle.ring_core.specs.ConsumerState.{IsConsumerButScan}
-use Rattle.ring_run.specs.Steppers.{AreAnswered, IsSameEnd}
-use Rattle.ring_run.specs.Machines.{TakerGoes, TakerIn}
+use Rattle.ring_run.specs.Machines.{consuming}
+use Rattle.ring_run.proofs.MachineWhole.{Phase}
 use Rattle.ring_run.proofs.takers.finish_scan.Given as goal
 
 abbrev pub invariant-reads : goal.invariant-reads
-invariant-reads g l =
-    (l.ring ≡ l.stepper.ring) × IsSameEnd l.fn.stepper l.stepper × (l.machine ≡ l.fn.machine) × IsConsumerButScan l.machine l.scan × (length l.fn.stepper.list ≤ length l.stepper.list) ×
-    ((calls : Takes) → TakerIn l.fn.stepper l.fn.machine calls → TakerGoes l.stepper l.scan calls) ×
-    AreAnswered l.fn.stepper l.stepper (g.O.Oracle.answers l.fn.oracle) (g.O.Oracle.answers l.oracle)
+invariant-reads g l = Phase consuming l.fn.stepper l.fn.machine l.ring l.stepper l.scan (g.O.Oracle.answers l.fn.oracle) (g.O.Oracle.answers l.oracle) × (l.machine ≡ l.fn.machine) × IsConsumerButScan l.machine l.scan
 
 abbrev pub decreases-reads : goal.decreases-reads
 decreases-reads g l = modulus_of l.machine.shape - l.scan.scan.zeros

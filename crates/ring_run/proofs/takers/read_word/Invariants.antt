@@ -1,15 +1,11 @@
-use Rattle.std.proofs.Common.{◌≡◌, ◌≤◌, ◌-◌, length}
-use Rattle.ring_core.specs.Takes.{Takes}
+use Rattle.std.proofs.Common.{◌≡◌, ◌-◌}
 use Rattle.ring_core.specs.ConsumerState.{IsConsumerButWord}
-use Rattle.ring_run.specs.Steppers.{AreAnswered, IsSameEnd}
-use Rattle.ring_run.specs.Machines.{TakerGoes, TakerIn}
+use Rattle.ring_run.specs.Machines.{consuming}
+use Rattle.ring_run.proofs.MachineWhole.{Phase}
 use Rattle.ring_run.proofs.takers.read_word.Given as goal
 
 abbrev pub invariant-reads : goal.invariant-reads
-invariant-reads g l =
-    (l.ring ≡ l.stepper.ring) × IsSameEnd l.fn.stepper l.stepper × (l.machine ≡ l.fn.machine) × IsConsumerButWord l.machine l.word × (length l.fn.stepper.list ≤ length l.stepper.list) ×
-    ((calls : Takes) → TakerIn l.fn.stepper l.fn.machine calls → TakerGoes l.stepper l.word calls) ×
-    AreAnswered l.fn.stepper l.stepper (g.O.Oracle.answers l.fn.oracle) (g.O.Oracle.answers l.oracle)
+invariant-reads g l = Phase consuming l.fn.stepper l.fn.machine l.ring l.stepper l.word (g.O.Oracle.answers l.fn.oracle) (g.O.Oracle.answers l.oracle) × (l.machine ≡ l.fn.machine) × IsConsumerButWord l.machine l.word
 
 abbrev pub decreases-reads : goal.decreases-reads
 decreases-reads g l = l.word.word.width - l.word.word.read

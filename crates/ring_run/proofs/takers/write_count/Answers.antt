@@ -2,9 +2,12 @@ use Rattle.std.proofs.Common.{◌≡◌, Bool, false, true, true≢false, refl, 
 use Rattle.ring_core.specs.declared.consumers.Stage.TheVariants.{Counting}
 use Rattle.ring_core.specs.ConsumerState.{is_taking}
 use Rattle.ring_run.proofs.Accesses.{longer, same}
-use Rattle.ring_run.proofs.TakerMoves.{right_there}
-use Rattle.ring_run.proofs.TakerWhole.{taking_at, can_go, count_due, goes_in, went}
+use Rattle.ring_run.proofs.MachineMoves.{right_there}
+use Rattle.ring_run.proofs.TakerCalls.{next_takes, take_laws}
+use Rattle.ring_run.proofs.MachineWhole.{can_go, goes_in, went}
+use Rattle.ring_run.proofs.TakerWhole.{taking_at, count_due}
 use Rattle.ring_run.proofs.Answered.{answered_then}
+use Rattle.ring_run.specs.Machines.{consuming}
 use Rattle.ring_run.proofs.takers.write_count.Goals as goal
 
 not_false : (b : Bool) → (b ≡ false → ⊥) → b ≡ true
@@ -20,8 +23,8 @@ make-answer-requires-clause-right g c =
     let i = c.in-Some.ensures in
     let a = c.in-Some.access in
     let x = c.expects_one-expects in
-    let on = goes_in e n calls (c.writes.invariant.4 calls was) (taking_at n Counting (c.is_counting.ensures.0 c.writes-test.true) refl) in
-    right_there e n calls on.made on.at a i.right
+    let on = goes_in consuming take_laws e n calls tt tt (c.writes.invariant.4 calls was) (taking_at n Counting (c.is_counting.ensures.0 c.writes-test.true) refl) in
+    right_there consuming e n calls on.made on.at a i.right
 
 pub make-answer-requires-clause-can : goal.make-answer-requires-clause-can
 make-answer-requires-clause-can g c =
@@ -32,8 +35,8 @@ make-answer-requires-clause-can g c =
     let i = c.in-Some.ensures in
     let a = c.in-Some.access in
     let x = c.expects_one-expects in
-    let on = goes_in e n calls (c.writes.invariant.4 calls was) (taking_at n Counting (c.is_counting.ensures.0 c.writes-test.true) refl) in
-    can_go c.laws_below.ensures e n calls on a (sym i.due) (λ calls made stands. i.goes_on calls made a stands refl) i.bounded x.result x.ensures.due x.ensures.stands
+    let on = goes_in consuming take_laws e n calls tt tt (c.writes.invariant.4 calls was) (taking_at n Counting (c.is_counting.ensures.0 c.writes-test.true) refl) in
+    can_go c.laws_below.ensures consuming take_laws e n calls tt on a (sym i.due) (next_takes n a (λ calls made stands. i.goes_on calls made a stands refl) i.bounded calls on.made on.at.stands) x.result x.ensures.due x.ensures.stands
 
 pub writes-smaller : goal.writes-smaller
 writes-smaller g c =
@@ -57,8 +60,8 @@ writes-preserved g c =
       omega (arith, was.2, longer e b a m.result m.ensures.made),
       λ none. absurd (true≢false (sym (taking_at n Counting (c.is_counting.ensures.0 c.writes-test.true) refl) ∙ ap is_taking (rests none).0 ∙ none)),
       λ calls at.
-          let on = goes_in e n calls (c.writes.invariant.4 calls at) (taking_at n Counting (c.is_counting.ensures.0 c.writes-test.true) refl) in
-          went c.laws_below.ensures e n calls on a (sym i.due) (λ calls made stands. i.goes_on calls made a stands refl) i.bounded x.result x.ensures.due x.ensures.stands b m.result m.ensures.made
+          let on = goes_in consuming take_laws e n calls tt tt (c.writes.invariant.4 calls at) (taking_at n Counting (c.is_counting.ensures.0 c.writes-test.true) refl) in
+          went c.laws_below.ensures consuming take_laws e n calls tt on a (sym i.due) (next_takes n a (λ calls made stands. i.goes_on calls made a stands refl) i.bounded calls on.made on.at.stands) x.result x.ensures.due x.ensures.stands b m.result m.ensures.made
           c.feed_count.new.self c.feed_count.ensures.shape (c.feed_count.ensures.stands calls on.made a on.at.stands (sym i.due)),
       answered_then _ _ _ _ _ _ was.5 m.ensures.answered,
     )

@@ -1,7 +1,0 @@
-use Rattle.bits_core.specs.declared.events.Act.TheVariants.{ReadEnd}
-use Rattle.ring_run.specs.Rule.{event}
-use Rattle.ring_run.specs.Words.{answer_of}
-use Rattle.ring_run.proofs.steppers.Stepper.end_read.Given as goal
-
-abbrev pub ghosts-load_noted : goal.ghosts-load_noted
-ghosts-load_noted g a = record { shape = a.self.now.shape; event = λ n. event a.side a.bit (ReadEnd (answer_of a.seat.now.me.0.first n (g.O.Oracle.answers a.about.now 0))) }
