@@ -18,6 +18,8 @@ use ring_core::{BatchReply, PutReply, distance};
 use std::marker::Model;
 
 /// The producer's end of a counter ring. No call of it is ever under way.
+///
+/// In use: `uses::two_threads::put_each`.
 #[derive(Drop)]
 #[repr(C)]
 pub struct CounterPutter<'a> {

@@ -29,9 +29,13 @@ use std::marker::Brand;
 /// whole access of a cell, a whole unary write or the close, bit by bit and with nothing between: so each call adds
 /// exactly its accesses to one lawful history of safe bits, as on a [`FlickerRing`](crate::FlickerRing), and who holds
 /// the ends cannot tell the rings apart. No call goes through the bits: they are in the contracts alone.
+///
+/// In use: `uses::two_threads::pass_through`.
 pub type CounterRing<A> = RingIn<Counting, A>;
 
 /// The right to make the two ends of one counter ring: to a contract it is which ring it is, as for a flickering ring.
+///
+/// In use: `uses::two_threads::pass_through`.
 pub type CounterStart = Start;
 
 impl<A: Allocator + Copy> CounterRing<A> {
@@ -68,6 +72,8 @@ fn starting_counts<A: Allocator>(alloc: A, shape: Shape) -> Result<Vec<u64, A>, 
 }
 
 /// A counter ring whose run is over: what is left of it is what is left of a flickering ring.
+///
+/// In use: `uses::two_threads::pass_through`.
 pub type CounterFinished = Finished;
 
 impl<A: Allocator> CounterRing<A> {

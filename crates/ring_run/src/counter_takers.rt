@@ -19,6 +19,8 @@ use ring_core::{TakeReply, has_item};
 use std::marker::Model;
 
 /// The consumer's end of a counter ring. No take of it is ever under way.
+///
+/// In use: `uses::two_threads::take_each`.
 #[derive(Drop)]
 #[repr(C)]
 pub struct CounterTaker<'a> {

@@ -11,9 +11,13 @@ use std::marker::{Brand, PhantomData};
 /// The kind of a counter ring: no access is open between two steps; the word of a counter is the value of its side's last
 /// count write, 0 before any; that of a cell is the item last written to it, 0 before any; that of the close bit is what it
 /// holds.
+///
+/// For example, a [`CounterRing`](crate::CounterRing) is the ring of this kind.
 pub struct Counting;
 
 /// The rule of a counter ring's table.
+///
+/// For example, the tests of `test_run` load words between two calls, and find of them what this says.
 pub type CounterRule = RuleOf<Counting>;
 
 impl Kind for Counting {

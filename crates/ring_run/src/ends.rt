@@ -10,6 +10,8 @@ use std::alloc::{Allocator, Global};
 
 /// An end that puts. Its meaning is the list of its events: each call adds exactly its own accesses, and answers what
 /// they came to.
+///
+/// In use: `uses::batches::put_batch`.
 pub trait PutEnd {
     ghost use Rattle.std.specs.Prelude.{◌≡◌, ◌^◌, ◌<◌};
     ghost use Rattle.bits_core.specs.Shape.{width_of};
@@ -67,6 +69,8 @@ pub trait PutEnd {
 }
 
 /// An end that takes. Its meaning is the list of its events, as for an end that puts.
+///
+/// In use: `uses::two_threads::take_each`.
 pub trait TakeEnd {
     ghost use Rattle.std.specs.Prelude.{◌≡◌};
     ghost use Rattle.ring_run.specs.Ring.{RingEnd};
@@ -102,6 +106,9 @@ pub trait TakeEnd {
 
 /// A kind of ring, by the type of its end that puts and of the one that takes: what both ends do together, in the same
 /// words for each kind.
+///
+/// In use: [`relay_flicker`](crate::relay_flicker) and [`relay_counter`](crate::relay_counter), which are one relay
+/// over it.
 pub trait RingOf<E: PutEnd, F: TakeEnd> {
     ghost use Rattle.std.specs.Prelude.{◌≡◌};
     ghost use Rattle.bits_core.specs.declared.events.Side.TheVariants.{P, C};

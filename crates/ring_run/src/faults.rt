@@ -5,6 +5,8 @@ use std::alloc::{AllocError, AllocFailed};
 use thiserror::Error;
 
 /// Why a ring was not made, or a relay gave no outcome.
+///
+/// In use: `uses::relays::pass_on`.
 #[derive(Clone, Copy, PartialEq, Eq, Debug, Error)]
 pub enum RunFault {
     /// Memory for the words of a ring, or for the items that a relay took, ran out.

@@ -7,6 +7,8 @@ use std::thread;
 /// A gate that each side of a relay passes before each of its puts or takes, and that is told where each call begins and
 /// where it ends. It may be passed, and told, by both sides at the same time, and it returns. A gate that has no use for
 /// what it is told leaves that out.
+///
+/// In use: the tests of `test_run`, which hold one side of a relay back.
 pub trait Gate {
     /// The side has made `count` puts or takes so far, and is about to make one more.
     fn pass(&self, side: Side, count: u64);
@@ -31,6 +33,8 @@ pub trait Gate {
 }
 
 /// A gate that does nothing.
+///
+/// In use: `uses::relays::pass_on`.
 #[derive(Clone, Copy, PartialEq, Eq, Debug)]
 pub struct FreeGate;
 
@@ -44,6 +48,8 @@ const TURN: u64 = 256;
 /// A gate at which each side lets another thread run, at each 256th of its puts or takes. It is for a machine with
 /// fewer free processors than threads, where a side that finds the ring full, or empty, would else call in vain until
 /// its share of time is used up. It is a hint to the scheduler: no progress of either side is promised.
+///
+/// In use: `lamport_ring run`.
 #[derive(Clone, Copy, PartialEq, Eq, Debug)]
 pub struct YieldGate;
 

@@ -23,6 +23,8 @@ use std::marker::Model;
 
 /// A ring whose run is over: its ends are gone. To a contract it is one lawful history, whether a close stands in it,
 /// and whether a take was told that the ring is closed.
+///
+/// In use: `uses::two_threads::pass_through`.
 #[derive(Drop)]
 pub struct Finished {
     pub(crate) seat: Seat<(), View>,

@@ -27,6 +27,8 @@ use std::marker::Model;
 ///
 /// To a contract it is its list of events, what it knows, and the call under way with the list where that began. They
 /// take no memory and wait for nobody.
+///
+/// In use: `uses::steps::step_putter`.
 #[derive(Drop)]
 #[repr(C)]
 pub struct Putter<'a, O: Oracle + Drop> {

@@ -10,6 +10,8 @@ use std::alloc::{AllocError, Allocator};
 use std::sync::atomic::{AtomicU64, Ordering};
 
 /// Room for a line of a recording, or for one more item of a put.
+///
+/// In use: `lamport_ring run --record`.
 #[derive(Drop)]
 pub struct Slot {
     // the ticket, times 16, and the code of the line's word
@@ -115,6 +117,8 @@ impl<'a> Log<'a> {
 /// begin, the one call had ended before the other began, and every operation on a word is sequentially consistent. So a
 /// recording of linearizable calls is linearizable. Where a side has no room for a line, the recording ends before that line,
 /// for both sides; what is left is a first part of the whole.
+///
+/// In use: `lamport_ring run --record`.
 #[derive(Drop)]
 pub struct Recorder<'a> {
     tickets: AtomicU64,
@@ -278,6 +282,8 @@ fn word_of(code: u64) -> Word
 }
 
 /// The lines of a recording that were not told yet.
+///
+/// In use: `lamport_ring run --record`.
 #[derive(Drop)]
 pub struct RecordedLines<'r> {
     puts: &'r [Slot],

@@ -17,6 +17,8 @@ use std::alloc::Allocator;
 use std::thread::{Threads, join_mut};
 
 /// How many puts and takes a relay makes at most.
+///
+/// In use: `uses::relays::pass_on`.
 #[derive(Clone, Copy, PartialEq, Eq, Debug)]
 pub struct Limits {
     /// The most puts.
@@ -128,6 +130,8 @@ fn take_all<A: Allocator, E: TakeEnd, G: Gate>(
 }
 
 /// What a relay came to.
+///
+/// In use: `uses::relays::pass_on`.
 #[derive(Drop)]
 pub struct Outcome<A: Allocator> {
     /// How many items were stored.
@@ -209,6 +213,8 @@ fn relay_into<R: Threads, A: Allocator, E: PutEnd + Send, F: TakeEnd + Send, G: 
 /// both ends are as they were. Ends of two rings may give more items than were put; where it refused room for one of
 /// these, no more takes are made, the puts are made all the same, and both ends keep the whole calls that they have
 /// made. In a relay through one ring that does not occur.
+///
+/// In use: by [`relay_counter`](crate::relay_counter), over the ends of a new ring.
 pub fn relay<R: Threads, A: Allocator + Copy, E: PutEnd + Send, F: TakeEnd + Send, G: Gate + Sync>(
     rt: &R,
     alloc: A,
@@ -275,6 +281,8 @@ fn relay_through<
 /// Every item has to fit the width. It takes memory for the words of the ring and, before the first put, for all items
 /// that can be taken. `OutOfMemory` is answered only where the allocator refused some: all memory is taken before the ends
 /// are made, so no call was made then, no item put or taken, and no oracle asked.
+///
+/// In use: `uses::oracles::pass_flickering`.
 pub fn relay_flicker<
     R: Threads,
     A: Allocator + Copy,
@@ -313,6 +321,8 @@ pub fn relay_flicker<
 /// Every item has to fit the width. It takes memory for the words of the ring and, before the first put, for all items
 /// that can be taken. `OutOfMemory` is answered only where the allocator refused some: all memory is taken before the ends
 /// are made, so no call was made then, and no item put or taken.
+///
+/// In use: `uses::relays::pass_on`.
 pub fn relay_counter<R: Threads, A: Allocator + Copy, G: Gate + Sync>(
     rt: &R,
     alloc: A,

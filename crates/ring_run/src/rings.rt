@@ -79,9 +79,13 @@ impl<K: Kind, A: Allocator> RingIn<K, A> {
 /// Each bit has an atomic word of its own: 0 or 1, and 2 while a write of the bit is under way. A read loads the word
 /// twice. Where both loads give 0, or both give 1, that is its answer; else a write may overlap the read, and the
 /// reading end's oracle says what it answers. So a bit is no more than safe: it flickers while it is written.
+///
+/// In use: `uses::steps::take_amid_put`.
 pub type FlickerRing<A> = RingIn<Flickering, A>;
 
 /// The right to make the two ends of one ring; with no other can they be made. To a contract it is which ring it is.
+///
+/// In use: `uses::steps::take_amid_put`.
 #[derive(Drop)]
 pub struct Start {
     pub(crate) seat: Seat<(), View>,

@@ -25,6 +25,8 @@ use std::marker::Model;
 ///
 /// To a contract it is its list of events, what it knows, and whether a take is under way with the list where that
 /// began. It takes no memory and waits for nobody.
+///
+/// In use: `uses::steps::step_taker`.
 #[derive(Drop)]
 #[repr(C)]
 pub struct Taker<'a, O: Oracle + Drop> {

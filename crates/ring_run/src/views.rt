@@ -7,6 +7,9 @@ use std::collections::LinkedList;
 use std::marker::{Brand, PhantomData};
 
 /// What the two loads of a read found. It stands in contracts alone: no value of it is made.
+///
+/// For example, of a bit that is being written the first may have found 0 and the second 1: then the oracle is
+/// asked.
 pub struct Loads {
     /// What the first load found, where the read began.
     pub first: u64,
@@ -17,6 +20,8 @@ pub struct Loads {
 /// What a seat of a ring's table knows: the right to step for one side of the ring, or for both, with the list of the
 /// events that were made by it. Each end of a ring has one such seat. It stands in contracts alone: no value of it is
 /// made.
+///
+/// For example, an end of a ring has one, and it tells which events the end has made.
 pub struct View {
     /// Whether it may step for the producer.
     pub puts: bool,
@@ -38,6 +43,8 @@ pub struct View {
 
 /// A kind of ring: how many words a ring of a shape has, and what they show of a history. It stands in contracts and in types
 /// alone: no value of it is made.
+///
+/// For example, [`Counting`](crate::Counting) and [`Flickering`](crate::Flickering).
 pub trait Kind {
     ghost use Rattle.std.specs.Prelude.{ℕ, List};
     ghost use Rattle.bits_core.specs.declared.shapes.Shape.{Shape};
@@ -49,6 +56,9 @@ pub trait Kind {
 }
 
 /// What the ends of a kind of ring keep of an access that is open.
+///
+/// For example, an end of a flickering ring keeps the first load of the read that it has open; one of a counter
+/// ring keeps nothing.
 pub trait Keeping: Kind {
     ghost use Rattle.std.specs.Prelude.{◌≡◌, None};
     ghost use Rattle.bits_core.specs.declared.events.Side.{Side};
@@ -75,6 +85,8 @@ pub trait Keeping: Kind {
 ///   history's events of the side;
 /// - it begins with what the two sides knew at their last meeting;
 /// - where a read is open, the load that its seat keeps is what the word showed where the read began.
+///
+/// For example, [`FlickerRule`](crate::FlickerRule) and [`CounterRule`](crate::CounterRule).
 pub struct RuleOf<K> {
     kind: PhantomData<K>,
 }
@@ -89,9 +101,13 @@ impl<K: Kind> TableRule<(), View, Shape> for RuleOf<K> {
 }
 
 /// The kind of a flickering ring: the word of a bit is 2 where a write of the bit is open, else what the bit holds.
+///
+/// For example, a [`FlickerRing`](crate::FlickerRing) is the ring of this kind.
 pub struct Flickering;
 
 /// The rule of a flickering ring's table.
+///
+/// For example, the tests of `test_run` load words between two steps, and find of them what this says.
 pub type FlickerRule = RuleOf<Flickering>;
 
 /// What an end of a flickering ring keeps: its open access, and the first load of its open read.
