@@ -1,5 +1,5 @@
-// The audit in plain Rust, which bench.py measures the program against: of programs, or, with --bits, of bits alone. It
-// reads a trace on standard input, goes through its lines once and prints what it finds. It trusts the form of the lines.
+// The audit in plain Rust, which bench.py measures the program against and hostile compares it with: of programs, or, with --bits, of
+// bits alone. It reads a trace on standard input, goes through its lines once and prints what it finds. It trusts the form of the lines.
 use std::fmt::Write;
 use std::io::Read;
 use std::process::exit;
@@ -534,10 +534,8 @@ impl Programs {
     }
 }
 
-fn main() {
-    let bits_alone = std::env::args().nth(1).is_some_and(|word| word == "--bits");
-    let mut text = Vec::new();
-    std::io::stdin().read_to_end(&mut text).unwrap();
+// What is found of a trace: the status of the process, and what it prints.
+pub fn finding(text: &[u8], bits_alone: bool) -> (i32, String) {
     let mut lines = text.split(|byte| *byte == b'\n');
     let shape = Shape::read(lines.next().unwrap());
     let mut bits = Bits::new(&shape);
@@ -552,12 +550,19 @@ fn main() {
             None => Ok(()),
         });
         if let Err(kind) = found {
-            println!("fault: line {}: {kind}", place + 2);
-            exit(3)
+            return (3, format!("fault: line {}: {kind}\n", place + 2));
         }
     }
-    print!(
-        "lawful\n{}",
-        programs.map_or(String::new(), |programs| programs.text())
-    );
+    let lists = programs.map_or(String::new(), |programs| programs.text());
+    (0, format!("lawful\n{lists}"))
+}
+
+#[allow(dead_code)]
+fn main() {
+    let bits_alone = std::env::args().nth(1).is_some_and(|word| word == "--bits");
+    let mut text = Vec::new();
+    std::io::stdin().read_to_end(&mut text).unwrap();
+    let (status, words) = finding(&text, bits_alone);
+    print!("{words}");
+    exit(status)
 }

@@ -539,60 +539,99 @@ impl Audit {
     }
 }
 
+fn refusal(line: u64) -> (i32, String) {
+    let words = format!("refused: calls line {line} is not a line of the format");
+    (1, words)
+}
+
+// A recording that is read in pieces.
+pub struct Reading {
+    line: Line,
+    at: u64,
+    audit: Option<Audit>,
+    fault: Option<String>,
+}
+
+impl Reading {
+    pub fn new() -> Self {
+        Reading {
+            line: Line::default(),
+            at: 1,
+            audit: None,
+            fault: None,
+        }
+    }
+
+    // Goes on by a piece, or is refused: the status of the process, and its one line.
+    pub fn read(&mut self, piece: &[u8]) -> Result<(), (i32, String)> {
+        let mut rest = piece;
+        while let Some(end) = self.line.take_words(rest, self.fault.is_none()) {
+            if rest[end] == b'\n' {
+                self.end_line()?;
+            }
+            rest = &rest[end + 1..];
+        }
+        self.line.carry(rest);
+        Ok(())
+    }
+
+    fn end_line(&mut self) -> Result<(), (i32, String)> {
+        let Reading {
+            line,
+            at,
+            audit,
+            fault,
+        } = self;
+        if !line.is_good(*at == 1) {
+            return Err(refusal(*at));
+        }
+        match audit {
+            None => *audit = Some(Audit::new(&line.numbers)),
+            Some(audit) if fault.is_none() => {
+                let verdict = audit.line(*at, line.kind, &line.numbers);
+                *fault = verdict
+                    .err()
+                    .map(|words| format!("fault: line {at}: {words}"));
+            }
+            // A line further on may be no line of the format, and then the whole is refused.
+            Some(_) => {}
+        }
+        line.clear();
+        *at += 1;
+        Ok(())
+    }
+
+    // What is found of the whole: the status of the process, and what it prints, without the last line feed.
+    pub fn finding(&self) -> (i32, String) {
+        match (&self.audit, &self.fault) {
+            (Some(_), _) if self.line.begun => refusal(self.at),
+            (None, _) => refusal(self.at),
+            (Some(_), Some(fault)) => (3, fault.clone()),
+            (Some(audit), None) => (0, audit.report()),
+        }
+    }
+}
+
 // Prints the finding, and ends.
-fn tell(finding: &str, status: i32) -> ! {
+#[allow(dead_code)]
+fn tell((status, finding): (i32, String)) -> ! {
     match writeln!(stdout(), "{finding}") {
         Ok(()) => exit(status),
         Err(_) => exit(1),
     }
 }
 
-fn refuse(line: u64) -> ! {
-    tell(
-        &format!("refused: calls line {line} is not a line of the format"),
-        1,
-    )
-}
-
+#[allow(dead_code)]
 fn main() {
     let mut piece = vec![0; 1 << 16];
-    let mut line = Line::default();
-    let mut at = 1;
-    let mut audit: Option<Audit> = None;
-    let mut fault: Option<String> = None;
+    let mut reading = Reading::new();
     loop {
         let size = stdin().read(&mut piece).expect("the input can be read");
         if size == 0 {
-            break;
+            tell(reading.finding());
         }
-        let mut rest = &piece[..size];
-        while let Some(end) = line.take_words(rest, fault.is_none()) {
-            if rest[end] == b'\n' {
-                if !line.is_good(at == 1) {
-                    refuse(at);
-                }
-                match &mut audit {
-                    None => audit = Some(Audit::new(&line.numbers)),
-                    Some(audit) if fault.is_none() => {
-                        let verdict = audit.line(at, line.kind, &line.numbers);
-                        fault = verdict
-                            .err()
-                            .map(|words| format!("fault: line {at}: {words}"));
-                    }
-                    // A line further on may be no line of the format, and then the whole is refused.
-                    Some(_) => {}
-                }
-                line.clear();
-                at += 1;
-            }
-            rest = &rest[end + 1..];
+        if let Err(refusal) = reading.read(&piece[..size]) {
+            tell(refusal);
         }
-        line.carry(rest);
-    }
-    match (audit, fault) {
-        (Some(_), _) if line.begun => refuse(at),
-        (None, _) => refuse(at),
-        (Some(_), Some(fault)) => tell(&fault, 3),
-        (Some(audit), None) => tell(&audit.report(), 0),
     }
 }

@@ -26,3 +26,5 @@ mod room;
 mod scripts;
 #[cfg(test)]
 mod steps;
+#[cfg(test)]
+mod stops;

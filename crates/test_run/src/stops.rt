@@ -1,0 +1,195 @@
+// One side stops for ever at each of its steps, or its end is dropped there, in the middle of a call; or it is far slower than the
+// other. The other side's calls return, and what they answer is true.
+use crate::steps::{Consuming, Producing, Script, begin};
+use bits_core::{Shape, Side};
+use ring_run::FlickerRing;
+use std::alloc::AllocGlobal;
+use std::process::Abort;
+use std::test::Fail;
+
+// By their capacity, modulus, width and batch.
+const SHAPES: [[u64; 4]; 4] = [[1, 3, 1, 1], [2, 4, 2, 1], [2, 5, 1, 2], [3, 7, 2, 3]];
+
+const ITEMS: &[u64] = &[1, 0, 1, 1, 0, 0, 1];
+
+// All items are put and the ring closed, and one more than these is wanted; by the answers of four oracles.
+const SCRIPTS: [Script<'static>; 4] = [
+    (ITEMS, true, 8, &[]),
+    (ITEMS, true, 8, &[true]),
+    (ITEMS, true, 8, &[false, true]),
+    (ITEMS, true, 8, &[true, true, false]),
+];
+
+// As many steps as all calls of one side alone have at most, and more.
+const ALONE: u64 = 600;
+
+// Who stops, after how many steps of either side, and whether its end is dropped then.
+type Stop = (Side, u64, bool);
+
+// All that was stored is taken, at most the items of the put that was stopped beside it; and takes go on to return.
+fn expect_taken(
+    rt: &impl Abort,
+    consuming: &mut Consuming<'_>,
+    stored: u64,
+    batch: u64,
+    stop: Stop,
+) {
+    let empty = consuming.empty;
+    for _ in 0..ALONE {
+        let _made = consuming.step(rt);
+    }
+    let taken = consuming.taken as u64;
+    assert!(rt; stored <= taken, "{stop:?}: {stored} stored, {taken} taken");
+    assert!(rt;
+        taken <= stored.saturating_add(batch),
+        "{stop:?}: {stored} stored, {taken} taken"
+    );
+    assert!(rt;
+        empty < consuming.empty || consuming.told,
+        "{stop:?}: takes return"
+    );
+    assert!(rt;
+        !consuming.told || taken == ITEMS.len() as u64,
+        "{stop:?}: told"
+    );
+}
+
+// As many items are stored as there is room for beside those that were not taken, at most one more for the take that was stopped;
+// and puts go on to return.
+fn expect_stored(
+    rt: &impl Abort,
+    producing: &mut Producing<'_>,
+    taken: u64,
+    capacity: u64,
+    stop: Stop,
+) {
+    let full = producing.full;
+    for _ in 0..ALONE {
+        let _made = producing.step();
+    }
+    let stored = producing.stored;
+    let room = taken.saturating_add(capacity);
+    assert!(rt;
+        stored <= room.saturating_add(1),
+        "{stop:?}: {stored} stored, {taken} taken"
+    );
+    assert!(rt;
+        room <= stored || stored == ITEMS.len() as u64,
+        "{stop:?}: {stored} stored, {taken} taken"
+    );
+    assert!(rt;
+        full < producing.full || stored == ITEMS.len() as u64,
+        "{stop:?}: puts return"
+    );
+}
+
+fn let_putter_go(_producing: Producing<'_>) {}
+
+fn let_taker_go(_consuming: Consuming<'_>) {}
+
+// Both sides make steps in turn, and then one of them none.
+fn expect_stop(
+    rt: &(impl Abort + AllocGlobal),
+    numbers: &[u64; 4],
+    script: &Script<'static>,
+    stop: Stop,
+) -> Result<(), Fail> {
+    let [capacity, modulus, width, batch] = *numbers;
+    let (side, steps, drops) = stop;
+    let shape = Shape::with_batch(capacity, modulus, width, batch)?;
+    let (ring, start) = FlickerRing::new(rt.alloc(), shape)?;
+    let (items, _, _, _) = *script;
+    let (mut producing, mut consuming) = begin(&ring, start, *script, items);
+    for _ in 0..steps {
+        let _made = producing.step();
+        let _made = consuming.step(rt);
+    }
+    match side {
+        Side::P => {
+            let stored = producing.stored;
+            if drops {
+                let_putter_go(producing);
+            }
+            expect_taken(rt, &mut consuming, stored, batch, stop);
+        }
+        Side::C => {
+            let taken = consuming.taken as u64;
+            if drops {
+                let_taker_go(consuming);
+            }
+            expect_stored(rt, &mut producing, taken, capacity, stop);
+        }
+    }
+    Ok(())
+}
+
+// At each of its steps, by each oracle.
+fn expect_stops(rt: &(impl Abort + AllocGlobal), side: Side, drops: bool) -> Result<(), Fail> {
+    for numbers in SHAPES.iter() {
+        for script in SCRIPTS.iter() {
+            for steps in 0..250 {
+                expect_stop(rt, numbers, script, (side, steps, drops))?;
+            }
+        }
+    }
+    Ok(())
+}
+
+#[test]
+fn a_side_that_stops_at_any_step_leaves_the_other_true(rt: HostRuntime) -> Result<(), Fail> {
+    expect_stops(&rt, Side::P, false)?;
+    expect_stops(&rt, Side::C, false)
+}
+
+#[test]
+fn an_end_that_is_dropped_in_a_call_leaves_the_other_true(rt: HostRuntime) -> Result<(), Fail> {
+    expect_stops(&rt, Side::P, true)?;
+    expect_stops(&rt, Side::C, true)
+}
+
+// One side makes so many steps for each of the other's: all items come through, and the end is told.
+fn expect_slow(
+    rt: &(impl Abort + AllocGlobal),
+    numbers: &[u64; 4],
+    script: &Script<'static>,
+    slow: Side,
+    times: u64,
+) -> Result<(), Fail> {
+    let [capacity, modulus, width, batch] = *numbers;
+    let shape = Shape::with_batch(capacity, modulus, width, batch)?;
+    let (ring, start) = FlickerRing::new(rt.alloc(), shape)?;
+    let (items, _, _, _) = *script;
+    let (mut producing, mut consuming) = begin(&ring, start, *script, items);
+    let (puts, takes) = match slow {
+        Side::P => (1, times),
+        Side::C => (times, 1),
+    };
+    for _ in 0..ALONE {
+        for _ in 0..puts {
+            let _made = producing.step();
+        }
+        for _ in 0..takes {
+            let _made = consuming.step(rt);
+        }
+    }
+    assert!(rt;
+        consuming.told,
+        "{numbers:?}, {slow:?} slower, {times} times"
+    );
+    assert_eq!(rt; consuming.taken, ITEMS.len());
+    assert_eq!(rt; producing.stored, ITEMS.len() as u64);
+    Ok(())
+}
+
+#[test]
+fn a_side_that_is_far_slower_loses_nothing(rt: HostRuntime) -> Result<(), Fail> {
+    for numbers in SHAPES.iter() {
+        for script in SCRIPTS.iter() {
+            for times in [2, 31, 1000] {
+                expect_slow(&rt, numbers, script, Side::P, times)?;
+                expect_slow(&rt, numbers, script, Side::C, times)?;
+            }
+        }
+    }
+    Ok(())
+}
