@@ -8,20 +8,22 @@ use std::process::Abort;
 use std::test::Fail;
 
 // By their capacity, modulus, width and batch.
-const SHAPES: [[u64; 4]; 4] = [[1, 3, 1, 1], [2, 4, 2, 1], [2, 5, 1, 2], [3, 7, 2, 3]];
+const SHAPES: [[u64; 4]; 3] = [[1, 3, 1, 1], [2, 5, 1, 2], [3, 7, 2, 3]];
 
 const ITEMS: &[u64] = &[1, 0, 1, 1, 0, 0, 1];
 
-// All items are put and the ring closed, and one more than these is wanted; by the answers of four oracles.
-const SCRIPTS: [Script<'static>; 4] = [
+// All items are put and the ring closed, and one more than these is wanted; by the answers of three oracles.
+const SCRIPTS: [Script<'static>; 3] = [
     (ITEMS, true, 8, &[]),
-    (ITEMS, true, 8, &[true]),
     (ITEMS, true, 8, &[false, true]),
     (ITEMS, true, 8, &[true, true, false]),
 ];
 
-// As many steps as all calls of one side alone have at most, and more.
-const ALONE: u64 = 600;
+// Steps of one side alone, enough for each of its calls to return that has room or an item.
+const ALONE: u64 = 240;
+
+// Rounds of both sides, enough for the slower one to make all its calls.
+const ROUNDS: u64 = 600;
 
 // Who stops, after how many steps of either side, and whether its end is dropped then.
 type Stop = (Side, u64, bool);
@@ -127,7 +129,7 @@ fn expect_stop(
 fn expect_stops(rt: &(impl Abort + AllocGlobal), side: Side, drops: bool) -> Result<(), Fail> {
     for numbers in SHAPES.iter() {
         for script in SCRIPTS.iter() {
-            for steps in 0..250 {
+            for steps in 0..130 {
                 expect_stop(rt, numbers, script, (side, steps, drops))?;
             }
         }
@@ -164,7 +166,7 @@ fn expect_slow(
         Side::P => (1, times),
         Side::C => (times, 1),
     };
-    for _ in 0..ALONE {
+    for _ in 0..ROUNDS {
         for _ in 0..puts {
             let _made = producing.step();
         }
@@ -185,7 +187,7 @@ fn expect_slow(
 fn a_side_that_is_far_slower_loses_nothing(rt: HostRuntime) -> Result<(), Fail> {
     for numbers in SHAPES.iter() {
         for script in SCRIPTS.iter() {
-            for times in [2, 31, 1000] {
+            for times in [2, 31, 200] {
                 expect_slow(&rt, numbers, script, Side::P, times)?;
                 expect_slow(&rt, numbers, script, Side::C, times)?;
             }
