@@ -25,13 +25,21 @@ function scriptFault({number, place, shapeFault}) {
     12: `script has more than this page has room for: ${EVENTS} events, 1000 runs of letters, 10000 answers`}[number];
 }
 
+// The name of a bit, made once.
+const names = new Map();
+function nameOf(family, index, digit, rank) {
+  let name = names.get(rank);
+  if (name === undefined) names.set(rank, name = family === "x" ? "x" : family === "c" ? `c${index}.${digit}` : family + index);
+  return name;
+}
+
 // An event, with what the module tells of the moment just after it: what its bit holds, whether a write overlapped
-// the read that it ends, and whether a read and a write of one bit are open.
-function eventOf([side, row, index, digit, act, value, held, overlapped, clashes]) {
-  const family = FAMILIES[row];
-  const bit = family === "x" ? "x" : family === "c" ? `c${index}.${digit}` : family + index;
-  return {side: SIDES[side], bit, family, index, cell: family === "c" ? index : undefined, rank: (row * 256 + index) * 256 + digit, act: ACTS[act],
-    value: act === 1 || act === 2 ? value : undefined, held, overlapped: overlapped === 1, clashes: clashes === 1};
+// the read that it ends, and whether a read and a write of one bit are open. Its numbers stand in the list from a place on.
+function eventAt(list, at) {
+  const family = FAMILIES[list[at + 1]], index = list[at + 2], digit = list[at + 3], act = list[at + 4];
+  const rank = (list[at + 1] * 256 + index) * 256 + digit;
+  return {side: SIDES[list[at]], bit: nameOf(family, index, digit, rank), family, index, cell: family === "c" ? index : undefined, rank, act: ACTS[act],
+    value: act === 1 || act === 2 ? list[at + 5] : undefined, held: list[at + 6], overlapped: list[at + 7] === 1, clashes: list[at + 8] === 1};
 }
 
 // What the audit of programs tells: of a history that is of the programs `isRun`, how many items were put and taken, whether a take was
@@ -39,7 +47,7 @@ function eventOf([side, row, index, digit, act, value, held, overlapped, clashes
 // them, the kind of the fault, and which events of that side were due.
 function programsOf([outcome, number, place, put, taken, told, mayClose, mayScan, ...dues]) {
   const due = [0, 6, 12].map(at => dues.slice(at, at + 6)).filter(([isDue]) => isDue === 1)
-    .map(([, row, index, digit, act, value]) => eventOf([0, row, index, digit, act, value, 0, 0, 0]));
+    .map(([, row, index, digit, act, value]) => eventAt([0, row, index, digit, act, value, 0, 0, 0], 0));
   return {isRun: outcome === 0, kind: KINDS[number], place, put, taken, told: told === 1, mayClose: mayClose === 1, mayScan: mayScan === 1, due};
 }
 
@@ -85,7 +93,7 @@ export async function openModule(bytes) {
   const getNumbers = (place, count) => [...new BigUint64Array(exports.memory.buffer, place, count)].map(Number);
   const getEvents = (place, count) => {
     const marks = new Uint8Array(exports.memory.buffer, place, count * MARK);
-    return Array.from({length: count}, (_, i) => eventOf(marks.subarray(i * MARK, (i + 1) * MARK)));
+    return Array.from({length: count}, (_, i) => eventAt(marks, i * MARK));
   };
 
   // A call that stops midway leaves its instance unfit for another; the next call has a new one.
