@@ -325,12 +325,25 @@ fn text_of(variable: &str) -> String {
     std::env::var(variable).unwrap_or_default()
 }
 
+// The most heap, in bytes, and the longest processor time, in nanoseconds, that an input of this length may take. A play has as much
+// memory as its letters want, at most a million of them, so its bounds stand for these and hardly for its bytes.
+fn bounds(kind: Kind, length: usize) -> (usize, i64) {
+    let (heap, nanos) = match kind {
+        Kind::LongBits => (64 << 10, 250_000_000),
+        Kind::Bits | Kind::Audit | Kind::Calls => ((64 << 10) + 8 * length, 250_000_000),
+        Kind::Play | Kind::PlayTrace | Kind::PlayCalls => ((48 << 20) + 64 * length, 1_000_000_000),
+    };
+    (heap, nanos + 1_000 * length as i64)
+}
+
 // What was seen of all inputs.
 #[derive(Default)]
 struct Totals {
     inputs: u64,
     statuses: [u64; 4],
     wrong: u64,
+    // inputs that took more than the bounds
+    over: u64,
     // of inputs of at most 4 KiB the most heap, and of larger ones the most for a byte; the longest time in this way
     small_peak: usize,
     small_nanos: i64,
@@ -352,6 +365,17 @@ impl Totals {
             let length = input.len() as f64;
             self.large_peak = self.large_peak.max(seen.peak as f64 / length);
             self.large_nanos = self.large_nanos.max(seen.nanos as f64 / length);
+        }
+        let (heap, nanos) = bounds(kind, input.len());
+        if seen.peak > heap || seen.nanos > nanos {
+            self.over += 1;
+            println!(
+                "OVER: input {} of {} bytes took {} bytes of heap and {} ns; its bounds are {heap} and {nanos}",
+                self.inputs,
+                input.len(),
+                seen.peak,
+                seen.nanos
+            );
         }
         if !is_as_wanted(seen, run, wanted) {
             self.wrong += 1;
@@ -416,5 +440,5 @@ extern "C" fn judge_all(argc: c_int, argv: *mut *mut c_char, envp: *mut *mut c_c
     }
     totals.tell(&words, begun.elapsed().as_secs_f64());
     let _ = std::io::stdout().flush();
-    c_int::from(totals.wrong > 0 || totals.left > 0)
+    c_int::from(totals.wrong > 0 || totals.left > 0 || totals.over > 0)
 }
