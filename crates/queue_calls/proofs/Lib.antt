@@ -25,3 +25,4 @@ pub mod RecordingLaws
 pub mod CountedHistories
 pub mod CountsFollow
 pub mod Tellings
+mod Stretches

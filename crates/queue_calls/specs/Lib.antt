@@ -4,6 +4,8 @@ pub mod InTurn
 pub mod State
 pub mod Audits
 pub mod Told
+pub mod Steps
+pub mod Moments
 pub mod Order
 pub mod Counting
 pub mod Laws

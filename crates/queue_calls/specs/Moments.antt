@@ -1,0 +1,20 @@
+-- What is kept of a history whose operations take effect at moments that are told: a point of it.
+use Rattle.std.specs.Prelude.{◌≡◌, List, ◌∷◌, Bool, true, false}
+use Rattle.queue_calls.specs.Queue.{queue}
+use Rattle.queue_calls.specs.Calls.{Mark, Point, point, Leads, LeadTo}
+use Rattle.queue_calls.specs.Told.{meant}
+use Rattle.queue_calls.specs.Steps.{consumer_of, producer_of, stretch}
+use Rattle.queue_calls.specs.declared.moments.Moments.{Moments}
+
+-- the point that is kept: the items of the row from the head up to the tail are inside
+abbrev pub point_of : Moments → Point
+point_of m = point (queue (stretch m.row.now m.head m.tail) m.closed) (producer_of m.put) (consumer_of m.row.now m.head m.take)
+
+-- what was told so far, the last mark first, leads from the empty open queue to the point that is kept
+abbrev pub HasFollowed : Moments → List Mark → Type 0
+HasFollowed m marks = LeadTo (meant m.capacity) marks (point_of m)
+
+-- a mark was accepted, which leads on to what is kept now; or refused, and all is as it was
+abbrev pub Accepts : Moments → Mark → Bool → Moments → Type 0
+Accepts old mark true new = Leads (meant old.capacity) (point_of old) mark (point_of new) × (new.capacity ≡ old.capacity) × (new.row.now ≡ old.row.now)
+Accepts old mark false new = new ≡ old

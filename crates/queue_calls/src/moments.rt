@@ -1,0 +1,204 @@
+//! Histories whose operations take effect at moments that are told.
+ghost use Rattle.std.specs.Prelude.{◌≡◌, ◌≤◌, ◌-◌, ◌↔◌, [], IfSome, IsTrue, List, length};
+ghost use Rattle.queue_calls.specs.Steps.{began_at};
+
+use crate::capacities::Capacity;
+use crate::events::Event;
+use crate::steps::{Does, Putter, Taker, put_effect, put_event, take_effect, take_event, take_one};
+
+/// A history of calls, and the moments at which the operations of its calls take effect.
+///
+/// It is told one after the other what comes: an event, or that an operation takes effect. It keeps the queue, as the operations leave
+/// it, and what each side is in, and refuses what cannot come next. Where it has accepted all, the history of the events is
+/// linearizable, by these very moments.
+#[derive(Drop)]
+pub struct Moments<'a> {
+    capacity: Capacity,
+    // the items, in the order in which they are put in
+    row: &'a [u64],
+    // how many of them were taken out, and put in
+    head: usize,
+    tail: usize,
+    closed: bool,
+    put: Putter<'a>,
+    take: Taker,
+    ghost out: { head ≤ tail },
+    ghost within: { tail ≤ length row.now },
+    ghost began: { began_at take ≤ head },
+}
+
+impl<'a> Moments<'a> {
+    ghost use Rattle.queue_calls.specs.Queue.{HasRoom, LacksRoom, Step, queue};
+    ghost use Rattle.queue_calls.specs.Calls.{Mark, Happens, Effect, IsLinearizable, events_among};
+    ghost use Rattle.queue_calls.specs.Moments.{Accepts, HasFollowed};
+    ghost use Rattle.queue_calls.specs.Steps.{done, stretch};
+    ghost use Rattle.queue_calls.specs.Told.{meant, told};
+
+    /// Nothing has come yet, at a queue of this capacity. The row has the items in the order in which they will be put in; it may have
+    /// more.
+    pub fn new(capacity: Capacity, row: &'a [u64]) -> Moments<'a>
+        ensures capacity { result.capacity ≡ capacity }
+        ensures none { HasFollowed result [] }
+    {
+        Moments {
+            capacity,
+            row,
+            head: 0,
+            tail: 0,
+            closed: false,
+            put: Putter::Idle,
+            take: Taker::Resting,
+        }
+    }
+
+    /// The events that have come are a linearizable history.
+    pub fn has_followed(&self)
+        ensures { (marks : List Mark) → HasFollowed self.now marks → IsLinearizable (meant self.now.capacity) (events_among marks) }
+    {}
+
+    // How many items are inside.
+    fn inside(&self) -> usize
+        ensures { result ≡ self.now.tail - self.now.head }
+    {
+        self.tail - self.head
+    }
+
+    // Whether there is room for one more.
+    fn has_room(&self) -> bool
+        ensures { IsTrue result ↔ HasRoom (meant self.now.capacity) (self.now.tail - self.now.head) }
+    {
+        match self.capacity {
+            Capacity::Unbounded => true,
+            Capacity::Between { full: _, most } => self.inside() < most,
+        }
+    }
+
+    // Whether the queue may say that it has no room for so many more.
+    fn lacks_room(&self, count: usize) -> bool
+        ensures { IsTrue result ↔ LacksRoom (meant self.now.capacity) (self.now.tail - self.now.head) count }
+    {
+        match self.capacity {
+            Capacity::Unbounded => false,
+            Capacity::Between { full, most: _ } => full < self.inside() || full - self.inside() < count,
+        }
+    }
+
+    // Whether the queue is closed behind an operation that leaves the items as they are, where it finds the queue as it has to be.
+    fn closed_behind(&self, does: Does) -> Option<bool>
+        ensures { IfSome result (λ closed. Step (meant self.now.capacity) (queue (stretch self.now.row.now self.now.head self.now.tail) self.now.closed) (done does) (queue (stretch self.now.row.now self.now.head self.now.tail) closed)) }
+    {
+        let inside = self.inside();
+        match does {
+            Does::FindNoRoom(count) if !self.closed && self.lacks_room(count) => Some(false),
+            Does::FindShut if self.closed => Some(true),
+            Does::Close => Some(true),
+            Does::FindFewer(count) if inside < count && (!self.closed || inside > 0) => Some(self.closed),
+            Does::FindClosed if self.closed && inside == 0 => Some(true),
+            _ => None,
+        }
+    }
+
+    /// An event comes. Whether it can: it is the next of its side, and a call that ends has taken effect as it answers. What cannot come
+    /// changes nothing.
+    pub fn happens(&mut self, event: Event<'a>) -> bool
+        ensures { Accepts self.old (Happens (told event.entry)) result self.new }
+    {
+        let Some(put) = put_event(self.put, event) else {
+            return false;
+        };
+        let Some(take) = take_event(self.row, self.head, self.take, event) else {
+            return false;
+        };
+        *self = Moments {
+            capacity: self.capacity,
+            row: self.row,
+            head: self.head,
+            tail: self.tail,
+            closed: self.closed,
+            put,
+            take,
+        };
+        true
+    }
+
+    // The item is put in.
+    fn enqueue(&mut self, item: u64) -> bool
+        ensures { Accepts self.old (Effect (done (Does.Enqueue item))) result self.new }
+    {
+        if self.closed || !self.has_room() || self.row.get(self.tail) != Some(&item) {
+            return false;
+        }
+        let Some(put) = put_effect(self.put, Does::Enqueue(item)) else {
+            return false;
+        };
+        *self = Moments {
+            capacity: self.capacity,
+            row: self.row,
+            head: self.head,
+            tail: self.tail + 1,
+            closed: false,
+            put,
+            take: self.take,
+        };
+        true
+    }
+
+    // The item is taken out.
+    fn dequeue(&mut self, item: u64) -> bool
+        ensures { Accepts self.old (Effect (done (Does.Dequeue item))) result self.new }
+    {
+        if self.head == self.tail || self.row[self.head] != item {
+            return false;
+        }
+        let Some(take) = take_one(self.row, self.head, self.take) else {
+            return false;
+        };
+        *self = Moments {
+            capacity: self.capacity,
+            row: self.row,
+            head: self.head + 1,
+            tail: self.tail,
+            closed: self.closed,
+            put: self.put,
+            take,
+        };
+        true
+    }
+
+    // The operation leaves the items as they are.
+    fn finds_so(&mut self, does: Does) -> bool
+        ensures { Accepts self.old (Effect (done does)) result self.new }
+    {
+        let Some(closed) = self.closed_behind(does) else {
+            return false;
+        };
+        let Some(put) = put_effect(self.put, does) else {
+            return false;
+        };
+        let Some(take) = take_effect(self.row, self.head, self.take, does) else {
+            return false;
+        };
+        *self = Moments {
+            capacity: self.capacity,
+            row: self.row,
+            head: self.head,
+            tail: self.tail,
+            closed,
+            put,
+            take,
+        };
+        true
+    }
+
+    /// An operation takes effect. Whether it can: its side's call is under way and does this next, and the queue is as it finds it. What
+    /// cannot come changes nothing.
+    pub fn takes_effect(&mut self, does: Does) -> bool
+        ensures { Accepts self.old (Effect (done does)) result self.new }
+    {
+        match does {
+            Does::Enqueue(item) => self.enqueue(item),
+            Does::Dequeue(item) => self.dequeue(item),
+            Does::FindNoRoom(_) | Does::FindShut | Does::Close | Does::FindFewer(_) | Does::FindClosed => self.finds_so(does),
+        }
+    }
+}
