@@ -1,7 +1,7 @@
 -- What is kept of a history whose operations take effect at moments that are told: a point of it.
-use Rattle.std.specs.Prelude.{◌≡◌, List, ◌∷◌, Bool, true, false}
-use Rattle.queue_calls.specs.Queue.{queue}
-use Rattle.queue_calls.specs.Calls.{Mark, Point, point, Leads, LeadTo}
+use Rattle.std.specs.Prelude.{◌≡◌, List, ◌∷◌, Bool, true, false, Some, slice_get}
+use Rattle.queue_calls.specs.Queue.{queue, Enqueue, FindNoRoom, FindShut, Close, Dequeue, FindFewer, FindClosed}
+use Rattle.queue_calls.specs.Calls.{Mark, Happens, Effect, Point, point, Leads, LeadTo}
 use Rattle.queue_calls.specs.Told.{meant}
 use Rattle.queue_calls.specs.Steps.{consumer_of, producer_of, stretch}
 use Rattle.queue_calls.specs.declared.moments.Moments.{Moments}
@@ -14,7 +14,19 @@ point_of m = point (queue (stretch m.row.now m.head m.tail) m.closed) (producer_
 abbrev pub HasFollowed : Moments → List Mark → Type 0
 HasFollowed m marks = LeadTo (meant m.capacity) marks (point_of m)
 
--- a mark was accepted, which leads on to what is kept now; or refused, and all is as it was
+-- where a mark puts an item in, it is the next of the row
+abbrev pub IsNext : Moments → Mark → Type 0
+IsNext m (Happens event) = Unit {0}
+IsNext m (Effect (Enqueue item)) = slice_get m.row.now m.tail ≡ Some item
+IsNext m (Effect (FindNoRoom count)) = Unit {0}
+IsNext m (Effect FindShut) = Unit {0}
+IsNext m (Effect Close) = Unit {0}
+IsNext m (Effect (Dequeue item)) = Unit {0}
+IsNext m (Effect (FindFewer count)) = Unit {0}
+IsNext m (Effect FindClosed) = Unit {0}
+
+-- a mark was accepted, which leads on to what is kept now; or it leads nowhere, but that it may put in another item than the next of the
+-- row, and all is as it was
 abbrev pub Accepts : Moments → Mark → Bool → Moments → Type 0
 Accepts old mark true new = Leads (meant old.capacity) (point_of old) mark (point_of new) × (new.capacity ≡ old.capacity) × (new.row.now ≡ old.row.now)
-Accepts old mark false new = new ≡ old
+Accepts old mark false new = (new ≡ old) × (IsNext old mark → (t : Point) → ¬ Leads (meant old.capacity) (point_of old) mark t)

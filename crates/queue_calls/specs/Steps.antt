@@ -27,7 +27,7 @@ stretch row from to = drop from (take to row)
 -- what the sides are in: a take has taken the items of the row from a place on, up to those still inside
 abbrev pub producer_of : Putter → Producer
 producer_of Idle = calls.Idle
-producer_of (Putting lacked stored left) = calls.Putting lacked stored left.now
+producer_of (Putting lacked stored items) = calls.Putting lacked stored (drop stored items.now)
 producer_of FoundShut = calls.FoundShut
 producer_of (Closing stored) = calls.Closing stored
 
@@ -41,3 +41,13 @@ abbrev pub began_at : Taker → ℕ
 began_at Resting = 0
 began_at (Taking lacked from left) = from
 began_at FoundClosed = 0
+
+-- an operation puts no item in, and takes none out
+abbrev pub IsNoItem : Does → Type 0
+IsNoItem (Enqueue item) = ⊥
+IsNoItem (FindNoRoom count) = Unit {0}
+IsNoItem FindShut = Unit {0}
+IsNoItem Close = Unit {0}
+IsNoItem (Dequeue item) = ⊥
+IsNoItem (FindFewer count) = Unit {0}
+IsNoItem FindClosed = Unit {0}

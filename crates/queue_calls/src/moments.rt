@@ -1,10 +1,10 @@
 //! Histories whose operations take effect at moments that are told.
-ghost use Rattle.std.specs.Prelude.{◌≡◌, ◌≤◌, ◌-◌, ◌↔◌, [], IfSome, IsTrue, List, length};
+ghost use Rattle.std.specs.Prelude.{◌≡◌, ◌≤◌, ◌-◌, ◌↔◌, [], IfSome, IsNone, IsTrue, List, length};
 ghost use Rattle.queue_calls.specs.Steps.{began_at};
 
 use crate::capacities::Capacity;
 use crate::events::Event;
-use crate::steps::{Does, Putter, Taker, put_effect, put_event, take_effect, take_event, take_one};
+use crate::steps::{Does, Putter, Taker, put_effect, put_event, stretch, take_effect, take_event, take_one};
 
 /// A history of calls, and the moments at which the operations of its calls take effect.
 ///
@@ -28,10 +28,10 @@ pub struct Moments<'a> {
 }
 
 impl<'a> Moments<'a> {
-    ghost use Rattle.queue_calls.specs.Queue.{HasRoom, LacksRoom, Step, queue};
+    ghost use Rattle.queue_calls.specs.Queue.{HasRoom, LacksRoom, Queue, Step, queue};
     ghost use Rattle.queue_calls.specs.Calls.{Mark, Happens, Effect, IsLinearizable, events_among};
     ghost use Rattle.queue_calls.specs.Moments.{Accepts, HasFollowed};
-    ghost use Rattle.queue_calls.specs.Steps.{done, stretch};
+    ghost use Rattle.queue_calls.specs.Steps.{IsNoItem, done, stretch};
     ghost use Rattle.queue_calls.specs.Told.{meant, told};
 
     /// Nothing has come yet, at a queue of this capacity. The row has the items in the order in which they will be put in; it may have
@@ -56,44 +56,46 @@ impl<'a> Moments<'a> {
         ensures { (marks : List Mark) → HasFollowed self.now marks → IsLinearizable (meant self.now.capacity) (events_among marks) }
     {}
 
-    // How many items are inside.
-    fn inside(&self) -> usize
-        ensures { result ≡ self.now.tail - self.now.head }
+    // The items inside.
+    fn inside(&self) -> &[u64]
+        ensures { result.now ≡ stretch self.now.row.now self.now.head self.now.tail }
     {
-        self.tail - self.head
+        stretch(self.row, self.head, self.tail)
     }
 
     // Whether there is room for one more.
     fn has_room(&self) -> bool
-        ensures { IsTrue result ↔ HasRoom (meant self.now.capacity) (self.now.tail - self.now.head) }
+        ensures { IsTrue result ↔ HasRoom (meant self.now.capacity) (length (stretch self.now.row.now self.now.head self.now.tail)) }
     {
         match self.capacity {
             Capacity::Unbounded => true,
-            Capacity::Between { full: _, most } => self.inside() < most,
+            Capacity::Between { full: _, most } => self.inside().len() < most,
         }
     }
 
     // Whether the queue may say that it has no room for so many more.
     fn lacks_room(&self, count: usize) -> bool
-        ensures { IsTrue result ↔ LacksRoom (meant self.now.capacity) (self.now.tail - self.now.head) count }
+        ensures { IsTrue result ↔ LacksRoom (meant self.now.capacity) (length (stretch self.now.row.now self.now.head self.now.tail)) count }
     {
+        let inside = self.inside().len();
         match self.capacity {
             Capacity::Unbounded => false,
-            Capacity::Between { full, most: _ } => full < self.inside() || full - self.inside() < count,
+            Capacity::Between { full, most: _ } => full < inside || full - inside < count,
         }
     }
 
     // Whether the queue is closed behind an operation that leaves the items as they are, where it finds the queue as it has to be.
     fn closed_behind(&self, does: Does) -> Option<bool>
-        ensures { IfSome result (λ closed. Step (meant self.now.capacity) (queue (stretch self.now.row.now self.now.head self.now.tail) self.now.closed) (done does) (queue (stretch self.now.row.now self.now.head self.now.tail) closed)) }
+        ensures step { IfSome result (λ closed. Step (meant self.now.capacity) (queue (stretch self.now.row.now self.now.head self.now.tail) self.now.closed) (done does) (queue (stretch self.now.row.now self.now.head self.now.tail) closed)) }
+        ensures exact { IsNone result → IsNoItem does → (after : Queue) → ¬ Step (meant self.now.capacity) (queue (stretch self.now.row.now self.now.head self.now.tail) self.now.closed) (done does) after }
     {
         let inside = self.inside();
         match does {
             Does::FindNoRoom(count) if !self.closed && self.lacks_room(count) => Some(false),
             Does::FindShut if self.closed => Some(true),
             Does::Close => Some(true),
-            Does::FindFewer(count) if inside < count && (!self.closed || inside > 0) => Some(self.closed),
-            Does::FindClosed if self.closed && inside == 0 => Some(true),
+            Does::FindFewer(count) if inside.len() < count && !(self.closed && inside.is_empty()) => Some(self.closed),
+            Does::FindClosed if self.closed && inside.is_empty() => Some(true),
             _ => None,
         }
     }
@@ -125,7 +127,10 @@ impl<'a> Moments<'a> {
     fn enqueue(&mut self, item: u64) -> bool
         ensures { Accepts self.old (Effect (done (Does.Enqueue item))) result self.new }
     {
-        if self.closed || !self.has_room() || self.row.get(self.tail) != Some(&item) {
+        if self.closed || !self.has_room() {
+            return false;
+        }
+        if self.tail == self.row.len() || self.row[self.tail] != item {
             return false;
         }
         let Some(put) = put_effect(self.put, Does::Enqueue(item)) else {
@@ -167,6 +172,7 @@ impl<'a> Moments<'a> {
 
     // The operation leaves the items as they are.
     fn finds_so(&mut self, does: Does) -> bool
+        requires { IsNoItem does }
         ensures { Accepts self.old (Effect (done does)) result self.new }
     {
         let Some(closed) = self.closed_behind(does) else {

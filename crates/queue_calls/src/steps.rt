@@ -1,8 +1,8 @@
 //! What the sides of a history are in, and the operations that lead from one to another.
-ghost use Rattle.std.specs.Prelude.{◌≡◌, ◌<◌, ◌≤◌, IfSome, get_or, length, suc};
+ghost use Rattle.std.specs.Prelude.{◌≡◌, ◌<◌, ◌≤◌, ◌↔◌, IfSome, IsNone, IsTrue, get_or, length, suc};
 ghost use Rattle.queue_calls.specs.Queue.{Dequeue};
-ghost use Rattle.queue_calls.specs.Calls.{Happens, Effect, TakeItems, Taking, ProducerStep, ConsumerStep, short_of};
-ghost use Rattle.queue_calls.specs.Steps.{began_at, consumer_of, done, producer_of, stretch};
+ghost use Rattle.queue_calls.specs.Calls.{Happens, Effect, Producer, Consumer, TakeItems, Taking, ProducerStep, ConsumerStep, short_of};
+ghost use Rattle.queue_calls.specs.Steps.{IsNoItem, began_at, consumer_of, done, producer_of, stretch};
 ghost use Rattle.queue_calls.specs.Told.{told};
 
 use crate::events::Event;
@@ -30,7 +30,7 @@ pub enum Does {
 #[derive(Clone, Copy)]
 pub enum Putter<'a> {
     Idle,
-    // how many items it found no room for, how many are stored, and which are left
+    // how many items it found no room for, how many are stored, and all that it offers
     Putting(usize, usize, &'a [u64]),
     FoundShut,
     Closing(bool),
@@ -45,22 +45,27 @@ pub enum Taker {
     FoundClosed,
 }
 
-// How many fewer a call that passed so many items and left so many had found.
-fn short_of(count: usize, left: usize) -> Option<usize>
-    ensures { IfSome result (λ fewer. fewer ≡ short_of count left) }
+// Whether so many is the reason for which a call passed so many items and left so many: one more than it passed, where it left some.
+fn is_short_of(lacked: usize, count: usize, left: usize) -> bool
+    ensures { IsTrue result ↔ (lacked ≡ short_of count left) }
 {
-    if left == 0 { Some(0) } else { count.checked_add(1) }
+    if left == 0 {
+        lacked == 0
+    } else {
+        lacked > 0 && lacked - 1 == count
+    }
 }
 
 // What the producer is in behind an event.
 pub fn put_event<'a>(put: Putter<'a>, event: Event<'a>) -> Option<Putter<'a>>
-    ensures { IfSome result (λ after. ProducerStep (producer_of put.entry) (Happens (told event.entry)) (producer_of after)) }
+    ensures step { IfSome result (λ after. ProducerStep (producer_of put.entry) (Happens (told event.entry)) (producer_of after)) }
+    ensures exact { IsNone result → (after : Producer) → ¬ ProducerStep (producer_of put.entry) (Happens (told event.entry)) after }
 {
     match (event, put) {
         (Event::PutBegins(items), Putter::Idle) if !items.is_empty() => Some(Putter::Putting(0, 0, items)),
-        (Event::PutStored(count), Putter::Putting(lacked, stored, left)) if count > 0 && stored == count && short_of(count, left.len()) == Some(lacked) => Some(Putter::Idle),
+        (Event::PutStored(count), Putter::Putting(lacked, stored, items)) if count > 0 && stored == count && is_short_of(lacked, count, items.len().saturating_sub(count)) => Some(Putter::Idle),
         (Event::PutFull, Putter::Putting(1, 0, _)) => Some(Putter::Idle),
-        (Event::PutShort, Putter::Putting(lacked, 0, left)) if left.len() > 1 && lacked == left.len() => Some(Putter::Idle),
+        (Event::PutShort, Putter::Putting(lacked, 0, items)) if items.len() > 1 && lacked == items.len() => Some(Putter::Idle),
         (Event::PutNothing, Putter::Putting(0, 0, _)) => Some(Putter::Idle),
         (Event::PutClosed, Putter::FoundShut) => Some(Putter::Idle),
         (Event::CloseBegins, Putter::Idle) => Some(Putter::Closing(false)),
@@ -72,17 +77,12 @@ pub fn put_event<'a>(put: Putter<'a>, event: Event<'a>) -> Option<Putter<'a>>
 
 // What the producer is in behind an operation.
 pub fn put_effect(put: Putter<'_>, does: Does) -> Option<Putter<'_>>
-    ensures { IfSome result (λ after. ProducerStep (producer_of put.entry) (Effect (done does)) (producer_of after)) }
+    ensures step { IfSome result (λ after. ProducerStep (producer_of put.entry) (Effect (done does)) (producer_of after)) }
+    ensures exact { IsNone result → (after : Producer) → ¬ ProducerStep (producer_of put.entry) (Effect (done does)) after }
 {
     match (does, put) {
-        (Does::Enqueue(item), Putter::Putting(lacked, stored, left)) => {
-            let (first, rest) = left.split_first()?;
-            if *first != item {
-                return None;
-            }
-            Some(Putter::Putting(lacked, stored.checked_add(1)?, rest))
-        }
-        (Does::FindNoRoom(count), Putter::Putting(0, 0, left)) => Some(Putter::Putting(count, 0, left)),
+        (Does::Enqueue(item), Putter::Putting(lacked, stored, items)) if items.get(stored) == Some(&item) => Some(Putter::Putting(lacked, stored + 1, items)),
+        (Does::FindNoRoom(count), Putter::Putting(0, 0, items)) => Some(Putter::Putting(count, 0, items)),
         (Does::FindShut, Putter::Putting(0, 0, _)) => Some(Putter::FoundShut),
         (Does::Close, Putter::Closing(false)) => Some(Putter::Closing(true)),
         (Does::Dequeue(_) | Does::FindFewer(_) | Does::FindClosed, _) => Some(put),
@@ -91,7 +91,7 @@ pub fn put_effect(put: Putter<'_>, does: Does) -> Option<Putter<'_>>
 }
 
 // The items of a row from one place up to another.
-fn stretch(row: &[u64], from: usize, to: usize) -> &[u64]
+pub fn stretch(row: &[u64], from: usize, to: usize) -> &[u64]
     requires order { from ≤ to }
     requires within { to ≤ length row.now }
     ensures { result.now ≡ stretch row.now from to }
@@ -104,9 +104,10 @@ fn items_event(row: &[u64], head: usize, items: &[u64], lacked: usize, from: usi
     requires began { from ≤ head }
     requires within { head ≤ length row.now }
     ensures step { IfSome result (λ after. ConsumerStep (Taking lacked (stretch row.now from head) left) (Happens (TakeItems items.now)) (consumer_of row.now head after)) }
+    ensures exact { IsNone result → (after : Consumer) → ¬ ConsumerStep (Taking lacked (stretch row.now from head) left) (Happens (TakeItems items.now)) after }
     ensures began { IfSome result (λ after. began_at after ≤ head) }
 {
-    if items.is_empty() || stretch(row, from, head) != items || short_of(items.len(), left) != Some(lacked) {
+    if items.is_empty() || stretch(row, from, head) != items || !is_short_of(lacked, items.len(), left) {
         return None;
     }
     Some(Taker::Resting)
@@ -117,14 +118,15 @@ pub fn take_event(row: &[u64], head: usize, take: Taker, event: Event<'_>) -> Op
     requires began { began_at take ≤ head }
     requires within { head ≤ length row.now }
     ensures step { IfSome result (λ after. ConsumerStep (consumer_of row.now head take) (Happens (told event.entry)) (consumer_of row.now head after)) }
+    ensures exact { IsNone result → (after : Consumer) → ¬ ConsumerStep (consumer_of row.now head take) (Happens (told event.entry)) after }
     ensures began { IfSome result (λ after. began_at after ≤ head) }
 {
     match (event, take) {
         (Event::TakeBegins(wanted), Taker::Resting) if wanted > 0 => Some(Taker::Taking(0, head, wanted)),
         (Event::TakeItems(items), Taker::Taking(lacked, from, left)) => items_event(row, head, items, lacked, from, left),
-        (Event::TakeEmpty, Taker::Taking(1, from, _)) if from == head => Some(Taker::Resting),
-        (Event::TakeShort, Taker::Taking(lacked, from, left)) if from == head && lacked == left && left > 1 => Some(Taker::Resting),
-        (Event::TakeNothing, Taker::Taking(0, from, _)) if from == head => Some(Taker::Resting),
+        (Event::TakeEmpty, Taker::Taking(1, from, _)) if stretch(row, from, head).is_empty() => Some(Taker::Resting),
+        (Event::TakeShort, Taker::Taking(lacked, from, left)) if stretch(row, from, head).is_empty() && lacked == left && left > 1 => Some(Taker::Resting),
+        (Event::TakeNothing, Taker::Taking(0, from, _)) if stretch(row, from, head).is_empty() => Some(Taker::Resting),
         (Event::TakeClosed, Taker::FoundClosed) => Some(Taker::Resting),
         (
             Event::PutBegins(_)
@@ -146,6 +148,7 @@ pub fn take_one(row: &[u64], head: usize, take: Taker) -> Option<Taker>
     requires began { began_at take ≤ head }
     requires within { head < length row.now }
     ensures step { IfSome result (λ after. ConsumerStep (consumer_of row.now head take) (Effect (Dequeue (get_or row.now head 0))) (consumer_of row.now (suc head) after)) }
+    ensures exact { IsNone result → (after : Consumer) → ¬ ConsumerStep (consumer_of row.now head take) (Effect (Dequeue (get_or row.now head 0))) after }
     ensures began { IfSome result (λ after. began_at after ≤ suc head) }
 {
     match take {
@@ -159,14 +162,16 @@ pub fn take_one(row: &[u64], head: usize, take: Taker) -> Option<Taker>
 // What the consumer is in behind an operation that takes no item.
 pub fn take_effect(row: &[u64], head: usize, take: Taker, does: Does) -> Option<Taker>
     requires began { began_at take ≤ head }
+    requires within { head ≤ length row.now }
     ensures step { IfSome result (λ after. ConsumerStep (consumer_of row.now head take) (Effect (done does)) (consumer_of row.now head after)) }
+    ensures exact { IsNone result → IsNoItem does → (after : Consumer) → ¬ ConsumerStep (consumer_of row.now head take) (Effect (done does)) after }
     ensures began { IfSome result (λ after. began_at after ≤ head) }
 {
     match (does, take) {
-        (Does::FindFewer(count), Taker::Taking(0, from, left)) if from == head => {
+        (Does::FindFewer(count), Taker::Taking(0, from, left)) if stretch(row, from, head).is_empty() => {
             Some(Taker::Taking(count, from, left))
         }
-        (Does::FindClosed, Taker::Taking(0, from, _)) if from == head => Some(Taker::FoundClosed),
+        (Does::FindClosed, Taker::Taking(0, from, _)) if stretch(row, from, head).is_empty() => Some(Taker::FoundClosed),
         (
             Does::Enqueue(_) | Does::FindNoRoom(_) | Does::FindShut | Does::Close,
             _,

@@ -1,9 +1,17 @@
-use Rattle.std.proofs.Common.{◌≡◌, ◌∙◌, ℕ, suc, ◌+◌, ◌<◌, ◌∷◌, get_or, refl, ap, subst, arith}
+use Rattle.std.proofs.Common.{◌≡◌, ◌∙◌, ℕ, suc, ◌+◌, ◌<◌, ◌∷◌, get_or, refl, sym, ap, subst, arith}
 use Rattle.queue_calls.specs.Queue.{Dequeue}
 use Rattle.queue_calls.specs.Calls.{Effect, ConsumerStep}
 use Rattle.queue_calls.specs.Steps.{consumer_of, stretch}
 use Rattle.queue_calls.proofs.Stretches.{first}
 use Rattle.queue_calls.proofs.moments.Moments.dequeue.Goals as goal
+
+pub returns-in_default : goal.returns-in_default
+returns-in_default c = (refl, λ next t leads.
+    let m = c.args.self.now in
+    let is : get_or m.row.now m.head 0 ≡ c.args.item = c.if-self-item.false in
+    let step : ConsumerStep (consumer_of m.row.now m.head m.take) (Effect (Dequeue c.args.item)) t.consumer = leads.consumer in
+    c.in_default.ensures.exact refl t.consumer
+    (subst (λ (i : ℕ). ConsumerStep (consumer_of m.row.now m.head m.take) (Effect (Dequeue i)) t.consumer) (sym is) step))
 
 pub returns : goal.returns
 returns c =
