@@ -2,7 +2,7 @@ use Rattle.std.proofs.Common.{◌≡◌, ◌≢◌, ◌∙◌, ◌++◌, ◌∷�
 use Rattle.std.proofs.lemmas.List.Elements.{All-append}
 use Rattle.queue_calls.specs.Recordings.{RefusesText, lines_text}
 use Rattle.queue_calls.specs.RecordingStates.{HasNoFeed, HasRead}
-use Rattle.queue_calls.proofs.recordings.Recording.read.Goals as goal
+use Rattle.queue_calls.proofs.recordings.RecordingIn.read.Goals as goal
 
 -- a piece of which so much was read, and then a line
 line_read : (piece read rest end more : List ℕ) → piece ≡ read ++ rest → rest ≡ end ++ 10 ∷ more → piece ≡ (read ++ (end ++ 10 ∷ [])) ++ more

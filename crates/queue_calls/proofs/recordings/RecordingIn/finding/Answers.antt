@@ -3,8 +3,8 @@ use Rattle.std.proofs.lemmas.Bool.{eq-eqb, eqb-true, false≢true}
 use Rattle.std.proofs.lemmas.List.{nil_from_length}
 use Rattle.queue_calls.specs.RecordingStates.{HeardLines}
 use Rattle.queue_calls.proofs.RecordingLemmas.{found, cut_refused, too_long}
-use Rattle.queue_calls.proofs.recordings.Recording.finding.Goals as goal
-use Rattle.queue_calls.proofs.recordings.Recording.finding.Goals.{in_default-via-in-Some+else-is_empty, in_default-via-in_default}
+use Rattle.queue_calls.proofs.recordings.RecordingIn.finding.Goals as goal
+use Rattle.queue_calls.proofs.recordings.RecordingIn.finding.Goals.{in_default-via-in-Some+else-is_empty, in_default-via-in_default}
 
 pub returns-in-Some-clause-found : goal.returns-in-Some-clause-found
 returns-in-Some-clause-found g c bytes has =

@@ -4,7 +4,7 @@ use Rattle.std.proofs.lemmas.List.{nil_from_length}
 use Rattle.queue_calls.specs.Recordings.{RefusesText}
 use Rattle.queue_calls.specs.RecordingStates.{HasRead, RefusesLine}
 use Rattle.queue_calls.proofs.RecordingLemmas.{end_refused}
-use Rattle.queue_calls.proofs.recordings.Recording.read_end.Goals as goal
+use Rattle.queue_calls.proofs.recordings.RecordingIn.read_end.Goals as goal
 
 -- what holds of an error follows from what else holds of it
 then_err : {T E : Type 0} {P Q : E → Type 0} (r : Result T E) → IfErr r P → ((e : E) → P e → Q e) → IfErr r Q

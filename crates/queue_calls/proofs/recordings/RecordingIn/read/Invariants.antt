@@ -1,6 +1,6 @@
 use Rattle.std.proofs.Common.{◌≡◌, ◌++◌, List, ℕ, length}
 use Rattle.queue_calls.specs.RecordingStates.{HasRead}
-use Rattle.queue_calls.proofs.recordings.Recording.read.Given as goal
+use Rattle.queue_calls.proofs.recordings.RecordingIn.read.Given as goal
 
 -- what was read of the piece, and what is left
 abbrev pub invariant-loop-end : goal.invariant-loop-end

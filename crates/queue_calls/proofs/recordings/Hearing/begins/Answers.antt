@@ -3,7 +3,7 @@ use Rattle.queue_calls.specs.State.{IsProper}
 use Rattle.queue_calls.specs.Recordings.{capacity_told}
 use Rattle.queue_calls.specs.Told.{meant}
 use Rattle.queue_calls.proofs.HearingLemmas.{proper_told, nothing_heard}
-use Rattle.queue_calls.proofs.recordings.Hearing.new.Goals as goal
+use Rattle.queue_calls.proofs.recordings.Hearing.begins.Goals as goal
 
 pub new-requires : goal.new-requires
 new-requires g c = subst IsProper (sym c.capacity_told-capacity.ensures) (proper_told c.args.numbers.now c.requires)
