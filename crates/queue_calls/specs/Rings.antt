@@ -1,5 +1,5 @@
 -- A list in slots that it goes round.
-use Rattle.std.specs.Prelude.{ℕ, ◌+◌, ◌-◌, nat_lt, if◌then◌else◌, List, ◌++◌, length, take, drop}
+use Rattle.std.specs.Prelude.{ℕ, ◌+◌, ◌-◌, nat_lt, if◌then◌else◌, List, ◌++◌, take, drop}
 use Rattle.queue_calls.specs.declared.slots.Slots.{Slots}
 
 -- the place of what stands so many places behind this one, of so many that go round

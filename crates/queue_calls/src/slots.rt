@@ -1,6 +1,5 @@
 //! Lists in slots of the caller's. They take no memory.
 ghost use Rattle.std.specs.Prelude.{◌≡◌, ◌≤◌, ◌<◌, [], length, take};
-ghost use Rattle.queue_calls.specs.Rings.{from_place};
 
 use crate::fifos::{Fifo, Row};
 use std::alloc::AllocError;
@@ -21,7 +20,7 @@ pub struct Slots<'a, T: Copy> {
 }
 
 impl<'a, T: Copy> Slots<'a, T> {
-    ghost use Rattle.queue_calls.specs.Rings.{ring_items};
+    ghost use Rattle.queue_calls.specs.Rings.{from_place, ring_items};
 
     /// An empty list in these slots. There may be none.
     pub fn new(slots: &'a mut [T]) -> Self
@@ -62,7 +61,9 @@ impl<'a, T: Copy> Fifo<T> for Slots<'a, T> {
 
     fn get(&self, index: usize) -> Option<&T> {
         if index < self.used {
-            Some(&self.slots[self.slot_of(index)])
+            let slot = self.slot_of(index);
+            let slots = &*self.slots;
+            Some(&slots[slot])
         } else {
             None
         }
@@ -80,8 +81,9 @@ impl<'a, T: Copy> Fifo<T> for Slots<'a, T> {
         if self.used == self.slots.len() {
             return Err(AllocError);
         }
-        let slot = self.slot_of(self.used);
-        self.slots[slot] = item;
+        let used = self.used;
+        let back = self.slot_of(used);
+        self.slots[back] = item;
         self.used += 1;
         Ok(())
     }
@@ -132,7 +134,8 @@ impl<'a, T: Copy> Row<T> for Front<'a, T> {
     ghost items = { λ f. take f.used f.slots.now };
 
     fn as_slice(&self) -> &[T] {
-        &self.slots[..self.used]
+        let slots = &*self.slots;
+        &slots[..self.used]
     }
 
     fn push(&mut self, item: T) -> Result<(), AllocError> {

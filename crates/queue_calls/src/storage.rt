@@ -33,9 +33,13 @@ pub struct Memory<A: Allocator> {
 
 impl<A: Allocator> Storage for Memory<A> {
     type Items = VecDeque<u64, A>;
+
     type Offered = VecDeque<Offered, A>;
+
     type Taken = VecDeque<Taken, A>;
+
     type Numbers = Vec<u64, A>;
+
     type Bytes = Vec<u8, A>;
 }
 
@@ -49,9 +53,13 @@ pub struct Lent<'a> {
 
 impl<'a> Storage for Lent<'a> {
     type Items = Slots<'a, u64>;
+
     type Offered = Slots<'a, Offered>;
+
     type Taken = Slots<'a, Taken>;
+
     type Numbers = Front<'a, u64>;
+
     type Bytes = Front<'a, u8>;
 }
 

@@ -5,8 +5,8 @@ use Rattle.queue_calls.specs.Told.{meant}
 use Rattle.queue_calls.proofs.HearingLemmas.{proper_told, nothing_heard}
 use Rattle.queue_calls.proofs.recordings.Hearing.begins.Goals as goal
 
-pub new-requires : goal.new-requires
-new-requires g c = subst IsProper (sym c.capacity_told-capacity.ensures) (proper_told c.args.numbers.now c.requires)
+pub restart-requires : goal.restart-requires
+restart-requires g c = subst IsProper (sym c.capacity_told-capacity.ensures) (proper_told c.args.numbers.now c.requires)
 
 pub returns-clause-heard : goal.returns-clause-heard
-returns-clause-heard g c = (ap meant c.new.ensures.capacity ∙ c.capacity_told-capacity.ensures, (c.new.ensures.reads, nothing_heard (capacity_told c.args.numbers.now)))
+returns-clause-heard g c = (ap meant c.restart.ensures.capacity ∙ c.capacity_told-capacity.ensures, (c.restart.ensures.reads, nothing_heard (capacity_told c.args.numbers.now)))
