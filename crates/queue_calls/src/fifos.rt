@@ -4,7 +4,7 @@ use std::collections::VecDeque;
 
 /// A first-in first-out list: a `VecDeque`, or [`Slots`] of the caller's.
 ///
-/// In use: `CallAuditor::with`.
+/// In use: `uses::calls::first_at_fault_in_slots`.
 pub trait Fifo<T: Copy>: Drop {
     ghost use Rattle.std.specs.Prelude.{◌≡◌, ◌<◌, ◌==◌, ℕ, List, [], ◌∷◌, ◌++◌, length, take, drop, slice_get, slice_set, is_ok, if◌then◌else◌};
     ghost use Rattle.std.specs.Slice.{IsItemAt};
@@ -48,7 +48,7 @@ pub trait Fifo<T: Copy>: Drop {
 
 /// A row of items that grows at its end: a `Vec`, or the [`Front`] of a slice of the caller's.
 ///
-/// In use: `Lists`.
+/// In use: `uses::findings::found_in_slots`.
 pub trait Row<T: Copy>: Drop {
     ghost use Rattle.std.specs.Prelude.{◌≡◌, ◌==◌, List, [], ◌∷◌, length, ◌++◌, is_ok, if◌then◌else◌};
 

@@ -17,7 +17,7 @@ pub const TAKEN_LIMIT: usize = 65_536;
 
 /// An item that was offered and not taken, with the lines that began and ended its put; the latter is 0 until it comes.
 ///
-/// In use: `Lists`.
+/// In use: `uses::findings::found_in_slots`.
 #[repr(C)]
 #[derive(Clone, Copy, PartialEq, Eq, Debug)]
 pub struct Offered {
@@ -28,7 +28,7 @@ pub struct Offered {
 
 /// An item that was taken, with the line that ended its take.
 ///
-/// In use: `Lists`.
+/// In use: `uses::findings::found_in_slots`.
 #[repr(C)]
 #[derive(Clone, Copy, PartialEq, Eq, Debug)]
 pub struct Taken {

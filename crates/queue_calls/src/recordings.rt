@@ -278,6 +278,8 @@ pub struct RecordingIn<S: Storage> {
 }
 
 /// A recording in memory of an allocator.
+///
+/// In use: `uses::findings::found_in`.
 pub type Recording<A> = RecordingIn<Memory<A>>;
 
 // The bytes before the first line feed, and those behind it.

@@ -8,7 +8,7 @@ use std::alloc::AllocError;
 ///
 /// It holds as many items as the slice has slots. One more is refused, as `AllocError`, and changes nothing.
 ///
-/// In use: `CallAuditor::with`.
+/// In use: `uses::calls::first_at_fault_in_slots`.
 #[derive(Drop)]
 pub struct Slots<'a, T: Copy> {
     slots: &'a mut [T],
@@ -110,7 +110,7 @@ impl<'a, T: Copy> Fifo<T> for Slots<'a, T> {
 ///
 /// It holds as many items as the slice has slots. More are refused, as `AllocError`, and change nothing.
 ///
-/// In use: `Lists`.
+/// In use: `uses::findings::found_in_slots`.
 #[derive(Drop)]
 pub struct Front<'a, T: Copy> {
     slots: &'a mut [T],

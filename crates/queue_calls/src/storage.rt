@@ -9,7 +9,7 @@ use std::marker::PhantomData;
 
 /// Where the lists of a recording lie: in [`Memory`] of an allocator, or [`Lent`] by the caller.
 ///
-/// In use: `Lists`.
+/// In use: `uses::findings::found_in_slots`.
 pub trait Storage {
     /// The items that may be inside.
     type Items: Fifo<u64>;
@@ -25,7 +25,7 @@ pub trait Storage {
 
 /// Lists in memory of an allocator, which grow as they have to.
 ///
-/// In use: `Recording::new`.
+/// In use: `uses::findings::found_in`.
 #[derive(Drop)]
 pub struct Memory<A: Allocator> {
     of: PhantomData<A>,
@@ -45,7 +45,7 @@ impl<A: Allocator> Storage for Memory<A> {
 
 /// Lists in slots that the caller lends.
 ///
-/// In use: `Lists`.
+/// In use: `uses::findings::found_in_slots`.
 #[derive(Drop)]
 pub struct Lent<'a> {
     of: PhantomData<&'a mut [u64]>,
@@ -65,7 +65,7 @@ impl<'a> Storage for Lent<'a> {
 
 /// The lists of a recording, all together.
 ///
-/// In use: `RecordingIn::within`.
+/// In use: `uses::findings::found_in_slots`.
 #[derive(Drop)]
 pub struct Lists<S: Storage> {
     /// The items that may be inside: those stored, and those that the put under way offers.
