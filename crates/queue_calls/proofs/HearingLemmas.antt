@@ -38,17 +38,17 @@ stops_before capacity events event number Says at = record {
   says = at.says;
 }
 
-pub fault_stays : {A : Type 0} (fault : Option CallsFinding) (auditor : CallAuditor A) (capacity : Capacity) (events : List Event) (event : Event) → is_some fault ≡ true
-    → IsFaultSoFar fault auditor capacity events → IsFaultSoFar fault auditor capacity (events ++ event ∷ [])
-fault_stays None auditor capacity events event some is = absurd (false≢true some)
-fault_stays (Some (Lawful report)) auditor capacity events event some is = is
-fault_stays (Some (OutOfTurn number)) auditor capacity events event some is = stops_before capacity events event number _ is
-fault_stays (Some (NotLinearizable number cause)) auditor capacity events event some is = stops_before capacity events event number _ is
+pub fault_stays : {Q : Type 0} (items : Q → List ℕ) (fault : Option CallsFinding) (auditor : CallAuditor Q) (capacity : Capacity) (events : List Event) (event : Event) → is_some fault ≡ true
+    → IsFaultSoFar items fault auditor capacity events → IsFaultSoFar items fault auditor capacity (events ++ event ∷ [])
+fault_stays items None auditor capacity events event some is = absurd (false≢true some)
+fault_stays items (Some (Lawful report)) auditor capacity events event some is = is
+fault_stays items (Some (OutOfTurn number)) auditor capacity events event some is = stops_before capacity events event number _ is
+fault_stays items (Some (NotLinearizable number cause)) auditor capacity events event some is = stops_before capacity events event number _ is
 
-pub no_fault : {A : Type 0} (fault : Option CallsFinding) (auditor : CallAuditor A) (capacity : Capacity) (events : List Event) → is_some fault ≡ false
-    → IsFaultSoFar fault auditor capacity events → Audits auditor events × IsLinearizable capacity events
-no_fault None auditor capacity events none is = is
-no_fault (Some fault) auditor capacity events none is = absurd (false≢true (sym none))
+pub no_fault : {Q : Type 0} (items : Q → List ℕ) (fault : Option CallsFinding) (auditor : CallAuditor Q) (capacity : Capacity) (events : List Event) → is_some fault ≡ false
+    → IsFaultSoFar items fault auditor capacity events → Audits items auditor events × IsLinearizable capacity events
+no_fault items None auditor capacity events none is = is
+no_fault items (Some fault) auditor capacity events none is = absurd (false≢true (sym none))
 
 -- an event with which the history is not linearizable
 pub stops_here : (told capacity : Capacity) (events : List Event) (event : Event) (number : ℕ) (Says : List Event → Type 0) → told ≡ capacity → IsLinearizable capacity events

@@ -1,4 +1,5 @@
 pub mod Rooms
+pub mod RingLemmas
 pub mod Points
 pub mod Effects
 pub mod TurnLemmas

@@ -1,16 +1,17 @@
 -- The text of a recording, line by line: where a line ends, and what its end shows.
-use Rattle.std.proofs.Common.{◌≡◌, ◌≢◌, ℕ, ◌+◌, ◌-◌, ◌^◌, ◌≤◌, List, [], ◌∷◌, ◌++◌, length, get_or, drop, Some, refl, ap, ap₂, sym, subst, ◌∙◌, append_assoc, length-append, arith}
+use Rattle.std.proofs.Common.{◌≡◌, ◌≢◌, ℕ, ◌+◌, ◌-◌, ◌^◌, ◌≤◌, List, [], ◌∷◌, ◌++◌, length, get_or, drop, refl, ap, ap₂, sym, subst, ◌∙◌, append_assoc, length-append, arith}
 use Rattle.std.proofs.lemmas.Grind.{flat_map-append}
 use Rattle.std.proofs.lemmas.List.{append-nil}
-use Rattle.std.proofs.lemmas.List.Elements.{All-append, All-head, All-tail}
+use Rattle.std.proofs.lemmas.List.Elements.{All-append, All-head, All-nil, All-tail}
 use Rattle.queue_calls.specs.Lines.{line_text}
 use Rattle.queue_calls.specs.Queue.{Capacity}
 use Rattle.queue_calls.specs.Calls.{Event}
 use Rattle.queue_calls.specs.Recordings.{Line, text_of, lines_text, AreLines, capacity_told, events_told, IsBadLine, RefusesText, IsFoundOf, IsFindingOf}
-use Rattle.queue_calls.specs.RecordingStates.{HasNoFeed, HeardLines, HasHeard, RefusesLine}
+use Rattle.queue_calls.specs.RecordingStates.{HasNoFeed, HasLines, HasRead, HeardLines, HasHeard, RefusesLine}
 use Rattle.queue_calls.specs.declared.recordings.Begun.TheVariants.{Nothing}
 use Rattle.queue_calls.specs.declared.recordings.CallsFinding.{CallsFinding}
 use Rattle.queue_calls.specs.declared.recordings.Hearing.{Hearing}
+use Rattle.queue_calls.specs.declared.recordings.RecordingIn.{RecordingIn}
 use Rattle.queue_calls.specs.declared.recordings.RecordingFault.{RecordingFault}
 use Rattle.queue_calls.specs.declared.recordings.RecordingFault.TheVariants.{BadLine, TooLong, OutOfMemory}
 use Rattle.queue_calls.proofs.LineLemmas.{line_no_feed}
@@ -53,13 +54,26 @@ too_long before bytes more text long =
     let whole : length bytes ≡ length (lines_text before) + length more = ap length text ∙ length-append (lines_text before) more in
     omega (arith, whole, long, many_bytes before)
 
--- ---- refusals
+-- ---- a line that ends
 
 -- the bytes of a line that ends, behind lines
 ended_text : (before : List Line) (bytes cut end more : List ℕ) → bytes ≡ lines_text before ++ cut → bytes ++ (end ++ 10 ∷ more) ≡ lines_text before ++ ((cut ++ end) ++ 10 ∷ more)
 ended_text before bytes cut end more text =
     ap (λ (t : List ℕ). t ++ (end ++ 10 ∷ more)) text ∙ append_assoc (lines_text before) cut (end ++ 10 ∷ more)
     ∙ ap (λ (t : List ℕ). lines_text before ++ t) (sym (append_assoc cut end (10 ∷ more)))
+
+-- a line was read, and no byte of another one
+pub line_ended : {S Q O T N B : Type 0} (items : Q → List ℕ) (bytes_of : B → List ℕ) (old new : RecordingIn S Q O T N B) (bytes end : List ℕ) (has : HasRead items bytes_of old bytes) (l : Line)
+    → bytes_of old.cut ++ end ≡ line_text l.word l.numbers → bytes_of new.cut ≡ [] → HasLines items new.lines (has.ended ++ l ∷ []) → HasRead items bytes_of new (bytes ++ end ++ 10 ∷ [])
+line_ended items bytes_of old new bytes end has l is none lines = record {
+  ended = has.ended ++ l ∷ [];
+  text = append_assoc bytes end (10 ∷ []) ∙ ended_text has.ended bytes (bytes_of old.cut) end [] has.text ∙ ap (λ (t : List ℕ). lines_text has.ended ++ (t ++ 10 ∷ [])) is ∙ sym (lines_more has.ended l)
+      ∙ sym (append-nil (lines_text (has.ended ++ l ∷ []))) ∙ ap (λ (t : List ℕ). lines_text (has.ended ++ l ∷ []) ++ t) (sym none);
+  no_feed = subst HasNoFeed (sym none) (All-nil (λ b. b ≢ 10));
+  lines = lines;
+}
+
+-- ---- refusals
 
 pub end_refused : (fault : RecordingFault) (before : List Line) (bytes cut end more : List ℕ) → bytes ≡ lines_text before ++ cut → AreLines before → HasNoFeed cut → HasNoFeed end
     → RefusesLine fault before (cut ++ end) → RefusesText fault (bytes ++ (end ++ 10 ∷ more))
@@ -92,9 +106,9 @@ cut_refused before bytes cut number text are none is there = record {
 
 -- ---- findings
 
-pub found : {A : Type 0} (hearing : Hearing A) (finding : CallsFinding) (ended : List Line) (bytes cut : List ℕ) → bytes ≡ lines_text ended ++ cut → cut ≡ [] → AreLines ended → HeardLines (Some hearing) ended
-    → ((capacity : Capacity) (events : List Event) → HasHeard hearing capacity events → IsFoundOf capacity events finding) → IsFindingOf bytes finding
-found hearing finding ended bytes cut text none are heard finds = (
+pub found : {S Q O T N B : Type 0} (items : Q → List ℕ) (hearing : Hearing S Q O T N B) (finding : CallsFinding) (ended : List Line) (bytes cut : List ℕ) → bytes ≡ lines_text ended ++ cut → cut ≡ [] → AreLines ended → HeardLines items hearing ended
+    → ((capacity : Capacity) (events : List Event) → HasHeard items hearing capacity events → IsFoundOf capacity events finding) → IsFindingOf bytes finding
+found items hearing finding ended bytes cut text none are heard finds = (
   capacity_told heard.0,
   events_told Nothing heard.1,
   record {

@@ -9,9 +9,9 @@ use Rattle.queue_calls.specs.declared.auditors.CallAuditor.{CallAuditor}
 use Rattle.queue_calls.specs.declared.faults.Fault.{Fault}
 use Rattle.queue_calls.specs.declared.faults.Fault.TheVariants.{OutOfTurn, NotLinearizable, OutOfMemory}
 
--- the auditor has read this history
-abbrev pub Audits : {A : Type 0} → CallAuditor A → List Event → Type 0
-Audits a h = Keeps (meant a.capacity) h a.inside.items a.put a.take a.shut
+-- the auditor, whose list has these items, has read this history
+abbrev pub Audits : {Q : Type 0} → (items : Q → List ℕ) → CallAuditor Q → List Event → Type 0
+Audits items a h = Keeps (meant a.capacity) h (items a.inside) a.put a.take a.shut
 
 -- what a refusal says of the history with the event
 abbrev pub RefusesEvent : Fault → Capacity → List Event → Event → Type 0
@@ -21,9 +21,9 @@ RefusesEvent OutOfMemory capacity h event = (items : List ℕ) × (event ≡ Put
 
 -- Behind each history that it has read, an auditor reads an event: it accepts where the history with the event is linearizable, and
 -- has then read that; it refuses, but for want of memory at a put's begin, where it is not, and has then read what it had.
-abbrev pub Reads : {A : Type 0} → CallAuditor A → Event → Result Unit Fault → CallAuditor A → Type 0
-Reads old event result new =
+abbrev pub Reads : {Q : Type 0} → (items : Q → List ℕ) → CallAuditor Q → Event → Result Unit Fault → CallAuditor Q → Type 0
+Reads items old event result new =
     (new.capacity ≡ old.capacity) ×
-    ((h : List Event) → Audits old h →
-    MatchResult result (λ _. Audits new (h ++ event ∷ []) × IsLinearizable (meant old.capacity) (h ++ event ∷ []))
-    (λ fault. Audits new h × RefusesEvent fault (meant old.capacity) h event))
+    ((h : List Event) → Audits items old h →
+    MatchResult result (λ _. Audits items new (h ++ event ∷ []) × IsLinearizable (meant old.capacity) (h ++ event ∷ []))
+    (λ fault. Audits items new h × RefusesEvent fault (meant old.capacity) h event))

@@ -2,6 +2,7 @@ pub mod Queue
 pub mod Calls
 pub mod InTurn
 pub mod State
+pub mod Rings
 pub mod Audits
 pub mod Told
 pub mod Steps

@@ -15,33 +15,32 @@ use Rattle.queue_calls.specs.declared.recordings.RecordingFault.{RecordingFault}
 use Rattle.queue_calls.specs.declared.recordings.RecordingFault.TheVariants.{BadLine, TooLong, OutOfMemory}
 use Rattle.queue_calls.specs.declared.recordings.Hearing.{Hearing}
 use Rattle.queue_calls.specs.declared.recordings.Lines.{Lines}
-use Rattle.queue_calls.specs.declared.recordings.Recording.{Recording}
+use Rattle.queue_calls.specs.declared.recordings.RecordingIn.{RecordingIn}
 
 -- no byte is a line feed
 abbrev pub HasNoFeed : List ℕ → Type 0
 HasNoFeed bytes = All (λ b. b ≢ 10) bytes
 
 -- the first fault of a history, or none so far
-abbrev pub IsFaultSoFar : {A : Type 0} → Option CallsFinding → CallAuditor A → Capacity → List Event → Type 0
-IsFaultSoFar None auditor capacity events = Audits auditor events × IsLinearizable capacity events
-IsFaultSoFar (Some (Lawful report)) auditor capacity events = ⊥
-IsFaultSoFar (Some fault) auditor capacity events = IsFoundOf capacity events fault
+abbrev pub IsFaultSoFar : {Q : Type 0} → (items : Q → List ℕ) → Option CallsFinding → CallAuditor Q → Capacity → List Event → Type 0
+IsFaultSoFar items None auditor capacity events = Audits items auditor events × IsLinearizable capacity events
+IsFaultSoFar items (Some (Lawful report)) auditor capacity events = ⊥
+IsFaultSoFar items (Some fault) auditor capacity events = IsFoundOf capacity events fault
 
 -- these events were heard, of a queue of this capacity
-abbrev pub HasHeard : {A : Type 0} → Hearing A → Capacity → List Event → Type 0
-HasHeard hearing capacity events = (meant hearing.auditor.capacity ≡ capacity) × IsFaultSoFar hearing.fault hearing.auditor capacity events
+abbrev pub HasHeard : {S Q O T N B : Type 0} → (items : Q → List ℕ) → Hearing S Q O T N B → Capacity → List Event → Type 0
+HasHeard items hearing capacity events = (meant hearing.auditor.capacity ≡ capacity) × IsFaultSoFar items hearing.fault hearing.auditor capacity events
 
--- lines were heard
-abbrev pub HeardLines : {A : Type 0} → Option (Hearing A) → List Line → Type 0
-HeardLines None lines = lines ≡ []
-HeardLines (Some hearing) lines = (first : List ℕ) × (further : List Line) × (lines ≡ line Queue first ∷ further)
-    × (hearing.begun ≡ begun_behind Nothing further) × HasHeard hearing (capacity_told first) (events_told Nothing further)
+-- lines were heard, a first one and others
+abbrev pub HeardLines : {S Q O T N B : Type 0} → (items : Q → List ℕ) → Hearing S Q O T N B → List Line → Type 0
+HeardLines items hearing lines = (first : List ℕ) × (further : List Line) × (lines ≡ line Queue first ∷ further)
+    × (hearing.begun ≡ begun_behind Nothing further) × HasHeard items hearing (capacity_told first) (events_told Nothing further)
 
 -- these lines have ended
-pub record HasLines {A : Type 0} (lines : Lines A) (ended : List Line) : Type 0 where
+pub record HasLines {S Q O T N B : Type 0} (items : Q → List ℕ) (lines : Lines S Q O T N B) (ended : List Line) : Type 0 where
   pub are : AreLines ended
   pub count : lines.count ≡ length ended
-  pub heard : HeardLines lines.hearing ended
+  pub heard : ended ≢ [] → HeardLines items lines.hearing ended
 
 -- bytes without a line feed are a line that goes on with lines
 abbrev pub ContinuesLines : List Line → List ℕ → Line → Type 0
@@ -53,9 +52,9 @@ RefusesLine (BadLine number) before bytes = (length before + 1 ≡ number) × ((
 RefusesLine TooLong before bytes = length before ≡ 2 ^ 64 - 1
 RefusesLine OutOfMemory before bytes = Unit {0}
 
--- these bytes were read
-pub record HasRead {A : Type 0} (recording : Recording A) (bytes : List ℕ) : Type 0 where
+-- these bytes were read, by a recording whose lists have these items and these bytes
+pub record HasRead {S Q O T N B : Type 0} (items : Q → List ℕ) (bytes_of : B → List ℕ) (recording : RecordingIn S Q O T N B) (bytes : List ℕ) : Type 0 where
   pub ended : List Line
-  pub text : bytes ≡ lines_text ended ++ recording.cut.items
-  pub no_feed : HasNoFeed recording.cut.items
-  pub lines : HasLines recording.lines ended
+  pub text : bytes ≡ lines_text ended ++ bytes_of recording.cut
+  pub no_feed : HasNoFeed (bytes_of recording.cut)
+  pub lines : HasLines items recording.lines ended

@@ -4,6 +4,7 @@ ghost use Rattle.std.specs.Prelude.{◌≡◌, suc, ◌++◌, ◌↔◌, IsTrue,
 use crate::capacities::Capacity;
 use crate::events::Event;
 use crate::faults::Fault;
+use crate::fifos::Fifo;
 use crate::turns::{PutTurn, TakeTurn};
 use std::alloc::Allocator;
 use std::collections::VecDeque;
@@ -20,21 +21,37 @@ use std::collections::VecDeque;
 /// it wanted found no more than these before it took the first.
 ///
 /// An event takes constant time, amortized, for each item that it tells, and the memory is that of the
-/// items inside and of those offered by the put under way.
+/// items inside and of those offered by the put under way: of an allocator, or slots that the caller gives.
 ///
 /// In use: `uses::calls::first_at_fault`.
 #[derive(Drop)]
-pub struct CallAuditor<A: Allocator> {
+pub struct CallAuditor<Q: Fifo<u64>> {
     capacity: Capacity,
     // the items stored or offered and not yet taken, in order
-    inside: VecDeque<u64, A>,
+    inside: Q,
     put: PutTurn,
     take: TakeTurn,
     // a close has ended, or a take was told that the queue is closed
     shut: bool,
 }
 
-impl<A: Allocator> CallAuditor<A> {
+impl<A: Allocator> CallAuditor<VecDeque<u64, A>> {
+    ghost use Rattle.queue_calls.specs.State.{IsProper};
+    ghost use Rattle.queue_calls.specs.Audits.{Audits};
+    ghost use Rattle.queue_calls.specs.Told.{meant};
+
+    /// An auditor of a queue of this capacity that has read no event yet. A capacity between two numbers has a first one of
+    /// at least 1, and a second one that is no less.
+    pub fn new(alloc: A, capacity: Capacity) -> CallAuditor<VecDeque<u64, A>>
+        requires { IsProper (meant capacity) }
+        ensures capacity { result.capacity ≡ capacity }
+        ensures reads { Audits (λ q. q.items) result [] }
+    {
+        CallAuditor::with(VecDeque::new(alloc), capacity)
+    }
+}
+
+impl<Q: Fifo<u64>> CallAuditor<Q> {
     ghost use Rattle.queue_calls.specs.Queue.{LacksRoom};
     ghost use Rattle.queue_calls.specs.Calls.{Event as AnEvent, IsLinearizable, PutBegin, PutStored, PutFull, PutShort, PutNothing, PutClosed, CloseBegin, CloseEnd, TakeBegin, TakeItems, TakeEmpty, TakeShort, TakeNothing, TakeClosed};
     ghost use Rattle.queue_calls.specs.State.{IsProper, MayHold, offered_by, asked_by, has_closed, AreNext, CanEndPut, CanEndTake};
@@ -43,25 +60,40 @@ impl<A: Allocator> CallAuditor<A> {
     ghost use Rattle.queue_calls.specs.declared.turns.PutTurn.TheVariants.{Free};
     ghost use Rattle.queue_calls.specs.declared.turns.TakeTurn.TheVariants.{Rests};
 
-    /// An auditor of a queue of this capacity that has read no event yet. A capacity between two numbers has a first one of
-    /// at least 1, and a second one that is no less.
-    pub fn new(alloc: A, capacity: Capacity) -> CallAuditor<A>
+    /// As [`new`](CallAuditor::new), with a list of the caller's to keep the items in, which may be in slots. What it holds is
+    /// taken away.
+    pub fn with(list: Q, capacity: Capacity) -> CallAuditor<Q>
         requires { IsProper (meant capacity) }
         ensures capacity { result.capacity ≡ capacity }
-        ensures reads { Audits result [] }
+        ensures reads { Audits Q.items result [] }
     {
+        let mut inside = list;
+        inside.truncate(0);
         CallAuditor {
             capacity,
-            inside: VecDeque::new(alloc),
+            inside,
             put: PutTurn::Free,
             take: TakeTurn::Rests,
             shut: false,
         }
     }
 
+    /// Forgets what it has read, and audits a history of a queue of this capacity from its begin, in the same list.
+    pub fn restart(&mut self, capacity: Capacity)
+        requires { IsProper (meant capacity) }
+        ensures capacity { self.new.capacity ≡ capacity }
+        ensures reads { Audits Q.items self.new [] }
+    {
+        self.inside.truncate(0);
+        self.capacity = capacity;
+        self.put = PutTurn::Free;
+        self.take = TakeTurn::Rests;
+        self.shut = false;
+    }
+
     /// What it has read is linearizable.
     pub fn has_read(&self)
-        ensures { (h : List AnEvent) → Audits self.now h → IsLinearizable (meant self.now.capacity) h }
+        ensures { (h : List AnEvent) → Audits Q.items self.now h → IsLinearizable (meant self.now.capacity) h }
     {}
 
     /// Reads the next event of the history. It tells `OutOfTurn` where the event begins a call while one of
@@ -69,7 +101,7 @@ impl<A: Allocator> CallAuditor<A> {
     /// where the history with it is not linearizable; and `OutOfMemory` where a put begins and memory for its items ran
     /// out. Of a refused event nothing is kept.
     pub fn feed(&mut self, event: Event<'_>) -> Result<(), Fault>
-        ensures { Reads self.old (told event.entry) result self.new }
+        ensures { Reads Q.items self.old (told event.entry) result self.new }
     {
         match event {
             Event::PutBegins(items) => self.put_begins(items),
@@ -91,7 +123,7 @@ impl<A: Allocator> CallAuditor<A> {
 
     /// A put of these items begins, of one at least.
     pub fn put_begins(&mut self, items: &[u64]) -> Result<(), Fault>
-        ensures { Reads self.old (PutBegin items.now) result self.new }
+        ensures { Reads Q.items self.old (PutBegin items.now) result self.new }
     {
         match self.put {
             PutTurn::Free => {}
@@ -124,7 +156,7 @@ impl<A: Allocator> CallAuditor<A> {
 
     // Puts the items behind those inside, or none of them where memory ran out.
     fn holds(&mut self, items: &[u64]) -> bool
-        ensures inside { self.new.inside.items ≡ (if result then self.old.inside.items ++ items.now else self.old.inside.items) }
+        ensures inside { Q.items self.new.inside ≡ (if result then (Q.items self.old.inside) ++ items.now else (Q.items self.old.inside)) }
         ensures capacity { self.new.capacity ≡ self.old.capacity }
         ensures put { self.new.put ≡ self.old.put }
         ensures take { self.new.take ≡ self.old.take }
@@ -142,7 +174,7 @@ impl<A: Allocator> CallAuditor<A> {
 
     /// The put ends: so many of its first items were stored, one at least and no more than it offered.
     pub fn put_stored(&mut self, count: usize) -> Result<(), Fault>
-        ensures { Reads self.old (PutStored count) result self.new }
+        ensures { Reads Q.items self.old (PutStored count) result self.new }
     {
         match self.put {
             PutTurn::Offers { offered, before } => {
@@ -169,7 +201,7 @@ impl<A: Allocator> CallAuditor<A> {
 
     /// The put ends: the queue had no room for one item, and none was stored.
     pub fn put_full(&mut self) -> Result<(), Fault>
-        ensures { Reads self.old PutFull result self.new }
+        ensures { Reads Q.items self.old PutFull result self.new }
     {
         match self.put {
             PutTurn::Offers { offered, before } => {
@@ -185,7 +217,7 @@ impl<A: Allocator> CallAuditor<A> {
 
     /// The put of several items ends: the queue had no room for all of them, and none was stored.
     pub fn put_short(&mut self) -> Result<(), Fault>
-        ensures { Reads self.old PutShort result self.new }
+        ensures { Reads Q.items self.old PutShort result self.new }
     {
         match self.put {
             PutTurn::Offers { offered, before } => {
@@ -209,7 +241,7 @@ impl<A: Allocator> CallAuditor<A> {
 
     /// The put ends: none of its items was stored, and no reason is told.
     pub fn put_nothing(&mut self) -> Result<(), Fault>
-        ensures { Reads self.old PutNothing result self.new }
+        ensures { Reads Q.items self.old PutNothing result self.new }
     {
         match self.put {
             PutTurn::Offers { offered, before: _ } => {
@@ -248,8 +280,8 @@ impl<A: Allocator> CallAuditor<A> {
 
     // Ends the put without so many of its last items, where that can be.
     fn ends_put(&mut self, rest: usize) -> bool
-        ensures ends { IsTrue result ↔ CanEndPut (meant self.old.capacity) (length self.old.inside.items) (asked_by self.old.take) rest }
-        ensures inside { self.new.inside.items ≡ (if result then take (length self.old.inside.items - rest) self.old.inside.items else self.old.inside.items) }
+        ensures ends { IsTrue result ↔ CanEndPut (meant self.old.capacity) (length (Q.items self.old.inside)) (asked_by self.old.take) rest }
+        ensures inside { Q.items self.new.inside ≡ (if result then take (length (Q.items self.old.inside) - rest) (Q.items self.old.inside) else (Q.items self.old.inside)) }
         ensures put { self.new.put ≡ (if result then Free else self.old.put) }
         ensures capacity { self.new.capacity ≡ self.old.capacity }
         ensures take { self.new.take ≡ self.old.take }
@@ -269,7 +301,7 @@ impl<A: Allocator> CallAuditor<A> {
 
     /// The put ends: the queue was closed, and none of its items was stored.
     pub fn put_closed(&mut self) -> Result<(), Fault>
-        ensures { Reads self.old PutClosed result self.new }
+        ensures { Reads Q.items self.old PutClosed result self.new }
     {
         match self.put {
             PutTurn::Late { offered: _ } => {
@@ -286,7 +318,7 @@ impl<A: Allocator> CallAuditor<A> {
 
     /// A close begins.
     pub fn close_begins(&mut self) -> Result<(), Fault>
-        ensures { Reads self.old CloseBegin result self.new }
+        ensures { Reads Q.items self.old CloseBegin result self.new }
     {
         match self.put {
             PutTurn::Free => {
@@ -304,7 +336,7 @@ impl<A: Allocator> CallAuditor<A> {
 
     /// The close ends.
     pub fn close_ends(&mut self) -> Result<(), Fault>
-        ensures { Reads self.old CloseEnd result self.new }
+        ensures { Reads Q.items self.old CloseEnd result self.new }
     {
         match self.put {
             PutTurn::Closes { again: _ } => {
@@ -323,7 +355,7 @@ impl<A: Allocator> CallAuditor<A> {
 
     /// A take of up to so many items begins, of one at least.
     pub fn take_begins(&mut self, wanted: usize) -> Result<(), Fault>
-        ensures { Reads self.old (TakeBegin wanted) result self.new }
+        ensures { Reads Q.items self.old (TakeBegin wanted) result self.new }
     {
         match self.take {
             TakeTurn::Rests => {
@@ -348,7 +380,7 @@ impl<A: Allocator> CallAuditor<A> {
 
     /// The take ends: it took these items, one at least and no more than it wanted.
     pub fn take_items(&mut self, items: &[u64]) -> Result<(), Fault>
-        ensures { Reads self.old (TakeItems items.now) result self.new }
+        ensures { Reads Q.items self.old (TakeItems items.now) result self.new }
     {
         match self.take {
             TakeTurn::Rests => Err(Fault::OutOfTurn),
@@ -373,7 +405,7 @@ impl<A: Allocator> CallAuditor<A> {
 
     // Whether these items are the next ones to be taken.
     fn are_next(&self, items: &[u64]) -> bool
-        ensures { IsTrue result ↔ AreNext items.now self.now.inside.items }
+        ensures { IsTrue result ↔ AreNext items.now (Q.items self.now.inside) }
     {
         for (index, item) in items.iter().enumerate() {
             match self.inside.get(index) {
@@ -390,8 +422,8 @@ impl<A: Allocator> CallAuditor<A> {
 
     // Ends the take with so many items, the next ones, where that can be.
     fn ends_take(&mut self, count: usize) -> bool
-        ensures ends { IsTrue result ↔ CanEndTake (meant self.old.capacity) (length self.old.inside.items) (offered_by self.old.put) count }
-        ensures inside { self.new.inside.items ≡ (if result then drop count self.old.inside.items else self.old.inside.items) }
+        ensures ends { IsTrue result ↔ CanEndTake (meant self.old.capacity) (length (Q.items self.old.inside)) (offered_by self.old.put) count }
+        ensures inside { Q.items self.new.inside ≡ (if result then drop count (Q.items self.old.inside) else (Q.items self.old.inside)) }
         ensures take { self.new.take ≡ (if result then Rests else self.old.take) }
         ensures capacity { self.new.capacity ≡ self.old.capacity }
         ensures put { self.new.put ≡ self.old.put }
@@ -410,7 +442,7 @@ impl<A: Allocator> CallAuditor<A> {
 
     /// The take ends: the queue had no item, and some may come.
     pub fn take_empty(&mut self) -> Result<(), Fault>
-        ensures { Reads self.old TakeEmpty result self.new }
+        ensures { Reads Q.items self.old TakeEmpty result self.new }
     {
         match self.take {
             TakeTurn::Rests => Err(Fault::OutOfTurn),
@@ -430,7 +462,7 @@ impl<A: Allocator> CallAuditor<A> {
     /// The take of several items ends: the queue had fewer than it wanted, though it was not empty and closed, and none was
     /// taken.
     pub fn take_short(&mut self) -> Result<(), Fault>
-        ensures { Reads self.old TakeShort result self.new }
+        ensures { Reads Q.items self.old TakeShort result self.new }
     {
         match self.take {
             TakeTurn::Rests => Err(Fault::OutOfTurn),
@@ -452,7 +484,7 @@ impl<A: Allocator> CallAuditor<A> {
 
     /// The take ends: no item was taken, and no reason is told.
     pub fn take_nothing(&mut self) -> Result<(), Fault>
-        ensures { Reads self.old TakeNothing result self.new }
+        ensures { Reads Q.items self.old TakeNothing result self.new }
     {
         match self.take {
             TakeTurn::Rests => Err(Fault::OutOfTurn),
@@ -471,7 +503,7 @@ impl<A: Allocator> CallAuditor<A> {
 
     /// The take ends: the queue was empty and closed.
     pub fn take_closed(&mut self) -> Result<(), Fault>
-        ensures { Reads self.old TakeClosed result self.new }
+        ensures { Reads Q.items self.old TakeClosed result self.new }
     {
         match self.take {
             TakeTurn::Rests => Err(Fault::OutOfTurn),

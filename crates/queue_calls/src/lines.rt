@@ -3,7 +3,8 @@ ghost use Rattle.std.specs.Prelude.{◌≡◌, ◌↔◌, IsTrue, None, IfOk, If
 ghost use Rattle.queue_calls.specs.Lines.{Allows, IsLine, word_text};
 ghost use Rattle.queue_calls.specs.LineReading.{ReadsNumbers, bytes_behind, digits_behind, spaced_number, put_word_at, take_word_at, line_word_at};
 
-use std::alloc::{AllocError, Allocator};
+use crate::fifos::Row;
+use std::alloc::AllocError;
 
 /// The words that a line of a recording begins with.
 ///
@@ -67,17 +68,14 @@ impl Word {
 /// Reads one line, without its line feed: its word, and in `numbers` its numbers in place of what was there. It is
 /// `None` where the bytes are no line of the format, and an error only where memory for the numbers ran out; `numbers`
 /// may then hold anything.
-pub fn read_line<A: Allocator>(
-    bytes: &[u8],
-    numbers: &mut Vec<u64, A>,
-) -> Result<Option<Word>, AllocError>
-    ensures line { IfOk result (λ read. IfSome read (λ word. IsLine bytes.now word numbers.new.items)) }
+pub fn read_line<R: Row<u64>>(bytes: &[u8], numbers: &mut R) -> Result<Option<Word>, AllocError>
+    ensures line { IfOk result (λ read. IfSome read (λ word. IsLine bytes.now word (R.items numbers.new))) }
     ensures none { IfOk result (λ read. read ≡ None → (word : Word) (told : List ℕ) → ¬ IsLine bytes.now word told) }
 {
     let Some((word, rest)) = word_at(bytes) else {
         return Ok(None);
     };
-    if read_numbers(rest, numbers)? && allows(word, numbers) {
+    if read_numbers(rest, numbers)? && allows(word, numbers.as_slice()) {
         Ok(Some(word))
     } else {
         Ok(None)
@@ -153,8 +151,8 @@ fn after<'a>(bytes: &'a [u8], text: &str) -> Option<&'a [u8]>
 }
 
 // Reads numbers with a space before each of them, and tells whether the bytes are such.
-fn read_numbers<A: Allocator>(bytes: &[u8], numbers: &mut Vec<u64, A>) -> Result<bool, AllocError>
-    ensures { IfOk result (λ read. ReadsNumbers bytes.now read numbers.new.items) }
+fn read_numbers<R: Row<u64>>(bytes: &[u8], numbers: &mut R) -> Result<bool, AllocError>
+    ensures { IfOk result (λ read. ReadsNumbers bytes.now read (R.items numbers.new)) }
 {
     numbers.clear();
     let mut left = bytes;

@@ -4,9 +4,10 @@
 use crate::capacities::Capacity;
 use crate::causes::Cause;
 use crate::events::Event;
+use crate::fifos::{Fifo, Row};
 use crate::reports::Report;
-use std::alloc::{AllocError, Allocator};
-use std::collections::VecDeque;
+use crate::storage::Storage;
+use std::alloc::AllocError;
 
 /// How many of the items taken last are looked through for one that comes again.
 ///
@@ -14,19 +15,25 @@ use std::collections::VecDeque;
 /// put.
 pub const TAKEN_LIMIT: usize = 65_536;
 
-// An item that was offered and not taken, with the lines that began and ended its put; the latter is 0 until it comes.
-#[derive(Clone, Copy)]
-struct Offered {
-    item: u64,
-    offered_at: u64,
-    stored_at: u64,
+/// An item that was offered and not taken, with the lines that began and ended its put; the latter is 0 until it comes.
+///
+/// In use: `uses::findings::found_in_slots`.
+#[repr(C)]
+#[derive(Clone, Copy, PartialEq, Eq, Debug)]
+pub struct Offered {
+    pub item: u64,
+    pub offered_at: u64,
+    pub stored_at: u64,
 }
 
-// An item that was taken, with the line that ended its take.
-#[derive(Clone, Copy)]
-struct Taken {
-    item: u64,
-    taken_at: u64,
+/// An item that was taken, with the line that ended its take.
+///
+/// In use: `uses::findings::found_in_slots`.
+#[repr(C)]
+#[derive(Clone, Copy, PartialEq, Eq, Debug)]
+pub struct Taken {
+    pub item: u64,
+    pub taken_at: u64,
 }
 
 // A put under way: whether a close had ended before it, and how many items had been taken then.
@@ -52,16 +59,16 @@ struct Call<T> {
 }
 
 #[derive(Drop)]
-pub struct Notes<A: Allocator> {
-    full: usize,
+pub struct Notes<S: Storage> {
+    // the most items that the queue holds; the largest number stands for no bound
     most: usize,
     report: Report,
     // the items that may be taken, in order: those stored, and those that the put under way offers
-    inside: VecDeque<Offered, A>,
+    inside: S::Offered,
     // all items of the last put
-    offers: Vec<u64, A>,
+    offers: S::Numbers,
     // the items taken last
-    taken: VecDeque<Taken, A>,
+    taken: S::Taken,
     // none where the call is a close
     producer: Option<Call<Option<Putting>>>,
     consumer: Option<Call<Taking>>,
@@ -70,37 +77,53 @@ pub struct Notes<A: Allocator> {
     closed_at: Option<u64>,
 }
 
-impl<A: Allocator + Copy> Notes<A> {
-    /// Nothing of a queue of this capacity; the largest number stands for none.
-    pub fn new(alloc: A, capacity: Capacity) -> Notes<A> {
-        let (full, most) = match capacity {
-            Capacity::Unbounded => (usize::MAX, usize::MAX),
-            Capacity::Between { full, most } => (full, most),
-        };
+// The report on no line.
+fn no_report() -> Report {
+    Report {
+        calls: 0,
+        stored: 0,
+        taken: 0,
+        full: 0,
+        empty: 0,
+        nothing: 0,
+        told: false,
+        surely_inside: 0,
+        perhaps_inside: 0,
+        overlapped: 0,
+        under_way: 0,
+    }
+}
+
+impl<S: Storage> Notes<S> {
+    /// Nothing of a queue with no bound, with these lists to keep notes in.
+    pub fn new(offered: S::Offered, offers: S::Numbers, taken: S::Taken) -> Notes<S> {
         Notes {
-            full,
-            most,
-            report: Report {
-                calls: 0,
-                stored: 0,
-                taken: 0,
-                full: 0,
-                empty: 0,
-                nothing: 0,
-                told: false,
-                surely_inside: 0,
-                perhaps_inside: 0,
-                overlapped: 0,
-                under_way: 0,
-            },
-            inside: VecDeque::new(alloc),
-            offers: Vec::new(alloc),
-            taken: VecDeque::new(alloc),
+            most: usize::MAX,
+            report: no_report(),
+            inside: offered,
+            offers,
+            taken,
             producer: None,
             consumer: None,
             has_close: false,
             closed_at: None,
         }
+    }
+
+    /// Forgets all, and has nothing of a queue of this capacity.
+    pub fn restart(&mut self, capacity: Capacity) {
+        self.most = match capacity {
+            Capacity::Unbounded => usize::MAX,
+            Capacity::Between { full: _, most } => most,
+        };
+        self.report = no_report();
+        self.inside.truncate(0);
+        self.offers.clear();
+        self.taken.truncate(0);
+        self.producer = None;
+        self.consumer = None;
+        self.has_close = false;
+        self.closed_at = None;
     }
 
     /// The report on the lines so far.
@@ -116,7 +139,7 @@ impl<A: Allocator + Copy> Notes<A> {
         match event {
             Event::PutBegins(items) => self.put_begins(line, items)?,
             Event::PutStored(count) => {
-                if count < self.offers.len() {
+                if count < self.offers.as_slice().len() {
                     self.report.full = self.report.full.saturating_add(1);
                 }
                 self.put_ends(line, count);
@@ -246,8 +269,13 @@ impl<A: Allocator + Copy> Notes<A> {
             self.inside.truncate(after);
         }
         for index in before..after {
-            if let Some(offered) = self.inside.get_mut(index) {
-                offered.stored_at = line;
+            if let Some(offered) = self.inside.get(index).copied() {
+                let stored = Offered {
+                    item: offered.item,
+                    offered_at: offered.offered_at,
+                    stored_at: line,
+                };
+                self.inside.set(index, stored);
             }
         }
         self.producer = None;
@@ -259,12 +287,10 @@ impl<A: Allocator + Copy> Notes<A> {
         if TAKEN_LIMIT <= self.taken.len() {
             let _ = self.taken.pop_front();
         }
-        Ok(
-            self.taken.push_back(Taken {
-                item,
-                taken_at: line,
-            })?,
-        )
+        self.taken.push_back(Taken {
+            item,
+            taken_at: line,
+        })
     }
 
     /// What speaks against an event, of this line, that comes in its turn, and with which the history is not linearizable.
@@ -287,7 +313,7 @@ impl<A: Allocator + Copy> Notes<A> {
 
     // The item of this place in the put under way.
     fn offer(&self, index: usize) -> u64 {
-        self.offers.get(index).copied().unwrap_or(0)
+        self.offers.as_slice().get(index).copied().unwrap_or(0)
     }
 
     // The line that ended the first close, where the put under way began after it.
@@ -387,20 +413,26 @@ impl<A: Allocator + Copy> Notes<A> {
 
     // Whether an item is inside or being put, at this place or behind it.
     fn is_inside_behind(&self, index: usize, item: u64) -> bool {
-        self.inside
-            .iter()
-            .skip(index)
-            .any(|offered| offered.item == item)
+        for place in index..self.inside.len() {
+            if let Some(offered) = self.inside.get(place) {
+                if offered.item == item {
+                    return true;
+                }
+            }
+        }
+        false
     }
 
     // Of an item that is not inside, nor earlier in its line.
     fn not_inside(&self, item: u64) -> Cause {
-        for taken in self.taken.iter().rev() {
-            if taken.item == item {
-                return Cause::ComesAgain {
-                    item,
-                    taken_at: taken.taken_at,
-                };
+        for place in (0..self.taken.len()).rev() {
+            if let Some(taken) = self.taken.get(place) {
+                if taken.item == item {
+                    return Cause::ComesAgain {
+                        item,
+                        taken_at: taken.taken_at,
+                    };
+                }
             }
         }
         Cause::NotPut(item)
@@ -483,7 +515,7 @@ impl<A: Allocator + Copy> Notes<A> {
         if !self.has_close {
             return Cause::ClosedBeforeClose;
         }
-        match self.inside.front() {
+        match self.inside.get(0) {
             Some(offered) => Cause::ClosedWhileInside {
                 item: offered.item,
                 stored_at: offered.stored_at,

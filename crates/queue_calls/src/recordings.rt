@@ -14,11 +14,14 @@ use crate::capacities::{Capacity, exactly};
 use crate::causes::Cause;
 use crate::events::Event;
 use crate::faults::Fault;
+use crate::fifos::{Fifo, Row};
 use crate::lines::{Word, read_line};
 use crate::notes::Notes;
 use crate::reports::Report;
+use crate::storage::{Lists, Memory, Storage};
 use memchr::memchr;
 use std::alloc::{AllocError, Allocator};
+use std::collections::VecDeque;
 use thiserror::Error;
 
 /// What is found of a recording.
@@ -72,9 +75,9 @@ pub enum Begun {
 
 // The history that the lines tell, with what is found of it so far.
 #[derive(Drop)]
-struct Hearing<A: Allocator> {
-    auditor: CallAuditor<A>,
-    notes: Notes<A>,
+struct Hearing<S: Storage> {
+    auditor: CallAuditor<S::Items>,
+    notes: Notes<S>,
     begun: Begun,
     // the first fault
     fault: Option<CallsFinding>,
@@ -155,28 +158,37 @@ fn begun_after(begun: Begun, word: Word, numbers: &[u64]) -> Begun
     }
 }
 
-impl<A: Allocator + Copy> Hearing<A> {
+impl<S: Storage> Hearing<S> {
     ghost use Rattle.queue_calls.specs.declared.recordings.Begun.TheVariants.{Nothing};
     ghost use Rattle.queue_calls.specs.declared.recordings.RecordingFault.TheVariants.{OutOfMemory};
 
-    fn new(alloc: A, numbers: &[u64]) -> Hearing<A>
-        requires { Allows word.Queue numbers.now }
-        ensures heard { HasHeard result (capacity_told numbers.now) [] }
-        ensures begun { result.begun ≡ Nothing }
-    {
-        let capacity = capacity_told(numbers);
+    // Nothing was heard, and of what queue is not told.
+    fn new(items: S::Items, notes: Notes<S>) -> Hearing<S> {
         Hearing {
-            auditor: CallAuditor::new(alloc, capacity),
-            notes: Notes::new(alloc, capacity),
+            auditor: CallAuditor::with(items, Capacity::Unbounded),
+            notes,
             begun: Begun::Nothing,
             fault: None,
         }
     }
 
+    // Forgets all, and hears of a queue of the capacity that these numbers of a first line tell.
+    fn begins(&mut self, numbers: &[u64])
+        requires { Allows word.Queue numbers.now }
+        ensures heard { HasHeard S.Items.items self.new (capacity_told numbers.now) [] }
+        ensures begun { self.new.begun ≡ Nothing }
+    {
+        let capacity = capacity_told(numbers);
+        self.auditor.restart(capacity);
+        self.notes.restart(capacity);
+        self.begun = Begun::Nothing;
+        self.fault = None;
+    }
+
     // Hears the event of a line; behind a fault nothing is asked of it.
     fn hear(&mut self, line: u64, event: Event<'_>) -> Result<(), RecordingFault>
-        ensures heard { OnOk result ((capacity : ACapacity) (events : List AnEvent) → HasHeard self.old capacity events → length events + 2 ≡ line
-            → HasHeard self.new capacity (events ++ told event.entry ∷ [])) }
+        ensures heard { OnOk result ((capacity : ACapacity) (events : List AnEvent) → HasHeard S.Items.items self.old capacity events → length events + 2 ≡ line
+            → HasHeard S.Items.items self.new capacity (events ++ told event.entry ∷ [])) }
         ensures refused { IfErr result (λ e. e ≡ OutOfMemory) }
         ensures begun { self.new.begun ≡ self.old.begun }
     {
@@ -200,7 +212,7 @@ impl<A: Allocator + Copy> Hearing<A> {
 
     // What is found of the lines so far.
     fn finding(&self) -> CallsFinding
-        ensures { (capacity : ACapacity) (events : List AnEvent) → HasHeard self.now capacity events → IsFoundOf capacity events result }
+        ensures { (capacity : ACapacity) (events : List AnEvent) → HasHeard S.Items.items self.now capacity events → IsFoundOf capacity events result }
     {
         match self.fault {
             Some(fault) => fault,
@@ -211,21 +223,20 @@ impl<A: Allocator + Copy> Hearing<A> {
 
 // The lines that have ended.
 #[derive(Drop)]
-struct Lines<A: Allocator> {
-    alloc: A,
+struct Lines<S: Storage> {
     // the numbers of the last one
-    numbers: Vec<u64, A>,
+    numbers: S::Numbers,
     // how many there are
     count: u64,
-    // none before the first line
-    hearing: Option<Hearing<A>>,
+    // what was heard of those behind the first one, which tells of what queue it is
+    hearing: Hearing<S>,
 }
 
-impl<A: Allocator + Copy> Lines<A> {
+impl<S: Storage> Lines<S> {
     // Reads one more line, without its line feed.
     fn read(&mut self, line: &[u8]) -> Result<(), RecordingFault>
-        ensures read { OnOk result ((before : List Line) → HasLines self.old before → (l : Line) × ContinuesLines before line.now l × HasLines self.new (before ++ l ∷ [])) }
-        ensures refused { IfErr result (λ e. (before : List Line) → HasLines self.old before → RefusesLine e before line.now) }
+        ensures read { OnOk result ((before : List Line) → HasLines S.Items.items self.old before → (l : Line) × ContinuesLines before line.now l × HasLines S.Items.items self.new (before ++ l ∷ [])) }
+        ensures refused { IfErr result (λ e. (before : List Line) → HasLines S.Items.items self.old before → RefusesLine e before line.now) }
     {
         let Some(count) = self.count.checked_add(1) else {
             return Err(RecordingFault::TooLong);
@@ -235,37 +246,41 @@ impl<A: Allocator + Copy> Lines<A> {
             return Err(RecordingFault::BadLine(count));
         };
         let numbers = self.numbers.as_slice();
-        match &mut self.hearing {
-            Some(hearing) => {
-                let Some(event) = event_told(hearing.begun, word, numbers) else {
-                    return Err(RecordingFault::BadLine(count));
-                };
-                hearing.begun = begun_after(hearing.begun, word, numbers);
-                hearing.hear(count, event)
-            }
-            None => match word {
+        if count == 1 {
+            return match word {
                 Word::Queue => {
-                    self.hearing = Some(Hearing::new(self.alloc, numbers));
+                    self.hearing.begins(numbers);
                     Ok(())
                 }
                 _ => Err(RecordingFault::BadLine(count)),
-            },
+            };
         }
+        let Some(event) = event_told(self.hearing.begun, word, numbers) else {
+            return Err(RecordingFault::BadLine(count));
+        };
+        self.hearing.begun = begun_after(self.hearing.begun, word, numbers);
+        self.hearing.hear(count, event)
     }
 }
 
 /// A recording of the calls of a queue, as far as it was read.
 ///
 /// The text comes in pieces, cut anywhere, and is not kept: the memory is that of the items inside, of the longest line and of
-/// the last [`TAKEN_LIMIT`](crate::TAKEN_LIMIT) items taken. A piece takes time linear in its bytes.
+/// the last [`TAKEN_LIMIT`](crate::TAKEN_LIMIT) items taken; in lists of an allocator, or of the caller. A piece takes time linear in
+/// its bytes.
 ///
 /// In use: `uses::findings::found_in`.
 #[derive(Drop)]
-pub struct Recording<A: Allocator> {
-    lines: Lines<A>,
+pub struct RecordingIn<S: Storage> {
+    lines: Lines<S>,
     // the bytes of a line that has not ended
-    cut: Vec<u8, A>,
+    cut: S::Bytes,
 }
+
+/// A recording in memory of an allocator.
+///
+/// In use: `uses::findings::found_in`.
+pub type Recording<A> = RecordingIn<Memory<A>>;
 
 // The bytes before the first line feed, and those behind it.
 fn split_line(bytes: &[u8]) -> Option<(&[u8], &[u8])>
@@ -275,19 +290,44 @@ fn split_line(bytes: &[u8]) -> Option<(&[u8], &[u8])>
     Some((&bytes[..end], &bytes[end + 1..]))
 }
 
-impl<A: Allocator + Copy> Recording<A> {
+impl<A: Allocator + Copy> RecordingIn<Memory<A>> {
     /// A recording of which nothing was read.
     pub fn new(alloc: A) -> Recording<A>
-        ensures { HasRead result [] }
+        ensures { HasRead (λ q. q.items) (λ v. v.items) result [] }
     {
-        Recording {
+        RecordingIn::within(Lists {
+            items: VecDeque::new(alloc),
+            offered: VecDeque::new(alloc),
+            taken: VecDeque::new(alloc),
+            offers: Vec::new(alloc),
+            numbers: Vec::new(alloc),
+            bytes: Vec::new(alloc),
+        })
+    }
+}
+
+impl<S: Storage> RecordingIn<S> {
+    /// A recording of which nothing was read, with these lists to read it in. What they hold is taken away.
+    pub fn within(lists: Lists<S>) -> RecordingIn<S>
+        ensures { HasRead S.Items.items S.Bytes.items result [] }
+    {
+        let Lists {
+            items,
+            offered,
+            taken,
+            offers,
+            numbers,
+            bytes,
+        } = lists;
+        let mut cut = bytes;
+        cut.clear();
+        RecordingIn {
             lines: Lines {
-                alloc,
-                numbers: Vec::new(alloc),
+                numbers,
                 count: 0,
-                hearing: None,
+                hearing: Hearing::new(items, Notes::new(offered, offers, taken)),
             },
-            cut: Vec::new(alloc),
+            cut,
         }
     }
 
@@ -297,8 +337,8 @@ impl<A: Allocator + Copy> Recording<A> {
     /// fault before it; `TooLong` past 2^64 - 1 lines; `OutOfMemory` where a growth was refused. A recording that gave one of these
     /// is of no further use.
     pub fn read(&mut self, piece: &[u8]) -> Result<(), RecordingFault>
-        ensures read { OnOk result ((bytes : List ℕ) → HasRead self.old bytes → HasRead self.new (bytes ++ piece.now)) }
-        ensures refused { IfErr result (λ e. (bytes more : List ℕ) → HasRead self.old bytes → RefusesText e (bytes ++ (piece.now ++ more))) }
+        ensures read { OnOk result ((bytes : List ℕ) → HasRead S.Items.items S.Bytes.items self.old bytes → HasRead S.Items.items S.Bytes.items self.new (bytes ++ piece.now)) }
+        ensures refused { IfErr result (λ e. (bytes more : List ℕ) → HasRead S.Items.items S.Bytes.items self.old bytes → RefusesText e (bytes ++ (piece.now ++ more))) }
     {
         let mut rest = piece;
         while let Some((end, more)) = split_line(rest) {
@@ -312,8 +352,8 @@ impl<A: Allocator + Copy> Recording<A> {
     // Reads the end of a line, without its line feed.
     fn read_end(&mut self, end: &[u8]) -> Result<(), RecordingFault>
         requires { HasNoFeed end.now }
-        ensures read { OnOk result ((bytes : List ℕ) → HasRead self.old bytes → HasRead self.new (bytes ++ end.now ++ 10 ∷ [])) }
-        ensures refused { IfErr result (λ e. (bytes more : List ℕ) → HasRead self.old bytes → RefusesText e (bytes ++ (end.now ++ 10 ∷ more))) }
+        ensures read { OnOk result ((bytes : List ℕ) → HasRead S.Items.items S.Bytes.items self.old bytes → HasRead S.Items.items S.Bytes.items self.new (bytes ++ end.now ++ 10 ∷ [])) }
+        ensures refused { IfErr result (λ e. (bytes more : List ℕ) → HasRead S.Items.items S.Bytes.items self.old bytes → RefusesText e (bytes ++ (end.now ++ 10 ∷ more))) }
     {
         if self.cut.is_empty() {
             return self.lines.read(end);
@@ -326,15 +366,15 @@ impl<A: Allocator + Copy> Recording<A> {
 
     /// What is found, where the text ends here: `BadLine` where its last line has not ended, or there is none.
     pub fn finding(&self) -> Result<CallsFinding, RecordingFault>
-        ensures found { IfOk result (λ finding. (bytes : List ℕ) → HasRead self.now bytes → IsFindingOf bytes finding) }
-        ensures refused { IfErr result (λ e. (bytes : List ℕ) → HasRead self.now bytes → RefusesText e bytes) }
+        ensures found { IfOk result (λ finding. (bytes : List ℕ) → HasRead S.Items.items S.Bytes.items self.now bytes → IsFindingOf bytes finding) }
+        ensures refused { IfErr result (λ e. (bytes : List ℕ) → HasRead S.Items.items S.Bytes.items self.now bytes → RefusesText e bytes) }
     {
-        match &self.lines.hearing {
-            Some(hearing) if self.cut.is_empty() => Ok(hearing.finding()),
-            _ => match self.lines.count.checked_add(1) {
-                Some(line) => Err(RecordingFault::BadLine(line)),
-                None => Err(RecordingFault::TooLong),
-            },
+        if self.lines.count > 0 && self.cut.is_empty() {
+            return Ok(self.lines.hearing.finding());
+        }
+        match self.lines.count.checked_add(1) {
+            Some(line) => Err(RecordingFault::BadLine(line)),
+            None => Err(RecordingFault::TooLong),
         }
     }
 }

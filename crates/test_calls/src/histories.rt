@@ -2,7 +2,7 @@ ghost use Rattle.std.specs.Prelude.{◌≡◌, true};
 ghost use Rattle.queue_calls.specs.State.{IsProper};
 ghost use Rattle.queue_calls.specs.Told.{meant};
 
-use queue_calls::{CallAuditor, Capacity, Event, Fault};
+use queue_calls::{CallAuditor, Capacity, Event, Fault, Fifo, Slots};
 use std::alloc::AllocGlobal;
 use std::process::Abort;
 use std::test::Fail;
@@ -487,11 +487,7 @@ fn is_proper(capacity: Capacity) -> bool
 }
 
 // Feeds the events in turn: none is refused but the last one, and that as the case says.
-fn is_told(rt: &HostRuntime, case: &Case) -> bool {
-    if !is_proper(case.capacity) {
-        return false;
-    }
-    let mut auditor = CallAuditor::new(rt.alloc(), case.capacity);
+fn is_told<Q: Fifo<u64>>(auditor: &mut CallAuditor<Q>, case: &Case) -> bool {
     let mut left = case.events.len();
     for event in case.events {
         left = left.saturating_sub(1);
@@ -511,10 +507,24 @@ fn is_told(rt: &HostRuntime, case: &Case) -> bool {
     true
 }
 
+fn is_told_in_memory(rt: &HostRuntime, case: &Case) -> bool {
+    is_proper(case.capacity) && is_told(&mut CallAuditor::new(rt.alloc(), case.capacity), case)
+}
+
+// As many slots as a case has items inside at most.
+const ROOM: usize = 5;
+
+fn is_told_in_slots(case: &Case) -> bool {
+    let mut slots = [9; ROOM];
+    let list = Slots::new(&mut slots);
+    is_proper(case.capacity) && is_told(&mut CallAuditor::with(list, case.capacity), case)
+}
+
 #[test]
 fn each_history_is_told(rt: HostRuntime) -> Result<(), Fail> {
     for case in CASES.iter() {
-        assert!(rt; is_told(&rt, case));
+        assert!(rt; is_told_in_memory(&rt, case));
+        assert!(rt; is_told_in_slots(case));
     }
     Ok(())
 }

@@ -7,3 +7,5 @@ mod growths;
 mod histories;
 #[cfg(test)]
 mod recordings;
+#[cfg(test)]
+mod slots;

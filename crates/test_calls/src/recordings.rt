@@ -6,7 +6,7 @@ use std::test::Fail;
 
 // A queue of 2 cells: a put of two items while a take is under way, one that is full, one of which a part is stored, a take of
 // several, an empty take, and the end.
-const TEXT: &[u8] = b"queue 2
+pub const TEXT: &[u8] = b"queue 2
 C take
 P put 7 8
 C item 7
@@ -25,7 +25,7 @@ C take
 C closed
 ";
 
-const REPORT: Report = Report {
+pub const REPORT: Report = Report {
     calls: 8,
     stored: 3,
     taken: 3,
@@ -40,7 +40,7 @@ const REPORT: Report = Report {
 };
 
 // A text that is refused, and at which line.
-const REFUSED: [(&[u8], u64); 29] = [
+pub const REFUSED: [(&[u8], u64); 29] = [
     (b"", 1),
     (b"\n", 1),
     (b"queue 8", 1),

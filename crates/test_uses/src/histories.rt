@@ -1,13 +1,13 @@
 //! Uses of plays, of histories that are audited, and of recorded calls.
 use bits_core::{Act, Bit, Event, Shape, Side};
-use queue_calls::Event as Call;
+use queue_calls::{CallsFinding, Event as Call, Offered, Taken};
 use ring_audit::audit;
 use std::alloc::AllocGlobal;
 use std::rt::HostRuntime;
 use std::test::Fail;
 use uses::audits::{is_lawful, is_of_ring};
-use uses::calls::first_at_fault;
-use uses::findings::{line_at_fault, sentence_of};
+use uses::calls::{first_at_fault, first_at_fault_in_slots};
+use uses::findings::{Room, found_in_slots, line_at_fault, sentence_of};
 use uses::plays::takes_of;
 use uses::{findings, plays};
 
@@ -80,6 +80,31 @@ fn calls_are_audited(rt: HostRuntime) -> Result<(), Fail> {
     ];
     assert_eq!(rt; first_at_fault(rt.alloc(), 8, &calls)?, Some(3));
     assert_eq!(rt; first_at_fault(rt.alloc(), 8, &calls[..3])?, None);
+    assert_eq!(rt; first_at_fault_in_slots(&mut [0], 8, &calls)?, Some(3));
+    Ok(())
+}
+
+#[test]
+fn a_recording_is_read_in_slots(rt: HostRuntime) -> Result<(), Fail> {
+    let text = b"queue 8\nP put 12\nP stored\nC take\nC item 12\n";
+    let mut offered = [Offered {
+        item: 0,
+        offered_at: 0,
+        stored_at: 0,
+    }];
+    let mut taken = [Taken {
+        item: 0,
+        taken_at: 0,
+    }];
+    let room = Room {
+        items: &mut [0],
+        offered: &mut offered,
+        taken: &mut taken,
+        offers: &mut [0],
+        numbers: &mut [0],
+        bytes: &mut [],
+    };
+    assert!(rt; matches!(found_in_slots(room, text), Ok(CallsFinding::Lawful(_))));
     Ok(())
 }
 

@@ -5,7 +5,9 @@ ghost use Rattle.queue_calls.specs.Recordings.{IsFindingOf};
 ghost use Rattle.uses.specs.Judged.{JudgesLine};
 
 use bits_core::{Event, Shape};
-use queue_calls::{CallsFinding, Recording, RecordingFault};
+use queue_calls::{
+    CallsFinding, Front, Lent, Lists, Offered, Recording, RecordingFault, RecordingIn, Slots, Taken,
+};
 use ring_audit::{AuditFault, Finding, audit};
 use std::alloc::{AllocError, Allocator};
 
@@ -54,6 +56,34 @@ pub fn found_in<A: Allocator + Copy>(
     'pieces: for piece in pieces {
         recording.read(piece)?;
     }
+    recording.finding()
+}
+
+/// Slots that a recording is read in.
+#[derive(Drop)]
+pub struct Room<'a> {
+    pub items: &'a mut [u64],
+    pub offered: &'a mut [Offered],
+    pub taken: &'a mut [Taken],
+    pub offers: &'a mut [u64],
+    pub numbers: &'a mut [u64],
+    pub bytes: &'a mut [u8],
+}
+
+/// What is found of a text, with no memory but these slots.
+pub fn found_in_slots(room: Room<'_>, text: &[u8]) -> Result<CallsFinding, RecordingFault>
+    ensures { IfOk result (IsFindingOf text.now) }
+{
+    let lists: Lists<Lent<'_>> = Lists {
+        items: Slots::new(room.items),
+        offered: Slots::new(room.offered),
+        taken: Slots::new(room.taken),
+        offers: Front::new(room.offers),
+        numbers: Front::new(room.numbers),
+        bytes: Front::new(room.bytes),
+    };
+    let mut recording = RecordingIn::within(lists);
+    recording.read(text)?;
     recording.finding()
 }
 

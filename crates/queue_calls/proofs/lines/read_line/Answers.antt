@@ -8,18 +8,18 @@ use Rattle.queue_calls.proofs.lines.read_line.Goals.{else-branch-via-then-branch
 
 pub returns-then-allows-clause-line : goal.returns-then-allows-clause-line
 returns-then-allows-clause-line g c =
-    line_is c.args.bytes.now c.in-Some.rest.now c.in-Some.word c.read_numbers.new.numbers.items c.in-Some.ensures
-    (subst (λ t. ReadsNumbers c.in-Some.rest.now t c.read_numbers.new.numbers.items) c.if-branch.true c.in_ok-read_numbers.ensures)
-    (subst (λ ns. Allows c.in-Some.word ns) c.deref.ensures.value (c.if-allows.ensures.0 refl))
+    line_is c.args.bytes.now c.in-Some.rest.now c.in-Some.word (g.R.Row.items c.read_numbers.new.numbers) c.in-Some.ensures
+    (subst (λ t. ReadsNumbers c.in-Some.rest.now t (g.R.Row.items c.read_numbers.new.numbers)) c.if-branch.true c.in_ok-read_numbers.ensures)
+    (subst (λ ns. Allows c.in-Some.word ns) c.as_slice.ensures (c.if-allows.ensures.0 refl))
 
 pub returns-else-branch-clause-none : goal.returns-else-branch-clause-none
 returns-else-branch-clause-none g c none word told =
     elim c.else-branch.branch [
       | else-branch-via-then-branch+else-allows w ↦
-          no_line_allowed c.args.bytes.now c.in-Some.rest.now c.in-Some.word c.read_numbers.new.numbers.items c.in-Some.ensures
-          (subst (λ t. ReadsNumbers c.in-Some.rest.now t c.read_numbers.new.numbers.items) w.if-branch.true c.in_ok-read_numbers.ensures)
-          (λ allowed. false≢true (w.if-allows.ensures.1 (subst (λ ns. Allows c.in-Some.word ns) (sym w.deref.ensures.value) allowed))) word told
+          no_line_allowed c.args.bytes.now c.in-Some.rest.now c.in-Some.word (g.R.Row.items c.read_numbers.new.numbers) c.in-Some.ensures
+          (subst (λ t. ReadsNumbers c.in-Some.rest.now t (g.R.Row.items c.read_numbers.new.numbers)) w.if-branch.true c.in_ok-read_numbers.ensures)
+          (λ allowed. false≢true (w.if-allows.ensures.1 (subst (λ ns. Allows c.in-Some.word ns) (sym w.as_slice.ensures) allowed))) word told
       | else-branch-via-else-branch w ↦
           no_line_numbers c.args.bytes.now c.in-Some.rest.now c.in-Some.word c.in-Some.ensures
-          (subst (λ t. ReadsNumbers c.in-Some.rest.now t c.read_numbers.new.numbers.items) w.if-branch.false c.in_ok-read_numbers.ensures) word told
+          (subst (λ t. ReadsNumbers c.in-Some.rest.now t (g.R.Row.items c.read_numbers.new.numbers)) w.if-branch.false c.in_ok-read_numbers.ensures) word told
     ]

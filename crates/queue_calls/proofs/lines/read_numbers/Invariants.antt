@@ -5,8 +5,8 @@ use Rattle.queue_calls.proofs.lines.read_numbers.Given as goal
 -- the numbers so far and what is left are all; where all of it is numbers, what is left is
 abbrev pub invariant-loop-left : goal.invariant-loop-left
 invariant-loop-left g l = record {
-  text : l.bytes ≡ numbers_text l.numbers.items ++ l.left;
-  small : AreSmall l.numbers.items;
+  text : l.bytes ≡ numbers_text (g.R.Row.items l.numbers) ++ l.left;
+  small : AreSmall (g.R.Row.items l.numbers);
   more : (told : List ℕ) → AreSmall told → l.bytes ≡ numbers_text told → (more : List ℕ) × AreSmall more × (l.left ≡ numbers_text more);
 }
 

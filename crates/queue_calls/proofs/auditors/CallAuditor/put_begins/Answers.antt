@@ -16,7 +16,7 @@ returns-in-Offers g c = (
   refl,
   λ h k.
       let s = c.args.self.now in
-      away_begin (meant s.capacity) h s.inside.items s.put s.take s.shut k c.args.items.now (inl (busy s.put c.in-Offers.is)),
+      away_begin (meant s.capacity) h (g.Q.Fifo.items s.inside) s.put s.take s.shut k c.args.items.now (inl (busy s.put c.in-Offers.is)),
 )
 
 pub returns-then-is_empty : goal.returns-then-is_empty
@@ -24,7 +24,7 @@ returns-then-is_empty g c = (
   refl,
   λ h k.
       let s = c.args.self.now in
-      away_begin (meant s.capacity) h s.inside.items s.put s.take s.shut k c.args.items.now (inr (true-eqb (length c.args.items.now) 0 c.if-is_empty.ensures)),
+      away_begin (meant s.capacity) h (g.Q.Fifo.items s.inside) s.put s.take s.shut k c.args.items.now (inr (true-eqb (length c.args.items.now) 0 c.if-is_empty.ensures)),
 )
 
 pub returns-then-self : goal.returns-then-self
@@ -33,11 +33,11 @@ returns-then-self g c = (
   λ h k.
       let s = c.args.self.now in
       let items : List ℕ = c.args.items.now in
-      let G : PutTurn → Bool → Type 0 = λ z b. Keeps (meant s.capacity) h s.inside.items z s.take b in
-      let R : Bool → Type 0 = λ b. Accepts (meant s.capacity) h (PutBegin items) s.inside.items (Late (length items)) s.take b in
+      let G : PutTurn → Bool → Type 0 = λ z b. Keeps (meant s.capacity) h (g.Q.Fifo.items s.inside) z s.take b in
+      let R : Bool → Type 0 = λ b. Accepts (meant s.capacity) h (PutBegin items) (g.Q.Fifo.items s.inside) (Late (length items)) s.take b in
       let j : G Free true = subst (λ b. G Free b) c.if-self.true (subst (λ z. G z s.shut) c.in-Free.is k) in
       let some : length items ≢ 0 = false-eqb (length items) 0 c.if-is_empty.ensures in
-      subst R (sym c.if-self.true) (late_begin (meant s.capacity) h s.inside.items items s.take j (omega (arith, some))),
+      subst R (sym c.if-self.true) (late_begin (meant s.capacity) h (g.Q.Fifo.items s.inside) items s.take j (omega (arith, some))),
 )
 
 pub returns : goal.returns
@@ -48,16 +48,16 @@ returns g c = (
       let n = c.holds.new.self in
       let items : List ℕ = c.args.items.now in
       let before : ℕ = c.len-before.result in
-      let is_before : before ≡ length s.inside.items = omega (arith, c.len-before.ensures, s.inside.ok.0) in
+      let is_before : before ≡ length (g.Q.Fifo.items s.inside) = omega (arith, c.len-before.ensures) in
       let some : length items ≢ 0 = false-eqb (length items) 0 c.if-is_empty.ensures in
-      let G : PutTurn → Bool → Type 0 = λ z b. Keeps (meant s.capacity) h s.inside.items z s.take b in
+      let G : PutTurn → Bool → Type 0 = λ z b. Keeps (meant s.capacity) h (g.Q.Fifo.items s.inside) z s.take b in
       let K : Capacity → List ℕ → ℕ → TakeTurn → Bool → Type 0 = λ b l i t z. Keeps (meant b) (h ++ PutBegin items ∷ []) l (Offers (length items) i) t z in
       let j : G Free false = subst (λ b. G Free b) c.if-self.false (subst (λ z. G z s.shut) c.in-Free.is k) in
-      let (a, b) = put_begin (meant s.capacity) h s.inside.items items s.take j (omega (arith, some)) in
-      let a0 : K s.capacity (s.inside.items ++ items) before s.take false = subst (λ z. K s.capacity (s.inside.items ++ items) z s.take false) (sym is_before) a in
-      let a1 : K s.capacity (s.inside.items ++ items) before s.take n.shut = subst (λ z. K s.capacity (s.inside.items ++ items) before s.take z) (sym (c.if-not-holds.ensures.shut ∙ c.if-self.false)) a0 in
-      let a2 : K s.capacity (s.inside.items ++ items) before n.take n.shut = subst (λ z. K s.capacity (s.inside.items ++ items) before z n.shut) (sym c.if-not-holds.ensures.take) a1 in
-      let a3 : K s.capacity n.inside.items before n.take n.shut = subst (λ z. K s.capacity z before n.take n.shut) (sym c.if-not-holds.ensures.inside) a2 in
-      let a4 : K n.capacity n.inside.items before n.take n.shut = subst (λ z. K z n.inside.items before n.take n.shut) (sym c.if-not-holds.ensures.capacity) a3 in
+      let (a, b) = put_begin (meant s.capacity) h (g.Q.Fifo.items s.inside) items s.take j (omega (arith, some)) in
+      let a0 : K s.capacity ((g.Q.Fifo.items s.inside) ++ items) before s.take false = subst (λ z. K s.capacity ((g.Q.Fifo.items s.inside) ++ items) z s.take false) (sym is_before) a in
+      let a1 : K s.capacity ((g.Q.Fifo.items s.inside) ++ items) before s.take n.shut = subst (λ z. K s.capacity ((g.Q.Fifo.items s.inside) ++ items) before s.take z) (sym (c.if-not-holds.ensures.shut ∙ c.if-self.false)) a0 in
+      let a2 : K s.capacity ((g.Q.Fifo.items s.inside) ++ items) before n.take n.shut = subst (λ z. K s.capacity ((g.Q.Fifo.items s.inside) ++ items) before z n.shut) (sym c.if-not-holds.ensures.take) a1 in
+      let a3 : K s.capacity (g.Q.Fifo.items n.inside) before n.take n.shut = subst (λ z. K s.capacity z before n.take n.shut) (sym c.if-not-holds.ensures.inside) a2 in
+      let a4 : K n.capacity (g.Q.Fifo.items n.inside) before n.take n.shut = subst (λ z. K z (g.Q.Fifo.items n.inside) before n.take n.shut) (sym c.if-not-holds.ensures.capacity) a3 in
       (a4, b),
 )

@@ -14,7 +14,7 @@ returns-in-Free g c = (
   refl,
   λ h k.
       let s = c.args.self.now in
-      away_nothing (meant s.capacity) h s.inside.items s.put s.take s.shut k (λ n. no_put s.put n c.in-Free.is),
+      away_nothing (meant s.capacity) h (g.Q.Fifo.items s.inside) s.put s.take s.shut k (λ n. no_put s.put n c.in-Free.is),
 )
 
 pub returns-in-Late : goal.returns-in-Late
@@ -22,8 +22,8 @@ returns-in-Late g c = (
   refl,
   λ h k.
       let s = c.args.self.now in
-      let F : PutTurn → Type 0 = λ z. Keeps (meant s.capacity) h s.inside.items z s.take s.shut → Accepts (meant s.capacity) h PutNothing s.inside.items Free s.take s.shut in
-      subst F (sym c.in-Late.is) (λ j. late_nothing (meant s.capacity) h s.inside.items s.take s.shut c.in-Late.offered j) k,
+      let F : PutTurn → Type 0 = λ z. Keeps (meant s.capacity) h (g.Q.Fifo.items s.inside) z s.take s.shut → Accepts (meant s.capacity) h PutNothing (g.Q.Fifo.items s.inside) Free s.take s.shut in
+      subst F (sym c.in-Late.is) (λ j. late_nothing (meant s.capacity) h (g.Q.Fifo.items s.inside) s.take s.shut c.in-Late.offered j) k,
 )
 
 pub returns-then-not-ends_put : goal.returns-then-not-ends_put
@@ -33,9 +33,9 @@ returns-then-not-ends_put g c = (
       let s = c.args.self.now in
       let n = c.ends_put.new.self in
       let e = c.if-not-ends_put.ensures in
-      let F : PutTurn → Type 0 = λ z. Keeps (meant s.capacity) h s.inside.items z s.take s.shut in
-      let (a, b) = not_nothing (meant s.capacity) h s.inside.items s.take s.shut c.in-Offers.offered c.in-Offers.before (subst F c.in-Offers.is k) (λ f. let x : false ≡ true = e.ends.1 f in cc) in
-      (kept_as (meant s.capacity) (meant n.capacity) h s.inside.items n.inside.items s.put n.put s.take n.take s.shut n.shut (ap meant e.capacity) e.inside e.put e.take e.shut k, b),
+      let F : PutTurn → Type 0 = λ z. Keeps (meant s.capacity) h (g.Q.Fifo.items s.inside) z s.take s.shut in
+      let (a, b) = not_nothing (meant s.capacity) h (g.Q.Fifo.items s.inside) s.take s.shut c.in-Offers.offered c.in-Offers.before (subst F c.in-Offers.is k) (λ f. let x : false ≡ true = e.ends.1 f in cc) in
+      (kept_as (meant s.capacity) (meant n.capacity) h (g.Q.Fifo.items s.inside) (g.Q.Fifo.items n.inside) s.put n.put s.take n.take s.shut n.shut (ap meant e.capacity) e.inside e.put e.take e.shut k, b),
 )
 
 pub returns-else-not-ends_put : goal.returns-else-not-ends_put
@@ -45,7 +45,7 @@ returns-else-not-ends_put g c = (
       let s = c.args.self.now in
       let n = c.ends_put.new.self in
       let e = c.if-not-ends_put.ensures in
-      let F : PutTurn → Type 0 = λ z. Keeps (meant s.capacity) h s.inside.items z s.take s.shut in
-      let (a, b) = put_nothing (meant s.capacity) h s.inside.items s.take s.shut c.in-Offers.offered c.in-Offers.before (subst F c.in-Offers.is k) (e.ends.0 refl) in
-      (kept_as (meant s.capacity) (meant n.capacity) (h ++ PutNothing ∷ []) _ n.inside.items Free n.put s.take n.take s.shut n.shut (ap meant e.capacity) e.inside e.put e.take e.shut a, b),
+      let F : PutTurn → Type 0 = λ z. Keeps (meant s.capacity) h (g.Q.Fifo.items s.inside) z s.take s.shut in
+      let (a, b) = put_nothing (meant s.capacity) h (g.Q.Fifo.items s.inside) s.take s.shut c.in-Offers.offered c.in-Offers.before (subst F c.in-Offers.is k) (e.ends.0 refl) in
+      (kept_as (meant s.capacity) (meant n.capacity) (h ++ PutNothing ∷ []) _ (g.Q.Fifo.items n.inside) Free n.put s.take n.take s.shut n.shut (ap meant e.capacity) e.inside e.put e.take e.shut a, b),
 )

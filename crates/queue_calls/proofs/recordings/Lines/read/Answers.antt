@@ -1,7 +1,8 @@
-use Rattle.std.proofs.Common.{◌≡◌, ◌∙◌, ℕ, ◌+◌, List, [], ◌∷◌, ◌++◌, length, Option, Some, Result, Ok, Err, OnOk, IfSome, length-append, ap₂, sym, subst, arith}
+use Rattle.std.proofs.Common.{◌≡◌, ◌≢◌, ap, ◌∙◌, ℕ, ◌+◌, List, [], ◌∷◌, ◌++◌, length, Option, Some, Result, Ok, Err, OnOk, IfSome, length-append, ap₂, sym, subst, arith}
+use Rattle.std.proofs.lemmas.List.{nil_from_length}
 use Rattle.queue_calls.specs.Lines.{IsLine}
 use Rattle.queue_calls.specs.Recordings.{Line, line, begun_after, begun_behind, capacity_told, event_told, events_told}
-use Rattle.queue_calls.specs.RecordingStates.{HasHeard, HeardLines}
+use Rattle.queue_calls.specs.RecordingStates.{HasHeard}
 use Rattle.queue_calls.specs.Told.{told}
 use Rattle.queue_calls.specs.declared.lines.Word.{Word}
 use Rattle.queue_calls.specs.declared.lines.Word.TheVariants.{Queue}
@@ -21,22 +22,24 @@ read_is bytes numbers r w is h = let P : Option Word → Type 0 = λ o. IfSome o
 counted : (before : List Line) (l : Line) (old count : ℕ) → old ≡ length before → count ≡ old + 1 → count ≡ length (before ++ l ∷ [])
 counted before l old count is next = let all : length (before ++ l ∷ []) ≡ length before + 1 = length-append before (l ∷ []) in omega (arith, is, next, all)
 
-pub returns-in-Some-event_told-clause-read : goal.returns-in-Some-event_told-clause-read
-returns-in-Some-event_told-clause-read g c = then_ok c.hear.result c.hear.ensures.heard (λ heard before has.
-    let is : IsLine c.args.line.now c.in-Some-2.word c.read_line.new.numbers.items = read_is _ _ _ _ c.in-Some-2.is c.in_ok-word.ensures.line in
-    let lines = subst (λ h. HeardLines {A = g.row.A.Denot} h before) c.in-Some-hearing.is has.heard in
-    let numbers : c.as_slice-numbers.result.now ≡ c.read_line.new.numbers.items = c.as_slice-numbers.ensures.value in
+pub returns-clause-read : goal.returns-clause-read
+returns-clause-read g c = then_ok c.hear.result c.hear.ensures.heard (λ heard before has.
+    let numbers : List ℕ = g.S.Numbers.Row.items c.read_line.new.numbers in
+    let is : IsLine c.args.line.now c.in-Some-2.word numbers = read_is _ _ _ _ c.in-Some-2.is c.in_ok-word.ensures.line in
+    let some : before ≢ [] = λ none. c.if-count-eq1.false (omega (arith, has.count, c.in-Some.ensures.1, ap length none)) in
+    let lines = has.heard some in
+    let same : c.as_slice-numbers.result.now ≡ numbers = c.as_slice-numbers.ensures in
     let begun_is = lines.3 in
-    let tells : event_told (begun_behind begun.Nothing lines.1) c.in-Some-2.word c.read_line.new.numbers.items ≡ Some (told c.in-Some-event_told.event) =
-    ap₂ (λ b ns. event_told b c.in-Some-2.word ns) (sym begun_is) (sym numbers) ∙ sym c.in-Some-event_told.ensures in
-    let on = further_line before c.args.line.now lines.0 lines.1 (begun_behind begun.Nothing lines.1) c.in-Some-2.word c.read_line.new.numbers.items (told c.in-Some-event_told.event) lines.2 has.are is tells in (
-      line c.in-Some-2.word c.read_line.new.numbers.items,
+    let tells : event_told (begun_behind begun.Nothing lines.1) c.in-Some-2.word numbers ≡ Some (told c.in-Some-event_told.event) =
+    ap₂ (λ b ns. event_told b c.in-Some-2.word ns) (sym begun_is) (sym same) ∙ sym c.in-Some-event_told.ensures in
+    let on = further_line before c.args.line.now lines.0 lines.1 (begun_behind begun.Nothing lines.1) c.in-Some-2.word numbers (told c.in-Some-event_told.event) lines.2 has.are is tells in (
+      line c.in-Some-2.word numbers,
       on,
       record {
         are = on.0;
         count = counted before _ c.args.self.now.count c.in-Some.count has.count c.in-Some.ensures.1;
-        heard = further_heard c.hear.new.self before lines.0 lines.1 c.in-Some-2.word c.read_line.new.numbers.items (told c.in-Some-event_told.event) lines.2 tells
-            (c.hear.ensures.begun ∙ c.begun_after-hearing.ensures ∙ ap₂ (λ b ns. begun_after b c.in-Some-2.word ns) begun_is numbers)
+        heard = λ _. further_heard g.S.Items.Fifo.items c.hear.new.self before lines.0 lines.1 c.in-Some-2.word numbers (told c.in-Some-event_told.event) lines.2 tells
+            (c.hear.ensures.begun ∙ c.begun_after-self.ensures ∙ ap₂ (λ b ns. begun_after b c.in-Some-2.word ns) begun_is same)
             (heard (capacity_told lines.0) (events_told begun.Nothing lines.1) lines.4
             (count_is before lines.0 lines.1 begun.Nothing c.args.self.now.count c.in-Some.count lines.2 has.are has.count c.in-Some.ensures.1));
       },
@@ -44,14 +47,16 @@ returns-in-Some-event_told-clause-read g c = then_ok c.hear.result c.hear.ensure
 
 pub returns-in-Queue-clause-read : goal.returns-in-Queue-clause-read
 returns-in-Queue-clause-read g c before has =
-    let is = subst (λ w. IsLine c.args.line.now w c.read_line.new.numbers.items) c.in-Queue.is (read_is _ _ _ _ c.in-Some-2.is c.in_ok-word.ensures.line) in
-    let none : before ≡ [] = subst (λ h. HeardLines {A = g.row.A.Denot} h before) c.in-None.is has.heard in
-    let on = first_line before c.args.line.now c.read_line.new.numbers.items none is in (
-      line Queue c.read_line.new.numbers.items,
+    let numbers : List ℕ = g.S.Numbers.Row.items c.read_line.new.numbers in
+    let is = subst (λ w. IsLine c.args.line.now w numbers) c.in-Queue.is (read_is _ _ _ _ c.in-Some-2.is c.in_ok-word.ensures.line) in
+    let none : before ≡ [] = nil_from_length before (omega (arith, has.count, c.in-Some.ensures.1, c.if-count-eq1.true)) in
+    let on = first_line before c.args.line.now numbers none is in (
+      line Queue numbers,
       on,
       record {
         are = on.0;
         count = counted before _ c.args.self.now.count c.in-Some.count has.count c.in-Some.ensures.1;
-        heard = first_heard c.new.result before c.read_line.new.numbers.items none c.new.ensures.begun (subst (λ ns. HasHeard c.new.result (capacity_told ns) []) c.as_slice-numbers.ensures.value c.new.ensures.heard);
+        heard = λ _. first_heard g.S.Items.Fifo.items c.begins.new.self before numbers none c.begins.ensures.begun
+            (subst (λ ns. HasHeard g.S.Items.Fifo.items c.begins.new.self (capacity_told ns) []) c.as_slice-numbers.ensures c.begins.ensures.heard);
       },
     )

@@ -4,9 +4,9 @@ use Rattle.queue_calls.specs.declared.turns.TakeTurn.TheVariants.{Rests}
 use Rattle.queue_calls.specs.State.{Keeps}
 use Rattle.queue_calls.specs.Told.{meant}
 use Rattle.queue_calls.proofs.TakeBegins.{keeps_nothing}
-use Rattle.queue_calls.proofs.auditors.CallAuditor.new.Goals as goal
+use Rattle.queue_calls.proofs.auditors.CallAuditor.restart.Goals as goal
 
 pub returns-clause-reads : goal.returns-clause-reads
 returns-clause-reads g c =
     let F : List ℕ → Type 0 = λ z. Keeps (meant c.args.capacity) [] z Free Rests false in
-    subst F (sym c.new.ensures.items) (keeps_nothing (meant c.args.capacity) c.requires)
+    subst F (sym c.truncate.ensures) (keeps_nothing (meant c.args.capacity) c.requires)

@@ -1,8 +1,9 @@
-use Rattle.std.proofs.Common.{◌≡◌, ◌≢◌, ◌∙◌, ◌++◌, ◌∷◌, [], List, ℕ, ap, sym, subst, append_assoc, rules}
+use Rattle.std.proofs.Common.{◌≡◌, ◌≢◌, ◌∙◌, ◌++◌, ◌∷◌, [], List, ℕ, refl, ap, sym, subst, append_assoc, rules}
+use Rattle.std.proofs.lemmas.List.{append-nil}
 use Rattle.std.proofs.lemmas.List.Elements.{All-append}
 use Rattle.queue_calls.specs.Recordings.{RefusesText, lines_text}
 use Rattle.queue_calls.specs.RecordingStates.{HasNoFeed, HasRead}
-use Rattle.queue_calls.proofs.recordings.Recording.read.Goals as goal
+use Rattle.queue_calls.proofs.recordings.RecordingIn.read.Goals as goal
 
 -- a piece of which so much was read, and then a line
 line_read : (piece read rest end more : List ℕ) → piece ≡ read ++ rest → rest ≡ end ++ 10 ∷ more → piece ≡ (read ++ (end ++ 10 ∷ [])) ++ more
@@ -19,11 +20,14 @@ line_refused bytes piece read rest end left more one two =
 pub returns-in_err-read_end-clause-refused : goal.returns-in_err-read_end-clause-refused
 returns-in_err-read_end-clause-refused g c =
     let read = c.loop-end.invariant in
-    let refused : (bytes more : List ℕ) → HasRead {A = g.row.A.Denot} c.args.self.now bytes → RefusesText c.in_err-read_end.field-0.0 (bytes ++ (c.args.piece.now ++ more)) =
+    let refused : (bytes more : List ℕ) → HasRead g.S.Items.Fifo.items g.S.Bytes.Row.items c.args.self.now bytes → RefusesText c.in_err-read_end.field-0.0 (bytes ++ (c.args.piece.now ++ more)) =
     λ bytes more has.
     subst (RefusesText c.in_err-read_end.field-0.0) (line_refused bytes c.args.piece.now read.0 c.loop-end.rest.now c.in-Some.end.now c.in-Some.more.now more read.1 c.in-Some.ensures.1)
     (c.in_err-read_end.ensures.refused (bytes ++ read.0) (c.in-Some.more.now ++ more) (read.2 bytes has)) in
     search (rules, refused)
+
+pub loop-end-init : goal.loop-end-init
+loop-end-init g c = ([], refl, λ bytes has. subst (λ t. HasRead g.S.Items.Fifo.items g.S.Bytes.Row.items c.args.self.now t) (sym (append-nil bytes)) has)
 
 pub loop-end-preserved : goal.loop-end-preserved
 loop-end-preserved g c =
@@ -31,18 +35,18 @@ loop-end-preserved g c =
     let line : List ℕ = c.in-Some.end.now ++ 10 ∷ [] in (
       read.0 ++ line,
       line_read c.args.piece.now read.0 c.loop-end.rest.now c.in-Some.end.now c.in-Some.more.now read.1 c.in-Some.ensures.1,
-      λ bytes has. subst (λ t. HasRead {A = g.row.A.Denot} c.read_end.new.self t) (append_assoc (bytes ++ read.0) c.in-Some.end.now (10 ∷ []) ∙ append_assoc bytes read.0 line) (c.in_ok-read_end.ensures.read (bytes ++ read.0) (read.2 bytes has)),
+      λ bytes has. subst (λ t. HasRead g.S.Items.Fifo.items g.S.Bytes.Row.items c.read_end.new.self t) (append_assoc (bytes ++ read.0) c.in-Some.end.now (10 ∷ []) ∙ append_assoc bytes read.0 line) (c.in_ok-read_end.ensures.read (bytes ++ read.0) (read.2 bytes has)),
     )
 
 pub returns-clause-read : goal.returns-clause-read
 returns-clause-read g c bytes has =
     let read = c.loop-end.invariant in
     let so_far = read.2 bytes has in
-    let cut : c.extend_from_slice.new.self.items ≡ c.loop-end.self.cut.items ++ c.loop-end.rest.now = c.in_ok-extend_from_slice.ensures.items in
+    let cut : g.S.Bytes.Row.items c.extend_from_slice.new.self ≡ g.S.Bytes.Row.items c.loop-end.self.cut ++ c.loop-end.rest.now = c.in_ok-extend_from_slice.ensures in
     record {
       ended = so_far.ended;
       text = ap (λ (t : List ℕ). bytes ++ t) read.1 ∙ sym (append_assoc bytes read.0 c.loop-end.rest.now) ∙ ap (λ (t : List ℕ). t ++ c.loop-end.rest.now) so_far.text
-          ∙ append_assoc (lines_text so_far.ended) c.loop-end.self.cut.items c.loop-end.rest.now ∙ ap (λ (t : List ℕ). lines_text so_far.ended ++ t) (sym cut);
-      no_feed = subst HasNoFeed (sym cut) (All-append (λ b. b ≢ 10) c.loop-end.self.cut.items c.loop-end.rest.now so_far.no_feed c.in_default.ensures);
+          ∙ append_assoc (lines_text so_far.ended) (g.S.Bytes.Row.items c.loop-end.self.cut) c.loop-end.rest.now ∙ ap (λ (t : List ℕ). lines_text so_far.ended ++ t) (sym cut);
+      no_feed = subst HasNoFeed (sym cut) (All-append (λ b. b ≢ 10) (g.S.Bytes.Row.items c.loop-end.self.cut) c.loop-end.rest.now so_far.no_feed c.in_default.ensures);
       lines = so_far.lines;
     }

@@ -1,0 +1,44 @@
+use Rattle.std.proofs.Common.{◌≡◌, ◌∙◌, ◌++◌, ◌∷◌, [], List, ℕ, Result, Ok, Err, OnOk, IfErr, ap, sym, subst, rules}
+use Rattle.std.proofs.lemmas.Bool.{eqb-true}
+use Rattle.std.proofs.lemmas.List.{nil_from_length}
+use Rattle.queue_calls.specs.Recordings.{RefusesText}
+use Rattle.queue_calls.specs.RecordingStates.{HasRead, RefusesLine}
+use Rattle.queue_calls.proofs.RecordingLemmas.{end_refused, line_ended}
+use Rattle.queue_calls.proofs.recordings.RecordingIn.read_end.Goals as goal
+
+-- what holds of an error follows from what else holds of it
+then_err : {T E : Type 0} {P Q : E → Type 0} (r : Result T E) → IfErr r P → ((e : E) → P e → Q e) → IfErr r Q
+then_err (Ok x) p q = tt
+then_err (Err e) p q = q e p
+
+-- what holds on success follows from what else holds on success
+then_ok : {T E P Q : Type 0} (r : Result T E) → OnOk r P → (P → Q) → OnOk r Q
+then_ok (Ok x) p q = q p
+then_ok (Err e) p q = tt
+
+pub returns-then-is_empty-clause-read : goal.returns-then-is_empty-clause-read
+returns-then-is_empty-clause-read g c = then_ok c.read.result c.read.ensures.read (λ read bytes has.
+    let cut : List ℕ = g.S.Bytes.Row.items c.args.self.now.cut in
+    let none : cut ≡ [] = nil_from_length cut (eqb-true _ 0 (sym c.is_empty.ensures ∙ c.if-is_empty.true)) in
+    let (l, on, lines) = read has.ended has.lines in
+    line_ended g.S.Items.Fifo.items g.S.Bytes.Row.items c.args.self.now _ bytes c.args.end.now has l (ap (λ (t : List ℕ). t ++ c.args.end.now) none ∙ on.1) none lines)
+
+pub returns-clause-read : goal.returns-clause-read
+returns-clause-read g c bytes has =
+    let (l, on, lines) = c.in_ok-read.ensures.read has.ended has.lines in
+    line_ended g.S.Items.Fifo.items g.S.Bytes.Row.items c.args.self.now _ bytes c.args.end.now has l (sym (c.as_slice.ensures ∙ c.in_ok-extend_from_slice.ensures) ∙ on.1) c.clear.ensures lines
+
+pub returns-then-is_empty-clause-refused : goal.returns-then-is_empty-clause-refused
+returns-then-is_empty-clause-refused g c = then_err c.read.result c.read.ensures.refused (λ e h bytes more has.
+    let cut : List ℕ = (g.S.Bytes.Row.items c.args.self.now.cut) in
+    let none : cut ≡ [] = nil_from_length cut (eqb-true _ 0 (sym c.is_empty.ensures ∙ c.if-is_empty.true)) in
+    end_refused e has.ended bytes cut c.args.end.now more has.text has.lines.are has.no_feed c.requires
+    (subst (λ t. RefusesLine e has.ended t) (sym (ap (λ (t : List ℕ). t ++ c.args.end.now) none)) (h has.ended has.lines)))
+
+pub returns-in_err-read-clause-refused : goal.returns-in_err-read-clause-refused
+returns-in_err-read-clause-refused g c =
+    let refused : (bytes more : List ℕ) → HasRead g.S.Items.Fifo.items g.S.Bytes.Row.items c.args.self.now bytes → RefusesText c.in_err-read.field-0.0 (bytes ++ (c.args.end.now ++ 10 ∷ more)) =
+    λ bytes more has.
+    end_refused c.in_err-read.field-0.0 has.ended bytes (g.S.Bytes.Row.items c.args.self.now.cut) c.args.end.now more has.text has.lines.are has.no_feed c.requires
+    (subst (λ t. RefusesLine c.in_err-read.field-0.0 has.ended t) (c.as_slice.ensures ∙ c.in_ok-extend_from_slice.ensures) (c.in_err-read.ensures.refused has.ended has.lines)) in
+    search (rules, refused)

@@ -1,0 +1,134 @@
+//! The lists that an audit keeps: first-in first-out lists and rows, of an allocator or in slots of the caller's.
+use std::alloc::{AllocError, Allocator};
+use std::collections::VecDeque;
+
+/// A first-in first-out list: a `VecDeque`, or [`Slots`] of the caller's.
+///
+/// In use: `uses::calls::first_at_fault_in_slots`.
+pub trait Fifo<T: Copy>: Drop {
+    ghost use Rattle.std.specs.Prelude.{◌≡◌, ◌<◌, ◌==◌, ℕ, List, [], ◌∷◌, ◌++◌, length, take, drop, slice_get, slice_set, is_ok, if◌then◌else◌};
+    ghost use Rattle.std.specs.Slice.{IsItemAt};
+
+    // The list, its front first.
+    ghost items: { Self → List T };
+
+    /// How many items it holds.
+    fn len(&self) -> usize
+        ensures { result ≡ length (items self.now) };
+
+    /// Whether it holds none.
+    fn is_empty(&self) -> bool
+        ensures { result ≡ (length (items self.now) == 0) }
+    {
+        self.len() == 0
+    }
+
+    /// The item of this place, counted from the front; none past the end.
+    fn get(&self, index: usize) -> Option<&T>
+        ensures { IsItemAt (items self.now) index result };
+
+    /// Puts an item in place of that of this place.
+    fn set(&mut self, index: usize, item: T)
+        requires { index < length (items self.old) }
+        ensures { items self.new ≡ slice_set (items self.old) index item };
+
+    /// Adds an item at the back. Where memory for it is refused the list stays as it was.
+    fn push_back(&mut self, item: T) -> Result<(), AllocError>
+        ensures { items self.new ≡ (if is_ok result then items self.old ++ item ∷ [] else items self.old) };
+
+    /// Takes the item at the front away; none where the list is empty.
+    fn pop_front(&mut self) -> Option<T>
+        ensures value { result ≡ slice_get (items self.old) 0 }
+        ensures rest { items self.new ≡ drop 1 (items self.old) };
+
+    /// Keeps so many items from the front, or all where there are no more.
+    fn truncate(&mut self, count: usize)
+        ensures { items self.new ≡ take count (items self.old) };
+}
+
+/// A row of items that grows at its end: a `Vec`, or the [`Front`] of a slice of the caller's.
+///
+/// In use: `uses::findings::found_in_slots`.
+pub trait Row<T: Copy>: Drop {
+    ghost use Rattle.std.specs.Prelude.{◌≡◌, ◌==◌, List, [], ◌∷◌, length, ◌++◌, is_ok, if◌then◌else◌};
+
+    // The row.
+    ghost items: { Self → List T };
+
+    /// The items, in order.
+    fn as_slice(&self) -> &[T]
+        ensures { result.now ≡ items self.now };
+
+    /// Whether it holds none.
+    fn is_empty(&self) -> bool
+        ensures { result ≡ (length (items self.now) == 0) }
+    {
+        self.as_slice().is_empty()
+    }
+
+    /// Adds an item at the end. Where memory for it is refused the row stays as it was.
+    fn push(&mut self, item: T) -> Result<(), AllocError>
+        ensures { items self.new ≡ (if is_ok result then items self.old ++ item ∷ [] else items self.old) };
+
+    /// Adds items at the end. Where memory for them is refused the row stays as it was.
+    fn extend_from_slice(&mut self, more: &[T]) -> Result<(), AllocError>
+        ensures { items self.new ≡ (if is_ok result then items self.old ++ more.now else items self.old) };
+
+    /// Takes all items away.
+    fn clear(&mut self)
+        ensures { items self.new ≡ [] };
+}
+
+impl<T: Copy, A: Allocator> Fifo<T> for VecDeque<T, A> {
+    ghost items = { λ q. q.items };
+
+    fn len(&self) -> usize {
+        VecDeque::len(self)
+    }
+
+    fn get(&self, index: usize) -> Option<&T> {
+        VecDeque::get(self, index)
+    }
+
+    fn set(&mut self, index: usize, item: T) {
+        self[index] = item;
+    }
+
+    fn push_back(&mut self, item: T) -> Result<(), AllocError> {
+        match VecDeque::push_back(self, item) {
+            Ok(()) => Ok(()),
+            Err(_refused) => Err(AllocError),
+        }
+    }
+
+    fn pop_front(&mut self) -> Option<T> {
+        VecDeque::pop_front(self)
+    }
+
+    fn truncate(&mut self, count: usize) {
+        VecDeque::truncate(self, count);
+    }
+}
+
+impl<T: Copy, A: Allocator> Row<T> for Vec<T, A> {
+    ghost items = { λ v. v.items };
+
+    fn as_slice(&self) -> &[T] {
+        Vec::as_slice(self)
+    }
+
+    fn push(&mut self, item: T) -> Result<(), AllocError> {
+        match Vec::push(self, item) {
+            Ok(()) => Ok(()),
+            Err(_refused) => Err(AllocError),
+        }
+    }
+
+    fn extend_from_slice(&mut self, more: &[T]) -> Result<(), AllocError> {
+        Vec::extend_from_slice(self, more)
+    }
+
+    fn clear(&mut self) {
+        Vec::clear(self);
+    }
+}

@@ -1,0 +1,163 @@
+//! Lists in slots of the caller's. They take no memory.
+ghost use Rattle.std.specs.Prelude.{◌≡◌, ◌≤◌, ◌<◌, [], length, take};
+
+use crate::fifos::{Fifo, Row};
+use std::alloc::AllocError;
+
+/// A first-in first-out list in a slice of the caller's, which it goes round.
+///
+/// It holds as many items as the slice has slots. One more is refused, as `AllocError`, and changes nothing.
+///
+/// In use: `uses::calls::first_at_fault_in_slots`.
+#[derive(Drop)]
+pub struct Slots<'a, T: Copy> {
+    slots: &'a mut [T],
+    // the slot of the front
+    first: usize,
+    used: usize,
+    pub ghost begins: { first ≤ length slots.now },
+    pub ghost within: { used ≤ length slots.now },
+}
+
+impl<'a, T: Copy> Slots<'a, T> {
+    ghost use Rattle.queue_calls.specs.Rings.{from_place, ring_items};
+
+    /// An empty list in these slots. There may be none.
+    pub fn new(slots: &'a mut [T]) -> Self
+        ensures empty { ring_items result ≡ [] }
+        ensures slots { result.slots.now ≡ slots.old }
+    {
+        Slots {
+            slots,
+            first: 0,
+            used: 0,
+        }
+    }
+
+    // The slot of the item of this place.
+    fn slot_of(&self, index: usize) -> usize
+        requires { index < length self.now.slots.now }
+        ensures place { result ≡ from_place (length self.now.slots.now) self.now.first index }
+        ensures within { result < length self.now.slots.now }
+    {
+        let behind = self.slots.len() - self.first;
+        if index < behind {
+            self.first + index
+        } else {
+            index - behind
+        }
+    }
+}
+
+impl<'a, T: Copy> Fifo<T> for Slots<'a, T> {
+    ghost use Rattle.std.specs.Prelude.{◌≡◌, ◌↔◌, IsErr, ◌∷◌, ◌++◌, [], length, is_ok, if◌then◌else◌};
+    ghost use Rattle.queue_calls.specs.Rings.{ring_items};
+
+    ghost items = { ring_items };
+
+    fn len(&self) -> usize {
+        self.used
+    }
+
+    fn get(&self, index: usize) -> Option<&T> {
+        if index < self.used {
+            let slot = self.slot_of(index);
+            let slots = &*self.slots;
+            Some(&slots[slot])
+        } else {
+            None
+        }
+    }
+
+    fn set(&mut self, index: usize, item: T) {
+        let slot = self.slot_of(index);
+        self.slots[slot] = item;
+    }
+
+    fn push_back(&mut self, item: T) -> Result<(), AllocError>
+        ensures items { ring_items self.new ≡ (if is_ok result then ring_items self.old ++ item ∷ [] else ring_items self.old) }
+        ensures full { IsErr result ↔ (length (ring_items self.old) ≡ length self.old.slots.now) }
+    {
+        if self.used == self.slots.len() {
+            return Err(AllocError);
+        }
+        let used = self.used;
+        let back = self.slot_of(used);
+        self.slots[back] = item;
+        self.used += 1;
+        Ok(())
+    }
+
+    fn pop_front(&mut self) -> Option<T> {
+        if self.used == 0 {
+            return None;
+        }
+        let slot = self.slot_of(0);
+        let item = self.slots[slot];
+        self.first = slot + 1;
+        self.used -= 1;
+        Some(item)
+    }
+
+    fn truncate(&mut self, count: usize) {
+        if count < self.used {
+            self.used = count;
+        }
+    }
+}
+
+/// A row in the first slots of a slice of the caller's.
+///
+/// It holds as many items as the slice has slots. More are refused, as `AllocError`, and change nothing.
+///
+/// In use: `uses::findings::found_in_slots`.
+#[derive(Drop)]
+pub struct Front<'a, T: Copy> {
+    slots: &'a mut [T],
+    used: usize,
+    pub ghost within: { used ≤ length slots.now },
+}
+
+impl<'a, T: Copy> Front<'a, T> {
+    /// An empty row in these slots. There may be none.
+    pub fn new(slots: &'a mut [T]) -> Self
+        ensures empty { result.used ≡ 0 }
+        ensures slots { result.slots.now ≡ slots.old }
+    {
+        Front { slots, used: 0 }
+    }
+}
+
+impl<'a, T: Copy> Row<T> for Front<'a, T> {
+    ghost use Rattle.std.specs.Prelude.{take};
+
+    ghost items = { λ f. take f.used f.slots.now };
+
+    fn as_slice(&self) -> &[T] {
+        let slots = &*self.slots;
+        &slots[..self.used]
+    }
+
+    fn push(&mut self, item: T) -> Result<(), AllocError> {
+        if self.used == self.slots.len() {
+            return Err(AllocError);
+        }
+        self.slots[self.used] = item;
+        self.used += 1;
+        Ok(())
+    }
+
+    fn extend_from_slice(&mut self, more: &[T]) -> Result<(), AllocError> {
+        if self.slots.len() - self.used < more.len() {
+            return Err(AllocError);
+        }
+        let end = self.used + more.len();
+        self.slots[self.used..end].copy_from_slice(more);
+        self.used = end;
+        Ok(())
+    }
+
+    fn clear(&mut self) {
+        self.used = 0;
+    }
+}

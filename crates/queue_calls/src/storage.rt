@@ -1,0 +1,83 @@
+//! Where the lists of a recording lie.
+
+use crate::fifos::{Fifo, Row};
+use crate::notes::{Offered, Taken};
+use crate::slots::{Front, Slots};
+use std::alloc::Allocator;
+use std::collections::VecDeque;
+use std::marker::PhantomData;
+
+/// Where the lists of a recording lie: in [`Memory`] of an allocator, or [`Lent`] by the caller.
+///
+/// In use: `uses::findings::found_in_slots`.
+pub trait Storage {
+    /// The items that may be inside.
+    type Items: Fifo<u64>;
+    /// The items that were offered and not taken, with the lines of their put.
+    type Offered: Fifo<Offered>;
+    /// The items taken last, with the lines of their take.
+    type Taken: Fifo<Taken>;
+    /// The numbers of a line.
+    type Numbers: Row<u64>;
+    /// The bytes of a line.
+    type Bytes: Row<u8>;
+}
+
+/// Lists in memory of an allocator, which grow as they have to.
+///
+/// In use: `uses::findings::found_in`.
+#[derive(Drop)]
+pub struct Memory<A: Allocator> {
+    of: PhantomData<A>,
+}
+
+impl<A: Allocator> Storage for Memory<A> {
+    type Items = VecDeque<u64, A>;
+
+    type Offered = VecDeque<Offered, A>;
+
+    type Taken = VecDeque<Taken, A>;
+
+    type Numbers = Vec<u64, A>;
+
+    type Bytes = Vec<u8, A>;
+}
+
+/// Lists in slots that the caller lends.
+///
+/// In use: `uses::findings::found_in_slots`.
+#[derive(Drop)]
+pub struct Lent<'a> {
+    of: PhantomData<&'a mut [u64]>,
+}
+
+impl<'a> Storage for Lent<'a> {
+    type Items = Slots<'a, u64>;
+
+    type Offered = Slots<'a, Offered>;
+
+    type Taken = Slots<'a, Taken>;
+
+    type Numbers = Front<'a, u64>;
+
+    type Bytes = Front<'a, u8>;
+}
+
+/// The lists of a recording, all together.
+///
+/// In use: `uses::findings::found_in_slots`.
+#[derive(Drop)]
+pub struct Lists<S: Storage> {
+    /// The items that may be inside: those stored, and those that the put under way offers.
+    pub items: S::Items,
+    /// The same, with the lines that offered and stored them.
+    pub offered: S::Offered,
+    /// The last [`TAKEN_LIMIT`](crate::TAKEN_LIMIT) items taken.
+    pub taken: S::Taken,
+    /// All items of the last put.
+    pub offers: S::Numbers,
+    /// The numbers of a line.
+    pub numbers: S::Numbers,
+    /// The bytes of a line that came in several pieces.
+    pub bytes: S::Bytes,
+}
