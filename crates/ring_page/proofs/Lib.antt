@@ -2,3 +2,4 @@ pub mod Puts
 pub mod Sinces
 pub mod Rooms
 pub mod Shown
+pub mod Following

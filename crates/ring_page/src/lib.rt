@@ -3,12 +3,14 @@
 
 mod audits;
 mod marks;
+mod orders;
 mod plays;
 mod programs;
 mod reasons;
 
 pub use audits::{EVENT_ROOM, Told, page_audit};
 pub use marks::Mark;
+pub use orders::{Came, Holds, page_order};
 pub use plays::{ANSWER_ROOM, Asked, Played, RUN_ROOM, page_play};
 pub use programs::{Due, Judged};
 

@@ -1,0 +1,62 @@
+-- What the page is told of the order in which the operations of calls take effect.
+use Rattle.std.specs.Prelude.{◌≡◌, ℕ, List, [], ◌∷◌, nat_eq, if◌then◌else◌, reverse, take, drop, length, ◌≤◌, ◌+◌}
+use Rattle.queue_calls.specs.Queue.{Capacity, Unbounded, Between, Enqueue, FindNoRoom, FindShut, Close, Dequeue, FindFewer, FindClosed}
+use Rattle.queue_calls.specs.Calls.{Mark, Happens, Effect, PutBegin, PutStored, PutFull, PutShort, PutNothing, PutClosed, CloseBegin, CloseEnd, TakeBegin, TakeItems, TakeEmpty, TakeShort, TakeNothing, TakeClosed, Point, LeadTo}
+use Rattle.queue_calls.specs.declared.moments.Moments.{Moments}
+use Rattle.queue_calls.specs.Moments.{HasFollowed}
+use Rattle.queue_calls.specs.Told.{meant}
+use Rattle.ring_page.specs.declared.orders.Came.{Came}
+use Rattle.ring_page.specs.declared.orders.Holds.{Holds}
+
+-- the capacity that numbers tell
+abbrev pub capacity_in : Holds → Capacity
+capacity_in holds = (if nat_eq holds.bounded 0 then Unbounded else Between holds.full holds.most)
+
+-- the items are so many of the numbers from a place on
+abbrev pub StandsAt : List ℕ → ℕ → ℕ → List ℕ → Type 0
+StandsAt numbers place count items = (items ≡ take count (drop place numbers)) × (length items ≡ count)
+
+-- numbers tell a mark
+abbrev pub TellsMark : List ℕ → Came → Mark → Type 0
+TellsMark numbers came (Happens (PutBegin items)) = (came.kind ≡ 0) × StandsAt numbers came.value came.count items
+TellsMark numbers came (Happens (PutStored count)) = (came.kind ≡ 1) × (came.count ≡ count)
+TellsMark numbers came (Happens PutFull) = came.kind ≡ 2
+TellsMark numbers came (Happens PutShort) = came.kind ≡ 3
+TellsMark numbers came (Happens PutNothing) = came.kind ≡ 4
+TellsMark numbers came (Happens PutClosed) = came.kind ≡ 5
+TellsMark numbers came (Happens CloseBegin) = came.kind ≡ 6
+TellsMark numbers came (Happens CloseEnd) = came.kind ≡ 7
+TellsMark numbers came (Happens (TakeBegin wanted)) = (came.kind ≡ 8) × (came.count ≡ wanted)
+TellsMark numbers came (Happens (TakeItems items)) = (came.kind ≡ 9) × StandsAt numbers came.value came.count items
+TellsMark numbers came (Happens TakeEmpty) = came.kind ≡ 10
+TellsMark numbers came (Happens TakeShort) = came.kind ≡ 11
+TellsMark numbers came (Happens TakeNothing) = came.kind ≡ 12
+TellsMark numbers came (Happens TakeClosed) = came.kind ≡ 13
+TellsMark numbers came (Effect (Enqueue item)) = (came.kind ≡ 14) × (came.value ≡ item)
+TellsMark numbers came (Effect (FindNoRoom count)) = (came.kind ≡ 15) × (came.count ≡ count)
+TellsMark numbers came (Effect FindShut) = came.kind ≡ 16
+TellsMark numbers came (Effect Close) = came.kind ≡ 17
+TellsMark numbers came (Effect (Dequeue item)) = (came.kind ≡ 18) × (came.value ≡ item)
+TellsMark numbers came (Effect (FindFewer count)) = (came.kind ≡ 19) × (came.count ≡ count)
+TellsMark numbers came (Effect FindClosed) = came.kind ≡ 20
+
+-- and marks, one after the other
+abbrev pub TellMarks : List ℕ → List Came → List Mark → Type 0
+TellMarks numbers [] [] = Unit {0}
+TellMarks numbers (c ∷ came) (mark ∷ order) = TellsMark numbers c mark × TellMarks numbers came order
+TellMarks numbers _ _ = ⊥
+
+-- marks came, which these numbers tell, and were followed
+pub record HaveCome (numbers : List ℕ) (came : List Came) (capacity : Capacity) (m : Moments) : Type 0 where
+  pub order : List Mark
+  pub told : TellMarks numbers came order
+  pub followed : HasFollowed m (reverse order)
+  pub capacity_is : meant m.capacity ≡ capacity
+
+-- so many of the first marks lead from the empty open queue to a point: with them the events among these are a linearizable history
+pub record TellsOrder (numbers : List ℕ) (came : List Came) (capacity : Capacity) (count : ℕ) : Type 0 where
+  pub few : count ≤ length came
+  pub order : List Mark
+  pub told : TellMarks numbers (take count came) order
+  pub point : Point
+  pub leads : LeadTo capacity (reverse order) point
