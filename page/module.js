@@ -58,7 +58,7 @@ export function traceOf({capacity, modulus, width, batch}, events) {
   return [shape, ...lines, ""].join("\n");
 }
 
-// Compiles the module. The answer has `audit`, `moments` and `play`.
+// Compiles the module. The answer has `audit`, `moments`, `order` and `play`.
 export async function openModule(bytes) {
   const compiled = await WebAssembly.compile(bytes);
   let exports = (await WebAssembly.instantiate(compiled)).exports;
@@ -160,5 +160,16 @@ export async function openModule(bytes) {
     return {shape: {capacity, modulus, width, batch}, events: getEvents(marks, Math.min(count, room)), report, letters: all};
   };
 
-  return {audit, moments, play};
+  // How many of the first marks of a history of calls can come one after the other, at a queue that holds so many at most.
+  const order = ({marks, items, numbers}, most) => {
+    const [holds, itemsAt, numbersAt, marksAt, count] = lay([3 * 8, items.length * 8, numbers.length * 8, marks.length * 24, 8]);
+    setNumbers(holds, most === Infinity ? [0, 0, 0] : [1, most, most]);
+    setNumbers(itemsAt, items);
+    setNumbers(numbersAt, numbers);
+    setNumbers(marksAt, marks.flat());
+    call("page_order", holds, itemsAt, items.length, numbersAt, numbers.length, marksAt, marks.length, count);
+    return getNumbers(count, 1)[0];
+  };
+
+  return {audit, moments, order, play};
 }

@@ -1,0 +1,54 @@
+// An order of the operations of calls: where each takes effect. It is sought here; whether the operations of a queue can come so, one after
+// the other, the module tells.
+
+// The numbers of the module: of events, by the reply of their call, and of operations.
+const BEGINS = {put: 0, close: 6, take: 8}, CLOSED = 7;
+const ENDS = {P: {stored: 1, full: 2, short: 3, nothing: 4, closed: 5}, C: {item: 9, empty: 10, short: 11, nothing: 12, closed: 13}};
+const DOES = {in: 14, "no room": 15, "found closed": 16, close: 17, out: 18, "found fewer": 19, "found drained": 20};
+
+// The marks of the history of these calls, at a queue that holds so many at most: {marks, items, numbers} in the numbers of the module, and the
+// `effects` among them, {at, side, does, item, call}, each at its place between two events. A call is {side, kind, begin, end, reply, items,
+// offered, wanted}; those of a side stand in their order. An operation waits for the end of its call, but where one of the other side
+// needs it before; what a call did not find, it did not find when it began. That gives an order wherever there is one.
+export function orderOf(calls, most) {
+  const marks = [], numbers = [], items = [], effects = [], open = {P: null, C: null};
+  let inside = 0, isClosed = false;
+  const listed = list => numbers.push(...list) - list.length;
+  const effect = (side, at, does, value = 0, count = 0) => {
+    marks.push([DOES[does], value, count]);
+    effects.push({at, side, does, item: does === "in" || does === "out" ? value : null, call: open[side].call});
+  };
+  // The next item of a side's call goes in or out, and before it one of the other side's, where that is needed.
+  const pass = (side, at) => {
+    const it = open[side], isIn = side === "P";
+    if (!it || it.passed === it.call.items.length) return false;
+    if ((isIn ? inside === most : inside === 0) && !pass(isIn ? "C" : "P", at)) return false;
+    const item = it.call.items[it.passed++];
+    if (isIn) items.push(item);
+    inside += isIn ? 1 : -1;
+    effect(side, at, isIn ? "in" : "out", item);
+    return true;
+  };
+  const close = at => {
+    if (open.P?.call.kind === "close" && !open.P.isClosed) effect("P", at, "close");
+    if (open.P) open.P.isClosed = isClosed = true;
+  };
+  const begin = (call, at) => {
+    const {side, kind, items, offered = items, wanted = 1, reply} = call, all = side === "P" ? offered.length : wanted;
+    open[side] = {call, passed: 0};
+    marks.push([BEGINS[kind], kind === "put" ? listed(offered) : 0, kind === "close" ? 0 : all]);
+    const lacked = reply === "full" || reply === "empty" ? 1 : reply === "short" ? all : items.length && items.length < all ? items.length + 1 : 0;
+    if (lacked) effect(side, at, side === "P" ? "no room" : "found fewer", 0, lacked);
+  };
+  const end = (call, at) => {
+    const {side, kind, reply, items} = call;
+    while (pass(side, at));
+    if (kind === "close" || reply === "closed" && !isClosed) close(at);
+    if (kind !== "close" && reply === "closed") effect(side, at, side === "P" ? "found closed" : "found drained");
+    marks.push([kind === "close" ? CLOSED : ENDS[side][reply], reply === "item" ? listed(items) : 0, items.length]);
+    open[side] = null;
+  };
+  const come = calls.flatMap(call => [[call.begin, () => begin(call, call.begin + 0.5)], [call.end, () => end(call, call.end - 0.5)]]);
+  for (const [place, comes] of come.sort(([a], [b]) => a - b)) if (place < Infinity) comes();
+  return {marks, numbers, items, effects};
+}
