@@ -46,6 +46,11 @@ export function callWords({kind, reply, items}) {
   return [short, kind === "close" ? "close" : reply === "stored" ? `put ${short}` : `${kind}: ${short}`];
 }
 
+// The words of an operation, long and short.
+export function operationWords({does, item}) {
+  return item === null ? [does] : [`${item} ${does}`, does];
+}
+
 // The words of a part of a call, long and short: n counts the items put and k those taken; a scan gives the other side's count, modulo the modulus.
 export function partWords({name, value}, {side, count}, modulus) {
   const [own, other] = side === "P" ? ["n", "k"] : ["k", "n"];

@@ -2,6 +2,7 @@
 import { MOST_CALLED, callsOf, callsUntil } from "./calls.js";
 import { lessonOptions, showLesson } from "./lessons.js";
 import { openModule, traceOf } from "./module.js";
+import { orderOf } from "./orders.js";
 import { picture, styleWithin } from "./picture.js";
 import { excerpt, placeOf } from "./places.js";
 import { LISTED_LETTERS, MOST_MOMENTS, lettersOf, momentsOf } from "./plays.js";
@@ -51,7 +52,9 @@ const views = {
   trace: {
     read(text) {
       const it = module.audit(text);
-      return it.refused ? it : {...it, calls: callsIn(text, it.events, it.programs.isRun ? it.events.length : it.programs.place)};
+      if (it.refused) return it;
+      const calls = callsIn(text, it.events, it.programs.isRun ? it.events.length : it.programs.place);
+      return {...it, calls, order: orderIn(calls, it.shape)};
     },
     most: () => whole.events.length,
     // A beginning of a trace is a trace of its own, and its verdict is asked for.
@@ -74,7 +77,8 @@ const views = {
       if (none.refused) return none;
       const all = module.play(script, none.letters);
       if (all.refused) return all;
-      return {...all, script, numbers: lettersOf(script.schedule, all.events), calls: callsIn(traceOf(all.shape, all.events), all.events, all.events.length),
+      const calls = callsIn(traceOf(all.shape, all.events), all.events, all.events.length);
+      return {...all, script, numbers: lettersOf(script.schedule, all.events), calls, order: orderIn(calls, all.shape),
         moments: momentsOf(letters => module.play(script, letters, false).report, all)};
     },
     most: () => whole.letters,
@@ -91,6 +95,12 @@ const views = {
 // The calls of the first events of a trace, which are of the programs.
 function callsIn(text, events, count) {
   return events.length > MOST_CALLED || count === 0 ? [] : callsOf(events, module.moments(text, count));
+}
+
+// Where the operations of these calls take effect, at a ring of this shape; none where the module does not say that they can.
+function orderIn(calls, {capacity}) {
+  const it = orderOf(calls, capacity);
+  return calls.length && module.order(it, capacity) === it.marks.length ? it.effects : [];
 }
 
 // What an event is, and what the module tells of the moment just after it, where it tells of it.
@@ -126,7 +136,7 @@ function show(isStep = false) {
   const most = whole.refused ? 0 : view.most(), shown = Math.min(page.shown, most);
   const it = whole.refused ? whole : orStopped(() => view.at(shown, text));
   page.drawn = it.refused ? null : {...it, whole: whole.events, wholeFault: whole.place ?? null, wholeBroken: breakOf(whole), waves: $("waves").value,
-    calls: callsUntil(whole.calls, it.events.length), hasCalls: whole.calls.length > 0};
+    calls: callsUntil(whole.calls, it.events.length), hasCalls: whole.calls.length > 0, order: whole.order};
   page.place = it.refused ? placeOf(page.mode, text, it) : null;
   $("shown").max = most;
   $("shown").value = shown;

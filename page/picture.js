@@ -1,7 +1,7 @@
 // The picture of a history: events as module.js makes them go in, the text of an SVG comes out. It places rectangles:
 // what a bit holds, which reads a write overlapped and where a read and a write clash are numbers of the module.
 
-import { callWords, partWords, partsOfCall } from "./calls.js";
+import { callWords, operationWords, partWords, partsOfCall } from "./calls.js";
 
 // ---- accesses and waves ----------------------------------------------------------------------------------------------
 
@@ -73,6 +73,7 @@ const MOST_ROWS = 12; // in one picture
 const CALLS = 50; // the height of a side's braces
 const ROW = 176, WAVES = 14, WAVE = 27, SWING = 18; // heights: of a row, around its waves, of one, of its step
 const P_BAR = 44, C_BAR = 122, BAR = 28, RULER = 101; // within a row
+const ORDER = 34; // between the lanes, for the order of the operations
 const TOOTH = 5;
 
 // How the events are laid out in rows: with the widest letters with which the whole picture fits a frame of this height
@@ -112,6 +113,7 @@ const FORMS = `
 .ring .wavename{font-size:14px;font-weight:600;text-anchor:end}.ring .level{fill:none;stroke-width:2.5}
 .ring .held{font-size:12.5px;font-weight:600}.ring .becomes{font-size:12.5px;font-weight:600;text-anchor:middle}
 .ring .underway{stroke-width:1.5}
+.ring .order{stroke-width:1.5}.ring .operation path{fill:none;stroke-width:1.5}
 .ring .call path{fill:none;stroke-width:1.5}.ring .callwords{font-size:12.5px;font-weight:600;text-anchor:middle}.ring .part{font-size:11px;text-anchor:middle}`;
 
 function paints(it) {
@@ -125,7 +127,7 @@ function paints(it) {
 ${families}
 .ring .write .digit{fill:${it.bg}}.ring .read.free path{fill:${it.may};fill-opacity:${it.shade}}
 .ring .underway{fill:${it.may};fill-opacity:${it.shade};stroke:${it.may}}.ring .becomes{fill:${it.mayInk}}
-.ring .call path{stroke:${it.dim}}.ring .part{fill:${it.dim}}
+.ring .call path,.ring .order,.ring .operation path{stroke:${it.dim}}.ring .operation circle{fill:${it.ink}}.ring .part{fill:${it.dim}}
 .ring .verdict.good,.ring tspan.good{fill:${it.good}}.ring .verdict.bad,.ring .title.bad,.ring tspan.bad{fill:${it.bad}}.ring tspan.dim{fill:${it.dim}}
 .ring .fault path,.ring .faultline{stroke:${it.bad}}.ring .fault .bit,.ring .read.fault .digit{fill:${it.bad}}
 .ring .flag{fill:${it.bad}}.ring .flagwords,.ring .line.bad{fill:${it.bg}}`;
@@ -152,15 +154,16 @@ const escape = text => String(text).replace(/&/g, "&amp;").replace(/</g, "&lt;")
 
 // The picture of `events`, of which the one at place `fault` is at fault (null: none is), and the one at `broken` not of the program, in a
 // frame with room for the events `whole`. `words` is its heading, of the mood "good", "bad" or none, with that of the `ring`; `kind` and `why`
-// tell of the fault, `due` of what was due. `calls` are braced, with room for braces where it `hasCalls`. `waves` is "some", "all" or "none". The events have the numbers of their lines, or else `numbers`, which count what is `counted` up to `total`.
+// tell of the fault, `due` of what was due. `calls` are braced, with room for braces where it `hasCalls`; the operations of the `order` stand between the lanes. `waves` is "some", "all" or "none". The events have the numbers of their lines, or else `numbers`, which count what is `counted` up to `total`.
 // The style sheet is in the picture where `theme` is given.
 export function picture({shape, events, whole = events, fault = null, wholeFault = fault, broken = null, wholeBroken = broken, words, mood = "",
-  ring = null, kind = "", why = "", due = "", calls = [], hasCalls = calls.length > 0, waves = "some", counted = "line", numbers = null, total = whole.length + 1, aspect = 9 / 16, theme}) {
+  ring = null, kind = "", why = "", due = "", calls = [], hasCalls = calls.length > 0, order = [], waves = "some", counted = "line", numbers = null, total = whole.length + 1, aspect = 9 / 16, theme}) {
   const {drawn: waveBits, of: wavesInAll} = wavesOf(whole, wholeFault, waves);
   const numberOf = place => numbers ? numbers[place] : place + 2;
   const head = HEAD + (wholeFault === null ? 0 : WHY) + (wholeBroken === null ? 0 : WHY);
-  const up = hasCalls ? CALLS : 0; // above a row, and as much below it
-  const {tall, rows, each, unit, width} = layout(whole.length, waveBits.length, 2 * up, head, aspect);
+  const up = hasCalls ? CALLS : 0, between = order.length ? ORDER : 0; // above a row, and as much below it; between its lanes
+  const cBar = C_BAR + between, tallRow = ROW + between;
+  const {tall, rows, each, unit, width} = layout(whole.length, waveBits.length, 2 * up + between, head, aspect);
   const {accesses, strays} = accessesOf(events);
   const count = events.length, stop = Math.min(broken ?? Infinity, fault ?? Infinity);
   const rowOf = place => Math.floor(place / each);
@@ -176,8 +179,8 @@ export function picture({shape, events, whole = events, fault = null, wholeFault
   const isOutside = (begin, end) => begin >= past * each || Math.min(end, count - 1) < first * each;
   const top = row => head + (row - first) * tall + up;
   const height = head + (past - first) * tall + FOOT;
-  const lane = side => side === "P" ? P_BAR : C_BAR;
-  const name = side => side === "P" ? P_BAR - 7 : C_BAR + BAR + 18;
+  const lane = side => side === "P" ? P_BAR : cBar;
+  const name = side => side === "P" ? P_BAR - 7 : cBar + BAR + 18;
   const out = [];
 
   // The parts of a stretch of places, one for each row that it runs through and that is drawn.
@@ -201,7 +204,7 @@ export function picture({shape, events, whole = events, fault = null, wholeFault
           `<text class="lane" x="38" y="${y + lane(side) + 22}">${side}</text>`);
         if (row === first) out.push(`<text class="who" x="38" y="${y + lane(side) + 38}">${side === "P" ? "producer" : "consumer"}</text>`);
       }
-      const lines = Array.from({length: ends}, (_, i) => `M${x(i)} ${y + P_BAR - 6}V${y + C_BAR + BAR + 6}`);
+      const lines = Array.from({length: ends}, (_, i) => `M${x(i)} ${y + P_BAR - 6}V${y + cBar + BAR + 6}`);
       if (ends) out.push(`<path class="grid" d="${lines.join("")}"/>`);
     }
   };
@@ -210,9 +213,9 @@ export function picture({shape, events, whole = events, fault = null, wholeFault
   const drawClashes = () => events.forEach((event, place) => {
     if (!event.clashes || isOutside(place, place + 1)) return;
     for (const {y, from, to, begins, ends} of partsOf(place, place + 1)) {
-      out.push(`<rect class="clash" x="${from}" y="${y + P_BAR + BAR}" width="${round(to - from)}" height="${C_BAR - P_BAR - BAR}"/>`);
-      if (begins) out.push(`<path class="clashedge" d="M${from} ${y + P_BAR + BAR}V${y + C_BAR}"/>`);
-      if (ends) out.push(`<path class="clashedge" d="M${to} ${y + P_BAR + BAR}V${y + C_BAR}"/>`);
+      out.push(`<rect class="clash" x="${from}" y="${y + P_BAR + BAR}" width="${round(to - from)}" height="${cBar - P_BAR - BAR}"/>`);
+      if (begins) out.push(`<path class="clashedge" d="M${from} ${y + P_BAR + BAR}V${y + cBar}"/>`);
+      if (ends) out.push(`<path class="clashedge" d="M${to} ${y + P_BAR + BAR}V${y + cBar}"/>`);
     }
   });
 
@@ -221,7 +224,7 @@ export function picture({shape, events, whole = events, fault = null, wholeFault
     const ties = [];
     for (let place = first * each; place < Math.min(past * each, count); place++) {
       const y = top(rowOf(place)), at = x(place);
-      const [from, to] = events[place].side === "P" ? [P_BAR + BAR + 2, RULER - 12] : [RULER + 4, C_BAR - 2];
+      const [from, to] = events[place].side === "P" ? [P_BAR + BAR + 2, RULER - 12] : [RULER + 4, cBar - 2];
       ties.push(`M${at} ${y + from}V${y + to}`);
       const isWide = String(numberOf(place)).length > 5 && place % 2; // of two numbers that have no room side by side, one
       if (place !== fault && place !== broken && !isWide) out.push(`<text class="line" x="${at}" y="${y + RULER}">${numberOf(place)}</text>`);
@@ -266,7 +269,7 @@ export function picture({shape, events, whole = events, fault = null, wholeFault
   // A call is a brace over the lane of its side, with what it came to; between the brace and the bars stand its parts.
   const drawCall = call => {
     const isPut = call.side === "P", [short, long] = callWords(call), when = call.end < Infinity ? `${counted}s ${numberOf(call.begin)} to ${numberOf(call.end)}` : `from ${counted} ${numberOf(call.begin)}, under way`;
-    const [line, tip, label, below] = isPut ? [-22, -15, -28, -4] : [ROW + 22, ROW + 15, ROW + 37, ROW + 8];
+    const [line, tip, label, below] = isPut ? [-22, -15, -28, -4] : [tallRow + 22, tallRow + 15, tallRow + 37, tallRow + 8];
     const fits = (text, wide) => text.length * 7.4 + 4 <= wide;
     out.push(`<g class="call" data-call="${call.begin + 2}"><title>${call.side} ${escape(long)}, ${when}</title>`);
     const until = Math.min(call.end, stop); // nothing is told of calls from there on
@@ -285,8 +288,25 @@ export function picture({shape, events, whole = events, fault = null, wholeFault
     out.push("</g>");
   };
 
+  // The operations stand on a line between the lanes, each where it takes effect, with a tick to the lane of its side.
+  const drawOrder = () => {
+    const y = RULER + 20, told = order.filter(it => it.at < stop && it.at < count), spots = new Map();
+    for (const it of told) spots.set(it.at, [...spots.get(it.at) ?? [], it]);
+    const placed = [...spots].flatMap(([at, all]) => all.map((it, i) => ({...it, row: rowOf(Math.floor(at)), x: round(x(Math.floor(at)) + unit * (at - Math.floor(at) + (i - (all.length - 1) / 2) * 0.8 / Math.max(all.length, 2)))})));
+    for (let row = first; row < past; row++) {
+      const here = placed.filter(it => it.row === row);
+      if (row * each < Math.min(stop, count)) out.push(`<path class="order" d="M${LEFT - 4} ${top(row) + y}H${round(x(Math.min((row + 1) * each, stop, count) - 1) + unit / 2)}"/>`);
+      here.forEach((it, i) => {
+        const tick = it.side === "P" ? -7 : 7, room = Math.min(it.x - (here[i - 1]?.x ?? -Infinity), (here[i + 1]?.x ?? Infinity) - it.x);
+        const [text] = operationWords(it).filter(text => text.length * 6.6 + 3 <= room);
+        out.push(`<g class="operation" data-call="${it.call.begin + 2}"><title>${escape(operationWords(it)[0])} takes effect</title><path d="M${it.x} ${top(row) + y + tick}v${-tick}"/><circle cx="${it.x}" cy="${top(row) + y}" r="3.5"/>`
+          + `${text ? `<text class="part" x="${it.x}" y="${top(row) + y + 15}">${escape(text)}</text>` : ""}</g>`);
+      });
+    }
+  };
+
   const drawWave = (bit, number) => {
-    const down = ROW + up + 6 + number * WAVE;
+    const down = tallRow + up + 6 + number * WAVE;
     for (let row = first; row < past && row <= rowOf(Math.max(0, (fault ?? count) - 1)); row++)
       out.push(`<text class="wavename ${bit.family}" x="${LEFT - 16}" y="${top(row) + down + 14}">${bit.bit}</text>`);
     for (const {from, to, held, write} of waveOf(bit, events, accesses, fault ?? count, fault ?? count - 0.5)) {
@@ -310,7 +330,7 @@ export function picture({shape, events, whole = events, fault = null, wholeFault
     const y = top(rowOf(fault)), at = x(fault), line = `line ${fault + 2}: ${kind}`, wide = line.length * 8.5 + 20;
     if (!isDrawn(rowOf(fault))) return;
     const from = round(Math.max(LEFT - 10, Math.min(at - wide / 2, edge + 10 - wide)));
-    out.push(`<path class="faultline" d="M${at} ${y + 20}V${y + C_BAR + BAR + 6}"/>`,
+    out.push(`<path class="faultline" d="M${at} ${y + 20}V${y + cBar + BAR + 6}"/>`,
       `<rect class="flag" x="${from}" y="${y + 2}" width="${wide}" height="22" rx="4"/>`,
       `<text class="flagwords" x="${from + 10}" y="${y + 18}">${escape(line)}</text>`,
       `<rect class="flag" x="${at - 17}" y="${y + RULER - 12}" width="34" height="16" rx="4"/>`,
@@ -337,6 +357,7 @@ export function picture({shape, events, whole = events, fault = null, wholeFault
     if (waveBits.length) out.push(`<path class="level s" d="M353 -10h14M383 3h14"/>`,
       `<rect class="underway" x="367" y="-11" width="16" height="15"/><text class="legend" x="407" y="0">what the bit holds</text>`);
     if (hasCalls) out.push(`<g class="call"><path d="M530 24v-8h30v8"/></g><text class="legend" x="570" y="24">a call</text>`);
+    if (order.length) out.push(`<g class="operation"><path class="order" d="M530 -3h30"/><path d="M545 -10v7"/><circle cx="545" cy="-3" r="3.5"/></g><text class="legend" x="570" y="0">where it takes effect</text>`);
     out.push("</g>");
   };
 
@@ -348,6 +369,7 @@ export function picture({shape, events, whole = events, fault = null, wholeFault
   strays.forEach(drawStray);
   waveBits.forEach(drawWave);
   calls.forEach(drawCall);
+  if (order.length) drawOrder();
   if (broken !== null) drawFlag(broken, "not of the program");
   if (fault !== null) drawFlag(fault, kind);
   drawLegend();
