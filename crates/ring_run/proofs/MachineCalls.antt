@@ -11,11 +11,9 @@ use Rattle.ring_run.specs.Steppers.{Grows, IsSameEnd, StandsAs}
 use Rattle.ring_run.specs.Machines.{ListIs, IsMarked, Machine, MachineAt, MachineStep, IsMachine, CallBegins, without_last}
 use Rattle.ring_run.proofs.Lists.{length-events_of}
 use Rattle.ring_run.proofs.MachineMoves.{MachineLaws}
+use Rattle.ring_run.proofs.Steps.{none-some}
 
 -- ---- at rest
-
-pub none-some : {A : Type 0} (a : A) → None ≡ Some a → ⊥
-none-some a e = cc
 
 pub list_rests : (x : Side) (list : List Event) (made : List Made) (due : Option Access) → ListIs x list made due → due ≡ None → list ≡ events_of x made
 list_rests x list made due (inl is) none = is

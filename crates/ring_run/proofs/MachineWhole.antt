@@ -19,7 +19,8 @@ use Rattle.ring_run.proofs.Accesses.{longer, same, same_on}
 use Rattle.ring_run.proofs.Answered.{answered_same, answered_then}
 use Rattle.ring_run.proofs.Lists.{begun_open, length-events_of}
 use Rattle.ring_run.proofs.MachineMoves.{Due, MachineLaws, right_there, at_begun, at_ended, can_make, list_ended, one_there}
-use Rattle.ring_run.proofs.MachineCalls.{Begun, none-some, list_rests, rest_list, rest_marked, at_one}
+use Rattle.ring_run.proofs.MachineCalls.{Begun, list_rests, rest_list, rest_marked, at_one}
+use Rattle.ring_run.proofs.Steps.{none-some}
 
 -- ---- one access of a call that goes on, by what a machine tells of the one that is due
 

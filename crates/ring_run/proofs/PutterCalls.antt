@@ -24,7 +24,8 @@ use Rattle.ring_run.specs.Steppers.{Grows}
 use Rattle.ring_run.specs.Ends.{HasPuts, HasPut, HasPutAll, HasPutPart, HasClosed, PutAdds, CloseAdds, PutterState, whole_put, puts_whole}
 use Rattle.ring_run.specs.Machines.{IsMarked, MachineStep, MachineAt, IsMachine, CallBegins, producing, without_last, longest_at}
 use Rattle.ring_run.proofs.MachineMoves.{Due, MachineLaws}
-use Rattle.ring_run.proofs.MachineCalls.{none-some, Begun, Step, Outcome, Refused, Goes, Over, one_step, out, shape_there, step_invariant, stays, whole_there}
+use Rattle.ring_run.proofs.MachineCalls.{Begun, Step, Outcome, Refused, Goes, Over, one_step, out, shape_there, step_invariant, stays, whole_there}
+use Rattle.ring_run.proofs.Steps.{none-some}
 
 -- ---- the machine
 

@@ -12,6 +12,7 @@ use crate::below::laws_below;
 use crate::counter_steppers::past_in;
 use crate::counter_words::Counting;
 use crate::ends::PutEnd;
+use crate::layout::Pad;
 use crate::steppers::Stepper;
 use bits_core::Shape;
 use ring_core::{BatchReply, PutReply, distance};
@@ -23,13 +24,12 @@ use std::marker::Model;
 #[derive(Drop)]
 #[repr(C)]
 pub struct CounterPutter<'a> {
-    // unused, as `after` is: they keep other values off the cache lines of this one
-    pub(crate) before: [u64; 8],
+    pub(crate) before: Pad,
     pub(crate) stepper: Stepper<'a, Counting>,
     pub(crate) count: u64,
     pub(crate) cell: u64,
     pub(crate) closed: bool,
-    pub(crate) after: [u64; 8],
+    pub(crate) after: Pad,
 }
 
 impl<'a> Model for CounterPutter<'a> {

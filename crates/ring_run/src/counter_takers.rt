@@ -12,6 +12,7 @@ use crate::below::laws_below;
 use crate::counter_steppers::past_in;
 use crate::counter_words::Counting;
 use crate::ends::TakeEnd;
+use crate::layout::Pad;
 use crate::meetings::is_closed_reply;
 use crate::steppers::Stepper;
 use bits_core::Shape;
@@ -24,13 +25,12 @@ use std::marker::Model;
 #[derive(Drop)]
 #[repr(C)]
 pub struct CounterTaker<'a> {
-    // unused, as `after` is: they keep other values off the cache lines of this one
-    pub(crate) before: [u64; 8],
+    pub(crate) before: Pad,
     pub(crate) stepper: Stepper<'a, Counting>,
     pub(crate) count: u64,
     pub(crate) cell: u64,
     pub(crate) told: bool,
-    pub(crate) after: [u64; 8],
+    pub(crate) after: Pad,
 }
 
 impl<'a> Model for CounterTaker<'a> {

@@ -14,6 +14,7 @@ ghost use Rattle.ring_run.specs.Machines.{CallBegins, MachineAt, MachineBusy, Ma
 
 use crate::below::laws_below;
 use crate::ends::TakeEnd;
+use crate::layout::Pad;
 use crate::steppers::Stepper;
 use crate::views::Flickering;
 use bits_core::{Oracle, Shape};
@@ -30,14 +31,13 @@ use std::marker::Model;
 #[derive(Drop)]
 #[repr(C)]
 pub struct Taker<'a, O: Oracle + Drop> {
-    // unused, as `after` is: they keep other values off the cache lines of this one
-    pub(crate) before: [u64; 8],
+    pub(crate) before: Pad,
     pub(crate) stepper: Stepper<'a, Flickering>,
     pub(crate) machine: Consumer,
     // how many events of the take under way the list has, and 0 where none is under way
     pub(crate) steps: u64,
     pub(crate) oracle: O,
-    pub(crate) after: [u64; 8],
+    pub(crate) after: Pad,
 }
 
 impl<'a, O: Oracle + Drop> Model for Taker<'a, O> {
