@@ -1,10 +1,8 @@
 -- A whole call of the producer's end, access by access.
-use Rattle.std.proofs.Common.{◌≡◌, cond, ℕ, Bool, true, false, Option, Some, None, List, [], ◌∷◌, refl, ap, sym, subst, ◌∙◌}
-use Rattle.bits_core.specs.declared.events.Side.TheVariants.{P}
+use Rattle.std.proofs.Common.{◌≡◌, cond, ℕ, Bool, true, false, Option, Some, None, List, ◌∷◌, refl, ap, sym, subst, ◌∙◌}
 use Rattle.bits_core.specs.declared.events.Access.{Access}
 use Rattle.bits_core.specs.declared.shapes.Shape.{Shape}
-use Rattle.bits_core.specs.declared.events.Event.{Event}
-use Rattle.bits_core.specs.Made.{Made, events_of}
+use Rattle.bits_core.specs.Made.{Made}
 use Rattle.register_core.specs.Row.{RowWrite}
 use Rattle.register_core.specs.ScanState.{ScanState}
 use Rattle.register_core.specs.UnaryState.{due_writes}
@@ -12,7 +10,7 @@ use Rattle.register_core.specs.WordState.{WriterState}
 use Rattle.ring_core.specs.declared.producers.PutReply as items_replies
 use Rattle.ring_core.specs.declared.producers.BatchReply as replies
 use Rattle.ring_core.specs.declared.producers.BatchReply.TheVariants as reply
-use Rattle.ring_core.specs.Puts.{Puts, put_program, ArePuts}
+use Rattle.ring_core.specs.Puts.{Puts, ArePuts}
 use Rattle.ring_core.specs.ProducerState as producer
 use Rattle.ring_core.specs.declared.producers.Stage.{Stage}
 use Rattle.ring_core.specs.declared.producers.Stage.TheVariants.{Counting}

@@ -81,11 +81,7 @@ fn fetch<'a>(stepper: &mut Stepper<'a, Counting>, count: &mut u64, cell: &mut u6
 }
 
 // A take from a ring that was not told closed. The count and the cell go on with an item.
-fn take_open<'a>(
-    stepper: &mut Stepper<'a, Counting>,
-    count: &mut u64,
-    cell: &mut u64,
-) -> TakeReply
+fn take_open<'a>(stepper: &mut Stepper<'a, Counting>, count: &mut u64, cell: &mut u64) -> TakeReply
     requires at { (calls : Takes) × TakerList stepper.old count.old cell.old calls × (calls.end ≡ Open) }
     ensures { (calls : Takes) → TakerList stepper.old count.old cell.old calls → calls.end ≡ Open → TakeKept stepper.old stepper.new count.new cell.new calls result }
 {

@@ -41,7 +41,7 @@ puts-preserved g c =
       s.idle,
       same_trans (g.E.PutEnd.end c.args.putter.now) a b i.1 s.same,
       elim c.match-reply.branch [
-        in-Stored w ↦ subst (λ (z : ℕ × ℕ × ℕ). PutsAre b.ring.shape b.list c.args.items.now z.0 z.1 z.2 false) (λ j. (sym w.put-is j, plus j, sym w.full-is j))
+        | in-Stored w ↦ subst (λ (z : ℕ × ℕ × ℕ). PutsAre b.ring.shape b.list c.args.items.now z.0 z.1 z.2 false) (λ j. (sym w.put-is j, plus j, sym w.full-is j))
             (stored c.puts_are_read.ensures b.ring.shape a.list b.list c.args.items.now c.puts.put c.puts.made c.puts.full there given (c.puts.put + c.next_batch.result - c.puts.put) w.in-Stored.stored refl whole w.in-Stored.ensures.phrase).1
         | in-Full w ↦ subst (λ (z : ℕ × ℕ × ℕ). PutsAre b.ring.shape b.list c.args.items.now z.0 z.1 z.2 false) (λ j. (sym w.put-is j, plus j, (more ∙ sym w.full-is) j))
             (was_full c.puts_are_read.ensures b.ring.shape a.list b.list c.args.items.now c.puts.put c.puts.made c.puts.full there given whole w.in-Full.ensures.phrase)

@@ -1,4 +1,4 @@
-use Rattle.std.proofs.Common.{◌≡◌, [], ◌∷◌, ◌++◌, sym, subst, refl}
+use Rattle.std.proofs.Common.{[], ◌∷◌, ◌++◌, sym, subst, refl}
 use Rattle.bits_core.specs.declared.events.Access.{Access}
 use Rattle.bits_core.specs.declared.events.Act.TheVariants.{ReadBegin, WriteBegin}
 use Rattle.bits_core.specs.Open.{IsOpenRight}
