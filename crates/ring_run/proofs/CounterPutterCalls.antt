@@ -209,6 +209,13 @@ module _ (laws : LawsBelow) (a : RingEnd) (count cell : ℕ) (items : List ℕ) 
 
 -- ---- the counts behind a put
 
+-- nothing more
+pub stands_still : (n k size : ℕ) → n ≡ k % size → n ≡ (n + 0) % size
+stands_still n k size is = is ∙ (sym (mod-mod k size) ∙ (ap (λ (j : ℕ). j % size) (sym is) ∙ ap (λ (j : ℕ). j % size) plus))
+  where
+    plus : n ≡ n + 0
+    plus = omega arith
+
 pub kept : (a b : RingEnd) (count cell : ℕ) (items : List ℕ) (calls : Puts) (most : ℕ) → PutterList a count cell calls → PutMade a b calls items most → (next next' : ℕ)
     → next ≡ (count + most) % modulus_of a.ring.shape → next' ≡ (cell + most) % capacity_of a.ring.shape → PutKept a b next next' calls items most
 kept a b count cell items calls most p m next next' is is' =
@@ -229,6 +236,10 @@ kept a b count cell items calls most p m next next' is is' =
     at_size size new old e was same =
         e ∙ (ap (λ (k : ℕ). (k + most) % size a.ring.shape) was ∙ (mod-add-mod (count_of a.ring.shape calls).number (size a.ring.shape) most ∙
         ((λ i. ((count_of (same i) calls).number + most) % size (same i)) ∙ ap (λ (k : ℕ). k % size b.ring.shape) (sym m.number))))
+
+-- the same, of a put that found the ring full
+pub kept_full : (a b : RingEnd) (count cell : ℕ) (items : List ℕ) (calls : Puts) → PutterList a count cell calls → PutMade a b calls items 0 → PutKept a b count cell calls items 0
+kept_full a b count cell items calls p m = kept a b count cell items calls 0 p m count cell (stands_still count (count_of a.ring.shape calls).number (modulus_of a.ring.shape) p.count_is) (stands_still cell (count_of a.ring.shape calls).number (capacity_of a.ring.shape) p.cell_is)
 
 -- ---- whole calls
 

@@ -25,7 +25,7 @@ use Rattle.ring_run.specs.Meetings.{closed_reply}
 use Rattle.ring_run.specs.Counters.{GrowsBy, unary_over}
 use Rattle.ring_run.specs.CounterEnds.{TakerList, items_brought, TakeMade, TakeKept, HasFound, LookMade, HasLooked}
 use Rattle.ring_run.proofs.Lists.{events_of-append}
-use Rattle.ring_run.proofs.CounterPutterCalls.{same_shape, same_end, stands_as}
+use Rattle.ring_run.proofs.CounterPutterCalls.{same_shape, same_end, stands_as, stands_still}
 use Rattle.ring_run.proofs.CounterTakes.{take_of, take_of-takes, take_of-replies, take_more, whole_take, whole_end, can_scan, can_ask, can_rescan, can_read, can_count, is_take, taken_is}
 
 -- ---- a take that is over
@@ -91,8 +91,11 @@ module _ (laws : LawsBelow) (a : RingEnd) (count cell : ℕ) (calls : Takes) (p 
         both = same_end a b b2 g.same g2.same
 
         pub found_empty : v ≡ false → LookMade a b2 calls (Some reply.Empty)
-        found_empty is = made_take laws a b2 count cell calls p opened both (stands_as a b2 C both p.side_is g2.stands) (Empty seen) reply.Empty none refl refl same_number
-            (whole_take laws a.ring.shape a.list calls p.has opened (Empty seen) b2.list none (at2 ∙ (ap (λ (w : Bool). b.list ++ events_of C (Read X w ∷ [])) is ∙ sym (behind (Read X false ∷ [])))))
+        found_empty is = (
+          made_take laws a b2 count cell calls p opened both (stands_as a b2 C both p.side_is g2.stands) (Empty seen) reply.Empty none refl refl same_number
+              (whole_take laws a.ring.shape a.list calls p.has opened (Empty seen) b2.list none (at2 ∙ (ap (λ (w : Bool). b.list ++ events_of C (Read X w ∷ [])) is ∙ sym (behind (Read X false ∷ []))))),
+          refl,
+        )
           where
             same_number : taken_in 0 calls.takes ≡ taken_in 0 calls.takes + 0
             same_number = omega arith
@@ -121,8 +124,11 @@ module _ (laws : LawsBelow) (a : RingEnd) (count cell : ℕ) (calls : Takes) (p 
             found_twice shows = (Twice seen again, record { same = all; stands = stands_as a b3 C all p.side_is g3.stands; finds = (none, (below, subst (ShowsItem a.ring.shape again) p.count_is shows)); list_is = at3 })
 
             pub found_closed : ¬ ShowsItem a.ring.shape again count → LookMade a b3 calls (Some reply.Closed)
-            found_closed not_again = made_end a b3 calls seen again opened all (stands_as a b3 C all p.side_is g3.stands)
-                (whole_end laws a.ring.shape a.list calls p.has opened seen again b3.list none (below, subst (λ (n : ℕ). ¬ ShowsItem a.ring.shape again n) p.count_is not_again) at3)
+            found_closed not_again = (
+              made_end a b3 calls seen again opened all (stands_as a b3 C all p.side_is g3.stands)
+                  (whole_end laws a.ring.shape a.list calls p.has opened seen again b3.list none (below, subst (λ (n : ℕ). ¬ ShowsItem a.ring.shape again n) p.count_is not_again) at3),
+              refl,
+            )
 
 -- ---- the item
 
@@ -206,6 +212,13 @@ kept_take a b count cell calls r p m next next' is is' = record {
     at_size size new old e was =
         e ∙ (ap (λ (k : ℕ). (k + items_brought r) % size a.ring.shape) was ∙ (mod-add-mod (taken_in 0 calls.takes) (size a.ring.shape) (items_brought r) ∙
         (λ i. sym m.number i % size (sym (same_shape a b m.same) i))))
+
+-- the same, of a take that brought nothing
+pub kept_none : (a b : RingEnd) (count cell : ℕ) (calls : Takes) (r : TakeReply) → TakerList a count cell calls → TakeMade a b calls r × (items_brought r ≡ 0) → TakeKept a b count cell calls r
+kept_none a b count cell calls r p (m, none) = kept_take a b count cell calls r p m count cell (at_size (modulus_of a.ring.shape) count p.count_is) (at_size (capacity_of a.ring.shape) cell p.cell_is)
+  where
+    at_size : (size n : ℕ) → n ≡ taken_in 0 calls.takes % size → n ≡ (n + items_brought r) % size
+    at_size size n is = stands_still n (taken_in 0 calls.takes) size is ∙ ap (λ (k : ℕ). (n + k) % size) (sym none)
 
 pub has_taken : (a b : RingEnd) (count cell : ℕ) (calls : Takes) (r : TakeReply) → TakerList a count cell calls → calls.end ≡ Open → TakeMade a b calls r → HasTaken b.ring.shape a.list b.list r
 has_taken a b count cell calls r p opened m = record {

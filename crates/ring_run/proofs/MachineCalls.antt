@@ -1,5 +1,5 @@
 -- A step call of an end, by its machine, whichever side it is of.
-use Rattle.std.proofs.Common.{◌≡◌, inl, inr, ⊎_elim, ℕ, ◌+◌, ◌-◌, ◌*◌, ◌≤◌, Option, Some, None, List, [], ◌∷◌, ◌++◌, length, take, ap, sym, subst, ◌∙◌, arith}
+use Rattle.std.proofs.Common.{◌≡◌, ◌⊎◌, inl, inr, ⊎_elim, ℕ, ◌+◌, ◌-◌, ◌*◌, ◌≤◌, Option, None, List, [], ◌∷◌, ◌++◌, length, take, ap, sym, subst, ◌∙◌, arith}
 use Rattle.std.proofs.lemmas.List.{length-append, length-take-le, take-append-le, take_all}
 use Rattle.bits_core.specs.declared.events.Side.{Side}
 use Rattle.bits_core.specs.declared.events.Access.{Access}
@@ -7,15 +7,13 @@ use Rattle.bits_core.specs.declared.events.Event.{Event}
 use Rattle.bits_core.specs.declared.shapes.Shape.{Shape}
 use Rattle.bits_core.specs.Made.{Made, events_of}
 use Rattle.ring_run.specs.Ring.{Ring, RingEnd}
-use Rattle.ring_run.specs.Steppers.{Grows, IsSameEnd}
+use Rattle.ring_run.specs.Steppers.{Grows, IsSameEnd, StandsAs}
 use Rattle.ring_run.specs.Machines.{ListIs, IsMarked, Machine, MachineAt, MachineStep, IsMachine, CallBegins, without_last}
 use Rattle.ring_run.proofs.Lists.{length-events_of}
 use Rattle.ring_run.proofs.MachineMoves.{MachineLaws}
+use Rattle.ring_run.proofs.Steps.{none-some}
 
 -- ---- at rest
-
-pub none-some : {A : Type 0} (a : A) → None ≡ Some a → ⊥
-none-some a e = cc
 
 pub list_rests : (x : Side) (list : List Event) (made : List Made) (due : Option Access) → ListIs x list made due → due ≡ None → list ≡ events_of x made
 list_rests x list made due (inl is) none = is
@@ -129,60 +127,105 @@ module _ (k : Machine) (ks : MachineLaws k) (e : RingEnd) (m : k.State) (calls :
 
 -- ---- of an end that marks the events of the call under way
 
-module _ (k : Machine) (ks : MachineLaws k) (e : RingEnd) (m : k.State) (n : ℕ) (was : IsMachine k e m (k.whole m e.list (without_last n e.list)) × IsMarked n e.list (k.most m)) (c : k.Call) (m1 : k.State) (begins : CallBegins k m m1 was.0.calls was.0.made c)
-    (e' : RingEnd) (m' : k.State) (rests : k.Rests m1 → (m' ≡ m1) × (e' ≡ e)) (steps : MachineAt k e m1 was.0.calls was.0.made → k.Busy m1 c → MachineStep k e m1 e' m' was.0.calls) where
-  one : MachineAt k e m1 was.0.calls was.0.made
-  one = at_one k ks e m was.0.calls was.0.made was.0.at c m1 begins
+-- A call that is begun, or goes on: the end as it is seen, and its list without what was made of the call under way; the end, its machine
+-- and its mark, which are so; and the machine where the call is begun.
+pub record Begun (k : Machine) (c : k.Call) : Type 0 where
+  pub seen : RingEnd
+  pub whole : List Event
+  pub e : RingEnd
+  pub m : k.State
+  pub n : ℕ
+  pub end_is : e ≡ seen
+  pub whole_is : k.whole m e.list (without_last n e.list) ≡ whole
+  pub was : IsMachine k e m (k.whole m e.list (without_last n e.list)) × IsMarked n e.list (k.most m)
+  pub now : k.State
+  pub begins : CallBegins k m now was.0.calls was.0.made c
 
-  pub out : Outcome k e e' m' was.0.calls c
-  out = outcome k ks e m was.0.calls was.0.made was.0.at c m1 begins e' m' rests (steps one)
+-- what a step makes of it
+pub record Step (k : Machine) (c : k.Call) : Type 0 where
+  pub begun : Begun k c
+  pub e : RingEnd
+  pub m : k.State
+  pub rests : k.Rests begun.now → (m ≡ begun.now) × (e ≡ begun.e)
+  pub steps : MachineAt k begun.e begun.now begun.was.0.calls begun.was.0.made → k.Busy begun.now c → MachineStep k begun.e begun.now e m begun.was.0.calls
 
-  pub same_step : IsSameEnd e e'
-  same_step = same_end k e e' m' was.0.calls c out
+module _ (k : Machine) (ks : MachineLaws k) {c : k.Call} (s : Step k c) where
+  abbrev b : Begun k c
+  b = s.begun
 
-  start_is : without_last n e.list ≡ events_of k.side (k.program e.ring.shape was.0.calls)
-  start_is = whole_marked k ks m n e.list was.1 ∙ was.0.whole_is
+  one : MachineAt k b.e b.now b.was.0.calls b.was.0.made
+  one = at_one k ks b.e b.m b.was.0.calls b.was.0.made b.was.0.at c b.now b.begins
 
-  pub step_machine : IsMachine k e' m' (k.whole m' e'.list (without_last n e.list))
-  step_machine = is_machine k ks e m was.0.calls was.0.made was.0.at c m1 begins e' m' rests (steps one) (without_last n e.list) start_is
+  came : Outcome k b.e s.e s.m b.was.0.calls c
+  came = outcome k ks b.e b.m b.was.0.calls b.was.0.made b.was.0.at c b.now b.begins s.e s.m s.rests (s.steps one)
 
-  few_more : length e'.list ≤ length (without_last n e.list) + 2 * k.longest e'.ring.shape c
-  few_more = few k ks e m was.0.calls was.0.made was.0.at c m1 begins e' m' rests (steps one) (without_last n e.list) start_is
+  pub out : Outcome k b.seen s.e s.m b.was.0.calls c
+  out = subst (λ (x : RingEnd). Outcome k x s.e s.m b.was.0.calls c) b.end_is came
 
-  pub step_few : length e'.list ≤ length (k.whole m e.list (without_last n e.list)) + 2 * k.longest e'.ring.shape c
-  step_few = subst (λ (l : List Event). length e'.list ≤ length l + 2 * k.longest e'.ring.shape c) (whole_marked k ks m n e.list was.1) few_more
+  -- the call was refused, or one event was made
+  pub one_step : (k.Refuses c b.was.0.calls s.m × (s.e ≡ b.seen)) ⊎ ((x : Event) × Grows b.seen s.e x)
+  one_step = by out
+    where
+      by : Outcome k b.seen s.e s.m b.was.0.calls c → (k.Refuses c b.was.0.calls s.m × (s.e ≡ b.seen)) ⊎ ((x : Event) × Grows b.seen s.e x)
+      by (Refused same none refused list) = inl (refused, same)
+      by (Goes event grows is part more made stands) = inr (event, grows)
+      by (Over event grows none more is_more list made stands) = inr (event, grows)
 
-  -- what it was before is that of the calls, by the shape that is the same
-  pub whole_there : k.whole m e.list (without_last n e.list) ≡ events_of k.side (k.program e'.ring.shape was.0.calls)
-  whole_there = was.0.whole_is ∙ ap (λ (r : Ring). events_of k.side (k.program r.shape was.0.calls)) (sym same_step.ring)
+  pub same_step : IsSameEnd b.seen s.e
+  same_step = same_end k b.seen s.e s.m b.was.0.calls c out
+
+  start_is : without_last b.n b.e.list ≡ events_of k.side (k.program b.e.ring.shape b.was.0.calls)
+  start_is = whole_marked k ks b.m b.n b.e.list b.was.1 ∙ b.was.0.whole_is
+
+  step_machine : IsMachine k s.e s.m (k.whole s.m s.e.list (without_last b.n b.e.list))
+  step_machine = is_machine k ks b.e b.m b.was.0.calls b.was.0.made b.was.0.at c b.now b.begins s.e s.m s.rests (s.steps one) (without_last b.n b.e.list) start_is
+
+  pub step_stands : (calls : k.Calls) × (made : List Made) × k.Stands s.m calls made
+  step_stands = (step_machine.calls, step_machine.made, step_machine.at.stands)
+
+  pub step_lawful : StandsAs k.side s.e
+  step_lawful = step_machine.at.lawful
+
+  few_more : length s.e.list ≤ length (without_last b.n b.e.list) + 2 * k.longest s.e.ring.shape c
+  few_more = few k ks b.e b.m b.was.0.calls b.was.0.made b.was.0.at c b.now b.begins s.e s.m s.rests (s.steps one) (without_last b.n b.e.list) start_is
+
+  marked_is : without_last b.n b.e.list ≡ b.whole
+  marked_is = whole_marked k ks b.m b.n b.e.list b.was.1 ∙ b.whole_is
+
+  pub step_few : length s.e.list ≤ length b.whole + 2 * k.longest s.e.ring.shape c
+  step_few = subst (λ (l : List Event). length s.e.list ≤ length l + 2 * k.longest s.e.ring.shape c) marked_is few_more
+
+  -- the shape that the machine was of, and what the list was before, which is that of the calls by this shape
+  pub shape_there : k.shape_of b.m ≡ s.e.ring.shape
+  shape_there = b.was.0.at.shape_is ∙ ap (λ (r : Ring). r.shape) (sym (same_end k b.e s.e s.m b.was.0.calls c came).ring)
+
+  pub whole_there : b.whole ≡ events_of k.side (k.program s.e.ring.shape b.was.0.calls)
+  whole_there = sym b.whole_is ∙ b.was.0.whole_is ∙ ap (λ (r : Ring). events_of k.side (k.program r.shape b.was.0.calls)) (sym (same_end k b.e s.e s.m b.was.0.calls c came).ring)
 
   -- the events of the call that goes on are one more
-  module _ (n' : ℕ) (over : k.Rests m' → n' ≡ 0) (on : (d : k.Call) → k.Busy m' d → n' ≡ n + 1) where
+  module _ (n' : ℕ) (over : k.Rests s.m → n' ≡ 0) (on : (d : k.Call) → k.Busy s.m d → n' ≡ b.n + 1) where
     abbrev Moves : Type 0
-    Moves = (k.whole m' e'.list (without_last n e.list) ≡ k.whole m' e'.list (without_last n' e'.list)) × IsMarked n' e'.list (k.most m')
+    Moves = (k.whole s.m s.e.list (without_last b.n b.e.list) ≡ k.whole s.m s.e.list (without_last n' s.e.list)) × IsMarked n' s.e.list (k.most s.m)
 
-    at_rest : k.Rests m' → Moves
+    at_rest : k.Rests s.m → Moves
     at_rest none = let z : n' ≡ 0 = over none in
-        (ks.whole_rests m' e'.list (without_last n e.list) none ∙ sym (ks.whole_rests m' e'.list (without_last n' e'.list) none), (omega (arith, z), omega (arith, z)))
+        (ks.whole_rests s.m s.e.list (without_last b.n b.e.list) none ∙ sym (ks.whole_rests s.m s.e.list (without_last n' s.e.list) none), (omega (arith, z), omega (arith, z)))
 
-    moves : Outcome k e e' m' was.0.calls c → Moves
+    moves : Outcome k b.e s.e s.m b.was.0.calls c → Moves
     moves (Refused same none refused list) = at_rest none
     moves (Over event grows none more is_more list made stands) = at_rest none
     moves (Goes event grows goes part _ _ stands) =
-        let more_is : n' ≡ n + 1 = on c goes in
-        let mark : without_last n e.list ≡ without_last n' e'.list = sym (before_more n e.list event was.1.0) ∙ (λ i. without_last (sym more_is i) (sym grows.list i)) in
-        let most : k.most m' ≡ k.longest e'.ring.shape c = ks.most_busy m' c goes ∙ ap (λ (z : Shape). k.longest z c) step_machine.at.shape_is in
-        let size' : length e'.list ≡ length e.list + 1 = ap length grows.list ∙ length-append e.list (event ∷ []) in (
-          ks.whole_busy m' c e'.list (without_last n e.list) goes ∙ mark ∙ sym (ks.whole_busy m' c e'.list (without_last n' e'.list) goes),
-          (omega (arith, more_is, size', was.1.0), omega (arith, more_is, size', before_size n e.list was.1.0, few_more, most)),
+        let more_is : n' ≡ b.n + 1 = on c goes in
+        let mark : without_last b.n b.e.list ≡ without_last n' s.e.list = sym (before_more b.n b.e.list event b.was.1.0) ∙ (λ i. without_last (sym more_is i) (sym grows.list i)) in
+        let most : k.most s.m ≡ k.longest s.e.ring.shape c = ks.most_busy s.m c goes ∙ ap (λ (z : Shape). k.longest z c) step_machine.at.shape_is in
+        let size' : length s.e.list ≡ length b.e.list + 1 = ap length grows.list ∙ length-append b.e.list (event ∷ []) in (
+          ks.whole_busy s.m c s.e.list (without_last b.n b.e.list) goes ∙ mark ∙ sym (ks.whole_busy s.m c s.e.list (without_last n' s.e.list) goes),
+          (omega (arith, more_is, size', b.was.1.0), omega (arith, more_is, size', before_size b.n b.e.list b.was.1.0, few_more, most)),
         )
 
-    pub step_marked : Moves
-    step_marked = moves out
-
-    pub step_invariant : IsMachine k e' m' (k.whole m' e'.list (without_last n' e'.list)) × IsMarked n' e'.list (k.most m')
-    step_invariant = (subst (IsMachine k e' m') step_marked.0 step_machine, step_marked.1)
+    pub step_invariant : IsMachine k s.e s.m (k.whole s.m s.e.list (without_last n' s.e.list)) × IsMarked n' s.e.list (k.most s.m)
+    step_invariant = let moved = moves came in (subst (IsMachine k s.e s.m) moved.0 step_machine, moved.1)
 
     -- a call that goes on began where it had begun
-    pub stays : k.Busy m' c → k.whole m' e'.list (without_last n' e'.list) ≡ k.whole m e.list (without_last n e.list)
-    stays goes = sym step_marked.0 ∙ ks.whole_busy m' c e'.list (without_last n e.list) goes ∙ whole_marked k ks m n e.list was.1
+    pub stays : k.Busy s.m c → k.whole s.m s.e.list (without_last n' s.e.list) ≡ b.whole
+    stays goes = sym (moves came).0 ∙ ks.whole_busy s.m c s.e.list (without_last b.n b.e.list) goes ∙ marked_is

@@ -47,9 +47,18 @@ pub record Next (k : Machine) (m : k.State) (calls : k.Calls) (made : List Made)
   pub goes : (answer : Bool) → (LastBitIsDue (k.shape_of m) k.side (Some a) → answer ≡ true) → (more : k.Calls) × k.More (k.shape_of m) one calls more × IsBeginning (made ++ answered a answer ∷ []) (k.program (k.shape_of m) more)
   pub few : length made < length (k.program (k.shape_of m) calls) + k.longest (k.shape_of m) one
 
+-- what a machine tells of its due access: by its calls and accesses it goes on, and whether a 0 as its answer may not be
+pub record Due (k : Machine) (m : k.State) (a : Access) : Type 0 where
+  pub is : k.due m ≡ Some a
+  pub right : IsOpenRight (k.shape_of m) k.side a
+  pub next : (calls : k.Calls) (made : List Made) → k.Stands m calls made → Next k m calls made a
+  pub expects : Bool
+  pub one : IsTrue expects ↔ LastBitIsDue (k.shape_of m) k.side (k.due m)
+  pub zeros : (calls : k.Calls) (made : List Made) → k.Stands m calls made → IsTrue expects → EndsInZeros (k.shape_of m) k.side made
+
 -- the due access is one that the end may make
-pub right_there : (k : Machine) (e : RingEnd) (m : k.State) (calls : k.Calls) (made : List Made) → MachineAt k e m calls made → (a : Access) → IsOpenRight (k.shape_of m) k.side a → IsOpenRight e.ring.shape e.side a
-right_there k e m calls made at a = subst (λ (z : Shape × Side). IsOpenRight z.0 z.1 a) (λ i. (at.shape_is i, sym at.side_is i))
+pub right_there : (k : Machine) (e : RingEnd) (m : k.State) (calls : k.Calls) (made : List Made) → MachineAt k e m calls made → (a : Access) → Due k m a → IsOpenRight e.ring.shape e.side a
+right_there k e m calls made at a d = subst (λ (z : Shape × Side). IsOpenRight z.0 z.1 a) (λ i. (at.shape_is i, sym at.side_is i)) d.right
 
 module _ (laws : LawsBelow) (k : Machine) (ks : MachineLaws k) (m : k.State) (calls : k.Calls) (made : List Made) (a : Access) (next : Next k m calls made a) where
   begins : (answer : Bool) → (LastBitIsDue (k.shape_of m) k.side (Some a) → answer ≡ true) → (more : k.Calls) × k.More (k.shape_of m) next.one calls more × IsBeginning (events_of k.side (made ++ answered a answer ∷ [])) (events_of k.side (k.program (k.shape_of m) more))
@@ -96,19 +105,21 @@ module _ (laws : LawsBelow) (k : Machine) (ks : MachineLaws k) (m : k.State) (ca
 
 -- ---- with the end
 
-module _ (laws : LawsBelow) (k : Machine) (ks : MachineLaws k) (e : RingEnd) (m : k.State) (calls : k.Calls) (made : List Made) (at : MachineAt k e m calls made) (a : Access) (due : k.due m ≡ Some a) (next : Next k m calls made a)
-    (expects : Bool) (due_is : IsTrue expects ↔ LastBitIsDue (k.shape_of m) k.side (k.due m)) (zeros : IsTrue expects → EndsInZeros (k.shape_of m) k.side made) where
-  list_due : ListIs k.side e.list made (Some a)
-  list_due = subst (ListIs k.side e.list made) due at.list_is
+module _ (laws : LawsBelow) (k : Machine) (ks : MachineLaws k) (e : RingEnd) (m : k.State) (calls : k.Calls) (made : List Made) (at : MachineAt k e m calls made) (a : Access) (d : Due k m a) where
+  abbrev next : Next k m calls made a
+  next = d.next calls made at.stands
 
-  due_is' : IsTrue expects ↔ LastBitIsDue (k.shape_of m) k.side (Some a)
-  due_is' = subst (λ (o : Option Access). IsTrue expects ↔ LastBitIsDue (k.shape_of m) k.side o) due due_is
+  list_due : ListIs k.side e.list made (Some a)
+  list_due = subst (ListIs k.side e.list made) d.is at.list_is
+
+  one_is : IsTrue d.expects ↔ LastBitIsDue (k.shape_of m) k.side (Some a)
+  one_is = subst (λ (o : Option Access). IsTrue d.expects ↔ LastBitIsDue (k.shape_of m) k.side o) d.is d.one
 
   pub can_there : CanStep e a
-  can_there = subst (λ (z : Shape × Side). CanStepAt z.0 z.1 e.list a) (λ i. (at.shape_is i, sym at.side_is i)) (can laws k ks m calls made a next expects due_is' zeros e.list list_due)
+  can_there = subst (λ (z : Shape × Side). CanStepAt z.0 z.1 e.list a) (λ i. (at.shape_is i, sym at.side_is i)) (can laws k ks m calls made a next d.expects one_is (d.zeros calls made at.stands) e.list list_due)
 
   pub can_make : e.list ≡ events_of k.side made → CanMake e a
-  can_make is = subst (λ (z : Shape × Side). CanMakeAt z.0 z.1 e.list a) (λ i. (at.shape_is i, sym at.side_is i)) (can_whole laws k ks m calls made a next expects due_is' zeros e.list is)
+  can_make is = subst (λ (z : Shape × Side). CanMakeAt z.0 z.1 e.list a) (λ i. (at.shape_is i, sym at.side_is i)) (can_whole laws k ks m calls made a next d.expects one_is (d.zeros calls made at.stands) e.list is)
 
   module _ (b : RingEnd) where
     shape_b : IsSameEnd e b → k.shape_of m ≡ b.ring.shape
@@ -124,7 +135,7 @@ module _ (laws : LawsBelow) (k : Machine) (ks : MachineLaws k) (e : RingEnd) (m 
 
     -- the begin of the due access, and where the end then stands
     pub at_begun : HasStepped e b a None → MachineAt k b m calls made
-    at_begun s = record { side_is = s.1.same.side ∙ at.side_is; lawful = lawful_b s.1; shape_is = shape_b s.1.same; stands = at.stands; list_is = inr (a, due, list_begun s) }
+    at_begun s = record { side_is = s.1.same.side ∙ at.side_is; lawful = lawful_b s.1; shape_is = shape_b s.1.same; stands = at.stands; list_is = inr (a, d.is, list_begun s) }
 
     pub begun : HasStepped e b a None → MachineStep k e m b m calls
     begun s = record {
@@ -157,10 +168,10 @@ module _ (laws : LawsBelow) (k : Machine) (ks : MachineLaws k) (e : RingEnd) (m 
           let st = s.1.stands in
           let ring : IsRing (k.shape_of m) st.history = subst (λ (z : Shape). IsRing z st.history) (sym (shape_b s.1.same)) st.ring in
           let mine : own k.side st.history ≡ events_of k.side (made ++ answered a v ∷ []) = ap (λ (x : Side). own x st.history) (sym (s.1.same.side ∙ at.side_is)) ∙ st.list_is ∙ list_ended in
-          answers_one laws k ks m calls made a next expects due_is' zeros st.history ring.run.lawful (ring_follows (k.shape_of m) st.history ring (other k.side)) v mine
+          answers_one laws k ks m calls made a next d.expects one_is (d.zeros calls made at.stands) st.history ring.run.lawful (ring_follows (k.shape_of m) st.history ring (other k.side)) v mine
 
       pub one_there : LastBitIsDue (k.shape_of m) k.side (k.due m) → v ≡ true
-      one_there last = one_due (subst (LastBitIsDue (k.shape_of m) k.side) due last)
+      one_there last = one_due (subst (LastBitIsDue (k.shape_of m) k.side) d.is last)
 
       module _ (m' : k.State) (same_shape : k.shape_of m' ≡ k.shape_of m) (more : k.Calls) (stands : k.Stands m' more (made ++ answered a v ∷ [])) (after : k.After m m' calls more) where
         -- the end of the due access, and where the end then stands

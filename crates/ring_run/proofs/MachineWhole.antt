@@ -1,36 +1,39 @@
 -- A whole call of an end, access by access, by its machine, whichever side it is of.
-use Rattle.std.proofs.Common.{◌≡◌, inl, inr, ⊎_elim, ◌+◌, ◌*◌, ◌<◌, ◌↔◌, Bool, true, Some, None, IsTrue, List, [], ◌∷◌, ◌++◌, length, refl, ap, sym, subst, ◌∙◌, arith, ℕ, ◌≤◌}
+use Rattle.std.proofs.Common.{◌≡◌, inl, inr, ⊎_elim, ◌+◌, ◌*◌, ◌<◌, Bool, true, Some, None, List, [], ◌∷◌, ◌++◌, length, refl, ap, sym, subst, ◌∙◌, arith, ℕ}
 use Rattle.bits_core.specs.declared.events.Side.{Side}
 use Rattle.bits_core.specs.declared.events.Access.{Access}
 use Rattle.bits_core.specs.declared.events.Event.{Event}
 use Rattle.bits_core.specs.declared.shapes.Shape.{Shape}
 use Rattle.bits_core.specs.History.{open_access}
 use Rattle.bits_core.specs.Made.{Made, answered, events_of}
-use Rattle.ring_core.specs.Calls.{LastBitIsDue, EndsInZeros}
+use Rattle.bits_core.specs.Open.{IsOpenRight}
+use Rattle.register_core.specs.Row.{RowWrite, row_bit}
+use Rattle.register_core.specs.UnaryState.{UnaryState, due_unary, due_writes, first_access}
+use Rattle.ring_core.specs.Calls.{LastBitIsDue}
 use Rattle.ring_run.specs.Ring.{Ring, RingEnd}
 use Rattle.ring_run.specs.Programs.{begin_of, ending_event}
 use Rattle.ring_run.specs.Steppers.{AreAnswered, CanMake, Grows, HasMade, HasStepped, IsSameEnd, StandsAs}
-use Rattle.ring_run.specs.Machines.{Machine, MachineAt, MachineReady, MachineGoes, MachineOver, MachineIn, MachineMade, IsMachine, CallBegins}
+use Rattle.ring_run.specs.Machines.{Machine, MachineAt, MachineReady, MachineGoes, MachineOver, MachineIn, MachineBusy, MachineWent, MachineEnded, IsMachine, IsMarked, without_last}
 use Rattle.ring_run.specs.Below.{LawsBelow}
 use Rattle.ring_run.proofs.Accesses.{longer, same, same_on}
 use Rattle.ring_run.proofs.Answered.{answered_same, answered_then}
 use Rattle.ring_run.proofs.Lists.{begun_open, length-events_of}
-use Rattle.ring_run.proofs.MachineMoves.{MachineLaws, Next, at_begun, at_ended, can_make, list_ended, one_there}
-use Rattle.ring_run.proofs.MachineCalls.{none-some, list_rests, rest_list, at_one}
+use Rattle.ring_run.proofs.MachineMoves.{Due, MachineLaws, right_there, at_begun, at_ended, can_make, list_ended, one_there}
+use Rattle.ring_run.proofs.MachineCalls.{Begun, list_rests, rest_list, rest_marked, at_one}
+use Rattle.ring_run.proofs.Steps.{none-some}
 
 -- ---- one access of a call that goes on, by what a machine tells of the one that is due
 
-module _ (laws : LawsBelow) (k : Machine) (ks : MachineLaws k) (e : RingEnd) (m : k.State) (calls : k.Calls) (c : k.Call) (g : MachineGoes k e m calls c) (a : Access) (due : k.due m ≡ Some a) (next : Next k m calls g.made a)
-    (expects : Bool) (due_is : IsTrue expects ↔ LastBitIsDue (k.shape_of m) k.side (k.due m)) (zeros : (calls : k.Calls) (made : List Made) → k.Stands m calls made → IsTrue expects → EndsInZeros (k.shape_of m) k.side made) where
+module _ (laws : LawsBelow) (k : Machine) (ks : MachineLaws k) (e : RingEnd) (m : k.State) (calls : k.Calls) (c : k.Call) (g : MachineGoes k e m calls c) (a : Access) (d : Due k m a) where
   pub can_go : CanMake e a
-  can_go = can_make laws k ks e m calls g.made g.at a due next expects due_is (zeros calls g.made g.at.stands) g.list_is
+  can_go = can_make laws k ks e m calls g.made g.at a d g.list_is
 
   module _ (b : RingEnd) (v : Bool) (h : HasMade e b a v) where
     begun : HasStepped e h.0 a None
     begun = (ap (λ (x : Side). open_access x e.list) g.at.side_is ∙ ap (open_access k.side) g.list_is ∙ laws.made_idle k.side g.made, h.1)
 
     at_mid : MachineAt k h.0 m calls g.made
-    at_mid = at_begun laws k ks e m calls g.made g.at a due next expects due_is (zeros calls g.made g.at.stands) h.0 begun
+    at_mid = at_begun laws k ks e m calls g.made g.at a d h.0 begun
 
     ended : HasStepped h.0 b a (Some v)
     ended = (
@@ -40,12 +43,12 @@ module _ (laws : LawsBelow) (k : Machine) (ks : MachineLaws k) (e : RingEnd) (m 
 
     -- the answer may be fed
     pub may_feed : LastBitIsDue (k.shape_of m) k.side (k.due m) → v ≡ true
-    may_feed = one_there laws k ks h.0 m calls g.made at_mid a due next expects due_is (zeros calls g.made g.at.stands) b v ended
+    may_feed = one_there laws k ks h.0 m calls g.made at_mid a d b v ended
 
     pub went : (m' : k.State) → k.shape_of m' ≡ k.shape_of m → (more : k.Calls) × k.Stands m' more (g.made ++ answered a v ∷ []) × k.After m m' calls more → MachineIn k b m' calls c
     went m' same_shape moved =
         let made : List Made = g.made ++ answered a v ∷ [] in
-        let there : MachineAt k b m' moved.0 made = at_ended laws k ks h.0 m calls g.made at_mid a due next expects due_is (zeros calls g.made g.at.stands) b v ended m' same_shape moved.0 moved.1 moved.2 in
+        let there : MachineAt k b m' moved.0 made = at_ended laws k ks h.0 m calls g.made at_mid a d b v ended m' same_shape moved.0 moved.1 moved.2 in
         ⊎_elim
         (λ rests. inr (record { more = moved.0; made = made; at = there; rests = rests; is_more = subst (λ (z : Shape). k.More z c calls moved.0) (sym same_shape) (ks.over m m' c calls moved.0 g.busy rests moved.2) }))
         (λ on.
@@ -53,108 +56,104 @@ module _ (laws : LawsBelow) (k : Machine) (ks : MachineLaws k) (e : RingEnd) (m 
         inl (record {
           made = made;
           at = subst (λ (z : k.Calls). MachineAt k b m' z made) t.1 there;
-          list_is = list_ended laws k ks h.0 m calls g.made at_mid a due next expects due_is (zeros calls g.made g.at.stands) b v ended;
+          list_is = list_ended laws k ks h.0 m calls g.made at_mid a d b v ended;
           busy = subst (k.Busy m') t.0 on.1;
         }))
         (ks.either m')
 
-module _ (k : Machine) (ks : MachineLaws k) where
-  -- while a call is under way, it goes on
-  pub goes_in : (e : RingEnd) (m : k.State) (calls : k.Calls) (c d : k.Call) → MachineIn k e m calls c → k.Busy m d → MachineGoes k e m calls c
-  goes_in e m calls c d (inl g) is = g
-  goes_in e m calls c d (inr o) is = absurd (ks.never m d o.rests is)
+-- ---- some accesses of a call
 
-  -- ---- the loop over accesses
+-- none, and some behind others
+pub went_nowhere : (k : Machine) (e : RingEnd) (m : k.State) (said : ℕ → Bool) → MachineWent k e m e m said said
+went_nowhere k e m said = record { same = record { ring = refl; side = refl; known = refl }; longer = omega arith; kind = refl; rests = λ _. (refl, refl); goes = λ calls c was. was; answered = answered_same e said }
 
-  -- while an access is due, the call under way goes on
-  pub going : (e : RingEnd) (m : k.State) (b : RingEnd) (m' : k.State) (calls : k.Calls) → MachineReady k e m calls → MachineMade k e m b m' calls → (a : Access) → k.due m' ≡ Some a → (c : k.Call) × k.Busy m c × MachineGoes k b m' calls c
-  going e m b m' calls ready (inl (none, same, _)) a due = absurd (none-some a (sym (ks.at_rest m calls (k.program (k.shape_of m) calls) ready.at.stands none).1 ∙ ap k.due (sym same) ∙ due))
-  going e m b m' calls ready (inr (c, is, inl g)) a due = (c, is, g)
-  going e m b m' calls ready (inr (c, is, inr o)) a due = absurd (none-some a (sym (ks.at_rest m' o.more o.made o.at.stands o.rests).1 ∙ due))
-
-  -- the list stays below the longest of the call
-  pub below : (e : RingEnd) (m : k.State) (b : RingEnd) (m' : k.State) (calls : k.Calls) → MachineReady k e m calls → IsSameEnd e b → (c : k.Call) → k.Busy m c → (g : MachineGoes k b m' calls c) → length g.made < length (k.program (k.shape_of m') calls) + k.longest (k.shape_of m') c
-      → length b.list < length e.list + 2 * k.most m
-  below e m b m' calls ready same c is g few =
-      let shape : k.shape_of m' ≡ k.shape_of m = g.at.shape_is ∙ ap (λ (r : Ring). r.shape) same.ring ∙ sym ready.at.shape_is in
-      let few' : length g.made < length (k.program (k.shape_of m) calls) + k.longest (k.shape_of m) c = subst (λ (z : Shape). length g.made < length (k.program z calls) + k.longest z c) shape few in
-      omega (arith, few', ks.most_busy m c is, ap length g.list_is, length-events_of k.side g.made, ap length ready.list_is, length-events_of k.side (k.program (k.shape_of m) calls))
-
-  -- what was made goes on, where a call is under way, and stays as it is, where none is
-  pub in_there : (e : RingEnd) (m : k.State) (b : RingEnd) (n : k.State) (calls : k.Calls) → MachineMade k e m b n calls → (d : k.Call) → k.Busy n d → (c : k.Call) × MachineIn k b n calls c
-  in_there e m b n calls (inl (none, same, _)) d busy = absurd (ks.never n d (subst k.Rests (sym same) none) busy)
-  in_there e m b n calls (inr (c, is, there)) d busy = (c, there)
-
-  pub made_on : (e : RingEnd) (m : k.State) (b : RingEnd) (n : k.State) (b' : RingEnd) (n' : k.State) (calls : k.Calls) → MachineMade k e m b n calls
-      → (k.Rests n → (n' ≡ n) × (b' ≡ b)) → ((c : k.Call) → MachineIn k b n calls c → MachineIn k b' n' calls c) → MachineMade k e m b' n' calls
-  made_on e m b n b' n' calls (inl (none, same, end)) rests goes = let (s, t) = rests (subst k.Rests (sym same) none) in inl (none, s ∙ same, t ∙ end)
-  made_on e m b n b' n' calls (inr (c, is, there)) rests goes = inr (c, is, goes c there)
-
-  -- nothing was made yet
-  pub made_first : (e : RingEnd) (m : k.State) (calls : k.Calls) → MachineReady k e m calls → MachineMade k e m e m calls
-  made_first e m calls ready = ⊎_elim
-      (λ none. inl (none, refl, refl))
-      (λ on. inr (on.0, on.1, inl (record { made = k.program (k.shape_of m) calls; at = ready.at; list_is = ready.list_is; busy = on.1 })))
-      (ks.either m)
-
-  pub made_rests : (e : RingEnd) (m : k.State) (b : RingEnd) (m' : k.State) (calls : k.Calls) → MachineMade k e m b m' calls → k.Rests m → (m' ≡ m) × (b ≡ e)
-  made_rests e m b m' calls (inl (none, same, end)) rests = (same, end)
-  made_rests e m b m' calls (inr (c, is, there)) rests = absurd (ks.never m c rests is)
-
-  -- where no access is due, the call is over
-  pub over : (e : RingEnd) (m : k.State) (b : RingEnd) (m' : k.State) (calls : k.Calls) (c : k.Call) → k.Busy m c → MachineMade k e m b m' calls → ((made : List Made) → MachineAt k b m' calls made → k.Rests m') → MachineOver k b m' calls c
-  over e m b m' calls c is (inl (none, stays, end)) ends = absurd (ks.never m c none is)
-  over e m b m' calls c is (inr (d, on, inl g)) ends = absurd (ks.never m' d (ends g.made g.at) g.busy)
-  over e m b m' calls c is (inr (d, on, inr o)) ends = subst (MachineOver k b m' calls) (ks.one m d c on is) o
-
--- ---- a part of a call, in a loop of its own
-
--- whole accesses of the call that was under way were made, and it goes on
-pub record Phase (k : Machine) (e0 : RingEnd) (m0 : k.State) (ring : Ring) (e : RingEnd) (m : k.State) (old now : ℕ → Bool) : Type 0 where
-  pub ring_is : ring ≡ e.ring
-  pub same : IsSameEnd e0 e
-  pub longer : length e0.list ≤ length e.list
-  pub goes : (calls : k.Calls) (c : k.Call) → MachineIn k e0 m0 calls c → MachineGoes k e m calls c
-  pub answered : AreAnswered e0 e old now
-
-pub phase_first : (k : Machine) → MachineLaws k → (e : RingEnd) (m0 m : k.State) (ring : Ring) (old : ℕ → Bool) → ring ≡ e.ring → m ≡ m0 → (d : k.Call) → k.Busy m0 d → Phase k e m0 ring e m old old
-phase_first k ks e m0 m ring old ring_is is d busy = record {
-  ring_is = ring_is;
-  same = record { ring = refl; side = refl; known = refl };
-  longer = omega arith;
-  goes = λ calls c was. subst (λ (x : k.State). MachineGoes k e x calls c) (sym is) (goes_in k ks e m0 calls c d was busy);
-  answered = answered_same e old;
+pub went_then : (k : Machine) {e a b : RingEnd} {m n o : k.State} {old mid now : ℕ → Bool} → MachineWent k e m a n old mid → MachineWent k a n b o mid now → MachineWent k e m b o old now
+went_then k w v = record {
+  same = same_on w.same v.same;
+  longer = omega (arith, w.longer, v.longer);
+  kind = v.kind ∙ w.kind;
+  rests = λ none. (let first = w.rests none in let then = v.rests (subst k.Rests (sym first.0) none) in (then.0 ∙ first.0, then.1 ∙ first.1));
+  goes = λ calls c was. v.goes calls c (w.goes calls c was);
+  answered = answered_then _ _ _ _ _ _ w.answered v.answered;
 }
 
-module _ (laws : LawsBelow) (k : Machine) (ks : MachineLaws k) (e0 : RingEnd) (m0 : k.State) (ring : Ring) (e : RingEnd) (m : k.State) (old now : ℕ → Bool) (p : Phase k e0 m0 ring e m old now) (a : Access) (due : k.due m ≡ Some a)
-    (next : (calls : k.Calls) (made : List Made) → k.Stands m calls made → Next k m calls made a)
-    (expects : Bool) (due_is : IsTrue expects ↔ LastBitIsDue (k.shape_of m) k.side (k.due m)) (zeros : (calls : k.Calls) (made : List Made) → k.Stands m calls made → IsTrue expects → EndsInZeros (k.shape_of m) k.side made) where
-  pub phase_can : (calls : k.Calls) (c : k.Call) → MachineIn k e0 m0 calls c → CanMake e a
-  phase_can calls c was = let g = p.goes calls c was in can_go laws k ks e m calls c g a due (next calls g.made g.at.stands) expects due_is zeros
+module _ (k : Machine) (ks : MachineLaws k) {e0 : RingEnd} {m0 : k.State} {e : RingEnd} {m : k.State} {old now : ℕ → Bool} (w : MachineWent k e0 m0 e m old now) where
+  -- a call that is under way behind them was before
+  pub went_busy : MachineBusy k e0 m0 → MachineBusy k e m
+  went_busy was d busy = ⊎_elim
+      (λ none. absurd (ks.never m d (subst k.Rests (sym (w.rests none).0) none) busy))
+      (λ on. let there = was on.0 on.1 in (there.0, there.1, w.goes there.0 there.1 there.2))
+      (ks.either m0)
+
+  module _ (calls : k.Calls) (ready : MachineReady k e0 m0 calls) where
+    first : (c : k.Call) → k.Busy m0 c → MachineIn k e0 m0 calls c
+    first c is = inl (record { made = k.program (k.shape_of m0) calls; at = ready.at; list_is = ready.list_is; busy = is })
+
+    -- while an access is due, the call under way goes on
+    pub going : (a : Access) → k.due m ≡ Some a → (c : k.Call) × k.Busy m0 c × MachineGoes k e m calls c
+    going a due = ⊎_elim
+        (λ none. absurd (none-some a (sym (ks.at_rest m0 calls (k.program (k.shape_of m0) calls) ready.at.stands none).1 ∙ ap k.due (sym (w.rests none).0) ∙ due)))
+        (λ on. ⊎_elim (λ g. (on.0, on.1, g)) (λ o. absurd (none-some a (sym (ks.at_rest m o.more o.made o.at.stands o.rests).1 ∙ due))) (w.goes calls on.0 (first on.0 on.1)))
+        (ks.either m0)
+
+    -- the list stays below the longest of the call
+    pub below : (c : k.Call) → k.Busy m0 c → (g : MachineGoes k e m calls c) → length g.made < length (k.program (k.shape_of m) calls) + k.longest (k.shape_of m) c → length e.list < length e0.list + 2 * k.most m0
+    below c is g few =
+        let shape : k.shape_of m ≡ k.shape_of m0 = g.at.shape_is ∙ ap (λ (r : Ring). r.shape) w.same.ring ∙ sym ready.at.shape_is in
+        let few' : length g.made < length (k.program (k.shape_of m0) calls) + k.longest (k.shape_of m0) c = subst (λ (z : Shape). length g.made < length (k.program z calls) + k.longest z c) shape few in
+        omega (arith, few', ks.most_busy m0 c is, ap length g.list_is, length-events_of k.side g.made, ap length ready.list_is, length-events_of k.side (k.program (k.shape_of m0) calls))
+
+  -- where no access is due, the call is over
+  pub ended_by : ((calls : k.Calls) (made : List Made) → k.Stands m calls made → k.Rests m) → MachineEnded k e0 m0 e m old now
+  ended_by ends = record {
+    same = w.same;
+    kind = w.kind;
+    rests = w.rests;
+    over = λ calls ready c is. ⊎_elim (λ g. absurd (ks.never m c (ends calls g.made g.at.stands) g.busy)) (λ o. o) (w.goes calls c (first calls ready c is));
+    answered = w.answered;
+  }
+
+-- a call that is begun goes on
+pub ready_busy : (k : Machine) (e : RingEnd) (m : k.State) (calls : k.Calls) → MachineReady k e m calls → MachineBusy k e m
+ready_busy k e m calls ready d is = (calls, d, inl (record { made = k.program (k.shape_of m) calls; at = ready.at; list_is = ready.list_is; busy = is }))
+
+-- one access behind them, while the call goes on
+module _ (laws : LawsBelow) (k : Machine) (ks : MachineLaws k) {e0 : RingEnd} {m0 : k.State} {e : RingEnd} {m : k.State} {old now : ℕ → Bool} (was : MachineBusy k e0 m0) (w : MachineWent k e0 m0 e m old now) (one : k.Call) (busy : k.Busy m one) (a : Access) (d : Due k m a) where
+  goes_in : (calls : k.Calls) (c : k.Call) → MachineIn k e m calls c → MachineGoes k e m calls c
+  goes_in calls c (inl g) = g
+  goes_in calls c (inr o) = absurd (ks.never m one o.rests busy)
+
+  there : (calls : k.Calls) × (c : k.Call) × MachineGoes k e m calls c
+  there = let t = went_busy k ks w was one busy in (t.0, t.1, goes_in t.0 t.1 t.2)
+
+  pub access_right : IsOpenRight e.ring.shape e.side a
+  access_right = right_there k e m there.0 (there.2).made (there.2).at a d
+
+  pub access_can : CanMake e a
+  access_can = can_go laws k ks e m there.0 there.1 there.2 a d
 
   module _ (b : RingEnd) (v : Bool) (h : HasMade e b a v) where
-    pub phase_feeds : (calls : k.Calls) (c : k.Call) → MachineIn k e0 m0 calls c → LastBitIsDue (k.shape_of m) k.side (k.due m) → v ≡ true
-    phase_feeds calls c was = let g = p.goes calls c was in may_feed laws k ks e m calls c g a due (next calls g.made g.at.stands) expects due_is zeros b v h
+    pub access_feeds : LastBitIsDue (k.shape_of m) k.side (k.due m) → v ≡ true
+    access_feeds = may_feed laws k ks e m there.0 there.1 there.2 a d b v h
 
-    pub phase_same : IsSameEnd e0 b
-    phase_same = same_on p.same (same e b a v h)
+    pub access_went : (m' : k.State) → k.shape_of m' ≡ k.shape_of m → k.is_batch m' ≡ k.is_batch m → ((calls : k.Calls) (made : List Made) → k.Stands m calls made → (more : k.Calls) × k.Stands m' more (made ++ answered a v ∷ []) × k.After m m' calls more)
+        → (after : ℕ → Bool) → AreAnswered e b now after → MachineWent k e0 m0 b m' old after
+    access_went m' same_shape kind moved after said = went_then k w (record {
+      same = same e b a v h;
+      longer = omega (arith, longer e b a v h);
+      kind = kind;
+      rests = λ none. absurd (ks.never m one none busy);
+      goes = λ calls c in_call. (let g = goes_in calls c in_call in went laws k ks e m calls c g a d b v h m' same_shape (moved calls g.made g.at.stands));
+      answered = said;
+    })
 
-    pub phase_longer : length e0.list ≤ length b.list
-    phase_longer = omega (arith, p.longer, longer e b a v h)
-
-    module _ (m' : k.State) (same_shape : k.shape_of m' ≡ k.shape_of m) (moved : (calls : k.Calls) (made : List Made) → k.Stands m calls made → (more : k.Calls) × k.Stands m' more (made ++ answered a v ∷ []) × k.After m m' calls more) where
-      -- it is over, or it goes on
-      pub phase_ends : (calls : k.Calls) (c : k.Call) → MachineIn k e0 m0 calls c → MachineIn k b m' calls c
-      phase_ends calls c was = let g = p.goes calls c was in went laws k ks e m calls c g a due (next calls g.made g.at.stands) expects due_is zeros b v h m' same_shape (moved calls g.made g.at.stands)
-
-      pub phase_more : ((c : k.Call) → k.Busy m c → k.Busy m' c) → (after : ℕ → Bool) → AreAnswered e b now after → Phase k e0 m0 ring b m' old after
-      phase_more busy after one = record {
-        ring_is = p.ring_is ∙ sym (same e b a v h).ring;
-        same = phase_same;
-        longer = phase_longer;
-        goes = λ calls c was. goes_in k ks b m' calls c c (phase_ends calls c was) (busy c (p.goes calls c was).busy);
-        answered = answered_then _ _ _ _ _ _ p.answered one;
-      }
+-- while a count is written there is a write of it that is due
+pub writes_left : (row : UnaryState) (a : Access) → due_unary row ≡ Some a → (x : RowWrite) × (rest : List RowWrite) × (due_writes row ≡ x ∷ rest)
+writes_left row a due = by (due_writes row) refl
+  where
+    by : (l : List RowWrite) → due_writes row ≡ l → (x : RowWrite) × (rest : List RowWrite) × (due_writes row ≡ x ∷ rest)
+    by [] is = absurd (none-some a (sym (ap (first_access (row_bit row.side)) is) ∙ due))
+    by (x ∷ rest) is = (x, rest, is)
 
 -- ---- a whole call
 
@@ -163,50 +162,79 @@ pub data Ended (k : Machine) (e e' : RingEnd) (m1 m' : k.State) (calls : k.Calls
   More : MachineOver k e' m' calls c → Ended k e e' m1 m' calls c
   Refused : e' ≡ e → m' ≡ m1 → k.Rests m' → k.Refuses c calls m' → Ended k e e' m1 m' calls c
 
-module _ (k : Machine) (ks : MachineLaws k) (e : RingEnd) (m : k.State) (whole : List Event) (was : IsMachine k e m whole) (idle : k.Rests m) (c : k.Call) (m1 : k.State) (begins : CallBegins k m m1 was.calls was.made c) where
-  one : MachineAt k e m1 was.calls was.made
-  one = at_one k ks e m was.calls was.made was.at c m1 begins
+module _ (k : Machine) (ks : MachineLaws k) {c : k.Call} (b : Begun k c) (idle : k.Rests b.m) where
+  one : MachineAt k b.e b.now b.was.0.calls b.was.0.made
+  one = at_one k ks b.e b.m b.was.0.calls b.was.0.made b.was.0.at c b.now b.begins
 
-  made_is : was.made ≡ k.program (k.shape_of m1) was.calls
-  made_is = (ks.at_rest m was.calls was.made was.at.stands idle).0 ∙ ap (λ (z : Shape). k.program z was.calls) (sym begins.0)
+  made_is : b.was.0.made ≡ k.program (k.shape_of b.now) b.was.0.calls
+  made_is = (ks.at_rest b.m b.was.0.calls b.was.0.made b.was.0.at.stands idle).0 ∙ ap (λ (z : Shape). k.program z b.was.0.calls) (sym b.begins.0)
 
-  pub ready : MachineReady k e m1 was.calls
-  ready = record {
-    at = subst (MachineAt k e m1 was.calls) made_is one;
-    list_is = list_rests k.side e.list was.made (k.due m) was.at.list_is (ks.at_rest m was.calls was.made was.at.stands idle).1 ∙ ap (events_of k.side) made_is;
-  }
+  pub ready : (calls : k.Calls) × MachineReady k b.e b.now calls
+  ready = (
+    b.was.0.calls,
+    record {
+      at = subst (MachineAt k b.e b.now b.was.0.calls) made_is one;
+      list_is = list_rests k.side b.e.list b.was.0.made (k.due b.m) b.was.0.at.list_is (ks.at_rest b.m b.was.0.calls b.was.0.made b.was.0.at.stands idle).1 ∙ ap (events_of k.side) made_is;
+    },
+  )
 
-  module _ (e' : RingEnd) (m' : k.State) (same : IsSameEnd e e') (rests : k.Rests m1 → (m' ≡ m1) × (e' ≡ e)) (overs : MachineReady k e m1 was.calls → (d : k.Call) → k.Busy m1 d → MachineOver k e' m' was.calls d) where
-    shape_there : k.shape_of m1 ≡ e'.ring.shape
-    shape_there = one.shape_is ∙ sym (ap (λ (r : Ring). r.shape) same.ring)
+-- a call, begun where none was under way, and what all its accesses came to
+pub record Whole (k : Machine) (c : k.Call) : Type 0 where
+  pub begun : Begun k c
+  pub idle : k.Rests begun.m
+  pub e : RingEnd
+  pub m : k.State
+  pub old : ℕ → Bool
+  pub now : ℕ → Bool
+  pub ended : MachineEnded k begun.e begun.now e m old now
 
-    pub list_there : e.list ≡ events_of k.side (k.program e'.ring.shape was.calls)
-    list_there = ready.list_is ∙ ap (λ (z : Shape). events_of k.side (k.program z was.calls)) shape_there
+module _ (k : Machine) (ks : MachineLaws k) {c : k.Call} (w : Whole k c) where
+  abbrev b : Begun k c
+  b = w.begun
 
-    pub ending : Ended k e e' m1 m' was.calls c
-    ending = ⊎_elim (λ here. More (overs ready c here.0)) (λ gone. let r = rests gone.0 in Refused r.1 r.0 (subst k.Rests (sym r.0) gone.0) (subst (k.Refuses c was.calls) (sym r.0) gone.3)) begins.2
+  abbrev calls : k.Calls
+  calls = b.was.0.calls
 
-    pub idle_after : k.Rests m'
-    idle_after = idle_by ending
-      where
-        idle_by : Ended k e e' m1 m' was.calls c → k.Rests m'
-        idle_by (More o) = o.rests
-        idle_by (Refused same_end same_m none refused) = none
+  ready_there : MachineReady k b.e b.now calls
+  unfolding ready
+  ready_there = (ready k ks b w.idle).1
 
-    pub is_machine : (start : List Event) → IsMachine k e' m' (k.whole m' e'.list start)
-    is_machine start = subst (IsMachine k e' m') (sym (ks.whole_rests m' e'.list start idle_after)) (machine_by ending)
-      where
-        machine_by : Ended k e e' m1 m' was.calls c → IsMachine k e' m' e'.list
-        machine_by (More o) = record { calls = o.more; made = o.made; at = o.at; whole_is = rest_list k ks e' m' o.more o.made o.at o.rests }
-        machine_by (Refused same_end same_m none refused) =
-            let there : MachineAt k e' m' was.calls was.made = subst (λ (z : RingEnd × k.State). MachineAt k z.0 z.1 was.calls was.made) (λ i. (sym same_end i, sym same_m i)) one in
-            record { calls = was.calls; made = was.made; at = there; whole_is = rest_list k ks e' m' was.calls was.made there none }
+  pub same_whole : IsSameEnd b.seen w.e
+  same_whole = subst (λ (x : RingEnd). IsSameEnd x w.e) b.end_is w.ended.same
 
-    pub lawful_after : StandsAs k.side e'
-    lawful_after = (is_machine []).at.lawful
+  pub shape_whole : k.shape_of b.m ≡ w.e.ring.shape
+  shape_whole = b.was.0.at.shape_is ∙ ap (λ (r : Ring). r.shape) (sym w.ended.same.ring)
 
-    pub more_there : (o : MachineOver k e' m' was.calls c) → k.More e'.ring.shape c was.calls o.more
-    more_there o = subst (λ (z : Shape). k.More z c was.calls o.more) o.at.shape_is o.is_more
+  pub list_there : b.seen.list ≡ events_of k.side (k.program w.e.ring.shape calls)
+  list_there = ap (λ (x : RingEnd). x.list) (sym b.end_is) ∙ ready_there.list_is ∙ ap (λ (z : Shape). events_of k.side (k.program z calls)) (b.begins.0 ∙ shape_whole)
 
-    pub over_list : (o : MachineOver k e' m' was.calls c) → e'.list ≡ events_of k.side (k.program e'.ring.shape o.more)
-    over_list o = rest_list k ks e' m' o.more o.made o.at o.rests
+  pub ending : Ended k b.seen w.e b.now w.m calls c
+  ending = ⊎_elim (λ here. More (w.ended.over calls ready_there c here.0)) (λ gone. let r = w.ended.rests gone.0 in Refused (r.1 ∙ b.end_is) r.0 (subst k.Rests (sym r.0) gone.0) (subst (k.Refuses c calls) (sym r.0) gone.3)) b.begins.2
+
+  pub idle_after : k.Rests w.m
+  idle_after = by ending
+    where
+      by : Ended k b.seen w.e b.now w.m calls c → k.Rests w.m
+      by (More o) = o.rests
+      by (Refused same_end same_m none refused) = none
+
+  is_machine : (start : List Event) → IsMachine k w.e w.m (k.whole w.m w.e.list start)
+  is_machine start = subst (IsMachine k w.e w.m) (sym (ks.whole_rests w.m w.e.list start idle_after)) (by ending)
+    where
+      by : Ended k b.seen w.e b.now w.m calls c → IsMachine k w.e w.m w.e.list
+      by (More o) = record { calls = o.more; made = o.made; at = o.at; whole_is = rest_list k ks w.e w.m o.more o.made o.at o.rests }
+      by (Refused same_end same_m none refused) =
+          let there : MachineAt k w.e w.m calls b.was.0.made = subst (λ (z : RingEnd × k.State). MachineAt k z.0 z.1 calls b.was.0.made) (λ i. ((b.end_is ∙ sym same_end) i, sym same_m i)) (one k ks b w.idle) in
+          record { calls = calls; made = b.was.0.made; at = there; whole_is = rest_list k ks w.e w.m calls b.was.0.made there none }
+
+  pub whole_invariant : IsMachine k w.e w.m (k.whole w.m w.e.list (without_last b.n w.e.list)) × IsMarked b.n w.e.list (k.most w.m)
+  whole_invariant = (is_machine (without_last b.n w.e.list), rest_marked k ks b.e.list w.e.list b.m w.m b.n w.idle b.was.1)
+
+  pub lawful_whole : StandsAs k.side w.e
+  lawful_whole = (is_machine []).at.lawful
+
+  pub more_there : (o : MachineOver k w.e w.m calls c) → k.More w.e.ring.shape c calls o.more
+  more_there o = subst (λ (z : Shape). k.More z c calls o.more) o.at.shape_is o.is_more
+
+  pub over_list : (o : MachineOver k w.e w.m calls c) → w.e.list ≡ events_of k.side (k.program w.e.ring.shape o.more)
+  over_list o = rest_list k ks w.e w.m o.more o.made o.at o.rests

@@ -1,12 +1,14 @@
 -- The producer's machine, and a step call of its end.
-use Rattle.std.proofs.Common.{◌≡◌, cond, ◌≢◌, ◌⊎◌, inl, inr, ⊎_elim, ℕ, ◌+◌, ◌*◌, ◌<◌, ◌≤◌, Bool, true, false, true≢false, Option, Some, None, List, [], ◌∷◌, ◌++◌, length, refl, ap, sym, subst, ◌∙◌, arith, mul-le-mul_right}
+use Rattle.std.proofs.Common.{◌≡◌, cond, ◌≢◌, ◌⊎◌, inl, inr, ⊎_elim, ℕ, ◌+◌, ◌<◌, ◌≤◌, Bool, true, false, true≢false, Option, Some, None, IsTrue, ◌↔◌, List, [], ◌∷◌, ◌++◌, length, refl, ap, sym, subst, ◌∙◌, arith, mul-le-mul_right}
 use Rattle.std.specs.Prelude.{IfSome, IfNone, is_some, not}
 use Rattle.bits_core.specs.declared.events.Side.TheVariants.{P}
 use Rattle.bits_core.specs.declared.events.Access.{Access}
 use Rattle.bits_core.specs.declared.events.Event.{Event}
 use Rattle.bits_core.specs.declared.shapes.Shape.{Shape}
 use Rattle.bits_core.specs.Made.{Made, answered, events_of}
+use Rattle.bits_core.specs.Open.{IsOpenRight}
 use Rattle.bits_core.specs.Shape.{width_of}
+use Rattle.ring_core.specs.Calls.{LastBitIsDue, EndsInZeros}
 use Rattle.ring_core.specs.declared.producers.Stage.{Stage}
 use Rattle.ring_core.specs.declared.producers.Stage.TheVariants.{Idle, Scanning, Storing, Counting, Closing}
 use Rattle.ring_core.specs.declared.producers.PutReply as items_replies
@@ -17,12 +19,13 @@ use Rattle.ring_core.specs.Puts.{IsBatch, Put, Puts, put_program, ArePuts}
 use Rattle.ring_core.specs.ProducerState as producer
 use Rattle.ring_core.specs.ProducerState.{ProducerState, Call, Close, due_put, call_of, call_at, producer_due_at}
 use Rattle.ring_core.specs.ProducerCalls.{ProducerHasMoved, ProducerStands, PutGoesOn, longest_of, ProducerMadeAt, HasCallMore, IsAfterCall, IsReplyToCall, longest, put_reply_to, last_put_reply, and_put}
-use Rattle.ring_run.specs.Ring.{Ring, RingEnd}
-use Rattle.ring_run.specs.Steppers.{Grows, IsSameEnd, StandsAs}
+use Rattle.ring_run.specs.Ring.{RingEnd}
+use Rattle.ring_run.specs.Steppers.{Grows}
 use Rattle.ring_run.specs.Ends.{HasPuts, HasPut, HasPutAll, HasPutPart, HasClosed, PutAdds, CloseAdds, PutterState, whole_put, puts_whole}
 use Rattle.ring_run.specs.Machines.{IsMarked, MachineStep, MachineAt, IsMachine, CallBegins, producing, without_last, longest_at}
-use Rattle.ring_run.proofs.MachineMoves.{MachineLaws, Next}
-use Rattle.ring_run.proofs.MachineCalls.{none-some, Outcome, Refused, Goes, Over, out, same_step, step_machine, step_few, step_invariant, stays, whole_there}
+use Rattle.ring_run.proofs.MachineMoves.{Due, MachineLaws}
+use Rattle.ring_run.proofs.MachineCalls.{Begun, Step, Outcome, Refused, Goes, Over, one_step, out, shape_there, step_invariant, stays, whole_there}
+use Rattle.ring_run.proofs.Steps.{none-some}
 
 -- ---- the machine
 
@@ -67,22 +70,21 @@ put_laws = record {
   most_busy = λ m c is. ap (longest_at m.shape) is;
 }
 
--- what goes on, by what the machine tells of its due access
-pub next_put : (m : ProducerState) (calls : Puts) (made : List Made) (a : Access) → (c : Call) × (call_of m ≡ Some c) × PutGoesOn m.shape calls c made a →
-    ((c : Call) → call_of m ≡ Some c → length made < length (put_program m.shape calls) + longest m.shape c) → Next producing m calls made a
-next_put m calls made a (c, is, goes) bounded = record { one = c; is = is; goes = goes; few = bounded c is }
-
-pub next_puts : (m : ProducerState) (a : Access) → ((calls : Puts) (made : List Made) → ProducerStands m calls made → (c : Call) × (call_of m ≡ Some c) × PutGoesOn m.shape calls c made a) →
+-- what the machine tells of its due access
+pub put_due : (m : ProducerState) (a : Access) → due_put m ≡ Some a → IsOpenRight m.shape P a → ((calls : Puts) (made : List Made) → ProducerStands m calls made → (c : Call) × (call_of m ≡ Some c) × PutGoesOn m.shape calls c made a) →
     ((calls : Puts) (made : List Made) (c : Call) → ProducerStands m calls made → call_of m ≡ Some c → length made < length (put_program m.shape calls) + longest m.shape c) →
-    (calls : Puts) (made : List Made) → ProducerStands m calls made → Next producing m calls made a
-next_puts m a goes_on bounded calls made st = next_put m calls made a (goes_on calls made st) (λ c is. bounded calls made c st is)
+    (expects : Bool) → IsTrue expects ↔ LastBitIsDue m.shape P (due_put m) → ((calls : Puts) (made : List Made) → ProducerStands m calls made → IsTrue expects → EndsInZeros m.shape P made) → Due producing m a
+put_due m a due right goes_on bounded expects one zeros = record {
+  is = due;
+  right = right;
+  expects = expects;
+  one = one;
+  zeros = zeros;
+  next = λ calls made st. let (c, is, goes) = goes_on calls made st in record { one = c; is = is; goes = goes; few = bounded calls made c st is };
+}
 
 pub busy_at : (m : ProducerState) (c : Call) → call_of m ≡ Some c → call_of m ≢ None
 busy_at m c is none = none-some c (sym none ∙ is)
-
-pub some_call : {A : Type 0} (o : Option Call) → ((d : Call) → o ≡ Some d → A) → o ≢ None → A
-some_call None f busy = absurd (busy refl)
-some_call (Some d) f busy = f d refl
 
 -- no call has many accesses
 pub few_accesses : (shape : Shape) (items : List ℕ) → IsBatch shape items → longest_of shape items ≤ 4608
@@ -128,56 +130,6 @@ over_closes shape calls more is_more whole list list_is =
     let has : HasPuts shape list more = record { are = is_more.1; list_is = list_is } in
     subst (λ (t : Bool). CloseAdds t shape calls whole list) (sym is_more.2) (subst (HasPuts shape list) is_more.0 has)
 
--- ---- the clauses of a step
-
-module _ (e e' : RingEnd) (m' : ProducerState) (calls : Puts) (whole whole' : List Event) (w : whole ≡ events_of P (put_program e'.ring.shape calls)) (are : ArePuts e'.ring.shape 0 calls.puts) where
-  before_is : HasPuts e'.ring.shape whole calls
-  before_is = record { are = are; list_is = w }
-
-  module _ (items : List ℕ) (stay : call_of m' ≡ Some (producer.Put items) → whole' ≡ whole) where
-    abbrev PutOf : Type 0
-    PutOf = Outcome producing e e' m' calls (producer.Put items)
-
-    one_put : PutOf → ((m'.reply ≡ Some reply.Closed) × (e' ≡ e)) ⊎ ((x : Event) × Grows e e' x)
-    one_put (Refused same none refused list) = inl (refused.1, same)
-    one_put (Goes event grows is part more made stands) = inr (event, grows)
-    one_put (Over event grows none more is_more list made stands) = inr (event, grows)
-
-    none_put : (o : Option replies.BatchReply) → m'.reply ≡ o → PutOf → IfNone o ((call_of m' ≡ Some (producer.Put items)) × (whole' ≡ whole) × HasPutPart e'.ring.shape (producer.Put items) whole' e'.list)
-    none_put (Some x) is o = tt
-    none_put None is (Refused same none refused list) = absurd (none-some reply.Closed (sym is ∙ refused.1))
-    none_put None is (Goes event grows same part more made stands) = (same, stay same, subst (λ (l : List Event). HasPutPart e'.ring.shape (producer.Put items) l e'.list) (sym w ∙ sym (stay same)) part)
-    none_put None is (Over event grows none more is_more list made stands) =
-        absurd (none-some (put_reply_to is_more.0) (sym is ∙ over_reply e'.ring.shape items calls more m'.reply is_more (subst (λ (x : Option Call). IsReplyToCall more x m'.reply) none stands.reply_is)))
-
-    some_put : (o : Option replies.BatchReply) → m'.reply ≡ o → PutOf → IfSome o (λ x. (call_of m' ≡ None) × HasPutAll e'.ring.shape items whole e'.list x)
-    some_put None is o = tt
-    some_put (Some x) is (Refused same none refused list) =
-        (none, record { calls = calls; before_is = before_is; adds = subst (λ (t : Bool). PutAdds t e'.ring.shape calls items x whole e'.list) (sym refused.0) (let q : Some x ≡ Some reply.Closed = sym is ∙ refused.1 in (cc, list ∙ sym w)) })
-    some_put (Some x) is (Goes event grows same part more made stands) =
-        absurd (none-some x (sym (subst (λ (z : Option Call). IsReplyToCall more z m'.reply) same stands.reply_is) ∙ is))
-    some_put (Some x) is (Over event grows none more is_more list made stands) =
-        (none, record { calls = calls; before_is = before_is; adds = over_adds e'.ring.shape items calls more is_more whole e'.list list x (subst (λ (z : Option Call × Option replies.BatchReply). IsReplyToCall more z.0 z.1) (λ i. (none i, is i)) stands.reply_is) })
-
-  module _ (stay : call_of m' ≡ Some Close → whole' ≡ whole) (r : Bool) (over_is : (call_of m' ≡ None → r ≡ true) × (call_of m' ≢ None → r ≡ false)) where
-    abbrev CloseOf : Type 0
-    CloseOf = Outcome producing e e' m' calls Close
-
-    one_close : CloseOf → ((r ≡ true) × (e' ≡ e)) ⊎ ((x : Event) × Grows e e' x)
-    one_close (Refused same none refused list) = inl (over_is.0 none, same)
-    one_close (Goes event grows is part more made stands) = inr (event, grows)
-    one_close (Over event grows none more is_more list made stands) = inr (event, grows)
-
-    goes_close : CloseOf → r ≡ false → (call_of m' ≡ Some Close) × (whole' ≡ whole) × HasPutPart e'.ring.shape Close whole' e'.list
-    goes_close (Refused same none refused list) off = absurd (true≢false (sym (over_is.0 none) ∙ off))
-    goes_close (Goes event grows same part more made stands) off = (same, stay same, subst (λ (l : List Event). HasPutPart e'.ring.shape Close l e'.list) (sym w ∙ sym (stay same)) part)
-    goes_close (Over event grows none more is_more list made stands) off = absurd (true≢false (sym (over_is.0 none) ∙ off))
-
-    over_close : CloseOf → r ≡ true → (call_of m' ≡ None) × HasClosed e'.ring.shape whole e'.list
-    over_close (Refused same none refused list) on = (none, record { calls = calls; before_is = before_is; adds = subst (λ (t : Bool). CloseAdds t e'.ring.shape calls whole e'.list) (sym refused.0) (list ∙ sym w) })
-    over_close (Goes event grows same part more made stands) on = absurd (true≢false (sym on ∙ over_is.1 (busy_at m' Close same)))
-    over_close (Over event grows none more is_more list made stands) on = (none, record { calls = calls; before_is = before_is; adds = over_closes e'.ring.shape calls more is_more whole e'.list list })
-
 -- ---- the replies of the two kinds of put
 
 with_kind : {b : Bool} (k : Bool) (o : Option replies.BatchReply) (A B D : Type 0) → b ≡ k → IfNone o (A × B × D) → IfNone o (A × (b ≡ k) × B × D)
@@ -200,7 +152,7 @@ some_item (Some (reply.Stored m)) N F h = (h.0, (reply.Stored m, refl, h.1))
 some_item (Some reply.Full) N F h = (h.0, (reply.Full, refl, h.1))
 some_item (Some reply.Closed) N F h = (h.0, (reply.Closed, refl, h.1))
 
--- ---- the clauses, from what the calls of a step say
+-- ---- the end as it is seen
 
 -- what holds of the end and the oracle holds of them as they are seen
 pub put_seen : {O : Type 0} {a s : PutterState O} → a ≡ s → (F : RingEnd → O → Type 0) → F a.end a.oracle → F s.end s.oracle
@@ -213,118 +165,146 @@ pub call_seen : {O : Type 0} {a s : PutterState O} → a ≡ s → a.call ≡ s.
 call_seen {O} e = ap (λ (z : PutterState O). z.call) e
 
 module _ {O : Type 0} (o : O) (e : RingEnd) (m : ProducerState) (n : ℕ) (s : PutterState O) (view : record { end = e; call = call_of m; batched = m.batched; start = without_last n e.list; oracle = o } ≡ s)
-    (was : IsMachine producing e m (whole_put (call_of m) e.list (without_last n e.list)) × IsMarked n e.list (longest_at m.shape (call_of m))) (c : Call) (m1 : ProducerState) (begins : CallBegins producing m m1 was.0.calls was.0.made c)
-    (e' : RingEnd) (m' : ProducerState) (rests : call_of m1 ≡ None → (m' ≡ m1) × (e' ≡ e)) (steps : (calls : Puts) (made : List Made) → MachineAt producing e m1 calls made → (d : Call) → call_of m1 ≡ Some d → MachineStep producing e m1 e' m' calls) where
-  abbrev steps_so : MachineAt producing e m1 was.0.calls was.0.made → call_of m1 ≡ Some c → MachineStep producing e m1 e' m' was.0.calls
-  steps_so at is = steps was.0.calls was.0.made at c is
+    (was : IsMachine producing e m (whole_put (call_of m) e.list (without_last n e.list)) × IsMarked n e.list (longest_at m.shape (call_of m))) (c : Call) (now : ProducerState) (begins : (calls : Puts) (made : List Made) → ProducerStands m calls made → CallBegins producing m now calls made c) where
+  -- a call that is begun, or goes on
+  abbrev pub put_begun : Begun producing c
+  put_begun = record {
+    seen = s.end;
+    whole = puts_whole s;
+    e = e;
+    m = m;
+    n = n;
+    end_is = ap (λ (z : PutterState O). z.end) view;
+    whole_is = ap (λ (z : PutterState O). puts_whole z) view;
+    was = was;
+    now = now;
+    begins = begins was.0.calls was.0.made was.0.at.stands;
+  }
 
-  put_there : IsMachine producing e' m' (whole_put (call_of m') e'.list (without_last n e.list))
-  put_there = step_machine producing put_laws e m n was c m1 begins e' m' rests steps_so
+  -- and one step of it
+  abbrev pub put_step : (e' : RingEnd) (m' : ProducerState) → (call_of now ≡ None → (m' ≡ now) × (e' ≡ e)) → ((calls : Puts) (made : List Made) → MachineAt producing e now calls made → (d : Call) → call_of now ≡ Some d → MachineStep producing e now e' m' calls) → Step producing c
+  put_step e' m' rests steps = record { begun = put_begun; e = e'; m = m'; rests = rests; steps = λ at is. steps was.0.calls was.0.made at c is }
 
-  pub put_stands : (calls : Puts) × (made : List Made) × ProducerStands m' calls made
-  put_stands = (put_there.calls, put_there.made, put_there.at.stands)
+-- ---- the clauses of a step
 
-  pub put_lawful : StandsAs P e'
-  put_lawful = put_there.at.lawful
+module _ {c : Call} (s : Step producing c) where
+  abbrev calls : Puts
+  calls = s.begun.was.0.calls
 
-  pub put_same : IsSameEnd s.end e'
-  put_same = subst (λ (z : PutterState O). IsSameEnd z.end e') view (same_step producing put_laws e m n was c m1 begins e' m' rests steps_so)
+  abbrev whole : List Event
+  whole = s.begun.whole
 
-  pub put_few : length e'.list ≤ length (puts_whole s) + 2 * longest e'.ring.shape c
-  put_few = subst (λ (z : PutterState O). length e'.list ≤ length (puts_whole z) + 2 * longest e'.ring.shape c) view (step_few producing put_laws e m n was c m1 begins e' m' rests steps_so)
+  before_is : HasPuts s.e.ring.shape whole calls
+  before_is = record { are = subst (λ (z : Shape). ArePuts z 0 calls.puts) (shape_there producing put_laws s) s.begun.was.0.at.stands.are; list_is = whole_there producing put_laws s }
 
-  are_there : ArePuts e'.ring.shape 0 was.0.calls.puts
-  are_there = subst (λ (z : Shape). ArePuts z 0 was.0.calls.puts) (was.0.at.shape_is ∙ ap (λ (r : Ring). r.shape) (sym (same_step producing put_laws e m n was c m1 begins e' m' rests steps_so).ring)) was.0.at.stands.are
-
-  came : Outcome producing e e' m' was.0.calls c
-  came = out producing put_laws e m n was c m1 begins e' m' rests steps_so
-
-  program_there : whole_put (call_of m) e.list (without_last n e.list) ≡ events_of P (put_program e'.ring.shape was.0.calls)
-  program_there = whole_there producing put_laws e m n was c m1 begins e' m' rests steps_so
-
-  module _ (n' : ℕ) (n_rests : call_of m' ≡ None → n' ≡ 0) (n_goes : call_of m' ≢ None → n' ≡ n + 1) where
+  module _ (n' : ℕ) (n_rests : call_of s.m ≡ None → n' ≡ 0) (n_goes : call_of s.m ≢ None → n' ≡ s.begun.n + 1) where
     abbrev new : List Event
-    new = whole_put (call_of m') e'.list (without_last n' e'.list)
+    new = whole_put (call_of s.m) s.e.list (without_last n' s.e.list)
 
-    pub put_invariant : IsMachine producing e' m' (whole_put (call_of m') e'.list (without_last n' e'.list)) × IsMarked n' e'.list (longest_at m'.shape (call_of m'))
-    put_invariant = step_invariant producing put_laws e m n was c m1 begins e' m' rests steps_so n' n_rests (λ d is. n_goes (busy_at m' d is))
+    pub put_invariant : IsMachine producing s.e s.m (whole_put (call_of s.m) s.e.list (without_last n' s.e.list)) × IsMarked n' s.e.list (longest_at s.m.shape (call_of s.m))
+    put_invariant = step_invariant producing put_laws s n' n_rests (λ d is. n_goes (busy_at s.m d is))
 
-    stay : call_of m' ≡ Some c → whole_put (call_of m') e'.list (without_last n' e'.list) ≡ whole_put (call_of m) e.list (without_last n e.list)
-    stay = stays producing put_laws e m n was c m1 begins e' m' rests steps_so n' n_rests (λ d is. n_goes (busy_at m' d is))
+    part_on : call_of s.m ≡ Some c → HasPutPart s.e.ring.shape c (events_of P (put_program s.e.ring.shape calls)) s.e.list → (new ≡ whole) × HasPutPart s.e.ring.shape c new s.e.list
+    part_on goes part = let stay = stays producing put_laws s n' n_rests (λ d is. n_goes (busy_at s.m d is)) goes in (stay, subst (λ (l : List Event). HasPutPart s.e.ring.shape c l s.e.list) (sym (whole_there producing put_laws s) ∙ sym stay) part)
 
-    module _ (items : List ℕ) (is : c ≡ producer.Put items) where
-      items_stay : call_of m' ≡ Some (producer.Put items) → whole_put (call_of m') e'.list (without_last n' e'.list) ≡ whole_put (call_of m) e.list (without_last n e.list)
-      items_stay on = stay (on ∙ ap (λ (x : Call). Some x) (sym is))
+module _ (items : List ℕ) (s : Step producing (producer.Put items)) where
+  abbrev PutOf : Type 0
+  PutOf = Outcome producing s.begun.seen s.e s.m (calls s) (producer.Put items)
 
-      items_came : Outcome producing e e' m' was.0.calls (producer.Put items)
-      items_came = subst (Outcome producing e e' m' was.0.calls) is came
+  one : ((s.m.reply ≡ Some reply.Closed) × (s.e ≡ s.begun.seen)) ⊎ ((x : Event) × Grows s.begun.seen s.e x)
+  one = ⊎_elim (λ refused. inl (refused.0.1, refused.1)) (λ grows. inr grows) (one_step producing put_laws s)
 
-      one : ((m'.reply ≡ Some reply.Closed) × (e' ≡ s.end)) ⊎ ((x : Event) × Grows s.end e' x)
-      one = subst (λ (z : PutterState O). ((m'.reply ≡ Some reply.Closed) × (e' ≡ z.end)) ⊎ ((x : Event) × Grows z.end e' x)) view
-          (one_put e e' m' was.0.calls (whole_put (call_of m) e.list (without_last n e.list)) new program_there are_there items items_stay items_came)
+  some_put : (o : Option replies.BatchReply) → s.m.reply ≡ o → PutOf → IfSome o (λ x. (call_of s.m ≡ None) × HasPutAll s.e.ring.shape items (whole s) s.e.list x)
+  some_put None is o = tt
+  some_put (Some x) is (Refused same none refused list) =
+      (none, record { calls = calls s; before_is = before_is s; adds = subst (λ (t : Bool). PutAdds t s.e.ring.shape (calls s) items x (whole s) s.e.list) (sym refused.0) (let q : Some x ≡ Some reply.Closed = sym is ∙ refused.1 in (cc, list ∙ sym (whole_there producing put_laws s))) })
+  some_put (Some x) is (Goes event grows same part more made stands) =
+      absurd (none-some x (sym (subst (λ (z : Option Call). IsReplyToCall more z s.m.reply) same stands.reply_is) ∙ is))
+  some_put (Some x) is (Over event grows none more is_more list made stands) =
+      (none, record { calls = calls s; before_is = before_is s; adds = over_adds s.e.ring.shape items (calls s) more is_more (whole s) s.e.list list x (subst (λ (z : Option Call × Option replies.BatchReply). IsReplyToCall more z.0 z.1) (λ i. (none i, is i)) stands.reply_is) })
 
-      none : IfNone m'.reply ((call_of m' ≡ Some (producer.Put items)) × (whole_put (call_of m') e'.list (without_last n' e'.list) ≡ puts_whole s) × HasPutPart e'.ring.shape (producer.Put items) (whole_put (call_of m') e'.list (without_last n' e'.list)) e'.list)
-      none = subst (λ (z : PutterState O). IfNone m'.reply ((call_of m' ≡ Some (producer.Put items)) × (new ≡ puts_whole z) × HasPutPart e'.ring.shape (producer.Put items) new e'.list)) view
-          (none_put e e' m' was.0.calls (whole_put (call_of m) e.list (without_last n e.list)) new program_there are_there items items_stay m'.reply refl items_came)
+  some : IfSome s.m.reply (λ x. (call_of s.m ≡ None) × HasPutAll s.e.ring.shape items (whole s) s.e.list x)
+  some = some_put s.m.reply refl (out producing put_laws s)
 
-      some : IfSome m'.reply (λ x. (call_of m' ≡ None) × HasPutAll e'.ring.shape items (puts_whole s) e'.list x)
-      some = subst (λ (z : PutterState O). IfSome m'.reply (λ x. (call_of m' ≡ None) × HasPutAll e'.ring.shape items (puts_whole z) e'.list x)) view
-          (some_put e e' m' was.0.calls (whole_put (call_of m) e.list (without_last n e.list)) new program_there are_there items items_stay m'.reply refl items_came)
+  module _ (n' : ℕ) (n_rests : call_of s.m ≡ None → n' ≡ 0) (n_goes : call_of s.m ≢ None → n' ≡ s.begun.n + 1) where
+    none_put : (o : Option replies.BatchReply) → s.m.reply ≡ o → PutOf → IfNone o ((call_of s.m ≡ Some (producer.Put items)) × (new s n' n_rests n_goes ≡ whole s) × HasPutPart s.e.ring.shape (producer.Put items) (new s n' n_rests n_goes) s.e.list)
+    none_put (Some x) is o = tt
+    none_put None is (Refused same none refused list) = absurd (none-some reply.Closed (sym is ∙ refused.1))
+    none_put None is (Goes event grows same part more made stands) = let on = part_on s n' n_rests n_goes same part in (same, on.0, on.1)
+    none_put None is (Over event grows none more is_more list made stands) =
+        absurd (none-some (put_reply_to is_more.0) (sym is ∙ over_reply s.e.ring.shape items (calls s) more s.m.reply is_more (subst (λ (x : Option Call). IsReplyToCall more x s.m.reply) none stands.reply_is)))
 
-      -- where the put was begun as one of several items
-      module _ (kind : m'.batched ≡ true) (r : Option replies.BatchReply) (r_is : r ≡ producer.batch_reply m') where
-        batch_is : m'.reply ≡ r
-        batch_is = sym (r_is ∙ ap (λ (b : Bool). cond b m'.reply None) kind)
+    none : IfNone s.m.reply ((call_of s.m ≡ Some (producer.Put items)) × (new s n' n_rests n_goes ≡ whole s) × HasPutPart s.e.ring.shape (producer.Put items) (new s n' n_rests n_goes) s.e.list)
+    none = none_put s.m.reply refl (out producing put_laws s)
 
-        pub batch_one : ((r ≡ Some reply.Closed) × (e' ≡ s.end)) ⊎ ((x : Event) × Grows s.end e' x)
-        batch_one = subst (λ (a : Option replies.BatchReply). ((a ≡ Some reply.Closed) × (e' ≡ s.end)) ⊎ ((x : Event) × Grows s.end e' x)) batch_is one
+-- where the put was begun as one of several items
+module _ (items : List ℕ) (s : Step producing (producer.Put items)) (kind : s.m.batched ≡ true) (r : Option replies.BatchReply) (r_is : r ≡ producer.batch_reply s.m) where
+  batch_is : s.m.reply ≡ r
+  batch_is = sym (r_is ∙ ap (λ (b : Bool). cond b s.m.reply None) kind)
 
-        pub batch_none : IfNone r ((call_of m' ≡ Some (producer.Put items)) × (m'.batched ≡ true) × (whole_put (call_of m') e'.list (without_last n' e'.list) ≡ puts_whole s) × HasPutPart e'.ring.shape (producer.Put items) (whole_put (call_of m') e'.list (without_last n' e'.list)) e'.list)
-        batch_none = subst (λ (a : Option replies.BatchReply). IfNone a ((call_of m' ≡ Some (producer.Put items)) × (m'.batched ≡ true) × (new ≡ puts_whole s) × HasPutPart e'.ring.shape (producer.Put items) new e'.list)) batch_is (with_kind true m'.reply _ _ _ kind none)
+  pub batch_one : ((r ≡ Some reply.Closed) × (s.e ≡ s.begun.seen)) ⊎ ((x : Event) × Grows s.begun.seen s.e x)
+  batch_one = subst (λ (a : Option replies.BatchReply). ((a ≡ Some reply.Closed) × (s.e ≡ s.begun.seen)) ⊎ ((x : Event) × Grows s.begun.seen s.e x)) batch_is (one items s)
 
-        pub batch_some : IfSome r (λ x. (call_of m' ≡ None) × HasPutAll e'.ring.shape items (puts_whole s) e'.list x)
-        batch_some = subst (λ (a : Option replies.BatchReply). IfSome a (λ x. (call_of m' ≡ None) × HasPutAll e'.ring.shape items (puts_whole s) e'.list x)) batch_is some
+  pub batch_some : IfSome r (λ x. (call_of s.m ≡ None) × HasPutAll s.e.ring.shape items (whole s) s.e.list x)
+  batch_some = subst (λ (a : Option replies.BatchReply). IfSome a (λ x. (call_of s.m ≡ None) × HasPutAll s.e.ring.shape items (whole s) s.e.list x)) batch_is (some items s)
 
-    -- where it was begun as one of one item
-    module _ (item : ℕ) (is : c ≡ producer.Put (item ∷ [])) (kind : m'.batched ≡ false) (r : Option items_replies.PutReply) (r_is : r ≡ producer.put_reply m') where
-      item_is : producer.item_reply m'.reply ≡ r
-      item_is = sym (r_is ∙ ap (λ (b : Bool). cond b None (producer.item_reply m'.reply)) kind)
+  pub batch_none : (n' : ℕ) (n_rests : call_of s.m ≡ None → n' ≡ 0) (n_goes : call_of s.m ≢ None → n' ≡ s.begun.n + 1)
+      → IfNone r ((call_of s.m ≡ Some (producer.Put items)) × (s.m.batched ≡ true) × (new s n' n_rests n_goes ≡ whole s) × HasPutPart s.e.ring.shape (producer.Put items) (new s n' n_rests n_goes) s.e.list)
+  batch_none n' n_rests n_goes = subst (λ (a : Option replies.BatchReply). IfNone a ((call_of s.m ≡ Some (producer.Put items)) × (s.m.batched ≡ true) × (new s n' n_rests n_goes ≡ whole s) × HasPutPart s.e.ring.shape (producer.Put items) (new s n' n_rests n_goes) s.e.list))
+      batch_is (with_kind true s.m.reply _ _ _ kind (none items s n' n_rests n_goes))
 
-      pub item_one : ((r ≡ Some item_reply_is.Closed) × (e' ≡ s.end)) ⊎ ((x : Event) × Grows s.end e' x)
-      item_one = ⊎_elim (λ closed. inl (sym item_is ∙ ap producer.item_reply closed.0, closed.1)) (λ grows. inr grows) (one (item ∷ []) is)
+-- where it was begun as one of one item
+module _ (item : ℕ) (s : Step producing (producer.Put (item ∷ []))) (kind : s.m.batched ≡ false) (r : Option items_replies.PutReply) (r_is : r ≡ producer.put_reply s.m) where
+  item_is : producer.item_reply s.m.reply ≡ r
+  item_is = sym (r_is ∙ ap (λ (b : Bool). cond b None (producer.item_reply s.m.reply)) kind)
 
-      pub item_none : IfNone r ((call_of m' ≡ Some (producer.Put (item ∷ []))) × (m'.batched ≡ false) × (whole_put (call_of m') e'.list (without_last n' e'.list) ≡ puts_whole s) × HasPutPart e'.ring.shape (producer.Put (item ∷ [])) (whole_put (call_of m') e'.list (without_last n' e'.list)) e'.list)
-      item_none = subst (λ (a : Option items_replies.PutReply). IfNone a ((call_of m' ≡ Some (producer.Put (item ∷ []))) × (m'.batched ≡ false) × (new ≡ puts_whole s) × HasPutPart e'.ring.shape (producer.Put (item ∷ [])) new e'.list))
-          item_is (none_item m'.reply _ (with_kind false m'.reply _ _ _ kind (none (item ∷ []) is)))
+  pub item_one : ((r ≡ Some item_reply_is.Closed) × (s.e ≡ s.begun.seen)) ⊎ ((x : Event) × Grows s.begun.seen s.e x)
+  item_one = ⊎_elim (λ closed. inl (sym item_is ∙ ap producer.item_reply closed.0, closed.1)) (λ grows. inr grows) (one (item ∷ []) s)
 
-      pub item_some : IfSome r (λ x. (call_of m' ≡ None) × HasPut e'.ring.shape item (puts_whole s) e'.list x)
-      item_some = subst (λ (a : Option items_replies.PutReply). IfSome a (λ x. (call_of m' ≡ None) × HasPut e'.ring.shape item (puts_whole s) e'.list x)) item_is
-          (some_item m'.reply (call_of m' ≡ None) (HasPutAll e'.ring.shape (item ∷ []) (puts_whole s) e'.list) (some (item ∷ []) is))
+  pub item_some : IfSome r (λ x. (call_of s.m ≡ None) × HasPut s.e.ring.shape item (whole s) s.e.list x)
+  item_some = subst (λ (a : Option items_replies.PutReply). IfSome a (λ x. (call_of s.m ≡ None) × HasPut s.e.ring.shape item (whole s) s.e.list x)) item_is
+      (some_item s.m.reply (call_of s.m ≡ None) (HasPutAll s.e.ring.shape (item ∷ []) (whole s) s.e.list) (some (item ∷ []) s))
 
-    module _ (is : c ≡ Close) (r : Bool) (over_is : (call_of m' ≡ None → r ≡ true) × (call_of m' ≢ None → r ≡ false)) where
-      close_stay : call_of m' ≡ Some Close → whole_put (call_of m') e'.list (without_last n' e'.list) ≡ whole_put (call_of m) e.list (without_last n e.list)
-      close_stay on = stay (on ∙ ap (λ (x : Call). Some x) (sym is))
+  pub item_none : (n' : ℕ) (n_rests : call_of s.m ≡ None → n' ≡ 0) (n_goes : call_of s.m ≢ None → n' ≡ s.begun.n + 1)
+      → IfNone r ((call_of s.m ≡ Some (producer.Put (item ∷ []))) × (s.m.batched ≡ false) × (new s n' n_rests n_goes ≡ whole s) × HasPutPart s.e.ring.shape (producer.Put (item ∷ [])) (new s n' n_rests n_goes) s.e.list)
+  item_none n' n_rests n_goes = subst (λ (a : Option items_replies.PutReply). IfNone a ((call_of s.m ≡ Some (producer.Put (item ∷ []))) × (s.m.batched ≡ false) × (new s n' n_rests n_goes ≡ whole s) × HasPutPart s.e.ring.shape (producer.Put (item ∷ [])) (new s n' n_rests n_goes) s.e.list))
+      item_is (none_item s.m.reply _ (with_kind false s.m.reply _ _ _ kind (none (item ∷ []) s n' n_rests n_goes)))
 
-      close_came : Outcome producing e e' m' was.0.calls Close
-      close_came = subst (Outcome producing e e' m' was.0.calls) is came
+-- of a close, by whether it is over
+module _ (s : Step producing Close) (r : Bool) (over_is : (call_of s.m ≡ None → r ≡ true) × (call_of s.m ≢ None → r ≡ false)) where
+  abbrev CloseOf : Type 0
+  CloseOf = Outcome producing s.begun.seen s.e s.m (calls s) Close
 
-      pub close_one : ((r ≡ true) × (e' ≡ s.end)) ⊎ ((x : Event) × Grows s.end e' x)
-      close_one = subst (λ (z : PutterState O). ((r ≡ true) × (e' ≡ z.end)) ⊎ ((x : Event) × Grows z.end e' x)) view
-          (one_close e e' m' was.0.calls (whole_put (call_of m) e.list (without_last n e.list)) new program_there are_there close_stay r over_is close_came)
+  one_close : CloseOf → ((r ≡ true) × (s.e ≡ s.begun.seen)) ⊎ ((x : Event) × Grows s.begun.seen s.e x)
+  one_close (Refused same rests refused list) = inl (over_is.0 rests, same)
+  one_close (Goes event grows is part more made stands) = inr (event, grows)
+  one_close (Over event grows rests more is_more list made stands) = inr (event, grows)
 
-      pub close_goes : r ≡ false → (call_of m' ≡ Some Close) × (whole_put (call_of m') e'.list (without_last n' e'.list) ≡ puts_whole s) × HasPutPart e'.ring.shape Close (whole_put (call_of m') e'.list (without_last n' e'.list)) e'.list
-      close_goes off = subst (λ (z : PutterState O). (call_of m' ≡ Some Close) × (new ≡ puts_whole z) × HasPutPart e'.ring.shape Close new e'.list) view
-          (goes_close e e' m' was.0.calls (whole_put (call_of m) e.list (without_last n e.list)) new program_there are_there close_stay r over_is close_came off)
+  pub close_one : ((r ≡ true) × (s.e ≡ s.begun.seen)) ⊎ ((x : Event) × Grows s.begun.seen s.e x)
+  close_one = one_close (out producing put_laws s)
 
-      pub close_over : r ≡ true → (call_of m' ≡ None) × HasClosed e'.ring.shape (puts_whole s) e'.list
-      close_over on = subst (λ (z : PutterState O). (call_of m' ≡ None) × HasClosed e'.ring.shape (puts_whole z) e'.list) view
-          (over_close e e' m' was.0.calls (whole_put (call_of m) e.list (without_last n e.list)) new program_there are_there close_stay r over_is close_came on)
+  over_close : CloseOf → r ≡ true → (call_of s.m ≡ None) × HasClosed s.e.ring.shape (whole s) s.e.list
+  over_close (Refused same rests refused list) on = (rests, record { calls = calls s; before_is = before_is s; adds = subst (λ (t : Bool). CloseAdds t s.e.ring.shape (calls s) (whole s) s.e.list) (sym refused.0) (list ∙ sym (whole_there producing put_laws s)) })
+  over_close (Goes event grows same part more made stands) on = absurd (true≢false (sym on ∙ over_is.1 (busy_at s.m Close same)))
+  over_close (Over event grows rests more is_more list made stands) on = (rests, record { calls = calls s; before_is = before_is s; adds = over_closes s.e.ring.shape (calls s) more is_more (whole s) s.e.list list })
+
+  pub close_over : r ≡ true → (call_of s.m ≡ None) × HasClosed s.e.ring.shape (whole s) s.e.list
+  close_over = over_close (out producing put_laws s)
+
+  module _ (n' : ℕ) (n_rests : call_of s.m ≡ None → n' ≡ 0) (n_goes : call_of s.m ≢ None → n' ≡ s.begun.n + 1) (off : r ≡ false) where
+    goes_close : CloseOf → (call_of s.m ≡ Some Close) × (new s n' n_rests n_goes ≡ whole s) × HasPutPart s.e.ring.shape Close (new s n' n_rests n_goes) s.e.list
+    goes_close (Refused same rests refused list) = absurd (true≢false (sym (over_is.0 rests) ∙ off))
+    goes_close (Goes event grows same part more made stands) = let on = part_on s n' n_rests n_goes same part in (same, on.0, on.1)
+    goes_close (Over event grows rests more is_more list made stands) = absurd (true≢false (sym (over_is.0 rests) ∙ off))
+
+    pub close_goes : (call_of s.m ≡ Some Close) × (new s n' n_rests n_goes ≡ whole s) × HasPutPart s.e.ring.shape Close (new s n' n_rests n_goes) s.e.list
+    close_goes = goes_close (out producing put_laws s)
 
 -- whether a call is over, by what is due
 pub is_over :
-    (m : ProducerState) (calls : Puts) (made : List Made) → ProducerStands m calls made → (due : Option Access) → due ≡ due_put m → (due ≡ None → call_of m ≡ None) → (r : Bool) → is_some due ≡ not r →
+    (m : ProducerState) (puts : Puts) (made : List Made) → ProducerStands m puts made → (due : Option Access) → due ≡ due_put m → (due ≡ None → call_of m ≡ None) → (r : Bool) → is_some due ≡ not r →
     (call_of m ≡ None → r ≡ true) × (call_of m ≢ None → r ≡ false)
-is_over m calls made st None due rests true is = (λ none. refl, λ busy. absurd (busy (rests refl)))
-is_over m calls made st None due rests false is = absurd (true≢false (sym is))
-is_over m calls made st (Some a) due rests true is = absurd (true≢false is)
-is_over m calls made st (Some a) due rests false is = (λ none. absurd (none-some a (sym (rest m calls made st none).1 ∙ sym due)), λ busy. refl)
+is_over m puts made st None due rests true is = (λ none. refl, λ busy. absurd (busy (rests refl)))
+is_over m puts made st None due rests false is = absurd (true≢false (sym is))
+is_over m puts made st (Some a) due rests true is = absurd (true≢false is)
+is_over m puts made st (Some a) due rests false is = (λ none. absurd (none-some a (sym (rest m puts made st none).1 ∙ sym due)), λ busy. refl)

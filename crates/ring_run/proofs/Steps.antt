@@ -40,7 +40,7 @@ not_by_end C (access.Write b w) v = refl
 pub last_false : (x : Side) (a : Access) (i : ℕ) → Some a ≡ Some (access.Read (row_read_by x i)) → answered a false ≡ Read (row_read_by x i) false
 last_false x a i e = let same : a ≡ access.Read (row_read_by x i) = cc in ap (λ (b : Access). answered b false) same
 
-none-some : {A : Type 0} (a : A) → None ≡ Some a → ⊥
+pub none-some : {A : Type 0} (a : A) → None ≡ Some a → ⊥
 none-some a e = cc
 
 pub list_closed : LawsBelow → (x : Side) (list : List Event) (made : List Made) (due : Option Access) → ListIs x list made due → open_access x list ≡ None → list ≡ events_of x made

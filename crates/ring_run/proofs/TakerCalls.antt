@@ -1,11 +1,13 @@
 -- The consumer's machine, and a step call of its end.
-use Rattle.std.proofs.Common.{◌≡◌, ◌⊎◌, inl, inr, ⊎_elim, ℕ, ◌+◌, ◌*◌, ◌<◌, ◌≤◌, Bool, true, false, true≢false, Option, Some, None, List, [], ◌∷◌, ◌++◌, length, refl, ap, sym, subst, ◌∙◌}
+use Rattle.std.proofs.Common.{◌≡◌, ◌⊎◌, inl, inr, ⊎_elim, ℕ, ◌+◌, ◌<◌, Bool, true, false, true≢false, Option, Some, None, IsTrue, ◌↔◌, List, [], ◌∷◌, ◌++◌, length, refl, ap, sym, subst, ◌∙◌}
 use Rattle.std.specs.Prelude.{IfSome, IfNone}
 use Rattle.bits_core.specs.declared.events.Side.TheVariants.{C}
 use Rattle.bits_core.specs.declared.events.Access.{Access}
 use Rattle.bits_core.specs.declared.events.Event.{Event}
 use Rattle.bits_core.specs.declared.shapes.Shape.{Shape}
 use Rattle.bits_core.specs.Made.{Made, answered, events_of}
+use Rattle.bits_core.specs.Open.{IsOpenRight}
+use Rattle.ring_core.specs.Calls.{LastBitIsDue, EndsInZeros}
 use Rattle.ring_core.specs.declared.consumers.Stage.{Stage}
 use Rattle.ring_core.specs.declared.consumers.Stage.TheVariants.{Idle, Scanning, Checking, Rescanning, Loading, Counting}
 use Rattle.ring_core.specs.declared.consumers.TakeReply as replies
@@ -14,12 +16,13 @@ use Rattle.ring_core.specs.Lengths.{longest_take}
 use Rattle.ring_core.specs.Takes.{Take, Takes, take_program, AreTakes}
 use Rattle.ring_core.specs.ConsumerState.{due_take, ConsumerState, is_taking, takes_at, consumer_due_at}
 use Rattle.ring_core.specs.ConsumerCalls.{ConsumerHasMoved, ConsumerStands, ConsumerMadeAt, TakeGoesOn, HasTakeMore, IsAfterTake, IsReplyToTake, last_take_reply, reply_at_end, take_reply_to, ends_closed}
-use Rattle.ring_run.specs.Ring.{Ring, RingEnd}
-use Rattle.ring_run.specs.Steppers.{Grows, IsSameEnd, StandsAs}
-use Rattle.ring_run.specs.Ends.{HasTaken, HasTakePart, TakeAdds, TakerState, whole_take, takes_whole}
+use Rattle.ring_run.specs.Ring.{RingEnd}
+use Rattle.ring_run.specs.Steppers.{Grows}
+use Rattle.ring_run.specs.Ends.{HasTakes, HasTaken, HasTakePart, TakeAdds, TakerState, whole_take, takes_whole}
 use Rattle.ring_run.specs.Machines.{IsMarked, MachineStep, MachineAt, IsMachine, CallBegins, consuming, without_last, longest_taking}
-use Rattle.ring_run.proofs.MachineMoves.{MachineLaws, Next}
-use Rattle.ring_run.proofs.MachineCalls.{none-some, Outcome, Refused, Goes, Over, out, same_step, step_machine, step_few, step_invariant, stays, whole_there}
+use Rattle.ring_run.proofs.MachineMoves.{Due, MachineLaws}
+use Rattle.ring_run.proofs.MachineCalls.{Begun, Step, Outcome, Refused, Goes, Over, one_step, out, shape_there, step_invariant, stays, whole_there}
+use Rattle.ring_run.proofs.Steps.{none-some}
 
 -- ---- the machine
 
@@ -52,15 +55,18 @@ take_laws = record {
   most_busy = λ m c is. ap (longest_taking m.shape) is;
 }
 
--- what goes on, by what the machine tells of its due access
-pub next_take : (m : ConsumerState) (calls : Takes) (made : List Made) (a : Access) → (is_taking m ≡ true) × TakeGoesOn m.shape calls made a →
-    (is_taking m ≡ true → length made < length (take_program m.shape calls) + longest_take m.shape) → Next consuming m calls made a
-next_take m calls made a (is, goes) bounded = record { one = tt; is = is; goes = goes; few = bounded is }
-
-pub next_takes : (m : ConsumerState) (a : Access) → ((calls : Takes) (made : List Made) → ConsumerStands m calls made → (is_taking m ≡ true) × TakeGoesOn m.shape calls made a) →
+-- what the machine tells of its due access
+pub take_due : (m : ConsumerState) (a : Access) → due_take m ≡ Some a → IsOpenRight m.shape C a → ((calls : Takes) (made : List Made) → ConsumerStands m calls made → (is_taking m ≡ true) × TakeGoesOn m.shape calls made a) →
     ((calls : Takes) (made : List Made) → ConsumerStands m calls made → is_taking m ≡ true → length made < length (take_program m.shape calls) + longest_take m.shape) →
-    (calls : Takes) (made : List Made) → ConsumerStands m calls made → Next consuming m calls made a
-next_takes m a goes_on bounded calls made st = next_take m calls made a (goes_on calls made st) (bounded calls made st)
+    (expects : Bool) → IsTrue expects ↔ LastBitIsDue m.shape C (due_take m) → ((calls : Takes) (made : List Made) → ConsumerStands m calls made → IsTrue expects → EndsInZeros m.shape C made) → Due consuming m a
+take_due m a due right goes_on bounded expects one zeros = record {
+  is = due;
+  right = right;
+  expects = expects;
+  one = one;
+  zeros = zeros;
+  next = λ calls made st. let (is, goes) = goes_on calls made st in record { one = tt; is = is; goes = goes; few = bounded calls made st is };
+}
 
 -- what a machine that came to where a part of its call is makes of the answer, it makes of that part
 pub take_fed : (part m m' : ConsumerState) → m ≡ part → (a : Access) (v : Bool) → ((calls : Takes) (made : List Made) (b : Access) → ConsumerStands m calls made → due_take m ≡ Some b → ConsumerHasMoved m m' calls (made ++ answered b v ∷ [])) → due_take part ≡ Some a →
@@ -85,41 +91,7 @@ pub over_adds : (shape : Shape) (calls more : Takes) → HasTakeMore shape calls
 over_adds shape calls more is_more whole list list_is x replied =
     subst (λ (t : Bool). TakeAdds t shape calls x whole list) (sym (ap ends_closed is_more.not_over)) (more, is_more, replied, record { are = is_more.are; list_is = list_is })
 
--- ---- the clauses of a step
-
-module _ (e e' : RingEnd) (m' : ConsumerState) (calls : Takes) (whole whole' : List Event) (w : whole ≡ events_of C (take_program e'.ring.shape calls)) (are : AreTakes e'.ring.shape 0 calls.takes calls.end) (stay : is_taking m' ≡ true → whole' ≡ whole) where
-  abbrev TakeOf : Type 0
-  TakeOf = Outcome consuming e e' m' calls tt
-
-  one : TakeOf → ((m'.reply ≡ Some reply.Closed) × (e' ≡ e)) ⊎ ((x : Event) × Grows e e' x)
-  one (Refused same none refused list) = inl (refused.1, same)
-  one (Goes event grows is part more made stands) = inr (event, grows)
-  one (Over event grows none more is_more list made stands) = inr (event, grows)
-
-  none_of : (o : Option replies.TakeReply) → m'.reply ≡ o → TakeOf → IfNone o ((is_taking m' ≡ true) × (whole' ≡ whole) × HasTakePart e'.ring.shape whole' e'.list)
-  none_of (Some x) is o = tt
-  none_of None is (Refused same none refused list) = absurd (none-some reply.Closed (sym is ∙ refused.1))
-  none_of None is (Goes event grows same part more made stands) = (same, stay same, subst (λ (l : List Event). HasTakePart e'.ring.shape l e'.list) (sym w ∙ sym (stay same)) part)
-  none_of None is (Over event grows none more is_more list made stands) =
-      let some = over_reply e'.ring.shape calls more is_more in
-      absurd (none-some some.0 (sym is ∙ (subst (λ (x : Bool). IsReplyToTake more x m'.reply) none stands.reply_is ∙ some.1)))
-
-  some_of : (o : Option replies.TakeReply) → m'.reply ≡ o → TakeOf → IfSome o (λ x. (is_taking m' ≡ false) × HasTaken e'.ring.shape whole e'.list x)
-  some_of None is o = tt
-  some_of (Some x) is (Refused same none refused list) =
-      (none, record { calls = calls; before_is = record { are = are; list_is = w }; adds = subst (λ (t : Bool). TakeAdds t e'.ring.shape calls x whole e'.list) (sym refused.0) (let q : Some x ≡ Some reply.Closed = sym is ∙ refused.1 in (cc, list ∙ sym w)) })
-  some_of (Some x) is (Goes event grows same part more made stands) =
-      absurd (none-some x (sym (subst (λ (z : Bool). IsReplyToTake more z m'.reply) same stands.reply_is) ∙ is))
-  some_of (Some x) is (Over event grows none more is_more list made stands) = (
-    none,
-    record {
-      calls = calls;
-      before_is = record { are = are; list_is = w };
-      adds = over_adds e'.ring.shape calls more is_more whole e'.list list x (sym is ∙ subst (λ (z : Bool). IsReplyToTake more z m'.reply) none stands.reply_is);
-    },
-  )
-
--- ---- the clauses, from what the calls of a step say
+-- ---- the end as it is seen
 
 -- what holds of the end and the oracle holds of them as they are seen
 pub take_seen : {O : Type 0} {a s : TakerState O} → a ≡ s → (F : RingEnd → O → Type 0) → F a.end a.oracle → F s.end s.oracle
@@ -129,52 +101,73 @@ pub taking_seen : {O : Type 0} {a s : TakerState O} → a ≡ s → a.taking ≡
 taking_seen {O} e = ap (λ (z : TakerState O). z.taking) e
 
 module _ {O : Type 0} (o : O) (e : RingEnd) (m : ConsumerState) (n : ℕ) (s : TakerState O) (view : record { end = e; taking = is_taking m; start = without_last n e.list; oracle = o } ≡ s)
-    (was : IsMachine consuming e m (whole_take (is_taking m) e.list (without_last n e.list)) × IsMarked n e.list (longest_taking m.shape (is_taking m))) (m1 : ConsumerState) (begins : CallBegins consuming m m1 was.0.calls was.0.made tt)
-    (e' : RingEnd) (m' : ConsumerState) (rests : is_taking m1 ≡ false → (m' ≡ m1) × (e' ≡ e)) (steps : (calls : Takes) (made : List Made) → MachineAt consuming e m1 calls made → is_taking m1 ≡ true → MachineStep consuming e m1 e' m' calls) where
-  take_there : IsMachine consuming e' m' (whole_take (is_taking m') e'.list (without_last n e.list))
-  take_there = step_machine consuming take_laws e m n was tt m1 begins e' m' rests (steps was.0.calls was.0.made)
+    (was : IsMachine consuming e m (whole_take (is_taking m) e.list (without_last n e.list)) × IsMarked n e.list (longest_taking m.shape (is_taking m))) (now : ConsumerState) (begins : (calls : Takes) (made : List Made) → ConsumerStands m calls made → CallBegins consuming m now calls made tt) where
+  -- a take that is begun, or goes on
+  abbrev pub take_begun : Begun consuming tt
+  take_begun = record {
+    seen = s.end;
+    whole = takes_whole s;
+    e = e;
+    m = m;
+    n = n;
+    end_is = ap (λ (z : TakerState O). z.end) view;
+    whole_is = ap (λ (z : TakerState O). takes_whole z) view;
+    was = was;
+    now = now;
+    begins = begins was.0.calls was.0.made was.0.at.stands;
+  }
 
-  pub take_stands : (calls : Takes) × (made : List Made) × ConsumerStands m' calls made
-  take_stands = (take_there.calls, take_there.made, take_there.at.stands)
+  -- and one step of it
+  abbrev pub take_step : (e' : RingEnd) (m' : ConsumerState) → (is_taking now ≡ false → (m' ≡ now) × (e' ≡ e)) → ((calls : Takes) (made : List Made) → MachineAt consuming e now calls made → is_taking now ≡ true → MachineStep consuming e now e' m' calls) → Step consuming tt
+  take_step e' m' rests steps = record { begun = take_begun; e = e'; m = m'; rests = rests; steps = steps was.0.calls was.0.made }
 
-  pub take_lawful : StandsAs C e'
-  take_lawful = take_there.at.lawful
+-- ---- the clauses of a step
 
-  pub take_same : IsSameEnd s.end e'
-  take_same = subst (λ (z : TakerState O). IsSameEnd z.end e') view (same_step consuming take_laws e m n was tt m1 begins e' m' rests (steps was.0.calls was.0.made))
+module _ (s : Step consuming tt) where
+  abbrev calls : Takes
+  calls = s.begun.was.0.calls
 
-  pub take_few : length e'.list ≤ length (takes_whole s) + 2 * longest_take e'.ring.shape
-  take_few = subst (λ (z : TakerState O). length e'.list ≤ length (takes_whole z) + 2 * longest_take e'.ring.shape) view (step_few consuming take_laws e m n was tt m1 begins e' m' rests (steps was.0.calls was.0.made))
+  abbrev whole : List Event
+  whole = s.begun.whole
 
-  are_there : AreTakes e'.ring.shape 0 was.0.calls.takes was.0.calls.end
-  are_there = subst (λ (z : Shape). AreTakes z 0 was.0.calls.takes was.0.calls.end)
-      (was.0.at.shape_is ∙ ap (λ (r : Ring). r.shape) (sym (same_step consuming take_laws e m n was tt m1 begins e' m' rests (steps was.0.calls was.0.made)).ring)) was.0.at.stands.are
+  abbrev TakeOf : Type 0
+  TakeOf = Outcome consuming s.begun.seen s.e s.m calls tt
 
-  came : Outcome consuming e e' m' was.0.calls tt
-  came = out consuming take_laws e m n was tt m1 begins e' m' rests (steps was.0.calls was.0.made)
+  before_is : HasTakes s.e.ring.shape whole calls
+  before_is = record { are = subst (λ (z : Shape). AreTakes z 0 calls.takes calls.end) (shape_there consuming take_laws s) s.begun.was.0.at.stands.are; list_is = whole_there consuming take_laws s }
 
-  program_there : whole_take (is_taking m) e.list (without_last n e.list) ≡ events_of C (take_program e'.ring.shape was.0.calls)
-  program_there = whole_there consuming take_laws e m n was tt m1 begins e' m' rests (steps was.0.calls was.0.made)
+  some_of : (o : Option replies.TakeReply) → s.m.reply ≡ o → TakeOf → IfSome o (λ x. (is_taking s.m ≡ false) × HasTaken s.e.ring.shape whole s.e.list x)
+  some_of None is o = tt
+  some_of (Some x) is (Refused same none refused list) =
+      (none, record { calls = calls; before_is = before_is; adds = subst (λ (t : Bool). TakeAdds t s.e.ring.shape calls x whole s.e.list) (sym refused.0) (let q : Some x ≡ Some reply.Closed = sym is ∙ refused.1 in (cc, list ∙ sym (whole_there consuming take_laws s))) })
+  some_of (Some x) is (Goes event grows same part more made stands) =
+      absurd (none-some x (sym (subst (λ (z : Bool). IsReplyToTake more z s.m.reply) same stands.reply_is) ∙ is))
+  some_of (Some x) is (Over event grows none more is_more list made stands) =
+      (none, record { calls = calls; before_is = before_is; adds = over_adds s.e.ring.shape calls more is_more whole s.e.list list x (sym is ∙ subst (λ (z : Bool). IsReplyToTake more z s.m.reply) none stands.reply_is) })
 
-  module _ (n' : ℕ) (n_rests : is_taking m' ≡ false → n' ≡ 0) (n_goes : is_taking m' ≡ true → n' ≡ n + 1) where
+  module _ (r : Option replies.TakeReply) (r_is : r ≡ s.m.reply) where
+    pub take_one : ((r ≡ Some reply.Closed) × (s.e ≡ s.begun.seen)) ⊎ ((x : Event) × Grows s.begun.seen s.e x)
+    take_one = ⊎_elim (λ refused. inl (r_is ∙ refused.0.1, refused.1)) (λ grows. inr grows) (one_step consuming take_laws s)
+
+    pub take_some : IfSome r (λ x. (is_taking s.m ≡ false) × HasTaken s.e.ring.shape whole s.e.list x)
+    take_some = subst (λ (z : Option replies.TakeReply). IfSome z (λ x. (is_taking s.m ≡ false) × HasTaken s.e.ring.shape whole s.e.list x)) (sym r_is) (some_of s.m.reply refl (out consuming take_laws s))
+
+  module _ (n' : ℕ) (n_rests : is_taking s.m ≡ false → n' ≡ 0) (n_goes : is_taking s.m ≡ true → n' ≡ s.begun.n + 1) where
     abbrev new : List Event
-    new = whole_take (is_taking m') e'.list (without_last n' e'.list)
+    new = whole_take (is_taking s.m) s.e.list (without_last n' s.e.list)
 
-    pub take_invariant : IsMachine consuming e' m' (whole_take (is_taking m') e'.list (without_last n' e'.list)) × IsMarked n' e'.list (longest_taking m'.shape (is_taking m'))
-    take_invariant = step_invariant consuming take_laws e m n was tt m1 begins e' m' rests (steps was.0.calls was.0.made) n' n_rests (λ _. n_goes)
+    pub take_invariant : IsMachine consuming s.e s.m (whole_take (is_taking s.m) s.e.list (without_last n' s.e.list)) × IsMarked n' s.e.list (longest_taking s.m.shape (is_taking s.m))
+    take_invariant = step_invariant consuming take_laws s n' n_rests (λ _. n_goes)
 
-    stay : is_taking m' ≡ true → whole_take (is_taking m') e'.list (without_last n' e'.list) ≡ whole_take (is_taking m) e.list (without_last n e.list)
-    stay = stays consuming take_laws e m n was tt m1 begins e' m' rests (steps was.0.calls was.0.made) n' n_rests (λ _. n_goes)
+    none_of : (o : Option replies.TakeReply) → s.m.reply ≡ o → TakeOf → IfNone o ((is_taking s.m ≡ true) × (new ≡ whole) × HasTakePart s.e.ring.shape new s.e.list)
+    none_of (Some x) is o = tt
+    none_of None is (Refused same none refused list) = absurd (none-some reply.Closed (sym is ∙ refused.1))
+    none_of None is (Goes event grows same part more made stands) =
+        let stay = stays consuming take_laws s n' n_rests (λ _. n_goes) same in
+        (same, stay, subst (λ (l : List Event). HasTakePart s.e.ring.shape l s.e.list) (sym (whole_there consuming take_laws s) ∙ sym stay) part)
+    none_of None is (Over event grows none more is_more list made stands) =
+        let some = over_reply s.e.ring.shape calls more is_more in
+        absurd (none-some some.0 (sym is ∙ (subst (λ (x : Bool). IsReplyToTake more x s.m.reply) none stands.reply_is ∙ some.1)))
 
-    module _ (r : Option replies.TakeReply) (r_is : r ≡ m'.reply) where
-      pub take_one : ((r ≡ Some reply.Closed) × (e' ≡ s.end)) ⊎ ((x : Event) × Grows s.end e' x)
-      take_one = subst (λ (z : Option replies.TakeReply × TakerState O). ((z.0 ≡ Some reply.Closed) × (e' ≡ z.1.end)) ⊎ ((x : Event) × Grows z.1.end e' x)) (λ i. (sym r_is i, view i))
-          (one e e' m' was.0.calls (whole_take (is_taking m) e.list (without_last n e.list)) new program_there are_there stay came)
-
-      pub take_none : IfNone r ((is_taking m' ≡ true) × (whole_take (is_taking m') e'.list (without_last n' e'.list) ≡ takes_whole s) × HasTakePart e'.ring.shape (whole_take (is_taking m') e'.list (without_last n' e'.list)) e'.list)
-      take_none = subst (λ (z : Option replies.TakeReply × TakerState O). IfNone z.0 ((is_taking m' ≡ true) × (new ≡ takes_whole z.1) × HasTakePart e'.ring.shape new e'.list)) (λ i. (sym r_is i, view i))
-          (none_of e e' m' was.0.calls (whole_take (is_taking m) e.list (without_last n e.list)) new program_there are_there stay m'.reply refl came)
-
-      pub take_some : IfSome r (λ x. (is_taking m' ≡ false) × HasTaken e'.ring.shape (takes_whole s) e'.list x)
-      take_some = subst (λ (z : Option replies.TakeReply × TakerState O). IfSome z.0 (λ x. (is_taking m' ≡ false) × HasTaken e'.ring.shape (takes_whole z.1) e'.list x)) (λ i. (sym r_is i, view i))
-          (some_of e e' m' was.0.calls (whole_take (is_taking m) e.list (without_last n e.list)) new program_there are_there stay m'.reply refl came)
+    pub take_none : (r : Option replies.TakeReply) → r ≡ s.m.reply → IfNone r ((is_taking s.m ≡ true) × (new ≡ whole) × HasTakePart s.e.ring.shape new s.e.list)
+    take_none r r_is = subst (λ (z : Option replies.TakeReply). IfNone z ((is_taking s.m ≡ true) × (new ≡ whole) × HasTakePart s.e.ring.shape new s.e.list)) (sym r_is) (none_of s.m.reply refl (out consuming take_laws s))

@@ -90,10 +90,10 @@ pub record HasFound (a b : RingEnd) (calls : Takes) (look : Finding) : Type 0 wh
   pub finds : Finds a.ring.shape (taken_in 0 calls.takes) look
   pub list_is : b.list ≡ a.list ++ events_of C (finding_phrase look)
 
--- the scans of a take found an item, or the take is over and was answered so
+-- the scans of a take found an item, or the take is over, brought none, and was answered so
 abbrev pub LookMade : RingEnd → RingEnd → Takes → Option take_replies.TakeReply → Type 0
 LookMade a b calls None = (look : Finding) × HasFound a b calls look
-LookMade a b calls (Some reply) = TakeMade a b calls reply
+LookMade a b calls (Some reply) = TakeMade a b calls reply × (items_brought reply ≡ 0)
 
 -- the end's list is that of whole calls that are not over, and of the scans that found an item; the count and the cell are theirs
 pub record HasLooked (a b : RingEnd) (count cell : ℕ) (calls : Takes) : Type 0 where

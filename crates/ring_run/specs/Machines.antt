@@ -18,7 +18,7 @@ use Rattle.ring_core.specs.ConsumerCalls as takes
 use Rattle.ring_core.specs.Lengths.{longest_take}
 use Rattle.ring_run.specs.Ring.{RingEnd}
 use Rattle.ring_run.specs.Programs.{begin_of}
-use Rattle.ring_run.specs.Steppers.{Grows, StandsAs}
+use Rattle.ring_run.specs.Steppers.{AreAnswered, Grows, IsSameEnd, StandsAs}
 use Rattle.ring_run.specs.Ends.{HasPutPart, HasTakePart, whole_put, whole_take}
 
 -- the events of accesses, and perhaps the begin of the one that is due
@@ -50,7 +50,7 @@ longest_taking shape true = longest_take shape
 -- ---- a side's machine
 
 -- What a side's machine remembers, the calls that it makes, and what it tells: the access that is due, which call is under way,
--- or that none is. The accesses of calls, one call more, the most accesses of a call, and a part of one. When the machine stands
+-- or that none is, and whether the last call was begun as one of several items. The accesses of calls, one call more, the most accesses of a call, and a part of one. When the machine stands
 -- after calls and accesses, what it comes to by one access more, and when a call is over at once. The list without what was made
 -- of the call under way, and the most accesses of that.
 pub record Machine : Type 1 where
@@ -62,6 +62,7 @@ pub record Machine : Type 1 where
   pub due : State → Option Access
   pub Busy : State → Call → Type 0
   pub Rests : State → Type 0
+  pub is_batch : State → Bool
   pub program : Shape → Calls → List Made
   pub More : Shape → Call → Calls → Calls → Type 0
   pub longest : Shape → Call → ℕ
@@ -82,6 +83,7 @@ producing = record {
   due = due_put;
   Busy = λ (m : ProducerState) (c : Call). call_of m ≡ Some c;
   Rests = λ (m : ProducerState). call_of m ≡ None;
+  is_batch = λ (m : ProducerState). m.batched;
   program = put_program;
   More = puts.HasCallMore;
   longest = puts.longest;
@@ -103,6 +105,7 @@ consuming = record {
   due = due_take;
   Busy = λ (m : ConsumerState) (_ : Unit {0}). is_taking m ≡ true;
   Rests = λ (m : ConsumerState). is_taking m ≡ false;
+  is_batch = λ (m : ConsumerState). false;
   program = take_program;
   More = λ (shape : Shape) (_ : Unit {0}) (calls more : Takes). takes.HasTakeMore shape calls more;
   longest = λ (shape : Shape) (_ : Unit {0}). longest_take shape;
@@ -171,6 +174,24 @@ pub record MachineOver (k : Machine) (e : RingEnd) (m : k.State) (calls : k.Call
 abbrev pub MachineIn : (k : Machine) → RingEnd → k.State → k.Calls → k.Call → Type 0
 MachineIn k e m calls c = MachineGoes k e m calls c ⊎ MachineOver k e m calls c
 
--- what whole accesses come to, where no call was under way, and where one was
-abbrev pub MachineMade : (k : Machine) → RingEnd → k.State → RingEnd → k.State → k.Calls → Type 0
-MachineMade k a m b m' calls = (k.Rests m × (m' ≡ m) × (b ≡ a)) ⊎ ((c : k.Call) × k.Busy m c × MachineIn k b m' calls c)
+-- a call that is under way goes on, or is over
+abbrev pub MachineBusy : (k : Machine) → RingEnd → k.State → Type 0
+MachineBusy k e m = (d : k.Call) → k.Busy m d → (calls : k.Calls) × (c : k.Call) × MachineIn k e m calls c
+
+-- What some accesses of a call came to: the list is no shorter, a call that was under way goes on, or is over, and where none was, nothing
+-- was made
+pub record MachineWent (k : Machine) (a : RingEnd) (m : k.State) (b : RingEnd) (m' : k.State) (old now : ℕ → Bool) : Type 0 where
+  pub same : IsSameEnd a b
+  pub longer : length a.list ≤ length b.list
+  pub kind : k.is_batch m' ≡ k.is_batch m
+  pub rests : k.Rests m → (m' ≡ m) × (b ≡ a)
+  pub goes : (calls : k.Calls) (c : k.Call) → MachineIn k a m calls c → MachineIn k b m' calls c
+  pub answered : AreAnswered a b old now
+
+-- what all accesses of a call came to
+pub record MachineEnded (k : Machine) (a : RingEnd) (m : k.State) (b : RingEnd) (m' : k.State) (old now : ℕ → Bool) : Type 0 where
+  pub same : IsSameEnd a b
+  pub kind : k.is_batch m' ≡ k.is_batch m
+  pub rests : k.Rests m → (m' ≡ m) × (b ≡ a)
+  pub over : (calls : k.Calls) → MachineReady k a m calls → (c : k.Call) → k.Busy m c → MachineOver k b m' calls c
+  pub answered : AreAnswered a b old now

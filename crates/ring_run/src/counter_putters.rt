@@ -6,12 +6,13 @@ ghost use Rattle.ring_core.specs.Puts.{Puts, IsBatch};
 ghost use Rattle.ring_core.specs.ProducerCalls.{and_close, room_in};
 ghost use Rattle.ring_run.specs.Steppers.{IsSameEnd, StandsAs};
 ghost use Rattle.ring_run.specs.Ends.{HasPuts, HasPut, HasPutAll, HasClosed};
-ghost use Rattle.ring_run.specs.CounterEnds.{PutterList, PutMade, PutKept};
+ghost use Rattle.ring_run.specs.CounterEnds.{PutterList, PutKept};
 
 use crate::below::laws_below;
 use crate::counter_steppers::past_in;
 use crate::counter_words::Counting;
 use crate::ends::PutEnd;
+use crate::layout::Pad;
 use crate::steppers::Stepper;
 use bits_core::Shape;
 use ring_core::{BatchReply, PutReply, distance};
@@ -23,13 +24,12 @@ use std::marker::Model;
 #[derive(Drop)]
 #[repr(C)]
 pub struct CounterPutter<'a> {
-    // unused, as `after` is: they keep other values off the cache lines of this one
-    pub(crate) before: [u64; 8],
+    pub(crate) before: Pad,
     pub(crate) stepper: Stepper<'a, Counting>,
     pub(crate) count: u64,
     pub(crate) cell: u64,
     pub(crate) closed: bool,
-    pub(crate) after: [u64; 8],
+    pub(crate) after: Pad,
 }
 
 impl<'a> Model for CounterPutter<'a> {
@@ -59,28 +59,9 @@ fn fitting(shape: &Shape, n: u64, seen: u64, offered: usize) -> usize
     if room < offered { room } else { offered }
 }
 
-// A put to an open ring: one load, and where there is room a store for each item that fits it, and one store. Tells
-// how many were stored.
-fn put_open<'a>(stepper: &mut Stepper<'a, Counting>, items: &[u64], count: u64, cell: u64) -> usize
-    requires at { (calls : Puts) × PutterList stepper.old count cell calls × (calls.closes ≡ false) }
-    requires batch { IsBatch stepper.old.ring.shape items.now }
-    ensures { (calls : Puts) → PutterList stepper.old count cell calls → calls.closes ≡ false → PutMade stepper.old stepper.new calls items.now result }
-{
-    laws_below();
-    let shape = stepper.ring.shape();
-    let seen = stepper.scan();
-    let most = fitting(&shape, count, seen, items.len());
-    if most == 0 {
-        return 0;
-    }
-    stepper.write_items(cell, &items[..most]);
-    let next = past_in(count, most as u64, shape.modulus());
-    stepper.write_count(next);
-    most
-}
-
-// The same, with the count and the cell.
-fn put_counted<'a>(
+// A put to an open ring: one load, and where there is room a store for each item that fits it, and one store. The count and
+// the cell go on with the items. Tells how many were stored.
+fn put_open<'a>(
     stepper: &mut Stepper<'a, Counting>,
     items: &[u64],
     count: &mut u64,
@@ -90,9 +71,16 @@ fn put_counted<'a>(
     requires batch { IsBatch stepper.old.ring.shape items.now }
     ensures { (calls : Puts) → PutterList stepper.old count.old cell.old calls → calls.closes ≡ false → PutKept stepper.old stepper.new count.new cell.new calls items.now result }
 {
+    laws_below();
     let shape = stepper.ring.shape();
-    let most = put_open(stepper, items, *count, *cell);
+    let seen = stepper.scan();
+    let most = fitting(&shape, *count, seen, items.len());
+    if most == 0 {
+        return 0;
+    }
+    stepper.write_items(*cell, &items[..most]);
     *count = past_in(*count, most as u64, shape.modulus());
+    stepper.write_count(*count);
     *cell = past_in(*cell, most as u64, shape.capacity());
     most
 }
@@ -130,7 +118,7 @@ impl<'a> PutEnd for CounterPutter<'a> {
         if self.closed {
             return BatchReply::Closed;
         }
-        match put_counted(&mut self.stepper, items, &mut self.count, &mut self.cell) {
+        match put_open(&mut self.stepper, items, &mut self.count, &mut self.cell) {
             0 => BatchReply::Full,
             stored => BatchReply::Stored(stored as u64),
         }

@@ -13,6 +13,7 @@ use crate::counter_takers::CounterTaker;
 use crate::counter_words::Counting;
 use crate::ends::RingOf;
 use crate::faults::RunFault;
+use crate::layout::Pad;
 use crate::meetings::{Finished, first_steppers, join_steppers, meet_steppers};
 use crate::rings::{RingIn, Start};
 use atomic_table::Table;
@@ -89,20 +90,20 @@ impl<A: Allocator> CounterRing<A> {
         let (p, c) = first_steppers(self.words(), self.words(), start);
         (
             CounterPutter {
-                before: [0; 8],
+                before: Pad::new(),
                 stepper: p,
                 count: 0,
                 cell: 0,
                 closed: false,
-                after: [0; 8],
+                after: Pad::new(),
             },
             CounterTaker {
-                before: [0; 8],
+                before: Pad::new(),
                 stepper: c,
                 count: 0,
                 cell: 0,
                 told: false,
-                after: [0; 8],
+                after: Pad::new(),
             },
         )
     }

@@ -6,12 +6,13 @@ ghost use Rattle.ring_core.specs.Takes.{Takes, Open};
 ghost use Rattle.ring_run.specs.Steppers.{IsSameEnd, StandsAs};
 ghost use Rattle.ring_run.specs.Ends.{HasTaken};
 ghost use Rattle.ring_run.specs.Ring.{RingEnd};
-ghost use Rattle.ring_run.specs.CounterEnds.{TakerList, TakeMade, TakeKept, LookMade, HasLooked, items_brought};
+ghost use Rattle.ring_run.specs.CounterEnds.{TakerList, TakeKept, LookMade, HasLooked};
 
 use crate::below::laws_below;
 use crate::counter_steppers::past_in;
 use crate::counter_words::Counting;
 use crate::ends::TakeEnd;
+use crate::layout::Pad;
 use crate::meetings::is_closed_reply;
 use crate::steppers::Stepper;
 use bits_core::Shape;
@@ -24,13 +25,12 @@ use std::marker::Model;
 #[derive(Drop)]
 #[repr(C)]
 pub struct CounterTaker<'a> {
-    // unused, as `after` is: they keep other values off the cache lines of this one
-    pub(crate) before: [u64; 8],
+    pub(crate) before: Pad,
     pub(crate) stepper: Stepper<'a, Counting>,
     pub(crate) count: u64,
     pub(crate) cell: u64,
     pub(crate) told: bool,
-    pub(crate) after: [u64; 8],
+    pub(crate) after: Pad,
 }
 
 impl<'a> Model for CounterTaker<'a> {
@@ -67,55 +67,28 @@ fn look<'a>(stepper: &mut Stepper<'a, Counting>, count: u64, cell: u64) -> Optio
 }
 
 // Behind the scans that found an item: one load of its cell, and one store of the count.
-fn fetch<'a>(stepper: &mut Stepper<'a, Counting>, count: u64, cell: u64) -> u64
-    requires at { (before : RingEnd) × (calls : Takes) × HasLooked before stepper.old count cell calls }
-    ensures { (before : RingEnd) (calls : Takes) → HasLooked before stepper.old count cell calls → TakeMade before stepper.new calls (Item result) }
+fn fetch<'a>(stepper: &mut Stepper<'a, Counting>, count: &mut u64, cell: &mut u64) -> u64
+    requires at { (before : RingEnd) × (calls : Takes) × HasLooked before stepper.old count.old cell.old calls }
+    ensures { (before : RingEnd) (calls : Takes) → HasLooked before stepper.old count.old cell.old calls → TakeKept before stepper.new count.new cell.new calls (Item result) }
 {
     laws_below();
     let shape = stepper.ring.shape();
-    let item = stepper.read_cell(cell);
-    let next = past_in(count, 1, shape.modulus());
-    stepper.write_count(next);
+    let item = stepper.read_cell(*cell);
+    *count = past_in(*count, 1, shape.modulus());
+    stepper.write_count(*count);
+    *cell = past_in(*cell, 1, shape.capacity());
     item
 }
 
-// A take from a ring that was not told closed.
-fn take_open<'a>(stepper: &mut Stepper<'a, Counting>, count: u64, cell: u64) -> TakeReply
-    requires at { (calls : Takes) × TakerList stepper.old count cell calls × (calls.end ≡ Open) }
-    ensures { (calls : Takes) → TakerList stepper.old count cell calls → calls.end ≡ Open → TakeMade stepper.old stepper.new calls result }
-{
-    match look(stepper, count, cell) {
-        Some(reply) => reply,
-        None => TakeReply::Item(fetch(stepper, count, cell)),
-    }
-}
-
-// How many items a reply brings.
-fn brought(reply: TakeReply) -> u64
-    ensures { result ≡ items_brought reply }
-{
-    match reply {
-        TakeReply::Item(_) => 1,
-        TakeReply::Empty => 0,
-        TakeReply::Closed => 0,
-    }
-}
-
-// The same, with the count and the cell.
-fn take_counted<'a>(
-    stepper: &mut Stepper<'a, Counting>,
-    count: &mut u64,
-    cell: &mut u64,
-) -> TakeReply
+// A take from a ring that was not told closed. The count and the cell go on with an item.
+fn take_open<'a>(stepper: &mut Stepper<'a, Counting>, count: &mut u64, cell: &mut u64) -> TakeReply
     requires at { (calls : Takes) × TakerList stepper.old count.old cell.old calls × (calls.end ≡ Open) }
     ensures { (calls : Takes) → TakerList stepper.old count.old cell.old calls → calls.end ≡ Open → TakeKept stepper.old stepper.new count.new cell.new calls result }
 {
-    let shape = stepper.ring.shape();
-    let reply = take_open(stepper, *count, *cell);
-    let items = brought(reply);
-    *count = past_in(*count, items, shape.modulus());
-    *cell = past_in(*cell, items, shape.capacity());
-    reply
+    match look(stepper, *count, *cell) {
+        Some(reply) => reply,
+        None => TakeReply::Item(fetch(stepper, count, cell)),
+    }
 }
 
 impl<'a> TakeEnd for CounterTaker<'a> {
@@ -133,7 +106,7 @@ impl<'a> TakeEnd for CounterTaker<'a> {
         if self.told {
             return TakeReply::Closed;
         }
-        let reply = take_counted(&mut self.stepper, &mut self.count, &mut self.cell);
+        let reply = take_open(&mut self.stepper, &mut self.count, &mut self.cell);
         self.told = is_closed_reply(Some(reply));
         reply
     }

@@ -10,6 +10,16 @@ use bits_core::{Bit, Shape};
 // reads another one.
 pub(crate) const APART: usize = 16;
 
+// Unused words on either side of a ring, and of an end: they keep other values off the cache lines of what lies between.
+#[derive(Drop)]
+pub(crate) struct Pad([u64; 8]);
+
+impl Pad {
+    pub(crate) fn new() -> Pad {
+        Pad([0; 8])
+    }
+}
+
 // The place of the producer's count.
 pub(crate) const FIRST_S: usize = 1 + APART;
 

@@ -8,6 +8,7 @@ ghost use Rattle.ring_run.specs.Rule.{IsIdle, list_of, may_step};
 ghost use Rattle.ring_run.specs.Meetings.{KeepsEnd, Meets, ClosesAre, TellsAre, closed_reply};
 
 use crate::below::laws_below;
+use crate::layout::Pad;
 use crate::putters::Putter;
 use crate::rings::{FlickerRing, Start};
 use crate::steppers::Stepper;
@@ -76,20 +77,20 @@ impl<A: Allocator> FlickerRing<A> {
         let (p, c) = first_steppers(self.words(), self.words(), start);
         (
             Putter {
-                before: [0; 8],
+                before: Pad::new(),
                 stepper: p,
                 machine: Producer::new(shape),
                 steps: 0,
                 oracle: oracle_p,
-                after: [0; 8],
+                after: Pad::new(),
             },
             Taker {
-                before: [0; 8],
+                before: Pad::new(),
                 stepper: c,
                 machine: Consumer::new(shape),
                 steps: 0,
                 oracle: oracle_c,
-                after: [0; 8],
+                after: Pad::new(),
             },
         )
     }

@@ -12,10 +12,11 @@ ghost use Rattle.ring_core.specs.ProducerCalls.{ProducerStands, longest_of};
 ghost use Rattle.ring_run.specs.Steppers.{AreAnswered, Grows, IsAskedOnce, IsSameEnd, StandsAs};
 ghost use Rattle.bits_core.specs.declared.events.Side.TheVariants.{P};
 ghost use Rattle.ring_run.specs.Ends.{HasPut, HasPutAll, HasPutPart, HasClosed, whole_put, puts_whole};
-ghost use Rattle.ring_run.specs.Machines.{CallBegins, MachineAt, MachineIn, MachineOver, MachineReady, MachineStep, producing};
+ghost use Rattle.ring_run.specs.Machines.{CallBegins, MachineAt, MachineBusy, MachineEnded, MachineReady, MachineStep, MachineWent, producing};
 
 use crate::below::laws_below;
 use crate::ends::PutEnd;
+use crate::layout::Pad;
 use crate::steppers::Stepper;
 use crate::views::Flickering;
 use bits_core::{Oracle, Shape};
@@ -32,14 +33,13 @@ use std::marker::Model;
 #[derive(Drop)]
 #[repr(C)]
 pub struct Putter<'a, O: Oracle + Drop> {
-    // unused, as `after` is: they keep other values off the cache lines of this one
-    pub(crate) before: [u64; 8],
+    pub(crate) before: Pad,
     pub(crate) stepper: Stepper<'a, Flickering>,
     pub(crate) machine: Producer,
     // how many events of the call under way the list has, and 0 where none is under way
     pub(crate) steps: u64,
     pub(crate) oracle: O,
-    pub(crate) after: [u64; 8],
+    pub(crate) after: Pad,
 }
 
 impl<'a, O: Oracle + Drop> Model for Putter<'a, O> {
@@ -85,13 +85,8 @@ fn finish_scan<'a, O: Oracle>(
     machine: &mut Producer,
     oracle: &mut O,
 )
-    requires goes { call_of machine.old ≢ None → (calls : Puts) × (c : Call) × MachineIn producing stepper.old machine.old calls c }
-    ensures same { IsSameEnd stepper.old stepper.new }
-    ensures kind { machine.new.batched ≡ machine.old.batched }
-    ensures longer { length stepper.old.list ≤ length stepper.new.list }
-    ensures rests { call_of machine.old ≡ None → (machine.new ≡ machine.old) × (stepper.new ≡ stepper.old) }
-    ensures goes { (calls : Puts) (c : Call) → MachineIn producing stepper.old machine.old calls c → MachineIn producing stepper.new machine.new calls c }
-    ensures answered { AreAnswered stepper.old stepper.new (O.answers oracle.old) (O.answers oracle.new) }
+    requires { MachineBusy producing stepper.old machine.old }
+    ensures { MachineWent producing stepper.old machine.old stepper.new machine.new (O.answers oracle.old) (O.answers oracle.new) }
 {
     laws_below();
     let Some(mut scan) = machine.scan() else {
@@ -118,13 +113,8 @@ fn write_word<'a, O: Oracle>(
     machine: &mut Producer,
     oracle: &mut O,
 )
-    requires goes { call_of machine.old ≢ None → (calls : Puts) × (c : Call) × MachineIn producing stepper.old machine.old calls c }
-    ensures same { IsSameEnd stepper.old stepper.new }
-    ensures kind { machine.new.batched ≡ machine.old.batched }
-    ensures longer { length stepper.old.list ≤ length stepper.new.list }
-    ensures rests { call_of machine.old ≡ None → (machine.new ≡ machine.old) × (stepper.new ≡ stepper.old) }
-    ensures goes { (calls : Puts) (c : Call) → MachineIn producing stepper.old machine.old calls c → MachineIn producing stepper.new machine.new calls c }
-    ensures answered { AreAnswered stepper.old stepper.new (O.answers oracle.old) (O.answers oracle.new) }
+    requires { MachineBusy producing stepper.old machine.old }
+    ensures { MachineWent producing stepper.old machine.old stepper.new machine.new (O.answers oracle.old) (O.answers oracle.new) }
 {
     laws_below();
     let Some(mut word) = machine.word() else {
@@ -151,13 +141,8 @@ fn write_count<'a, O: Oracle>(
     machine: &mut Producer,
     oracle: &mut O,
 )
-    requires goes { call_of machine.old ≢ None → (calls : Puts) × (c : Call) × MachineIn producing stepper.old machine.old calls c }
-    ensures same { IsSameEnd stepper.old stepper.new }
-    ensures kind { machine.new.batched ≡ machine.old.batched }
-    ensures longer { length stepper.old.list ≤ length stepper.new.list }
-    ensures rests { call_of machine.old ≡ None → (machine.new ≡ machine.old) × (stepper.new ≡ stepper.old) }
-    ensures goes { (calls : Puts) (c : Call) → MachineIn producing stepper.old machine.old calls c → MachineIn producing stepper.new machine.new calls c }
-    ensures answered { AreAnswered stepper.old stepper.new (O.answers oracle.old) (O.answers oracle.new) }
+    requires { MachineBusy producing stepper.old machine.old }
+    ensures { MachineWent producing stepper.old machine.old stepper.new machine.new (O.answers oracle.old) (O.answers oracle.new) }
 {
     laws_below();
     let ring = stepper.ring.again();
@@ -178,12 +163,8 @@ fn finish<'a, O: Oracle>(
     machine: &mut Producer,
     oracle: &mut O,
 )
-    requires ready { (calls : Puts) × MachineReady producing stepper.old machine.old calls }
-    ensures same { IsSameEnd stepper.old stepper.new }
-    ensures kind { machine.new.batched ≡ machine.old.batched }
-    ensures rests { call_of machine.old ≡ None → (machine.new ≡ machine.old) × (stepper.new ≡ stepper.old) }
-    ensures over { (calls : Puts) → MachineReady producing stepper.old machine.old calls → (c : Call) → call_of machine.old ≡ Some c → MachineOver producing stepper.new machine.new calls c }
-    ensures answered { AreAnswered stepper.old stepper.new (O.answers oracle.old) (O.answers oracle.new) }
+    requires { (calls : Puts) × MachineReady producing stepper.old machine.old calls }
+    ensures { MachineEnded producing stepper.old machine.old stepper.new machine.new (O.answers oracle.old) (O.answers oracle.new) }
 {
     laws_below();
     'accesses: loop {

@@ -76,16 +76,11 @@ fn put_in_order<E: PutEnd, G: Gate>(
         let reply = putter.put_all(&items[put..next]);
         gate.put_ended(&items[put..next], reply);
         match reply {
-            BatchReply::Stored(stored) => {
-                put += stored as usize;
-                made += 1;
-            }
-            BatchReply::Full => {
-                full += 1;
-                made += 1;
-            }
+            BatchReply::Stored(stored) => put += stored as usize,
+            BatchReply::Full => full += 1,
             BatchReply::Closed => unreachable!(),
         }
+        made += 1;
     }
     if put == items.len() {
         gate.close_begins();
@@ -168,9 +163,8 @@ fn relay_into<R: Threads, A: Allocator, E: PutEnd + Send, F: TakeEnd + Send, G: 
     gate: &G,
 ) -> Result<Outcome<A>, RunFault>
     requires room { (taken.items ≡ []) × (min (length items.now) limits.takes ≤ vec_capacity taken) }
-    requires idle { E.idle putter.old × F.idle taker.old }
-    requires fresh { ((E.end putter.old).list ≡ []) × ((F.end taker.old).list ≡ []) }
-    requires fit { AllFit (E.end putter.old).ring.shape items.now }
+    requires puts { E.idle putter.old × ((E.end putter.old).list ≡ []) × AllFit (E.end putter.old).ring.shape items.now }
+    requires takes { F.idle taker.old × ((F.end taker.old).list ≡ []) }
     ensures idle { E.idle putter.new × F.idle taker.new }
     ensures same { IsSameEnd (E.end putter.old) (E.end putter.new) × IsSameEnd (F.end taker.old) (F.end taker.new) }
     ensures puts { IfOk result (λ r. HasRelayedPuts (E.end putter.new).ring.shape (E.end putter.new).list items.now limits.puts r.put r.calls r.full) }
@@ -178,7 +172,7 @@ fn relay_into<R: Threads, A: Allocator, E: PutEnd + Send, F: TakeEnd + Send, G: 
     ensures fault { IfErr result (λ _. HasMadePuts (E.end putter.new).ring.shape (E.end putter.new).list items.now limits.puts × HasTakenMore (F.end taker.new).ring.shape (F.end taker.new).list limits.takes (length items.now)) }
 {
     let into = &mut taken;
-    let (puts, takes) = join_mut(
+    let ((put, calls, full), takes) = join_mut(
         rt,
         &mut || -> (u64, u64, u64)
             requires { E.idle putter.now × ((E.end putter.now).list ≡ []) × AllFit (E.end putter.now).ring.shape items.now }
@@ -190,7 +184,6 @@ fn relay_into<R: Threads, A: Allocator, E: PutEnd + Send, F: TakeEnd + Send, G: 
         { take_all(into, taker, limits.takes, gate) },
     );
     let (empty, closed) = takes?;
-    let (put, calls, full) = puts;
     Ok(Outcome {
         put,
         calls,

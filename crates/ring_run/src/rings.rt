@@ -6,7 +6,7 @@ ghost use Rattle.ring_run.specs.Words.{first_words, word_count, word_place};
 
 use crate::below::laws_below;
 use crate::faults::RunFault;
-use crate::layout::{FIRST_S, first_r, word_count};
+use crate::layout::{FIRST_S, Pad, first_r, word_count};
 use crate::views::{Flickering, Kind, RuleOf, View};
 use crate::words::Words;
 use atomic_table::{Seat, Shared, Table};
@@ -18,11 +18,10 @@ use std::marker::{Brand, Model};
 #[derive(Drop)]
 #[repr(C)]
 pub struct RingIn<K: Kind, A: Allocator> {
-    // unused, as `after` is: they keep other values off the cache lines of this one
-    before: [u64; 8],
+    before: Pad,
     table: Table<(), View, Shape, RuleOf<K>, A>,
     shape: Shape,
-    after: [u64; 8],
+    after: Pad,
 }
 
 impl<K: Kind, A: Allocator> Model for RingIn<K, A> {
@@ -43,10 +42,10 @@ impl<K: Kind, A: Allocator> RingIn<K, A> {
         ensures { result ≡ record { shape = shape; id = table.shared.table_id } }
     {
         RingIn {
-            before: [0; 8],
+            before: Pad::new(),
             table,
             shape,
-            after: [0; 8],
+            after: Pad::new(),
         }
     }
 

@@ -40,72 +40,7 @@ impl<'a, K: Keeping> Model for Stepper<'a, K> {
 }
 
 impl<'a> Stepper<'a, Flickering> {
-    fn begin_read(&mut self, bit: Bit)
-        requires bit { (belongs self.old.ring.shape bit ≡ true) × (self.old.side ≡ reader bit) }
-        requires idle { IsIdle self.old.side self.old.list }
-        requires program { Follows self.old.ring.shape self.old.side (self.old.list ++ begin_of self.old.side (Read bit) ∷ []) }
-        ensures grows { Grows self.old self.new (begin_of self.old.side (Read bit)) }
-        ensures quiet { (said : ℕ → Bool) → AreAnswered self.old self.new said said }
-    {
-        laws_below();
-        let side = self.side;
-        let word = self.ring.word_of(bit);
-        self.kept.first = self
-            .ring
-            .load_at::<Brand, ()>(&mut self.seat, word, bit, side, &());
-        self.kept.access = Some(Access::Read(bit));
-    }
-
-    // The second load, and the answer by both. The oracle is asked at most once.
-    fn end_read<O: Oracle>(&mut self, bit: Bit, oracle: &mut O) -> bool
-        requires bit { (belongs self.old.ring.shape bit ≡ true) × (self.old.side ≡ reader bit) }
-        requires at { open_access self.old.side self.old.list ≡ Some (Read bit) }
-        requires program { GoesOn self.old.ring.shape self.old.side (Read bit) self.old.list }
-        ensures grows { Grows self.old self.new (ending_event self.old.side (Read bit) result) }
-        ensures oracle { IsAskedOnce O.answers oracle.old oracle.new }
-        ensures answered { AreAnswered self.old self.new (O.answers oracle.old) (O.answers oracle.new) }
-    {
-        laws_below();
-        let side = self.side;
-        let word = self.ring.word_of(bit);
-        let found = self
-            .ring
-            .load_at::<Brand, O>(&mut self.seat, word, bit, side, oracle);
-        self.kept.access = None;
-        answer(self.kept.first, found, oracle)
-    }
-
-    fn begin_write(&mut self, bit: Bit, value: bool)
-        requires bit { (belongs self.old.ring.shape bit ≡ true) × (self.old.side ≡ writer bit) }
-        requires idle { IsIdle self.old.side self.old.list }
-        requires program { Follows self.old.ring.shape self.old.side (self.old.list ++ begin_of self.old.side (Write bit value) ∷ []) }
-        ensures grows { Grows self.old self.new (begin_of self.old.side (Write bit value)) }
-        ensures quiet { (said : ℕ → Bool) → AreAnswered self.old self.new said said }
-    {
-        laws_below();
-        let side = self.side;
-        let word = self.ring.word_of(bit);
-        self.ring
-            .store_at::<Brand, bool>(&mut self.seat, word, bit, side, &value, 2);
-        self.kept.access = Some(Access::Write(bit, value));
-    }
-
-    fn end_write(&mut self, bit: Bit, value: bool)
-        requires bit { (belongs self.old.ring.shape bit ≡ true) × (self.old.side ≡ writer bit) }
-        requires at { open_access self.old.side self.old.list ≡ Some (Write bit value) }
-        requires program { GoesOn self.old.ring.shape self.old.side (Write bit value) self.old.list }
-        ensures grows { Grows self.old self.new (ending_event self.old.side (Write bit value) value) }
-        ensures quiet { (said : ℕ → Bool) → AreAnswered self.old self.new said said }
-    {
-        laws_below();
-        let side = self.side;
-        let word = self.ring.word_of(bit);
-        let new = word_of(value);
-        self.ring
-            .store_at::<Brand, bool>(&mut self.seat, word, bit, side, &value, new);
-        self.kept.access = None;
-    }
-
+    // The first load of a read, or the store of a 2.
     fn begin(&mut self, access: Access)
         requires right { IsOpenRight self.old.ring.shape self.old.side access }
         requires idle { IsIdle self.old.side self.old.list }
@@ -113,12 +48,25 @@ impl<'a> Stepper<'a, Flickering> {
         ensures grows { Grows self.old self.new (begin_of self.old.side access) }
         ensures quiet { (said : ℕ → Bool) → AreAnswered self.old self.new said said }
     {
+        laws_below();
+        let side = self.side;
+        self.kept.access = Some(access);
         match access {
-            Access::Read(bit) => self.begin_read(bit),
-            Access::Write(bit, value) => self.begin_write(bit, value),
+            Access::Read(bit) => {
+                let word = self.ring.word_of(bit);
+                self.kept.first = self
+                    .ring
+                    .load_at::<Brand, ()>(&mut self.seat, word, bit, side, &());
+            }
+            Access::Write(bit, value) => {
+                let word = self.ring.word_of(bit);
+                self.ring
+                    .store_at::<Brand, bool>(&mut self.seat, word, bit, side, &value, 2);
+            }
         }
     }
 
+    // The second load of a read, and the answer by both, or the store of the value. The oracle is asked at most once.
     fn end<O: Oracle>(&mut self, access: Access, oracle: &mut O) -> bool
         requires right { IsOpenRight self.old.ring.shape self.old.side access }
         requires at { open_access self.old.side self.old.list ≡ Some access }
@@ -127,10 +75,22 @@ impl<'a> Stepper<'a, Flickering> {
         ensures oracle { IsAskedOnce O.answers oracle.old oracle.new }
         ensures answered { AreAnswered self.old self.new (O.answers oracle.old) (O.answers oracle.new) }
     {
+        laws_below();
+        let side = self.side;
+        self.kept.access = None;
         match access {
-            Access::Read(bit) => self.end_read(bit, oracle),
+            Access::Read(bit) => {
+                let word = self.ring.word_of(bit);
+                let found = self
+                    .ring
+                    .load_at::<Brand, O>(&mut self.seat, word, bit, side, oracle);
+                answer(self.kept.first, found, oracle)
+            }
             Access::Write(bit, value) => {
-                self.end_write(bit, value);
+                let word = self.ring.word_of(bit);
+                let new = word_of(value);
+                self.ring
+                    .store_at::<Brand, bool>(&mut self.seat, word, bit, side, &value, new);
                 value
             }
         }

@@ -10,10 +10,11 @@ ghost use Rattle.ring_core.specs.ConsumerCalls.{ConsumerStands};
 ghost use Rattle.ring_run.specs.Steppers.{AreAnswered, Grows, IsAskedOnce, IsSameEnd, StandsAs};
 ghost use Rattle.bits_core.specs.declared.events.Side.TheVariants.{C};
 ghost use Rattle.ring_run.specs.Ends.{HasTaken, HasTakePart, whole_take, takes_whole};
-ghost use Rattle.ring_run.specs.Machines.{CallBegins, MachineAt, MachineIn, MachineOver, MachineReady, MachineStep, consuming};
+ghost use Rattle.ring_run.specs.Machines.{CallBegins, MachineAt, MachineBusy, MachineEnded, MachineReady, MachineStep, MachineWent, consuming};
 
 use crate::below::laws_below;
 use crate::ends::TakeEnd;
+use crate::layout::Pad;
 use crate::steppers::Stepper;
 use crate::views::Flickering;
 use bits_core::{Oracle, Shape};
@@ -30,14 +31,13 @@ use std::marker::Model;
 #[derive(Drop)]
 #[repr(C)]
 pub struct Taker<'a, O: Oracle + Drop> {
-    // unused, as `after` is: they keep other values off the cache lines of this one
-    pub(crate) before: [u64; 8],
+    pub(crate) before: Pad,
     pub(crate) stepper: Stepper<'a, Flickering>,
     pub(crate) machine: Consumer,
     // how many events of the take under way the list has, and 0 where none is under way
     pub(crate) steps: u64,
     pub(crate) oracle: O,
-    pub(crate) after: [u64; 8],
+    pub(crate) after: Pad,
 }
 
 impl<'a, O: Oracle + Drop> Model for Taker<'a, O> {
@@ -82,12 +82,8 @@ fn finish_scan<'a, O: Oracle>(
     machine: &mut Consumer,
     oracle: &mut O,
 )
-    requires goes { is_taking machine.old ≡ true → (calls : Takes) × MachineIn consuming stepper.old machine.old calls tt }
-    ensures same { IsSameEnd stepper.old stepper.new }
-    ensures longer { length stepper.old.list ≤ length stepper.new.list }
-    ensures rests { is_taking machine.old ≡ false → (machine.new ≡ machine.old) × (stepper.new ≡ stepper.old) }
-    ensures goes { (calls : Takes) → MachineIn consuming stepper.old machine.old calls tt → MachineIn consuming stepper.new machine.new calls tt }
-    ensures answered { AreAnswered stepper.old stepper.new (O.answers oracle.old) (O.answers oracle.new) }
+    requires { MachineBusy consuming stepper.old machine.old }
+    ensures { MachineWent consuming stepper.old machine.old stepper.new machine.new (O.answers oracle.old) (O.answers oracle.new) }
 {
     laws_below();
     let Some(mut scan) = machine.scan() else {
@@ -114,12 +110,8 @@ fn read_word<'a, O: Oracle>(
     machine: &mut Consumer,
     oracle: &mut O,
 )
-    requires goes { is_taking machine.old ≡ true → (calls : Takes) × MachineIn consuming stepper.old machine.old calls tt }
-    ensures same { IsSameEnd stepper.old stepper.new }
-    ensures longer { length stepper.old.list ≤ length stepper.new.list }
-    ensures rests { is_taking machine.old ≡ false → (machine.new ≡ machine.old) × (stepper.new ≡ stepper.old) }
-    ensures goes { (calls : Takes) → MachineIn consuming stepper.old machine.old calls tt → MachineIn consuming stepper.new machine.new calls tt }
-    ensures answered { AreAnswered stepper.old stepper.new (O.answers oracle.old) (O.answers oracle.new) }
+    requires { MachineBusy consuming stepper.old machine.old }
+    ensures { MachineWent consuming stepper.old machine.old stepper.new machine.new (O.answers oracle.old) (O.answers oracle.new) }
 {
     laws_below();
     let Some(mut word) = machine.word() else {
@@ -146,12 +138,8 @@ fn write_count<'a, O: Oracle>(
     machine: &mut Consumer,
     oracle: &mut O,
 )
-    requires goes { is_taking machine.old ≡ true → (calls : Takes) × MachineIn consuming stepper.old machine.old calls tt }
-    ensures same { IsSameEnd stepper.old stepper.new }
-    ensures longer { length stepper.old.list ≤ length stepper.new.list }
-    ensures rests { is_taking machine.old ≡ false → (machine.new ≡ machine.old) × (stepper.new ≡ stepper.old) }
-    ensures goes { (calls : Takes) → MachineIn consuming stepper.old machine.old calls tt → MachineIn consuming stepper.new machine.new calls tt }
-    ensures answered { AreAnswered stepper.old stepper.new (O.answers oracle.old) (O.answers oracle.new) }
+    requires { MachineBusy consuming stepper.old machine.old }
+    ensures { MachineWent consuming stepper.old machine.old stepper.new machine.new (O.answers oracle.old) (O.answers oracle.new) }
 {
     laws_below();
     let ring = stepper.ring.again();
@@ -172,11 +160,8 @@ fn finish<'a, O: Oracle>(
     machine: &mut Consumer,
     oracle: &mut O,
 )
-    requires ready { (calls : Takes) × MachineReady consuming stepper.old machine.old calls }
-    ensures same { IsSameEnd stepper.old stepper.new }
-    ensures rests { is_taking machine.old ≡ false → (machine.new ≡ machine.old) × (stepper.new ≡ stepper.old) }
-    ensures over { (calls : Takes) → MachineReady consuming stepper.old machine.old calls → is_taking machine.old ≡ true → MachineOver consuming stepper.new machine.new calls tt }
-    ensures answered { AreAnswered stepper.old stepper.new (O.answers oracle.old) (O.answers oracle.new) }
+    requires { (calls : Takes) × MachineReady consuming stepper.old machine.old calls }
+    ensures { MachineEnded consuming stepper.old machine.old stepper.new machine.new (O.answers oracle.old) (O.answers oracle.new) }
 {
     laws_below();
     'accesses: loop {

@@ -16,6 +16,8 @@ mod plays;
 #[cfg(test)]
 mod refusals;
 #[cfg(test)]
+mod run_words;
+#[cfg(test)]
 mod runs;
 #[cfg(test)]
 mod whys;

@@ -1,3 +1,4 @@
+use Rattle.ring_run.proofs.CounterTakerCalls.{kept_none}
 use Rattle.ring_run.proofs.counter_takers.take_open.Goals as goal
 
 pub fetch-requires : goal.fetch-requires
@@ -5,6 +6,9 @@ fetch-requires c =
     let r = c.requires.at in
     let found = c.in-None.ensures r.0 r.1 r.2 in
     record { at = (c.args.stepper.now, r.0, record { at = r.1; opened = r.2; look = found.0; found = found.1 }) }
+
+pub returns-in-Some : goal.returns-in-Some
+returns-in-Some c = λ calls at opened. kept_none c.args.stepper.now c.look.new.stepper c.args.count.now c.args.cell.now calls c.in-Some.reply at (c.in-Some.ensures calls at opened)
 
 pub returns-in-None : goal.returns-in-None
 returns-in-None c = λ calls at opened.

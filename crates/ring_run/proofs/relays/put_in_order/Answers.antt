@@ -6,6 +6,7 @@ use Rattle.ring_core.specs.Puts.{IsBatch}
 use Rattle.ring_run.specs.Ring.{Ring}
 use Rattle.ring_run.specs.Relays.{PutsAre}
 use Rattle.ring_run.proofs.RelayLemmas.{no_puts_are, offers, given_there, stored, was_full, same_trans, puts_there}
+use Rattle.ring_run.proofs.relays.put_in_order.Goals.{in-Stored, in-Full}
 use Rattle.ring_run.proofs.relays.put_in_order.Goals as goal
 
 pub puts-init : goal.puts-init
@@ -24,47 +25,29 @@ put_all-reply-requires-clause-batch g c =
     subst (λ (k : ℕ). IsBatch b.ring.shape (take k (drop c.puts.put c.args.items.now))) same
     (offers b.ring.shape c.args.items.now c.puts.put c.next_batch.result fit c.puts-test.true n.some (subst (λ (z : Shape). c.next_batch.result ≤ batch_of z) i.7 n.few) (omega (arith, n.left, c.puts-test.true)))
 
-pub puts-preserved-in-Stored : goal.puts-preserved-in-Stored
-puts-preserved-in-Stored g c =
-    let a = g.E.PutEnd.end c.puts.putter in
-    let b = g.E.PutEnd.end c.put_all-reply.new.self in
-    let i = c.puts.invariant in
-    let s = c.in-Stored.ensures in
-    let given : List ℕ = take (c.puts.put + c.next_batch.result - c.puts.put) (drop c.puts.put c.args.items.now) in
-    let left : List ℕ = drop c.puts.put c.args.items.now in
-    let whole : given ≡ take (batch_of b.ring.shape) left = given_there b.ring.shape c.args.items.now c.puts.put c.next_batch.result i.2.within
-    (subst (λ (z : Shape). (c.next_batch.result ≡ batch_of z) ⊎ ((c.next_batch.result ≡ length c.args.items.now - c.puts.put) × (length c.args.items.now - c.puts.put ≤ batch_of z))) (i.7 ∙ sym (ap (λ (x : Ring). x.shape) s.same.ring)) c.next_batch.ensures.most) in
-    let r = stored c.puts_are_read.ensures b.ring.shape a.list b.list c.args.items.now c.puts.put c.puts.made c.puts.full (puts_there a b c.args.items.now c.puts.put c.puts.made c.puts.full s.same i.2)
-    given (c.puts.put + c.next_batch.result - c.puts.put) c.in-Stored.stored refl whole s.phrase in
-    let plus : suc c.puts.made ≡ c.puts.made + 1 = omega arith in (
-      s.idle,
-      same_trans (g.E.PutEnd.end c.args.putter.now) a b i.1 s.same,
-      subst (λ (n : ℕ). PutsAre b.ring.shape b.list c.args.items.now (c.puts.put + c.in-Stored.stored) n c.puts.full false) plus r.1,
-      omega (arith, c.if-made-limit.true),
-      omega (arith, i.4),
-      refl,
-      refl,
-      i.7 ∙ sym (ap (λ (x : Ring). x.shape) s.same.ring),
-    )
-
 pub puts-preserved : goal.puts-preserved
 puts-preserved g c =
     let a = g.E.PutEnd.end c.puts.putter in
     let b = g.E.PutEnd.end c.put_all-reply.new.self in
     let i = c.puts.invariant in
-    let s = c.in-Full.ensures in
+    let s = c.put_all-reply.ensures in
     let given : List ℕ = take (c.puts.put + c.next_batch.result - c.puts.put) (drop c.puts.put c.args.items.now) in
     let left : List ℕ = drop c.puts.put c.args.items.now in
     let whole : given ≡ take (batch_of b.ring.shape) left = given_there b.ring.shape c.args.items.now c.puts.put c.next_batch.result i.2.within
     (subst (λ (z : Shape). (c.next_batch.result ≡ batch_of z) ⊎ ((c.next_batch.result ≡ length c.args.items.now - c.puts.put) × (length c.args.items.now - c.puts.put ≤ batch_of z))) (i.7 ∙ sym (ap (λ (x : Ring). x.shape) s.same.ring)) c.next_batch.ensures.most) in
-    let now = was_full c.puts_are_read.ensures b.ring.shape a.list b.list c.args.items.now c.puts.put c.puts.made c.puts.full (puts_there a b c.args.items.now c.puts.put c.puts.made c.puts.full s.same i.2) given whole s.phrase in
+    let there = puts_there a b c.args.items.now c.puts.put c.puts.made c.puts.full s.same i.2 in
     let plus : suc c.puts.made ≡ c.puts.made + 1 = omega arith in
     let more : suc c.puts.full ≡ c.puts.full + 1 = omega arith in (
       s.idle,
       same_trans (g.E.PutEnd.end c.args.putter.now) a b i.1 s.same,
-      subst (λ (z : ℕ × ℕ). PutsAre b.ring.shape b.list c.args.items.now c.puts.put z.0 z.1 false) (λ j. (plus j, more j)) now,
+      elim c.match-reply.branch [
+        | in-Stored w ↦ subst (λ (z : ℕ × ℕ × ℕ). PutsAre b.ring.shape b.list c.args.items.now z.0 z.1 z.2 false) (λ j. (sym w.put-is j, plus j, sym w.full-is j))
+            (stored c.puts_are_read.ensures b.ring.shape a.list b.list c.args.items.now c.puts.put c.puts.made c.puts.full there given (c.puts.put + c.next_batch.result - c.puts.put) w.in-Stored.stored refl whole w.in-Stored.ensures.phrase).1
+        | in-Full w ↦ subst (λ (z : ℕ × ℕ × ℕ). PutsAre b.ring.shape b.list c.args.items.now z.0 z.1 z.2 false) (λ j. (sym w.put-is j, plus j, (more ∙ sym w.full-is) j))
+            (was_full c.puts_are_read.ensures b.ring.shape a.list b.list c.args.items.now c.puts.put c.puts.made c.puts.full there given whole w.in-Full.ensures.phrase)
+      ],
       omega (arith, c.if-made-limit.true),
-      omega (arith, i.4),
+      elim c.match-reply.branch [ in-Stored w ↦ omega (arith, i.4, w.full-is) | in-Full w ↦ omega (arith, i.4, w.full-is) ],
       refl,
       refl,
       i.7 ∙ sym (ap (λ (x : Ring). x.shape) s.same.ring),

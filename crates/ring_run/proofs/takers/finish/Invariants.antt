@@ -1,14 +1,10 @@
 use Rattle.std.proofs.Common.{◌+◌, ◌*◌, ◌-◌, length}
-use Rattle.ring_core.specs.Takes.{Takes}
 use Rattle.ring_core.specs.ConsumerState.{is_taking}
-use Rattle.ring_run.specs.Steppers.{AreAnswered, IsSameEnd}
-use Rattle.ring_run.specs.Machines.{MachineMade, MachineReady, consuming, longest_taking}
+use Rattle.ring_run.specs.Machines.{MachineWent, longest_taking, consuming}
 use Rattle.ring_run.proofs.takers.finish.Given as goal
 
 abbrev pub invariant-accesses : goal.invariant-accesses
-invariant-accesses g l =
-    IsSameEnd l.fn.stepper l.stepper × ((calls : Takes) → MachineReady consuming l.fn.stepper l.fn.machine calls → MachineMade consuming l.fn.stepper l.fn.machine l.stepper l.machine calls) ×
-    AreAnswered l.fn.stepper l.stepper (g.O.Oracle.answers l.fn.oracle) (g.O.Oracle.answers l.oracle)
+invariant-accesses g l = MachineWent consuming l.fn.stepper l.fn.machine l.stepper l.machine (g.O.Oracle.answers l.fn.oracle) (g.O.Oracle.answers l.oracle)
 
 abbrev pub decreases-accesses : goal.decreases-accesses
 decreases-accesses g l = length l.fn.stepper.list + 2 * longest_taking l.fn.machine.shape (is_taking l.fn.machine) - length l.stepper.list

@@ -1,73 +1,45 @@
-use Rattle.std.proofs.Common.{refl}
 use Rattle.ring_core.specs.ProducerState.{Close}
+use Rattle.ring_run.specs.Machines.{producing}
 use Rattle.ring_run.specs.Steppers.{AreAnswered, IsAskedOnce}
-use Rattle.ring_run.proofs.PutterCalls.{close_goes, close_one, close_over, is_over, put_few, put_invariant, put_lawful, put_same, put_seen, put_stands}
+use Rattle.ring_run.proofs.MachineCalls.{Step, same_step, step_few, step_lawful, step_stands}
+use Rattle.ring_run.proofs.PutterCalls.{close_goes, close_one, close_over, is_over, put_invariant, put_laws, put_seen, put_step}
+use Rattle.ring_run.proofs.putters.Putter.step_close.Given.{Over}
+use Rattle.ring_run.proofs.putters.Putter.step_close.Goals.{After-advance}
 use Rattle.ring_run.proofs.putters.Putter.step_close.Goals as goal
 
+-- the call and the step
+abbrev step : (g : Over) (c : After-advance g) → Step producing Close
+step g c = put_step c.self.inside.oracle c.self.inside.stepper c.self.inside.machine c.self.inside.steps c.args.self.now c.self.view_is c.self.invariant Close c.begin_close.new.machine c.begin_close.ensures.begins c.advance.new.stepper c.advance.new.machine c.advance.ensures.rests c.advance.ensures.steps
+
 pub steps_behind-self-inside-requires-clause-stands : goal.steps_behind-self-inside-requires-clause-stands
-steps_behind-self-inside-requires-clause-stands g c =
-    let p = c.self.inside in
-    let was = c.self.invariant.0 in
-    put_stands p.oracle p.stepper p.machine p.steps c.args.self.now c.self.view_is c.self.invariant Close c.begin_close.new.machine (c.begin_close.ensures.begins was.calls was.made was.at.stands)
-    c.advance.new.stepper c.advance.new.machine c.advance.ensures.rests c.advance.ensures.steps
+steps_behind-self-inside-requires-clause-stands g c = step_stands producing put_laws (step g (goal.at.steps_behind-self-inside-requires-clause-stands g c).After-advance)
 
 pub invariant_of-self : goal.invariant_of-self
-invariant_of-self g c =
-    let p = c.self.inside in
-    let was = c.self.invariant.0 in
-    put_invariant p.oracle p.stepper p.machine p.steps c.args.self.now c.self.view_is c.self.invariant Close c.begin_close.new.machine (c.begin_close.ensures.begins was.calls was.made was.at.stands)
-    c.advance.new.stepper c.advance.new.machine c.advance.ensures.rests c.advance.ensures.steps c.steps_behind-self-inside.result c.steps_behind-self-inside.ensures.rests c.steps_behind-self-inside.ensures.goes
+invariant_of-self g c = put_invariant (step g (goal.at.invariant_of-self g c).After-advance) c.steps_behind-self-inside.result c.steps_behind-self-inside.ensures.rests c.steps_behind-self-inside.ensures.goes
 
 pub returns-clause-same : goal.returns-clause-same
-returns-clause-same g c =
-    let p = c.self.inside in
-    let was = c.self.invariant.0 in
-    put_same p.oracle p.stepper p.machine p.steps c.args.self.now c.self.view_is c.self.invariant Close c.begin_close.new.machine (c.begin_close.ensures.begins was.calls was.made was.at.stands)
-    c.advance.new.stepper c.advance.new.machine c.advance.ensures.rests c.advance.ensures.steps
+returns-clause-same g c = same_step producing put_laws (step g (goal.at.returns-clause-same g c).After-advance)
 
 pub returns-clause-lawful : goal.returns-clause-lawful
-returns-clause-lawful g c =
-    let p = c.self.inside in
-    let was = c.self.invariant.0 in
-    put_lawful p.oracle p.stepper p.machine p.steps c.args.self.now c.self.view_is c.self.invariant Close c.begin_close.new.machine (c.begin_close.ensures.begins was.calls was.made was.at.stands)
-    c.advance.new.stepper c.advance.new.machine c.advance.ensures.rests c.advance.ensures.steps
+returns-clause-lawful g c = step_lawful producing put_laws (step g (goal.at.returns-clause-lawful g c).After-advance)
 
 pub returns-clause-one : goal.returns-clause-one
 returns-clause-one g c =
-    let p = c.self.inside in
-    let was = c.self.invariant.0 in
-    let there = put_stands p.oracle p.stepper p.machine p.steps c.args.self.now c.self.view_is c.self.invariant Close c.begin_close.new.machine (c.begin_close.ensures.begins was.calls was.made was.at.stands)
-    c.advance.new.stepper c.advance.new.machine c.advance.ensures.rests c.advance.ensures.steps in
-    let over = is_over c.advance.new.machine there.0 there.1 there.2 c.next.result c.next.ensures.due (λ none. (c.next.ensures.rest there.0 there.1 there.2 none).0) c.is_none.result c.is_none.ensures in
-    close_one p.oracle p.stepper p.machine p.steps c.args.self.now c.self.view_is c.self.invariant Close c.begin_close.new.machine (c.begin_close.ensures.begins was.calls was.made was.at.stands)
-    c.advance.new.stepper c.advance.new.machine c.advance.ensures.rests c.advance.ensures.steps c.steps_behind-self-inside.result c.steps_behind-self-inside.ensures.rests c.steps_behind-self-inside.ensures.goes refl c.is_none.result over
+    let s = step_stands producing put_laws (step g (goal.at.returns-clause-one g c).After-advance) in
+    close_one (step g (goal.at.returns-clause-one g c).After-advance) c.is_none.result (is_over c.advance.new.machine s.0 s.1 s.2 c.next.result c.next.ensures.due (λ none. (c.next.ensures.rest s.0 s.1 s.2 none).0) c.is_none.result c.is_none.ensures)
 
 pub returns-clause-goes_on : goal.returns-clause-goes_on
 returns-clause-goes_on g c =
-    let p = c.self.inside in
-    let was = c.self.invariant.0 in
-    let there = put_stands p.oracle p.stepper p.machine p.steps c.args.self.now c.self.view_is c.self.invariant Close c.begin_close.new.machine (c.begin_close.ensures.begins was.calls was.made was.at.stands)
-    c.advance.new.stepper c.advance.new.machine c.advance.ensures.rests c.advance.ensures.steps in
-    let over = is_over c.advance.new.machine there.0 there.1 there.2 c.next.result c.next.ensures.due (λ none. (c.next.ensures.rest there.0 there.1 there.2 none).0) c.is_none.result c.is_none.ensures in
-    close_goes p.oracle p.stepper p.machine p.steps c.args.self.now c.self.view_is c.self.invariant Close c.begin_close.new.machine (c.begin_close.ensures.begins was.calls was.made was.at.stands)
-    c.advance.new.stepper c.advance.new.machine c.advance.ensures.rests c.advance.ensures.steps c.steps_behind-self-inside.result c.steps_behind-self-inside.ensures.rests c.steps_behind-self-inside.ensures.goes refl c.is_none.result over
+    let s = step_stands producing put_laws (step g (goal.at.returns-clause-goes_on g c).After-advance) in
+    close_goes (step g (goal.at.returns-clause-goes_on g c).After-advance) c.is_none.result (is_over c.advance.new.machine s.0 s.1 s.2 c.next.result c.next.ensures.due (λ none. (c.next.ensures.rest s.0 s.1 s.2 none).0) c.is_none.result c.is_none.ensures) c.steps_behind-self-inside.result c.steps_behind-self-inside.ensures.rests c.steps_behind-self-inside.ensures.goes
 
 pub returns-clause-over : goal.returns-clause-over
 returns-clause-over g c =
-    let p = c.self.inside in
-    let was = c.self.invariant.0 in
-    let there = put_stands p.oracle p.stepper p.machine p.steps c.args.self.now c.self.view_is c.self.invariant Close c.begin_close.new.machine (c.begin_close.ensures.begins was.calls was.made was.at.stands)
-    c.advance.new.stepper c.advance.new.machine c.advance.ensures.rests c.advance.ensures.steps in
-    let over = is_over c.advance.new.machine there.0 there.1 there.2 c.next.result c.next.ensures.due (λ none. (c.next.ensures.rest there.0 there.1 there.2 none).0) c.is_none.result c.is_none.ensures in
-    close_over p.oracle p.stepper p.machine p.steps c.args.self.now c.self.view_is c.self.invariant Close c.begin_close.new.machine (c.begin_close.ensures.begins was.calls was.made was.at.stands)
-    c.advance.new.stepper c.advance.new.machine c.advance.ensures.rests c.advance.ensures.steps c.steps_behind-self-inside.result c.steps_behind-self-inside.ensures.rests c.steps_behind-self-inside.ensures.goes refl c.is_none.result over
+    let s = step_stands producing put_laws (step g (goal.at.returns-clause-over g c).After-advance) in
+    close_over (step g (goal.at.returns-clause-over g c).After-advance) c.is_none.result (is_over c.advance.new.machine s.0 s.1 s.2 c.next.result c.next.ensures.due (λ none. (c.next.ensures.rest s.0 s.1 s.2 none).0) c.is_none.result c.is_none.ensures)
 
 pub returns-clause-few : goal.returns-clause-few
-returns-clause-few g c =
-    let p = c.self.inside in
-    let was = c.self.invariant.0 in
-    put_few p.oracle p.stepper p.machine p.steps c.args.self.now c.self.view_is c.self.invariant Close c.begin_close.new.machine (c.begin_close.ensures.begins was.calls was.made was.at.stands)
-    c.advance.new.stepper c.advance.new.machine c.advance.ensures.rests c.advance.ensures.steps
+returns-clause-few g c = step_few producing put_laws (step g (goal.at.returns-clause-few g c).After-advance)
 
 pub returns-clause-oracle : goal.returns-clause-oracle
 returns-clause-oracle g c = put_seen c.self.view_is (λ _ x. IsAskedOnce g.O.Oracle.answers x c.advance.new.oracle) c.advance.ensures.oracle
