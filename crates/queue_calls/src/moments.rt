@@ -4,7 +4,9 @@ ghost use Rattle.queue_calls.specs.Steps.{began_at};
 
 use crate::capacities::Capacity;
 use crate::events::Event;
-use crate::steps::{Does, Putter, Taker, put_effect, put_event, stretch, take_effect, take_event, take_one};
+use crate::steps::{
+    Does, Putter, Taker, put_effect, put_event, stretch, take_effect, take_event, take_one,
+};
 
 /// A history of calls, and the moments at which the operations of its calls take effect.
 ///
@@ -94,7 +96,8 @@ impl<'a> Moments<'a> {
             Does::FindNoRoom(count) if !self.closed && self.lacks_room(count) => Some(false),
             Does::FindShut if self.closed => Some(true),
             Does::Close => Some(true),
-            Does::FindFewer(count) if inside.len() < count && !(self.closed && inside.is_empty()) => Some(self.closed),
+            Does::FindFewer(count) if inside.len() < count && !(self.closed && inside.is_empty()) =>
+                Some(self.closed),
             Does::FindClosed if self.closed && inside.is_empty() => Some(true),
             _ => None,
         }
@@ -204,7 +207,11 @@ impl<'a> Moments<'a> {
         match does {
             Does::Enqueue(item) => self.enqueue(item),
             Does::Dequeue(item) => self.dequeue(item),
-            Does::FindNoRoom(_) | Does::FindShut | Does::Close | Does::FindFewer(_) | Does::FindClosed => self.finds_so(does),
+            Does::FindNoRoom(_)
+            | Does::FindShut
+            | Does::Close
+            | Does::FindFewer(_)
+            | Does::FindClosed => self.finds_so(does),
         }
     }
 }

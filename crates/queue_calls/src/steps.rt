@@ -62,15 +62,31 @@ pub fn put_event<'a>(put: Putter<'a>, event: Event<'a>) -> Option<Putter<'a>>
     ensures exact { IsNone result → (after : Producer) → ¬ ProducerStep (producer_of put.entry) (Happens (told event.entry)) after }
 {
     match (event, put) {
-        (Event::PutBegins(items), Putter::Idle) if !items.is_empty() => Some(Putter::Putting(0, 0, items)),
-        (Event::PutStored(count), Putter::Putting(lacked, stored, items)) if count > 0 && stored == count && is_short_of(lacked, count, items.len().saturating_sub(count)) => Some(Putter::Idle),
+        (Event::PutBegins(items), Putter::Idle) if !items.is_empty() => Some(Putter::Putting(
+            0, 0, items,
+        )),
+        (Event::PutStored(count), Putter::Putting(lacked, stored, items))
+            if count > 0
+                && stored == count
+                && is_short_of(lacked, count, items.len().saturating_sub(count)) => Some(
+            Putter::Idle,
+        ),
         (Event::PutFull, Putter::Putting(1, 0, _)) => Some(Putter::Idle),
-        (Event::PutShort, Putter::Putting(lacked, 0, items)) if items.len() > 1 && lacked == items.len() => Some(Putter::Idle),
+        (Event::PutShort, Putter::Putting(lacked, 0, items))
+            if items.len() > 1 && lacked == items.len() => Some(Putter::Idle),
         (Event::PutNothing, Putter::Putting(0, 0, _)) => Some(Putter::Idle),
         (Event::PutClosed, Putter::FoundShut) => Some(Putter::Idle),
         (Event::CloseBegins, Putter::Idle) => Some(Putter::Closing(false)),
         (Event::CloseEnds, Putter::Closing(true)) => Some(Putter::Idle),
-        (Event::TakeBegins(_) | Event::TakeItems(_) | Event::TakeEmpty | Event::TakeShort | Event::TakeNothing | Event::TakeClosed, _) => Some(put),
+        (
+            Event::TakeBegins(_)
+            | Event::TakeItems(_)
+            | Event::TakeEmpty
+            | Event::TakeShort
+            | Event::TakeNothing
+            | Event::TakeClosed,
+            _,
+        ) => Some(put),
         _ => None,
     }
 }
@@ -81,8 +97,11 @@ pub fn put_effect(put: Putter<'_>, does: Does) -> Option<Putter<'_>>
     ensures exact { IsNone result → (after : Producer) → ¬ ProducerStep (producer_of put.entry) (Effect (done does)) after }
 {
     match (does, put) {
-        (Does::Enqueue(item), Putter::Putting(lacked, stored, items)) if items.get(stored) == Some(&item) => Some(Putter::Putting(lacked, stored + 1, items)),
-        (Does::FindNoRoom(count), Putter::Putting(0, 0, items)) => Some(Putter::Putting(count, 0, items)),
+        (Does::Enqueue(item), Putter::Putting(lacked, stored, items))
+            if items.get(stored) == Some(&item) => Some(Putter::Putting(lacked, stored + 1, items)),
+        (Does::FindNoRoom(count), Putter::Putting(0, 0, items)) => Some(Putter::Putting(
+            count, 0, items,
+        )),
         (Does::FindShut, Putter::Putting(0, 0, _)) => Some(Putter::FoundShut),
         (Does::Close, Putter::Closing(false)) => Some(Putter::Closing(true)),
         (Does::Dequeue(_) | Does::FindFewer(_) | Does::FindClosed, _) => Some(put),
@@ -100,14 +119,24 @@ pub fn stretch(row: &[u64], from: usize, to: usize) -> &[u64]
 }
 
 // What the consumer is in behind a take of these items.
-fn items_event(row: &[u64], head: usize, items: &[u64], lacked: usize, from: usize, left: usize) -> Option<Taker>
+fn items_event(
+    row: &[u64],
+    head: usize,
+    items: &[u64],
+    lacked: usize,
+    from: usize,
+    left: usize,
+) -> Option<Taker>
     requires began { from ≤ head }
     requires within { head ≤ length row.now }
     ensures step { IfSome result (λ after. ConsumerStep (Taking lacked (stretch row.now from head) left) (Happens (TakeItems items.now)) (consumer_of row.now head after)) }
     ensures exact { IsNone result → (after : Consumer) → ¬ ConsumerStep (Taking lacked (stretch row.now from head) left) (Happens (TakeItems items.now)) after }
     ensures began { IfSome result (λ after. began_at after ≤ head) }
 {
-    if items.is_empty() || stretch(row, from, head) != items || !is_short_of(lacked, items.len(), left) {
+    if items.is_empty()
+        || stretch(row, from, head) != items
+        || !is_short_of(lacked, items.len(), left)
+    {
         return None;
     }
     Some(Taker::Resting)
@@ -122,11 +151,20 @@ pub fn take_event(row: &[u64], head: usize, take: Taker, event: Event<'_>) -> Op
     ensures began { IfSome result (λ after. began_at after ≤ head) }
 {
     match (event, take) {
-        (Event::TakeBegins(wanted), Taker::Resting) if wanted > 0 => Some(Taker::Taking(0, head, wanted)),
-        (Event::TakeItems(items), Taker::Taking(lacked, from, left)) => items_event(row, head, items, lacked, from, left),
-        (Event::TakeEmpty, Taker::Taking(1, from, _)) if stretch(row, from, head).is_empty() => Some(Taker::Resting),
-        (Event::TakeShort, Taker::Taking(lacked, from, left)) if stretch(row, from, head).is_empty() && lacked == left && left > 1 => Some(Taker::Resting),
-        (Event::TakeNothing, Taker::Taking(0, from, _)) if stretch(row, from, head).is_empty() => Some(Taker::Resting),
+        (Event::TakeBegins(wanted), Taker::Resting) if wanted > 0 => Some(Taker::Taking(
+            0, head, wanted,
+        )),
+        (Event::TakeItems(items), Taker::Taking(lacked, from, left)) => items_event(
+            row, head, items, lacked, from, left,
+        ),
+        (Event::TakeEmpty, Taker::Taking(1, from, _)) if stretch(row, from, head).is_empty() =>
+            Some(Taker::Resting),
+        (Event::TakeShort, Taker::Taking(lacked, from, left))
+            if stretch(row, from, head).is_empty() && lacked == left && left > 1 => Some(
+            Taker::Resting,
+        ),
+        (Event::TakeNothing, Taker::Taking(0, from, _)) if stretch(row, from, head).is_empty() =>
+            Some(Taker::Resting),
         (Event::TakeClosed, Taker::FoundClosed) => Some(Taker::Resting),
         (
             Event::PutBegins(_)
@@ -168,14 +206,11 @@ pub fn take_effect(row: &[u64], head: usize, take: Taker, does: Does) -> Option<
     ensures began { IfSome result (λ after. began_at after ≤ head) }
 {
     match (does, take) {
-        (Does::FindFewer(count), Taker::Taking(0, from, left)) if stretch(row, from, head).is_empty() => {
-            Some(Taker::Taking(count, from, left))
-        }
-        (Does::FindClosed, Taker::Taking(0, from, _)) if stretch(row, from, head).is_empty() => Some(Taker::FoundClosed),
-        (
-            Does::Enqueue(_) | Does::FindNoRoom(_) | Does::FindShut | Does::Close,
-            _,
-        ) => Some(take),
+        (Does::FindFewer(count), Taker::Taking(0, from, left))
+            if stretch(row, from, head).is_empty() => { Some(Taker::Taking(count, from, left)) }
+        (Does::FindClosed, Taker::Taking(0, from, _)) if stretch(row, from, head).is_empty() =>
+            Some(Taker::FoundClosed),
+        (Does::Enqueue(_) | Does::FindNoRoom(_) | Does::FindShut | Does::Close, _) => Some(take),
         _ => None,
     }
 }

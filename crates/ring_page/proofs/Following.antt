@@ -29,7 +29,7 @@ came_one numbers before c capacity mark old new h one accepts =
       order = h.order ++ mark ∷ [];
       told = told_one numbers before h.order c mark h.told one;
       followed = subst (λ k. LeadTo k (reverse (h.order ++ mark ∷ [])) (point_of new)) (sym same)
-        (subst (λ (marks : List Mark). LeadTo (meant old.capacity) marks (point_of new)) last led);
+          (subst (λ (marks : List Mark). LeadTo (meant old.capacity) marks (point_of new)) last led);
       capacity_is = same ∙ h.capacity_is;
     }
 

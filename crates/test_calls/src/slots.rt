@@ -141,10 +141,7 @@ fn one_slot_too_few_is_want_of_memory(rt: HostRuntime) -> Result<(), Fail> {
             numbers: 1,
             ..ENOUGH
         },
-        Room {
-            bytes: 9,
-            ..ENOUGH
-        },
+        Room { bytes: 9, ..ENOUGH },
     ];
     for room in rooms {
         assert!(rt; found(TEXT, 1, room) == Err(RecordingFault::OutOfMemory));

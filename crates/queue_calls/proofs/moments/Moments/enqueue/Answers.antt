@@ -14,10 +14,16 @@ returns c =
     let item = c.args.item in
     let is : get_or row m.tail 0 ≡ item = c.if-self-item.false in
     let more : m.tail < length row = omega (arith, m.within, c.if-self-2.false) in
-    let next : suc m.tail ≡ m.tail + 1 = omega arith in
-    (record {
-      queue = (c.if-not-has_room.ensures.0 refl, c.if-self.false,
-        ap (λ n. queue (stretch row m.head n) false) (sym next) ∙ ap (λ items. queue items false) (longer row m.head m.tail m.out more ∙ ap (λ i. stretch row m.head m.tail ++ i ∷ []) is));
-      producer = c.in-Some.ensures.step;
-      consumer = refl;
-    }, refl, refl)
+    let next : suc m.tail ≡ m.tail + 1 = omega arith in (
+      record {
+        queue = (
+          c.if-not-has_room.ensures.0 refl,
+          c.if-self.false,
+          ap (λ n. queue (stretch row m.head n) false) (sym next) ∙ ap (λ items. queue items false) (longer row m.head m.tail m.out more ∙ ap (λ i. stretch row m.head m.tail ++ i ∷ []) is),
+        );
+        producer = c.in-Some.ensures.step;
+        consumer = refl;
+      },
+      refl,
+      refl,
+    )
