@@ -30,6 +30,7 @@ export function callsOf(events, {found, put, taken}) {
       else if (open.C && now.mayScan && !seesClose(event)) end("C", place, "empty");
     }
     last[side] = event;
+    if (open.P?.kind === "put") open.P.begun = put.slice(open.P.past, now.put); // the items under a count write
   }
   return calls;
 }

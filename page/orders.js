@@ -52,3 +52,15 @@ export function orderOf(calls, most) {
   for (const [place, comes] of come.sort(([a], [b]) => a - b)) if (place < Infinity) comes();
   return {marks, numbers, items, effects};
 }
+
+// Where the operations of the calls of a run take effect, at a ring of this shape, as the module says by its `order`; none where it does not.
+// A trace does not tell what a put offered that stored nothing; and a take under way may have taken what is next.
+export function effectsOf(calls, {capacity}, order) {
+  const itemsOf = call => call.reply ? call.items : call.begun ?? [], of = side => calls.filter(it => it.side === side).flatMap(itemsOf);
+  const [next] = of("P").slice(of("C").length);
+  const it = orderOf(calls.map(call => {
+    const items = call.side === "C" && !call.reply && next !== undefined ? [next] : itemsOf(call);
+    return {...call, items, offered: items.length ? items : [0]};
+  }), capacity);
+  return calls.length && order(it, capacity) === it.marks.length ? it.effects : [];
+}

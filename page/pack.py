@@ -20,7 +20,7 @@ SHIPPED = "lamport_ring.html"
 FIRST = ["new_old_inversion", "plain_path"]  # what the page begins with
 LEFT_OUT = {  # scripts of more events or letters than a picture is for; an item that JavaScript has no number for
     "a_million_idle_letters", "a_million_letters_full", "items_999", "largest_shape"}
-SCRIPTS = ["module.js", "calls.js", "verdicts.js", "picture.js", "script.js", "plays.js", "places.js", "lessons.js", "page.js"]
+SCRIPTS = ["module.js", "calls.js", "orders.js", "verdicts.js", "picture.js", "script.js", "plays.js", "places.js", "lessons.js", "page.js"]
 MADE_OF = re.compile(rb'<meta name="made-of" content="([^"]*)">')
 
 

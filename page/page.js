@@ -2,7 +2,7 @@
 import { MOST_CALLED, callsOf, callsUntil } from "./calls.js";
 import { lessonOptions, showLesson } from "./lessons.js";
 import { openModule, traceOf } from "./module.js";
-import { orderOf } from "./orders.js";
+import { effectsOf } from "./orders.js";
 import { picture, styleWithin } from "./picture.js";
 import { excerpt, placeOf } from "./places.js";
 import { LISTED_LETTERS, MOST_MOMENTS, lettersOf, momentsOf } from "./plays.js";
@@ -54,7 +54,7 @@ const views = {
       const it = module.audit(text);
       if (it.refused) return it;
       const calls = callsIn(text, it.events, it.programs.isRun ? it.events.length : it.programs.place);
-      return {...it, calls, order: orderIn(calls, it.shape)};
+      return {...it, calls, order: effectsOf(calls, it.shape, module.order)};
     },
     most: () => whole.events.length,
     // A beginning of a trace is a trace of its own, and its verdict is asked for.
@@ -78,7 +78,7 @@ const views = {
       const all = module.play(script, none.letters);
       if (all.refused) return all;
       const calls = callsIn(traceOf(all.shape, all.events), all.events, all.events.length);
-      return {...all, script, numbers: lettersOf(script.schedule, all.events), calls, order: orderIn(calls, all.shape),
+      return {...all, script, numbers: lettersOf(script.schedule, all.events), calls, order: effectsOf(calls, all.shape, module.order),
         moments: momentsOf(letters => module.play(script, letters, false).report, all)};
     },
     most: () => whole.letters,
@@ -95,12 +95,6 @@ const views = {
 // The calls of the first events of a trace, which are of the programs.
 function callsIn(text, events, count) {
   return events.length > MOST_CALLED || count === 0 ? [] : callsOf(events, module.moments(text, count));
-}
-
-// Where the operations of these calls take effect, at a ring of this shape; none where the module does not say that they can.
-function orderIn(calls, {capacity}) {
-  const it = orderOf(calls, capacity);
-  return calls.length && module.order(it, capacity) === it.marks.length ? it.effects : [];
 }
 
 // What an event is, and what the module tells of the moment just after it, where it tells of it.
