@@ -37,7 +37,7 @@ use Rattle.ring_script.specs.declared.faults.ScriptFault.{ScriptFault}
 use Rattle.ring_script.specs.declared.faults.ScriptFault.TheVariants as script
 use Rattle.ring_program.specs.Reports.{Reports}
 use Rattle.ring_run.specs.Relays.{IsRelayed}
-use Rattle.ring_run.specs.declared.faults.RunFault.TheVariants as run
+use Rattle.bits_core.specs.declared.memory.MemoryFault.TheVariants as run
 use Rattle.ring_program.specs.Runs.{run_items}
 use Rattle.ring_program.specs.Texts.{Summary, audit_text_of, calls_text_of, relay_report_of, relay_text_of, report_text_of, told_text_of, verdict_text_of}
 use Rattle.ring_program.specs.Why.{TellsWhy, verdict_in}
