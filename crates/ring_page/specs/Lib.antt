@@ -3,3 +3,4 @@ pub mod Reasons
 pub mod Programs
 pub mod Audit
 pub mod Play
+pub mod Calls

@@ -2,12 +2,14 @@
 #![tactic(auto)]
 
 mod audits;
+mod calls;
 mod marks;
 mod plays;
 mod programs;
 mod reasons;
 
 pub use audits::{EVENT_ROOM, Told, page_audit};
+pub use calls::{Against, CallsTold, Counts, page_calls};
 pub use marks::Mark;
 pub use plays::{ANSWER_ROOM, Asked, Played, RUN_ROOM, page_play};
 pub use programs::{Due, Judged};
