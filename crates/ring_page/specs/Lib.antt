@@ -4,3 +4,4 @@ pub mod Programs
 pub mod Audit
 pub mod Play
 pub mod Order
+pub mod Calls

@@ -2,6 +2,7 @@
 #![tactic(auto)]
 
 mod audits;
+mod calls;
 mod marks;
 mod orders;
 mod plays;
@@ -9,6 +10,7 @@ mod programs;
 mod reasons;
 
 pub use audits::{EVENT_ROOM, Told, page_audit};
+pub use calls::{Against, CallsTold, Counts, page_calls};
 pub use marks::Mark;
 pub use orders::{Came, Holds, page_order};
 pub use plays::{ANSWER_ROOM, Asked, Played, RUN_ROOM, page_play};

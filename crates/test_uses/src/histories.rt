@@ -1,13 +1,13 @@
 //! Uses of plays, of histories that are audited, and of recorded calls.
 use bits_core::{Act, Bit, Event, Shape, Side};
-use queue_calls::{CallsFinding, Event as Call, Offered, Taken};
+use queue_calls::{CallsFinding, Event as Call, Front, Lent, Lists, Offered, Slots, Taken};
 use ring_audit::audit;
 use std::alloc::AllocGlobal;
 use std::rt::HostRuntime;
 use std::test::Fail;
 use uses::audits::{is_lawful, is_of_ring};
 use uses::calls::{first_at_fault, first_at_fault_in_slots};
-use uses::findings::{Room, found_in_slots, line_at_fault, sentence_of};
+use uses::findings::{found_in_slots, line_at_fault, sentence_of};
 use uses::plays::takes_of;
 use uses::{findings, plays};
 
@@ -96,15 +96,15 @@ fn a_recording_is_read_in_slots(rt: HostRuntime) -> Result<(), Fail> {
         item: 0,
         taken_at: 0,
     }];
-    let room = Room {
-        items: &mut [0],
-        offered: &mut offered,
-        taken: &mut taken,
-        offers: &mut [0],
-        numbers: &mut [0],
-        bytes: &mut [],
+    let lists: Lists<Lent<'_>> = Lists {
+        items: Slots::new(&mut [0]),
+        offered: Slots::new(&mut offered),
+        taken: Slots::new(&mut taken),
+        offers: Front::new(&mut [0]),
+        numbers: Front::new(&mut [0]),
+        bytes: Front::new(&mut []),
     };
-    assert!(rt; matches!(found_in_slots(room, text), Ok(CallsFinding::Lawful(_))));
+    assert!(rt; matches!(found_in_slots(lists, text), Ok(CallsFinding::Lawful(_))));
     Ok(())
 }
 

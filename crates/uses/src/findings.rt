@@ -5,9 +5,7 @@ ghost use Rattle.queue_calls.specs.Recordings.{IsFindingOf};
 ghost use Rattle.uses.specs.Judged.{JudgesLine};
 
 use bits_core::{Event, Shape};
-use queue_calls::{
-    CallsFinding, Front, Lent, Lists, Offered, Recording, RecordingFault, RecordingIn, Slots, Taken,
-};
+use queue_calls::{CallsFinding, Lent, Lists, Recording, RecordingFault, RecordingIn};
 use ring_audit::{AuditFault, Finding, audit};
 use std::alloc::{AllocError, Allocator};
 
@@ -59,29 +57,10 @@ pub fn found_in<A: Allocator + Copy>(
     recording.finding()
 }
 
-/// Slots that a recording is read in.
-#[derive(Drop)]
-pub struct Room<'a> {
-    pub items: &'a mut [u64],
-    pub offered: &'a mut [Offered],
-    pub taken: &'a mut [Taken],
-    pub offers: &'a mut [u64],
-    pub numbers: &'a mut [u64],
-    pub bytes: &'a mut [u8],
-}
-
-/// What is found of a text, with no memory but these slots.
-pub fn found_in_slots(room: Room<'_>, text: &[u8]) -> Result<CallsFinding, RecordingFault>
+/// What is found of a text, with no memory but these lists in slots of the caller's.
+pub fn found_in_slots(lists: Lists<Lent<'_>>, text: &[u8]) -> Result<CallsFinding, RecordingFault>
     ensures { IfOk result (IsFindingOf text.now) }
 {
-    let lists: Lists<Lent<'_>> = Lists {
-        items: Slots::new(room.items),
-        offered: Slots::new(room.offered),
-        taken: Slots::new(room.taken),
-        offers: Front::new(room.offers),
-        numbers: Front::new(room.numbers),
-        bytes: Front::new(room.bytes),
-    };
     let mut recording = RecordingIn::within(lists);
     recording.read(text)?;
     recording.finding()

@@ -1,0 +1,32 @@
+use Rattle.std.proofs.Common.{◌≡◌, ◌<◌, ◌+◌, ◌++◌, ◌∷◌, [], ℕ, List, Bor, Result, Ok, Err, IfOk, length, take, slice_index_or, refl, ap, sym, subst, ◌∙◌, arith}
+use Rattle.std.specs.Prelude.{flat_map}
+use Rattle.std.proofs.lemmas.Grind.{flat_map-append}
+use Rattle.std.proofs.lemmas.List.{append-nil, take_all, take_more}
+use Rattle.queue_calls.specs.Recordings.{IsFindingOf}
+use Rattle.queue_calls.specs.RecordingStates.{HasRead}
+use Rattle.uses.proofs.findings.found_in.Goals as goal
+
+-- what holds of an answer follows from what else holds of it
+if_ok : {T E : Type 0} {P Q : T → Type 0} (r : Result T E) → IfOk r P → ((x : T) → P x → Q x) → IfOk r Q
+if_ok (Ok x) p q = q x p
+if_ok (Err e) p q = tt
+
+-- the bytes of one piece more
+one_more : (pieces : List (Bor (List ℕ))) (index : ℕ) (d : Bor (List ℕ)) → index < length pieces
+    → flat_map (λ piece. piece.now) (take index pieces) ++ (slice_index_or pieces index d).now ≡ flat_map (λ piece. piece.now) (take (index + 1) pieces)
+one_more pieces index d less =
+    let f : Bor (List ℕ) → List ℕ = λ piece. piece.now in
+    sym (ap (flat_map f) (take_more pieces index d less) ∙ flat_map-append f (take index pieces) (slice_index_or pieces index d ∷ [])
+    ∙ ap (λ (t : List ℕ). flat_map f (take index pieces) ++ t) (append-nil (slice_index_or pieces index d).now))
+
+pub pieces-preserved : goal.pieces-preserved
+pieces-preserved g c = (
+  subst (λ t. HasRead (λ q. q.items) (λ v. v.items) c.read.new.self t) (one_more c.args.pieces.now c.pieces.piece-index _ (omega (arith, c.pieces-test.true)))
+      (c.in_ok-read.ensures.read _ c.pieces.invariant.0),
+  refl,
+)
+
+pub returns : goal.returns
+returns g c =
+    let all : take c.pieces.piece-index c.args.pieces.now ≡ c.args.pieces.now = take_all c.pieces.piece-index c.args.pieces.now (omega (arith, c.pieces-test.false)) in
+    if_ok c.finding.result c.finding.ensures.found (λ finding found. subst (λ t. IsFindingOf (flat_map (λ piece. piece.now) t) finding) all (found _ c.pieces.invariant.0))
