@@ -299,7 +299,7 @@ export function picture({shape, events, whole = events, fault = null, wholeFault
       here.forEach((it, i) => {
         const tick = it.side === "P" ? -7 : 7, room = Math.min(it.x - (here[i - 1]?.x ?? -Infinity), (here[i + 1]?.x ?? Infinity) - it.x);
         const [text] = operationWords(it).filter(text => text.length * 6.6 + 3 <= room);
-        out.push(`<g class="operation" data-call="${it.call.begin + 2}"><title>${escape(operationWords(it)[0])} takes effect</title><path d="M${it.x} ${top(row) + y + tick}v${-tick}"/><circle cx="${it.x}" cy="${top(row) + y}" r="3.5"/>`
+        out.push(`<g class="operation" data-of="${it.call.begin + 2}"><title>${escape(operationWords(it)[0])} takes effect</title><path d="M${it.x} ${top(row) + y + tick}v${-tick}"/><circle cx="${it.x}" cy="${top(row) + y}" r="3.5"/>`
           + `${text ? `<text class="part" x="${it.x}" y="${top(row) + y + 15}">${escape(text)}</text>` : ""}</g>`);
       });
     }
@@ -357,7 +357,7 @@ export function picture({shape, events, whole = events, fault = null, wholeFault
     if (waveBits.length) out.push(`<path class="level s" d="M353 -10h14M383 3h14"/>`,
       `<rect class="underway" x="367" y="-11" width="16" height="15"/><text class="legend" x="407" y="0">what the bit holds</text>`);
     if (hasCalls) out.push(`<g class="call"><path d="M530 24v-8h30v8"/></g><text class="legend" x="570" y="24">a call</text>`);
-    if (order.length) out.push(`<g class="operation"><path class="order" d="M530 -3h30"/><path d="M545 -10v7"/><circle cx="545" cy="-3" r="3.5"/></g><text class="legend" x="570" y="0">where it takes effect</text>`);
+    if (order.length) out.push(`<g class="operation"><path class="order" d="M530 -3h30"/><path d="M545 -10v7"/><circle cx="545" cy="-3" r="3.5"/></g><text class="legend" x="570" y="0">its effect</text>`);
     out.push("</g>");
   };
 
