@@ -357,7 +357,7 @@ export function picture({shape, events, whole = events, fault = null, wholeFault
     if (waveBits.length) out.push(`<path class="level s" d="M353 -10h14M383 3h14"/>`,
       `<rect class="underway" x="367" y="-11" width="16" height="15"/><text class="legend" x="407" y="0">what the bit holds</text>`);
     if (hasCalls) out.push(`<g class="call"><path d="M530 24v-8h30v8"/></g><text class="legend" x="570" y="24">a call</text>`);
-    if (order.length) out.push(`<g class="operation"><path class="order" d="M530 -3h30"/><path d="M545 -10v7"/><circle cx="545" cy="-3" r="3.5"/></g><text class="legend" x="570" y="0">its effect</text>`);
+    if (order.length) out.push(`<g class="operation"><path class="order" d="M545 -3h20"/><path d="M555 -10v7"/><circle cx="555" cy="-3" r="3.5"/></g><text class="legend" x="570" y="0">its effect</text>`);
     out.push("</g>");
   };
 
