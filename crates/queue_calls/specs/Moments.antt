@@ -15,18 +15,18 @@ abbrev pub HasFollowed : Moments → List Mark → Type 0
 HasFollowed m marks = LeadTo (meant m.capacity) marks (point_of m)
 
 -- where a mark puts an item in, it is the next of the row
-abbrev pub IsNext : Moments → Mark → Type 0
-IsNext m (Happens event) = Unit {0}
-IsNext m (Effect (Enqueue item)) = slice_get m.row.now m.tail ≡ Some item
-IsNext m (Effect (FindNoRoom count)) = Unit {0}
-IsNext m (Effect FindShut) = Unit {0}
-IsNext m (Effect Close) = Unit {0}
-IsNext m (Effect (Dequeue item)) = Unit {0}
-IsNext m (Effect (FindFewer count)) = Unit {0}
-IsNext m (Effect FindClosed) = Unit {0}
+abbrev pub IsNextOfRow : Moments → Mark → Type 0
+IsNextOfRow m (Happens event) = Unit {0}
+IsNextOfRow m (Effect (Enqueue item)) = slice_get m.row.now m.tail ≡ Some item
+IsNextOfRow m (Effect (FindNoRoom count)) = Unit {0}
+IsNextOfRow m (Effect FindShut) = Unit {0}
+IsNextOfRow m (Effect Close) = Unit {0}
+IsNextOfRow m (Effect (Dequeue item)) = Unit {0}
+IsNextOfRow m (Effect (FindFewer count)) = Unit {0}
+IsNextOfRow m (Effect FindClosed) = Unit {0}
 
 -- a mark was accepted, which leads on to what is kept now; or it leads nowhere, but that it may put in another item than the next of the
 -- row, and all is as it was
 abbrev pub Accepts : Moments → Mark → Bool → Moments → Type 0
 Accepts old mark true new = Leads (meant old.capacity) (point_of old) mark (point_of new) × (new.capacity ≡ old.capacity) × (new.row.now ≡ old.row.now)
-Accepts old mark false new = (new ≡ old) × (IsNext old mark → (t : Point) → ¬ Leads (meant old.capacity) (point_of old) mark t)
+Accepts old mark false new = (new ≡ old) × (IsNextOfRow old mark → (t : Point) → ¬ Leads (meant old.capacity) (point_of old) mark t)

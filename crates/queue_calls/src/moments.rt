@@ -13,6 +13,9 @@ use crate::steps::{
 /// It is told one after the other what comes: an event, or that an operation takes effect. It keeps the queue, as the operations leave
 /// it, and what each side is in, and refuses what cannot come next. Where it has accepted all, the history of the events is
 /// linearizable, by these very moments.
+///
+/// For example, behind `happens(Event::PutBegins(&[5]))`, `takes_effect(Does::Enqueue(5))` and `happens(Event::PutStored(1))` the queue
+/// holds 5.
 #[derive(Drop)]
 pub struct Moments<'a> {
     capacity: Capacity,

@@ -8,6 +8,8 @@ ghost use Rattle.queue_calls.specs.Told.{told};
 use crate::events::Event;
 
 /// What an operation of a queue does.
+///
+/// For example, `Does::FindNoRoom(1)` is what a put does that finds the queue full.
 #[derive(Clone, Copy, PartialEq, Eq, Debug)]
 pub enum Does {
     /// It puts the item in.
