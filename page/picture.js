@@ -114,7 +114,7 @@ const FORMS = `
 .ring .held{font-size:12.5px;font-weight:600}.ring .becomes{font-size:12.5px;font-weight:600;text-anchor:middle}
 .ring .underway{stroke-width:1.5}
 .ring .order{stroke-width:1.5}.ring .operation path{fill:none;stroke-width:1.5}
-.ring .call path{fill:none;stroke-width:1.5}.ring .callwords{font-size:12.5px;font-weight:600;text-anchor:middle}.ring .part{font-size:11px;text-anchor:middle}`;
+.ring .call path{fill:none;stroke-width:1.5}.ring .callwords{font-size:12.5px;font-weight:600;text-anchor:middle}.ring .part,.ring .effect{font-size:11px;text-anchor:middle}`;
 
 function paints(it) {
   const families = ["s", "r", "x", "c"].map(name => `.ring .${name} text,.ring text.${name}{fill:${it[name]}}`
@@ -127,7 +127,7 @@ function paints(it) {
 ${families}
 .ring .write .digit{fill:${it.bg}}.ring .read.free path{fill:${it.may};fill-opacity:${it.shade}}
 .ring .underway{fill:${it.may};fill-opacity:${it.shade};stroke:${it.may}}.ring .becomes{fill:${it.mayInk}}
-.ring .call path,.ring .order,.ring .operation path{stroke:${it.dim}}.ring .operation circle{fill:${it.ink}}.ring .part{fill:${it.dim}}
+.ring .call path,.ring .order,.ring .operation path{stroke:${it.dim}}.ring .operation circle{fill:${it.ink}}.ring .part,.ring .effect{fill:${it.dim}}
 .ring .verdict.good,.ring tspan.good{fill:${it.good}}.ring .verdict.bad,.ring .title.bad,.ring tspan.bad{fill:${it.bad}}.ring tspan.dim{fill:${it.dim}}
 .ring .fault path,.ring .faultline{stroke:${it.bad}}.ring .fault .bit,.ring .read.fault .digit{fill:${it.bad}}
 .ring .flag{fill:${it.bad}}.ring .flagwords,.ring .line.bad{fill:${it.bg}}`;
@@ -300,7 +300,7 @@ export function picture({shape, events, whole = events, fault = null, wholeFault
         const tick = it.side === "P" ? -7 : 7, room = Math.min(it.x - (here[i - 1]?.x ?? -Infinity), (here[i + 1]?.x ?? Infinity) - it.x);
         const [text] = operationWords(it).filter(text => text.length * 6.6 + 3 <= room);
         out.push(`<g class="operation" data-of="${it.call.begin + 2}"><title>${escape(operationWords(it)[0])} takes effect</title><path d="M${it.x} ${top(row) + y + tick}v${-tick}"/><circle cx="${it.x}" cy="${top(row) + y}" r="3.5"/>`
-          + `${text ? `<text class="part" x="${it.x}" y="${top(row) + y + 15}">${escape(text)}</text>` : ""}</g>`);
+          + `${text ? `<text class="effect" x="${it.x}" y="${top(row) + y + 15}">${escape(text)}</text>` : ""}</g>`);
       });
     }
   };
