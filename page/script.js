@@ -8,7 +8,11 @@ const FIELDS = {capacity: isWhole, modulus: isWhole, width: isWhole, items: it =
 
 // A number with a sign, a fraction or an exponent is no whole number. (Engines that do not give the reviver the
 // number's text, Firefox before 135, take 1.0 for 1.)
-const numbered = (_, it, read) => typeof it === "number" && /\D/.test(read?.source ?? "") ? NaN : it;
+// One that is too large for any number, as 1e309, is no JSON to the reader of the command.
+function numbered(_, it, read) {
+  if (it === Infinity || it === -Infinity) throw new SyntaxError("a number is out of range");
+  return typeof it === "number" && /\D/.test(read?.source ?? "") ? NaN : it;
+}
 
 // The script that a text is: {script} or {refused}.
 export function readScript(text) {
