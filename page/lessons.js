@@ -1,5 +1,10 @@
 // The lesson beside the picture: the story of its example, a question, and the answer folded.
 
+// What a link has for a text of each kind: for an example, and for a text that is none.
+export const LINKS = {trace: {named: "example", given: "trace"}, script: {named: "script", given: "play"}, calls: {named: "calls", given: "recording"}};
+
+const KINDS_OF_FILES = {".trace": "trace", ".json": "script", ".calls": "calls"};
+
 const piece = (name, text, className = "") => Object.assign(document.createElement(name), {textContent: text, className});
 
 // A paragraph of a story: what stands in backticks is code, and a link where it is the name of a lesson.
@@ -7,10 +12,10 @@ function paragraph(text, lessons) {
   const it = piece("p", "");
   text.split("`").forEach((words, i) => {
     if (i % 2 === 0) return it.append(words);
-    const [, name, kind] = /^(\w+?)(\.trace|\.json)?$/.exec(words) ?? [];
-    const named = lessons.filter(it => it.name === name), lesson = named.find(it => kind === ".trace" ? it.mode === "trace" : it.mode === "script") ?? named[0];
+    const [, name, kind] = /^(\w+?)(\.trace|\.json|\.calls)?$/.exec(words) ?? [];
+    const named = lessons.filter(it => it.name === name), lesson = named.find(it => it.mode === (KINDS_OF_FILES[kind] ?? "script")) ?? named[0];
     if (!lesson) return it.append(piece("code", words));
-    it.append(Object.assign(piece("a", words), {href: `#${lesson.mode === "trace" ? "example" : "script"}=${lesson.name}`}));
+    it.append(Object.assign(piece("a", words), {href: `#${LINKS[lesson.mode].named}=${lesson.name}`}));
   });
   return it;
 }

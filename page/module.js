@@ -1,6 +1,8 @@
 // The calls of the proved module ring_page.wasm. A text or a script goes in as bytes; what the module tells comes out as
 // objects with names and words. Nothing is decided here. The words are those of docs/FORMATS.md.
 
+import { againstWords } from "./records.js";
+
 const EVENTS = 10000; // marks that there is room for: as many events as the module reads or plays
 const MARK = 9; // bytes of a mark
 const PAGE = 65536; // bytes by which memory grows
@@ -11,6 +13,8 @@ const FAMILIES = ["s", "r", "x", "c"];
 const KINDS = ["", "wrong side", "out of turn", "not permitted", "not of the program"];
 const WHYS = ["", "the bit is not of the shape, or this side may not do this to it"];
 const TOLD = 10 + 8 + 3 * 6; // numbers of what an audit tells: of the trace, of its programs, of three events that were due
+const CALLS_TOLD = 3 + 5 + 11; // numbers of what is told of recorded calls: the finding, what speaks against a line, the report
+const MOST_TAKEN = 65536; // items taken that the audit of recorded calls keeps
 const SHAPE_FAULTS = ["", "capacity must be from 1 to 64", "modulus must be from capacity + batch + 1 to 256",
   "width must be from 1 to 64", "batch must be from 1 to capacity"];
 
@@ -51,6 +55,20 @@ function programsOf([outcome, number, place, put, taken, told, mayClose, mayScan
   return {isRun: outcome === 0, kind: KINDS[number], place, put, taken, told: told === 1, mayClose: mayClose === 1, mayScan: mayScan === 1, due};
 }
 
+// How many spaces there are in a text, in one line at most, and how many bytes behind its last line feed: of numbers in recorded calls there are no more.
+function spacesIn(bytes) {
+  let all = 0, most = 0, here = 0;
+  for (const byte of bytes) {
+    if (byte === 32) here++;
+    if (byte === 10) {
+      all += here;
+      most = Math.max(most, here);
+      here = 0;
+    }
+  }
+  return [all + here, Math.max(most, here), bytes.length - 1 - bytes.lastIndexOf(10)];
+}
+
 // The text of a trace, as docs/FORMATS.md has it.
 export function traceOf({capacity, modulus, width, batch}, events) {
   const shape = ["shape", capacity, modulus, width, ...(batch > 1 ? [batch] : [])].join(" ");
@@ -58,7 +76,7 @@ export function traceOf({capacity, modulus, width, batch}, events) {
   return [shape, ...lines, ""].join("\n");
 }
 
-// Compiles the module. The answer has `audit`, `moments`, `order` and `play`.
+// Compiles the module. The answer has `audit`, `moments`, `play`, `calls` and `order`.
 export async function openModule(bytes) {
   const compiled = await WebAssembly.compile(bytes);
   let exports = (await WebAssembly.instantiate(compiled)).exports;
@@ -160,10 +178,27 @@ export async function openModule(bytes) {
     return {shape: {capacity, modulus, width, batch}, events: getEvents(marks, Math.min(count, room)), report, letters: all};
   };
 
-  // How many of the first marks of a history of calls can come one after the other, at a queue that holds so many at most.
-  const order = ({marks, items, numbers}, most) => {
+  // What is found of recorded calls: {refused, line}, or {words, cause, line, against, report}, where `line` is that at fault, or 0, and `against` has the
+  // numbers of what speaks against it.
+  const calls = text => {
+    const bytes = new TextEncoder().encode(text), [all, most, last] = spacesIn(bytes);
+    const [told, items, offered, taken, offers, numbers, rest, at] = lay([CALLS_TOLD * 8, all * 8, all * 24, Math.min(all, MOST_TAKEN) * 16, most * 8, most * 8, last, bytes.length]);
+    setBytes(at, bytes);
+    call("page_calls", at, bytes.length, items, all, offered, all, taken, Math.min(all, MOST_TAKEN), offers, most, numbers, most, rest, last, told);
+    const [outcome, number, line, causeNumber, item, next, count, opposite, ...counts] = new BigUint64Array(exports.memory.buffer, told, CALLS_TOLD);
+    if (outcome === 2n) return {refused: ["", `calls line ${line} is not a line of the format`, "calls are too many", "calls need more room than there is"][Number(number)], line: Number(line)};
+    const [made, stored, gone, full, empty, nothing, isTold, surely, perhaps, overlapped, open] = counts.map(String);
+    if (outcome === 0n) return {words: "lawful", line: 0, against: null, report: {calls: made, stored, taken: gone, full, empty, nothing, told: isTold === "1", surely, perhaps, overlapped, open}};
+    const against = number === 2n ? {number: Number(causeNumber), item: String(item), next: String(next), count: String(count), line: Number(opposite)} : null;
+    const cause = against ? againstWords(against) : "out of turn";
+    return {words: `fault: line ${line}: ${cause}`, cause, line: Number(line), against, report: null};
+  };
+
+  // How many of the first marks of a history of calls can come one after the other, at a queue that may say from `full` items on that it is full
+  // and holds `most`.
+  const order = ({marks, items, numbers}, {full, most}) => {
     const [holds, itemsAt, numbersAt, marksAt, count] = lay([3 * 8, items.length * 8, numbers.length * 8, marks.length * 24, 8]);
-    setNumbers(holds, most === Infinity ? [0, 0, 0] : [1, most, most]);
+    setNumbers(holds, most === Infinity ? [0, 0, 0] : [1, full, most]);
     setNumbers(itemsAt, items);
     setNumbers(numbersAt, numbers);
     setNumbers(marksAt, marks.flat());
@@ -171,5 +206,5 @@ export async function openModule(bytes) {
     return getNumbers(count, 1)[0];
   };
 
-  return {audit, moments, order, play};
+  return {audit, moments, order, play, calls};
 }

@@ -37,7 +37,7 @@ export function orderOf(calls, most) {
     const {side, kind, items, offered = items, wanted = 1, reply} = call, all = side === "P" ? offered.length : wanted;
     open[side] = {call, passed: 0};
     marks.push([BEGINS[kind], kind === "put" ? listed(offered) : 0, kind === "close" ? 0 : all]);
-    const lacked = reply === "full" || reply === "empty" ? 1 : reply === "short" ? all : items.length && items.length < all ? items.length + 1 : 0;
+    const lacked = reply === "full" || reply === "empty" ? 1 : reply === "short" ? all : reply && items.length && items.length < all ? items.length + 1 : 0;
     if (lacked) effect(side, at, side === "P" ? "no room" : "found fewer", 0, lacked);
   };
   const end = (call, at) => {
@@ -53,14 +53,21 @@ export function orderOf(calls, most) {
   return {marks, numbers, items, effects};
 }
 
-// Where the operations of the calls of a run take effect, at a ring of this shape, as the module says by its `order`; none where it does not.
-// A trace does not tell what a put offered that stored nothing; and a take under way may have taken what is next.
-export function effectsOf(calls, {capacity}, order) {
+// Where the operations of calls take effect, at a queue that may say from `full` items on that it is full and holds `most`, as the module says by
+// its `order`; none where it does not.
+export function effectsOf(calls, holds, order) {
+  const it = orderOf(calls, Number(holds.most));
+  return calls.length && order(it, holds) === it.marks.length ? it.effects : [];
+}
+
+// The same of the calls of a run of a ring of this shape. A trace does not tell what a put offered that stored nothing; and a take under way may
+// have taken what is next.
+export function effectsOfRun(calls, {capacity}, order) {
   const itemsOf = call => call.reply ? call.items : call.begun ?? [], of = side => calls.filter(it => it.side === side).flatMap(itemsOf);
   const [next] = of("P").slice(of("C").length);
-  const it = orderOf(calls.map(call => {
+  const told = calls.map(call => {
     const items = call.side === "C" && !call.reply && next !== undefined ? [next] : itemsOf(call);
     return {...call, items, offered: items.length ? items : [0]};
-  }), capacity);
-  return calls.length && order(it, capacity) === it.marks.length ? it.effects : [];
+  });
+  return effectsOf(told, {full: capacity, most: capacity}, order);
 }

@@ -17,10 +17,12 @@ PAGE = os.path.dirname(os.path.abspath(__file__))
 TOP = os.path.dirname(PAGE)
 EXAMPLES = os.path.join(TOP, "examples")
 SHIPPED = "lamport_ring.html"
-FIRST = ["new_old_inversion", "plain_path"]  # what the page begins with
+FIRST = ["new_old_inversion", "plain_path", "plain"]  # what the page begins with
 LEFT_OUT = {  # scripts of more events or letters than a picture is for; an item that JavaScript has no number for
     "a_million_idle_letters", "a_million_letters_full", "items_999", "largest_shape"}
-SCRIPTS = ["module.js", "calls.js", "orders.js", "verdicts.js", "picture.js", "script.js", "plays.js", "places.js", "lessons.js", "page.js"]
+SCRIPTS = ["records.js", "module.js", "calls.js", "orders.js", "verdicts.js", "style.js", "sheet.js", "picture.js", "bars.js", "script.js", "plays.js", "places.js",
+           "lessons.js", "views.js", "page.js"]
+MODES = {"trace": ".trace", "script": ".json", "calls": ".calls"}  # what a text may be, and the ends of the names of its files
 MADE_OF = re.compile(rb'<meta name="made-of" content="([^"]*)">')
 
 
@@ -60,18 +62,27 @@ def sources_sum():
 
 
 def stories():
-    """The paragraphs of examples/README.md on each script and trace, without its drawings: the picture stands there."""
-    found, names = {}, []
+    """What examples/README.md tells of each example, without its drawings, since the picture stands there: of (mode, name) the paragraphs."""
     with open(os.path.join(EXAMPLES, "README.md"), encoding="utf-8") as file:
         text = file.read()
-    text = text[text.index("\n## Scripts\n"):text.index("\n## Calls\n")]
+    at = text.index("\n## Calls\n")
+    runs, calls = paragraphs(text[text.index("\n## Scripts\n"):at]), paragraphs(text[at:])
+    # of lawful calls their line in the table tells what they are
+    for name, words in re.findall(r"^\| `(\w+)` \|.*\| lawful: (.*) \|$", text[at:], flags=re.M):
+        calls[name] = [words[0].upper() + words[1:] + ".", *calls.get(name, [])]
+    return {**{(mode, name): it for name, it in runs.items() for mode in ("trace", "script")}, **{("calls", name): it for name, it in calls.items()}}
+
+
+def paragraphs(text):
+    """The paragraphs on each name that stands at the head of one, in bold."""
+    found, names = {}, []
     for part in re.sub(r"^```.*?^```$", "", text, flags=re.M | re.S).split("\n\n"):
         part = " ".join(part.split())
         head = re.match(r"((?:\*\*\w+\*\*(?:, )?)+): ", part)
         if head:
             names = re.findall(r"\*\*(\w+)\*\*", head[1])
             part = part[head.end():]
-        elif part.startswith("#"):
+        elif part.startswith(("#", "|")):
             names = []
         for name in names if part else []:
             found.setdefault(name, []).append(part[0].upper() + part[1:] if head and not re.match("`|[a-z]\\d", part) else part)
@@ -85,8 +96,8 @@ def lessons():
         kind, _, words = line.strip().partition(" ")
         if kind == "#":
             chapter = words
-        elif kind in ("trace", "script"):
-            list_.append({"chapter": chapter, "mode": kind, "name": words, "story": told.get(words, []), "question": "", "answer": ""})
+        elif kind in MODES:
+            list_.append({"chapter": chapter, "mode": kind, "name": words, "story": told.get((kind, words), []), "question": "", "answer": ""})
         elif kind in ("?", "!"):
             list_[-1]["question" if kind == "?" else "answer"] = words
         else:
@@ -95,19 +106,20 @@ def lessons():
 
 
 def examples():
-    """The files of the examples, and the list of their names."""
-    files, names = {}, {"traces": [], "scripts": [], "lessons": lessons()}
-    for file in sorted(os.listdir(EXAMPLES)):
-        name, kind = os.path.splitext(file)
-        if kind not in (".trace", ".json") or kind == ".json" and name in LEFT_OUT:
-            continue
-        with open(os.path.join(EXAMPLES, file), "rb") as data:
-            files[f"examples/{file}"] = data.read()
-        mode = "trace" if kind == ".trace" else "script"
-        names[mode + "s"].append(name)
-        if not any((it["mode"], it["name"]) == (mode, name) for it in names["lessons"]):
-            names["lessons"].append({"chapter": "More", "mode": mode, "name": name, "story": stories().get(name, []), "question": "", "answer": ""})
-    for mode in ("traces", "scripts"):
+    """The files of the examples, and the list of their names; of recorded calls those that are lessons."""
+    told, files, names = stories(), {}, {**{mode: [] for mode in MODES}, "lessons": lessons()}
+    taught = [(it["mode"], it["name"]) for it in names["lessons"]]
+    for mode, end in MODES.items():
+        folder = os.path.join(EXAMPLES, "calls") if mode == "calls" else EXAMPLES
+        for file in sorted(os.listdir(folder)):
+            name = file.removesuffix(end)
+            if name == file or mode == "script" and name in LEFT_OUT or mode == "calls" and (mode, name) not in taught:
+                continue
+            with open(os.path.join(folder, file), "rb") as data:
+                files[os.path.relpath(os.path.join(folder, file), TOP)] = data.read()
+            names[mode].append(name)
+            if (mode, name) not in taught:
+                names["lessons"].append({"chapter": "More", "mode": mode, "name": name, "story": told.get((mode, name), []), "question": "", "answer": ""})
         names[mode].sort(key=lambda name: (name not in FIRST[:1], name not in FIRST, name))
     return {"examples.json": (json.dumps(names, indent=1) + "\n").encode(), **files}
 
@@ -118,7 +130,7 @@ def lay_out():
     if not made:
         sys.exit("page/pack.py: there is no module: run page/build")
     shutil.rmtree(os.path.join(PAGE, "examples"), ignore_errors=True)
-    os.mkdir(os.path.join(PAGE, "examples"))
+    os.makedirs(os.path.join(PAGE, "examples", "calls"))
     for name, data in {"ring_page.wasm": made[0], "ring_page.from": made[1].encode() + b"\n", **examples()}.items():
         with open(os.path.join(PAGE, name), "wb") as file:
             file.write(data)

@@ -1,18 +1,19 @@
 // The page: a text in the editor, the proved module's word on it, and its picture.
-import { MOST_CALLED, callsOf, callsUntil } from "./calls.js";
-import { lessonOptions, showLesson } from "./lessons.js";
+import { LINKS, lessonOptions, showLesson } from "./lessons.js";
 import { openModule, traceOf } from "./module.js";
-import { effectsOf } from "./orders.js";
-import { picture, styleWithin } from "./picture.js";
 import { excerpt, placeOf } from "./places.js";
-import { LISTED_LETTERS, MOST_MOMENTS, lettersOf, momentsOf } from "./plays.js";
-import { laidOut, readScript } from "./script.js";
-import { breakOf, dueOf, ringVerdict, whyOf } from "./verdicts.js";
+import { LISTED_LETTERS, MOST_MOMENTS } from "./plays.js";
+import { linesOf } from "./records.js";
+import { laidOut } from "./script.js";
+import { HEADING } from "./sheet.js";
+import { styleWithin } from "./style.js";
+import { viewsOf } from "./views.js";
 
-const HEADING = 34; // of a picture, its verdict
 const LONG = 1.2; // so much higher than the window a picture is scrolled, and not shrunk
 const MOST_LINKED = 200000; // characters of a text that a link has
-const MOST_BYTES = 4000000; // of a file that is opened
+const MOST_BYTES = 4000000, MOST_RECORDED = 64000000; // of a file that is opened; of one of recorded calls
+const MOST_EDITED = 400000; // characters of recorded calls that are edited here: of longer ones the editor shows some lines
+const SEEN_LINES = 400; // of these
 
 const $ = id => document.getElementById(id);
 const node = (name, text, className = "") => Object.assign(document.createElement(name), {textContent: text, className});
@@ -29,82 +30,25 @@ const textOf = async name => new TextDecoder().decode(await fileOf(name));
 
 // ---- what is shown -----------------------------------------------------------------------------------------------------
 
-let module; // the proved module's calls
-let examples; // the names of the shipped {traces, scripts}, and the lessons
+let examples; // the names of the shipped examples {trace, script, calls}, and the lessons
 const paper = new CSSStyleSheet(); // the style of pictures
 const isSmall = matchMedia("(max-width: 52rem)"); // as in page.css
 
 const page = {
-  mode: "trace", // or "script"
+  mode: "trace", // or "script", or "calls"
   example: "", // the name of the example, "" where the text is another
   shown: Infinity, // how many events, or letters of a script, are shown
   theme: "", // "light", "dark", or "" as the system is set
-  left: {trace: null, script: null}, // what was shown in a mode that was left: {text, example, shown}
+  left: {trace: null, script: null, calls: null}, // what was shown in a mode that was left: {text, example, shown}
+  long: null, // a text too long for the editor: {text, lines, first, at}, which has its lines from `first` on, from the character `at` on
   drawn: null, // what the picture was made of
   place: null, // where in the text stands what is refused
 };
 
+let views; // the three kinds of text, by mode
 let whole = {}; // what the module says of the whole text: {refused}, or of its events
 
-// The two kinds of text: `read` asks the module for the whole, `at` for as much as is shown, with what `draw` takes. One
-// numbering is of a kind: a trace has lines, of which the shape's is the first; a script has letters.
-const views = {
-  trace: {
-    read(text) {
-      const it = module.audit(text);
-      if (it.refused) return it;
-      const calls = callsIn(text, it.events, it.programs.isRun ? it.events.length : it.programs.place);
-      return {...it, calls, order: effectsOf(calls, it.shape, module.order)};
-    },
-    most: () => whole.events.length,
-    // A beginning of a trace is a trace of its own, and its verdict is asked for.
-    at(shown, text) {
-      let past = text.indexOf("\n");
-      for (let line = 0; line < shown; line++) past = text.indexOf("\n", past + 1);
-      const it = shown < whole.events.length ? module.audit(text.slice(0, past + 1)) : whole;
-      const broken = breakOf(it), line = Math.min(it.place ?? Infinity, broken ?? Infinity) + 2;
-      return {...it, words: `bits: ${it.words}`, why: whyOf(it), ring: ringVerdict(it.programs), due: dueOf(it), fault: it.place, broken,
-        mood: it.place === null ? "good" : "bad", line: line === Infinity ? 0 : line,
-        step: shown ? stepWords(it.events[shown - 1], `line ${shown + 1}`, it.place === null || shown - 1 < it.place) : ""};
-    },
-    place: shown => `line ${shown + 1} / ${whole.events.length + 1}`,
-  },
-  script: {
-    read(text) {
-      const {script, refused} = readScript(text);
-      if (refused) return {refused};
-      const none = module.play(script, 0);
-      if (none.refused) return none;
-      const all = module.play(script, none.letters);
-      if (all.refused) return all;
-      const calls = callsIn(traceOf(all.shape, all.events), all.events, all.events.length);
-      return {...all, script, numbers: lettersOf(script.schedule, all.events), calls, order: effectsOf(calls, all.shape, module.order),
-        moments: momentsOf(letters => module.play(script, letters, false).report, all)};
-    },
-    most: () => whole.letters,
-    at(shown) {
-      const it = shown < whole.letters ? module.play(whole.script, shown) : whole, last = it.events.length - 1;
-      const step = whole.numbers[last] === shown ? stepWords(it.events[last], `letter ${shown}`, true) : shown ? `letter ${shown}: no event, its side is done` : "";
-      return {...it, fault: null, mood: "", line: 0, words: `played ${shown} of ${whole.letters} letters`,
-        counted: "letter", numbers: whole.numbers, total: whole.letters, step};
-    },
-    place: shown => `letter ${shown} / ${whole.letters}`,
-  },
-};
-
-// The calls of the first events of a trace, which are of the programs.
-function callsIn(text, events, count) {
-  return events.length > MOST_CALLED || count === 0 ? [] : callsOf(events, module.moments(text, count));
-}
-
-// What an event is, and what the module tells of the moment just after it, where it tells of it.
-function stepWords({side, act, bit, value, held, overlapped, clashes}, where, isTold) {
-  const words = `${where}: ${side} ${act} ${bit}${value === undefined ? "" : ` ${value}`}`;
-  if (!isTold) return words;
-  if (act === "got") return words + (overlapped ? ", and a write overlaps the read: any answer is permitted" : `, no write overlaps the read: ${bit} holds ${held}`);
-  if (clashes) return `${words}, while a ${act === "read" ? "write" : "read"} of ${bit} is open`;
-  return act === "wrote" ? `${words}, ${bit} holds ${held}` : words;
-}
+const textNow = () => page.long?.text ?? $("text").value;
 
 // ---- showing it --------------------------------------------------------------------------------------------------------
 
@@ -120,21 +64,20 @@ function orStopped(call) {
 
 // Reads the text and shows it.
 function read() {
-  whole = orStopped(() => views[page.mode].read($("text").value));
+  whole = orStopped(() => views[page.mode].read(textNow()));
   show();
 }
 
 // Shows as much as is asked for; `isStep` where it is another part of the same text.
 function show(isStep = false) {
-  const view = views[page.mode], text = $("text").value;
-  const most = whole.refused ? 0 : view.most(), shown = Math.min(page.shown, most);
-  const it = whole.refused ? whole : orStopped(() => view.at(shown, text));
-  page.drawn = it.refused ? null : {...it, whole: whole.events, wholeFault: whole.place ?? null, wholeBroken: breakOf(whole), waves: $("waves").value,
-    calls: callsUntil(whole.calls, it.events.length), hasCalls: whole.calls.length > 0, order: whole.order};
+  const view = views[page.mode], text = textNow();
+  const most = whole.refused ? 0 : view.most(whole), shown = Math.min(page.shown, most);
+  const it = whole.refused ? whole : orStopped(() => view.at(whole, shown));
+  page.drawn = it.refused ? null : view.drawing(whole, it, $("waves").value, shown);
   page.place = it.refused ? placeOf(page.mode, text, it) : null;
   $("shown").max = most;
   $("shown").value = shown;
-  $("place").textContent = it.refused ? "" : view.place(shown);
+  $("place").textContent = it.refused ? "" : view.place(whole, shown);
   $("shown").setAttribute("aria-valuetext", $("place").textContent);
   $("bits").textContent = it.refused ? `refused: ${it.refused}` : it.words;
   $("bits").className = it.refused ? "refused" : it.mood;
@@ -149,8 +92,10 @@ function show(isStep = false) {
   showLesson(examples.lessons, examples.lessons.findIndex(it => it.mode === page.mode && it.name === page.example));
   draw();
   if (document.body.classList.contains("long") && !isSmall.matches || isStep) center([...$("picture").querySelectorAll(".flag, .line")].at(-1));
-  if (page.mode === "trace") number(text, it.line, it.refused ? Infinity : shown + 1);
-  else report(it, shown);
+  const line = it.refused ? Infinity : shown + 1;
+  if (page.long) showLines(it.line && !isStep ? it.line : line);
+  if (page.mode !== "script") number(text, it.line, line);
+  report(it.refused ? [] : view.rows(it), it.refused ? [] : whole.moments ?? [], shown);
   link(shown, most);
 }
 
@@ -176,7 +121,7 @@ function draw() {
   if (page.drawn === null) return frame.replaceChildren();
   const room = document.querySelector("main");
   const aspect = isSmall.matches ? 0.9 : (room.clientHeight - 20) / (room.clientWidth - 20);
-  const text = picture({...page.drawn, ring: null, why: "", due: "", aspect}); // the verdicts and their reasons stand above the picture
+  const text = page.drawn.draw({...page.drawn, ring: null, why: "", due: "", aspect}); // the verdicts and their reasons stand above the picture
   const drawing = new DOMParser().parseFromString(text, "image/svg+xml").documentElement;
   const {width, height} = drawing.viewBox.baseVal;
   drawing.setAttribute("viewBox", `0 ${HEADING} ${width} ${height - HEADING}`);
@@ -191,7 +136,7 @@ function reach(bar, isFocused) {
   $("picture").firstElementChild.setAttribute("role", "group");
   for (const it of bars) {
     it.setAttribute("tabindex", it === one ? 0 : -1);
-    it.setAttribute("role", page.mode === "trace" ? "button" : "img");
+    it.setAttribute("role", page.mode === "script" ? "img" : "button");
     it.setAttribute("aria-label", it.querySelector("title").textContent);
   }
   if (isFocused) one?.focus({preventScroll: true});
@@ -203,34 +148,42 @@ function center(part) {
   if (it) box.scrollBy({top: it.top + it.height / 2 - room.top - room.height / 2, left: it.left + it.width / 2 - room.left - room.width / 2});
 }
 
+// Of a text that is too long for the editor: those of its lines that are round this one.
+function showLines(line) {
+  const {text, lines: {starts, count}} = page.long, first = Math.max(1, Math.min(line - SEEN_LINES / 2, count - SEEN_LINES + 1)), last = Math.min(count, first + SEEN_LINES - 1);
+  Object.assign(page.long, {first, last, at: starts[first]});
+  $("text").value = text.slice(starts[first], starts[last + 1]);
+  $("note").textContent = `lines ${first} to ${last} of ${count}: too long to be edited here, and for a link`;
+}
+
 // The numbers of the lines: the bad one marked, those that are not shown yet pale, by a veil over them.
 let inGutter = ""; // what the numbers were written for
 function number(text, bad, shown) {
-  let lines = text === "" || text.endsWith("\n") ? 0 : 1;
-  for (let at = text.indexOf("\n"); at >= 0; at = text.indexOf("\n", at + 1)) lines++;
-  lines = Math.max(lines, 1);
-  $("veil").style.marginTop = `calc(.7rem + ${Math.min(shown, lines) * 1.5}em)`;
-  if (inGutter === `${lines} ${bad}`) return;
-  inGutter = `${lines} ${bad}`;
+  let first = page.long?.first ?? 1, last = page.long?.last ?? 0;
+  if (!page.long) {
+    last = text === "" || text.endsWith("\n") ? 0 : 1;
+    for (let at = text.indexOf("\n"); at >= 0; at = text.indexOf("\n", at + 1)) last++;
+    last = Math.max(last, 1);
+  }
+  $("veil").style.marginTop = `calc(.7rem + ${Math.max(0, Math.min(shown, last) - first + 1) * 1.5}em)`;
+  if (inGutter === `${first} ${last} ${bad}`) return;
+  inGutter = `${first} ${last} ${bad}`;
   const run = (from, to) => Array.from({length: Math.max(0, to - from + 1)}, (_, i) => from + i + "\n").join("");
-  const marked = bad && bad <= lines;
-  $("numbers").replaceChildren(run(1, marked ? bad - 1 : lines), ...(marked ? [node("b", bad), "\n", run(bad + 1, lines)] : []));
-  $("text").style.height = `${lines * 1.5 + 3}em`;
+  const marked = bad && first <= bad && bad <= last;
+  $("numbers").replaceChildren(run(first, marked ? bad - 1 : last), ...(marked ? [node("b", bad), "\n", run(bad + 1, last)] : []));
+  $("text").style.height = `${(last - first + 1) * 1.5 + 3}em`;
 }
 
-function report(it, shown) {
-  const rows = it.refused ? [] : [["put", it.report.put.join(" "), "the items of puts whose count write has begun"],
-    ["taken", it.report.taken.join(" "), "the items of takes that have ended"],
-    ["told", it.report.told ? "yes" : "no", "whether a take was told that the ring is closed"],
-    ["full", it.report.full, "puts that found the ring full"], ["empty", it.report.empty, "takes that found the ring empty"],
-    ["events", it.report.events, "of the history"], ["flicker", it.report.flicker, "reads that ended and that a write overlapped"]];
+// A report and, of a script, its replies.
+function report(rows, moments, shown) {
+  $("report").hidden = page.mode === "trace" || rows.length === 0 && page.mode === "calls";
   $("summary").replaceChildren(...rows.map(([name, value, title]) => {
     const row = Object.assign(node("div", ""), {title});
     row.append(node("dt", name), node("dd", value));
     return row;
   }));
-  const moments = it.refused ? [] : whole.moments.slice(0, MOST_MOMENTS), last = moments.findLast(it => it.letter <= shown);
-  $("moments").replaceChildren(...moments.map(moment => {
+  const listed = moments.slice(0, MOST_MOMENTS), last = listed.findLast(it => it.letter <= shown);
+  $("moments").replaceChildren(...listed.map(moment => {
     const item = node("li", ""), button = node("button", "", moment.letter > shown ? "later" : "");
     button.type = "button";
     if (moment === last) button.setAttribute("aria-current", "step");
@@ -241,21 +194,21 @@ function report(it, shown) {
   }));
   const current = $("moments").querySelector("[aria-current]");
   $("moments").scrollTop = current ? current.offsetTop - $("moments").clientHeight / 2 : 0;
-  if (!it.refused && whole.moments.length > MOST_MOMENTS) $("moments").append(node("li", `and more: the first ${MOST_MOMENTS} are listed`));
-  if (!it.refused && whole.letters > LISTED_LETTERS) $("moments").append(node("li", `not listed for more than ${LISTED_LETTERS} letters`));
-  $("astrace").disabled = Boolean(it.refused);
+  if (moments.length > MOST_MOMENTS) $("moments").append(node("li", `and more: the first ${MOST_MOMENTS} are listed`));
+  if (whole.letters > LISTED_LETTERS) $("moments").append(node("li", `not listed for more than ${LISTED_LETTERS} letters`));
+  $("astrace").disabled = page.drawn === null;
 }
 
 function stepTo(shown) {
   page.shown = Math.max(0, Math.min(shown, Number($("shown").max)));
   show(true);
-  if (page.mode === "trace") reveal(page.shown + 1);
+  if (page.mode !== "script") reveal(page.shown + 1);
 }
 const step = by => stepTo(Number($("shown").value) + by);
 
 // Scrolls the editor to a line.
 function reveal(line) {
-  const tall = parseFloat(getComputedStyle($("text")).lineHeight), at = (line - 1) * tall, box = $("editor");
+  const tall = parseFloat(getComputedStyle($("text")).lineHeight), at = (line - (page.long?.first ?? 1)) * tall, box = $("editor");
   if (at < box.scrollTop) box.scrollTop = at - tall;
   else if (at + 3 * tall > box.scrollTop + box.clientHeight) box.scrollTop = at + 3 * tall - box.clientHeight;
 }
@@ -263,16 +216,19 @@ function reveal(line) {
 // ---- texts, examples, links --------------------------------------------------------------------------------------------
 
 function setMode(mode) {
-  if (mode !== page.mode) page.left[page.mode] = {text: $("text").value, example: page.example, shown: page.shown};
+  if (mode !== page.mode) page.left[page.mode] = {text: textNow(), example: page.example, shown: page.shown};
   page.mode = mode;
-  document.body.classList.toggle("script", mode === "script");
+  for (const name in LINKS) document.body.classList.toggle(name, mode === name);
   document.querySelector(`input[name=mode][value=${mode}]`).checked = true;
-  $("text").setAttribute("aria-label", mode);
-  $("report").hidden = mode !== "script";
+  $("text").setAttribute("aria-label", mode === "calls" ? "recorded calls" : mode);
   if (mode === "script") $("text").style.height = inGutter = "";
 }
 
-// Puts a text into the editor, that of an example or another's; `isNew` where the browser's Back is to bring back what was there.
+// What kind of text it is: a script begins with a brace, and recorded calls with the line of their queue.
+const kindOf = text => /^\s*\{/.test(text) ? "script" : /^queue[ \n]/.test(text) ? "calls" : "trace";
+
+// Puts a text into the editor, that of an example or another's; `isNew` where the browser's Back is to bring back what was there. Of recorded
+// calls that are too long for it the editor shows some lines.
 function setText(mode, {text, example = "", shown = Infinity}, isNew = false) {
   if (isNew) leave();
   $("note").textContent = "";
@@ -280,25 +236,28 @@ function setText(mode, {text, example = "", shown = Infinity}, isNew = false) {
   page.example = example;
   page.shown = shown;
   $("example").value = example ? `${mode} ${example}` : "";
-  $("text").value = text;
+  page.long = mode === "calls" && text.length > MOST_EDITED ? {text, lines: linesOf(text), first: 1, last: 1, at: 0} : null;
+  $("text").readOnly = page.long !== null;
+  $("text").value = page.long ? "" : text;
   $("editor").scrollTop = 0;
   read();
-  if (mode === "trace") reveal(Number($("numbers").querySelector("b")?.textContent ?? (shown < Infinity ? shown + 1 : 1)));
+  if (mode !== "script") reveal(Number($("numbers").querySelector("b")?.textContent ?? (shown < Infinity ? shown + 1 : page.long?.last ?? 1)));
 }
 
 let asked = 0; // so that of several examples that are asked for at once the last is shown
 async function load(mode, example, shown = Infinity, isNew = false) {
-  const mine = ++asked, text = await textOf(`examples/${example}.${mode === "trace" ? "trace" : "json"}`);
+  const mine = ++asked, text = await textOf({trace: `examples/${example}.trace`, script: `examples/${example}.json`, calls: `examples/calls/${example}.calls`}[mode]);
   if (mine === asked) setText(mode, {text: mode === "script" ? laidOut(text) : text, example, shown}, isNew);
 }
 
-// Opens a file: a script begins with a brace. (An editor of the browser has no carriage returns.)
+// Opens a file. (An editor of the browser has no carriage returns.)
 async function openFile(file) {
-  if (file.size > MOST_BYTES) return $("note").textContent = `${file.name} has ${file.size} bytes; this page opens files of at most ${MOST_BYTES}`;
+  const isCalls = file.size <= MOST_RECORDED && kindOf(await file.slice(0, 100).text()) === "calls", most = isCalls ? MOST_RECORDED : MOST_BYTES;
+  if (file.size > most) return $("note").textContent = `${file.name} has ${file.size} bytes; this page opens files of at most ${MOST_BYTES}, of recorded calls ${MOST_RECORDED}`;
   ++asked;
   const given = new TextDecoder("utf-8", {ignoreBOM: true}).decode(await file.arrayBuffer()), text = given.replace(/\r\n?/g, "\n");
-  setText(/^\s*\{/.test(text) ? "script" : "trace", {text}, true);
-  $("note").textContent = `${file.name}${given === text ? "" : ", without its carriage returns"}`;
+  setText(kindOf(text), {text}, true);
+  $("note").textContent = [`${file.name}${given === text ? "" : ", without its carriage returns"}`, page.long ? $("note").textContent : ""].filter(Boolean).join("; ");
 }
 
 function setTheme(theme) {
@@ -307,14 +266,14 @@ function setTheme(theme) {
   paper.replaceSync(styleWithin(theme));
 }
 
-// The link to this moment: #example=NAME&shown=N&theme=dark&bits=all, with script=NAME for a script; trace=TEXT and play=TEXT have
-// a text that is no example's. It is written a little later, since browsers refuse a page that writes too many.
+// The link to this moment: #example=NAME&shown=N&theme=dark&bits=all, with script=NAME for a script and calls=NAME for recorded calls; trace=TEXT,
+// play=TEXT and recording=TEXT have a text that is no example's. It is written a little later, since browsers refuse a page that writes too many.
 let linking, linked = null, isLeft = false;
 function linkTo(shown, most) {
-  const parts = new URLSearchParams(), text = $("text").value, isLong = text.length > MOST_LINKED;
-  if (page.example) parts.set(page.mode === "trace" ? "example" : "script", page.example);
-  else if (!isLong) parts.set(page.mode === "trace" ? "trace" : "play", text);
-  if (!page.example && isLong) $("note").textContent = "This text is too long for a link: keep it in a file.";
+  const parts = new URLSearchParams(), text = textNow(), isLong = text.length > MOST_LINKED, {named, given} = LINKS[page.mode];
+  if (page.example) parts.set(named, page.example);
+  else if (!isLong) parts.set(given, text);
+  else if (!page.long) $("note").textContent = "This text is too long for a link: keep it in a file.";
   if (!isLong && shown < most) parts.set("shown", shown);
   if (page.theme) parts.set("theme", page.theme);
   if ($("waves").value !== "some") parts.set("bits", $("waves").value);
@@ -345,34 +304,36 @@ function leave() {
 async function follow() {
   clearTimeout(linking);
   linked = null;
-  const parts = new URLSearchParams(location.hash.slice(1)), {traces, scripts} = examples;
-  const [theme, bits, given, trace, play] = ["theme", "bits", "shown", "trace", "play"].map(name => parts.get(name));
+  const parts = new URLSearchParams(location.hash.slice(1)), [theme, bits, number] = ["theme", "bits", "shown"].map(name => parts.get(name));
   setTheme(["light", "dark"].includes(theme) ? theme : "");
   $("waves").value = ["some", "all", "none"].includes(bits) ? bits : "some";
-  const shown = /^\d+$/.test(given ?? "") ? Number(given) : Infinity;
-  if (scripts.includes(parts.get("script"))) return load("script", parts.get("script"), shown);
-  if (traces.includes(parts.get("example"))) return load("trace", parts.get("example"), shown);
+  const shown = /^\d+$/.test(number ?? "") ? Number(number) : Infinity;
+  const modes = Object.keys(LINKS), byName = modes.find(mode => examples[mode].includes(parts.get(LINKS[mode].named)));
+  if (byName) return load(byName, parts.get(LINKS[byName].named), shown);
   ++asked;
-  if (trace !== null) setText("trace", {text: trace, shown});
-  else if (play !== null) setText("script", {text: play, shown});
-  else await load("trace", traces[0], shown);
+  const byText = modes.find(mode => parts.has(LINKS[mode].given));
+  if (byText) setText(byText, {text: parts.get(LINKS[byText].given), shown});
+  else await load("trace", examples.trace[0], shown);
 }
 
 // ---- what the reader does ----------------------------------------------------------------------------------------------
 
-// Selects a stretch of the text in the editor.
+// Selects a stretch of the text, in the editor.
 function select({from, to}) {
+  const at = page.long?.at ?? 0;
   $("text").focus({preventScroll: true});
-  $("text").setSelectionRange(from, to);
-  if (page.mode === "trace") reveal($("text").value.slice(0, from).split("\n").length);
+  $("text").setSelectionRange(from - at, to - at);
+  if (page.mode !== "script") reveal($("text").value.slice(0, from - at).split("\n").length + (page.long?.first ?? 1) - 1);
 }
 
 // Selects the line of a bar.
 function selectLine(bar) {
-  if (!bar || page.mode !== "trace") return;
-  const line = Number(bar.dataset.line), lines = $("text").value.split("\n");
-  const from = lines.slice(0, line - 1).join("\n").length + 1;
-  select({from, to: from + lines[line - 1].length});
+  if (!bar || page.mode === "script") return;
+  const line = Number(bar.dataset.line), text = textNow();
+  if (page.long) showLines(line);
+  let from = page.long?.at ?? 0;
+  for (let at = page.long?.first ?? 1; at < line; at++) from = text.indexOf("\n", from) + 1;
+  select({from, to: text.indexOf("\n", from)});
 }
 
 // The lesson before or behind that which is shown.
@@ -389,7 +350,7 @@ function listen() {
   for (const radio of document.querySelectorAll("input[name=mode]")) radio.onchange = () => {
     const left = page.left[radio.value];
     if (left) setText(radio.value, left, true);
-    else load(radio.value, examples[`${radio.value}s`][0], Infinity, true);
+    else load(radio.value, examples[radio.value][0], Infinity, true);
   };
   $("text").oninput = () => {
     if (page.example) leave();
@@ -398,6 +359,12 @@ function listen() {
     $("note").textContent = "";
     page.shown = Infinity;
     read();
+  };
+  $("text").onpaste = event => {
+    const text = event.clipboardData.getData("text/plain").replace(/\r\n?/g, "\n");
+    if (page.mode !== "calls" || text.length <= MOST_EDITED) return;
+    event.preventDefault();
+    setText("calls", {text}, true);
   };
   $("open").onclick = () => $("file").click();
   $("file").onchange = () => {
@@ -426,7 +393,7 @@ function listen() {
   };
   // The picture as a file of its own, for a slide.
   $("save").onclick = () => {
-    const file = new Blob([picture({...page.drawn, theme: page.theme})], {type: "image/svg+xml"});
+    const file = new Blob([page.drawn.draw({...page.drawn, theme: page.theme})], {type: "image/svg+xml"});
     const anchor = Object.assign(document.createElement("a"), {href: URL.createObjectURL(file), download: `${page.example || page.mode}.svg`});
     anchor.click();
     setTimeout(() => URL.revokeObjectURL(anchor.href), 1000);
@@ -460,7 +427,7 @@ async function start() {
   document.adoptedStyleSheets = [paper];
   try {
     examples = JSON.parse(await textOf("examples.json"));
-    module = await openModule(await fileOf("ring_page.wasm"));
+    views = viewsOf(await openModule(await fileOf("ring_page.wasm")));
   } catch (error) {
     $("bits").className = "refused";
     const needs = error instanceof WebAssembly.CompileError ? " It needs 64-bit memory of WebAssembly: Chromium from 133, Firefox from 134." : "";

@@ -7,6 +7,7 @@ import urllib.parse
 import pack
 
 SIZES = [(390, 844, 1), (683, 384, 2), (1366, 768, 1), (1920, 1080, 1)]  # the second is 1366 at 200 %
+NAMED = {"trace": "example", "script": "script", "calls": "calls"}  # what a link has for the name of an example
 BLOCK = "P write s0 0\nC read s0\nC got s0 1\nP wrote s0\n"
 
 
@@ -104,22 +105,27 @@ def test_refusals(page, same, _):
     page.browser.until("a script", "return document.body.classList.contains('script')")
     page.write(page.browser.run("return document.querySelector('#scriptformat pre').textContent"))
     same("the sample of a script", page.title(), "played 18 of 18 letters")
+    page.browser.run("document.querySelector('input[value=calls]').click()")
+    page.browser.until("calls", "return document.body.classList.contains('calls')")
+    lines = page.browser.run("return [...document.querySelectorAll('#callsformat dt')].map(it => it.textContent)")
+    page.write("\n".join(lines[:2] + lines[3:4] + lines[2:3] + lines[4:]) + "\n")
+    same("the sample of calls", page.title(), "calls: lawful")
 
 
 def test_lessons(page, same, _):
     told, lessons = pack.stories(), pack.lessons()
     names = json.loads(pack.examples()["examples.json"])
     same("each example has one lesson", sorted((it["mode"], it["name"]) for it in lessons),
-         sorted([("trace", it) for it in names["traces"]] + [("script", it) for it in names["scripts"]]))
+         sorted((mode, it) for mode in pack.MODES for it in names[mode]))
     page.open("")
     for at, it in enumerate(lessons):
         page.browser.until(f"lesson {at + 1}", "return document.getElementById('example').value === arguments[0]", f"{it['mode']} {it['name']}")
         same(f"lesson {at + 1}", words(page, "which"), f"{at + 1} of {len(lessons)} · {it['chapter']}")
         same(f"story of {it['name']}", page.browser.run("return [...document.querySelectorAll('#story p')].map(it => it.textContent)"),
-             [text.replace("`", "") for text in told[it["name"]]])
+             [text.replace("`", "") for text in told[it["mode"], it["name"]]])
         same(f"question of {it['name']}", [words(page, "question"), words(page, "answer"), page.browser.run("return document.getElementById('answer').checkVisibility()")],
              [it["question"].replace("`", ""), it["answer"].replace("`", ""), False])
-        same(f"{it['name']} has all three", all([it["question"], it["answer"], told[it["name"]]]), True)
+        same(f"{it['name']} has all three", all([it["question"], it["answer"], told[it["mode"], it["name"]]]), True)
         if at == 0:
             page.click("question")
             same("the answer unfolds", page.browser.run("return document.getElementById('answer').checkVisibility()"), True)
@@ -218,7 +224,7 @@ def calls_of(page):
 
 
 # The words over braces, parts, bars and flags that lie on one another, or out of the picture.
-COLLISIONS = """const texts = [...document.querySelectorAll("#picture .callwords, #picture .part, #picture .bit, #picture .flagwords, #picture .legend")].map(it => [it.textContent, it.getBoundingClientRect()]);
+COLLISIONS = """const texts = [...document.querySelectorAll("#picture .callwords, #picture .part, #picture .bit, #picture .flagwords, #picture .legend, #picture .asks, #picture .says, #picture .effect")].map(it => [it.textContent, it.getBoundingClientRect()]);
 const room = document.querySelector("#picture svg").getBoundingClientRect(), found = texts.filter(([, it]) => it.left < room.left - 1 || it.right > room.right + 1).map(([text]) => text);
 texts.forEach(([text, a], i) => texts.slice(0, i).forEach(([other, b]) => {
   if (a.left < b.right - 1 && b.left < a.right - 1 && a.top < b.bottom - 3 && b.top < a.bottom - 3) found.push(`${text} on ${other}`);
@@ -233,7 +239,7 @@ def test_collisions(page, same, _):
         resize(page, wide, high, scale)
         for it in lessons if wide == 1366 else lessons[::4]:
             for theme in ("light", "dark") if it is lessons[0] or it["name"] == "stale_item" else ("light",):
-                page.open(f"{'example' if it['mode'] == 'trace' else 'script'}={it['name']}&theme={theme}")
+                page.open(f"{NAMED[it['mode']]}={it['name']}&theme={theme}")
                 same(f"words on words, {wide} {theme} {it['mode']} {it['name']}", page.browser.run(COLLISIONS), [])
     for wide, high, scale in SIZES:
         resize(page, wide, high, scale)

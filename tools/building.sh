@@ -45,19 +45,24 @@ has_room() {
     return 1
 }
 
-# how_far LOG COUNT: how far a build of so many crates is, by what rt has said so far; lines with `beside: ` in front are of a
-# second run.
+# how_far LOG COUNT: how far a build of so many crates is, by what rt has said so far; lines with `@CRATE ` in front are of a run of
+# that crate's own.
 how_far() {
     awk -v count="$2" '
-        { run = sub(/^beside: /, "") }
-        /^rt: chose --jobs/ { crate[run] = $NF; at++; now[run] = " 0" }
+        { run = ""; if (sub(/^@/, "")) { run = $1; sub(/^[^ ]* /, "") } }
+        /^rt: chose --jobs/ { if (!(run in crate)) order[++runs] = run; crate[run] = $NF; now[run] = ""; proved[run] = 0; at++ }
         /^so far: / { now[run] = " " $3 "/" $5 }
-        /^logic=proved/ { now[run] = ", proved" }
+        /^logic=proved/ || /^built$/ { proved[run] = 1 }
         END {
+            for (i = 1; i <= runs; i++) {
+                run = order[i]
+                if (proved[run]) last = crate[run]
+                else work = work (work ? ", " : "") crate[run] now[run]
+            }
             if (!at) print "reading the sources"
-            else if (at == count && now[0] == ", proved") print "[" at " of " count "] " crate[0] " proved; compiling and linking"
-            else if (now[1] != "" && now[1] != ", proved") print "[" at " of " count "] " crate[0] now[0] "; beside it " crate[1] now[1]
-            else print "[" at " of " count "] " crate[0] now[0]
+            else if (work) print "[" at " of " count "] " work
+            else if (at == count) print "[" at " of " count "] " last " proved; compiling and linking"
+            else print "[" at " of " count "] " last ", proved"
         }' "$1"
 }
 

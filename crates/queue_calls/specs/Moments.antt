@@ -1,5 +1,5 @@
 -- What is kept of a history whose operations take effect at moments that are told: a point of it.
-use Rattle.std.specs.Prelude.{◌≡◌, List, ◌∷◌, Bool, true, false, Some, slice_get}
+use Rattle.std.specs.Prelude.{◌≡◌, List, Bool, true, false, Some, slice_get}
 use Rattle.queue_calls.specs.Queue.{queue, Enqueue, FindNoRoom, FindShut, Close, Dequeue, FindFewer, FindClosed}
 use Rattle.queue_calls.specs.Calls.{Mark, Happens, Effect, Point, point, Leads, LeadTo}
 use Rattle.queue_calls.specs.Told.{meant}

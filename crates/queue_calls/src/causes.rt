@@ -1,4 +1,7 @@
 //! What speaks against a line of a recording.
+ghost use Rattle.std.specs.Prelude.{◌++◌, codes, decimal};
+ghost use Rattle.std.specs.Fmt.{WritesOnOk};
+
 use std::fmt;
 
 /// What speaks against a line of a recording with which the history is not linearizable.
@@ -76,6 +79,13 @@ pub enum Cause {
     },
 }
 
+// The words of a call that says so while an item was inside, put by the call that this line ended.
+fn since<W: fmt::Write>(f: &mut fmt::Formatter<W>, says: &str, item: u64, line: u64) -> fmt::Result
+    ensures writes { WritesOnOk W.write_str_gives f.old result (says.now ++ (codes ", but item " ++ (decimal item ++ (codes " was inside since line " ++ decimal line)))) f.new }
+{
+    write!(f, "{says}, but item {item} was inside since line {line}")
+}
+
 impl fmt::Display for Cause {
     ghost use Rattle.std.specs.Prelude.{Some};
     ghost use Rattle.queue_calls.specs.Causes.{cause_words};
@@ -109,28 +119,16 @@ impl fmt::Display for Cause {
                 "item {item} comes again, it was taken at line {taken_at}"
             ),
             Cause::NotPut(n) => write!(f, "item {n} was not put"),
-            Cause::NoMoreWhileInside { item, stored_at } => write!(
-                f,
-                "no more, but item {item} was inside since line {stored_at}"
-            ),
+            Cause::NoMoreWhileInside { item, stored_at } => since(f, "no more", item, stored_at),
             Cause::NotTaken(n) => write!(f, "not taken, but {n} items are inside"),
             Cause::EmptyAfterTold => f.write_str("empty, but closed was told"),
-            Cause::EmptyWhileInside { item, stored_at } => write!(
-                f,
-                "empty, but item {item} was inside since line {stored_at}"
-            ),
+            Cause::EmptyWhileInside { item, stored_at } => since(f, "empty", item, stored_at),
             Cause::EmptyAfterClose(n) => write!(f, "empty, but closed at line {n}"),
             Cause::ShortAfterTold => f.write_str("short, but closed was told"),
-            Cause::ShortWhileInside { item, stored_at } => write!(
-                f,
-                "short, but item {item} was inside since line {stored_at}"
-            ),
+            Cause::ShortWhileInside { item, stored_at } => since(f, "short", item, stored_at),
             Cause::ShortAfterClose(n) => write!(f, "short, but closed at line {n}"),
             Cause::ClosedBeforeClose => f.write_str("closed, but no close has begun"),
-            Cause::ClosedWhileInside { item, stored_at } => write!(
-                f,
-                "closed, but item {item} was inside since line {stored_at}"
-            ),
+            Cause::ClosedWhileInside { item, stored_at } => since(f, "closed", item, stored_at),
         }
     }
 }

@@ -134,24 +134,32 @@ impl<S: Storage> Notes<S> {
         report
     }
 
-    /// Notes an event, of this line, with which the history is linearizable.
-    pub fn note(&mut self, line: u64, event: Event<'_>) -> Result<(), AllocError> {
+    // Counts how a call ends. A put that is under way still offers its items.
+    fn count_end(&mut self, event: Event<'_>) {
+        let report = &mut self.report;
         match event {
-            Event::PutBegins(items) => self.put_begins(line, items)?,
             Event::PutStored(count) => {
                 if count < self.offers.as_slice().len() {
-                    self.report.full = self.report.full.saturating_add(1);
+                    report.full = report.full.saturating_add(1);
                 }
-                self.put_ends(line, count);
             }
-            Event::PutFull | Event::PutShort => {
-                self.report.full = self.report.full.saturating_add(1);
-                self.put_ends(line, 0);
+            Event::PutFull | Event::PutShort => report.full = report.full.saturating_add(1),
+            Event::TakeEmpty | Event::TakeShort => report.empty = report.empty.saturating_add(1),
+            Event::PutNothing | Event::TakeNothing => {
+                report.nothing = report.nothing.saturating_add(1);
             }
-            Event::PutNothing => {
-                self.report.nothing = self.report.nothing.saturating_add(1);
-                self.put_ends(line, 0);
-            }
+            Event::TakeClosed => report.told = true,
+            _ => {}
+        }
+    }
+
+    /// Notes an event, of this line, with which the history is linearizable.
+    pub fn note(&mut self, line: u64, event: Event<'_>) -> Result<(), AllocError> {
+        self.count_end(event);
+        match event {
+            Event::PutBegins(items) => self.put_begins(line, items)?,
+            Event::PutStored(count) => self.put_ends(line, count),
+            Event::PutFull | Event::PutShort | Event::PutNothing => self.put_ends(line, 0),
             Event::PutClosed => self.producer = None,
             Event::CloseBegins => {
                 self.has_close = true;
@@ -168,16 +176,7 @@ impl<S: Storage> Notes<S> {
                 }
                 self.consumer = None;
             }
-            Event::TakeEmpty | Event::TakeShort => {
-                self.report.empty = self.report.empty.saturating_add(1);
-                self.consumer = None;
-            }
-            Event::TakeNothing => {
-                self.report.nothing = self.report.nothing.saturating_add(1);
-                self.consumer = None;
-            }
-            Event::TakeClosed => {
-                self.report.told = true;
+            Event::TakeEmpty | Event::TakeShort | Event::TakeNothing | Event::TakeClosed => {
                 self.consumer = None;
             }
         }

@@ -17,4 +17,6 @@ pub use plays::{ANSWER_ROOM, Asked, Played, RUN_ROOM, page_play};
 pub use programs::{Due, Judged};
 
 #[cfg(test)]
+mod call_tests;
+#[cfg(test)]
 mod tests;

@@ -5,7 +5,7 @@ use Rattle.bits_core.specs.declared.events.Side.TheVariants.{P, C}
 use Rattle.bits_core.specs.declared.events.Bit.TheVariants as bit
 use Rattle.bits_core.specs.declared.events.Access.{Access}
 use Rattle.bits_core.specs.declared.events.Access.TheVariants as access
-use Rattle.bits_core.specs.declared.events.Act.TheVariants.{ReadBegin, ReadEnd, WriteBegin}
+use Rattle.bits_core.specs.declared.events.Act.TheVariants.{ReadEnd}
 use Rattle.bits_core.specs.declared.events.Event.{Event}
 use Rattle.bits_core.specs.History.{open_access}
 use Rattle.bits_core.specs.Made.{Made, Read, Write, answered, events_of, own, opening_event}

@@ -67,70 +67,44 @@ struct PutCount {
     full: u64,
 }
 
-// The stage behind an event of the producer, and what the event tells.
-#[derive(Clone, Copy, PartialEq, Eq, Debug)]
-struct PutSaid {
-    next: PutStage,
-    told: Option<Told>,
-}
-
-// What an event of the producer tells, by the stage before it and the counts before it and with it, of a script of so many items.
-fn put_says(stage: PutStage, items: usize, before: PutCount, now: PutCount) -> PutSaid
-    ensures { SaysPut stage items (record { stored = before.stored; full = before.full }) (record { stored = now.stored; full = now.full }) result.next result.told }
+// The stage behind an event of the producer and what the event tells, by the stage before it and the counts before it and with it, of a
+// script of so many items.
+fn put_says(
+    stage: PutStage,
+    items: usize,
+    before: PutCount,
+    now: PutCount,
+) -> (PutStage, Option<Told>)
+    ensures { SaysPut stage items (record { stored = before.stored; full = before.full }) (record { stored = now.stored; full = now.full }) result.0 result.1 }
 {
     events_tell_by_one();
     match stage {
         PutStage::Between => {
             if before.stored < items {
-                PutSaid {
-                    next: PutStage::Putting,
-                    told: Some(Told::PutBegins(before.stored)),
-                }
+                (PutStage::Putting, Some(Told::PutBegins(before.stored)))
             } else {
-                PutSaid {
-                    next: PutStage::Closing,
-                    told: Some(Told::CloseBegins),
-                }
+                (PutStage::Closing, Some(Told::CloseBegins))
             }
         }
         PutStage::Putting => {
             if before.stored < now.stored {
-                PutSaid {
-                    next: PutStage::Between,
-                    told: Some(Told::PutStored(now.stored - before.stored)),
-                }
+                (
+                    PutStage::Between,
+                    Some(Told::PutStored(now.stored - before.stored)),
+                )
             } else if before.full < now.full {
-                PutSaid {
-                    next: PutStage::Between,
-                    told: Some(Told::PutFull),
-                }
+                (PutStage::Between, Some(Told::PutFull))
             } else {
-                PutSaid {
-                    next: PutStage::Putting,
-                    told: None,
-                }
+                (PutStage::Putting, None)
             }
         }
-        PutStage::Closing => PutSaid {
-            next: PutStage::Closed,
-            told: Some(Told::CloseEnds),
-        },
-        PutStage::Closed => PutSaid {
-            next: PutStage::Closed,
-            told: None,
-        },
+        PutStage::Closing => (PutStage::Closed, Some(Told::CloseEnds)),
+        PutStage::Closed => (PutStage::Closed, None),
     }
 }
 
-// The stage behind an event of the consumer, and what the event tells.
-#[derive(Clone, Copy, PartialEq, Eq, Debug)]
-struct TakeSaid {
-    next: TakeStage,
-    told: Option<Told>,
-}
-
-// What an event of the consumer tells, by the stage before it, how many takes had taken an item and found the ring empty, and what
-// takes have taken, found and told with it.
+// The stage behind an event of the consumer and what the event tells, by the stage before it, how many takes had taken an item and found the
+// ring empty, and what takes have taken, found and told with it.
 fn take_says(
     stage: TakeStage,
     taken: usize,
@@ -138,42 +112,24 @@ fn take_says(
     taken_now: &[u64],
     empty_now: u64,
     told_now: bool,
-) -> TakeSaid
-    ensures { SaysTake stage taken empty (record { taken = taken_now.now; empty = empty_now; told = told_now }) result.next result.told }
+) -> (TakeStage, Option<Told>)
+    ensures { SaysTake stage taken empty (record { taken = taken_now.now; empty = empty_now; told = told_now }) result.0 result.1 }
 {
     events_tell_by_one();
     match stage {
-        TakeStage::Between => TakeSaid {
-            next: TakeStage::Taking,
-            told: Some(Told::TakeBegins),
-        },
+        TakeStage::Between => (TakeStage::Taking, Some(Told::TakeBegins)),
         TakeStage::Taking => {
             if taken < taken_now.len() {
-                TakeSaid {
-                    next: TakeStage::Between,
-                    told: Some(Told::TakeItem(taken_now[taken])),
-                }
+                (TakeStage::Between, Some(Told::TakeItem(taken_now[taken])))
             } else if empty < empty_now {
-                TakeSaid {
-                    next: TakeStage::Between,
-                    told: Some(Told::TakeEmpty),
-                }
+                (TakeStage::Between, Some(Told::TakeEmpty))
             } else if told_now {
-                TakeSaid {
-                    next: TakeStage::Told,
-                    told: Some(Told::TakeClosed),
-                }
+                (TakeStage::Told, Some(Told::TakeClosed))
             } else {
-                TakeSaid {
-                    next: TakeStage::Taking,
-                    told: None,
-                }
+                (TakeStage::Taking, None)
             }
         }
-        TakeStage::Told => TakeSaid {
-            next: TakeStage::Told,
-            told: None,
-        },
+        TakeStage::Told => (TakeStage::Told, None),
     }
 }
 
@@ -216,8 +172,8 @@ fn put_step<E: Store<Event>, T: Store<u64>>(
     }
     let now = put_count(world);
     let said = put_says(at.put, items, before, now);
-    at.put = said.next;
-    Ok(said.told)
+    at.put = said.0;
+    Ok(said.1)
 }
 
 // One step of the consumer, and what its event tells, if any.
@@ -249,8 +205,8 @@ fn take_step<E: Store<Event>, T: Store<u64>>(
         empty_now,
         told_now,
     );
-    at.take = said.next;
-    Ok(said.told)
+    at.take = said.0;
+    Ok(said.1)
 }
 
 // One step of a side, and what its event tells, if any.

@@ -7,4 +7,5 @@ mod ShapeLemmas
 mod FirstLemmas
 mod FieldLemmas
 mod KindLemmas
+mod PartLemmas
 mod ScriptLemmas

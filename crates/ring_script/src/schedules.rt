@@ -82,7 +82,7 @@ pub fn runs<S: Store<Run>>(store: S, text: &[u8]) -> Result<S, ScriptFault>
     let Some((first, rest)) = text.split_first() else {
         return Ok(runs);
     };
-    let mut last = letter_side(*first);
+    let mut side = letter_side(*first);
     let mut count: u64 = 0;
     let mut total: u64 = 0;
     for b in rest {
@@ -97,15 +97,9 @@ pub fn runs<S: Store<Run>>(store: S, text: &[u8]) -> Result<S, ScriptFault>
             if LETTER_LIMIT < total + times {
                 return Err(ScriptFault::ScheduleTooLong);
             }
-            push(
-                &mut runs,
-                Run {
-                    side: last,
-                    count: times,
-                },
-            )?;
+            push(&mut runs, Run { side, count: times })?;
             total += times;
-            last = letter_side(*b);
+            side = letter_side(*b);
             count = 0;
         }
     }
@@ -113,13 +107,7 @@ pub fn runs<S: Store<Run>>(store: S, text: &[u8]) -> Result<S, ScriptFault>
     if LETTER_LIMIT < total + times {
         return Err(ScriptFault::ScheduleTooLong);
     }
-    push(
-        &mut runs,
-        Run {
-            side: last,
-            count: times,
-        },
-    )?;
+    push(&mut runs, Run { side, count: times })?;
     Ok(runs)
 }
 

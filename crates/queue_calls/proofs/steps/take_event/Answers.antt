@@ -1,4 +1,4 @@
-use Rattle.std.proofs.Common.{◌≡◌, sym, subst}
+use Rattle.std.proofs.Common.{subst}
 use Rattle.queue_calls.specs.Calls.{Happens, ConsumerStep}
 use Rattle.queue_calls.specs.Steps.{consumer_of}
 use Rattle.queue_calls.specs.Told.{told}

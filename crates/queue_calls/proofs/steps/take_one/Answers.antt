@@ -1,4 +1,4 @@
-use Rattle.std.proofs.Common.{◌≡◌, ◌∙◌, ℕ, suc, ◌-◌, ◌≤◌, ap, subst, arith}
+use Rattle.std.proofs.Common.{◌≡◌, ◌∙◌, suc, ◌-◌, ◌≤◌, ap, subst, arith}
 use Rattle.queue_calls.specs.Calls.{Taking}
 use Rattle.queue_calls.specs.Steps.{began_at, consumer_of, stretch}
 use Rattle.queue_calls.proofs.Stretches.{longer}

@@ -17,14 +17,14 @@ returns-then-not-moved-clause-told g c = (stays g c).1
 
 goes :
     (g : _) (c : goal.After-at-1 g) →
-    Stepped c.args.world.now.script c.step.new.self.script c.args.world.now.history c.step.new.self.history c.args.at.now.put c.take_says-said.result.next c.take_says-said.result.told
+    Stepped c.args.world.now.script c.step.new.self.script c.args.world.now.history c.step.new.self.history c.args.at.now.put c.take_says-said.result.0 c.take_says-said.result.1
 goes g c =
     let script = c.args.world.now.script in
-    take_stepped c.own_changes.ensures script c.step.new.self.script c.args.world.now.history c.step.new.self.history c.args.at.now.put c.args.at.now.take c.take_says-said.result.next
+    take_stepped c.own_changes.ensures script c.step.new.self.script c.args.world.now.history c.step.new.self.history c.args.at.now.put c.args.at.now.take c.take_says-said.result.0
     (length c.ended_items-taken.result.now) c.empty-empty.result
     (record { taken = c.ended_items-taken.result.now; empty = c.empty-empty.result; told = c.told-told.result })
     (record { taken = c.ended_items.result.now; empty = c.empty-empty_now.result; told = c.told-told_now.result })
-    c.take_says-said.result.told c.in_ok-moved.ensures.script
+    c.take_says-said.result.1 c.in_ok-moved.ensures.script
     (subst (λ b. IsMove script C b c.args.world.now.history c.step.new.self.history) c.if-not-moved.false c.in_ok-moved.ensures.ok) c.take_says-said.ensures refl refl c.requires.at
     (λ takes f. (c.ended_items-taken.ensures takes f, c.empty-empty.ensures takes f, c.told-told.ensures takes f))
     (λ takes f. (c.ended_items.ensures takes f, c.empty-empty_now.ensures takes f, c.told-told_now.ensures takes f))

@@ -12,7 +12,7 @@ returns-in_default-clause-within g c = no_length _ _ c.in_default.ensures.cases
 
 pub loop-b-init : goal.loop-b-init
 loop-b-init g c = record {
-  letters = letters_begin _ _ _ _ _ c.in-Some.ensures.cases.0 c.letter_side-last.ensures c.requires.empty;
+  letters = letters_begin _ _ _ _ _ c.in-Some.ensures.cases.0 c.letter_side-side.ensures c.requires.empty;
   total = no_total _ c.requires.empty;
   within = omega arith;
   made = runs_begin _ _ c.requires.empty;
@@ -37,16 +37,16 @@ returns-then-total-times-gt-LETTER_LIMIT-clause-refused g c =
 
 pub loop-b-preserved : goal.loop-b-preserved
 loop-b-preserved g c = elim c.if-is_a_digit.branch [
-  | then-is_a_digit+else-total-more-gt-LETTER_LIMIT w ↦ rw (w.runs-is, w.last-is, w.count-is, w.total-is, w.from.ensures) (record {
+  | then-is_a_digit+else-total-more-gt-LETTER_LIMIT w ↦ rw (w.runs-is, w.side-is, w.count-is, w.total-is, w.from.ensures) (record {
     letters = ap (λ l. spelled (g.S.Store.items c.loop-b.runs) ++ l) (sym (digit_next _ _ _ _ _ c.loop-b-test.true c.is_a_digit.ensures w.if-is_a_digit.true)) ∙ c.loop-b.invariant.letters;
     total = c.loop-b.invariant.total;
     within = omega (arith, w.if-total-more-gt-LETTER_LIMIT.false, w.from.ensures);
     made = ap (λ n. length (g.S.Store.items c.loop-b.runs) + n) (sym (run_goes_on _ _ _ c.loop-b-test.true c.is_a_digit.ensures w.if-is_a_digit.true)) ∙ c.loop-b.invariant.made;
     room = c.loop-b.invariant.room;
   })
-  | else-is_a_digit+else-total-times-gt-LETTER_LIMIT+in_ok-push w ↦ rw (w.runs-is, w.last-is, w.count-is, w.total-is) (record {
+  | else-is_a_digit+else-total-times-gt-LETTER_LIMIT+in_ok-push w ↦ rw (w.runs-is, w.side-is, w.count-is, w.total-is) (record {
     letters = letters_pushed _ _ _ _ _ _ _ _ _ _ c.loop-b-test.true c.is_a_digit.ensures w.if-is_a_digit.false c.loop-b.invariant.letters w.in_ok-push.ensures.items
-        w.at_least_one-times.ensures refl w.letter_side-last-else-is_a_digit.ensures;
+        w.at_least_one-times.ensures refl w.letter_side-side-else-is_a_digit.ensures;
     total = total_pushed _ _ _ _ _ c.loop-b.invariant.total w.in_ok-push.ensures.items refl;
     within = omega (arith, w.if-total-times-gt-LETTER_LIMIT.false);
     made = run_made _ _ _ _ _ _ c.loop-b-test.true c.is_a_digit.ensures w.if-is_a_digit.false w.in_ok-push.ensures.items c.loop-b.invariant.made;

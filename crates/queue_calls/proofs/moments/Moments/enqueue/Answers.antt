@@ -1,4 +1,4 @@
-use Rattle.std.proofs.Common.{◌≡◌, ◌∙◌, ℕ, suc, ◌+◌, ◌<◌, false, [], ◌∷◌, ◌++◌, length, get_or, refl, sym, ap, arith}
+use Rattle.std.proofs.Common.{◌≡◌, ◌∙◌, suc, ◌+◌, ◌<◌, false, [], ◌∷◌, ◌++◌, length, get_or, refl, sym, ap, arith}
 use Rattle.queue_calls.specs.Queue.{queue}
 use Rattle.queue_calls.specs.Steps.{stretch}
 use Rattle.queue_calls.proofs.Stretches.{longer}

@@ -1,0 +1,186 @@
+// The lines of recorded calls in plain Rust, a word at a time: a part of calls_twin.rs.
+// No word of the format is longer: 2^64 - 1 has 20 digits.
+const LONGEST: usize = 20;
+
+// What a line is, or what its first words are.
+#[derive(Clone, Copy, Default, PartialEq)]
+pub enum Kind {
+    #[default]
+    Start,
+    Producer,
+    Consumer,
+    Queue,
+    Put,
+    Stored,
+    Full,
+    PutShort,
+    PutNothing,
+    PutClosed,
+    Close,
+    Take,
+    Item,
+    Empty,
+    TakeShort,
+    TakeNothing,
+    TakeClosed,
+    Bad,
+}
+
+impl Kind {
+    // The line with one more word, which is no number.
+    fn with(self, word: &[u8]) -> Self {
+        match (self, word) {
+            (Kind::Start, b"queue") => Kind::Queue,
+            (Kind::Start, b"P") => Kind::Producer,
+            (Kind::Start, b"C") => Kind::Consumer,
+            (Kind::Producer, b"put") => Kind::Put,
+            (Kind::Producer, b"stored") => Kind::Stored,
+            (Kind::Producer, b"full") => Kind::Full,
+            (Kind::Producer, b"short") => Kind::PutShort,
+            (Kind::Producer, b"nothing") => Kind::PutNothing,
+            (Kind::Producer, b"closed") => Kind::PutClosed,
+            (Kind::Producer, b"close") => Kind::Close,
+            (Kind::Consumer, b"take") => Kind::Take,
+            (Kind::Consumer, b"item") => Kind::Item,
+            (Kind::Consumer, b"empty") => Kind::Empty,
+            (Kind::Consumer, b"short") => Kind::TakeShort,
+            (Kind::Consumer, b"nothing") => Kind::TakeNothing,
+            (Kind::Consumer, b"closed") => Kind::TakeClosed,
+            _ => Kind::Bad,
+        }
+    }
+
+    // How many numbers a line of this kind may have, at least and at most.
+    fn numbers(self) -> (usize, usize) {
+        match self {
+            Kind::Queue => (0, 2),
+            Kind::Put | Kind::Item => (1, usize::MAX),
+            Kind::Stored | Kind::Take => (0, 1),
+            Kind::Start | Kind::Producer | Kind::Consumer | Kind::Bad => (1, 0),
+            _ => (0, 0),
+        }
+    }
+}
+
+// A number in decimal: below 2^64, with no leading zero.
+fn number(word: &[u8]) -> Option<u64> {
+    if word.is_empty() || (word[0] == b'0' && word.len() > 1) || word.len() > LONGEST {
+        return None;
+    }
+    let short = word.len() < LONGEST;
+    word.iter().try_fold(0u64, |n, byte| {
+        let digit = u64::from(byte.wrapping_sub(b'0'));
+        match digit {
+            10.. => None,
+            _ if short => Some(10 * n + digit),
+            _ => n.checked_mul(10)?.checked_add(digit),
+        }
+    })
+}
+
+// What a line is that begins so, and where its second word ends: the most frequent ones, which then are not taken word by word.
+fn frequent(rest: &[u8]) -> Option<(Kind, usize)> {
+    match rest {
+        [b'P', b' ', b'p', b'u', b't', b' ', ..] => Some((Kind::Put, 5)),
+        [b'C', b' ', b'i', b't', b'e', b'm', b' ', ..] => Some((Kind::Item, 6)),
+        [b'C', b' ', b't', b'a', b'k', b'e', b'\n', ..] => Some((Kind::Take, 6)),
+        [b'P', b' ', b's', b't', b'o', b'r', b'e', b'd', b'\n', ..] => Some((Kind::Stored, 8)),
+        [b'C', b' ', b'e', b'm', b'p', b't', b'y', b'\n', ..] => Some((Kind::Empty, 7)),
+        [b'P', b' ', b'f', b'u', b'l', b'l', b'\n', ..] => Some((Kind::Full, 6)),
+        _ => None,
+    }
+}
+
+// The line that is being read: the words so far, and the beginning of a word that goes on in the next piece.
+#[derive(Default)]
+pub struct Line {
+    pub carried: [u8; LONGEST],
+    pub length: usize,
+    pub kind: Kind,
+    pub numbers: Vec<u64>,
+    // how many numbers there were, kept or not
+    pub counted: usize,
+    // a byte of it was there
+    pub begun: bool,
+}
+
+impl Line {
+    pub fn clear(&mut self) {
+        self.length = 0;
+        self.kind = Kind::Start;
+        self.numbers.clear();
+        self.counted = 0;
+        self.begun = false;
+    }
+
+    // The end of the words that are taken from this part of the piece: one word, or the first two of a frequent line.
+    pub fn take_words(&mut self, rest: &[u8], keeps: bool) -> Option<usize> {
+        if !self.begun
+            && let Some((kind, end)) = frequent(rest)
+        {
+            self.begun = true;
+            self.kind = kind;
+            return Some(end);
+        }
+        let end = rest.iter().position(|byte| matches!(byte, b' ' | b'\n'))?;
+        self.end_word(&rest[..end], keeps);
+        Some(end)
+    }
+
+    // The piece ends within a word.
+    pub fn carry(&mut self, part: &[u8]) {
+        self.begun |= !part.is_empty();
+        match self.carried.get_mut(self.length..self.length + part.len()) {
+            Some(room) => {
+                room.copy_from_slice(part);
+                self.length += part.len();
+            }
+            None => self.kind = Kind::Bad,
+        }
+    }
+
+    // A word ends, of which this part is new; a number of items is kept where `keeps`.
+    pub fn end_word(&mut self, part: &[u8], keeps: bool) {
+        self.begun = true;
+        if self.length == 0 {
+            return self.word(part, keeps);
+        }
+        self.carry(part);
+        let word = self.carried;
+        self.word(&word[..self.length], keeps);
+        self.length = 0;
+    }
+
+    pub fn word(&mut self, word: &[u8], keeps: bool) {
+        if !matches!(
+            self.kind,
+            Kind::Queue | Kind::Put | Kind::Stored | Kind::Take | Kind::Item
+        ) {
+            self.kind = self.kind.with(word);
+            return;
+        }
+        match number(word) {
+            Some(value) if self.counted < self.kind.numbers().1 => {
+                self.counted += 1;
+                if keeps || !matches!(self.kind, Kind::Put | Kind::Item) {
+                    self.numbers.push(value);
+                }
+            }
+            _ => self.kind = Kind::Bad,
+        }
+    }
+
+    // Whether this is a line of the format, as the first of a text or further on.
+    pub fn is_good(&self, first: bool) -> bool {
+        let (least, most) = self.kind.numbers();
+        first == (self.kind == Kind::Queue)
+            && (least..=most).contains(&self.counted)
+            && match (self.kind, &self.numbers[..]) {
+                (Kind::Queue, [capacity]) => *capacity >= 1,
+                (Kind::Queue, [low, high]) => 1 <= *low && low < high,
+                (Kind::Stored, [count]) => *count >= 1,
+                (Kind::Take, [count]) => *count >= 2,
+                _ => true,
+            }
+    }
+}

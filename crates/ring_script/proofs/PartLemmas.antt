@@ -1,0 +1,251 @@
+-- What is read of the parts of a script, its JSON value, names, items, schedule and oracle, is what they are, or their fault.
+use Rattle.std.proofs.Common.{◌≡◌, ◌≢◌, ◌⊎◌, ◌∙◌, ◌≤◌, ◌<◌, ℕ, Bool, true, false, List, map, length, Option, Some, None, Result, Ok, Err, refl, sym, ap, subst, arith, true≢false, inl, inr}
+use Rattle.std.specs.Prelude.{position, nat_lt, if◌then◌else◌, ⊤}
+use Rattle.std.specs.Str.{is_utf8}
+use Rattle.std.proofs.lemmas.Str.{IsUtf8-from_is_utf8}
+use Rattle.serde_json.specs.Data.{Data, null, boolean, number, string, array, object, Members}
+use Rattle.serde_json.specs.Read.{read}
+use Rattle.serde_json.specs.Find.{as_object}
+use Rattle.bits_core.specs.declared.events.Side.{Side}
+use Rattle.ring_script.proofs.JsonLemmas.{json_read, json_refused}
+use Rattle.ring_script.proofs.GrammarLemmas.{clean_schedule, schedule_clean, schedule_spells, stray_found, stray_is}
+use Rattle.ring_script.proofs.FirstLemmas.{answers_from, first_position, fit_tested, none_position, oracle_answers, oracle_clean, oracle_tested, position_first, position_none}
+use Rattle.ring_script.proofs.FieldLemmas.{known_from, known_to, ok_is, ok_not_err}
+use Rattle.ring_script.specs.Schedule.{IsSchedule, IsScheduleText}
+use Rattle.ring_script.specs.ScheduleReading.{letters_of, stray_in}
+use Rattle.ring_script.specs.FieldReading.{has_known_names, names_in}
+use Rattle.ring_script.specs.Script.{Fit, IsOracle, IsOracleText}
+use Rattle.ring_script.specs.ScriptReading.{if_answers, if_fits, if_read, if_stands, is_no_answer, is_too_wide, items_within, json_of, oracle_of, schedule_of}
+use Rattle.ring_script.specs.Fields.{HasKnownNames, IsJson}
+use Rattle.ring_script.specs.Faults.{IsFirstStray}
+use Rattle.ring_script.specs.declared.faults.ScriptFault.{ScriptFault}
+use Rattle.ring_script.specs.declared.faults.ScriptFault.TheVariants as fault
+use Rattle.ring_script.specs.declared.schedules.TheConstants.{LETTER_LIMIT}
+use Rattle.ring_script.specs.declared.scripts.TheConstants.{ITEM_LIMIT}
+
+not_over : (m n : ℕ) → nat_lt m n ≡ false → n ≤ m
+not_over m n e = grind arith
+
+under : (m n : ℕ) → n ≤ m → nat_lt m n ≡ false
+under m n h = grind arith
+
+over : (m n : ℕ) → m < n → nat_lt m n ≡ true
+over m n h = grind arith
+
+is_over : (m n : ℕ) → nat_lt m n ≡ true → m < n
+is_over m n e = grind arith
+
+pub same_err : {A : Type 0} (x y : ScriptFault) → (let r : Result A ScriptFault = Err x in r ≡ Err y) → x ≡ y
+same_err x y e = cc
+
+-- ---- the JSON value
+
+read_is : (o : Option Data) (d : Data) → if_read o ≡ Ok d → o ≡ Some d
+read_is (Some v) d e = cc
+read_is None d e = cc
+
+json_at : (bytes : List ℕ) (t : Bool) (d : Data) → is_utf8 bytes ≡ t → (if t then if_read (read bytes) else Err fault.NotJson) ≡ Ok d → IsJson bytes d
+json_at bytes true d is e = record { text = IsUtf8-from_is_utf8 bytes is; reads = read_is (read bytes) d e }
+json_at bytes false d is e = cc
+
+pub json_from : (bytes : List ℕ) (d : Data) → json_of bytes ≡ Ok d → IsJson bytes d
+unfolding json_of
+json_from bytes d e = json_at bytes (is_utf8 bytes) d refl e
+
+pub json_to : (bytes : List ℕ) (d : Data) → IsJson bytes d → json_of bytes ≡ Ok d
+json_to bytes d j = json_read bytes d j.text j.reads
+
+not_read : (bytes : List ℕ) (o : Option Data) (x : ScriptFault) → if_read o ≡ Err x → x ≡ fault.NotJson
+not_read bytes (Some v) x e = cc
+not_read bytes None x e = sym (same_err _ x e)
+
+json_why_at : (bytes : List ℕ) (t : Bool) (x : ScriptFault) → (if t then if_read (read bytes) else Err fault.NotJson) ≡ Err x → x ≡ fault.NotJson
+json_why_at bytes true x e = not_read bytes (read bytes) x e
+json_why_at bytes false x e = sym (same_err _ x e)
+
+pub json_why : (bytes : List ℕ) (x : ScriptFault) → json_of bytes ≡ Err x → x ≡ fault.NotJson
+unfolding json_of
+json_why bytes x e = json_why_at bytes (is_utf8 bytes) x e
+
+pub no_json : (bytes : List ℕ) (x : ScriptFault) → json_of bytes ≡ Err x → (d : Data) → ¬ IsJson bytes d
+no_json bytes x e d j = ok_not_err d x (sym (json_to bytes d j) ∙ e)
+
+none_read : (o : Option Data) → ((d : Data) → ¬ (o ≡ Some d)) → o ≡ None
+none_read (Some v) never = absurd (never v refl)
+none_read None never = refl
+
+pub json_told : (bytes : List ℕ) → ((d : Data) → ¬ IsJson bytes d) → json_of bytes ≡ Err fault.NotJson
+json_told bytes never = json_refused bytes (λ u. none_read (read bytes) (λ d e. never d (record { text = u; reads = e })))
+
+-- ---- the names
+
+names_test : (t : Bool) → (let passed : Result ⊤ ScriptFault = Ok tt in (if t then passed else Err fault.UnknownField) ≡ passed) → t ≡ true
+names_test true e = refl
+names_test false e = cc
+
+pub names_from : (d : Data) → names_in (as_object d) ≡ Ok tt → (ms : Members) × (d ≡ object ms) × HasKnownNames ms
+names_from null e = cc
+names_from (boolean b) e = cc
+names_from (number m) e = cc
+names_from (string s) e = cc
+names_from (array ds) e = cc
+names_from (object ms) e = (ms, refl, known_from ms (names_test (has_known_names ms) e))
+
+pub names_to : (ms : Members) → HasKnownNames ms → names_in (Some ms) ≡ Ok tt
+names_to ms h = rw (known_to ms h)
+
+-- the two faults of a value that is no object of known names
+abbrev pub NamesFault : Data → ScriptFault → Type 0
+NamesFault d x = ((x ≡ fault.NotObject) × ((ms : Members) → d ≢ object ms)) ⊎ ((ms : Members) × (x ≡ fault.UnknownField) × (d ≡ object ms) × ¬ HasKnownNames ms)
+
+unknown_at : (ms : Members) (t : Bool) (x : ScriptFault) → has_known_names ms ≡ t → (let passed : Result ⊤ ScriptFault = Ok tt in (if t then passed else Err fault.UnknownField) ≡ Err x) → NamesFault (object ms) x
+unknown_at ms true x is e = cc
+unknown_at ms false x is e = inr (ms, sym (same_err _ x e), refl, λ h. true≢false (sym (known_to ms h) ∙ is))
+
+pub names_why : (d : Data) (x : ScriptFault) → names_in (as_object d) ≡ Err x → NamesFault d x
+names_why null x e = inl (sym (same_err _ x e), λ ms k. cc)
+names_why (boolean b) x e = inl (sym (same_err _ x e), λ ms k. cc)
+names_why (number m) x e = inl (sym (same_err _ x e), λ ms k. cc)
+names_why (string s) x e = inl (sym (same_err _ x e), λ ms k. cc)
+names_why (array ds) x e = inl (sym (same_err _ x e), λ ms k. cc)
+names_why (object ms) x e = unknown_at ms (has_known_names ms) x refl e
+
+pub no_object : (d : Data) → ((ms : Members) → d ≢ object ms) → names_in (as_object d) ≡ Err fault.NotObject
+no_object null never = refl
+no_object (boolean b) never = refl
+no_object (number m) never = refl
+no_object (string s) never = refl
+no_object (array ds) never = refl
+no_object (object ms) never = absurd (never ms refl)
+
+unknown_told_at : (ms : Members) (t : Bool) → has_known_names ms ≡ t → ¬ HasKnownNames ms → (let passed : Result ⊤ ScriptFault = Ok tt in (if t then passed else Err fault.UnknownField) ≡ Err fault.UnknownField)
+unknown_told_at ms true is never = absurd (never (known_from ms is))
+unknown_told_at ms false is never = refl
+
+pub unknown_told : (ms : Members) → ¬ HasKnownNames ms → names_in (Some ms) ≡ Err fault.UnknownField
+unknown_told ms never = unknown_told_at ms (has_known_names ms) refl never
+
+-- ---- the items
+
+abbrev pub ItemsFault : ℕ → List ℕ → ScriptFault → Type 0
+ItemsFault w items x = ((x ≡ fault.TooManyItems) × (ITEM_LIMIT < length items)) ⊎ ((p : ℕ) × (x ≡ fault.ItemTooWide p) × (length items ≤ ITEM_LIMIT) × IsFirstStray (Fit w) items p)
+
+fits_at : (most : ℕ) (w : ℕ) (items : List ℕ) (o : Option ℕ) → position (is_too_wide w) items ≡ o → if_fits o ≡ Ok tt → Fit w items
+fits_at most w items None is e = (fit_tested w).from items (position_none (is_too_wide w) items is)
+fits_at most w items (Some p) is e = cc
+
+few_at : (most w : ℕ) (t : Bool) (items : List ℕ) → nat_lt most (length items) ≡ t → (if t then Err fault.TooManyItems else if_fits (position (is_too_wide w) items)) ≡ Ok tt → (length items ≤ most) × Fit w items
+few_at most w true items is e = cc
+few_at most w false items is e = (not_over _ _ is, fits_at most w items _ refl e)
+
+pub items_from : (w : ℕ) (items : List ℕ) → items_within w items ≡ Ok tt → (length items ≤ ITEM_LIMIT) × Fit w items
+unfolding items_within
+items_from w items e = few_at ITEM_LIMIT w (nat_lt ITEM_LIMIT (length items)) items refl e
+
+pub items_to : (w : ℕ) (items : List ℕ) → length items ≤ ITEM_LIMIT → Fit w items → items_within w items ≡ Ok tt
+unfolding items_within
+items_to w items few fit = rw (under ITEM_LIMIT (length items) few) (ap if_fits (none_position (is_too_wide w) items ((fit_tested w).to items fit)))
+
+wide_at : (w : ℕ) (items : List ℕ) (o : Option ℕ) (x : ScriptFault) → position (is_too_wide w) items ≡ o → if_fits o ≡ Err x → (p : ℕ) × (x ≡ fault.ItemTooWide p) × IsFirstStray (Fit w) items p
+wide_at w items None x is e = cc
+wide_at w items (Some p) x is e = (p, sym (same_err _ x e), position_first (Fit w) (is_too_wide w) (fit_tested w) items p is)
+
+many_at : (w : ℕ) (t : Bool) (items : List ℕ) (x : ScriptFault) → nat_lt ITEM_LIMIT (length items) ≡ t → (if t then Err fault.TooManyItems else if_fits (position (is_too_wide w) items)) ≡ Err x → ItemsFault w items x
+many_at w true items x is e = inl (sym (same_err _ x e), is_over _ _ is)
+many_at w false items x is e = let f = wide_at w items _ x refl e in inr (f.0, f.1, not_over _ _ is, f.2)
+
+pub items_why : (w : ℕ) (items : List ℕ) (x : ScriptFault) → items_within w items ≡ Err x → ItemsFault w items x
+unfolding items_within
+items_why w items x e = many_at w (nat_lt ITEM_LIMIT (length items)) items x refl e
+
+pub many_told : (w : ℕ) (items : List ℕ) → ITEM_LIMIT < length items → items_within w items ≡ Err fault.TooManyItems
+unfolding items_within
+many_told w items h = rw (over ITEM_LIMIT (length items) h)
+
+pub wide_told : (w : ℕ) (items : List ℕ) (p : ℕ) → length items ≤ ITEM_LIMIT → IsFirstStray (Fit w) items p → items_within w items ≡ Err (fault.ItemTooWide p)
+unfolding items_within
+wide_told w items p few first = rw (under ITEM_LIMIT (length items) few) (ap if_fits (first_position (Fit w) (is_too_wide w) (fit_tested w) items p first))
+
+-- ---- the schedule
+
+stands_is : (o : Option ℕ) (all letters : List Side) → if_stands o all ≡ Ok letters → (o ≡ None) × (if_stands None all ≡ Ok letters)
+stands_is (Some i) all letters e = cc
+stands_is None all letters e = (refl, e)
+
+short_at : (most : ℕ) (t : Bool) (all letters : List Side) (x : ScriptFault) → nat_lt most (length all) ≡ t → (if t then Err x else Ok all) ≡ Ok letters → (letters ≡ all) × (length all ≤ most)
+short_at most true all letters x is e = cc
+short_at most false all letters x is e = (sym (ok_is _ _ e), not_over _ _ is)
+
+short_moved : (most : ℕ) (a b : List Side) → a ≡ b → length b ≤ most → length a ≤ most
+short_moved most a b e h = omega (arith, ap length e)
+
+pub schedule_from : (text : List ℕ) (letters : List Side) → schedule_of text ≡ Ok letters → IsSchedule text letters × (length letters ≤ LETTER_LIMIT)
+unfolding schedule_of
+schedule_from text letters e =
+    let stood = stands_is (stray_in text) (letters_of text) _ e in
+    let spelt = short_at LETTER_LIMIT (nat_lt LETTER_LIMIT (length (letters_of text))) (letters_of text) _ _ refl stood.1 in
+    (subst (IsSchedule text) (sym spelt.0) (clean_schedule text stood.0), short_moved _ _ _ spelt.0 spelt.1)
+
+pub schedule_to : (text : List ℕ) (letters : List Side) → IsSchedule text letters → length letters ≤ LETTER_LIMIT → schedule_of text ≡ Ok letters
+unfolding schedule_of
+schedule_to text letters s short =
+    let spells = schedule_spells text letters s in
+    rw (schedule_clean text letters s) (rw (under LETTER_LIMIT (length (letters_of text)) (short_moved _ _ _ (sym spells) short)) (ap Ok (sym spells)))
+
+abbrev pub ScheduleFault : List ℕ → ScriptFault → Type 0
+ScheduleFault text x =
+    ((p : ℕ) × (x ≡ fault.BadSchedule p) × IsFirstStray IsScheduleText text p)
+    ⊎ ((letters : List Side) × (x ≡ fault.ScheduleTooLong) × IsSchedule text letters × (LETTER_LIMIT < length letters))
+
+long_at : (text : List ℕ) (t : Bool) (x : ScriptFault) → stray_in text ≡ None → nat_lt LETTER_LIMIT (length (letters_of text)) ≡ t
+    → (if t then Err fault.ScheduleTooLong else Ok (letters_of text)) ≡ Err x → ScheduleFault text x
+long_at text true x clean is e = inr (letters_of text, sym (same_err _ x e), clean_schedule text clean, is_over _ _ is)
+long_at text false x clean is e = cc
+
+bad_at : (text : List ℕ) (o : Option ℕ) (x : ScriptFault) → stray_in text ≡ o → if_stands o (letters_of text) ≡ Err x → ScheduleFault text x
+bad_at text (Some p) x is e = inl (p, sym (same_err _ x e), stray_is text p is)
+bad_at text None x is e = long_at text (nat_lt LETTER_LIMIT (length (letters_of text))) x is refl e
+
+pub schedule_why : (text : List ℕ) (x : ScriptFault) → schedule_of text ≡ Err x → ScheduleFault text x
+unfolding schedule_of
+schedule_why text x e = bad_at text (stray_in text) x refl e
+
+pub bad_told : (text : List ℕ) (p : ℕ) → IsFirstStray IsScheduleText text p → schedule_of text ≡ Err (fault.BadSchedule p)
+unfolding schedule_of
+bad_told text p first = ap (λ o. if_stands o (letters_of text)) (stray_found text p first)
+
+pub long_told : (text : List ℕ) (letters : List Side) → IsSchedule text letters → LETTER_LIMIT < length letters → schedule_of text ≡ Err fault.ScheduleTooLong
+unfolding schedule_of
+long_told text letters s long =
+    let spells = schedule_spells text letters s in
+    rw (schedule_clean text letters s) (rw (over LETTER_LIMIT (length (letters_of text)) (omega (arith, long, ap length spells))))
+
+-- ---- the oracle
+
+answers_at : (text : List ℕ) (o : Option ℕ) (bits : List Bool) → position is_no_answer text ≡ o → if_answers o text ≡ Ok bits → IsOracle text bits
+answers_at text (Some p) bits is e = cc
+answers_at text None bits is e = answers_from text (position_none is_no_answer text is) ∙ ap (map _) (ok_is _ _ e)
+
+pub oracle_from : (text : List ℕ) (bits : List Bool) → oracle_of text ≡ Ok bits → IsOracle text bits
+unfolding oracle_of
+oracle_from text bits e = answers_at text (position is_no_answer text) bits refl e
+
+pub oracle_to : (text : List ℕ) (bits : List Bool) → IsOracle text bits → oracle_of text ≡ Ok bits
+unfolding oracle_of
+oracle_to text bits o =
+    ap (λ p. if_answers p text) (none_position is_no_answer text (oracle_clean text bits o)) ∙ ap Ok (sym (oracle_answers text bits o))
+
+abbrev pub OracleFault : List ℕ → ScriptFault → Type 0
+OracleFault text x = (p : ℕ) × (x ≡ fault.BadOracle p) × IsFirstStray IsOracleText text p
+
+wrong_at : (text : List ℕ) (o : Option ℕ) (x : ScriptFault) → position is_no_answer text ≡ o → if_answers o text ≡ Err x → OracleFault text x
+wrong_at text (Some p) x is e = (p, sym (same_err _ x e), position_first IsOracleText is_no_answer oracle_tested text p is)
+wrong_at text None x is e = cc
+
+pub oracle_why : (text : List ℕ) (x : ScriptFault) → oracle_of text ≡ Err x → OracleFault text x
+unfolding oracle_of
+oracle_why text x e = wrong_at text (position is_no_answer text) x refl e
+
+pub oracle_told : (text : List ℕ) (p : ℕ) → IsFirstStray IsOracleText text p → oracle_of text ≡ Err (fault.BadOracle p)
+unfolding oracle_of
+oracle_told text p first = ap (λ o. if_answers o text) (first_position IsOracleText is_no_answer oracle_tested text p first)

@@ -1,0 +1,143 @@
+// The sheet that a history is drawn on: its places, an event or a line each, stand from left to right and row by row, between a lane of the
+// producer and one of the consumer. Of a long history some rows are drawn.
+
+import { operationWords } from "./calls.js";
+import { styleOf } from "./style.js";
+
+export const HEADING = 34; // of a picture: its verdict, which the page shows above it
+export const LEFT = 84; // beside the rows
+const RIGHT = 22, HEAD = 68, WHY = 22, FOOT = 62; // beside them, above and below; each line of reasons takes more
+const NARROWEST = 720, WIDEST = 1280; // of a picture
+const MOST_ROWS = 12, FEW_ROWS = 3; // in one picture; of these around a place apart
+
+export const round = x => Math.round(x * 10) / 10;
+export const escape = text => String(text).replace(/&/g, "&amp;").replace(/</g, "&lt;").replace(/>/g, "&gt;").replace(/"/g, "&quot;");
+
+// How so many places are laid out in rows: with the widest letters with which the whole picture fits a frame of this height over width; where
+// none does, with the least. As many places in a row as fit, from `least` to `most` apart, and the rows evenly filled.
+function layout({count, tall, head, aspect, least, most}) {
+  let found;
+  for (let widest = NARROWEST; widest <= WIDEST; widest += 40) {
+    const fit = Math.floor((widest - LEFT - RIGHT) / least);
+    const rows = Math.max(1, Math.ceil(count / fit));
+    const each = Math.max(4, Math.ceil(count / rows));
+    const unit = Math.min(most, Math.floor((widest - LEFT - RIGHT) / each));
+    const width = Math.max(LEFT + each * unit + RIGHT, NARROWEST);
+    found = {rows, each, unit, width};
+    if (head + rows * tall + FOOT <= width * aspect) break;
+  }
+  return found;
+}
+
+// The rows that are drawn: around this one, and some around a second one that would not be among them.
+function rowsAround(rows, row, other) {
+  const around = (row, most) => {
+    const first = Math.max(0, Math.min(row - (most >> 1), rows - most));
+    return Array.from({length: Math.min(most, rows)}, (_, i) => first + i);
+  };
+  const near = around(row, MOST_ROWS);
+  if (other === null || near.includes(other)) return near;
+  return [...new Set([...around(other, FEW_ROWS), ...around(row, MOST_ROWS - FEW_ROWS)])].sort((a, b) => a - b);
+}
+
+// A sheet with room for the places `whole`, of which the first `count` are told; `middle` is one that is drawn, and so is `other` where it is
+// not null. A row is `tall`, and `up` of that lies above its lanes; `lanes` has where in the row those of P and C begin, how `high` their
+// bars are, and where the numbers stand (`ruler`). The places have the numbers that `numberOf` gives, which count what is `counted` up to
+// `total`; `words` is the heading, of the mood "good", "bad" or none, `ring` a second one, `reasons` what stands below.
+export function sheetOf({whole, count, middle, other = null, tall, up, lanes, least, most, aspect, words, mood, ring = null, reasons, hasReasons, counted, numberOf, total}) {
+  const head = HEAD + hasReasons * WHY;
+  const {rows, each, unit, width} = layout({count: whole, tall, head, aspect, least, most});
+  const rowOf = place => Math.floor(place / each), drawn = rowsAround(rows, rowOf(middle), other === null ? null : rowOf(other));
+  const x = place => round(LEFT + (place % each + 0.5) * unit), edge = LEFT + each * unit, right = edge + 4;
+  const slots = new Map(drawn.map((row, slot) => [row, slot])), isDrawn = row => slots.has(row), top = row => head + slots.get(row) * tall + up;
+  const heading = Math.max((words.length + (ring?.words ? ring.words.length + 3 : 0)) * 12.1, ...reasons.map(it => it.length * 9.1));
+  const breadth = Math.max(width, Math.ceil(LEFT + heading)), height = head + drawn.length * tall + FOOT;
+  const bottom = lanes.C + lanes.high, out = [];
+
+  // The parts of a stretch of places, one for each row that it runs through and that is drawn.
+  const partsOf = (begin, end) => {
+    const last = Math.max(begin, Math.min(end, count - 1)), [from, past] = [rowOf(begin), rowOf(last)];
+    if (past < drawn[0] || from > drawn.at(-1)) return [];
+    return drawn.filter(row => from <= row && row <= past).map(row => {
+      const begins = row === from, ends = end < count && row === rowOf(end);
+      const to = ends ? x(end) : row === past ? Math.min(x(last) + unit / 2 + 4, right) : right;
+      return {y: top(row), from: begins ? x(begin) : LEFT - 4, to: round(to), begins, ends};
+    });
+  };
+
+  // The rows with their lanes, and a break where rows between two of them are not drawn.
+  const drawRows = () => drawn.forEach((row, slot) => {
+    const y = top(row), ends = Math.min(each, Math.max(whole - row * each, 0));
+    for (const side of "PC") {
+      out.push(`<rect class="band" x="${LEFT - 10}" y="${y + lanes[side] - 6}" width="${each * unit + 20}" height="${lanes.high + 12}" rx="4"/>`,
+        `<text class="lane" x="38" y="${y + lanes[side] + 22}">${side}</text>`);
+      if (slot === 0) out.push(`<text class="who" x="38" y="${y + lanes[side] + 38}">${side === "P" ? "producer" : "consumer"}</text>`);
+    }
+    const lines = Array.from({length: ends}, (_, i) => `M${x(i)} ${y + lanes.P - 6}V${y + bottom + 6}`);
+    if (ends) out.push(`<path class="grid" d="${lines.join("")}"/>`);
+    if (slot > 0 && drawn[slot - 1] < row - 1) out.push(`<path class="break" d="M${LEFT - 10} ${y - up}H${edge + 10}"/>`,
+      `<text class="line" x="${round((LEFT + edge) / 2)}" y="${y - up + 4}">${counted}s ${numberOf((drawn[slot - 1] + 1) * each)} to ${numberOf(row * each - 1)} are not drawn</text>`);
+  });
+
+  // The number of a place, where it has room.
+  const drawNumber = place => {
+    const isWide = String(numberOf(place)).length > 5 && place % 2; // of two numbers that have no room side by side, one
+    if (!isWide) out.push(`<text class="line" x="${x(place)}" y="${top(rowOf(place)) + lanes.ruler}">${numberOf(place)}</text>`);
+  };
+
+  // The places that are told and drawn.
+  const placesDrawn = () => drawn.flatMap(row => Array.from({length: Math.max(0, Math.min(each, count - row * each))}, (_, i) => row * each + i));
+
+  // A flag over a place, or `isBelow` it, with a line through the row; `kind` is its class.
+  const drawFlag = (place, words, kind = "", isBelow = false) => {
+    if (!isDrawn(rowOf(place))) return;
+    const y = top(rowOf(place)), at = x(place), wide = words.length * 8.5 + 20, number = String(numberOf(place));
+    const from = round(Math.max(LEFT - 10, Math.min(at - wide / 2, edge + 10 - wide))), narrow = Math.max(34, number.length * 7 + 8);
+    const flag = isBelow ? y + bottom + 12 : y + 2;
+    out.push(`<path class="faultline${kind}" d="M${at} ${isBelow ? y + lanes.P - 6 : y + 20}V${isBelow ? flag : y + bottom + 6}"/>`,
+      `<rect class="flag${kind}" x="${from}" y="${flag}" width="${wide}" height="22" rx="4"/>`,
+      `<text class="flagwords${kind}" x="${from + 10}" y="${flag + 16}">${escape(words)}</text>`,
+      `<rect class="flag${kind}" x="${round(at - narrow / 2)}" y="${y + lanes.ruler - 12}" width="${narrow}" height="16" rx="4"/>`,
+      `<text class="line bad${kind}" x="${at}" y="${y + lanes.ruler}">${number}</text>`);
+  };
+
+  // The operations before the place `until` stand on a line between the lanes, each where it takes effect, with a tick to the lane of its side.
+  const drawOrder = (order, until) => {
+    const y = lanes.ruler + 20, spots = new Map();
+    for (const it of order) if (it.at < until && it.at < count) spots.set(it.at, [...spots.get(it.at) ?? [], it]);
+    const placed = [...spots].flatMap(([at, all]) => all.map((it, i) => ({...it, row: rowOf(Math.floor(at)), x: round(x(Math.floor(at)) + unit * (at - Math.floor(at) + (i - (all.length - 1) / 2) * 0.8 / Math.max(all.length, 2)))})));
+    for (const row of drawn) {
+      const here = placed.filter(it => it.row === row);
+      if (row * each < Math.min(until, count)) out.push(`<path class="order" d="M${LEFT - 4} ${top(row) + y}H${round(x(Math.min((row + 1) * each, until, count) - 1) + unit / 2)}"/>`);
+      here.forEach((it, i) => {
+        const tick = it.side === "P" ? -7 : 7, room = Math.min(it.x - (here[i - 1]?.x ?? -Infinity), (here[i + 1]?.x ?? Infinity) - it.x);
+        const [text] = operationWords(it).filter(text => text.length * 6.6 + 3 <= room);
+        out.push(`<g class="operation" data-of="${it.call.begin + 2}"><title>${escape(operationWords(it)[0])} takes effect</title><path d="M${it.x} ${top(row) + y + tick}v${-tick}"/><circle cx="${it.x}" cy="${top(row) + y}" r="3.5"/>`
+          + `${text ? `<text class="effect" x="${it.x}" y="${top(row) + y + 15}">${escape(text)}</text>` : ""}</g>`);
+      });
+    }
+  };
+
+  // The heading, with these words below it and which rows are drawn where not all are.
+  const drawHead = parts => {
+    const stretches = [];
+    for (const row of drawn) isDrawn(row - 1) ? stretches.at(-1)[1] = row : stretches.push([row, row]);
+    const rowsTold = stretches.map(([a, b]) => `${numberOf(a * each)} to ${numberOf(Math.min((b + 1) * each, whole) - 1)}`).join(" and ");
+    const all = drawn.length === rows ? parts : [...parts, `${counted}s ${rowsTold} of ${total}`];
+    const second = ring?.words ? `<tspan class="${ring.mood}" dx="28">${escape(ring.words)}</tspan>` : "";
+    out.push(`<text class="verdict ${mood}" x="${LEFT - 10}" y="30">${escape(words)}${second}</text>`,
+      `<text class="title" x="${LEFT - 10}" y="52">${all.join(" · ")}</text>`);
+    reasons.forEach((line, i) => out.push(`<text class="title bad" x="${LEFT - 10}" y="${52 + (i + 1) * WHY}">${escape(line)}</text>`));
+  };
+
+  const drawLegend = parts => out.push(`<g transform="translate(${LEFT - 10} ${height - 36})">`, ...parts, "</g>");
+
+  // All of it; the style sheet is in it where `theme` is given.
+  const textOfSheet = theme => {
+    const style = theme === undefined ? "" : `<style>${styleOf(theme)}</style>`;
+    return `<svg xmlns="http://www.w3.org/2000/svg" class="ring" viewBox="0 0 ${breadth} ${height}" role="img" aria-label="${escape(words)}">`
+      + `${style}<rect class="bg" width="${breadth}" height="${height}"/>${out.join("\n")}</svg>\n`;
+  };
+
+  return {out, each, unit, drawn, x, top, rowOf, isDrawn, partsOf, placesDrawn, drawRows, drawNumber, drawFlag, drawOrder, drawHead, drawLegend, textOfSheet};
+}
