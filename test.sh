@@ -23,13 +23,25 @@ count() {
     failed=$((failed + $2))
 }
 
-# The tests need no proof. They run beside the build of the program, which leaves processors idle, and after it in rank (Linux ranks
-# sessions, where it groups by them); in a process group of their own, so that an end of this script ends them too.
-# shellcheck disable=SC2016
-setsid nice -n 19 sh -c '{ echo 19 >/proc/self/autogroup; } 2>/dev/null; exec tests/unproved' >"$room/unproved" 2>&1 </dev/null &
+# The tests need no proof. They run beside the build of the program, which leaves processors idle, and after it in rank; in a process
+# group of their own, so that an end of this script ends them too.
+setsid nice -n 19 tests/unproved >"$room/unproved" 2>&1 </dev/null &
 testing=$!
+
+# rank_tests: gives the tests the lowest rank. Linux may rank sessions, where `nice` counts within one alone, and each run of tests
+# begins one of its own.
+rank_tests() {
+    while kill -0 "$testing" && sleep 1; do
+        ps -A -o pid= -o ppid= | awk -v top="$testing" '
+            { above[$1] = $2 }
+            END { for (it in above) { for (at = it; at in above && at != top;) at = above[at]; if (at == top) print it } }' |
+            while read -r each; do echo 19 >"/proc/$each/autogroup"; done
+    done
+} 2>/dev/null
+[ ! -w /proc/self/autogroup ] || rank_tests &
+ranking=$!
 end() {
-    kill -s TERM -- "-$testing" 2>/dev/null
+    kill -s TERM -- "-$testing" "$ranking" 2>/dev/null
     rm -rf "$room"
 }
 trap end EXIT

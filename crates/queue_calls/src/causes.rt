@@ -83,7 +83,8 @@ pub enum Cause {
 fn since<W: fmt::Write>(f: &mut fmt::Formatter<W>, says: &str, item: u64, line: u64) -> fmt::Result
     ensures writes { WritesOnOk W.write_str_gives f.old result (says.now ++ (codes ", but item " ++ (decimal item ++ (codes " was inside since line " ++ decimal line)))) f.new }
 {
-    write!(f, "{says}, but item {item} was inside since line {line}")
+    f.write_str(says)?;
+    write!(f, ", but item {item} was inside since line {line}")
 }
 
 impl fmt::Display for Cause {

@@ -94,6 +94,20 @@ fn no_report() -> Report {
     }
 }
 
+// Counts a call that begins; tells whether one of the other side is under way, each of which overlaps from now on.
+fn count_begin<T>(report: &mut Report, other: &mut Option<Call<T>>) -> bool {
+    report.calls = report.calls.saturating_add(1);
+    match other {
+        Some(call) => {
+            let more = if call.overlapped { 1 } else { 2 };
+            call.overlapped = true;
+            report.overlapped = report.overlapped.saturating_add(more);
+            true
+        }
+        None => false,
+    }
+}
+
 impl<S: Storage> Notes<S> {
     /// Nothing of a queue with no bound, with these lists to keep notes in.
     pub fn new(offered: S::Offered, offers: S::Numbers, taken: S::Taken) -> Notes<S> {
@@ -224,30 +238,12 @@ impl<S: Storage> Notes<S> {
     }
 
     fn producer_begins(&mut self, of: Option<Putting>) {
-        self.report.calls = self.report.calls.saturating_add(1);
-        let overlapped = match &mut self.consumer {
-            Some(call) => {
-                let more = if call.overlapped { 1 } else { 2 };
-                call.overlapped = true;
-                self.report.overlapped = self.report.overlapped.saturating_add(more);
-                true
-            }
-            None => false,
-        };
+        let overlapped = count_begin(&mut self.report, &mut self.consumer);
         self.producer = Some(Call { of, overlapped });
     }
 
     fn take_begins(&mut self, wanted: usize) {
-        self.report.calls = self.report.calls.saturating_add(1);
-        let overlapped = match &mut self.producer {
-            Some(call) => {
-                let more = if call.overlapped { 1 } else { 2 };
-                call.overlapped = true;
-                self.report.overlapped = self.report.overlapped.saturating_add(more);
-                true
-            }
-            None => false,
-        };
+        let overlapped = count_begin(&mut self.report, &mut self.producer);
         self.consumer = Some(Call {
             of: Taking {
                 wanted,

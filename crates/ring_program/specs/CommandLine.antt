@@ -30,9 +30,13 @@ audit_command =
     with_rule (with_rule (with_rule (with_rule (new_app (codes "audit"))
     (flag_rule (codes "bits"))) (flag_rule (codes "long"))) (flag_rule (codes "calls"))) (flag_rule (codes "why"))
 
+-- an option with a value
+abbrev pub value_rule : Text → Rule
+value_rule id = record (new_rule id) { long = Some id; action = Some Set; value_names = 1 }
+
 -- `--wrong`
 abbrev pub wrong_rule : Rule
-wrong_rule = record (new_rule (codes "wrong")) { long = Some (codes "wrong"); action = Some Set; value_names = 1 }
+wrong_rule = value_rule (codes "wrong")
 
 -- `play [--trace | --calls]`, and `play --wrong NAME` with one of the two
 abbrev pub play_command : App
@@ -40,7 +44,7 @@ play_command = with_rule (with_rule (with_rule (new_app (codes "play")) (flag_ru
 
 -- an option whose value is a number up to the most
 abbrev pub number_rule : Text → ℕ → Rule
-number_rule id most = record (new_rule id) { long = Some id; action = Some Set; value_names = 1; parser = Some (Unsigned 0 most) }
+number_rule id most = record (value_rule id) { parser = Some (Unsigned 0 most) }
 
 -- one that has to be given
 abbrev pub required_rule : Text → ℕ → Rule
@@ -56,7 +60,7 @@ batch_rule = record (number_rule (codes "batch") largest) { defaults = codes "1"
 
 -- `--ring`, which is `flicker` where it is left out
 abbrev pub ring_rule : Rule
-ring_rule = record (new_rule (codes "ring")) { long = Some (codes "ring"); action = Some Set; value_names = 1; defaults = codes "flicker" ∷ [] }
+ring_rule = record (value_rule (codes "ring")) { defaults = codes "flicker" ∷ [] }
 
 -- `run`, with the five options that have to be given, three that may be left out, and two flags
 abbrev pub run_application : App

@@ -6,10 +6,10 @@ ghost use Rattle.ring_program.specs.declared.run_line.RingKind.TheVariants as ki
 ghost use Rattle.near_misses.specs.declared.misses.NearMiss.TheVariants as miss;
 ghost use Rattle.ring_program.specs.CommandLine.{application, audit_command, audit_request_of, big_run, long_run, play_command, play_request, play_request_of, record_run, report_and_record, report_run, request_in, request_of, run_of_numbers, short_run, torus_run, wrong_request, wrong_rule};
 
-use crate::options::{flag_option, is_given};
+use crate::options::{flag_option, is_given, value_option};
 use crate::run_line::{Run, RunText, run_command, run_found};
 use clap::error::ErrorKind;
-use clap::{Arg, ArgAction, ArgMatches, Command, Error};
+use clap::{Arg, ArgMatches, Command, Error};
 use near_misses::NearMiss;
 use std::alloc::{AllocError, Global};
 
@@ -211,11 +211,8 @@ fn wrong_option<'a>(alloc: Global) -> Arg<'a>
     ensures rule { rule_of result ≡ wrong_rule }
     ensures local { result.global ≡ false }
 {
-    Arg::new(alloc, "wrong")
-        .long("wrong")
-        .value_name("NAME")
-        .action(ArgAction::Set)
-        .help("Play by the ring of this name, which breaks one rule")
+    let help = "Play by the ring of this name, which breaks one rule";
+    value_option(alloc, "wrong", "NAME", help)
 }
 
 fn play<'a>(alloc: Global) -> Result<Command<'a>, AllocError>

@@ -69,38 +69,51 @@ fn value_of<'a>(words: &[&'a str], option: &str) -> Option<&'a str> {
     None
 }
 
+// The words name this command.
+fn names(words: &[&str], command: &str) -> bool {
+    match words.get(1) {
+        Some(word) => *word == command,
+        None => false,
+    }
+}
+
+// This word is among them.
+fn gives(words: &[&str], option: &str) -> bool {
+    words.iter().any(|word| *word == option)
+}
+
 // The words ask for an audit of bits and of calls at once.
 fn asks_two_audits(words: &[&str]) -> bool {
-    words.get(1) == Some(&"audit") && words.contains(&"--bits") && words.contains(&"--calls")
+    names(words, "audit") && gives(words, "--bits") && gives(words, "--calls")
 }
 
 // The words ask for a long audit, and not of bits.
 fn asks_long_alone(words: &[&str]) -> bool {
-    words.get(1) == Some(&"audit") && words.contains(&"--long") && !words.contains(&"--bits")
+    names(words, "audit") && gives(words, "--long") && !gives(words, "--bits")
 }
 
 // The words ask for the trace and the calls of one play.
 fn asks_two_plays(words: &[&str]) -> bool {
-    words.get(1) == Some(&"play") && words.contains(&"--trace") && words.contains(&"--calls")
+    names(words, "play") && gives(words, "--trace") && gives(words, "--calls")
 }
 
 // The words ask why, and keep no trace.
 fn asks_why_of_pieces(words: &[&str]) -> bool {
-    words.get(1) == Some(&"audit")
-        && words.contains(&"--why")
-        && (words.contains(&"--long") || words.contains(&"--calls"))
+    names(words, "audit")
+        && gives(words, "--why")
+        && (gives(words, "--long") || gives(words, "--calls"))
 }
 
 // The words ask for a play by a near miss, and not for just one of its texts.
 fn asks_wrong_alone(words: &[&str]) -> bool {
-    words.get(1) == Some(&"play")
+    names(words, "play")
         && value_of(words, "--wrong").is_some()
-        && words.contains(&"--trace") == words.contains(&"--calls")
+        && gives(words, "--trace") == gives(words, "--calls")
 }
 
 // The words ask for a report and a recording of one run.
 fn asks_two_texts(words: &[&str]) -> bool {
-    words.get(1) == Some(&"run") && words.contains(&"--report") && words.contains(&"--record")
+    names(words, "run") && gives(words, "--report") && gives(words, "--record")
 }
 
 // What is told of words that ask for what does not go together.
@@ -206,7 +219,7 @@ fn is_signed(word: &str) -> bool {
 
 // The first number with a minus sign behind an option of `run`, with the option that it stands behind.
 fn signed_number<'a>(words: &[&'a str]) -> Option<(&'static str, &'a str)> {
-    if words.get(1) != Some(&"run") {
+    if !names(words, "run") {
         return None;
     }
     for pair in words.windows(2) {

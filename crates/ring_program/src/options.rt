@@ -1,20 +1,34 @@
 //! What the words say of one option.
-ghost use Rattle.std.specs.Prelude.{◌≡◌, false};
-ghost use Rattle.clap.specs.Words.{found_of, rows_of, rule_of};
-ghost use Rattle.ring_program.specs.CommandLine.{flag_rule, is_flag_given, number_given, number_in};
+ghost use Rattle.std.specs.Prelude.{◌≡◌, Some, false};
+ghost use Rattle.clap.specs.Words.{found_of, new_rule, rows_of, rule_of};
+ghost use Rattle.ring_program.specs.CommandLine.{flag_rule, is_flag_given, number_given, number_in, value_rule};
 
 use clap::{Arg, ArgAction, ArgMatches};
 use std::alloc::Global;
+
+// An option by this word.
+fn named_option<'a>(alloc: Global, id: &'a str, help: &'a str) -> Arg<'a>
+    ensures rule { rule_of result ≡ record (new_rule id.entry.now) { long = Some id.entry.now } }
+    ensures local { result.global ≡ false }
+{
+    Arg::new(alloc, id).long(id).help(help)
+}
 
 /// An option that is given or not, by this word.
 pub fn flag_option<'a>(alloc: Global, id: &'a str, help: &'a str) -> Arg<'a>
     ensures rule { rule_of result ≡ flag_rule id.entry.now }
     ensures local { result.global ≡ false }
 {
-    Arg::new(alloc, id)
-        .long(id)
-        .action(ArgAction::SetTrue)
-        .help(help)
+    named_option(alloc, id, help).action(ArgAction::SetTrue)
+}
+
+/// An option by this word, with a value, which the help calls by a name.
+pub fn value_option<'a>(alloc: Global, id: &'a str, name: &'a str, help: &'a str) -> Arg<'a>
+    ensures rule { rule_of result ≡ value_rule id.entry.now }
+    ensures local { result.global ≡ false }
+{
+    let option = named_option(alloc, id, help).value_name(name);
+    option.action(ArgAction::Set)
 }
 
 /// Whether the flag of this id was given.

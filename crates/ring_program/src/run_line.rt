@@ -2,11 +2,11 @@
 ghost use Rattle.std.specs.Prelude.{◌≡◌, IfOk, Some, false, option_map};
 ghost use Rattle.clap.specs.Words.{app_of, first_of, found_of, rows_of, rule_of};
 ghost use Rattle.clap.specs.declared.builder.command.Command.TheViews.{out-Command};
-ghost use Rattle.ring_program.specs.CommandLine.{batch_rule, number_rule, required_rule, ring_given, ring_in, ring_rule, run_application, run_in, text_given};
+ghost use Rattle.ring_program.specs.CommandLine.{batch_rule, number_rule, required_rule, ring_given, ring_in, ring_rule, run_application, run_in, text_asked, text_given};
 
-use crate::options::{flag_option, is_given, number_found};
+use crate::options::{flag_option, is_given, number_found, value_option};
 use clap::builder::ValueParser;
-use clap::{Arg, ArgAction, ArgMatches, Command};
+use clap::{Arg, ArgMatches, Command};
 use ring_run::Limits;
 use std::alloc::{AllocError, Global};
 
@@ -104,12 +104,7 @@ fn number_option<'a>(alloc: Global, id: &'a str, name: &'a str, most: u64, help:
     ensures rule { rule_of result ≡ number_rule id.entry.now most }
     ensures local { result.global ≡ false }
 {
-    Arg::new(alloc, id)
-        .long(id)
-        .value_name(name)
-        .action(ArgAction::Set)
-        .value_parser(ValueParser::unsigned(0, most))
-        .help(help)
+    value_option(alloc, id, name, help).value_parser(ValueParser::unsigned(0, most))
 }
 
 // One that has to be given.
@@ -140,12 +135,7 @@ fn ring_option<'a>(alloc: Global) -> Arg<'a>
     ensures rule { rule_of result ≡ ring_rule }
     ensures local { result.global ≡ false }
 {
-    Arg::new(alloc, "ring")
-        .long("ring")
-        .value_name("RING")
-        .action(ArgAction::Set)
-        .default_value("flicker")
-        .help("flicker or counter")
+    value_option(alloc, "ring", "RING", "flicker or counter").default_value("flicker")
 }
 
 /// The command.
@@ -207,16 +197,23 @@ fn ring_found(matches: &ArgMatches<'_>) -> Option<RingKind>
     }
 }
 
-// The text that was asked for; nothing where it is two.
-fn text_found(matches: &ArgMatches<'_>) -> Option<RunText>
-    ensures { result ≡ text_given (rows_of (found_of matches.now)) }
+// The text, by whether a report and a recording were asked for; nothing where both were.
+fn text_asked(report: bool, recording: bool) -> Option<RunText>
+    ensures { result ≡ text_asked report recording }
 {
-    match (is_given(matches, "report"), is_given(matches, "record")) {
+    match (report, recording) {
         (true, true) => None,
         (true, false) => Some(RunText::Report),
         (false, true) => Some(RunText::Recording),
         (false, false) => Some(RunText::Totals),
     }
+}
+
+// The text that was asked for.
+fn text_found(matches: &ArgMatches<'_>) -> Option<RunText>
+    ensures { result ≡ text_given (rows_of (found_of matches.now)) }
+{
+    text_asked(is_given(matches, "report"), is_given(matches, "record"))
 }
 
 /// What the options ask for.
