@@ -315,6 +315,37 @@ def test_numbers(page, same, _):
          ["letter 7", "letter 28", "letter 38"])
 
 
+KEPT = """const steps = arguments[0], slider = document.getElementById("shown"), frame = document.getElementById("picture"), wrong = [];
+const drawn = () => frame.innerHTML.replace(/ tabindex="[-0-9]*"/g, "");
+for (const step of steps) {
+  slider.value = step < 0 ? Number(slider.max) + 1 + step : step;
+  slider.dispatchEvent(new Event("input"));
+  const kept = drawn();
+  frame.replaceChildren();
+  dispatchEvent(new Event("resize"));
+  if (kept !== drawn()) wrong.push(step);
+}
+return wrong;"""
+
+
+def test_kept(page, same, _):
+    """What is kept of the picture before makes the same picture as one that is drawn anew; and what has the focus keeps it."""
+    for asked in ("example=stale_item&bits=all", "script=five_items", "script=batch_of_three", "example=modulus_one_too_small", "calls=full_with_room", "calls=batch"):
+        page.open(asked)
+        same(f"steps of {asked}", page.browser.run(KEPT, [-1, 0, 1, 2, 5, 4, 3, 6, 7, 8, 0, -2, -1]), [])
+    page.open("example=plain_path")
+    page.write("shape 1 3 1\n" + BLOCK * 400 + "C read s0\nC got s0 1\n" + BLOCK * 400)
+    same("steps of a long trace", page.browser.run(KEPT, [-1, 0, 500, 501, 502, 503, 640, 1601, 1602, 1603, 1700, 1, -1]), [])
+    for asked in ("example=plain_path", "script=plain_path", "calls=plain", "example=stale_item"):
+        page.browser.run("location.hash = arguments[0]", asked)
+        page.browser.until(asked, "return document.getElementById('example').value.endsWith(arguments[0])", asked.split("=")[1])
+        same(f"another text, {asked}", page.browser.run(KEPT, [-1]), [])
+    page.open("script=five_items")
+    page.browser.run("document.querySelectorAll('#moments button')[2].focus()")
+    page.browser.press("enter")
+    same("a reply keeps the focus", page.browser.run("return document.activeElement === document.querySelector('#moments [aria-current]') && document.activeElement === document.querySelectorAll('#moments button')[2]"), True)
+
+
 STEP = """const times = [];
 for (let i = 0; i < 15; i++) {
   const before = performance.now();
@@ -337,4 +368,4 @@ def test_speed(page, same, _):
     same("10,000 events step in 100 ms", [trace[5] < 100, play[5] < 100], [True, True])
 
 
-TESTS = [test_own, test_refusals, test_lessons, test_sizes, test_reach, test_reasons, test_calls, test_collisions, test_waves, test_numbers, test_speed]
+TESTS = [test_own, test_refusals, test_lessons, test_sizes, test_reach, test_reasons, test_calls, test_collisions, test_waves, test_numbers, test_kept, test_speed]
