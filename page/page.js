@@ -127,6 +127,7 @@ function draw() {
   const text = page.drawn.draw({...page.drawn, ring: null, why: "", due: "", aspect}); // the verdicts and their reasons stand above the picture
   const [width, height] = /viewBox="0 0 (\S+) (\S+)"/.exec(text).slice(1).map(Number);
   put(frame, text, {viewBox: `0 ${HEADING} ${width} ${height - HEADING}`, role: "group"});
+  frame.firstElementChild.style.setProperty("--breadth", width);
   document.body.classList.toggle("long", height / width > aspect * LONG);
   reach(frame.querySelector(`[data-line="${focused}"]`), focused !== null);
 }
@@ -355,6 +356,7 @@ function turn(by) {
 function listen() {
   $("example").append(Object.assign(new Option("your own", ""), {hidden: true}), ...lessonOptions(examples.lessons));
   $("example").onchange = () => load(...$("example").value.split(" "), Infinity, true);
+  $("asked").ontoggle = () => $("asked").open && $("lesson").scrollTo(0, $("lesson").scrollHeight); // to the answer
   $("previous").onclick = () => turn(-1);
   $("next").onclick = () => turn(1);
   for (const radio of document.querySelectorAll("input[name=mode]")) radio.onchange = () => {

@@ -198,11 +198,11 @@ export function picture({shape, events, whole = events, fault = null, wholeFault
 
   const drawLegend = () => {
     const parts = [`<g class="write s"><path d="M1 -11h21v14h-21z"/></g><text class="legend" x="32" y="0">write, its value</text>`,
-      `<g class="read s"><path d="M177 -11h21v14h-21z"/></g><text class="legend" x="208" y="0">read, its answer</text>`,
+      `<g class="read s"><path d="M170 -11h21v14h-21z"/></g><text class="legend" x="201" y="0">read, its answer</text>`,
       `<g class="read s free"><path d="M1 13h21v14h-21z"/></g>`,
       `<text class="legend" x="32" y="24">a write of the bit overlaps the read: any answer is permitted</text>`];
-    if (waveBits.length) parts.push(`<path class="level s" d="M353 -10h14M383 3h14"/>`,
-      `<rect class="underway" x="367" y="-11" width="16" height="15"/><text class="legend" x="407" y="0">what the bit holds</text>`);
+    if (waveBits.length) parts.push(`<path class="level s" d="M339 -10h14M369 3h14"/>`,
+      `<rect class="underway" x="353" y="-11" width="16" height="15"/><text class="legend" x="393" y="0">what the bit holds</text>`);
     if (hasCalls) parts.push(`<g class="call"><path d="M530 24v-8h30v8"/></g><text class="legend" x="570" y="24">a call</text>`);
     if (order.length) parts.push(`<g class="operation"><path class="order" d="M545 -3h20"/><path d="M555 -10v7"/><circle cx="555" cy="-3" r="3.5"/></g><text class="legend" x="570" y="0">its effect</text>`);
     sheet.drawLegend(parts);

@@ -112,6 +112,11 @@ def test_refusals(page, same, _):
     same("the sample of calls", page.title(), "calls: lawful")
 
 
+# Whether a part of the lesson is seen, without scrolling.
+SEEN = """const of = id => document.getElementById(id).getBoundingClientRect(), [it, lesson] = [of(arguments[0]), of("lesson")];
+return it.height > 10 && it.top >= lesson.top - 1 && it.bottom <= lesson.bottom + 1 && lesson.bottom <= innerHeight;"""
+
+
 def test_lessons(page, same, _):
     told, lessons = pack.stories(), pack.lessons()
     names = json.loads(pack.examples()["examples.json"])
@@ -126,9 +131,9 @@ def test_lessons(page, same, _):
         same(f"question of {it['name']}", [words(page, "question"), words(page, "answer"), page.browser.run("return document.getElementById('answer').checkVisibility()")],
              [it["question"].replace("`", ""), it["answer"].replace("`", ""), False])
         same(f"{it['name']} has all three", all([it["question"], it["answer"], told[it["mode"], it["name"]]]), True)
-        if at == 0:
-            page.click("question")
-            same("the answer unfolds", page.browser.run("return document.getElementById('answer').checkVisibility()"), True)
+        same(f"question of {it['name']} is seen", page.browser.run(SEEN, "question"), True)
+        page.click("question")
+        page.browser.until(f"answer of {it['name']} is seen when it unfolds", SEEN, "answer")
         if at + 1 < len(lessons):
             page.click("next")
     same("the last", page.browser.run("return document.getElementById('next').disabled"), True)
@@ -150,6 +155,11 @@ def test_sizes(page, same, _):
                     return [scrollX, scrollY, document.querySelector("main").scrollLeft, all.scrollWidth <= innerWidth, it.top >= 0 && it.bottom <= innerHeight / 2 && it.height > 10, innerWidth > 832 || above === 0]""")
                 same(f"the verdict is seen first, {what}", box, [0, 0, 0, True, True, True])
                 same(f"its ground, {what}", page.browser.run("return getComputedStyle(document.body).backgroundColor"), "rgb(255, 255, 255)" if theme == "light" else "rgb(17, 21, 26)")
+        page.open("script=five_items")
+        scale_of = "const it = document.querySelector('#picture svg'); return it.getBoundingClientRect().width / it.viewBox.baseVal.width"
+        same(f"words are not too small, {wide}", page.browser.run(scale_of) > 0.75, True)
+        page.click("ask")
+        same(f"help is not cut, {wide}", page.browser.run("return [...document.querySelectorAll('#help dd')].filter(it => it.scrollHeight > it.clientHeight + 1 || it.scrollWidth > it.clientWidth + 1).map(it => it.textContent)"), [])
     resize(page)
     page.open("example=new_old_inversion&theme=dark")
     media(page, "print")
@@ -229,6 +239,8 @@ const room = document.querySelector("#picture svg").getBoundingClientRect(), fou
 texts.forEach(([text, a], i) => texts.slice(0, i).forEach(([other, b]) => {
   if (a.left < b.right - 1 && b.left < a.right - 1 && a.top < b.bottom - 3 && b.top < a.bottom - 3) found.push(`${text} on ${other}`);
 }));
+const signs = [...document.querySelectorAll("#picture g[transform] > :not(text)")].map(it => it.getBoundingClientRect());
+for (const [text, a] of texts) for (const b of signs) if (a.left < b.right + 3 && b.left < a.right + 3 && a.top < b.bottom - 3 && b.top < a.bottom - 3) found.push(`${text} on a sign`);
 return found;"""
 
 
