@@ -353,7 +353,8 @@ function turn(by) {
   if (it) load(it.mode, it.name, Infinity, true);
 }
 
-function listen() {
+// Lessons, texts and files.
+function listenToTexts() {
   $("example").append(Object.assign(new Option("your own", ""), {hidden: true}), ...lessonOptions(examples.lessons));
   $("example").onchange = () => load(...$("example").value.split(" "), Infinity, true);
   $("asked").ontoggle = () => $("asked").open && $("lesson").scrollTo(0, $("lesson").scrollHeight); // to the answer
@@ -391,6 +392,10 @@ function listen() {
     event.preventDefault();
     openFile(event.dataTransfer.files[0]);
   });
+}
+
+// Steps, and what stands in the tools.
+function listenToTools() {
   $("find").onclick = () => select(page.place);
   $("ask").onclick = () => $("help").showModal();
   $("close").onclick = () => $("help").close();
@@ -411,6 +416,10 @@ function listen() {
     setTimeout(() => URL.revokeObjectURL(anchor.href), 1000);
   };
   $("astrace").onclick = () => setText("trace", {text: traceOf(page.drawn.shape, page.drawn.events)}, true);
+}
+
+// The picture, keys and the window.
+function listenToPicture() {
   $("picture").onclick = event => selectLine(event.target.closest("[data-line]"));
   $("picture").onkeydown = event => {
     const bars = [...$("picture").querySelectorAll("[data-line]")], at = bars.indexOf(event.target.closest("[data-line]"));
@@ -448,7 +457,9 @@ async function start() {
     document.title = "not run";
     return;
   }
-  listen();
+  listenToTexts();
+  listenToTools();
+  listenToPicture();
   await follow();
 }
 

@@ -122,6 +122,9 @@ def test_lessons(page, same, _):
     names = json.loads(pack.examples()["examples.json"])
     same("each example has one lesson", sorted((it["mode"], it["name"]) for it in lessons),
          sorted((mode, it) for mode in pack.MODES for it in names[mode]))
+    chapters = list(dict.fromkeys(it["chapter"] for it in lessons))
+    same("chapters", chapters, ["A safe bit", "The unary register", "A put and a take", "A count while it is written", "The close", "Several items at once", "Rings that are wrong",
+                                "A modulus one too small", "Recorded calls"])
     page.open("")
     for at, it in enumerate(lessons):
         page.browser.until(f"lesson {at + 1}", "return document.getElementById('example').value === arguments[0]", f"{it['mode']} {it['name']}")
