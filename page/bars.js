@@ -22,7 +22,7 @@ export function bars({text, lines, count, fault = null, contradicts = null, caus
   const {full, most} = capacityIn(text), whole = lines.count - 1, lanes = {...BARS, C: BARS.C + (order.length ? EFFECTS : 0)};
   const sheet = sheetOf({whole, count, middle: Math.max(0, fault ?? count - 1), other: contradicts, tall: lanes.C + lanes.high + UNDER, up: 0, lanes, least: NEAR, most: FAR,
     aspect, words, mood, reasons: [why].filter(Boolean), hasReasons: why ? 1 : 0, counted: "line", numberOf: place => place + 2, total: lines.count});
-  const {out, x, top, rowOf, isDrawn, partsOf, drawn, each, unit} = sheet;
+  const {x, top, rowOf, isDrawn, partsOf, drawn, each, unit} = sheet;
 
   // The calls of the rows that are drawn, each once.
   const callsDrawn = () => {
@@ -42,24 +42,24 @@ export function bars({text, lines, count, fault = null, contradicts = null, caus
     const classes = ["bar", call.side === "P" ? "s" : "r", (call.begin === fault || hasEnded && call.end === fault) && "fault",
       contradicts !== null && (call.begin === contradicts || hasEnded && call.end === contradicts) && "against", fault !== null && call.begin > fault && "pale"].filter(Boolean);
     const said = hasEnded ? `${call.asks}: ${call.says}, lines ${call.begin + 2} to ${call.end + 2}` : `${call.asks}, from line ${call.begin + 2}, ${isCut ? "not ended" : "under way"}`;
-    out.push(`<g class="${classes.join(" ")}" data-line="${call.begin + 2}"><title>${call.side} ${escape(said)}</title>`);
+    const own = [`<title>${call.side} ${escape(said)}</title>`];
     for (const {y: rowTop, from, to, begins, ends} of partsOf(call.begin, end)) {
       const y = rowTop + lanes[call.side], middle = round((from + to) / 2), room = to - from - 4;
       const left = begins ? `V${y + lanes.high}` : `M${from} ${y + lanes.high}`, right = ends ? `V${y}` : "";
-      out.push(`<rect class="bg" x="${from}" y="${y}" width="${round(to - from)}" height="${lanes.high}"/><path d="M${to} ${y}H${from}${left}H${to}${right}"/>`,
+      own.push(`<rect class="bg" x="${from}" y="${y}" width="${round(to - from)}" height="${lanes.high}"/><path d="M${to} ${y}H${from}${left}H${to}${right}"/>`,
         `<text class="asks" x="${middle}" y="${y + 17}">${escape(fitted(call.asks, room, LETTER))}</text>`);
-      if (hasEnded) out.push(`<text class="says" x="${middle}" y="${y + 34}">${escape(fitted(call.says, room, SMALL))}</text>`);
+      if (hasEnded) own.push(`<text class="says" x="${middle}" y="${y + 34}">${escape(fitted(call.says, room, SMALL))}</text>`);
     }
-    out.push("</g>");
+    sheet.drawGroup(`class="${classes.join(" ")}" data-line="${call.begin + 2}"`, own);
   };
 
   // A line at fault that ends no call.
   const drawStray = place => {
     if (lines.mates[place + 2] || second || !isDrawn(rowOf(place))) return;
     const line = lineIn(text, lines, place + 2), [side] = line, y = top(rowOf(place)) + lanes[side];
-    out.push(`<g class="bar ${side === "P" ? "s" : "r"} fault"><title>${escape(line)}, line ${place + 2}: ends no call</title>`,
+    sheet.drawGroup(`class="bar ${side === "P" ? "s" : "r"} fault"`, [`<title>${escape(line)}, line ${place + 2}: ends no call</title>`,
       `<path d="M${round(x(place) - unit * 0.6)} ${y}H${x(place)}V${y + lanes.high}H${round(x(place) - unit * 0.6)}"/>`,
-      `<text class="says" x="${round(x(place) - unit * 0.3)}" y="${y + 34}">${escape(fitted(line.slice(2), unit * 0.6, SMALL))}</text></g>`);
+      `<text class="says" x="${round(x(place) - unit * 0.3)}" y="${y + 34}">${escape(fitted(line.slice(2), unit * 0.6, SMALL))}</text>`]);
   };
 
   const capacity = full === Infinity ? "a queue that is never full" : full === most ? `a queue of ${most}` : `a queue that may be full from ${full} items on, and holds ${most} at most`;

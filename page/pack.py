@@ -20,8 +20,8 @@ SHIPPED = "lamport_ring.html"
 FIRST = ["new_old_inversion", "plain_path", "plain"]  # what the page begins with
 LEFT_OUT = {  # scripts of more events or letters than a picture is for; an item that JavaScript has no number for
     "a_million_idle_letters", "a_million_letters_full", "items_999", "largest_shape"}
-SCRIPTS = ["records.js", "module.js", "calls.js", "orders.js", "verdicts.js", "style.js", "sheet.js", "picture.js", "bars.js", "script.js", "plays.js", "places.js",
-           "lessons.js", "views.js", "page.js"]
+SCRIPTS = ["records.js", "module.js", "calls.js", "orders.js", "verdicts.js", "style.js", "sheet.js", "picture.js", "bars.js", "frame.js", "script.js", "plays.js",
+           "places.js", "lessons.js", "views.js", "page.js"]
 MODES = {"trace": ".trace", "script": ".json", "calls": ".calls"}  # what a text may be, and the ends of the names of its files
 MADE_OF = re.compile(rb'<meta name="made-of" content="([^"]*)">')
 

@@ -1,4 +1,5 @@
 // The page: a text in the editor, the proved module's word on it, and its picture.
+import { put } from "./frame.js";
 import { LINKS, lessonOptions, showLesson } from "./lessons.js";
 import { openModule, traceOf } from "./module.js";
 import { excerpt, placeOf } from "./places.js";
@@ -95,7 +96,7 @@ function show(isStep = false) {
   const line = it.refused ? Infinity : shown + 1;
   if (page.long) showLines(it.line && !isStep ? it.line : line);
   if (page.mode !== "script") number(text, it.line, line);
-  report(it.refused ? [] : view.rows(it), it.refused ? [] : whole.moments ?? [], shown);
+  report(it.refused ? [] : view.rows(it), !it.refused && whole.moments || NONE, shown);
   link(shown, most);
 }
 
@@ -117,25 +118,27 @@ function refuse(isRefused) {
 function draw() {
   const frame = $("picture"), focused = frame.contains(document.activeElement) ? document.activeElement.dataset.line : null;
   $("save").disabled = page.drawn === null;
-  document.body.classList.remove("long");
-  if (page.drawn === null) return frame.replaceChildren();
+  if (page.drawn === null) {
+    document.body.classList.remove("long");
+    return frame.replaceChildren();
+  }
   const room = document.querySelector("main");
   const aspect = isSmall.matches ? 0.9 : (room.clientHeight - 20) / (room.clientWidth - 20);
   const text = page.drawn.draw({...page.drawn, ring: null, why: "", due: "", aspect}); // the verdicts and their reasons stand above the picture
-  const drawing = new DOMParser().parseFromString(text, "image/svg+xml").documentElement;
-  const {width, height} = drawing.viewBox.baseVal;
-  drawing.setAttribute("viewBox", `0 ${HEADING} ${width} ${height - HEADING}`);
+  const [width, height] = /viewBox="0 0 (\S+) (\S+)"/.exec(text).slice(1).map(Number);
+  put(frame, text, {viewBox: `0 ${HEADING} ${width} ${height - HEADING}`, role: "group"});
+  frame.firstElementChild.style.setProperty("--breadth", width);
   document.body.classList.toggle("long", height / width > aspect * LONG);
-  frame.replaceChildren(document.adoptNode(drawing));
   reach(frame.querySelector(`[data-line="${focused}"]`), focused !== null);
 }
 
 // The bars are reached by the tabulator, which stops at one of them, and by the arrows up and down.
 function reach(bar, isFocused) {
   const bars = [...$("picture").querySelectorAll("[data-line]")], one = bar ?? bars.at(-1);
-  $("picture").firstElementChild.setAttribute("role", "group");
   for (const it of bars) {
-    it.setAttribute("tabindex", it === one ? 0 : -1);
+    const index = it === one ? "0" : "-1";
+    if (it.getAttribute("tabindex") === index) continue;
+    it.setAttribute("tabindex", index);
     it.setAttribute("role", page.mode === "script" ? "img" : "button");
     it.setAttribute("aria-label", it.querySelector("title").textContent);
   }
@@ -182,21 +185,29 @@ function report(rows, moments, shown) {
     row.append(node("dt", name), node("dd", value));
     return row;
   }));
-  const listed = moments.slice(0, MOST_MOMENTS), last = listed.findLast(it => it.letter <= shown);
-  $("moments").replaceChildren(...listed.map(moment => {
-    const item = node("li", ""), button = node("button", "", moment.letter > shown ? "later" : "");
-    button.type = "button";
-    if (moment === last) button.setAttribute("aria-current", "step");
+  list(moments);
+  const buttons = [...$("moments").querySelectorAll("button")], last = moments.slice(0, MOST_MOMENTS).findLastIndex(it => it.letter <= shown);
+  buttons.forEach((it, i) => it.classList.toggle("later", i > last));
+  $("moments").querySelector("[aria-current]")?.removeAttribute("aria-current");
+  buttons[last]?.setAttribute("aria-current", "step");
+  $("moments").scrollTop = last < 0 ? 0 : buttons[last].offsetTop - $("moments").clientHeight / 2;
+  $("astrace").disabled = page.drawn === null;
+}
+
+// The list of a script's replies, made once for a text.
+const NONE = [];
+let inList = NONE; // what it was made of
+function list(moments) {
+  if (inList === moments) return;
+  inList = moments;
+  $("moments").replaceChildren(...moments.slice(0, MOST_MOMENTS).map(moment => {
+    const item = node("li", ""), button = Object.assign(node("button", ""), {type: "button", onclick: () => stepTo(moment.letter)});
     button.append(node("span", `letter ${moment.letter}`), node("span", moment.words));
-    button.onclick = () => stepTo(moment.letter);
     item.append(button);
     return item;
   }));
-  const current = $("moments").querySelector("[aria-current]");
-  $("moments").scrollTop = current ? current.offsetTop - $("moments").clientHeight / 2 : 0;
   if (moments.length > MOST_MOMENTS) $("moments").append(node("li", `and more: the first ${MOST_MOMENTS} are listed`));
   if (whole.letters > LISTED_LETTERS) $("moments").append(node("li", `not listed for more than ${LISTED_LETTERS} letters`));
-  $("astrace").disabled = page.drawn === null;
 }
 
 function stepTo(shown) {
@@ -342,9 +353,11 @@ function turn(by) {
   if (it) load(it.mode, it.name, Infinity, true);
 }
 
-function listen() {
+// Lessons, texts and files.
+function listenToTexts() {
   $("example").append(Object.assign(new Option("your own", ""), {hidden: true}), ...lessonOptions(examples.lessons));
   $("example").onchange = () => load(...$("example").value.split(" "), Infinity, true);
+  $("asked").ontoggle = () => $("asked").open && $("lesson").scrollTo(0, $("lesson").scrollHeight); // to the answer
   $("previous").onclick = () => turn(-1);
   $("next").onclick = () => turn(1);
   for (const radio of document.querySelectorAll("input[name=mode]")) radio.onchange = () => {
@@ -379,6 +392,10 @@ function listen() {
     event.preventDefault();
     openFile(event.dataTransfer.files[0]);
   });
+}
+
+// Steps, and what stands in the tools.
+function listenToTools() {
   $("find").onclick = () => select(page.place);
   $("ask").onclick = () => $("help").showModal();
   $("close").onclick = () => $("help").close();
@@ -399,6 +416,10 @@ function listen() {
     setTimeout(() => URL.revokeObjectURL(anchor.href), 1000);
   };
   $("astrace").onclick = () => setText("trace", {text: traceOf(page.drawn.shape, page.drawn.events)}, true);
+}
+
+// The picture, keys and the window.
+function listenToPicture() {
   $("picture").onclick = event => selectLine(event.target.closest("[data-line]"));
   $("picture").onkeydown = event => {
     const bars = [...$("picture").querySelectorAll("[data-line]")], at = bars.indexOf(event.target.closest("[data-line]"));
@@ -436,7 +457,9 @@ async function start() {
     document.title = "not run";
     return;
   }
-  listen();
+  listenToTexts();
+  listenToTools();
+  listenToPicture();
   await follow();
 }
 

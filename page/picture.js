@@ -123,28 +123,28 @@ export function picture({shape, events, whole = events, fault = null, wholeFault
     const does = it.isWrite ? `writes ${it.value} to ${it.bit}` : it.ended ? `reads ${it.bit}: ${it.value}` : `reads ${it.bit}`;
     const when = it.ended ? `${counted}s ${numberOf(it.begin)} to ${numberOf(it.end)}` : `from ${counted} ${numberOf(it.begin)}, open`;
     const call = it.begin >= stop ? undefined : calls.find(of => of.side === it.side && of.begin <= it.begin && it.begin <= of.end);
-    out.push(`<g class="${classes}" data-line="${it.begin + 2}"><title>${it.side} ${does}, ${when}${call ? `, of ${callWords(call)[1]}` : ""}</title>`);
+    const own = [`<title>${it.side} ${does}, ${when}${call ? `, of ${callWords(call)[1]}` : ""}</title>`];
     for (const {y: rowTop, from, to, begins, ends} of parts) {
       const y = rowTop + lane(it.side), [quarter, half, most, low] = [1, 2, 3, 4].map(n => y + n * BAR / 4);
       const right = ends && it.ended ? `V${low}` : `L${round(to - TOOTH)} ${quarter}L${to} ${half}L${round(to - TOOTH)} ${most}L${to} ${low}`;
       const left = begins ? "" : `L${from + TOOTH} ${most}L${from} ${half}L${from + TOOTH} ${quarter}L${from} ${y}`;
-      out.push(`<path d="M${from} ${y}H${to}${right}H${from}${left}Z"/>`,
+      own.push(`<path d="M${from} ${y}H${to}${right}H${from}${left}Z"/>`,
         `<text class="bit" x="${round((from + to) / 2)}" y="${rowTop + name(it.side)}">${it.bit}</text>`);
       // The value that is written stands at the begin of a long bar, an answer at its end.
       if (!it.isWrite && !(ends && it.ended)) continue;
       const isLong = it.end - it.begin > 2 && to - from > 60;
       const at = !isLong ? (from + to) / 2 : it.isWrite ? from + 17 : to - 17;
-      out.push(`<text class="digit" x="${round(at)}" y="${y + 20.5}">${it.value}</text>`);
+      own.push(`<text class="digit" x="${round(at)}" y="${y + 20.5}">${it.value}</text>`);
     }
-    out.push("</g>");
+    sheet.drawGroup(`class="${classes}" data-line="${it.begin + 2}"`, own);
   };
 
   const drawStray = it => {
     if (!isDrawn(rowOf(it.place))) return;
     const y = top(rowOf(it.place)), at = x(it.place), bar = y + lane(it.side);
     const classes = ["read", it.family, it.place === fault ? "fault" : "pale"].join(" ");
-    out.push(`<g class="${classes}"><title>${it.side} ${it.act} ${it.bit}, ${counted} ${numberOf(it.place)}: ends nothing</title>`,
-      `<path d="M${at - 10} ${bar}H${at}V${bar + BAR}H${at - 10}"/><text class="bit" x="${at}" y="${y + name(it.side)}">${it.bit}</text></g>`);
+    sheet.drawGroup(`class="${classes}"`, [`<title>${it.side} ${it.act} ${it.bit}, ${counted} ${numberOf(it.place)}: ends nothing</title>`,
+      `<path d="M${at - 10} ${bar}H${at}V${bar + BAR}H${at - 10}"/><text class="bit" x="${at}" y="${y + name(it.side)}">${it.bit}</text>`]);
   };
 
   // A call is a brace over the lane of its side, with what it came to; between the brace and the bars stand its parts.
@@ -152,21 +152,21 @@ export function picture({shape, events, whole = events, fault = null, wholeFault
     const isPut = call.side === "P", [short, long] = callWords(call), when = call.end < Infinity ? `${counted}s ${numberOf(call.begin)} to ${numberOf(call.end)}` : `from ${counted} ${numberOf(call.begin)}, under way`;
     const [line, tip, label, below] = isPut ? [-22, -15, -28, -4] : [tallRow + 22, tallRow + 15, tallRow + 37, tallRow + 8];
     const fits = (text, wide) => text.length * 7.4 + 4 <= wide;
-    out.push(`<g class="call" data-call="${call.begin + 2}"><title>${call.side} ${escape(long)}, ${when}</title>`);
+    const own = [`<title>${call.side} ${escape(long)}, ${when}</title>`];
     const until = Math.min(call.end, stop); // nothing is told of calls from there on
     partsOf(call.begin, until).forEach(({y, from, to, begins, ends}) => {
       const left = begins ? `M${from} ${y + tip}V${y + line}` : `M${from} ${y + line}`, right = ends && call.end < Infinity ? `H${to}V${y + tip}` : `H${to}`;
-      out.push(`<path d="${left}${right}"/>`);
+      own.push(`<path d="${left}${right}"/>`);
       const text = [long, short].find(it => it && fits(it, to - from + unit * 0.8));
-      if (text) out.push(`<text class="callwords" x="${round((from + to) / 2)}" y="${y + label}">${escape(text)}</text>`);
+      if (text) own.push(`<text class="callwords" x="${round((from + to) / 2)}" y="${y + label}">${escape(text)}</text>`);
     });
     for (const part of partsOfCall({...call, end: until}, accesses.filter(it => it.begin < stop))) {
       for (const {y, from, to} of partsOf(part.begin, part.end)) {
         const text = partWords(part, call, shape.modulus).find(it => it.length * 6.6 <= to - from + unit * 0.8);
-        if (text) out.push(`<text class="part" x="${round((from + to) / 2)}" y="${y + below}">${text}</text>`);
+        if (text) own.push(`<text class="part" x="${round((from + to) / 2)}" y="${y + below}">${text}</text>`);
       }
     }
-    out.push("</g>");
+    sheet.drawGroup(`class="call" data-call="${call.begin + 2}"`, own);
   };
 
   const drawWave = (bit, number) => {
@@ -198,11 +198,11 @@ export function picture({shape, events, whole = events, fault = null, wholeFault
 
   const drawLegend = () => {
     const parts = [`<g class="write s"><path d="M1 -11h21v14h-21z"/></g><text class="legend" x="32" y="0">write, its value</text>`,
-      `<g class="read s"><path d="M177 -11h21v14h-21z"/></g><text class="legend" x="208" y="0">read, its answer</text>`,
+      `<g class="read s"><path d="M170 -11h21v14h-21z"/></g><text class="legend" x="201" y="0">read, its answer</text>`,
       `<g class="read s free"><path d="M1 13h21v14h-21z"/></g>`,
       `<text class="legend" x="32" y="24">a write of the bit overlaps the read: any answer is permitted</text>`];
-    if (waveBits.length) parts.push(`<path class="level s" d="M353 -10h14M383 3h14"/>`,
-      `<rect class="underway" x="367" y="-11" width="16" height="15"/><text class="legend" x="407" y="0">what the bit holds</text>`);
+    if (waveBits.length) parts.push(`<path class="level s" d="M339 -10h14M369 3h14"/>`,
+      `<rect class="underway" x="353" y="-11" width="16" height="15"/><text class="legend" x="393" y="0">what the bit holds</text>`);
     if (hasCalls) parts.push(`<g class="call"><path d="M530 24v-8h30v8"/></g><text class="legend" x="570" y="24">a call</text>`);
     if (order.length) parts.push(`<g class="operation"><path class="order" d="M545 -3h20"/><path d="M555 -10v7"/><circle cx="555" cy="-3" r="3.5"/></g><text class="legend" x="570" y="0">its effect</text>`);
     sheet.drawLegend(parts);

@@ -65,6 +65,9 @@ export function sheetOf({whole, count, middle, other = null, tall, up, lanes, le
     });
   };
 
+  // Some elements in one.
+  const drawGroup = (attributes, parts) => out.push(`<g ${attributes}>${parts.join("")}</g>`);
+
   // The rows with their lanes, and a break where rows between two of them are not drawn.
   const drawRows = () => drawn.forEach((row, slot) => {
     const y = top(row), ends = Math.min(each, Math.max(whole - row * each, 0));
@@ -130,14 +133,14 @@ export function sheetOf({whole, count, middle, other = null, tall, up, lanes, le
     reasons.forEach((line, i) => out.push(`<text class="title bad" x="${LEFT - 10}" y="${52 + (i + 1) * WHY}">${escape(line)}</text>`));
   };
 
-  const drawLegend = parts => out.push(`<g transform="translate(${LEFT - 10} ${height - 36})">`, ...parts, "</g>");
+  const drawLegend = parts => drawGroup(`transform="translate(${LEFT - 10} ${height - 36})"`, parts);
 
-  // All of it; the style sheet is in it where `theme` is given.
+  // All of it, an element of the sheet to a line; the style sheet is in it where `theme` is given.
   const textOfSheet = theme => {
     const style = theme === undefined ? "" : `<style>${styleOf(theme)}</style>`;
     return `<svg xmlns="http://www.w3.org/2000/svg" class="ring" viewBox="0 0 ${breadth} ${height}" role="img" aria-label="${escape(words)}">`
-      + `${style}<rect class="bg" width="${breadth}" height="${height}"/>${out.join("\n")}</svg>\n`;
+      + `${style}\n<rect class="bg" width="${breadth}" height="${height}"/>\n${out.join("\n")}\n</svg>\n`;
   };
 
-  return {out, each, unit, drawn, x, top, rowOf, isDrawn, partsOf, placesDrawn, drawRows, drawNumber, drawFlag, drawOrder, drawHead, drawLegend, textOfSheet};
+  return {out, each, unit, drawn, x, top, rowOf, isDrawn, partsOf, placesDrawn, drawGroup, drawRows, drawNumber, drawFlag, drawOrder, drawHead, drawLegend, textOfSheet};
 }

@@ -112,11 +112,19 @@ def test_refusals(page, same, _):
     same("the sample of calls", page.title(), "calls: lawful")
 
 
+# Whether a part of the lesson is seen, without scrolling.
+SEEN = """const of = id => document.getElementById(id).getBoundingClientRect(), [it, lesson] = [of(arguments[0]), of("lesson")];
+return it.height > 10 && it.top >= lesson.top - 1 && it.bottom <= lesson.bottom + 1 && lesson.bottom <= innerHeight;"""
+
+
 def test_lessons(page, same, _):
     told, lessons = pack.stories(), pack.lessons()
     names = json.loads(pack.examples()["examples.json"])
     same("each example has one lesson", sorted((it["mode"], it["name"]) for it in lessons),
          sorted((mode, it) for mode in pack.MODES for it in names[mode]))
+    chapters = list(dict.fromkeys(it["chapter"] for it in lessons))
+    same("chapters", chapters, ["A safe bit", "The unary register", "A put and a take", "A count while it is written", "The close", "Several items at once", "Rings that are wrong",
+                                "A modulus one too small", "Recorded calls"])
     page.open("")
     for at, it in enumerate(lessons):
         page.browser.until(f"lesson {at + 1}", "return document.getElementById('example').value === arguments[0]", f"{it['mode']} {it['name']}")
@@ -126,9 +134,9 @@ def test_lessons(page, same, _):
         same(f"question of {it['name']}", [words(page, "question"), words(page, "answer"), page.browser.run("return document.getElementById('answer').checkVisibility()")],
              [it["question"].replace("`", ""), it["answer"].replace("`", ""), False])
         same(f"{it['name']} has all three", all([it["question"], it["answer"], told[it["mode"], it["name"]]]), True)
-        if at == 0:
-            page.click("question")
-            same("the answer unfolds", page.browser.run("return document.getElementById('answer').checkVisibility()"), True)
+        same(f"question of {it['name']} is seen", page.browser.run(SEEN, "question"), True)
+        page.click("question")
+        page.browser.until(f"answer of {it['name']} is seen when it unfolds", SEEN, "answer")
         if at + 1 < len(lessons):
             page.click("next")
     same("the last", page.browser.run("return document.getElementById('next').disabled"), True)
@@ -150,6 +158,11 @@ def test_sizes(page, same, _):
                     return [scrollX, scrollY, document.querySelector("main").scrollLeft, all.scrollWidth <= innerWidth, it.top >= 0 && it.bottom <= innerHeight / 2 && it.height > 10, innerWidth > 832 || above === 0]""")
                 same(f"the verdict is seen first, {what}", box, [0, 0, 0, True, True, True])
                 same(f"its ground, {what}", page.browser.run("return getComputedStyle(document.body).backgroundColor"), "rgb(255, 255, 255)" if theme == "light" else "rgb(17, 21, 26)")
+        page.open("script=five_items")
+        scale_of = "const it = document.querySelector('#picture svg'); return it.getBoundingClientRect().width / it.viewBox.baseVal.width"
+        same(f"words are not too small, {wide}", page.browser.run(scale_of) > 0.75, True)
+        page.click("ask")
+        same(f"help is not cut, {wide}", page.browser.run("return [...document.querySelectorAll('#help dd')].filter(it => it.scrollHeight > it.clientHeight + 1 || it.scrollWidth > it.clientWidth + 1).map(it => it.textContent)"), [])
     resize(page)
     page.open("example=new_old_inversion&theme=dark")
     media(page, "print")
@@ -229,6 +242,8 @@ const room = document.querySelector("#picture svg").getBoundingClientRect(), fou
 texts.forEach(([text, a], i) => texts.slice(0, i).forEach(([other, b]) => {
   if (a.left < b.right - 1 && b.left < a.right - 1 && a.top < b.bottom - 3 && b.top < a.bottom - 3) found.push(`${text} on ${other}`);
 }));
+const signs = [...document.querySelectorAll("#picture g[transform] > :not(text)")].map(it => it.getBoundingClientRect());
+for (const [text, a] of texts) for (const b of signs) if (a.left < b.right + 3 && b.left < a.right + 3 && a.top < b.bottom - 3 && b.top < a.bottom - 3) found.push(`${text} on a sign`);
 return found;"""
 
 
@@ -315,6 +330,37 @@ def test_numbers(page, same, _):
          ["letter 7", "letter 28", "letter 38"])
 
 
+KEPT = """const steps = arguments[0], slider = document.getElementById("shown"), frame = document.getElementById("picture"), wrong = [];
+const drawn = () => frame.innerHTML.replace(/ tabindex="[-0-9]*"/g, "");
+for (const step of steps) {
+  slider.value = step < 0 ? Number(slider.max) + 1 + step : step;
+  slider.dispatchEvent(new Event("input"));
+  const kept = drawn();
+  frame.replaceChildren();
+  dispatchEvent(new Event("resize"));
+  if (kept !== drawn()) wrong.push(step);
+}
+return wrong;"""
+
+
+def test_kept(page, same, _):
+    """What is kept of the picture before makes the same picture as one that is drawn anew; and what has the focus keeps it."""
+    for asked in ("example=stale_item&bits=all", "script=five_items", "script=batch_of_three", "example=modulus_one_too_small", "calls=full_with_room", "calls=batch"):
+        page.open(asked)
+        same(f"steps of {asked}", page.browser.run(KEPT, [-1, 0, 1, 2, 5, 4, 3, 6, 7, 8, 0, -2, -1]), [])
+    page.open("example=plain_path")
+    page.write("shape 1 3 1\n" + BLOCK * 400 + "C read s0\nC got s0 1\n" + BLOCK * 400)
+    same("steps of a long trace", page.browser.run(KEPT, [-1, 0, 500, 501, 502, 503, 640, 1601, 1602, 1603, 1700, 1, -1]), [])
+    for asked in ("example=plain_path", "script=plain_path", "calls=plain", "example=stale_item"):
+        page.browser.run("location.hash = arguments[0]", asked)
+        page.browser.until(asked, "return document.getElementById('example').value.endsWith(arguments[0])", asked.split("=")[1])
+        same(f"another text, {asked}", page.browser.run(KEPT, [-1]), [])
+    page.open("script=five_items")
+    page.browser.run("document.querySelectorAll('#moments button')[2].focus()")
+    page.browser.press("enter")
+    same("a reply keeps the focus", page.browser.run("return document.activeElement === document.querySelector('#moments [aria-current]') && document.activeElement === document.querySelectorAll('#moments button')[2]"), True)
+
+
 STEP = """const times = [];
 for (let i = 0; i < 15; i++) {
   const before = performance.now();
@@ -337,4 +383,4 @@ def test_speed(page, same, _):
     same("10,000 events step in 100 ms", [trace[5] < 100, play[5] < 100], [True, True])
 
 
-TESTS = [test_own, test_refusals, test_lessons, test_sizes, test_reach, test_reasons, test_calls, test_collisions, test_waves, test_numbers, test_speed]
+TESTS = [test_own, test_refusals, test_lessons, test_sizes, test_reach, test_reasons, test_calls, test_collisions, test_waves, test_numbers, test_kept, test_speed]
