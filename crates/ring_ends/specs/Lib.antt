@@ -1,0 +1,4 @@
+pub mod Below
+pub mod Ends
+pub mod Machines
+pub mod Meetings
