@@ -2,7 +2,7 @@
 ghost use Rattle.ring_ends.specs.Below.{LawsOfEnds};
 
 use bits_core::laws::{made_leave_none_open, open_changes, own_changes};
-use ring_core::laws::runs_by_one_more;
+use ring_core::laws::last_bit_is_one;
 use ring_seats::laws::answers_add;
 
 // What the calls of the flickering ring's ends rest on.
@@ -12,6 +12,6 @@ pub(crate) fn laws_below()
     made_leave_none_open();
     open_changes();
     own_changes();
-    runs_by_one_more();
+    last_bit_is_one();
     answers_add();
 }
