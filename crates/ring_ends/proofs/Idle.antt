@@ -15,13 +15,13 @@ use Rattle.ring_seats.specs.Ring.{RingEnd}
 use Rattle.ring_seats.specs.Rule.{IsIdle}
 use Rattle.ring_ends.specs.Machines.{IsMachine, Machine, consuming, producing}
 use Rattle.ring_ends.specs.Meetings.{closed_reply, ClosesAre, TellsAre}
-use Rattle.ring_ends.specs.Below.{LawsOfEnds}
+use Rattle.ring_seats.specs.Below.{LawsBelow}
 use Rattle.ring_ends.proofs.MachineMoves.{MachineLaws}
 use Rattle.ring_ends.proofs.MachineCalls.{rest_list}
 use Rattle.ring_ends.proofs.PutterCalls.{put_laws}
 use Rattle.ring_ends.proofs.TakerCalls.{take_laws}
 
-pub machine_idle : LawsOfEnds → (k : Machine) → MachineLaws k → (e : RingEnd) (m : k.State) (whole : List Event) → IsMachine k e m whole → k.Rests m → IsIdle k.side e.list
+pub machine_idle : LawsBelow → (k : Machine) → MachineLaws k → (e : RingEnd) (m : k.State) (whole : List Event) → IsMachine k e m whole → k.Rests m → IsIdle k.side e.list
 machine_idle laws k ks e m whole i none = ap (open_access k.side) (rest_list k ks e m i.calls i.made i.at none) ∙ laws.made_idle k.side (k.program e.ring.shape i.calls)
 
 never_closed : (x : Take) → closed_reply (Some (take_reply_to x)) ≡ false

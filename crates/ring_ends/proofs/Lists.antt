@@ -17,16 +17,16 @@ use Rattle.bits_core.specs.Made.{Made, Read, Write, answered, begin_event, end_e
 use Rattle.register_core.specs.ScanState.{zero_reads, row_read_by}
 use Rattle.ring_core.specs.Calls.{EndsInZeros}
 use Rattle.ring_seats.specs.Programs.{Follows, IsRing, begin_of, ending_event}
-use Rattle.ring_ends.specs.Below.{LawsOfEnds}
+use Rattle.ring_seats.specs.Below.{LawsBelow}
 
 pub same_side-same : (x : Side) → same_side x x ≡ true
 same_side-same P = refl
 same_side-same C = refl
 
-pub own-mine : LawsOfEnds → (x : Side) (h : List Event) (e : Event) → is_by x e ≡ true → own x (h ++ e ∷ []) ≡ own x h ++ e ∷ []
+pub own-mine : LawsBelow → (x : Side) (h : List Event) (e : Event) → is_by x e ≡ true → own x (h ++ e ∷ []) ≡ own x h ++ e ∷ []
 own-mine laws x h e by = laws.own_changes x h e ∙ ap (λ t. if t then own x h ++ e ∷ [] else own x h) by
 
-pub own-theirs : LawsOfEnds → (x : Side) (h : List Event) (e : Event) → is_by x e ≡ false → own x (h ++ e ∷ []) ≡ own x h
+pub own-theirs : LawsBelow → (x : Side) (h : List Event) (e : Event) → is_by x e ≡ false → own x (h ++ e ∷ []) ≡ own x h
 own-theirs laws x h e by = laws.own_changes x h e ∙ ap (λ t. if t then own x h ++ e ∷ [] else own x h) by
 
 -- each side of such a history follows its program
@@ -70,7 +70,7 @@ begun_begin : (s : Side) (a : Access) → begun_by (begin_of s a) ≡ Some a
 begun_begin s (access.Read b) = refl
 begun_begin s (access.Write b v) = refl
 
-pub begun_open : LawsOfEnds → (s : Side) (list : List Event) (a : Access) → open_access s (list ++ begin_of s a ∷ []) ≡ Some a
+pub begun_open : LawsBelow → (s : Side) (list : List Event) (a : Access) → open_access s (list ++ begin_of s a ∷ []) ≡ Some a
 begun_open laws s list a =
     laws.open_changes s list (begin_of s a) ∙ ap (λ t. if t then begun_by (begin_of s a) else open_access s list) (by_begin s (answered a true)) ∙ begun_begin s a
 
@@ -81,7 +81,7 @@ length-zeros row zero = refl
 length-zeros row (suc n) = omega (arith, length-append (zero_reads row n) (Read (row n) false ∷ []), length-zeros row n)
 
 -- a side never ends reads of 0 in all bits of the other's count, where that one follows its program
-pub misses : LawsOfEnds → (shape : Shape) (x : Side) (h : List Event) → IsLawful shape h → Follows shape (other x) (own (other x) h) → (before : List Made)
+pub misses : LawsBelow → (shape : Shape) (x : Side) (h : List Event) → IsLawful shape h → Follows shape (other x) (own (other x) h) → (before : List Made)
     → own x h ≡ events_of x (before ++ zero_reads (row_read_by x) (modulus_of shape)) → ⊥
 misses laws shape P h lawful f before is =
     let made : List Made = before ++ zero_reads (row_read_by P) (modulus_of shape) in
@@ -95,7 +95,7 @@ misses laws shape C h lawful f before is =
     omega (arith, lt, ap length is, length-events_of C made, length-append before (zero_reads (row_read_by C) (modulus_of shape)), length-zeros (row_read_by C) (modulus_of shape))
 
 -- so the last bit, behind reads of 0 in all others, is not read as 0
-pub no_zero : LawsOfEnds → (shape : Shape) (x : Side) (h : List Event) → IsLawful shape h → Follows shape (other x) (own (other x) h) → (made : List Made) (i : ℕ) → suc i ≡ modulus_of shape → EndsInZeros shape x made
+pub no_zero : LawsBelow → (shape : Shape) (x : Side) (h : List Event) → IsLawful shape h → Follows shape (other x) (own (other x) h) → (made : List Made) (i : ℕ) → suc i ≡ modulus_of shape → EndsInZeros shape x made
     → own x h ≡ events_of x (made ++ Read (row_read_by x i) false ∷ []) → ⊥
 no_zero laws shape x h lawful f made i size zeros is =
     let before : List Made = zeros.0 in

@@ -15,7 +15,7 @@ use Rattle.ring_seats.specs.Ring.{Ring, RingEnd}
 use Rattle.ring_seats.specs.Programs.{Follows, IsRing, GoesOn, begin_of, ending_event}
 use Rattle.ring_seats.specs.Steppers.{Grows, IsSameEnd, StandsAs, CanMake, CanStep, HasStepped}
 use Rattle.ring_ends.specs.Machines.{ListIs, Machine, MachineAt, MachineStep}
-use Rattle.ring_ends.specs.Below.{LawsOfEnds}
+use Rattle.ring_seats.specs.Below.{LawsBelow}
 use Rattle.ring_ends.proofs.Lists.{own-mine, own-theirs, ring_follows, events_begin, events_more, begun_open, shorter, no_zero, length-events_of}
 use Rattle.ring_ends.proofs.Steps.{by_end, not_by_end, list_closed, list_open, CanMakeAt, CanStepAt, last_false}
 
@@ -58,7 +58,7 @@ pub record Due (k : Machine) (m : k.State) (a : Access) : Type 0 where
 pub right_there : (k : Machine) (e : RingEnd) (m : k.State) (calls : k.Calls) (made : List Made) → MachineAt k e m calls made → (a : Access) → Due k m a → IsOpenRight e.ring.shape e.side a
 right_there k e m calls made at a d = subst (λ (z : Shape × Side). IsOpenRight z.0 z.1 a) (λ i. (at.shape_is i, sym at.side_is i)) d.right
 
-module _ (laws : LawsOfEnds) (k : Machine) (ks : MachineLaws k) (m : k.State) (calls : k.Calls) (made : List Made) (a : Access) (next : Next k m calls made a) where
+module _ (laws : LawsBelow) (k : Machine) (ks : MachineLaws k) (m : k.State) (calls : k.Calls) (made : List Made) (a : Access) (next : Next k m calls made a) where
   begins : (answer : Bool) → (LastBitIsDue (k.shape_of m) k.side (Some a) → answer ≡ true) → (more : k.Calls) × k.More (k.shape_of m) next.one calls more × IsBeginning (events_of k.side (made ++ answered a answer ∷ [])) (events_of k.side (k.program (k.shape_of m) more))
   begins answer may = let b = next.goes answer may in (b.0, b.1, events_begin k.side (made ++ answered a answer ∷ []) (k.program (k.shape_of m) b.0) b.2)
 
@@ -103,7 +103,7 @@ module _ (laws : LawsOfEnds) (k : Machine) (ks : MachineLaws k) (m : k.State) (c
 
 -- ---- with the end
 
-module _ (laws : LawsOfEnds) (k : Machine) (ks : MachineLaws k) (e : RingEnd) (m : k.State) (calls : k.Calls) (made : List Made) (at : MachineAt k e m calls made) (a : Access) (d : Due k m a) where
+module _ (laws : LawsBelow) (k : Machine) (ks : MachineLaws k) (e : RingEnd) (m : k.State) (calls : k.Calls) (made : List Made) (at : MachineAt k e m calls made) (a : Access) (d : Due k m a) where
   abbrev next : Next k m calls made a
   next = d.next calls made at.stands
 

@@ -14,7 +14,7 @@ use Rattle.ring_seats.specs.Ring.{Ring, RingEnd}
 use Rattle.ring_seats.specs.Programs.{begin_of, ending_event}
 use Rattle.ring_seats.specs.Steppers.{AreAnswered, answers_in, CanMake, Grows, HasMade, HasStepped, IsSameEnd, StandsAs}
 use Rattle.ring_ends.specs.Machines.{Machine, MachineAt, MachineReady, MachineGoes, MachineOver, MachineIn, MachineBusy, MachineWent, MachineEnded, IsMachine, IsMarked, without_last}
-use Rattle.ring_ends.specs.Below.{LawsOfEnds}
+use Rattle.ring_seats.specs.Below.{LawsBelow}
 use Rattle.ring_ends.proofs.Accesses.{longer, same, same_on}
 use Rattle.ring_ends.proofs.Lists.{begun_open, length-events_of}
 use Rattle.ring_ends.proofs.MachineMoves.{Due, MachineLaws, right_there, at_begun, at_ended, can_make, list_ended, one_there}
@@ -23,7 +23,7 @@ use Rattle.ring_ends.proofs.Steps.{none-some}
 
 -- ---- one access of a call that goes on, by what a machine tells of the one that is due
 
-module _ (laws : LawsOfEnds) (k : Machine) (ks : MachineLaws k) (e : RingEnd) (m : k.State) (calls : k.Calls) (c : k.Call) (g : MachineGoes k e m calls c) (a : Access) (d : Due k m a) where
+module _ (laws : LawsBelow) (k : Machine) (ks : MachineLaws k) (e : RingEnd) (m : k.State) (calls : k.Calls) (c : k.Call) (g : MachineGoes k e m calls c) (a : Access) (d : Due k m a) where
   pub can_go : CanMake e a
   can_go = can_make laws k ks e m calls g.made g.at a d g.list_is
 
@@ -66,14 +66,14 @@ module _ (laws : LawsOfEnds) (k : Machine) (ks : MachineLaws k) (e : RingEnd) (m
 pub went_nowhere : (k : Machine) (e : RingEnd) (m : k.State) (said : ℕ → Bool) → MachineWent k e m e m said said
 went_nowhere k e m said = record { same = record { ring = refl; side = refl; known = refl }; longer = omega arith; kind = refl; rests = λ _. (refl, refl); goes = λ calls c was. was; answered = record { loads = []; loads_are = sym (append-nil e.loads); answers_are = sym (append-nil (answers_in e.list)); asked = λ i. ap said (sym (add-zero i)) } }
 
-pub went_then : LawsOfEnds → (k : Machine) {e a b : RingEnd} {m n o : k.State} {old mid now : ℕ → Bool} → MachineWent k e m a n old mid → MachineWent k a n b o mid now → MachineWent k e m b o old now
+pub went_then : LawsBelow → (k : Machine) {e a b : RingEnd} {m n o : k.State} {old mid now : ℕ → Bool} → MachineWent k e m a n old mid → MachineWent k a n b o mid now → MachineWent k e m b o old now
 went_then laws k w v = record {
   same = same_on w.same v.same;
   longer = omega (arith, w.longer, v.longer);
   kind = v.kind ∙ w.kind;
   rests = λ none. (let first = w.rests none in let then = v.rests (subst k.Rests (sym first.0) none) in (then.0 ∙ first.0, then.1 ∙ first.1));
   goes = λ calls c was. v.goes calls c (w.goes calls c was);
-  answered = laws.answers_add _ _ _ _ _ _ w.answered v.answered;
+  answered = laws.answers _ _ _ _ _ _ w.answered v.answered;
 }
 
 module _ (k : Machine) (ks : MachineLaws k) {e0 : RingEnd} {m0 : k.State} {e : RingEnd} {m : k.State} {old now : ℕ → Bool} (w : MachineWent k e0 m0 e m old now) where
@@ -117,7 +117,7 @@ pub ready_busy : (k : Machine) (e : RingEnd) (m : k.State) (calls : k.Calls) →
 ready_busy k e m calls ready d is = (calls, d, inl (record { made = k.program (k.shape_of m) calls; at = ready.at; list_is = ready.list_is; busy = is }))
 
 -- one access behind them, while the call goes on
-module _ (laws : LawsOfEnds) (k : Machine) (ks : MachineLaws k) {e0 : RingEnd} {m0 : k.State} {e : RingEnd} {m : k.State} {old now : ℕ → Bool} (was : MachineBusy k e0 m0) (w : MachineWent k e0 m0 e m old now) (one : k.Call) (busy : k.Busy m one) (a : Access) (d : Due k m a) where
+module _ (laws : LawsBelow) (k : Machine) (ks : MachineLaws k) {e0 : RingEnd} {m0 : k.State} {e : RingEnd} {m : k.State} {old now : ℕ → Bool} (was : MachineBusy k e0 m0) (w : MachineWent k e0 m0 e m old now) (one : k.Call) (busy : k.Busy m one) (a : Access) (d : Due k m a) where
   goes_in : (calls : k.Calls) (c : k.Call) → MachineIn k e m calls c → MachineGoes k e m calls c
   goes_in calls c (inl g) = g
   goes_in calls c (inr o) = absurd (ks.never m one o.rests busy)

@@ -1,4 +1,3 @@
-pub mod Below
 pub mod Ends
 pub mod Machines
 pub mod Meetings

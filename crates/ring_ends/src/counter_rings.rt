@@ -7,7 +7,6 @@ ghost use Rattle.ring_core.specs.Linear.{EachReadingIsLinearizable};
 ghost use Rattle.ring_seats.specs.Steppers.{StandsAs};
 ghost use Rattle.ring_ends.specs.Meetings.{KeepsEnd, Meets, ClosesAre, TellsAre};
 
-use crate::below::laws_below;
 use crate::counter_putters::CounterPutter;
 use crate::counter_takers::CounterTaker;
 use crate::ends::RingOf;
@@ -16,6 +15,7 @@ use crate::meetings::Finished;
 use crate::rings::{Pad, RingIn, Start};
 use bits_core::Shape;
 use ring_core::laws::ring_is_linearizable;
+use ring_seats::laws::laws_below;
 use ring_seats::{Counting, counter_table, first_steppers, join_steppers, meet_steppers};
 use std::alloc::{Allocator, Global};
 
@@ -35,6 +35,11 @@ pub type CounterRing<A> = RingIn<Counting, A>;
 ///
 /// In use: `uses::two_threads::pass_through`.
 pub type CounterStart = Start;
+
+/// A counter ring whose run is over: what is left of it is what is left of a flickering ring.
+///
+/// In use: `uses::two_threads::pass_through`.
+pub type CounterFinished = Finished;
 
 impl<A: Allocator + Copy> CounterRing<A> {
     /// A ring of this shape with nothing put, and the right to make its ends. It takes memory for one word for each
@@ -57,14 +62,7 @@ impl<A: Allocator> CounterRing<A> {
     {
         self.words().find_word(place)
     }
-}
 
-/// A counter ring whose run is over: what is left of it is what is left of a flickering ring.
-///
-/// In use: `uses::two_threads::pass_through`.
-pub type CounterFinished = Finished;
-
-impl<A: Allocator> CounterRing<A> {
     /// The two ends of the ring: the one puts, the other takes. They have made no call and know the history with no
     /// event. The start is the one that was made with this ring; it is spent, so a ring has one pair of ends. It takes
     /// no memory.
@@ -74,7 +72,7 @@ impl<A: Allocator> CounterRing<A> {
         ensures taker { result.1 ≡ record { ring = self.now; side = C; list = []; known = []; loads = [] } }
         ensures lawful { StandsAs P result.0 × StandsAs C result.1 }
     {
-        let (p, c) = first_steppers(self.words(), self.words(), start.seat);
+        let (p, c) = first_steppers(self.words(), start.seat);
         (
             CounterPutter {
                 before: Pad::new(),

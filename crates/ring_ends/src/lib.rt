@@ -3,7 +3,6 @@
 //! they are made, meet and end.
 #![tactic(auto)]
 
-mod below;
 mod counter_putters;
 mod counter_rings;
 mod counter_takers;

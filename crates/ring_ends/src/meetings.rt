@@ -5,7 +5,6 @@ ghost use Rattle.ring_core.specs.Linear.{EachReadingIsLinearizable};
 ghost use Rattle.ring_seats.specs.Steppers.{StandsAs};
 ghost use Rattle.ring_ends.specs.Meetings.{KeepsEnd, Meets, ClosesAre, TellsAre, closed_reply};
 
-use crate::below::laws_below;
 use crate::putters::Putter;
 use crate::rings::{FlickerRing, Pad, Start};
 use crate::takers::Taker;
@@ -13,6 +12,7 @@ use atomic_table::Seat;
 use bits_core::Oracle;
 use ring_core::laws::ring_is_linearizable;
 use ring_core::{Consumer, Producer, TakeReply};
+use ring_seats::laws::laws_below;
 use ring_seats::{View, first_steppers, join_steppers, meet_steppers};
 use std::alloc::{Allocator, Global};
 use std::marker::Model;
@@ -69,7 +69,7 @@ impl<A: Allocator> FlickerRing<A> {
         ensures oracles { (result.0.oracle ≡ oracle_p) × (result.1.oracle ≡ oracle_c) }
     {
         let shape = self.shape();
-        let (p, c) = first_steppers(self.words(), self.words(), start.seat);
+        let (p, c) = first_steppers(self.words(), start.seat);
         (
             Putter {
                 before: Pad::new(),

@@ -14,11 +14,11 @@ ghost use Rattle.bits_core.specs.declared.events.Side.TheVariants.{P};
 ghost use Rattle.ring_ends.specs.Ends.{HasPut, HasPutAll, HasPutPart, HasClosed, whole_put, puts_whole};
 ghost use Rattle.ring_ends.specs.Machines.{CallBegins, MachineAt, MachineBusy, MachineEnded, MachineReady, MachineStep, MachineWent, producing};
 
-use crate::below::laws_below;
 use crate::ends::PutEnd;
 use crate::rings::Pad;
 use bits_core::{Oracle, Shape};
 use ring_core::{BatchReply, Producer, PutReply};
+use ring_seats::laws::laws_below;
 use ring_seats::{Flickering, Stepper};
 use std::marker::Model;
 

@@ -12,11 +12,11 @@ ghost use Rattle.bits_core.specs.declared.events.Side.TheVariants.{C};
 ghost use Rattle.ring_ends.specs.Ends.{HasTaken, HasTakePart, whole_take, takes_whole};
 ghost use Rattle.ring_ends.specs.Machines.{CallBegins, MachineAt, MachineBusy, MachineEnded, MachineReady, MachineStep, MachineWent, consuming};
 
-use crate::below::laws_below;
 use crate::ends::TakeEnd;
 use crate::rings::Pad;
 use bits_core::{Oracle, Shape};
 use ring_core::{Consumer, TakeReply};
+use ring_seats::laws::laws_below;
 use ring_seats::{Flickering, Stepper};
 use std::marker::Model;
 

@@ -1,8 +1,9 @@
--- The laws of the crates below on which the rule of the ring rests.
+-- The laws on which the steps of a ring, each of which keeps the rule, and the calls of its ends rest.
 use Rattle.bits_core.specs.Laws.{BeforeLastChanges, BeginningIsLawful, EmptyIsLawful, HeldChanges, LawfulByOneMore, MadeLeaveNoneOpen, OpenChanges, OpenFromOwn, OpenWriteChanges, OwnChanges, QuietIsHeld}
 use Rattle.ring_core.specs.CountWrites.{CountsShowNumbers}
 use Rattle.ring_core.specs.OneCallMore.{ClosesByOneMore, EndsByOneMore, PutsByOneMore, TakesByOneMore}
 use Rattle.ring_core.specs.RunLaws.{RunsByPut, RunsByTake, PutsAreSeen, TakesAreSeen}
+use Rattle.ring_seats.specs.Laws.{AnswersAdd}
 
 pub record LawsBelow : Type 0 where
   pub nothing : EmptyIsLawful
@@ -25,3 +26,4 @@ pub record LawsBelow : Type 0 where
   pub one_close : ClosesByOneMore
   pub one_take : TakesByOneMore
   pub one_end : EndsByOneMore
+  pub answers : AnswersAdd

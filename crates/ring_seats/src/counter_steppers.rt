@@ -11,8 +11,8 @@ ghost use Rattle.ring_seats.specs.Steppers.{StandsAs};
 ghost use Rattle.ring_seats.specs.Programs.{Follows};
 ghost use Rattle.ring_seats.specs.Counters.{GrowsBy, unary_over, count_place, their_place};
 
-use crate::below::laws_below;
 use crate::counter_words::Counting;
+use crate::laws::laws_below;
 use crate::steppers::Stepper;
 use bits_core::Side;
 use std::marker::Brand;
@@ -84,9 +84,7 @@ impl<'a> Stepper<'a, Counting> {
         laws_below();
         self.ring.store_all::<Brand, ()>(&mut self.seat, 0, &(), 1);
     }
-}
 
-impl<'a> Stepper<'a, Counting> {
     // One load: a whole word read.
     pub(crate) fn read_cell(&mut self, cell: u64) -> u64
         requires side { self.old.side ≡ C }

@@ -3,10 +3,8 @@
 //! and what they show; the steps of a seat, each of which keeps the rule; how two seats are made, meet and are joined.
 #![tactic(auto)]
 
-mod below;
-mod counter_puts;
+mod counter_calls;
 mod counter_steppers;
-mod counter_takes;
 mod counter_words;
 pub mod laws;
 mod layout;
@@ -16,11 +14,10 @@ mod tables;
 mod views;
 mod words;
 
-pub use counter_puts::{close_open, put_open};
-pub use counter_takes::take_open;
+pub use counter_calls::{close_open, put_open, take_open};
 pub use counter_words::{CounterRule, Counting};
 pub use meetings::{first_steppers, join_steppers, meet_steppers};
 pub use steppers::Stepper;
-pub use tables::{counter_table, flicker_table};
+pub use tables::{NewTable, counter_table, flicker_table};
 pub use views::{FlickerRule, Flickering, Keeping, Kind, Loads, RuleOf, View};
 pub use words::Words;

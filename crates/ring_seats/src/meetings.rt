@@ -6,7 +6,7 @@ ghost use Rattle.ring_seats.specs.Rule.{IsIdle, joint, list_of, may_step};
 ghost use Rattle.ring_seats.specs.Meetings.{KeepsEnd, Meets};
 ghost use Rattle.ring_seats.specs.Steppers.{StandsAs};
 
-use crate::below::laws_below;
+use crate::laws::laws_below;
 use crate::steppers::Stepper;
 use crate::views::{Keeping, View};
 use crate::words::Words;
@@ -14,22 +14,21 @@ use atomic_table::Seat;
 use bits_core::Side;
 
 /// The two seats of a ring, of whichever kind, by the seat that was made with its table: the one steps for the producer, the
-/// other for the consumer. They have made no step and know the history with no event. The words are the ring's, once for each.
-///
+/// other for the consumer. They have made no step and know the history with no event.
 /// For example, the two ends of a new ring step by these.
 pub fn first_steppers<'a, K: Keeping>(
     ring: Words<'a, K>,
-    same: Words<'a, K>,
     mut seat: Seat<(), View>,
 ) -> (Stepper<'a, K>, Stepper<'a, K>)
-    requires { (same ≡ ring) × (seat.table_id ≡ ring.id) × (seat.me ≡ (joint [] [] [] [], [])) }
+    requires { (seat.table_id ≡ ring.id) × (seat.me ≡ (joint [] [] [] [], [])) }
     ensures putter { result.0 ≡ record { ring = ring.entry; side = P; list = []; known = []; loads = [] } }
     ensures taker { result.1 ≡ record { ring = ring.entry; side = C; list = []; known = []; loads = [] } }
     ensures lawful { StandsAs P result.0 × StandsAs C result.1 }
 {
     laws_below();
     let other = ring.part(&mut seat);
-    (stepper(ring, seat, Side::P), stepper(same, other, Side::C))
+    let same = ring.again();
+    (stepper(same, seat, Side::P), stepper(ring, other, Side::C))
 }
 
 // A seat that has no access open.
@@ -49,7 +48,6 @@ fn stepper<'a, K: Keeping>(ring: Words<'a, K>, seat: Seat<(), View>, side: Side)
 
 /// The two seats learn one lawful history, whose sides are their two lists and which begins with what each knew. They are those
 /// of one ring, and have no access open; they keep their lists. It makes no access.
-///
 /// For example, the ends of either ring `meet` so.
 pub fn meet_steppers<'a, K: Keeping>(
     p: Stepper<'a, K>,
@@ -76,7 +74,6 @@ pub fn meet_steppers<'a, K: Keeping>(
 }
 
 /// The two seats, of one ring and with no access open, end in one that knows such a history. It makes no access.
-///
 /// For example, the run of either ring is ended so.
 pub fn join_steppers<'a, K: Keeping>(p: Stepper<'a, K>, c: Stepper<'a, K>) -> Seat<(), View>
     requires sides { (p.side ≡ P) × (c.side ≡ C) }

@@ -10,7 +10,7 @@ ghost use Rattle.ring_seats.specs.Programs.{Follows, GoesOn, begin_of, ending_ev
 ghost use Rattle.ring_seats.specs.Rule.{IsIdle};
 ghost use Rattle.ring_seats.specs.Steppers.{AreAnswered, Grows, CanMake, CanStep, HasMade, HasStepped, IsAskedOnce};
 
-use crate::below::laws_below;
+use crate::laws::laws_below;
 use crate::views::{Flickering, Keeping, View};
 use crate::words::Words;
 use atomic_table::Seat;
@@ -19,7 +19,6 @@ use std::marker::{Brand, Model};
 
 /// A seat of one side, with what the kind of ring keeps of the access that is open. To a contract it is an end: its ring, its
 /// side, its list of events, what it knows, and what the loads of its reads found.
-///
 /// For example, each end of a ring has one, by which it makes its steps.
 #[derive(Drop)]
 pub struct Stepper<'a, K: Keeping> {

@@ -4,29 +4,24 @@ ghost use Rattle.ring_seats.specs.Counters.{first_counts, words_of};
 ghost use Rattle.ring_seats.specs.Rule.{joint};
 ghost use Rattle.ring_seats.specs.Words.{first_words, word_count as count_of_words};
 
-use crate::below::laws_below;
 use crate::counter_words::Counting;
+use crate::laws::laws_below;
 use crate::layout::{FIRST_S, first_r, word_count};
 use crate::views::{Flickering, RuleOf, View};
 use atomic_table::{Seat, Table};
 use bits_core::Shape;
 use std::alloc::{AllocError, Allocator};
 
+/// A table of a kind of ring with its one seat, or an error where the allocator refused memory. For example, see [`flicker_table`].
+pub type NewTable<K, A> = Result<
+    (Table<(), View, Shape, RuleOf<K>, A>, Seat<(), View>),
+    AllocError,
+>;
+
 /// The table of the words of a ring's bits, and its one seat, with nothing put. It takes memory for one word for each bit, and
 /// for 16 words behind the close bit, each count and each cell, which keep these apart. An error is answered only where the
-/// allocator refused that.
-///
-/// For example, a new `FlickerRing` is this table.
-pub fn flicker_table<A: Allocator + Copy>(
-    alloc: A,
-    shape: Shape,
-) -> Result<
-    (
-        Table<(), View, Shape, RuleOf<Flickering>, A>,
-        Seat<(), View>,
-    ),
-    AllocError,
->
+/// allocator refused that. For example, a new `FlickerRing` is this table.
+pub fn flicker_table<A: Allocator + Copy>(alloc: A, shape: Shape) -> NewTable<Flickering, A>
     ensures { IfOk result (λ t. (t.0.shared.key ≡ shape) × (t.0.shared.table_id.words ≡ count_of_words shape) × (0 < count_of_words shape) × (t.1.table_id ≡ t.0.shared.table_id) × (t.1.me ≡ (joint [] [] [] [], []))) }
 {
     laws_below();
@@ -35,13 +30,8 @@ pub fn flicker_table<A: Allocator + Copy>(
 }
 
 /// The table of a counter ring's words, and its one seat, with nothing put. It takes memory for one word for each cell and three
-/// more. An error is answered only where the allocator refused that.
-///
-/// For example, a new `CounterRing` is this table.
-pub fn counter_table<A: Allocator + Copy>(
-    alloc: A,
-    shape: Shape,
-) -> Result<(Table<(), View, Shape, RuleOf<Counting>, A>, Seat<(), View>), AllocError>
+/// more. An error is answered only where the allocator refused that. For example, a new `CounterRing` is this table.
+pub fn counter_table<A: Allocator + Copy>(alloc: A, shape: Shape) -> NewTable<Counting, A>
     ensures { IfOk result (λ t. (t.0.shared.key ≡ shape) × (t.0.shared.table_id.words ≡ words_of shape) × (0 < words_of shape) × (t.1.table_id ≡ t.0.shared.table_id) × (t.1.me ≡ (joint [] [] [] [], []))) }
 {
     laws_below();

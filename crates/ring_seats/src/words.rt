@@ -6,7 +6,7 @@ ghost use Rattle.bits_core.specs.Shape.{belongs};
 ghost use Rattle.ring_seats.specs.Rule.{KeepsFlickerRule, KeptBy, Added, Learned, Holds, IsWordFound, IsIdle, joint, joined, putter_of, taker_of};
 ghost use Rattle.ring_seats.specs.Words.{word_place};
 
-use crate::below::laws_below;
+use crate::laws::laws_below;
 use crate::layout::place_of;
 use crate::views::{AddedEvent, Adds, Both, Cut, Finds, Flickering, Kind, Learns, RuleOf, View};
 use atomic_table::{Seat, Shared};
@@ -14,7 +14,6 @@ use bits_core::{Bit, Shape, Side};
 use std::marker::{Brand, Model};
 
 /// The words of a ring, by which a seat steps. To a contract they are that ring.
-///
 /// For example, each end of a ring has them in its [`Stepper`](crate::Stepper).
 #[derive(Drop)]
 pub struct Words<'a, K: Kind> {
@@ -79,17 +78,6 @@ impl<'a, K: Kind> Words<'a, K> {
         self.shared.split_seat::<Cut>(seat)
     }
 
-    // Puts the two seats together.
-    pub(crate) fn unite(&self, seat: &mut Seat<(), View>, other: Seat<(), View>)
-        requires own { (seat.old.table_id ≡ self.now.id) × (other.table_id ≡ self.now.id) × (other.me.1 ≡ []) }
-        requires sides { (seat.old.me.0.puts ≡ true) × (other.me.0.takes ≡ true) }
-        requires idle { IsIdle P seat.old.me.0.put × IsIdle C other.me.0.taken }
-        ensures { (seat.new.table_id ≡ seat.old.table_id) × (seat.new.me ≡ (joined seat.old.me.0 other.me.0, seat.old.me.1)) }
-    {
-        laws_below();
-        self.shared.join_seat::<Both>(seat, other);
-    }
-
     // The joint seat learns the history.
     pub(crate) fn learn<N: AddedEvent>(&self, seat: &mut Seat<(), View>)
         requires own { (seat.old.table_id ≡ self.now.id) × (seat.old.me.0.puts ≡ true) × (seat.old.me.0.takes ≡ true) }
@@ -110,7 +98,8 @@ impl<'a, K: Kind> Words<'a, K> {
         ensures view { seat.new.me.0 ≡ joint seat.old.me.0.put other.me.0.taken seat.new.me.0.known seat.new.me.0.known }
         ensures holds { Holds self.now.shape seat.new.me.0.known (joined seat.old.me.0 other.me.0) }
     {
-        self.unite(seat, other);
+        laws_below();
+        self.shared.join_seat::<Both>(seat, other);
         self.learn::<Brand>(seat);
     }
 }

@@ -17,8 +17,8 @@ taker_starts laws shape v is = subst (λ w. Stands shape C (list_of C w) w.known
 
 pub returns-clause-lawful : goal.returns-clause-lawful
 returns-clause-lawful g c =
-    let start = c.requires.2 in
+    let start = c.requires.1 in
     let part = c.part-other.ensures in (
-      subst (StandsAs P) (sym c.stepper.ensures) (putter_starts c.laws_below.ensures c.args.ring.shape c.part-other.new.seat.me.0 (ap (λ m. m.0) part.putter.1 ∙ ap (λ m. putter_of m.0) start)),
-      subst (StandsAs C) (sym c.stepper-2.ensures) (taker_starts c.laws_below.ensures c.args.same.shape c.part-other.result.me.0 (ap (λ m. m.0) part.taker.1 ∙ ap (λ m. taker_of m.0) start)),
+      subst (StandsAs P) (sym c.stepper.ensures) (putter_starts c.laws_below.ensures c.again-same.result.shape c.part-other.new.seat.me.0 (ap (λ m. m.0) part.putter.1 ∙ ap (λ m. putter_of m.0) start)),
+      subst (StandsAs C) (sym c.stepper-2.ensures) (taker_starts c.laws_below.ensures c.args.ring.shape c.part-other.result.me.0 (ap (λ m. m.0) part.taker.1 ∙ ap (λ m. taker_of m.0) start)),
     )

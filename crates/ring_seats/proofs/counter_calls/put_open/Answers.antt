@@ -4,7 +4,7 @@ use Rattle.bits_core.specs.Shape.{AllFit, capacity_of, modulus_of}
 use Rattle.ring_seats.specs.Ring.{RingEnd}
 use Rattle.ring_seats.proofs.CounterPuts.{first_fit}
 use Rattle.ring_seats.proofs.CounterPutterCalls.{Fitting, same_shape, kept, kept_full, to_scan, full_put, to_store, to_count, stored_put}
-use Rattle.ring_seats.proofs.counter_puts.put_open.Goals as goal
+use Rattle.ring_seats.proofs.counter_calls.put_open.Goals as goal
 
 pub scan-seen-requires : goal.scan-seen-requires
 scan-seen-requires c = record { program = to_scan c.laws_below.ensures c.args.stepper.now c.args.count.now c.args.cell.now c.args.items.now c.requires.at.0 c.requires.at.1 c.requires.at.2 c.requires.batch }

@@ -8,7 +8,7 @@ use Rattle.ring_core.specs.ProducerCalls.{and_close}
 use Rattle.ring_seats.specs.Calls.{HasPuts}
 use Rattle.ring_seats.proofs.CounterPuts.{to_close, closed_is}
 use Rattle.ring_seats.proofs.CounterPutterCalls.{same_shape}
-use Rattle.ring_seats.proofs.counter_puts.close_open.Goals as goal
+use Rattle.ring_seats.proofs.counter_calls.close_open.Goals as goal
 
 pub write_close-requires-clause-program : goal.write_close-requires-clause-program
 write_close-requires-clause-program c = to_close c.laws_below.ensures c.args.stepper.now.ring.shape c.args.stepper.now.list c.requires.at.0 c.requires.at.2 c.requires.at.3

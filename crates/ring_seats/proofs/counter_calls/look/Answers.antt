@@ -3,7 +3,7 @@ use Rattle.bits_core.specs.declared.shapes.Shape.{Shape}
 use Rattle.ring_core.specs.Counts.{ShowsItem}
 use Rattle.ring_seats.specs.Ring.{RingEnd}
 use Rattle.ring_seats.proofs.CounterTakerCalls.{to_scan, found_once, to_ask, found_empty, to_rescan, found_twice, found_closed}
-use Rattle.ring_seats.proofs.counter_takes.look.Goals as goal
+use Rattle.ring_seats.proofs.counter_calls.look.Goals as goal
 
 pub scan-seen-requires : goal.scan-seen-requires
 scan-seen-requires c = record { program = to_scan c.laws_below.ensures c.args.stepper.now c.args.count c.args.cell c.requires.at.0 c.requires.at.1 c.requires.at.2 }

@@ -3,7 +3,7 @@ use Rattle.bits_core.specs.Shape.{capacity_of, modulus_of}
 use Rattle.ring_seats.specs.Ring.{RingEnd}
 use Rattle.ring_seats.proofs.CounterPutterCalls.{same_shape}
 use Rattle.ring_seats.proofs.CounterTakerCalls.{to_read, to_count, fetched, kept_take}
-use Rattle.ring_seats.proofs.counter_takes.fetch.Goals as goal
+use Rattle.ring_seats.proofs.counter_calls.fetch.Goals as goal
 
 pub read_cell-item-requires-clause-program : goal.read_cell-item-requires-clause-program
 read_cell-item-requires-clause-program c =

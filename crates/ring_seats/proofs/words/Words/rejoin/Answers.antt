@@ -1,7 +1,7 @@
 use Rattle.std.proofs.Common.{ℕ, ◌<◌, sym, subst, ap, ◌∙◌}
 use Rattle.ring_seats.specs.Ring.{Ring}
 use Rattle.ring_seats.proofs.Moves.{joins}
-use Rattle.ring_seats.proofs.words.Words.unite.Goals as goal
+use Rattle.ring_seats.proofs.words.Words.rejoin.Goals as goal
 
 pub join_seat-requires : goal.join_seat-requires
 join_seat-requires g c =

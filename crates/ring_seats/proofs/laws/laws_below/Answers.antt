@@ -1,4 +1,4 @@
-use Rattle.ring_seats.proofs.below.laws_below.Goals as goal
+use Rattle.ring_seats.proofs.laws.laws_below.Goals as goal
 
 pub returns : goal.returns
 returns c = record {
@@ -22,4 +22,5 @@ returns c = record {
   one_close = c.programs_by_one_call.ensures.closes;
   one_take = c.programs_by_one_call.ensures.takes;
   one_end = c.programs_by_one_call.ensures.ends;
+  answers = c.answers_add.ensures;
 }

@@ -1,5 +1,5 @@
 use Rattle.ring_seats.proofs.CounterTakerCalls.{kept_none}
-use Rattle.ring_seats.proofs.counter_takes.take_open.Goals as goal
+use Rattle.ring_seats.proofs.counter_calls.take_open.Goals as goal
 
 pub fetch-requires : goal.fetch-requires
 fetch-requires c =
