@@ -10,9 +10,8 @@ ghost use Rattle.ring_ends.specs.Meetings.{KeepsEnd, Meets, ClosesAre, TellsAre}
 use crate::counter_putters::CounterPutter;
 use crate::counter_takers::CounterTaker;
 use crate::ends::RingOf;
-use crate::faults::RunFault;
 use crate::meetings::Finished;
-use crate::rings::{Pad, RingIn, Start};
+use crate::rings::{Pad, RingIn, RunFault, Start};
 use bits_core::Shape;
 use ring_core::laws::ring_is_linearizable;
 use ring_seats::laws::laws_below;

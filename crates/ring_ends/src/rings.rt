@@ -4,12 +4,17 @@ ghost use Rattle.bits_core.specs.Shape.{belongs};
 ghost use Rattle.ring_seats.specs.Rule.{KeepsFlickerRule, IsWordFound};
 ghost use Rattle.ring_seats.specs.Words.{word_place};
 
-use crate::faults::RunFault;
 use atomic_table::{Seat, Shared, Table};
-use bits_core::{Bit, Shape};
+use bits_core::{Bit, MemoryFault, Shape};
 use ring_seats::{Flickering, Kind, RuleOf, View, Words, flicker_table};
 use std::alloc::Allocator;
 use std::marker::Model;
+
+/// Why a ring was not made, or a relay gave no outcome: `OutOfMemory`, where memory for the words of a ring, or for the items
+/// that a relay took, ran out. Its number is 1.
+///
+/// In use: `uses::relays::pass_on`.
+pub type RunFault = MemoryFault;
 
 // Unused words on either side of a ring, and of an end: they keep other values off the cache lines of what lies between.
 #[derive(Drop)]

@@ -57,7 +57,7 @@ pub fn put_open<'a>(
     }
     stepper.write_items(*cell, &items[..most]);
     *count = past_in(*count, most as u64, shape.modulus());
-    stepper.write_count(*count);
+    stepper.write_count(*count); // (behind the cells)
     *cell = past_in(*cell, most as u64, shape.capacity());
     most
 }
