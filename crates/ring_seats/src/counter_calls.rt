@@ -50,7 +50,7 @@ pub fn put_open<'a>(
 {
     laws_below();
     let shape = stepper.ring.shape();
-    let seen = stepper.scan();
+    let seen = stepper.scan(); // (how far the takes are)
     let most = fitting(&shape, *count, seen, items.len());
     if most == 0 {
         return 0;
