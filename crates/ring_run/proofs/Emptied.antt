@@ -22,12 +22,10 @@ use Rattle.ring_core.specs.Readings.{PutsAreFirst, TakesAreRead}
 use Rattle.ring_core.specs.RingLaw.{IsRun, InEveryRun, EmptyIsFresh}
 use Rattle.ring_core.specs.ConsumerCalls as takes
 use Rattle.ring_core.specs.ConsumerCalls.{and_take, ends_closed, reply_at_end}
-use Rattle.ring_run.specs.Rule.{Stands}
-use Rattle.ring_run.specs.Ends.{HasPuts, HasTakes, TakeAdds}
+use Rattle.ring_seats.specs.Rule.{Stands}
+use Rattle.ring_ends.specs.Ends.{HasPuts, HasTakes, TakeAdds}
 use Rattle.ring_run.specs.Laws.{EmptyAfterMeeting, TakesAdd}
-use Rattle.ring_run.proofs.Histories.{by_case}
-use Rattle.ring_run.proofs.Lists.{events_of-append, length-events_of}
-use Rattle.ring_run.proofs.TakerCalls.{last-snoc}
+use Rattle.ring_run.proofs.Lists.{by_case, events_of-append, length-events_of, last-snoc}
 
 -- ---- how many items calls store and take that have ended
 

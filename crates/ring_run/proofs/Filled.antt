@@ -20,8 +20,8 @@ use Rattle.ring_core.specs.RingLaw.{IsRun, InEveryRun, FullIsFresh}
 use Rattle.ring_core.specs.ProducerState.{item_reply}
 use Rattle.ring_core.specs.ProducerCalls as puts
 use Rattle.ring_core.specs.ProducerCalls.{and_put}
-use Rattle.ring_run.specs.Rule.{Stands}
-use Rattle.ring_run.specs.Ends.{HasPuts, HasTakes, PutAdds, HasPutAll}
+use Rattle.ring_seats.specs.Rule.{Stands}
+use Rattle.ring_ends.specs.Ends.{HasPuts, HasTakes, PutAdds, HasPutAll}
 use Rattle.ring_run.specs.Laws.{FullAfterMeeting, ItemFullAfterMeeting, PutsAdd}
 use Rattle.ring_run.proofs.Lists.{events_of-append, length-events_of}
 use Rattle.ring_run.proofs.Emptied.{past_is, own_append, behind, later_than}

@@ -23,8 +23,8 @@ use Rattle.ring_core.specs.ProducerCalls.{and_put, and_close, no_puts, IsPutOf}
 use Rattle.ring_core.specs.ProducerCalls as put_calls
 use Rattle.ring_core.specs.ConsumerCalls.{and_take, and_end, no_takes, ends_closed, HasTakeMore, reply_at_end, last_take_reply}
 use Rattle.ring_core.specs.ConsumerCalls as take_calls
-use Rattle.ring_run.specs.Ends.{HasPuts, HasPutAll, PutAdds, HasClosed, CloseAdds, HasTakes, HasTaken, TakeAdds}
-use Rattle.ring_run.proofs.TakerCalls.{last-snoc}
+use Rattle.ring_ends.specs.Ends.{HasPuts, HasPutAll, PutAdds, HasClosed, CloseAdds, HasTakes, HasTaken, TakeAdds}
+use Rattle.ring_run.proofs.Lists.{last-snoc}
 use Rattle.ring_run.specs.Relays.{AreGiven, PutsAre, TakesAre}
 
 -- ---- lists
@@ -326,11 +326,11 @@ if_err (Err e) X x = x
 
 -- ---- an end after two calls
 
-pub same_trans : (a b c : Rattle.ring_run.specs.Ring.RingEnd) → Rattle.ring_run.specs.Steppers.IsSameEnd a b → Rattle.ring_run.specs.Steppers.IsSameEnd b c → Rattle.ring_run.specs.Steppers.IsSameEnd a c
+pub same_trans : (a b c : Rattle.ring_seats.specs.Ring.RingEnd) → Rattle.ring_seats.specs.Steppers.IsSameEnd a b → Rattle.ring_seats.specs.Steppers.IsSameEnd b c → Rattle.ring_seats.specs.Steppers.IsSameEnd a c
 same_trans a b c s t = record { ring = t.ring ∙ s.ring; side = t.side ∙ s.side; known = t.known ∙ s.known }
 
-pub puts_there : (a b : Rattle.ring_run.specs.Ring.RingEnd) (items : List ℕ) (put made full : ℕ) → Rattle.ring_run.specs.Steppers.IsSameEnd a b → PutsAre a.ring.shape a.list items put made full false → PutsAre b.ring.shape a.list items put made full false
-puts_there a b items put made full s p = subst (λ (z : Shape). PutsAre z a.list items put made full false) (sym (ap (λ (r : Rattle.ring_run.specs.Ring.Ring). r.shape) s.ring)) p
+pub puts_there : (a b : Rattle.ring_seats.specs.Ring.RingEnd) (items : List ℕ) (put made full : ℕ) → Rattle.ring_seats.specs.Steppers.IsSameEnd a b → PutsAre a.ring.shape a.list items put made full false → PutsAre b.ring.shape a.list items put made full false
+puts_there a b items put made full s p = subst (λ (z : Shape). PutsAre z a.list items put made full false) (sym (ap (λ (r : Rattle.ring_seats.specs.Ring.Ring). r.shape) s.ring)) p
 
-pub takes_there : (a b : Rattle.ring_run.specs.Ring.RingEnd) (taken : List ℕ) (empty : ℕ) → Rattle.ring_run.specs.Steppers.IsSameEnd a b → TakesAre a.ring.shape a.list taken empty false → TakesAre b.ring.shape a.list taken empty false
-takes_there a b taken empty s p = subst (λ (z : Shape). TakesAre z a.list taken empty false) (sym (ap (λ (r : Rattle.ring_run.specs.Ring.Ring). r.shape) s.ring)) p
+pub takes_there : (a b : Rattle.ring_seats.specs.Ring.RingEnd) (taken : List ℕ) (empty : ℕ) → Rattle.ring_seats.specs.Steppers.IsSameEnd a b → TakesAre a.ring.shape a.list taken empty false → TakesAre b.ring.shape a.list taken empty false
+takes_there a b taken empty s p = subst (λ (z : Shape). TakesAre z a.list taken empty false) (sym (ap (λ (r : Rattle.ring_seats.specs.Ring.Ring). r.shape) s.ring)) p

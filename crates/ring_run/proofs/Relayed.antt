@@ -16,9 +16,9 @@ use Rattle.ring_core.specs.CallsAt.{puts_begun, takes_begun}
 use Rattle.ring_core.specs.Whole.{WholePutsCount, WholeTakesCount}
 use Rattle.ring_core.specs.ConsumerCalls.{ends_closed}
 use Rattle.ring_core.specs.RingLaw.{IsRun, InEveryRun, IsWithin, TakenArePrefix, ClosedIsTrue}
-use Rattle.ring_run.specs.Ring.{Ring, RingEnd}
-use Rattle.ring_run.specs.Meetings.{Meets}
-use Rattle.ring_run.specs.Programs.{IsRing}
+use Rattle.ring_seats.specs.Ring.{Ring, RingEnd}
+use Rattle.ring_ends.specs.Meetings.{Meets}
+use Rattle.ring_seats.specs.Programs.{IsRing}
 use Rattle.ring_core.specs.Linear.{EachReadingIsLinearizable}
 use Rattle.ring_run.specs.Relays.{HasMadePuts, HasRelayedPuts, HasRelayedTakes, HasTakenMore, IsRelayed, PutsAre, TakesAre}
 use Rattle.ring_run.proofs.Lists.{length-events_of}

@@ -1,5 +1,5 @@
 -- What a caller of the ends may rest on.
-use Rattle.std.specs.Prelude.{◌≡◌, ℕ, ◌+◌, ◌<◌, ◌≤◌, false, List, length, slice_index}
+use Rattle.std.specs.Prelude.{◌≡◌, ℕ, ◌+◌, ◌≤◌, false, List, length}
 use Rattle.bits_core.specs.declared.shapes.Shape.{Shape}
 use Rattle.bits_core.specs.declared.events.Side.TheVariants.{P, C}
 use Rattle.bits_core.specs.declared.events.Event.{Event}
@@ -13,9 +13,9 @@ use Rattle.ring_core.specs.declared.consumers.TakeReply.TheVariants.{Empty}
 use Rattle.ring_core.specs.Puts.{Puts}
 use Rattle.ring_core.specs.Takes.{Takes}
 use Rattle.ring_core.specs.Items.{all_put, all_taken}
-use Rattle.ring_run.specs.Rule.{Stands}
-use Rattle.ring_run.specs.Ends.{HasPuts, HasPut, HasPutAll, HasTakes, HasTaken}
-use Rattle.ring_run.specs.Counters.{ShowsWords, words_of}
+use Rattle.ring_seats.specs.Rule.{Stands}
+use Rattle.ring_ends.specs.Ends.{HasPuts, HasPut, HasPutAll, HasTakes, HasTaken}
+pub use Rattle.ring_seats.specs.Laws.{WordsAreTold}
 
 -- A taker knows a history, whose puts are whole, and has made whole takes, those of that history among them. Where the next take
 -- finds the ring empty, each item of these puts was taken before it, and no close stands behind them.
@@ -50,9 +50,3 @@ PutsAdd = (shape : Shape) (items : List ℕ) (before after : List Event) (reply 
 -- a take leaves the list that was there, and adds to it
 abbrev pub TakesAdd : Type 0
 TakesAdd = (shape : Shape) (before after : List Event) (reply : TakeReply) → HasTaken shape before after reply → IsBeginning before after
-
--- words of a counter ring that show one history are the same
-abbrev pub WordsAreTold : Type 0
-WordsAreTold =
-    (shape : Shape) (words others : List ℕ) (h : List Event) → ShowsWords shape words h → ShowsWords shape others h →
-    (place : ℕ) → place < words_of shape → slice_index words place ≡ slice_index others place

@@ -4,7 +4,7 @@ use Rattle.bits_core.specs.declared.shapes.Shape.{Shape}
 use Rattle.bits_core.specs.declared.events.Event.{Event}
 use Rattle.bits_core.specs.declared.events.Side.TheVariants.{P, C}
 use Rattle.bits_core.specs.Made.{own}
-use Rattle.ring_run.specs.Programs.{IsRing}
+use Rattle.ring_seats.specs.Programs.{IsRing}
 use Rattle.ring_core.specs.Linear.{EachReadingIsLinearizable}
 use Rattle.ring_core.specs.Puts.{Put, Puts, number_after}
 use Rattle.ring_core.specs.Takes.{Takes}
@@ -14,7 +14,7 @@ use Rattle.ring_core.specs.CallsAt.{stored_by}
 use Rattle.ring_core.specs.ProducerCalls.{IsPutOf}
 use Rattle.ring_core.specs.Over.{fulls, empties}
 use Rattle.ring_core.specs.ConsumerCalls.{ends_closed}
-use Rattle.ring_run.specs.Ends.{HasPuts, HasTakes}
+use Rattle.ring_ends.specs.Ends.{HasPuts, HasTakes}
 
 -- These puts, behind n items, were given the items in order: each as many of those not yet stored as the shape's batch has, or
 -- all where fewer are left.

@@ -1,11 +1,9 @@
 //! What a caller of the ends may rest on, each the contract of a function that does nothing.
-ghost use Rattle.ring_run.specs.Laws.{EmptyAfterMeeting, FullAfterMeeting, ItemFullAfterMeeting, PutsAdd, TakesAdd, WordsAreTold};
+ghost use Rattle.ring_run.specs.Laws.{EmptyAfterMeeting, FullAfterMeeting, ItemFullAfterMeeting, PutsAdd, TakesAdd};
 
 use bits_core::laws::made_is_access;
-use register_core::laws::digits_tell_items;
-use ring_core::laws::{
-    calls_are_first, counts_are_written, puts_are_read, ring_law, takes_are_read,
-};
+use ring_core::laws::{calls_are_first, puts_are_read, ring_law, takes_are_read};
+pub use ring_seats::laws::words_are_told;
 
 /// No take is answered `Empty` while an item of a put that a meeting showed is not taken, nor once a meeting showed
 /// the close: of a taker that knows a history, and has made takes behind it, the next one finds the ring empty only
@@ -44,11 +42,3 @@ pub fn puts_add()
 pub fn takes_add()
     ensures { TakesAdd }
 {}
-
-/// The history tells what each word of a counter ring is: no two states of the words show the same history.
-pub fn words_are_told()
-    ensures { WordsAreTold }
-{
-    counts_are_written();
-    digits_tell_items();
-}

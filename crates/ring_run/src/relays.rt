@@ -1,18 +1,15 @@
 //! The two ends of a ring at work in two threads.
 ghost use Rattle.std.specs.Prelude.{◌≡◌, ◌⊎◌, ℕ, ◌+◌, ◌<◌, ◌≤◌, ◌==◌, true, false, [], IfOk, IfErr, OnOk, length, min, take, vec_capacity};
-ghost use Rattle.ring_run.specs.Steppers.{IsSameEnd};
+ghost use Rattle.ring_seats.specs.Steppers.{IsSameEnd};
 ghost use Rattle.bits_core.specs.Made.{IsBeginning};
 ghost use Rattle.bits_core.specs.Shape.{AllFit, batch_of, capacity_of};
 ghost use Rattle.ring_run.specs.Relays.{HasMadePuts, HasRelayedPuts, HasRelayedTakes, HasTakenMore, IsRelayed};
 
-use crate::counter_rings::CounterRing;
-use crate::ends::{PutEnd, RingOf, TakeEnd};
-use crate::faults::RunFault;
 use crate::gates::Gate;
-use crate::rings::FlickerRing;
 use bits_core::{Oracle, Shape, Side};
 use ring_core::laws::{puts_are_read, ring_law, takes_are_read, whole_calls_count};
 use ring_core::{BatchReply, TakeReply};
+use ring_ends::{CounterRing, FlickerRing, PutEnd, RingOf, RunFault, TakeEnd};
 use std::alloc::Allocator;
 use std::thread::{Threads, join_mut};
 

@@ -3,7 +3,7 @@ use Rattle.std.proofs.Math.ListN.{drop}
 use Rattle.bits_core.specs.declared.shapes.Shape.{Shape}
 use Rattle.bits_core.specs.Shape.{AllFit, batch_of}
 use Rattle.ring_core.specs.Puts.{IsBatch}
-use Rattle.ring_run.specs.Ring.{Ring}
+use Rattle.ring_seats.specs.Ring.{Ring}
 use Rattle.ring_run.specs.Relays.{PutsAre}
 use Rattle.ring_run.proofs.RelayLemmas.{no_puts_are, offers, given_there, stored, was_full, same_trans, puts_there}
 use Rattle.ring_run.proofs.relays.put_in_order.Goals.{in-Stored, in-Full}

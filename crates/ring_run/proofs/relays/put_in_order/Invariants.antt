@@ -1,5 +1,5 @@
 use Rattle.std.proofs.Common.{◌≡◌, ◌-◌, ◌≤◌, false}
-use Rattle.ring_run.specs.Steppers.{IsSameEnd}
+use Rattle.ring_seats.specs.Steppers.{IsSameEnd}
 use Rattle.ring_run.specs.Relays.{PutsAre}
 use Rattle.ring_run.proofs.relays.put_in_order.Given as goal
 

@@ -1,7 +1,7 @@
 use Rattle.std.proofs.Common.{ap, ◌∙◌, subst}
 use Rattle.bits_core.specs.declared.shapes.Shape.{Shape}
 use Rattle.ring_run.specs.Relays.{IsRelayed}
-use Rattle.ring_run.specs.Ring.{RingEnd}
+use Rattle.ring_seats.specs.Ring.{RingEnd}
 use Rattle.ring_run.proofs.Relayed.{relayed_all, relayed_prefix, relayed_within}
 use Rattle.ring_run.proofs.relays.relay_flicker.Given.{Over}
 use Rattle.ring_run.proofs.relays.relay_flicker.Goals.{After-relay_through}

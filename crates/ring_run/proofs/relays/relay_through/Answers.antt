@@ -1,5 +1,5 @@
 use Rattle.std.proofs.Common.{◌≡◌, ap, ◌∙◌, sym}
-use Rattle.ring_run.specs.Ring.{Ring}
+use Rattle.ring_seats.specs.Ring.{Ring}
 use Rattle.ring_run.proofs.Relayed.{relayed, none_past}
 use Rattle.ring_run.proofs.relays.relay_through.Goals as goal
 

@@ -1,6 +1,6 @@
 use Rattle.std.proofs.Common.{◌≡◌, ◌+◌, ◌-◌, ◌≤◌, length}
 use Rattle.std.specs.Prelude.{if◌then◌else◌, vec_capacity}
-use Rattle.ring_run.specs.Steppers.{IsSameEnd}
+use Rattle.ring_seats.specs.Steppers.{IsSameEnd}
 use Rattle.ring_run.specs.Relays.{TakesAre}
 use Rattle.ring_run.proofs.relays.take_all.Given as goal
 

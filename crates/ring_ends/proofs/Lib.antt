@@ -1,0 +1,12 @@
+pub mod Accesses
+pub mod CounterStarts
+pub mod Idle
+pub mod Lists
+pub mod MachineCalls
+pub mod MachineMoves
+pub mod MachineWhole
+pub mod PutterCalls
+pub mod PutterWhole
+pub mod Steps
+pub mod TakerCalls
+pub mod TakerWhole

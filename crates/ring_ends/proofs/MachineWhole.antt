@@ -1,0 +1,239 @@
+-- A whole call of an end, access by access, by its machine, whichever side it is of.
+use Rattle.std.proofs.Common.{append-nil, add-zero, ◌≡◌, inl, inr, ⊎_elim, ◌+◌, ◌*◌, ◌<◌, Bool, true, Some, None, List, [], ◌∷◌, ◌++◌, length, refl, ap, sym, subst, ◌∙◌, arith, ℕ}
+use Rattle.bits_core.specs.declared.events.Side.{Side}
+use Rattle.bits_core.specs.declared.events.Access.{Access}
+use Rattle.bits_core.specs.declared.events.Event.{Event}
+use Rattle.bits_core.specs.declared.shapes.Shape.{Shape}
+use Rattle.bits_core.specs.History.{open_access}
+use Rattle.bits_core.specs.Made.{Made, answered, events_of}
+use Rattle.bits_core.specs.Open.{IsOpenRight}
+use Rattle.register_core.specs.Row.{RowWrite, row_bit}
+use Rattle.register_core.specs.UnaryState.{UnaryState, due_unary, due_writes, first_access}
+use Rattle.ring_core.specs.Calls.{LastBitIsDue}
+use Rattle.ring_seats.specs.Ring.{Ring, RingEnd}
+use Rattle.ring_seats.specs.Programs.{begin_of, ending_event}
+use Rattle.ring_seats.specs.Steppers.{AreAnswered, answers_in, CanMake, Grows, HasMade, HasStepped, IsSameEnd, StandsAs}
+use Rattle.ring_ends.specs.Machines.{Machine, MachineAt, MachineReady, MachineGoes, MachineOver, MachineIn, MachineBusy, MachineWent, MachineEnded, IsMachine, IsMarked, without_last}
+use Rattle.ring_seats.specs.Below.{LawsBelow}
+use Rattle.ring_ends.proofs.Accesses.{longer, same, same_on}
+use Rattle.ring_ends.proofs.Lists.{begun_open, length-events_of}
+use Rattle.ring_ends.proofs.MachineMoves.{Due, MachineLaws, right_there, at_begun, at_ended, can_make, list_ended, one_there}
+use Rattle.ring_ends.proofs.MachineCalls.{Begun, list_rests, rest_list, rest_marked, at_one}
+use Rattle.ring_ends.proofs.Steps.{none-some}
+
+-- ---- one access of a call that goes on, by what a machine tells of the one that is due
+
+module _ (laws : LawsBelow) (k : Machine) (ks : MachineLaws k) (e : RingEnd) (m : k.State) (calls : k.Calls) (c : k.Call) (g : MachineGoes k e m calls c) (a : Access) (d : Due k m a) where
+  pub can_go : CanMake e a
+  can_go = can_make laws k ks e m calls g.made g.at a d g.list_is
+
+  module _ (b : RingEnd) (v : Bool) (h : HasMade e b a v) where
+    begun : HasStepped e h.0 a None
+    begun = (ap (λ (x : Side). open_access x e.list) g.at.side_is ∙ ap (open_access k.side) g.list_is ∙ laws.made_idle k.side g.made, h.1)
+
+    at_mid : MachineAt k h.0 m calls g.made
+    at_mid = at_begun laws k ks e m calls g.made g.at a d h.0 begun
+
+    ended : HasStepped h.0 b a (Some v)
+    ended = (
+      ap (λ (x : Side). open_access x (h.0).list) (h.1.same.side ∙ g.at.side_is) ∙ ap (open_access k.side) (h.1.list ∙ (λ i. g.list_is i ++ begin_of (g.at.side_is i) a ∷ [])) ∙ begun_open laws k.side (events_of k.side g.made) a,
+      subst (λ (x : Side). Grows h.0 b (ending_event x a v)) (sym h.1.same.side) h.2,
+    )
+
+    -- the answer may be fed
+    pub may_feed : LastBitIsDue (k.shape_of m) k.side (k.due m) → v ≡ true
+    may_feed = one_there laws k ks h.0 m calls g.made at_mid a d b v ended
+
+    pub went : (m' : k.State) → k.shape_of m' ≡ k.shape_of m → (more : k.Calls) × k.Stands m' more (g.made ++ answered a v ∷ []) × k.After m m' calls more → MachineIn k b m' calls c
+    went m' same_shape moved =
+        let made : List Made = g.made ++ answered a v ∷ [] in
+        let there : MachineAt k b m' moved.0 made = at_ended laws k ks h.0 m calls g.made at_mid a d b v ended m' same_shape moved.0 moved.1 moved.2 in
+        ⊎_elim
+        (λ rests. inr (record { more = moved.0; made = made; at = there; rests = rests; is_more = subst (λ (z : Shape). k.More z c calls moved.0) (sym same_shape) (ks.over m m' c calls moved.0 g.busy rests moved.2) }))
+        (λ on.
+        let t = ks.goes m m' c on.0 calls moved.0 g.busy on.1 moved.2 in
+        inl (record {
+          made = made;
+          at = subst (λ (z : k.Calls). MachineAt k b m' z made) t.1 there;
+          list_is = list_ended laws k ks h.0 m calls g.made at_mid a d b v ended;
+          busy = subst (k.Busy m') t.0 on.1;
+        }))
+        (ks.either m')
+
+-- ---- some accesses of a call
+
+-- none, and some behind others
+pub went_nowhere : (k : Machine) (e : RingEnd) (m : k.State) (said : ℕ → Bool) → MachineWent k e m e m said said
+went_nowhere k e m said = record { same = record { ring = refl; side = refl; known = refl }; longer = omega arith; kind = refl; rests = λ _. (refl, refl); goes = λ calls c was. was; answered = record { loads = []; loads_are = sym (append-nil e.loads); answers_are = sym (append-nil (answers_in e.list)); asked = λ i. ap said (sym (add-zero i)) } }
+
+pub went_then : LawsBelow → (k : Machine) {e a b : RingEnd} {m n o : k.State} {old mid now : ℕ → Bool} → MachineWent k e m a n old mid → MachineWent k a n b o mid now → MachineWent k e m b o old now
+went_then laws k w v = record {
+  same = same_on w.same v.same;
+  longer = omega (arith, w.longer, v.longer);
+  kind = v.kind ∙ w.kind;
+  rests = λ none. (let first = w.rests none in let then = v.rests (subst k.Rests (sym first.0) none) in (then.0 ∙ first.0, then.1 ∙ first.1));
+  goes = λ calls c was. v.goes calls c (w.goes calls c was);
+  answered = laws.answers _ _ _ _ _ _ w.answered v.answered;
+}
+
+module _ (k : Machine) (ks : MachineLaws k) {e0 : RingEnd} {m0 : k.State} {e : RingEnd} {m : k.State} {old now : ℕ → Bool} (w : MachineWent k e0 m0 e m old now) where
+  -- a call that is under way behind them was before
+  pub went_busy : MachineBusy k e0 m0 → MachineBusy k e m
+  went_busy was d busy = ⊎_elim
+      (λ none. absurd (ks.never m d (subst k.Rests (sym (w.rests none).0) none) busy))
+      (λ on. let there = was on.0 on.1 in (there.0, there.1, w.goes there.0 there.1 there.2))
+      (ks.either m0)
+
+  module _ (calls : k.Calls) (ready : MachineReady k e0 m0 calls) where
+    first : (c : k.Call) → k.Busy m0 c → MachineIn k e0 m0 calls c
+    first c is = inl (record { made = k.program (k.shape_of m0) calls; at = ready.at; list_is = ready.list_is; busy = is })
+
+    -- while an access is due, the call under way goes on
+    pub going : (a : Access) → k.due m ≡ Some a → (c : k.Call) × k.Busy m0 c × MachineGoes k e m calls c
+    going a due = ⊎_elim
+        (λ none. absurd (none-some a (sym (ks.at_rest m0 calls (k.program (k.shape_of m0) calls) ready.at.stands none).1 ∙ ap k.due (sym (w.rests none).0) ∙ due)))
+        (λ on. ⊎_elim (λ g. (on.0, on.1, g)) (λ o. absurd (none-some a (sym (ks.at_rest m o.more o.made o.at.stands o.rests).1 ∙ due))) (w.goes calls on.0 (first on.0 on.1)))
+        (ks.either m0)
+
+    -- the list stays below the longest of the call
+    pub below : (c : k.Call) → k.Busy m0 c → (g : MachineGoes k e m calls c) → length g.made < length (k.program (k.shape_of m) calls) + k.longest (k.shape_of m) c → length e.list < length e0.list + 2 * k.most m0
+    below c is g few =
+        let shape : k.shape_of m ≡ k.shape_of m0 = g.at.shape_is ∙ ap (λ (r : Ring). r.shape) w.same.ring ∙ sym ready.at.shape_is in
+        let few' : length g.made < length (k.program (k.shape_of m0) calls) + k.longest (k.shape_of m0) c = subst (λ (z : Shape). length g.made < length (k.program z calls) + k.longest z c) shape few in
+        omega (arith, few', ks.most_busy m0 c is, ap length g.list_is, length-events_of k.side g.made, ap length ready.list_is, length-events_of k.side (k.program (k.shape_of m0) calls))
+
+  -- where no access is due, the call is over
+  pub ended_by : ((calls : k.Calls) (made : List Made) → k.Stands m calls made → k.Rests m) → MachineEnded k e0 m0 e m old now
+  ended_by ends = record {
+    same = w.same;
+    kind = w.kind;
+    rests = w.rests;
+    over = λ calls ready c is. ⊎_elim (λ g. absurd (ks.never m c (ends calls g.made g.at.stands) g.busy)) (λ o. o) (w.goes calls c (first calls ready c is));
+    answered = w.answered;
+  }
+
+-- a call that is begun goes on
+pub ready_busy : (k : Machine) (e : RingEnd) (m : k.State) (calls : k.Calls) → MachineReady k e m calls → MachineBusy k e m
+ready_busy k e m calls ready d is = (calls, d, inl (record { made = k.program (k.shape_of m) calls; at = ready.at; list_is = ready.list_is; busy = is }))
+
+-- one access behind them, while the call goes on
+module _ (laws : LawsBelow) (k : Machine) (ks : MachineLaws k) {e0 : RingEnd} {m0 : k.State} {e : RingEnd} {m : k.State} {old now : ℕ → Bool} (was : MachineBusy k e0 m0) (w : MachineWent k e0 m0 e m old now) (one : k.Call) (busy : k.Busy m one) (a : Access) (d : Due k m a) where
+  goes_in : (calls : k.Calls) (c : k.Call) → MachineIn k e m calls c → MachineGoes k e m calls c
+  goes_in calls c (inl g) = g
+  goes_in calls c (inr o) = absurd (ks.never m one o.rests busy)
+
+  there : (calls : k.Calls) × (c : k.Call) × MachineGoes k e m calls c
+  there = let t = went_busy k ks w was one busy in (t.0, t.1, goes_in t.0 t.1 t.2)
+
+  pub access_right : IsOpenRight e.ring.shape e.side a
+  access_right = right_there k e m there.0 (there.2).made (there.2).at a d
+
+  pub access_can : CanMake e a
+  access_can = can_go laws k ks e m there.0 there.1 there.2 a d
+
+  module _ (b : RingEnd) (v : Bool) (h : HasMade e b a v) where
+    pub access_feeds : LastBitIsDue (k.shape_of m) k.side (k.due m) → v ≡ true
+    access_feeds = may_feed laws k ks e m there.0 there.1 there.2 a d b v h
+
+    pub access_went : (m' : k.State) → k.shape_of m' ≡ k.shape_of m → k.is_batch m' ≡ k.is_batch m → ((calls : k.Calls) (made : List Made) → k.Stands m calls made → (more : k.Calls) × k.Stands m' more (made ++ answered a v ∷ []) × k.After m m' calls more)
+        → (after : ℕ → Bool) → AreAnswered e b now after → MachineWent k e0 m0 b m' old after
+    access_went m' same_shape kind moved after said = went_then laws k w (record {
+      same = same e b a v h;
+      longer = omega (arith, longer e b a v h);
+      kind = kind;
+      rests = λ none. absurd (ks.never m one none busy);
+      goes = λ calls c in_call. (let g = goes_in calls c in_call in went laws k ks e m calls c g a d b v h m' same_shape (moved calls g.made g.at.stands));
+      answered = said;
+    })
+
+-- while a count is written there is a write of it that is due
+pub writes_left : (row : UnaryState) (a : Access) → due_unary row ≡ Some a → (x : RowWrite) × (rest : List RowWrite) × (due_writes row ≡ x ∷ rest)
+writes_left row a due = by (due_writes row) refl
+  where
+    by : (l : List RowWrite) → due_writes row ≡ l → (x : RowWrite) × (rest : List RowWrite) × (due_writes row ≡ x ∷ rest)
+    by [] is = absurd (none-some a (sym (ap (first_access (row_bit row.side)) is) ∙ due))
+    by (x ∷ rest) is = (x, rest, is)
+
+-- ---- a whole call
+
+-- the call is over: it is one of the calls, or it was refused after a close
+pub data Ended (k : Machine) (e e' : RingEnd) (m1 m' : k.State) (calls : k.Calls) (c : k.Call) : Type 0 where
+  More : MachineOver k e' m' calls c → Ended k e e' m1 m' calls c
+  Refused : e' ≡ e → m' ≡ m1 → k.Rests m' → k.Refuses c calls m' → Ended k e e' m1 m' calls c
+
+module _ (k : Machine) (ks : MachineLaws k) {c : k.Call} (b : Begun k c) (idle : k.Rests b.m) where
+  one : MachineAt k b.e b.now b.was.0.calls b.was.0.made
+  one = at_one k ks b.e b.m b.was.0.calls b.was.0.made b.was.0.at c b.now b.begins
+
+  made_is : b.was.0.made ≡ k.program (k.shape_of b.now) b.was.0.calls
+  made_is = (ks.at_rest b.m b.was.0.calls b.was.0.made b.was.0.at.stands idle).0 ∙ ap (λ (z : Shape). k.program z b.was.0.calls) (sym b.begins.0)
+
+  pub ready : (calls : k.Calls) × MachineReady k b.e b.now calls
+  ready = (
+    b.was.0.calls,
+    record {
+      at = subst (MachineAt k b.e b.now b.was.0.calls) made_is one;
+      list_is = list_rests k.side b.e.list b.was.0.made (k.due b.m) b.was.0.at.list_is (ks.at_rest b.m b.was.0.calls b.was.0.made b.was.0.at.stands idle).1 ∙ ap (events_of k.side) made_is;
+    },
+  )
+
+-- a call, begun where none was under way, and what all its accesses came to
+pub record Whole (k : Machine) (c : k.Call) : Type 0 where
+  pub begun : Begun k c
+  pub idle : k.Rests begun.m
+  pub e : RingEnd
+  pub m : k.State
+  pub old : ℕ → Bool
+  pub now : ℕ → Bool
+  pub ended : MachineEnded k begun.e begun.now e m old now
+
+module _ (k : Machine) (ks : MachineLaws k) {c : k.Call} (w : Whole k c) where
+  abbrev b : Begun k c
+  b = w.begun
+
+  abbrev calls : k.Calls
+  calls = b.was.0.calls
+
+  ready_there : MachineReady k b.e b.now calls
+  unfolding ready
+  ready_there = (ready k ks b w.idle).1
+
+  pub same_whole : IsSameEnd b.seen w.e
+  same_whole = subst (λ (x : RingEnd). IsSameEnd x w.e) b.end_is w.ended.same
+
+  pub shape_whole : k.shape_of b.m ≡ w.e.ring.shape
+  shape_whole = b.was.0.at.shape_is ∙ ap (λ (r : Ring). r.shape) (sym w.ended.same.ring)
+
+  pub list_there : b.seen.list ≡ events_of k.side (k.program w.e.ring.shape calls)
+  list_there = ap (λ (x : RingEnd). x.list) (sym b.end_is) ∙ ready_there.list_is ∙ ap (λ (z : Shape). events_of k.side (k.program z calls)) (b.begins.0 ∙ shape_whole)
+
+  pub ending : Ended k b.seen w.e b.now w.m calls c
+  ending = ⊎_elim (λ here. More (w.ended.over calls ready_there c here.0)) (λ gone. let r = w.ended.rests gone.0 in Refused (r.1 ∙ b.end_is) r.0 (subst k.Rests (sym r.0) gone.0) (subst (k.Refuses c calls) (sym r.0) gone.3)) b.begins.2
+
+  pub idle_after : k.Rests w.m
+  idle_after = by ending
+    where
+      by : Ended k b.seen w.e b.now w.m calls c → k.Rests w.m
+      by (More o) = o.rests
+      by (Refused same_end same_m none refused) = none
+
+  is_machine : (start : List Event) → IsMachine k w.e w.m (k.whole w.m w.e.list start)
+  is_machine start = subst (IsMachine k w.e w.m) (sym (ks.whole_rests w.m w.e.list start idle_after)) (by ending)
+    where
+      by : Ended k b.seen w.e b.now w.m calls c → IsMachine k w.e w.m w.e.list
+      by (More o) = record { calls = o.more; made = o.made; at = o.at; whole_is = rest_list k ks w.e w.m o.more o.made o.at o.rests }
+      by (Refused same_end same_m none refused) =
+          let there : MachineAt k w.e w.m calls b.was.0.made = subst (λ (z : RingEnd × k.State). MachineAt k z.0 z.1 calls b.was.0.made) (λ i. ((b.end_is ∙ sym same_end) i, sym same_m i)) (one k ks b w.idle) in
+          record { calls = calls; made = b.was.0.made; at = there; whole_is = rest_list k ks w.e w.m calls b.was.0.made there none }
+
+  pub whole_invariant : IsMachine k w.e w.m (k.whole w.m w.e.list (without_last b.n w.e.list)) × IsMarked b.n w.e.list (k.most w.m)
+  whole_invariant = (is_machine (without_last b.n w.e.list), rest_marked k ks b.e.list w.e.list b.m w.m b.n w.idle b.was.1)
+
+  pub lawful_whole : StandsAs k.side w.e
+  lawful_whole = (is_machine []).at.lawful
+
+  pub more_there : (o : MachineOver k w.e w.m calls c) → k.More w.e.ring.shape c calls o.more
+  more_there o = subst (λ (z : Shape). k.More z c calls o.more) o.at.shape_is o.is_more
+
+  pub over_list : (o : MachineOver k w.e w.m calls c) → w.e.list ≡ events_of k.side (k.program w.e.ring.shape o.more)
+  over_list o = rest_list k ks w.e w.m o.more o.made o.at o.rests

@@ -1,0 +1,101 @@
+-- A whole call of the producer's end, access by access.
+use Rattle.std.proofs.Common.{◌≡◌, cond, ℕ, Bool, true, false, Option, Some, None, List, ◌∷◌, refl, ap, sym, subst, ◌∙◌}
+use Rattle.bits_core.specs.declared.events.Access.{Access}
+use Rattle.bits_core.specs.declared.shapes.Shape.{Shape}
+use Rattle.bits_core.specs.Made.{Made}
+use Rattle.register_core.specs.Row.{RowWrite}
+use Rattle.register_core.specs.ScanState.{ScanState}
+use Rattle.register_core.specs.UnaryState.{due_writes}
+use Rattle.register_core.specs.WordState.{WriterState}
+use Rattle.ring_core.specs.declared.producers.PutReply as items_replies
+use Rattle.ring_core.specs.declared.producers.BatchReply as replies
+use Rattle.ring_core.specs.declared.producers.BatchReply.TheVariants as reply
+use Rattle.ring_core.specs.Puts.{Puts, ArePuts}
+use Rattle.ring_core.specs.ProducerState as producer
+use Rattle.ring_core.specs.declared.producers.Stage.{Stage}
+use Rattle.ring_core.specs.declared.producers.Stage.TheVariants.{Counting}
+use Rattle.ring_core.specs.ProducerState.{ProducerState, Call, Close, IsProducerButScan, IsProducerButWord, call_at, producer_due_at, due_put, call_of}
+use Rattle.ring_core.specs.ProducerCalls.{HasCallMore, IsReplyToCall, ProducerStands, put_reply_to}
+use Rattle.ring_seats.specs.Ring.{RingEnd}
+use Rattle.ring_ends.specs.Ends.{HasPuts, HasPutAll, HasClosed, PutAdds, CloseAdds, PutterState, whole_put}
+use Rattle.ring_ends.specs.Machines.{IsMachine, IsMarked, MachineEnded, CallBegins, producing, longest_at, without_last}
+use Rattle.ring_ends.proofs.MachineWhole.{Ended, More, Refused, Whole, ending, list_there, more_there, over_list, shape_whole, writes_left}
+use Rattle.ring_ends.proofs.PutterCalls.{over_adds, over_closes, over_reply, put_begun, put_laws}
+
+-- the call under way at a stage
+pub at_call : (m : ProducerState) (st : Stage) (c : Call) → m.stage ≡ st → call_at st m.items ≡ Some c → call_of m ≡ Some c
+at_call m st c e is = ap (λ (x : Stage). call_at x m.items) e ∙ is
+
+-- while the count is written there is a write of it that is due
+pub count_due : (m : ProducerState) (a : Access) → m.stage ≡ Counting → due_put m ≡ Some a → (x : RowWrite) × (rest : List RowWrite) × (due_writes m.row ≡ x ∷ rest)
+count_due m a e due = writes_left m.row a (sym (ap (λ (st : Stage). producer_due_at st m) e) ∙ due)
+
+-- another scan, or another word, and no more
+pub more_scan : (p q r : ProducerState) (s : ScanState) → IsProducerButScan p q → r ≡ record q { scan = s } → IsProducerButScan p r
+more_scan p q r s e f = f ∙ ap (λ (x : ProducerState). record x { scan = s }) e ∙ ap (λ (x : ScanState). record p { scan = x }) (sym (ap (λ (x : ProducerState). x.scan) f))
+
+pub more_word : (p q r : ProducerState) (w : WriterState) → IsProducerButWord p q → r ≡ record q { word = w } → IsProducerButWord p r
+more_word p q r w e f = f ∙ ap (λ (x : ProducerState). record x { word = w }) e ∙ ap (λ (x : WriterState). record p { word = x }) (sym (ap (λ (x : ProducerState). x.word) f))
+
+-- ---- a whole call
+
+module _ {O : Type 0} (o : O) (e : RingEnd) (m : ProducerState) (n : ℕ) (s : PutterState O) (view : record { end = e; call = call_of m; batched = m.batched; start = without_last n e.list; oracle = o } ≡ s)
+    (was : IsMachine producing e m (whole_put (call_of m) e.list (without_last n e.list)) × IsMarked n e.list (longest_at m.shape (call_of m))) (idle : s.call ≡ None) (c : Call) (now : ProducerState) (begins : (calls : Puts) (made : List Made) → ProducerStands m calls made → CallBegins producing m now calls made c) where
+  pub idle_there : call_of m ≡ None
+  idle_there = ap (λ (z : PutterState O). z.call) view ∙ idle
+
+  -- a call, and what its accesses came to
+  abbrev pub put_whole : (e' : RingEnd) (m' : ProducerState) {before after : ℕ → Bool} → MachineEnded producing e now e' m' before after → Whole producing c
+  put_whole e' m' {before} {after} ended = record { begun = put_begun o e m n s view was c now begins; idle = idle_there; e = e'; m = m'; old = before; now = after; ended = ended }
+
+module _ {c : Call} (w : Whole producing c) where
+  abbrev calls : Puts
+  calls = w.begun.was.0.calls
+
+  before_is : HasPuts w.e.ring.shape w.begun.seen.list calls
+  before_is = record { are = subst (λ (z : Shape). ArePuts z 0 calls.puts) (shape_whole producing put_laws w) w.begun.was.0.at.stands.are; list_is = list_there producing put_laws w }
+
+-- a put was answered, and this is what it added
+pub put_ended : (items : List ℕ) (w : Whole producing (producer.Put items)) → (x : replies.BatchReply) × (w.m.reply ≡ Some x) × HasPutAll w.e.ring.shape items w.begun.seen.list w.e.list x
+put_ended items w = by (ending producing put_laws w)
+  where
+    by : Ended producing w.begun.seen w.e w.begun.now w.m w.begun.was.0.calls (producer.Put items) → (x : replies.BatchReply) × (w.m.reply ≡ Some x) × HasPutAll w.e.ring.shape items w.begun.seen.list w.e.list x
+    by (More z) =
+        let is_more : HasCallMore w.e.ring.shape (producer.Put items) w.begun.was.0.calls z.more = more_there producing put_laws w z in
+        let replied : IsReplyToCall z.more None w.m.reply = subst (λ (d : Option Call). IsReplyToCall z.more d w.m.reply) z.rests z.at.stands.reply_is in
+        let is : w.m.reply ≡ Some (put_reply_to is_more.0) = over_reply w.e.ring.shape items w.begun.was.0.calls z.more w.m.reply is_more replied in
+        (put_reply_to is_more.0, is, record { calls = w.begun.was.0.calls; before_is = before_is w; adds = over_adds w.e.ring.shape items w.begun.was.0.calls z.more is_more w.begun.seen.list w.e.list (over_list producing put_laws w z) (put_reply_to is_more.0) (subst (IsReplyToCall z.more None) is replied) })
+    by (Refused same_end same_m none refused) = (
+      reply.Closed,
+      refused.1,
+      record { calls = w.begun.was.0.calls; before_is = before_is w; adds = subst (λ (t : Bool). PutAdds t w.e.ring.shape w.begun.was.0.calls items reply.Closed w.begun.seen.list w.e.list) (sym refused.0) (refl, ap (λ (x : RingEnd). x.list) same_end) },
+    )
+
+-- a close added this
+pub close_ended : (w : Whole producing Close) → HasClosed w.e.ring.shape w.begun.seen.list w.e.list
+close_ended w = record { calls = w.begun.was.0.calls; before_is = before_is w; adds = by (ending producing put_laws w) }
+  where
+    by : Ended producing w.begun.seen w.e w.begun.now w.m w.begun.was.0.calls Close → CloseAdds w.begun.was.0.calls.closes w.e.ring.shape w.begun.was.0.calls w.begun.seen.list w.e.list
+    by (More z) = over_closes w.e.ring.shape w.begun.was.0.calls z.more (more_there producing put_laws w z) w.begun.seen.list w.e.list (over_list producing put_laws w z)
+    by (Refused same_end same_m none refused) = subst (λ (t : Bool). CloseAdds t w.e.ring.shape w.begun.was.0.calls w.begun.seen.list w.e.list) (sym refused.0) (ap (λ (x : RingEnd). x.list) same_end)
+
+-- ---- the reply of a whole put
+
+-- what a put of items, and of one item, was answered, by what the machine tells
+pub batch_told : (m : ProducerState) (F : replies.BatchReply → Type 0) → ((x : replies.BatchReply) × (m.reply ≡ Some x) × F x) → m.batched ≡ true → (r : Option replies.BatchReply) → r ≡ producer.batch_reply m → (x : replies.BatchReply) × (r ≡ Some x) × F x
+batch_told m F (x, is, h) kind r r_is = (x, r_is ∙ ap (λ (b : Bool). cond b m.reply None) kind ∙ is, h)
+
+pub item_told : (m : ProducerState) (F : replies.BatchReply → Type 0) → ((x : replies.BatchReply) × (m.reply ≡ Some x) × F x) → m.batched ≡ false → (r : Option items_replies.PutReply) → r ≡ producer.put_reply m
+    → (x : replies.BatchReply) × (r ≡ producer.item_reply (Some x)) × F x
+item_told m F (x, is, h) kind r r_is = (x, r_is ∙ ap (λ (b : Bool). cond b None (producer.item_reply m.reply)) kind ∙ ap producer.item_reply is, h)
+
+pub some_item : (x : replies.BatchReply) → producer.item_reply (Some x) ≡ None → ⊥
+some_item (reply.Stored n) e = cc
+some_item reply.Full e = cc
+some_item reply.Closed e = cc
+
+pub some_reply : {R : Type 0} (x : R) → Some x ≡ None → ⊥
+some_reply x e = cc
+
+pub told_so : {R : Type 0} (F : R → Type 0) (r : Option R) → ((x : R) × (r ≡ Some x) × F x) → (y : R) → r ≡ Some y → F y
+told_so F r (x, is, h) y known_by_taker = let same : Some x ≡ Some y = sym is ∙ known_by_taker in let e : x ≡ y = cc in subst F e h

@@ -1,0 +1,51 @@
+-- The list of an end beside the accesses of its machine.
+use Rattle.std.proofs.Common.{◌≡◌, ◌⊎◌, inl, inr, ℕ, Bool, true, false, Option, Some, None, List, [], ◌∷◌, ◌++◌, refl, ap, sym, ◌∙◌}
+use Rattle.bits_core.specs.declared.events.Side.{Side}
+use Rattle.bits_core.specs.declared.events.Side.TheVariants.{P, C}
+use Rattle.bits_core.specs.declared.events.Access.{Access}
+use Rattle.bits_core.specs.declared.events.Access.TheVariants as access
+use Rattle.bits_core.specs.declared.events.Event.{Event}
+use Rattle.bits_core.specs.declared.shapes.Shape.{Shape}
+use Rattle.bits_core.specs.Bits.{other, is_by}
+use Rattle.bits_core.specs.History.{open_access}
+use Rattle.bits_core.specs.Made.{Made, Read, answered, events_of}
+use Rattle.register_core.specs.ScanState.{row_read_by}
+use Rattle.ring_seats.specs.Programs.{Follows, GoesOn, begin_of, ending_event}
+use Rattle.ring_ends.specs.Machines.{ListIs}
+use Rattle.ring_seats.specs.Below.{LawsBelow}
+use Rattle.ring_ends.proofs.Lists.{same_side-same, begun_open}
+
+-- the access can begin, or it is open and can end
+abbrev pub CanStepAt : Shape → Side → List Event → Access → Type 0
+CanStepAt shape x list a =
+    ((open_access x list ≡ None) × Follows shape x (list ++ begin_of x a ∷ []))
+    ⊎ ((open_access x list ≡ Some a) × GoesOn shape x a list)
+
+-- the access can be made as a whole
+abbrev pub CanMakeAt : Shape → Side → List Event → Access → Type 0
+CanMakeAt shape x list a = (open_access x list ≡ None) × Follows shape x (list ++ begin_of x a ∷ []) × GoesOn shape x a (list ++ begin_of x a ∷ [])
+
+pub by_end : (x : Side) (a : Access) (v : Bool) → is_by x (ending_event x a v) ≡ true
+by_end x (access.Read b) v = same_side-same x
+by_end x (access.Write b w) v = same_side-same x
+
+pub not_by_end : (x : Side) (a : Access) (v : Bool) → is_by (other x) (ending_event x a v) ≡ false
+not_by_end P (access.Read b) v = refl
+not_by_end P (access.Write b w) v = refl
+not_by_end C (access.Read b) v = refl
+not_by_end C (access.Write b w) v = refl
+
+-- a read of the last bit that answers 0
+pub last_false : (x : Side) (a : Access) (i : ℕ) → Some a ≡ Some (access.Read (row_read_by x i)) → answered a false ≡ Read (row_read_by x i) false
+last_false x a i e = let same : a ≡ access.Read (row_read_by x i) = cc in ap (λ (b : Access). answered b false) same
+
+pub none-some : {A : Type 0} (a : A) → None ≡ Some a → ⊥
+none-some a e = cc
+
+pub list_closed : LawsBelow → (x : Side) (list : List Event) (made : List Made) (due : Option Access) → ListIs x list made due → open_access x list ≡ None → list ≡ events_of x made
+list_closed laws x list made due (inl is) none = is
+list_closed laws x list made due (inr (b, same, is)) none = absurd (none-some b (sym none ∙ ap (open_access x) is ∙ begun_open laws x (events_of x made) b))
+
+pub list_open : LawsBelow → (x : Side) (list : List Event) (made : List Made) (a : Access) → ListIs x list made (Some a) → open_access x list ≡ Some a → list ≡ events_of x made ++ begin_of x a ∷ []
+list_open laws x list made a (inl is) some = absurd (none-some a (sym (laws.made_idle x made) ∙ sym (ap (open_access x) is) ∙ some))
+list_open laws x list made a (inr (b, same, is)) some = let eq : b ≡ a = cc in is ∙ ap (λ (y : Access). events_of x made ++ begin_of x y ∷ []) eq

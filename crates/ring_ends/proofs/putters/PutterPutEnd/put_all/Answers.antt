@@ -1,0 +1,42 @@
+use Rattle.std.proofs.Common.{sym, ◌∙◌}
+use Rattle.ring_core.specs.ProducerState.{Put}
+use Rattle.ring_ends.specs.Ends.{HasPutAll}
+use Rattle.ring_seats.specs.Steppers.{AreAnswered}
+use Rattle.ring_ends.specs.Machines.{producing}
+use Rattle.ring_ends.proofs.MachineWhole.{Whole, idle_after, lawful_whole, ready, same_whole, whole_invariant}
+use Rattle.ring_ends.proofs.PutterCalls.{put_begun, put_laws, put_seen}
+use Rattle.ring_ends.proofs.PutterWhole.{batch_told, idle_there, put_ended, put_whole, some_reply, told_so}
+use Rattle.ring_ends.proofs.putters.PutterPutEnd.put_all.Given.{Over}
+use Rattle.ring_ends.proofs.putters.PutterPutEnd.put_all.Goals.{After-finish}
+use Rattle.ring_ends.proofs.putters.PutterPutEnd.put_all.Goals as goal
+
+-- the call, and what its accesses came to
+abbrev done : (g : Over) (c : After-finish g) → Whole producing (Put c.args.items.now)
+done g c = put_whole c.self.inside.oracle c.self.inside.stepper c.self.inside.machine c.self.inside.steps c.args.self.now c.self.view_is c.self.invariant c.requires.idle (Put c.args.items.now) c.begin_put_all.new.machine c.begin_put_all.ensures.begins c.finish.new.stepper c.finish.new.machine c.finish.ensures
+
+pub finish-requires : goal.finish-requires
+finish-requires g c = ready producing put_laws (put_begun c.self.inside.oracle c.self.inside.stepper c.self.inside.machine c.self.inside.steps c.args.self.now c.self.view_is c.self.invariant (Put c.args.items.now) c.begin_put_all.new.machine c.begin_put_all.ensures.begins) (idle_there c.self.inside.oracle c.self.inside.stepper c.self.inside.machine c.self.inside.steps c.args.self.now c.self.view_is c.self.invariant c.requires.idle (Put c.args.items.now) c.begin_put_all.new.machine c.begin_put_all.ensures.begins)
+
+pub invariant_of-self : goal.invariant_of-self
+invariant_of-self g c = whole_invariant producing put_laws (done g (goal.at.invariant_of-self g c).After-finish)
+
+pub unreachable-requires : goal.unreachable-requires
+unreachable-requires g c =
+    let told = batch_told c.finish.new.machine (HasPutAll c.finish.new.stepper.ring.shape c.args.items.now c.args.self.now.end.list c.finish.new.stepper.list) (put_ended c.args.items.now (done g (goal.at.unreachable-requires g c).After-finish)) (c.finish.ensures.kind ∙ c.begin_put_all.ensures.kind) c.batch_reply.result c.batch_reply.ensures.state in
+    some_reply told.0 (sym told.1 ∙ c.in-None.is)
+
+pub returns-clause-same : goal.returns-clause-same
+returns-clause-same g c = same_whole producing put_laws (done g (goal.at.returns-clause-same g c).After-finish)
+
+pub returns-clause-lawful : goal.returns-clause-lawful
+returns-clause-lawful g c = lawful_whole producing put_laws (done g (goal.at.returns-clause-lawful g c).After-finish)
+
+pub returns-clause-idle : goal.returns-clause-idle
+returns-clause-idle g c = idle_after producing put_laws (done g (goal.at.returns-clause-idle g c).After-finish)
+
+pub returns-clause-phrase : goal.returns-clause-phrase
+returns-clause-phrase g c =
+    told_so (HasPutAll c.finish.new.stepper.ring.shape c.args.items.now c.args.self.now.end.list c.finish.new.stepper.list) c.batch_reply.result (batch_told c.finish.new.machine (HasPutAll c.finish.new.stepper.ring.shape c.args.items.now c.args.self.now.end.list c.finish.new.stepper.list) (put_ended c.args.items.now (done g (goal.at.returns-clause-phrase g c).After-finish)) (c.finish.ensures.kind ∙ c.begin_put_all.ensures.kind) c.batch_reply.result c.batch_reply.ensures.state) c.in-Some.reply c.in-Some.is
+
+pub returns-clause-answered : goal.returns-clause-answered
+returns-clause-answered g c = put_seen c.self.view_is (λ e x. AreAnswered e c.finish.new.stepper (g.O.Oracle.answers x) (g.O.Oracle.answers c.finish.new.oracle)) c.finish.ensures.answered

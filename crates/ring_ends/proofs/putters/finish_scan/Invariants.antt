@@ -1,0 +1,11 @@
+use Rattle.std.proofs.Common.{◌≡◌, ◌-◌}
+use Rattle.bits_core.specs.Shape.{modulus_of}
+use Rattle.ring_core.specs.ProducerState.{IsProducerButScan}
+use Rattle.ring_ends.specs.Machines.{MachineWent, producing}
+use Rattle.ring_ends.proofs.putters.finish_scan.Given as goal
+
+abbrev pub invariant-reads : goal.invariant-reads
+invariant-reads g l = (l.ring ≡ l.stepper.ring) × MachineWent producing l.fn.stepper l.fn.machine l.stepper l.scan (g.O.Oracle.answers l.fn.oracle) (g.O.Oracle.answers l.oracle) × (l.machine ≡ l.fn.machine) × IsProducerButScan l.machine l.scan
+
+abbrev pub decreases-reads : goal.decreases-reads
+decreases-reads g l = modulus_of l.machine.shape - l.scan.scan.zeros

@@ -1,0 +1,104 @@
+-- The two ends of a ring: what they are seen as, and what their calls add to their lists.
+use Rattle.std.specs.Prelude.{◌≡◌, ℕ, Bool, true, false, Option, Some, None, List, [], ◌∷◌}
+use Rattle.bits_core.specs.declared.shapes.Shape.{Shape}
+use Rattle.bits_core.specs.declared.events.Side.TheVariants.{P, C}
+use Rattle.bits_core.specs.declared.events.Event.{Event}
+use Rattle.bits_core.specs.Made.{events_of, IsBeginning}
+use Rattle.ring_core.specs.declared.producers.PutReply as put_replies
+use Rattle.ring_core.specs.declared.producers.BatchReply as batch_replies
+use Rattle.ring_core.specs.declared.producers.BatchReply.TheVariants as batch_reply
+use Rattle.ring_core.specs.declared.consumers.TakeReply as take_replies
+use Rattle.ring_core.specs.declared.consumers.TakeReply.TheVariants as take_reply
+use Rattle.ring_core.specs.Puts.{Put, Puts, put_program, ArePuts}
+use Rattle.ring_core.specs.Takes.{Takes, take_program, AreTakes}
+use Rattle.ring_core.specs.ProducerState as producer
+use Rattle.ring_core.specs.ProducerCalls as puts
+use Rattle.ring_core.specs.ConsumerCalls as takes
+use Rattle.ring_seats.specs.Ring.{RingEnd}
+pub use Rattle.ring_seats.specs.Calls.{HasPuts, HasTakes, IsTakeReply}
+
+-- ---- the producer's end
+
+-- a putter: its end, the call under way, whether the last put was begun as one of several items, what the list was where
+-- the call under way began, and its oracle
+pub record PutterState (O : Type 0) : Type 0 where
+  pub end : RingEnd
+  pub call : Option producer.Call
+  pub batched : Bool
+  pub start : List Event
+  pub oracle : O
+
+-- the list without what was made of the call under way
+abbrev pub whole_put : Option producer.Call → List Event → List Event → List Event
+whole_put None list start = list
+whole_put (Some c) list start = start
+
+abbrev pub puts_whole : {O : Type 0} → PutterState O → List Event
+puts_whole p = whole_put p.call p.end.list p.start
+
+-- the list is that of whole calls, and of a part of one call more, which was begun so
+pub record HasPutPart (shape : Shape) (c : producer.Call) (whole list : List Event) : Type 0 where
+  pub calls : Puts
+  pub before : HasPuts shape whole calls
+  pub more : Puts
+  pub is_more : puts.HasCallMore shape c calls more
+  pub part : IsBeginning list (events_of P (put_program shape more))
+
+-- A put of items added exactly its phrase, and this is the phrase's reply. After a close it is answered so and adds nothing.
+abbrev pub PutAdds : Bool → Shape → Puts → List ℕ → batch_replies.BatchReply → List Event → List Event → Type 0
+PutAdds true shape calls items reply before after = (reply ≡ batch_reply.Closed) × (after ≡ before)
+PutAdds false shape calls items reply before after =
+    (x : Put) × puts.IsPutOf shape (puts.count_of shape calls).number items x × (reply ≡ puts.put_reply_to x) × HasPuts shape after (puts.and_put calls x)
+
+pub record HasPutAll (shape : Shape) (items : List ℕ) (before after : List Event) (reply : batch_replies.BatchReply) : Type 0 where
+  pub calls : Puts
+  pub before_is : HasPuts shape before calls
+  pub adds : PutAdds calls.closes shape calls items reply before after
+
+-- a put of one item is one of that item alone
+abbrev pub HasPut : Shape → ℕ → List Event → List Event → put_replies.PutReply → Type 0
+HasPut shape item before after reply =
+    (answer : batch_replies.BatchReply) × (Some reply ≡ producer.item_reply (Some answer)) × HasPutAll shape (item ∷ []) before after answer
+
+-- A close added exactly its phrase. After a close it adds nothing.
+abbrev pub CloseAdds : Bool → Shape → Puts → List Event → List Event → Type 0
+CloseAdds true shape calls before after = after ≡ before
+CloseAdds false shape calls before after = HasPuts shape after (puts.and_close calls)
+
+pub record HasClosed (shape : Shape) (before after : List Event) : Type 0 where
+  pub calls : Puts
+  pub before_is : HasPuts shape before calls
+  pub adds : CloseAdds calls.closes shape calls before after
+
+-- ---- the consumer's end
+
+-- a taker: its end, whether a take is under way, what its list was where that began, and its oracle
+pub record TakerState (O : Type 0) : Type 0 where
+  pub end : RingEnd
+  pub taking : Bool
+  pub start : List Event
+  pub oracle : O
+
+abbrev pub whole_take : Bool → List Event → List Event → List Event
+whole_take false list start = list
+whole_take true list start = start
+
+abbrev pub takes_whole : {O : Type 0} → TakerState O → List Event
+takes_whole t = whole_take t.taking t.end.list t.start
+
+pub record HasTakePart (shape : Shape) (whole list : List Event) : Type 0 where
+  pub calls : Takes
+  pub before : HasTakes shape whole calls
+  pub more : Takes
+  pub is_more : takes.HasTakeMore shape calls more
+  pub part : IsBeginning list (events_of C (take_program shape more))
+
+-- A take added exactly its phrase, and this is the phrase's reply. Once one was told that the ring is closed it is answered so and adds nothing.
+abbrev pub TakeAdds : Bool → Shape → Takes → take_replies.TakeReply → List Event → List Event → Type 0
+TakeAdds true shape calls reply before after = (reply ≡ take_reply.Closed) × (after ≡ before)
+TakeAdds false shape calls reply before after = (more : Takes) × takes.HasTakeMore shape calls more × IsTakeReply more reply × HasTakes shape after more
+
+pub record HasTaken (shape : Shape) (before after : List Event) (reply : take_replies.TakeReply) : Type 0 where
+  pub calls : Takes
+  pub before_is : HasTakes shape before calls
+  pub adds : TakeAdds (takes.ends_closed calls.end) shape calls reply before after

@@ -1,0 +1,55 @@
+//! The consumer's end of a counter ring.
+
+use crate::ends::TakeEnd;
+use crate::meetings::is_closed_reply;
+use crate::rings::Pad;
+use bits_core::Shape;
+use ring_core::TakeReply;
+use ring_seats::{Counting, Stepper, take_open};
+use std::marker::Model;
+
+/// The consumer's end of a counter ring. No take of it is ever under way.
+///
+/// In use: `uses::two_threads::take_each`.
+#[derive(Drop)]
+#[repr(C)]
+pub struct CounterTaker<'a> {
+    pub(crate) before: Pad,
+    pub(crate) stepper: Stepper<'a, Counting>,
+    pub(crate) count: u64,
+    pub(crate) cell: u64,
+    pub(crate) told: bool,
+    pub(crate) after: Pad,
+}
+
+impl<'a> Model for CounterTaker<'a> {
+    ghost use Rattle.ring_seats.specs.Ring.{RingEnd};
+    ghost use Rattle.ring_seats.specs.CounterEnds.{IsTakerList};
+
+    ghost Value = { RingEnd };
+
+    ghost view = { λ t. t.stepper };
+
+    ghost invariant = { λ t. IsTakerList t.stepper t.count t.cell t.told };
+}
+
+impl<'a> TakeEnd for CounterTaker<'a> {
+    ghost end = { λ t. t };
+
+    ghost idle = { λ _. Unit {0} };
+
+    ghost answered = { λ _ _. Unit {0} };
+
+    fn shape(&self) -> Shape {
+        self.stepper.shape()
+    }
+
+    fn take(&mut self) -> TakeReply {
+        if self.told {
+            return TakeReply::Closed;
+        }
+        let reply = take_open(&mut self.stepper, &mut self.count, &mut self.cell);
+        self.told = is_closed_reply(Some(reply));
+        reply
+    }
+}

@@ -1,0 +1,22 @@
+//! The ends of a ring, which call by call make the steps of its seats (Lamport 1977, over the registers of 1986): the flickering
+//! ring and the counter ring, the putter and the taker of each, by whole calls and for the flickering one by single steps; how
+//! they are made, meet and end.
+#![tactic(auto)]
+
+mod counter_putters;
+mod counter_rings;
+mod counter_takers;
+mod ends;
+mod meetings;
+mod putters;
+mod rings;
+mod takers;
+
+pub use counter_putters::CounterPutter;
+pub use counter_rings::{CounterFinished, CounterRing, CounterStart};
+pub use counter_takers::CounterTaker;
+pub use ends::{PutEnd, RingOf, TakeEnd};
+pub use meetings::Finished;
+pub use putters::Putter;
+pub use rings::{FlickerRing, RunFault, Start};
+pub use takers::Taker;

@@ -1,0 +1,142 @@
+//! The ring.
+ghost use Rattle.std.specs.Prelude.{◌≡◌, ◌<◌, true, IfOk};
+ghost use Rattle.bits_core.specs.Shape.{belongs};
+ghost use Rattle.ring_seats.specs.Rule.{KeepsFlickerRule, IsWordFound};
+ghost use Rattle.ring_seats.specs.Words.{word_place};
+
+use atomic_table::{Seat, Shared, Table};
+use bits_core::{Bit, MemoryFault, Shape};
+use ring_seats::{Flickering, Kind, RuleOf, View, Words, flicker_table};
+use std::alloc::Allocator;
+use std::marker::Model;
+
+/// Why a ring was not made, or a relay gave no outcome: `OutOfMemory`, where memory for the words of a ring, or for the items
+/// that a relay took, ran out. Its number is 1.
+///
+/// In use: `uses::relays::pass_on`.
+pub type RunFault = MemoryFault;
+
+// Unused words on either side of a ring, and of an end: they keep other values off the cache lines of what lies between.
+#[derive(Drop)]
+pub(crate) struct Pad([u64; 8]);
+
+impl Pad {
+    pub(crate) fn new() -> Pad {
+        Pad([0; 8])
+    }
+}
+
+/// A ring of one producer and one consumer, of one kind. To a contract a ring is its shape, and which ring it is.
+#[derive(Drop)]
+#[repr(C)]
+pub struct RingIn<K: Kind, A: Allocator> {
+    before: Pad,
+    table: Table<(), View, Shape, RuleOf<K>, A>,
+    shape: Shape,
+    after: Pad,
+}
+
+impl<K: Kind, A: Allocator> Model for RingIn<K, A> {
+    ghost use Rattle.std.specs.Prelude.{◌≡◌, ◌<◌};
+    ghost use Rattle.ring_seats.specs.Ring.{Ring};
+
+    ghost Value = { Ring };
+
+    ghost view = { λ r. record { shape = r.shape; id = r.table.shared.table_id } };
+
+    ghost invariant = { λ r. (r.table.shared.key ≡ r.shape) × (r.table.shared.table_id.words ≡ K.count r.shape) × (0 < K.count r.shape) };
+}
+
+impl<K: Kind, A: Allocator> RingIn<K, A> {
+    // The ring of a table whose key is the shape.
+    pub(crate) fn of(table: Table<(), View, Shape, RuleOf<K>, A>, shape: Shape) -> RingIn<K, A>
+        requires { (table.shared.key ≡ shape) × (table.shared.table_id.words ≡ K.count shape) × (0 < K.count shape) }
+        ensures { result ≡ record { shape = shape; id = table.shared.table_id } }
+    {
+        RingIn {
+            before: Pad::new(),
+            table,
+            shape,
+            after: Pad::new(),
+        }
+    }
+
+    /// The shape of the ring.
+    pub fn shape(&self) -> Shape
+        ensures { result ≡ self.now.shape }
+    {
+        self.shape
+    }
+
+    /// The words of the ring, with the rule that holds of them between any two atomic steps of whichever thread. Its
+    /// type says so: a step of a [`Shared`] has to keep the rule of its type, for its key, which is the ring's shape.
+    pub fn table(&self) -> &Shared<(), View, Shape, RuleOf<K>>
+        ensures { (result.now.key ≡ self.now.shape) × (result.now.table_id ≡ self.now.id) × (result.now.table_id.words ≡ K.count self.now.shape) }
+    {
+        &self.table.shared
+    }
+
+    // The words as an end reaches them.
+    pub(crate) fn words<'a>(&'a self) -> Words<'a, K>
+        ensures { result ≡ self.now }
+    {
+        Words::of(&self.table.shared, self.shape)
+    }
+}
+
+/// The safe bits of one producer and one consumer, shared by two threads with no lock (Lamport 1977, over the
+/// registers of 1986).
+///
+/// Each bit has an atomic word of its own: 0 or 1, and 2 while a write of the bit is under way. A read loads the word
+/// twice. Where both loads give 0, or both give 1, that is its answer; else a write may overlap the read, and the
+/// reading end's oracle says what it answers. So a bit is no more than safe: it flickers while it is written.
+///
+/// In use: `uses::steps::take_amid_put`.
+pub type FlickerRing<A> = RingIn<Flickering, A>;
+
+/// The right to make the two ends of one ring; with no other can they be made. To a contract it is which ring it is.
+///
+/// In use: `uses::steps::take_amid_put`.
+#[derive(Drop)]
+pub struct Start {
+    pub(crate) seat: Seat<(), View>,
+}
+
+impl Model for Start {
+    ghost use Rattle.std.specs.Prelude.{◌≡◌, []};
+    ghost use Rattle.atomic_table.specs.Seated.{TableId, table_id_coded};
+    ghost use Rattle.ring_seats.specs.Rule.{joint};
+
+    ghost Value = { TableId };
+
+    ghost coded = { table_id_coded };
+
+    ghost view = { λ s. s.seat.table_id };
+
+    ghost invariant = { λ s. s.seat.me ≡ (joint [] [] [] [], []) };
+}
+
+impl<A: Allocator + Copy> FlickerRing<A> {
+    /// A ring of this shape with nothing put, and the right to make its ends. It takes memory for one word for each
+    /// bit, and for 16 words behind the close bit, each count and each cell, which keep these apart. `OutOfMemory` is
+    /// answered only where the allocator refused that.
+    pub fn new(alloc: A, shape: Shape) -> Result<(FlickerRing<A>, Start), RunFault>
+        ensures { IfOk result (λ r. (r.0.shape ≡ shape) × (r.1 ≡ r.0.id)) }
+    {
+        let (table, seat) = flicker_table(alloc, shape)?;
+        Ok((RingIn::of(table, shape), Start { seat }))
+    }
+}
+
+impl<A: Allocator> FlickerRing<A> {
+    /// Loads the word of a bit: 0 or 1, and 2 while a write of the bit is under way. Any thread may do so at any time,
+    /// whatever the two ends are at, and it is no event of theirs. The word is that of a state which keeps the ring's
+    /// rule ([`FlickerRule`](ring_seats::FlickerRule)): so, at each moment, there is one lawful history whose two sides are the lists of the
+    /// two seats that may step, and this is what its bit shows. The bit is one of the ring's shape.
+    pub fn observe(&self, bit: Bit) -> u64
+        requires { belongs self.now.shape bit ≡ true }
+        ensures { IsWordFound (KeepsFlickerRule self.now.shape) (word_place self.now.shape bit) result }
+    {
+        self.words().find_bit(bit)
+    }
+}

@@ -1,0 +1,248 @@
+//! The consumer's end.
+ghost use Rattle.std.specs.Prelude.{◌≡◌, ◌≢◌, ◌⊎◌, ℕ, ◌+◌, ◌*◌, ◌<◌, ◌≤◌, true, false, Some, None, List, [], ◌∷◌, ◌++◌, length, IfSome, IfNone};
+ghost use Rattle.bits_core.specs.declared.events.Event.{Event};
+ghost use Rattle.bits_core.specs.Made.{Made};
+ghost use Rattle.ring_core.specs.declared.consumers.TakeReply.TheVariants.{Closed};
+ghost use Rattle.ring_core.specs.Lengths.{longest_take};
+ghost use Rattle.ring_core.specs.Takes.{Takes};
+ghost use Rattle.ring_core.specs.ConsumerState.{due_take, is_taking};
+ghost use Rattle.ring_core.specs.ConsumerCalls.{ConsumerStands};
+ghost use Rattle.ring_seats.specs.Steppers.{AreAnswered, Grows, IsAskedOnce, IsSameEnd, StandsAs};
+ghost use Rattle.bits_core.specs.declared.events.Side.TheVariants.{C};
+ghost use Rattle.ring_ends.specs.Ends.{HasTaken, HasTakePart, whole_take, takes_whole};
+ghost use Rattle.ring_ends.specs.Machines.{CallBegins, MachineAt, MachineBusy, MachineEnded, MachineReady, MachineStep, MachineWent, consuming};
+
+use crate::ends::TakeEnd;
+use crate::rings::Pad;
+use bits_core::{Oracle, Shape};
+use ring_core::{Consumer, TakeReply};
+use ring_seats::laws::laws_below;
+use ring_seats::{Flickering, Stepper};
+use std::marker::Model;
+
+/// The consumer's end of a ring. Its call `take` is that of [`TakeEnd`](crate::TakeEnd); the step call here makes one
+/// atomic step of it.
+///
+/// To a contract it is its list of events, what it knows, and whether a take is under way with the list where that
+/// began. It takes no memory and waits for nobody.
+///
+/// In use: `uses::steps::step_taker`.
+#[derive(Drop)]
+#[repr(C)]
+pub struct Taker<'a, O: Oracle + Drop> {
+    pub(crate) before: Pad,
+    pub(crate) stepper: Stepper<'a, Flickering>,
+    pub(crate) machine: Consumer,
+    // how many events of the take under way the list has, and 0 where none is under way
+    pub(crate) steps: u64,
+    pub(crate) oracle: O,
+    pub(crate) after: Pad,
+}
+
+impl<'a, O: Oracle + Drop> Model for Taker<'a, O> {
+    ghost use Rattle.ring_core.specs.ConsumerState.{is_taking};
+    ghost use Rattle.ring_ends.specs.Ends.{TakerState, whole_take};
+    ghost use Rattle.ring_ends.specs.Machines.{IsMarked, IsMachine, consuming, without_last, longest_taking};
+
+    ghost Value = { TakerState O };
+
+    ghost view = { λ p. record { end = p.stepper; taking = is_taking p.machine; start = without_last p.steps p.stepper.list; oracle = p.oracle } };
+
+    ghost invariant = { λ p. IsMachine consuming p.stepper p.machine (whole_take (is_taking p.machine) p.stepper.list (without_last p.steps p.stepper.list)) × IsMarked p.steps p.stepper.list (longest_taking p.machine.shape (is_taking p.machine)) };
+}
+
+// One step of the take under way.
+fn advance<'a, O: Oracle>(
+    stepper: &mut Stepper<'a, Flickering>,
+    machine: &mut Consumer,
+    oracle: &mut O,
+)
+    requires at { (calls : Takes) × (made : List Made) × MachineAt consuming stepper.old machine.old calls made }
+    ensures rests { is_taking machine.old ≡ false → (machine.new ≡ machine.old) × (stepper.new ≡ stepper.old) }
+    ensures steps { (calls : Takes) (made : List Made) → MachineAt consuming stepper.old machine.old calls made → is_taking machine.old ≡ true → MachineStep consuming stepper.old machine.old stepper.new machine.new calls }
+    ensures oracle { IsAskedOnce O.answers oracle.old oracle.new }
+    ensures answered { AreAnswered stepper.old stepper.new (O.answers oracle.old) (O.answers oracle.new) }
+{
+    laws_below();
+    let _expects = machine.expects_one();
+    match machine.next() {
+        None => {}
+        Some(access) => match stepper.step(access, oracle) {
+            None => {}
+            Some(answer) => machine.feed(answer),
+        },
+    }
+}
+
+// The rest of a scan of the take under way, where one is.
+#[inline(always)]
+fn finish_scan<'a, O: Oracle>(
+    stepper: &mut Stepper<'a, Flickering>,
+    machine: &mut Consumer,
+    oracle: &mut O,
+)
+    requires { MachineBusy consuming stepper.old machine.old }
+    ensures { MachineWent consuming stepper.old machine.old stepper.new machine.new (O.answers oracle.old) (O.answers oracle.new) }
+{
+    laws_below();
+    let Some(mut scan) = machine.scan() else {
+        return;
+    };
+    let ring = stepper.words();
+    'reads: loop {
+        let _expects = scan.expects_one();
+        let access = scan.next();
+        let answer = stepper.make(&ring, access, oracle);
+        if answer {
+            machine.go_on_with_scan(scan);
+            machine.feed(true);
+            return;
+        }
+        scan.zero();
+    }
+}
+
+// The rest of the word of the take under way, where one is read.
+#[inline(always)]
+fn read_word<'a, O: Oracle>(
+    stepper: &mut Stepper<'a, Flickering>,
+    machine: &mut Consumer,
+    oracle: &mut O,
+)
+    requires { MachineBusy consuming stepper.old machine.old }
+    ensures { MachineWent consuming stepper.old machine.old stepper.new machine.new (O.answers oracle.old) (O.answers oracle.new) }
+{
+    laws_below();
+    let Some(mut word) = machine.word() else {
+        return;
+    };
+    let ring = stepper.words();
+    'reads: loop {
+        let last = word.is_last();
+        let access = word.next();
+        let answer = stepper.make(&ring, access, oracle);
+        if last {
+            machine.go_on_with_word(word);
+            machine.feed_word(answer);
+            return;
+        }
+        word.feed(answer);
+    }
+}
+
+// The rest of the count of the take under way, where it is written.
+#[inline(always)]
+fn write_count<'a, O: Oracle>(
+    stepper: &mut Stepper<'a, Flickering>,
+    machine: &mut Consumer,
+    oracle: &mut O,
+)
+    requires { MachineBusy consuming stepper.old machine.old }
+    ensures { MachineWent consuming stepper.old machine.old stepper.new machine.new (O.answers oracle.old) (O.answers oracle.new) }
+{
+    laws_below();
+    let ring = stepper.words();
+    'writes: while machine.is_counting() {
+        let Some(access) = machine.next() else {
+            return;
+        };
+        let _expects = machine.expects_one();
+        let answer = stepper.make(&ring, access, oracle);
+        machine.feed_count(answer);
+    }
+}
+
+// The accesses of the take under way, to its end.
+#[inline(always)]
+fn finish<'a, O: Oracle>(
+    stepper: &mut Stepper<'a, Flickering>,
+    machine: &mut Consumer,
+    oracle: &mut O,
+)
+    requires { (calls : Takes) × MachineReady consuming stepper.old machine.old calls }
+    ensures { MachineEnded consuming stepper.old machine.old stepper.new machine.new (O.answers oracle.old) (O.answers oracle.new) }
+{
+    laws_below();
+    'accesses: loop {
+        finish_scan(stepper, machine, oracle);
+        read_word(stepper, machine, oracle);
+        write_count(stepper, machine, oracle);
+        let Some(access) = machine.next() else {
+            return;
+        };
+        let _expects = machine.expects_one();
+        let ring = stepper.words();
+        let answer = stepper.make(&ring, access, oracle);
+        machine.feed(answer);
+    }
+}
+
+// How many events of the take under way the list has behind one step more.
+fn steps_behind(steps: u64, machine: &Consumer) -> u64
+    requires stands { (calls : Takes) × (made : List Made) × ConsumerStands machine.now calls made }
+    requires few { steps < 10000 }
+    ensures rests { is_taking machine.now ≡ false → result ≡ 0 }
+    ensures goes { is_taking machine.now ≡ true → result ≡ steps + 1 }
+{
+    if machine.next().is_none() {
+        0
+    } else {
+        steps + 1
+    }
+}
+
+// Begins a take where none is under way.
+#[inline(always)]
+fn begin_take(machine: &mut Consumer)
+    requires stands { (calls : Takes) × (made : List Made) × ConsumerStands machine.old calls made }
+    ensures begins { (calls : Takes) (made : List Made) → ConsumerStands machine.old calls made → CallBegins consuming machine.old machine.new calls made tt }
+{
+    if machine.next().is_none() {
+        machine.take();
+    }
+}
+
+impl<'a, O: Oracle + Drop> Taker<'a, O> {
+    /// One step of a take: one event of its accesses. The take begins where none is under way, and the reply comes with
+    /// its last step. Once a take was told `Closed`, each is answered so at once, with no step.
+    pub fn step_take(&mut self) -> Option<TakeReply>
+        ensures same { IsSameEnd self.old.end self.new.end }
+        ensures lawful { StandsAs C self.new.end }
+        ensures one { ((result ≡ Some Closed) × (self.new.end ≡ self.old.end)) ⊎ ((e : Event) × Grows self.old.end self.new.end e) }
+        ensures none { IfNone result ((self.new.taking ≡ true) × (takes_whole self.new ≡ takes_whole self.old) × HasTakePart self.new.end.ring.shape (takes_whole self.new) self.new.end.list) }
+        ensures some { IfSome result (λ r. (self.new.taking ≡ false) × HasTaken self.new.end.ring.shape (takes_whole self.old) self.new.end.list r) }
+        ensures few { length self.new.end.list ≤ length (takes_whole self.old) + 2 * longest_take self.new.end.ring.shape }
+        ensures oracle { IsAskedOnce O.answers self.old.oracle self.new.oracle }
+        ensures answered { AreAnswered self.old.end self.new.end (O.answers self.old.oracle) (O.answers self.new.oracle) }
+    {
+        laws_below();
+        begin_take(&mut self.machine);
+        advance(&mut self.stepper, &mut self.machine, &mut self.oracle);
+        self.steps = steps_behind(self.steps, &self.machine);
+        self.machine.reply()
+    }
+}
+
+impl<'a, O: Oracle + Drop> TakeEnd for Taker<'a, O> {
+    ghost use Rattle.std.specs.Prelude.{◌≡◌, false};
+    ghost use Rattle.ring_seats.specs.Steppers.{AreAnswered};
+
+    ghost end = { λ p. p.end };
+
+    ghost idle = { λ p. p.taking ≡ false };
+
+    ghost answered = { λ p q. AreAnswered p.end q.end (O.answers p.oracle) (O.answers q.oracle) };
+
+    fn shape(&self) -> Shape {
+        self.stepper.shape()
+    }
+
+    fn take(&mut self) -> TakeReply {
+        begin_take(&mut self.machine);
+        finish(&mut self.stepper, &mut self.machine, &mut self.oracle);
+        match self.machine.reply() {
+            Some(reply) => reply,
+            None => unreachable!(),
+        }
+    }
+}

@@ -1,7 +1,0 @@
-use Rattle.bits_core.specs.Shape.{modulus_of}
-use Rattle.register_core.specs.ScanState.{scan_phrase, row_read_by}
-use Rattle.ring_run.specs.Counters.{IsBelow}
-use Rattle.ring_run.proofs.counter_steppers.Stepper+Counting.scan.Given as goal
-
-abbrev pub ghosts-load_all : goal.ghosts-load_all
-ghosts-load_all a = record { shape = a.self.now.shape; side = a.about.now; made = scan_phrase (row_read_by a.about.now); tells = IsBelow (modulus_of a.self.now.shape) }

@@ -1,5 +1,0 @@
-use Rattle.ring_run.proofs.CounterTold.{words-told}
-use Rattle.ring_run.proofs.laws.words_are_told.Goals as goal
-
-pub returns : goal.returns
-returns c = words-told c.counts_are_written.ensures.numbers c.digits_tell_items.ensures

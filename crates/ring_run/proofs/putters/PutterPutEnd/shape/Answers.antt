@@ -1,7 +1,0 @@
-use Rattle.ring_run.specs.Steppers.{StandsAs}
-use Rattle.bits_core.specs.declared.events.Side.TheVariants.{P}
-use Rattle.ring_run.proofs.PutterCalls.{put_seen}
-use Rattle.ring_run.proofs.putters.PutterPutEnd.shape.Goals as goal
-
-pub returns-clause-lawful : goal.returns-clause-lawful
-returns-clause-lawful g c = put_seen c.self.view_is (λ e _. StandsAs P e) c.self.invariant.0.at.lawful

@@ -1,0 +1,259 @@
+-- The puts of a counter ring, from their lists.
+use Rattle.std.proofs.Common.{◌≡◌, ℕ, zero, suc, ◌+◌, ◌%◌, ◌^◌, ◌<◌, ◌≤◌, Bool, true, false, List, [], ◌∷◌, ◌++◌, length, take, slice_index, refl, ap, sym, subst, ◌∙◌, arith, append_assoc, append-nil}
+use Rattle.std.proofs.Math.Nat.{suc-mod}
+use native.Mathlib.Decide.{dec_lt}
+use Rattle.bits_core.specs.declared.shapes.Shape.{Shape}
+use Rattle.bits_core.specs.declared.events.Side.{Side}
+use Rattle.bits_core.specs.declared.events.Side.TheVariants.{P, C}
+use Rattle.bits_core.specs.declared.events.Bit.{Bit}
+use Rattle.bits_core.specs.declared.events.Bit.TheVariants.{S, R, X, Cell}
+use Rattle.bits_core.specs.declared.events.Event.{Event}
+use Rattle.bits_core.specs.Shape.{AllFit, capacity_of, modulus_of, width_of}
+use Rattle.bits_core.specs.Bits.{first_value}
+use Rattle.bits_core.specs.Made.{Made, Read, Write, events_of, IsBeginning}
+use Rattle.register_core.specs.Row.{row_bit, first_bits, writes_in}
+use Rattle.register_core.specs.Unary.{unary_phrase}
+use Rattle.register_core.specs.Word.{digit_writes, word_write}
+use Rattle.register_core.specs.ScanState.{zero_reads, scan_phrase, row_read_by}
+use Rattle.ring_core.specs.Counts.{Count, first_count, number_past, count_bits, batch_phrase, LeavesRoom, LeavesRoomFor}
+use Rattle.ring_core.specs.Puts.{Put, Stored, Full, Puts, stored_after, stored_count, words_phrase, put_phrase, put_phrases, close_phrase, put_program, IsPut, IsBatch}
+use Rattle.ring_core.specs.ProducerCalls.{count_of, and_put, and_close}
+use Rattle.ring_core.specs.OneCallMore.{HasPutMore}
+use Rattle.ring_seats.specs.Below.{LawsBelow}
+use Rattle.ring_seats.specs.Programs.{Follows}
+use Rattle.ring_seats.specs.Calls.{HasPuts}
+use Rattle.ring_seats.specs.Counters.{value_left, unary_over}
+use Rattle.ring_seats.proofs.Blocks.{after, after-append, left_by-made, events_of-append}
+use Rattle.ring_seats.proofs.LastWrites.{Spares, spares-append, spares_writes, spared_bits, row_written, row_tells}
+
+-- ---- lists of items
+
+pub length-first : (n : ℕ) (xs : List ℕ) → n ≤ length xs → length (take n xs) ≡ n
+length-first zero xs le = refl
+length-first (suc n) [] le = absurd (omega (arith, le))
+length-first (suc n) (x ∷ xs) le = ap suc (length-first n xs (omega (arith, le)))
+
+pub first_all : (n : ℕ) (xs : List ℕ) → length xs ≤ n → take n xs ≡ xs
+first_all zero [] le = refl
+first_all zero (x ∷ xs) le = absurd (omega (arith, le))
+first_all (suc n) [] le = refl
+first_all (suc n) (x ∷ xs) le = ap (λ (l : List ℕ). x ∷ l) (first_all n xs (omega (arith, le)))
+
+pub first_fit : (shape : Shape) (n : ℕ) (xs : List ℕ) → AllFit shape xs → AllFit shape (take n xs)
+first_fit shape zero xs fit = tt
+first_fit shape (suc n) [] fit = tt
+first_fit shape (suc n) (x ∷ xs) fit = (fit.0, first_fit shape n xs fit.1)
+
+pub fit_at : (shape : Shape) (xs : List ℕ) (i : ℕ) → AllFit shape xs → i < length xs → slice_index xs i < 2 ^ width_of shape
+fit_at shape [] i fit lt = absurd (omega (arith, lt))
+fit_at shape (x ∷ xs) zero fit lt = fit.0
+fit_at shape (x ∷ xs) (suc i) fit lt = fit_at shape xs i fit.1 (omega (arith, lt))
+
+pub past_is : (n : ℕ) (items : List ℕ) → number_past n items ≡ n + length items
+past_is n [] = omega arith
+past_is n (x ∷ items) = omega (arith, past_is (suc n) items)
+
+-- ---- the words of several items
+
+module _ (shape : Shape) where
+  -- cells are told by their numbers modulo the capacity
+  pub words_same : (items : List ℕ) (n m : ℕ) → n % capacity_of shape ≡ m % capacity_of shape → words_phrase shape n items ≡ words_phrase shape m items
+  words_same [] n m e = refl
+  words_same (x ∷ items) n m e = λ i. word_write (width_of shape) (e i) x ++
+      words_same items (suc n) (suc m) (suc-mod n (capacity_of shape) ∙ (ap (λ (k : ℕ). suc k % capacity_of shape) e ∙ sym (suc-mod m (capacity_of shape)))) i
+
+  -- one more of them
+  pub words_more : (items : List ℕ) (n i : ℕ) → i < length items → words_phrase shape n (take (suc i) items) ≡ words_phrase shape n (take i items) ++ word_write (width_of shape) ((n + i) % capacity_of shape) (slice_index items i)
+  words_more [] n i lt = absurd (omega (arith, lt))
+  words_more (x ∷ items) n zero lt =
+      append-nil (word_write (width_of shape) (n % capacity_of shape) x) ∙ ap (λ (k : ℕ). word_write (width_of shape) (k % capacity_of shape) x) same
+    where
+      same : n ≡ n + 0
+      same = omega arith
+  words_more (x ∷ items) n (suc i) lt =
+      ap (λ (l : List Made). word_write (width_of shape) (n % capacity_of shape) x ++ l) (words_more items (suc n) i (omega (arith, lt))) ∙
+      (sym (append_assoc (word_write (width_of shape) (n % capacity_of shape) x) (words_phrase shape (suc n) (take i items)) (word_write (width_of shape) ((suc n + i) % capacity_of shape) (slice_index items i))) ∙
+      ap (λ (k : ℕ). (word_write (width_of shape) (n % capacity_of shape) x ++ words_phrase shape (suc n) (take i items)) ++ word_write (width_of shape) (k % capacity_of shape) (slice_index items i)) same)
+    where
+      same : suc n + i ≡ n + suc i
+      same = omega arith
+
+  -- the first of them begin them all
+  pub words_begin : (items : List ℕ) (n k : ℕ) → IsBeginning (words_phrase shape n (take k items)) (words_phrase shape n items)
+  words_begin items n zero = (words_phrase shape n items, refl)
+  words_begin [] n (suc k) = ([], refl)
+  words_begin (x ∷ items) n (suc k) =
+      let b = words_begin items (suc n) k in
+      (b.0, append_assoc (word_write (width_of shape) (n % capacity_of shape) x) (words_phrase shape (suc n) (take k items)) b.0 ∙ ap (λ (l : List Made). word_write (width_of shape) (n % capacity_of shape) x ++ l) b.1)
+
+-- ---- what the producer's list leaves of its count
+
+zeros_spare : (row other : ℕ → Bit) (n : ℕ) → Spares row (zero_reads other n)
+zeros_spare row other zero = tt
+zeros_spare row other (suc n) = spares-append row (zero_reads other n) (Read (other n) false ∷ []) (zeros_spare row other n) tt
+
+pub scan_spares : (row other : ℕ → Bit) (c : ℕ) → Spares row (scan_phrase other c)
+scan_spares row other c = spares-append row (zero_reads other c) (Read (other c) true ∷ []) (zeros_spare row other c) tt
+
+word_spares : (width j item : ℕ) → Spares (row_bit P) (word_write width j item)
+word_spares width j item = spares_writes (row_bit P) (Cell j) (λ i k. refl) (digit_writes item width)
+
+pub words_spare : (shape : Shape) (n : ℕ) (items : List ℕ) → Spares (row_bit P) (words_phrase shape n items)
+words_spare shape n [] = tt
+words_spare shape n (x ∷ items) =
+    spares-append (row_bit P) (word_write (width_of shape) (n % capacity_of shape) x) (words_phrase shape (suc n) items) (word_spares (width_of shape) (n % capacity_of shape) x) (words_spare shape (suc n) items)
+
+close_spares : (closes : Bool) → Spares (row_bit P) (close_phrase closes)
+close_spares true = ((λ i. refl), tt)
+close_spares false = tt
+
+-- the bits of a row are these
+abbrev pub RowIs : Side → (Bit → Bool) → (ℕ → Bool) → Type 0
+RowIs x bits f = (i : ℕ) → bits (row_bit x i) ≡ f i
+
+pub first_row : (x : Side) → RowIs x first_value first_bits
+first_row P i = first_same i
+  where
+    first_same : (i : ℕ) → first_value (S i) ≡ first_bits i
+    first_same i = refl
+first_row C i = first_same i
+  where
+    first_same : (i : ℕ) → first_value (R i) ≡ first_bits i
+    first_same i = refl
+
+pub row_spared : (x : Side) (bits : Bit → Bool) (made : List Made) (f : ℕ → Bool) → Spares (row_bit x) made → RowIs x bits f → RowIs x (after bits made) f
+row_spared x bits made f s is i = spared_bits (row_bit x) made bits s i ∙ is i
+
+pub row_both : (x : Side) (bits : Bit → Bool) (xs ys : List Made) (f : ℕ → Bool) → RowIs x (after (after bits xs) ys) f → RowIs x (after bits (xs ++ ys)) f
+row_both x bits xs ys f is i = after-append xs ys bits (row_bit x i) ∙ is i
+
+module _ (shape : Shape) where
+  row_put : (bits : Bit → Bool) (c : Count) (x : Put) → RowIs P bits c.bits → RowIs P (after bits (put_phrase shape c x)) (stored_after shape c x).bits
+  row_put bits c (Stored seen items) is =
+      let scan : List Made = scan_phrase (row_read_by P) seen in
+      let words : List Made = words_phrase shape c.number items in
+      let before : List Made = scan ++ words in
+      row_both P bits before (batch_phrase shape P c items) (stored_after shape c (Stored seen items)).bits
+      (row_written (row_bit P) (row_tells P) (count_bits shape c items) (after bits before) c.bits
+      (row_spared P bits before c.bits (spares-append (row_bit P) scan words (scan_spares (row_bit P) (row_read_by P) seen) (words_spare shape c.number items)) is))
+  row_put bits c (Full seen) is = row_spared P bits (scan_phrase (row_read_by P) seen) c.bits (scan_spares (row_bit P) (row_read_by P) seen) is
+
+  row_puts : (puts : List Put) (bits : Bit → Bool) (c : Count) → RowIs P bits c.bits → RowIs P (after bits (put_phrases shape c puts)) (stored_count shape c puts).bits
+  row_puts [] bits c is = is
+  row_puts (x ∷ puts) bits c is =
+      row_both P bits (put_phrase shape c x) (put_phrases shape (stored_after shape c x) puts) (stored_count shape (stored_after shape c x) puts).bits
+      (row_puts puts (after bits (put_phrase shape c x)) (stored_after shape c x) (row_put bits c x is))
+
+  putter_row : (list : List Event) (calls : Puts) → HasPuts shape list calls → RowIs P (value_left list) (count_of shape calls).bits
+  putter_row list calls has i =
+      let puts : List Made = put_phrases shape first_count calls.puts in
+      ap (λ (l : List Event). value_left l (row_bit P i)) has.list_is ∙
+      (left_by-made P (put_program shape calls) [] (row_bit P i) ∙
+      row_both P first_value puts (close_phrase calls.closes) (count_of shape calls).bits
+      (row_spared P (after first_value puts) (close_phrase calls.closes) (count_of shape calls).bits (close_spares calls.closes)
+      (row_puts calls.puts first_value first_count (first_row P))) i)
+
+-- ---- the list of an open putter
+
+module _ (laws : LawsBelow) (shape : Shape) (list : List Event) (calls : Puts) (has : HasPuts shape list calls) (opened : calls.closes ≡ false) where
+  abbrev c_of : Count
+  c_of = count_of shape calls
+
+  abbrev prog : List Made
+  prog = put_program shape calls
+
+  more : (x : Put) → IsPut shape c_of.number x → HasPutMore shape calls x
+  more x is = laws.one_put shape calls x has.are opened is
+
+  joined : (a rest : List Made) → (list ++ events_of P a) ++ events_of P rest ≡ events_of P (prog ++ (a ++ rest))
+  joined a rest =
+      ap (λ (l : List Event). (l ++ events_of P a) ++ events_of P rest) has.list_is ∙
+      (ap (λ (l : List Event). l ++ events_of P rest) (sym (events_of-append P prog a)) ∙
+      (sym (events_of-append P (prog ++ a) rest) ∙ ap (events_of P) (append_assoc prog a rest)))
+
+  -- what was made goes on to a put
+  goes : (x : Put) (a rest : List Made) → IsPut shape c_of.number x → put_phrase shape c_of x ≡ a ++ rest → Follows shape P (list ++ events_of P a)
+  goes x a rest is phrase = (
+    and_put calls x,
+    (more x is).are,
+    (
+      events_of P rest,
+      joined a rest ∙ ap (events_of P) (ap (λ (l : List Made). prog ++ l) (sym phrase) ∙ sym (more x is).program_is),
+    ),
+  )
+
+  -- a whole put
+  whole : (x : Put) (now : List Event) → IsPut shape c_of.number x → now ≡ list ++ events_of P (put_phrase shape c_of x) → HasPuts shape now (and_put calls x)
+  whole x now is e = record {
+    are = (more x is).are;
+    list_is = e ∙ (ap (λ (l : List Event). l ++ events_of P (put_phrase shape c_of x)) has.list_is ∙ (sym (events_of-append P prog (put_phrase shape c_of x)) ∙ ap (events_of P) (sym (more x is).program_is)));
+  }
+
+  abbrev scan_of : ℕ → List Made
+  scan_of seen = scan_phrase (row_read_by P) seen
+
+  -- a put of the first of some items, or of none of them, begins with any scan
+  pub can_scan : (item : ℕ) (items : List ℕ) → IsBatch shape (item ∷ items) → (c : ℕ) → c < modulus_of shape → Follows shape P (list ++ events_of P (scan_phrase (row_read_by P) c))
+  can_scan item items batch c lt = go (dec_lt (Rattle.ring_core.specs.Counts.distance (modulus_of shape) (c_of.number % modulus_of shape) c) (capacity_of shape))
+    where
+      go : Dec (LeavesRoom shape ((count_of shape calls).number % modulus_of shape) c) → Follows shape P (list ++ events_of P (scan_phrase (row_read_by P) c))
+      go (yes room) = goes (Stored c (item ∷ [])) (scan_of c) (words_phrase shape c_of.number (item ∷ []) ++ batch_phrase shape P c_of (item ∷ []))
+          (lt, room_one room, record { some = omega arith; few = shape.has_batch; fit = (batch.fit.0, tt) })
+          (append_assoc (scan_of c) (words_phrase shape c_of.number (item ∷ [])) (batch_phrase shape P c_of (item ∷ [])))
+        where
+          room_one : LeavesRoom shape ((count_of shape calls).number % modulus_of shape) c → LeavesRoomFor shape ((count_of shape calls).number % modulus_of shape) c 1
+          room_one r = omega (arith, r)
+      go (no full) = goes (Full c) (scan_of c) [] (lt, full) (sym (append-nil (scan_of c)))
+
+  pub full_is : (seen : ℕ) (now : List Event) → seen < modulus_of shape → ¬ LeavesRoom shape ((count_of shape calls).number % modulus_of shape) seen → now ≡ list ++ events_of P (scan_phrase (row_read_by P) seen) → HasPuts shape now (and_put calls (Full seen))
+  full_is seen now lt full e = whole (Full seen) now (lt, full) e
+
+  -- the put that stores items
+  module _ (seen : ℕ) (items : List ℕ) (is : IsPut shape (count_of shape calls).number (Stored seen items)) where
+    abbrev words : List Made
+    words = words_phrase shape c_of.number items
+
+    abbrev before : List Made
+    before = scan_of seen ++ words
+
+    two : (list1 : List Event) → list1 ≡ list ++ events_of P (scan_of seen) → list1 ++ events_of P words ≡ list ++ events_of P before
+    two list1 e = ap (λ (l : List Event). l ++ events_of P words) e ∙ (append_assoc list (events_of P (scan_of seen)) (events_of P words) ∙ ap (λ (l : List Event). list ++ l) (sym (events_of-append P (scan_of seen) words)))
+
+    pub can_store : (list1 : List Event) → list1 ≡ list ++ events_of P (scan_phrase (row_read_by P) seen) → Follows shape P (list1 ++ events_of P (words_phrase shape (count_of shape calls).number items))
+    can_store list1 e = subst (Follows shape P) (sym (two list1 e)) (goes (Stored seen items) before (batch_phrase shape P c_of items) is refl)
+
+    module _ (list1 list2 : List Event) (first : list1 ≡ list ++ events_of P (scan_phrase (row_read_by P) seen)) (second : list2 ≡ list1 ++ events_of P (words_phrase shape (count_of shape calls).number items))
+        (new : ℕ) (next : new ≡ number_past (count_of shape calls).number items % modulus_of shape) where
+      list2_is : list2 ≡ list ++ events_of P before
+      list2_is = second ∙ two list1 first
+
+      row_now : RowIs P (value_left list2) c_of.bits
+      row_now i =
+          ap (λ (l : List Event). value_left l (row_bit P i)) list2_is ∙
+          (left_by-made P before list (row_bit P i) ∙
+          row_spared P (value_left list) before c_of.bits (spares-append (row_bit P) (scan_of seen) words (scan_spares (row_bit P) (row_read_by P) seen) (words_spare shape c_of.number items)) (putter_row shape list calls has) i)
+
+      count_is : unary_over P list2 new ≡ batch_phrase shape P c_of items
+      count_is i = writes_in (row_bit P) (unary_phrase (λ (k : ℕ). row_now k i) (next i))
+
+      phrase_is : list2 ++ events_of P (unary_over P list2 new) ≡ list ++ events_of P (put_phrase shape c_of (Stored seen items))
+      phrase_is =
+          (λ i. list2_is i ++ events_of P (count_is i)) ∙
+          (append_assoc list (events_of P before) (events_of P (batch_phrase shape P c_of items)) ∙ ap (λ (l : List Event). list ++ l) (sym (events_of-append P before (batch_phrase shape P c_of items))))
+
+      pub can_count : Follows shape P (list2 ++ events_of P (unary_over P list2 new))
+      can_count = subst (Follows shape P) (sym phrase_is) (goes (Stored seen items) (put_phrase shape c_of (Stored seen items)) [] is (sym (append-nil (put_phrase shape c_of (Stored seen items)))))
+
+      pub stored_is : HasPuts shape (list2 ++ events_of P (unary_over P list2 new)) (and_put calls (Stored seen items))
+      stored_is = whole (Stored seen items) (list2 ++ events_of P (unary_over P list2 new)) is phrase_is
+
+  -- the close
+  closed_list : list ++ events_of P (Write X true ∷ []) ≡ events_of P (put_program shape (and_close calls))
+  closed_list =
+      ap (λ (l : List Event). l ++ events_of P (Write X true ∷ [])) has.list_is ∙ (sym (events_of-append P prog (Write X true ∷ [])) ∙ ap (events_of P) (sym (laws.one_close shape calls opened)))
+
+  pub to_close : Follows shape P (list ++ events_of P (Write X true ∷ []))
+  to_close = (and_close calls, has.are, ([], append-nil (list ++ events_of P (Write X true ∷ [])) ∙ closed_list))
+
+  pub closed_is : HasPuts shape (list ++ events_of P (Write X true ∷ [])) (and_close calls)
+  closed_is = record { are = has.are; list_is = closed_list }

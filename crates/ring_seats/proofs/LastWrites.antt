@@ -1,0 +1,198 @@
+-- The last writes of a row in a list of its writer's events, and what they leave.
+use Rattle.std.proofs.Common.{◌≡◌, ◌≢◌, ◌⊎◌, inl, inr, ℕ, zero, suc, ◌<◌, Bool, true, false, cond, nat_eq, Option, Some, None, List, [], ◌∷◌, ◌++◌, ◌==◌, refl, ap, sym, subst, ◌∙◌, arith, append_assoc, append-nil, eq-eqb}
+use Rattle.std.specs.Prelude.{if◌then◌else◌, unwrap_or}
+use Rattle.std.specs.List.{cons_option}
+use Rattle.std.proofs.lemmas.Bool.Decides.{nat_tests}
+use Rattle.std.proofs.lemmas.List.{map-append}
+use Rattle.std.proofs.lemmas.List.Elements.{filter_map-append}
+use Rattle.std.proofs.lemmas.Nat.Bits.{bit_at-zero}
+use Rattle.std.proofs.Math.Nat.{mod-eq_of_lt}
+use Rattle.bits_core.specs.declared.shapes.Shape.{Shape}
+use Rattle.bits_core.specs.declared.events.Side.{Side}
+use Rattle.bits_core.specs.declared.events.Side.TheVariants.{P, C}
+use Rattle.bits_core.specs.declared.events.Bit.{Bit}
+use Rattle.bits_core.specs.declared.events.Bit.TheVariants.{Cell}
+use Rattle.bits_core.specs.declared.events.Event.{Event}
+use Rattle.bits_core.specs.Shape.{modulus_of}
+use Rattle.bits_core.specs.Bits.{writer, same_bit, is_by, first_value, write_of, value_written}
+use Rattle.bits_core.specs.History.{open_access, open_write, held, writes_begun, last_value}
+use Rattle.bits_core.specs.Lawful.{IsLawful}
+use Rattle.bits_core.specs.Made.{Made, Read, Write, events_of, own}
+use Rattle.register_core.specs.Row.{RowWrite, row_bit, writes_in, bits_with, bits_after}
+use Rattle.register_core.specs.Unary.{unary_phrase}
+use Rattle.register_core.specs.Word.{digit, digit_writes, word_write}
+use Rattle.ring_core.specs.Counts.{Count}
+use Rattle.ring_core.specs.CountWrites.{CountsShowNumbers}
+use Rattle.ring_seats.specs.Below.{LawsBelow}
+use Rattle.ring_seats.specs.Counters.{value_left, unary_over, NoWriteOf, AreLast, IsLastCount, IsLastItem}
+use Rattle.ring_seats.proofs.Blocks.{wrote, after, after-append, last_append, left_by-made}
+
+-- ---- accesses that write no bit of a row
+
+abbrev pub Spares : (ℕ → Bit) → List Made → Type 0
+Spares row [] = Unit {0}
+Spares row (Read b v ∷ made) = Spares row made
+Spares row (Write b v ∷ made) = ((i : ℕ) → same_bit (row i) b ≡ false) × Spares row made
+
+pub spares-append : (row : ℕ → Bit) (xs ys : List Made) → Spares row xs → Spares row ys → Spares row (xs ++ ys)
+spares-append row [] ys a b = b
+spares-append row (Read c v ∷ xs) ys a b = spares-append row xs ys a b
+spares-append row (Write c v ∷ xs) ys a b = (a.0, spares-append row xs ys a.1 b)
+
+-- writes to the bits of another row
+pub spares_writes : (row other : ℕ → Bit) → ((i k : ℕ) → same_bit (row i) (other k) ≡ false) → (ws : List RowWrite) → Spares row (writes_in other ws)
+spares_writes row other far [] = tt
+spares_writes row other far (w ∷ ws) = ((λ i. far i w.bit), spares_writes row other far ws)
+
+pub spared : (x : Side) (row : ℕ → Bit) (made : List Made) → Spares row made → NoWriteOf row (events_of x made)
+spared x row [] s i = refl
+spared x row (Read b v ∷ made) s i = spared x row made s i
+spared x row (Write b v ∷ made) s i = ap (λ t. cons_option (if t then Some v else None) (writes_begun (row i) (events_of x made))) (s.0 i) ∙ spared x row made s.1 i
+
+-- they leave its bits
+pub spared_bits : (row : ℕ → Bit) (made : List Made) (bits : Bit → Bool) → Spares row made → (i : ℕ) → after bits made (row i) ≡ bits (row i)
+spared_bits row [] bits s i = refl
+spared_bits row (Read b v ∷ made) bits s i = spared_bits row made bits s i
+spared_bits row (Write b v ∷ made) bits s i = spared_bits row made (wrote bits (Write b v)) s.1 i ∙ ap (λ t. if t then v else bits (row i)) (s.0 i)
+
+-- ---- the last writes of a list that grows
+
+writes_more : (b : Bit) (xs ys : List Event) → writes_begun b (xs ++ ys) ≡ writes_begun b xs ++ writes_begun b ys
+writes_more b xs ys = filter_map-append (write_of b) xs ys
+
+none_more : (row : ℕ → Bit) (xs ys : List Event) → NoWriteOf row xs → NoWriteOf row ys → NoWriteOf row (xs ++ ys)
+none_more row xs ys a b i = writes_more (row i) xs ys ∙ (λ k. a i k ++ b i k)
+
+-- the value of the last writes, or 0 before any
+abbrev pub IsLast : Side → (ℕ → Bit) → (List Event → List Made) → List Event → ℕ → Type 0
+IsLast x row made list v = AreLast x row made list ⊎ (NoWriteOf row list × (v ≡ 0))
+
+pub stays_last : (x : Side) (row : ℕ → Bit) (made : List Event → List Made) (list es : List Event) (v : ℕ) → NoWriteOf row es → IsLast x row made list v → IsLast x row made (list ++ es) v
+stays_last x row made list es v none (inl a) = inl (record {
+  before = a.before;
+  after = a.after ++ es;
+  list_is = ap (λ (l : List Event). l ++ es) a.list_is ∙ append_assoc (a.before ++ events_of x (made a.before)) a.after es;
+  none = none_more row a.after es a.none none;
+})
+stays_last x row made list es v none (inr t) = inr (none_more row list es t.0 none, t.1)
+
+pub is_last_now : (x : Side) (row : ℕ → Bit) (made : List Event → List Made) (list : List Event) → AreLast x row made (list ++ events_of x (made list))
+is_last_now x row made list = record { before = list; after = []; list_is = sym (append-nil (list ++ events_of x (made list))); none = λ i. refl }
+
+-- ---- what they leave
+
+left_last : (x : Side) (row : ℕ → Bit) (made : List Event → List Made) (list : List Event) (a : AreLast x row made list) (i : ℕ) → value_left list (row i) ≡ after (value_left a.before) (made a.before) (row i)
+left_last x row made list a i =
+    let so_far : List Event = a.before ++ events_of x (made a.before) in
+    ap (λ (l : List Event). value_left l (row i)) a.list_is ∙
+    (ap (last_value (first_value (row i))) (writes_more (row i) so_far a.after ∙ (ap (λ l. writes_begun (row i) so_far ++ l) (a.none i) ∙ append-nil (writes_begun (row i) so_far))) ∙
+    left_by-made x (made a.before) a.before (row i))
+
+left_first : (row : ℕ → Bit) (list : List Event) → NoWriteOf row list → (i : ℕ) → value_left list (row i) ≡ first_value (row i)
+left_first row list none i = ap (last_value (first_value (row i))) (none i)
+
+-- ---- what a bit holds while its writer has no access open
+
+abbrev Left : Bit → List Event → Type 0
+Left b h = unwrap_or (open_write b h) (held b h) ≡ value_left (own (writer b) h) b
+
+after_one : (o : Option Bool) (u v : Bool) → u ≡ v → unwrap_or o u ≡ last_value v (cons_option o [])
+after_one None u v e = e
+after_one (Some w) u v e = refl
+
+module _ (laws : LawsBelow) (shape : Shape) (b : Bit) where
+  one_left : (h : List Event) (e : Event) → IsLawful shape h → Left b h → Left b (h ++ e ∷ [])
+  one_left h e lawful is =
+      let list : List Event = own (writer b) h in
+      let so_far : Bool = unwrap_or (open_write b h) (held b h) in
+      let mine : unwrap_or (write_of b e) so_far ≡ value_left (list ++ e ∷ []) b =
+      after_one (write_of b e) so_far (value_left list b) is ∙
+      sym (ap (last_value (first_value b)) (writes_more b list (e ∷ [])) ∙ last_append (first_value b) (writes_begun b list) (writes_begun b (e ∷ []))) in
+      (λ i. unwrap_or (laws.write_changes b h e i) (laws.held_changes shape b h e lawful i)) ∙
+      (elim (is_by (writer b) e) as (λ t.
+      unwrap_or (if t then write_of b e else open_write b h) (if t then so_far else held b h) ≡ value_left (if t then list ++ e ∷ [] else list) b) [ true ↦ mine | false ↦ is ] ∙
+      ap (λ (l : List Event). value_left l b) (sym (laws.own_changes (writer b) h e)))
+
+  all_left : (ys xs : List Event) → IsLawful shape (xs ++ ys) → Left b xs → Left b (xs ++ ys)
+  all_left [] xs lawful is = subst (Left b) (sym (append-nil xs)) is
+  all_left (e ∷ ys) xs lawful is =
+      let same : (xs ++ e ∷ []) ++ ys ≡ xs ++ e ∷ ys = append_assoc xs (e ∷ []) ys in
+      subst (Left b) same (all_left ys (xs ++ e ∷ []) (subst (IsLawful shape) (sym same) lawful) (one_left xs e (laws.beginning shape xs (e ∷ ys) lawful) is))
+
+  pub held_left : (h : List Event) → IsLawful shape h → open_access (writer b) h ≡ None → held b h ≡ value_left (own (writer b) h) b
+  held_left h lawful idle = sym (ap (λ o. unwrap_or (value_written b o) (held b h)) idle) ∙ all_left h [] lawful refl
+
+-- ---- the bits of a row after writes to it
+
+test_same : (i k : ℕ) (v u : Bool) → (if i == k then v else u) ≡ cond (nat_eq i k) v u
+test_same i k v u = grind (arith, nat_tests)
+
+pub row_written : (row : ℕ → Bit) → ((i k : ℕ) → same_bit (row i) (row k) ≡ (i == k)) → (ws : List RowWrite) (bits : Bit → Bool) (old : ℕ → Bool) → ((i : ℕ) → bits (row i) ≡ old i) → (i : ℕ)
+    → after bits (writes_in row ws) (row i) ≡ bits_after old ws i
+row_written row tells [] bits old is i = is i
+row_written row tells (w ∷ ws) bits old is i =
+    row_written row tells ws (wrote bits (Write (row w.bit) w.value)) (bits_with old w)
+    (λ k. ap (λ t. if t then w.value else bits (row k)) (tells k w.bit) ∙ (test_same k w.bit w.value (bits (row k)) ∙ ap (λ u. cond (nat_eq k w.bit) w.value u) (is k))) i
+
+pub row_tells : (x : Side) (i k : ℕ) → same_bit (row_bit x i) (row_bit x k) ≡ (i == k)
+row_tells P i k = refl
+row_tells C i k = refl
+
+-- ---- a count shows the value of its last write
+
+-- the lowest bit that is set
+pub record Lowest (bits : ℕ → Bool) (c : ℕ) : Type 0 where
+  pub set : bits c ≡ true
+  pub clear : (i : ℕ) → i < c → bits i ≡ false
+
+unary_lowest : CountsShowNumbers → (shape : Shape) (old : ℕ → Bool) (v : ℕ) → v < modulus_of shape → Lowest (bits_after old (unary_phrase old v)) v
+unary_lowest numbers shape old v lt =
+    let count : Count = record { number = v; bits = old } in
+    let is = (numbers shape).1 count 0 [] in
+    subst (λ (n : ℕ). Lowest (bits_after old (unary_phrase old n)) n) (mod-eq_of_lt lt) (record { set = is.set; clear = is.clear })
+
+first_lowest : (x : Side) → Lowest (λ i. first_value (row_bit x i)) 0
+first_lowest P = record { set = refl; clear = λ i lt. absurd (omega (arith, lt)) }
+first_lowest C = record { set = refl; clear = λ i lt. absurd (omega (arith, lt)) }
+
+lowest_same : (f g : ℕ → Bool) (c : ℕ) → ((i : ℕ) → g i ≡ f i) → Lowest f c → Lowest g c
+lowest_same f g c same is = record { set = same c ∙ is.set; clear = λ i lt. same i ∙ is.clear i lt }
+
+pub count_shows : CountsShowNumbers → (shape : Shape) (x : Side) (list : List Event) (c : ℕ) → c < modulus_of shape → IsLastCount x list c → Lowest (λ i. value_left list (row_bit x i)) c
+count_shows numbers shape x list c lt (inl a) =
+    let old : ℕ → Bool = λ i. value_left a.before (row_bit x i) in
+    lowest_same (bits_after old (unary_phrase old c)) (λ i. value_left list (row_bit x i)) c
+    (λ i. left_last x (row_bit x) (λ before. unary_over x before c) list a i ∙ row_written (row_bit x) (row_tells x) (unary_phrase old c) (value_left a.before) old (λ k. refl) i)
+    (unary_lowest numbers shape old c lt)
+count_shows numbers shape x list c lt (inr t) = subst (Lowest (λ i. value_left list (row_bit x i))) (sym t.1)
+    (lowest_same (λ i. first_value (row_bit x i)) (λ i. value_left list (row_bit x i)) 0 (left_first (row_bit x) list t.0) (first_lowest x))
+
+-- ---- a cell shows the item last written to it
+
+same_cell : (j i k : ℕ) → same_bit (Cell j i) (Cell j k) ≡ (i == k)
+same_cell j i k = grind (arith, nat_tests)
+
+at_or_below : (i n : ℕ) → i < suc n → (i ≡ n) ⊎ (i < n)
+at_or_below i n l = grind arith
+
+not_eq : (i n : ℕ) → i ≢ n → (i == n) ≡ false
+not_eq i n ne = grind (arith, nat_tests)
+
+one_digit : (item n i : ℕ) (u : Bool) → (i < n → u ≡ digit i item) → (i ≡ n) ⊎ (i < n) → (if i == n then digit n item else u) ≡ digit i item
+one_digit item n i u was (inl e) = ap (λ t. if t then digit n item else u) (eq-eqb i n e) ∙ ap (λ (k : ℕ). digit k item) (sym e)
+one_digit item n i u was (inr lt) = ap (λ t. if t then digit n item else u) (not_eq i n (λ (e : i ≡ n). omega (arith, lt, e))) ∙ was lt
+
+word_written : (j item n : ℕ) (bits : Bit → Bool) (i : ℕ) → i < n → after bits (writes_in (Cell j) (digit_writes item n)) (Cell j i) ≡ digit i item
+word_written j item zero bits i lt = absurd (omega (arith, lt))
+word_written j item (suc n) bits i lt =
+    ap (λ (l : List Made). after bits l (Cell j i)) (map-append (λ (w : RowWrite). Write (Cell j w.bit) w.value) (digit_writes item n) (record { bit = n; value = digit n item } ∷ [])) ∙
+    (after-append (writes_in (Cell j) (digit_writes item n)) (Write (Cell j n) (digit n item) ∷ []) bits (Cell j i) ∙
+    (ap (λ t. if t then digit n item else after bits (writes_in (Cell j) (digit_writes item n)) (Cell j i)) (same_cell j i n) ∙
+    one_digit item n i (after bits (writes_in (Cell j) (digit_writes item n)) (Cell j i)) (word_written j item n bits i) (at_or_below i n lt)))
+
+zero_digit : (i : ℕ) → digit i 0 ≡ false
+zero_digit i = ap (λ (n : ℕ). n == 1) (bit_at-zero i)
+
+pub item_shows : (width j : ℕ) (list : List Event) (item : ℕ) → IsLastItem width j list item → (i : ℕ) → i < width → value_left list (Cell j i) ≡ digit i item
+item_shows width j list item (inl a) i lt = left_last P (Cell j) (λ before. word_write width j item) list a i ∙ word_written j item width (value_left a.before) i lt
+item_shows width j list item (inr t) i lt = left_first (Cell j) list t.0 i ∙ (sym (zero_digit i) ∙ ap (digit i) (sym t.1))

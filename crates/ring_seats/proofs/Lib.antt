@@ -1,0 +1,14 @@
+pub mod Accesses
+pub mod Answered
+pub mod Blocks
+pub mod CounterMoves
+pub mod CounterPuts
+pub mod CounterPutterCalls
+pub mod CounterTakerCalls
+pub mod CounterTakes
+pub mod CounterTold
+pub mod Histories
+pub mod LastWrites
+pub mod Moves
+pub mod Places
+pub mod Rights

@@ -1,0 +1,9 @@
+use Rattle.std.specs.Prelude.{◌^◌}
+use Rattle.bits_core.specs.declared.events.Side.TheVariants.{C}
+use Rattle.bits_core.specs.Shape.{width_of}
+use Rattle.register_core.specs.Word.{word_read}
+use Rattle.ring_seats.specs.Counters.{IsBelow}
+use Rattle.ring_seats.proofs.counter_steppers.Stepper+Counting.read_cell.Given as goal
+
+abbrev pub ghosts-load_all : goal.ghosts-load_all
+ghosts-load_all a = record { shape = a.self.now.shape; side = C; made = word_read (width_of a.self.now.shape) a.about.now; tells = IsBelow (2 ^ width_of a.self.now.shape) }

@@ -1,0 +1,97 @@
+use Rattle.std.proofs.Common.{◌≡◌, ℕ, true, false, List, refl, ap, sym, subst, ◌∙◌}
+use Rattle.atomic_table.specs.Table.{Allows}
+use Rattle.bits_core.specs.declared.events.Act.TheVariants.{ReadBegin, ReadEnd}
+use Rattle.bits_core.specs.declared.events.Access.TheVariants.{Read}
+use Rattle.bits_core.specs.declared.events.Event.{Event}
+use Rattle.bits_core.specs.Bits.{other, reader}
+use Rattle.bits_core.specs.Shape.{belongs}
+use Rattle.ring_seats.specs.Steppers.{CanMake, HasMade, AreAnswered}
+use Rattle.ring_seats.specs.Programs.{GoesOn}
+use Rattle.ring_seats.specs.Ring.{Ring, RingEnd}
+use Rattle.ring_seats.specs.declared.views.View.{View}
+use Rattle.ring_seats.specs.Rule.{Added, KeepsFlickerRule, event}
+use Rattle.ring_seats.specs.Words.{answer_of, word_place, agrees}
+use Rattle.ring_seats.proofs.Accesses.{end_at, list_more, made_read, may_still, none_open}
+use Rattle.ring_seats.proofs.Moves.{begins_read, ends_read, opened_by}
+use Rattle.ring_seats.proofs.Answered.{answered_then, asked_so, quiet_step, read_step}
+use Rattle.ring_seats.proofs.steppers.Stepper+Flickering.read.Goals as goal
+
+pub load_at-first-requires-clause-rule : goal.load_at-first-requires-clause-rule
+load_at-first-requires-clause-rule g c =
+    let h = c.self.inside in
+    let ring_is = subst (λ (e : RingEnd). c.args.ring.now ≡ e.ring) (sym c.self.view_is) c.requires.ring in
+    let is = sym c.self.view_is in
+    let b = c.args.bit in
+    let can = subst (λ (e : RingEnd). CanMake e (Read b)) is c.requires.can in
+    subst (λ (r : Ring). (slots : ℕ) → Allows (KeepsFlickerRule r.shape) slots h.seat.id h.seat.me (word_place r.shape b) (λ n. n) (Added r.shape (λ _. event h.side b ReadBegin) h.seat.me)) (sym ring_is)
+    (λ slots. begins_read c.laws_below.ensures h.ring.shape h.side b slots h.seat.id h.seat.me c.self.invariant.2 c.self.invariant.3
+    (subst (λ (e : RingEnd). belongs e.ring.shape b ≡ true) is c.requires.bit.0)
+    (subst (λ (e : RingEnd). e.side ≡ reader b) is c.requires.bit.1)
+    can.0 can.1)
+
+pub load_at-again-requires-clause-rule : goal.load_at-again-requires-clause-rule
+load_at-again-requires-clause-rule g c =
+    let h = c.self.inside in
+    let ring_is = subst (λ (e : RingEnd). c.args.ring.now ≡ e.ring) (sym c.self.view_is) c.requires.ring in
+    let is = sym c.self.view_is in
+    let b = c.args.bit in
+    let can = subst (λ (e : RingEnd). CanMake e (Read b)) is c.requires.can in
+    let first = c.load_at-first.result in
+    let seat = c.load_at-first.new.seat in
+    let view = c.load_at-first.ensures.added.view in
+    let said = g.O.Oracle.answers c.args.oracle.now 0 in
+    subst (λ (r : Ring). (slots : ℕ) → Allows (KeepsFlickerRule r.shape) slots seat.id seat.me (word_place r.shape b) (λ n. n) (Added r.shape (λ n. event h.side b (ReadEnd (answer_of seat.me.0.first n said))) seat.me)) (sym ring_is)
+    (λ slots. ends_read c.laws_below.ensures h.ring.shape h.side b slots seat.id seat.me
+    (may_still h.side b ReadBegin first h.seat.me.0 seat.me.0 view h.side true c.self.invariant.2)
+    (may_still h.side b ReadBegin first h.seat.me.0 seat.me.0 view (other h.side) false c.self.invariant.3)
+    (subst (λ (e : RingEnd). belongs e.ring.shape b ≡ true) is c.requires.bit.0)
+    (subst (λ (e : RingEnd). e.side ≡ reader b) is c.requires.bit.1)
+    (opened_by c.laws_below.ensures h.side b ReadBegin first h.seat.me.0 seat.me.0 view)
+    (subst (λ (l : List Event). GoesOn h.ring.shape h.side (Read b) l) (sym (list_more h.side b ReadBegin first h.seat.me.0 seat.me.0 view)) can.2)
+    said)
+
+pub invariant_of-self : goal.invariant_of-self
+invariant_of-self g c =
+    let h = c.self.inside in
+    let is = sym c.self.view_is in
+    let b = c.args.bit in
+    let can = subst (λ (e : RingEnd). CanMake e (Read b)) is c.requires.can in
+    let one = c.load_at-first in
+    let two = c.load_at-again in
+    let v1 = one.new.seat.me.0 in
+    let a = ReadEnd (answer_of v1.first two.result (g.O.Oracle.answers c.args.oracle.now 0)) in (
+      two.ensures.same.0 ∙ one.ensures.same.0 ∙ c.self.invariant.0,
+      two.ensures.added.carried ∙ one.ensures.added.carried ∙ c.self.invariant.1,
+      may_still h.side b a two.result v1 two.new.seat.me.0 two.ensures.added.view h.side true (may_still h.side b ReadBegin one.result h.seat.me.0 v1 one.ensures.added.view h.side true c.self.invariant.2),
+      may_still h.side b a two.result v1 two.new.seat.me.0 two.ensures.added.view (other h.side) false (may_still h.side b ReadBegin one.result h.seat.me.0 v1 one.ensures.added.view (other h.side) false c.self.invariant.3),
+      (ap (λ (u : View). u.first) two.ensures.added.view ∙ ap (λ (u : View). u.first) one.ensures.added.view, none_open c.laws_below.ensures h.side b a two.result v1 two.new.seat.me.0 two.ensures.added.view refl h.kept.access _ c.self.invariant.4.1 can.0),
+    )
+
+pub returns-clause-made : goal.returns-clause-made
+returns-clause-made g c =
+    let h = c.self.inside in
+    let ring_is = subst (λ (e : RingEnd). c.args.ring.now ≡ e.ring) (sym c.self.view_is) c.requires.ring in
+    let one = c.load_at-first in
+    let two = c.load_at-again in
+    let said = g.O.Oracle.answers c.args.oracle.now 0 in
+    let added_one = subst (λ (r : Ring). Added r.shape (λ _. event h.side c.args.bit ReadBegin) h.seat.me one.result one.new.seat.me) ring_is one.ensures.added in
+    let added_two = subst (λ (r : Ring). Added r.shape (λ n. event h.side c.args.bit (ReadEnd (answer_of one.new.seat.me.0.first n said))) one.new.seat.me two.result two.new.seat.me) ring_is two.ensures.added in
+    subst (λ (e : RingEnd). HasMade e (end_at h.ring h.side two.new.seat.me.0) (Read c.args.bit) c.answer.result) c.self.view_is
+    (made_read h.ring h.side c.args.bit h.seat.me one.new.seat.me two.new.seat.me one.result two.result said c.answer.result added_one added_two c.answer.ensures.answer)
+
+pub returns-clause-answered : goal.returns-clause-answered
+returns-clause-answered g c =
+    let h = c.self.inside in
+    let b = c.args.bit in
+    let one = c.load_at-first in
+    let two = c.load_at-again in
+    let before = g.O.Oracle.answers c.args.oracle.now in
+    let after = g.O.Oracle.answers c.answer.new.oracle in
+    let v1 = one.new.seat.me.0 in
+    let v2 = two.new.seat.me.0 in
+    let first_is : v1.first ≡ one.result = ap (λ (u : View). u.first) one.ensures.added.view in
+    let asked = asked_so g.O.Oracle.answers c.args.oracle.now c.answer.new.oracle (agrees v1.first two.result) (λ t. c.answer.ensures.agree (ap (λ (n : ℕ). agrees n two.result) (sym first_is) ∙ t)) (λ t. c.answer.ensures.asks (ap (λ (n : ℕ). agrees n two.result) (sym first_is) ∙ t)) in
+    subst (λ (e : RingEnd). AreAnswered e (end_at h.ring h.side v2) before after) c.self.view_is
+    (answered_then (end_at h.ring h.side h.seat.me.0) (end_at h.ring h.side v1) (end_at h.ring h.side v2) before before after
+    (quiet_step h.ring h.side b ReadBegin one.result h.seat.me.0 v1 one.ensures.added.view refl refl before)
+    (read_step h.ring h.side b two.result v1 v2 before after two.ensures.added.view asked))

@@ -1,0 +1,29 @@
+-- The laws on which the steps of a ring, each of which keeps the rule, and the calls of its ends rest.
+use Rattle.bits_core.specs.Laws.{BeforeLastChanges, BeginningIsLawful, EmptyIsLawful, HeldChanges, LawfulByOneMore, MadeLeaveNoneOpen, OpenChanges, OpenFromOwn, OpenWriteChanges, OwnChanges, QuietIsHeld}
+use Rattle.ring_core.specs.CountWrites.{CountsShowNumbers}
+use Rattle.ring_core.specs.OneCallMore.{ClosesByOneMore, EndsByOneMore, PutsByOneMore, TakesByOneMore}
+use Rattle.ring_core.specs.RunLaws.{RunsByPut, RunsByTake, PutsAreSeen, TakesAreSeen}
+use Rattle.ring_seats.specs.Laws.{AnswersAdd}
+
+pub record LawsBelow : Type 0 where
+  pub nothing : EmptyIsLawful
+  pub beginning : BeginningIsLawful
+  pub one_more : LawfulByOneMore
+  pub open_changes : OpenChanges
+  pub write_changes : OpenWriteChanges
+  pub held_changes : HeldChanges
+  pub own_changes : OwnChanges
+  pub before_changes : BeforeLastChanges
+  pub from_own : OpenFromOwn
+  pub made_idle : MadeLeaveNoneOpen
+  pub quiet : QuietIsHeld
+  pub put_more : RunsByPut
+  pub take_more : RunsByTake
+  pub puts_seen : PutsAreSeen
+  pub takes_seen : TakesAreSeen
+  pub numbers : CountsShowNumbers
+  pub one_put : PutsByOneMore
+  pub one_close : ClosesByOneMore
+  pub one_take : TakesByOneMore
+  pub one_end : EndsByOneMore
+  pub answers : AnswersAdd

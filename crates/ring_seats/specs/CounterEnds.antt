@@ -1,0 +1,102 @@
+-- What the two ends of a counter ring remember of their calls, and what a call of theirs comes to.
+use Rattle.std.specs.Prelude.{◌≡◌, ℕ, zero, suc, ◌+◌, ◌%◌, ◌≤◌, Bool, Option, Some, None, List, ◌++◌, length, take}
+use Rattle.bits_core.specs.declared.events.Side.TheVariants.{P, C}
+use Rattle.bits_core.specs.Shape.{capacity_of, modulus_of}
+use Rattle.bits_core.specs.Made.{events_of}
+use Rattle.ring_core.specs.Puts as puts
+use Rattle.ring_core.specs.Puts.{Put, Puts}
+use Rattle.ring_core.specs.ProducerCalls.{count_of, and_put, IsPutOf}
+use Rattle.ring_core.specs.declared.consumers.TakeReply as take_replies
+use Rattle.ring_core.specs.declared.consumers.TakeReply.TheVariants as take_reply
+use Rattle.ring_core.specs.Takes.{Takes, Open, taken_in}
+use Rattle.ring_core.specs.ConsumerCalls.{Finding, finding_phrase, Finds, HasTakeMore, ends_closed}
+use Rattle.ring_seats.specs.Ring.{RingEnd}
+use Rattle.ring_seats.specs.Steppers.{IsSameEnd, StandsAs}
+use Rattle.ring_seats.specs.Calls.{HasPuts, HasTakes, IsTakeReply, closed_reply}
+
+-- ---- the producer's end
+
+-- the end's list is that of these whole calls, and the count and the cell are theirs
+pub record PutterList (e : RingEnd) (count cell : ℕ) (calls : Puts) : Type 0 where
+  pub side_is : e.side ≡ P
+  pub stands : StandsAs P e
+  pub has : HasPuts e.ring.shape e.list calls
+  pub count_is : count ≡ (count_of e.ring.shape calls).number % modulus_of e.ring.shape
+  pub cell_is : cell ≡ (count_of e.ring.shape calls).number % capacity_of e.ring.shape
+
+abbrev pub IsPutterList : RingEnd → ℕ → ℕ → Bool → Type 0
+IsPutterList e count cell closed = (calls : Puts) × PutterList e count cell calls × (closed ≡ calls.closes)
+
+-- the put that stored so many of the items, or found the ring full
+abbrev pub put_of : ℕ → ℕ → List ℕ → Put
+put_of zero seen items = puts.Full seen
+put_of (suc n) seen items = puts.Stored seen (take (suc n) items)
+
+-- a put of the items stored so many of them
+pub record PutMade (a b : RingEnd) (calls : Puts) (items : List ℕ) (most : ℕ) : Type 0 where
+  pub same : IsSameEnd a b
+  pub stands : StandsAs P b
+  pub few : most ≤ length items
+  pub seen : ℕ
+  pub is : IsPutOf b.ring.shape (count_of b.ring.shape calls).number items (put_of most seen items)
+  pub has : HasPuts b.ring.shape b.list (and_put calls (put_of most seen items))
+  pub number : (count_of b.ring.shape (and_put calls (put_of most seen items))).number ≡ (count_of b.ring.shape calls).number + most
+
+-- so it was, and the count and the cell are those of the calls
+pub record PutKept (a b : RingEnd) (count cell : ℕ) (calls : Puts) (items : List ℕ) (most : ℕ) : Type 0 where
+  pub made : PutMade a b calls items most
+  pub at : PutterList b count cell (and_put calls (put_of most made.seen items))
+
+-- ---- the consumer's end
+
+-- the end's list is that of these whole calls, and the count and the cell are theirs
+pub record TakerList (e : RingEnd) (count cell : ℕ) (calls : Takes) : Type 0 where
+  pub side_is : e.side ≡ C
+  pub stands : StandsAs C e
+  pub has : HasTakes e.ring.shape e.list calls
+  pub count_is : count ≡ taken_in 0 calls.takes % modulus_of e.ring.shape
+  pub cell_is : cell ≡ taken_in 0 calls.takes % capacity_of e.ring.shape
+
+abbrev pub IsTakerList : RingEnd → ℕ → ℕ → Bool → Type 0
+IsTakerList e count cell told = (calls : Takes) × TakerList e count cell calls × (told ≡ ends_closed calls.end)
+
+-- how many items a reply brings
+abbrev pub items_brought : take_replies.TakeReply → ℕ
+items_brought (take_reply.Item item) = 1
+items_brought take_reply.Empty = 0
+items_brought take_reply.Closed = 0
+
+-- one take more was made, and was answered so
+pub record TakeMade (a b : RingEnd) (calls : Takes) (reply : take_replies.TakeReply) : Type 0 where
+  pub same : IsSameEnd a b
+  pub stands : StandsAs C b
+  pub more : Takes
+  pub is_more : HasTakeMore b.ring.shape calls more
+  pub replied : IsTakeReply more reply
+  pub has : HasTakes b.ring.shape b.list more
+  pub number : taken_in 0 more.takes ≡ taken_in 0 calls.takes + items_brought reply
+  pub told : closed_reply (Some reply) ≡ ends_closed more.end
+
+-- so it was, and the count and the cell are those of the calls
+pub record TakeKept (a b : RingEnd) (count cell : ℕ) (calls : Takes) (reply : take_replies.TakeReply) : Type 0 where
+  pub made : TakeMade a b calls reply
+  pub at : TakerList b count cell made.more
+
+-- the scans of a take found an item, so
+pub record HasFound (a b : RingEnd) (calls : Takes) (look : Finding) : Type 0 where
+  pub same : IsSameEnd a b
+  pub stands : StandsAs C b
+  pub finds : Finds a.ring.shape (taken_in 0 calls.takes) look
+  pub list_is : b.list ≡ a.list ++ events_of C (finding_phrase look)
+
+-- the scans of a take found an item, or the take is over, brought none, and was answered so
+abbrev pub LookMade : RingEnd → RingEnd → Takes → Option take_replies.TakeReply → Type 0
+LookMade a b calls None = (look : Finding) × HasFound a b calls look
+LookMade a b calls (Some reply) = TakeMade a b calls reply × (items_brought reply ≡ 0)
+
+-- the end's list is that of whole calls that are not over, and of the scans that found an item; the count and the cell are theirs
+pub record HasLooked (a b : RingEnd) (count cell : ℕ) (calls : Takes) : Type 0 where
+  pub at : TakerList a count cell calls
+  pub opened : calls.end ≡ Open
+  pub look : Finding
+  pub found : HasFound a b calls look

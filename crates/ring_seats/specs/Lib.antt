@@ -1,0 +1,11 @@
+pub mod Below
+pub mod Calls
+pub mod CounterEnds
+pub mod Counters
+pub mod Laws
+pub mod Meetings
+pub mod Programs
+pub mod Ring
+pub mod Rule
+pub mod Steppers
+pub mod Words

@@ -1,0 +1,21 @@
+-- What a meeting of two ends gives.
+use Rattle.std.specs.Prelude.{◌≡◌, List}
+use Rattle.bits_core.specs.declared.events.Side.TheVariants.{P, C}
+use Rattle.bits_core.specs.declared.events.Event.{Event}
+use Rattle.bits_core.specs.Made.{own, IsBeginning}
+use Rattle.ring_seats.specs.Ring.{RingEnd}
+use Rattle.ring_seats.specs.Programs.{IsRing}
+
+-- the same end but for what it knows
+pub record KeepsEnd (a b : RingEnd) : Type 0 where
+  pub ring : b.ring ≡ a.ring
+  pub side : b.side ≡ a.side
+  pub list : b.list ≡ a.list
+
+-- h is lawful, its sides are the two lists and follow their programs, and it begins with what each end knew
+pub record Meets (p c : RingEnd) (h : List Event) : Type 0 where
+  pub ring : IsRing p.ring.shape h
+  pub put : own P h ≡ p.list
+  pub taken : own C h ≡ c.list
+  pub putter_knew : IsBeginning p.known h
+  pub taker_knew : IsBeginning c.known h

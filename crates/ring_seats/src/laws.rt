@@ -1,0 +1,48 @@
+//! What the ends of a ring, and their callers, may rest on, each the contract of a function that does nothing.
+ghost use Rattle.ring_seats.specs.Below.{LawsBelow};
+ghost use Rattle.ring_seats.specs.Laws.{AnswersAdd, WordsAreTold};
+
+use bits_core::laws::{
+    before_last_changes, beginning_is_lawful, empty_is_lawful, held_changes, lawful_by_one_more,
+    made_leave_none_open, open_changes, open_from_own, open_write_changes, own_changes,
+    quiet_is_held,
+};
+use register_core::laws::digits_tell_items;
+use ring_core::laws::{
+    counts_are_written, last_bit_is_one, programs_by_one_call, runs_by_one_more,
+};
+
+/// Of reads that were answered by their loads and their oracle, and then more reads that were so, all were.
+pub fn answers_add()
+    ensures { AnswersAdd }
+{}
+
+/// The history tells what each word of a counter ring is: no two states of the words show the same history.
+pub fn words_are_told()
+    ensures { WordsAreTold }
+{
+    counts_are_written();
+    digits_tell_items();
+}
+
+/// The laws on which the steps of seats and the calls of ends rest, put together.
+pub fn laws_below()
+    ensures { LawsBelow }
+{
+    empty_is_lawful();
+    beginning_is_lawful();
+    lawful_by_one_more();
+    open_changes();
+    open_write_changes();
+    held_changes();
+    own_changes();
+    before_last_changes();
+    open_from_own();
+    made_leave_none_open();
+    quiet_is_held();
+    runs_by_one_more();
+    last_bit_is_one();
+    counts_are_written();
+    programs_by_one_call();
+    answers_add();
+}

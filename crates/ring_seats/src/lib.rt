@@ -1,0 +1,23 @@
+//! The seats of a ring: what two ends that step over one table of atomic words may do, for a ring of flickering bits and for
+//! one of whole words (Lamport 1977, over the registers of 1986). The rule that holds between any two atomic steps; the words
+//! and what they show; the steps of a seat, each of which keeps the rule; how two seats are made, meet and are joined.
+#![tactic(auto)]
+
+mod counter_calls;
+mod counter_steppers;
+mod counter_words;
+pub mod laws;
+mod layout;
+mod meetings;
+mod steppers;
+mod tables;
+mod views;
+mod words;
+
+pub use counter_calls::{close_open, put_open, take_open};
+pub use counter_words::{CounterRule, Counting};
+pub use meetings::{first_steppers, join_steppers, meet_steppers};
+pub use steppers::Stepper;
+pub use tables::{NewTable, counter_table, flicker_table};
+pub use views::{FlickerRule, Flickering, Keeping, Kind, Loads, RuleOf, View};
+pub use words::Words;

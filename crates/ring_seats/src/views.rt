@@ -1,0 +1,220 @@
+//! What the seats of a ring know, and the rule that holds between any two atomic steps.
+ghost use Rattle.std.specs.Prelude.{ℕ};
+
+use atomic_table::{Join, Play, Split, TableRule};
+use bits_core::{Access, Event, Shape};
+use std::collections::LinkedList;
+use std::marker::{Brand, PhantomData};
+
+/// What the two loads of a read found. It stands in contracts alone: no value of it is made.
+///
+/// For example, of a bit that is being written the first may have found 0 and the second 1: then the oracle is
+/// asked.
+pub struct Loads {
+    /// What the first load found, where the read began.
+    pub first: u64,
+    /// What the second load found, where it ended.
+    pub found: u64,
+}
+
+/// What a seat of a ring's table knows: the right to step for one side of the ring, or for both, with the list of the
+/// events that were made by it. Each end of a ring has one such seat. It stands in contracts alone: no value of it is
+/// made.
+///
+/// For example, an end of a ring has one, and it tells which events the end has made.
+pub struct View {
+    /// Whether it may step for the producer.
+    pub puts: bool,
+    /// Whether it may step for the consumer.
+    pub takes: bool,
+    /// The events of the producer, where it steps for that.
+    pub put: LinkedList<Event>,
+    /// The events of the consumer, where it steps for that.
+    pub taken: LinkedList<Event>,
+    /// What the putter knew at the last meeting.
+    pub known: LinkedList<Event>,
+    /// What the taker knew at the last meeting.
+    pub known_by_taker: LinkedList<Event>,
+    /// The first load of the read that is open.
+    pub first: u64,
+    /// What the loads of each read found that has ended since the ends were made or last met.
+    pub loads: LinkedList<Loads>,
+}
+
+/// A kind of ring: how many words a ring of a shape has, and what they show of a history. It stands in contracts and in types
+/// alone: no value of it is made.
+///
+/// For example, [`Counting`](crate::Counting) and [`Flickering`](crate::Flickering).
+pub trait Kind {
+    ghost use Rattle.std.specs.Prelude.{ℕ, List};
+    ghost use Rattle.bits_core.specs.declared.shapes.Shape.{Shape};
+    ghost use Rattle.bits_core.specs.declared.events.Event.{Event};
+
+    ghost count: { Shape → ℕ };
+
+    ghost shows: { Shape → List ℕ → List Event → Type 0 };
+}
+
+/// What the ends of a kind of ring keep of an access that is open.
+///
+/// For example, an end of a flickering ring keeps the first load of the read that it has open; one of a counter
+/// ring keeps nothing.
+pub trait Keeping: Kind {
+    ghost use Rattle.std.specs.Prelude.{◌≡◌, None};
+    ghost use Rattle.bits_core.specs.declared.events.Side.{Side};
+    ghost use Rattle.bits_core.specs.History.{open_access};
+    ghost use Rattle.ring_seats.specs.declared.views.View.{View};
+    ghost use Rattle.ring_seats.specs.Rule.{list_of};
+
+    /// What an end keeps.
+    type Kept: Drop;
+
+    // It is what the view of a seat of the side has.
+    ghost keeps: { Self.Kept → Side → View → Type 0 };
+
+    /// What an end keeps that has no access open.
+    fn nothing() -> Self::Kept
+        ensures { (x : Side) (v : View) → open_access x (list_of x v) ≡ None → v.first ≡ 0 → keeps result x v };
+}
+
+/// The rule of a ring's table, for the shape that is the table's key. It holds between any two atomic steps of whichever
+/// thread, for each step has to keep it. There is one lawful history of safe bits whose two sides follow their programs, such
+/// that
+/// - the words show it, as the kind of ring has it;
+/// - for each side of the ring there is one seat that may step for it, and no other, and that seat's list is the
+///   history's events of the side;
+/// - it begins with what the two sides knew at their last meeting;
+/// - where a read is open, the load that its seat keeps is what the word showed where the read began.
+///
+/// For example, [`FlickerRule`](crate::FlickerRule) and [`CounterRule`](crate::CounterRule).
+pub struct RuleOf<K> {
+    kind: PhantomData<K>,
+}
+
+impl<K: Kind> TableRule<(), View, Shape> for RuleOf<K> {
+    ghost use Rattle.std.specs.Prelude.{[]};
+    ghost use Rattle.ring_seats.specs.Rule.{KeptBy, joint};
+
+    ghost holds = { KeptBy K.count K.shows };
+
+    ghost first = { λ _. joint [] [] [] [] };
+}
+
+/// The kind of a flickering ring: the word of a bit is 2 where a write of the bit is open, else what the bit holds.
+///
+/// For example, a `FlickerRing` of `ring_run` is the ring of this kind.
+pub struct Flickering;
+
+/// The rule of a flickering ring's table.
+///
+/// For example, the tests of `test_run` load words between two steps, and find of them what this says.
+pub type FlickerRule = RuleOf<Flickering>;
+
+/// What an end of a flickering ring keeps: its open access, and the first load of its open read.
+#[derive(Drop)]
+pub struct Opened {
+    pub(crate) access: Option<Access>,
+    pub(crate) first: u64,
+}
+
+impl Kind for Flickering {
+    ghost use Rattle.ring_seats.specs.Words.{word_count, Shows};
+
+    ghost count = { word_count };
+
+    ghost shows = { Shows };
+}
+
+impl Keeping for Flickering {
+    ghost use Rattle.std.specs.Prelude.{◌≡◌};
+    ghost use Rattle.bits_core.specs.History.{open_access};
+    ghost use Rattle.ring_seats.specs.Rule.{list_of};
+
+    type Kept = Opened;
+
+    ghost keeps = { λ o x v. (v.first ≡ o.first) × (o.access ≡ open_access x (list_of x v)) };
+
+    fn nothing() -> Opened {
+        Opened {
+            access: None,
+            first: 0,
+        }
+    }
+}
+
+// What a step adds to the list of its seat.
+pub trait AddedEvent {
+    ghost use Rattle.std.specs.Prelude.{ℕ};
+    ghost use Rattle.bits_core.specs.declared.shapes.Shape.{Shape};
+    ghost use Rattle.bits_core.specs.declared.events.Event.{Event};
+
+    ghost shape: { Shape };
+
+    // By the number that a load found, or that a store wrote.
+    ghost event: { ℕ → Event };
+}
+
+impl AddedEvent for Brand {
+    ghost use Rattle.ring_seats.specs.Rule.{no_event};
+    ghost use Rattle.ring_seats.specs.Words.{no_shape};
+
+    ghost shape = { no_shape };
+
+    ghost event = { λ _. no_event };
+}
+
+// A step that adds an event.
+pub struct Adds<N> {
+    note: PhantomData<N>,
+}
+
+impl<N: AddedEvent> Play<(), View> for Adds<N> {
+    ghost use Rattle.ring_seats.specs.Rule.{Added};
+
+    ghost then = { λ _. Added N.shape N.event };
+}
+
+// A step by which the joint seat learns the history.
+pub struct Learns<N> {
+    note: PhantomData<N>,
+}
+
+impl<N: AddedEvent> Play<(), View> for Learns<N> {
+    ghost use Rattle.ring_seats.specs.Rule.{Learned};
+
+    ghost then = { λ _ m _. Learned N.shape m };
+}
+
+// A load by no end, which finds the word of a state that keeps the rule.
+pub struct Finds<K, N> {
+    kind: PhantomData<K>,
+    note: PhantomData<N>,
+}
+
+impl<K: Kind, N: AddedEvent> Play<(), View> for Finds<K, N> {
+    ghost use Rattle.ring_seats.specs.Rule.{KeptBy, IsWordFound};
+
+    ghost then = { λ step _ n _. IsWordFound (KeptBy K.count K.shows N.shape) step.word n };
+}
+
+// The joint view is cut in two.
+pub struct Cut;
+
+impl Split<View> for Cut {
+    ghost use Rattle.ring_seats.specs.Rule.{putter_of, taker_of};
+
+    ghost left = { putter_of };
+
+    ghost right = { taker_of };
+}
+
+// The two views are put together.
+pub struct Both;
+
+impl Join<View> for Both {
+    ghost use Rattle.ring_seats.specs.Rule.{joined, spent};
+
+    ghost both = { joined };
+
+    ghost spent = { spent };
+}

@@ -1,0 +1,166 @@
+//! The words of a ring as its ends reach them.
+ghost use Rattle.std.specs.Prelude.{◌≡◌, ℕ, ◌<◌, true, []};
+ghost use Rattle.atomic_table.specs.Table.{Allows};
+ghost use Rattle.bits_core.specs.declared.events.Side.TheVariants.{P, C};
+ghost use Rattle.bits_core.specs.Shape.{belongs};
+ghost use Rattle.ring_seats.specs.Rule.{KeepsFlickerRule, KeptBy, Added, Learned, Holds, IsWordFound, IsIdle, joint, joined, putter_of, taker_of};
+ghost use Rattle.ring_seats.specs.Words.{word_place};
+
+use crate::laws::laws_below;
+use crate::layout::place_of;
+use crate::views::{AddedEvent, Adds, Both, Cut, Finds, Flickering, Kind, Learns, RuleOf, View};
+use atomic_table::{Seat, Shared};
+use bits_core::{Bit, Shape, Side};
+use std::marker::{Brand, Model};
+
+/// The words of a ring, by which a seat steps. To a contract they are that ring.
+/// For example, each end of a ring has them in its [`Stepper`](crate::Stepper).
+#[derive(Drop)]
+pub struct Words<'a, K: Kind> {
+    pub(crate) shared: &'a Shared<(), View, Shape, RuleOf<K>>,
+    shape: Shape,
+}
+
+impl<'a, K: Kind> Model for Words<'a, K> {
+    ghost use Rattle.std.specs.Prelude.{◌≡◌, ◌<◌};
+    ghost use Rattle.ring_seats.specs.Ring.{Ring};
+
+    ghost Value = { Ring };
+
+    ghost view = { λ w. record { shape = w.shape; id = w.shared.now.table_id } };
+
+    ghost invariant = { λ w. (w.shared.now.key ≡ w.shape) × (w.shared.now.table_id.words ≡ K.count w.shape) × (0 < K.count w.shape) };
+}
+
+impl<'a, K: Kind> Words<'a, K> {
+    /// The words of a table whose key is the shape, and which has as many words as a ring of this kind and shape.
+    pub fn of(shared: &'a Shared<(), View, Shape, RuleOf<K>>, shape: Shape) -> Words<'a, K>
+        requires { (shared.now.key ≡ shape) × (shared.now.table_id.words ≡ K.count shape) × (0 < K.count shape) }
+        ensures { result ≡ record { shape = shape; id = shared.now.table_id } }
+    {
+        Words { shared, shape }
+    }
+
+    // The same words, held where an access keeps them at hand.
+    #[inline(always)]
+    pub(crate) fn again(&self) -> Words<'a, K>
+        ensures { result ≡ self.now }
+    {
+        Words {
+            shared: self.shared,
+            shape: self.shape,
+        }
+    }
+
+    // The shape of the ring.
+    pub(crate) fn shape(&self) -> Shape
+        ensures { result ≡ self.now.shape }
+    {
+        self.shape
+    }
+
+    // A load by no end.
+    pub(crate) fn find<N: AddedEvent>(&self, word: usize) -> u64
+        requires own { word < K.count self.now.shape }
+        requires shape { N.shape ≡ self.now.shape }
+        ensures { IsWordFound (KeptBy K.count K.shows self.now.shape) word result }
+    {
+        let (found, _seat) = self.shared.load_new_seat::<Finds<K, N>>(word);
+        found
+    }
+
+    // Cuts the joint seat in two.
+    pub(crate) fn part(&self, seat: &mut Seat<(), View>) -> Seat<(), View>
+        requires own { (seat.old.table_id ≡ self.now.id) × (seat.old.me.0.puts ≡ true) × (seat.old.me.0.takes ≡ true) }
+        ensures putter { (seat.new.table_id ≡ seat.old.table_id) × (seat.new.me ≡ (putter_of seat.old.me.0, seat.old.me.1)) }
+        ensures taker { (result.table_id ≡ seat.old.table_id) × (result.me ≡ (taker_of seat.old.me.0, [])) }
+    {
+        self.shared.split_seat::<Cut>(seat)
+    }
+
+    // The joint seat learns the history.
+    pub(crate) fn learn<N: AddedEvent>(&self, seat: &mut Seat<(), View>)
+        requires own { (seat.old.table_id ≡ self.now.id) × (seat.old.me.0.puts ≡ true) × (seat.old.me.0.takes ≡ true) }
+        requires idle { IsIdle P seat.old.me.0.put × IsIdle C seat.old.me.0.taken }
+        requires shape { N.shape ≡ self.now.shape }
+        ensures { (seat.new.table_id ≡ seat.old.table_id) × Learned self.now.shape seat.old.me seat.new.me }
+    {
+        laws_below();
+        let _ = self.shared.load::<Learns<N>>(seat, 0);
+    }
+
+    // Puts the two seats together, and the joint seat learns the history.
+    pub(crate) fn rejoin(&self, seat: &mut Seat<(), View>, other: Seat<(), View>)
+        requires own { (seat.old.table_id ≡ self.now.id) × (other.table_id ≡ self.now.id) × (other.me.1 ≡ []) }
+        requires sides { (seat.old.me.0.puts ≡ true) × (other.me.0.takes ≡ true) }
+        requires idle { IsIdle P seat.old.me.0.put × IsIdle C other.me.0.taken }
+        ensures same { (seat.new.table_id ≡ seat.old.table_id) × (seat.new.me.1 ≡ seat.old.me.1) }
+        ensures view { seat.new.me.0 ≡ joint seat.old.me.0.put other.me.0.taken seat.new.me.0.known seat.new.me.0.known }
+        ensures holds { Holds self.now.shape seat.new.me.0.known (joined seat.old.me.0 other.me.0) }
+    {
+        laws_below();
+        self.shared.join_seat::<Both>(seat, other);
+        self.learn::<Brand>(seat);
+    }
+}
+
+impl<'a> Words<'a, Flickering> {
+    ghost use Rattle.ring_seats.specs.Words.{word_count};
+
+    // The place of the bit's word.
+    #[inline(always)]
+    pub(crate) fn word_of(&self, bit: Bit) -> usize
+        requires { belongs self.now.shape bit ≡ true }
+        ensures { result ≡ word_place self.now.shape bit }
+    {
+        place_of(&self.shape, bit)
+    }
+
+    /// Loads the word of a bit of the ring's shape, by no end. It is that of a state which keeps the ring's rule.
+    pub fn find_bit(&self, bit: Bit) -> u64
+        requires { belongs self.now.shape bit ≡ true }
+        ensures { IsWordFound (KeepsFlickerRule self.now.shape) (word_place self.now.shape bit) result }
+    {
+        let place = self.word_of(bit);
+        self.find::<Brand>(place)
+    }
+
+    // A load, at the word of the bit. `side` and `about` are for the proof.
+    #[inline(always)]
+    pub(crate) fn load_at<N: AddedEvent, T>(
+        &self,
+        seat: &mut Seat<(), View>,
+        word: usize,
+        bit: Bit,
+        side: Side,
+        about: &T,
+    ) -> u64
+        requires own { (seat.old.table_id ≡ self.now.id) × (belongs self.now.shape bit ≡ true) }
+        requires place { word ≡ word_place self.now.shape bit }
+        requires rule { (slots : ℕ) → Allows (KeepsFlickerRule self.now.shape) slots seat.old.id seat.old.me (word_place self.now.shape bit) (λ n. n) (Added N.shape N.event seat.old.me) }
+        ensures same { (seat.new.table_id ≡ seat.old.table_id) × (seat.new.id ≡ seat.old.id) }
+        ensures added { Added N.shape N.event seat.old.me result seat.new.me }
+    {
+        self.shared.load::<Adds<N>>(seat, word)
+    }
+
+    // A store, at the word of the bit.
+    #[inline(always)]
+    pub(crate) fn store_at<N: AddedEvent, T>(
+        &self,
+        seat: &mut Seat<(), View>,
+        word: usize,
+        bit: Bit,
+        side: Side,
+        about: &T,
+        new: u64,
+    )
+        requires own { (seat.old.table_id ≡ self.now.id) × (belongs self.now.shape bit ≡ true) }
+        requires place { word ≡ word_place self.now.shape bit }
+        requires rule { (slots : ℕ) → Allows (KeepsFlickerRule self.now.shape) slots seat.old.id seat.old.me (word_place self.now.shape bit) (λ _. new) (λ _. Added N.shape N.event seat.old.me new) }
+        ensures same { (seat.new.table_id ≡ seat.old.table_id) × (seat.new.id ≡ seat.old.id) }
+        ensures added { Added N.shape N.event seat.old.me new seat.new.me }
+    {
+        self.shared.store::<Adds<N>>(seat, word, new);
+    }
+}
