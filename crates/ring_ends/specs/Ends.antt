@@ -9,8 +9,8 @@ use Rattle.ring_core.specs.declared.producers.BatchReply as batch_replies
 use Rattle.ring_core.specs.declared.producers.BatchReply.TheVariants as batch_reply
 use Rattle.ring_core.specs.declared.consumers.TakeReply as take_replies
 use Rattle.ring_core.specs.declared.consumers.TakeReply.TheVariants as take_reply
-use Rattle.ring_core.specs.Puts.{Put, Puts, put_program, ArePuts}
-use Rattle.ring_core.specs.Takes.{Takes, take_program, AreTakes}
+use Rattle.ring_core.specs.Puts.{Put, Puts, put_program}
+use Rattle.ring_core.specs.Takes.{Takes, take_program}
 use Rattle.ring_core.specs.ProducerState as producer
 use Rattle.ring_core.specs.ProducerCalls as puts
 use Rattle.ring_core.specs.ConsumerCalls as takes

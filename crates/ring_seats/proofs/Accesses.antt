@@ -1,5 +1,5 @@
 -- A whole access of an end: two steps of its seat.
-use Rattle.std.proofs.Common.{◌≡◌, ℕ, Bool, Option, None, ◌<◌, List, [], ◌∷◌, ◌++◌, length, refl, ap, sym, subst, ◌∙◌, arith}
+use Rattle.std.proofs.Common.{◌≡◌, ℕ, Bool, Option, None, List, [], ◌∷◌, ◌++◌, refl, ap, sym, subst, ◌∙◌}
 use Rattle.atomic_table.specs.Table.{Me}
 use Rattle.bits_core.specs.declared.events.Side.{Side}
 use Rattle.bits_core.specs.declared.events.Bit.{Bit}
@@ -10,12 +10,11 @@ use Rattle.bits_core.specs.declared.events.Access.TheVariants.{Read, Write}
 use Rattle.bits_core.specs.declared.events.Event.{Event}
 use Rattle.bits_core.specs.Bits.{begun_access}
 use Rattle.bits_core.specs.History.{open_access}
-use Rattle.ring_seats.specs.Programs.{begin_of, ending_event}
 use Rattle.ring_seats.specs.Ring.{Ring, RingEnd}
 use Rattle.ring_seats.specs.declared.views.View.{View}
 use Rattle.ring_seats.specs.Rule.{Added, Stands, and_event, event, list_of, may_step}
 use Rattle.ring_seats.specs.Words.{answer_of}
-use Rattle.ring_seats.specs.Steppers.{Grows, HasMade, IsSameEnd}
+use Rattle.ring_seats.specs.Steppers.{Grows, HasMade}
 use Rattle.ring_seats.specs.Below.{LawsBelow}
 use Rattle.ring_seats.proofs.Moves.{list_of-mine, may_step-more, opened_by}
 

@@ -15,7 +15,7 @@ use Rattle.ring_core.specs.declared.consumers.TakeReply.{TakeReply}
 use Rattle.ring_core.specs.declared.consumers.TakeReply.TheVariants as reply
 use Rattle.ring_core.specs.Counts.{ShowsItem}
 use Rattle.ring_core.specs.Takes.{Take, Takes, Empty, Open, taken_in, taken_after, SeesNone, IsTake}
-use Rattle.ring_core.specs.ConsumerCalls.{Once, Twice, finding_phrase, and_take, and_end, take_reply_to, ends_closed, HasTakeMore}
+use Rattle.ring_core.specs.ConsumerCalls.{Once, Twice, finding_phrase, and_take, and_end, take_reply_to, HasTakeMore}
 use Rattle.ring_seats.specs.Below.{LawsBelow}
 use Rattle.ring_seats.specs.Ring.{RingEnd}
 use Rattle.ring_seats.specs.Programs.{Follows}

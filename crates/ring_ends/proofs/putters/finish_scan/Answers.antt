@@ -4,7 +4,6 @@ use Rattle.ring_core.specs.declared.producers.Stage.TheVariants.{Scanning}
 use Rattle.ring_core.specs.ProducerState.{IsProducerButScan, ProducerState, Put, call_of}
 use Rattle.ring_core.specs.ProducerCalls.{ProducerHasMoved}
 use Rattle.ring_ends.specs.Machines.{MachineWent, producing}
-use Rattle.ring_seats.specs.Ring.{RingEnd}
 use Rattle.ring_ends.proofs.Accesses.{same}
 use Rattle.ring_ends.proofs.MachineMoves.{Due}
 use Rattle.ring_ends.proofs.MachineWhole.{access_can, access_feeds, access_right, access_went, went_nowhere}

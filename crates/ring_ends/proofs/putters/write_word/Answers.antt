@@ -2,7 +2,6 @@ use Rattle.std.proofs.Common.{◌≡◌, Some, false, true, true≢false, refl, 
 use Rattle.ring_core.specs.declared.producers.Stage.TheVariants.{Storing}
 use Rattle.ring_core.specs.ProducerState.{IsProducerButWord, ProducerState, Put, call_of}
 use Rattle.ring_ends.specs.Machines.{MachineWent, producing}
-use Rattle.ring_seats.specs.Ring.{RingEnd}
 use Rattle.ring_ends.proofs.Accesses.{same}
 use Rattle.ring_ends.proofs.MachineMoves.{Due}
 use Rattle.ring_ends.proofs.MachineWhole.{access_can, access_right, access_went, went_nowhere}

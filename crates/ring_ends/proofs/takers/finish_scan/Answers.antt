@@ -3,7 +3,6 @@ use Rattle.bits_core.specs.Made.{answered}
 use Rattle.ring_core.specs.ConsumerState.{ConsumerState, IsConsumerButScan, is_taking}
 use Rattle.ring_core.specs.ConsumerCalls.{ConsumerHasMoved}
 use Rattle.ring_ends.specs.Machines.{MachineWent, consuming}
-use Rattle.ring_seats.specs.Ring.{RingEnd}
 use Rattle.ring_ends.proofs.Accesses.{same}
 use Rattle.ring_ends.proofs.MachineMoves.{Due}
 use Rattle.ring_ends.proofs.MachineWhole.{access_can, access_feeds, access_right, access_went, went_nowhere}

@@ -2,7 +2,6 @@ use Rattle.std.proofs.Common.{◌≡◌, false, true, true≢false, refl, ap, sy
 use Rattle.ring_core.specs.declared.consumers.Stage.TheVariants.{Loading}
 use Rattle.ring_core.specs.ConsumerState.{ConsumerState, IsConsumerButWord, is_taking}
 use Rattle.ring_ends.specs.Machines.{MachineWent, consuming}
-use Rattle.ring_seats.specs.Ring.{RingEnd}
 use Rattle.ring_ends.proofs.Accesses.{same}
 use Rattle.ring_ends.proofs.MachineMoves.{Due}
 use Rattle.ring_ends.proofs.MachineWhole.{access_can, access_right, access_went, went_nowhere}
