@@ -7,7 +7,6 @@ use Rattle.bits_core.specs.declared.shapes.Shape.{Shape}
 use Rattle.bits_core.specs.declared.events.Side.{Side}
 use Rattle.bits_core.specs.declared.events.Side.TheVariants.{P, C}
 use Rattle.bits_core.specs.declared.events.Bit.{Bit}
-use Rattle.bits_core.specs.declared.events.Bit.TheVariants.{X}
 use Rattle.bits_core.specs.declared.events.Act.{Act}
 use Rattle.bits_core.specs.declared.events.Act.TheVariants.{ReadBegin, ReadEnd, WriteBegin, WriteEnd}
 use Rattle.bits_core.specs.declared.events.Event.{Event}
@@ -22,9 +21,6 @@ use Rattle.ring_seats.specs.Programs.{IsRing}
 
 abbrev pub event : Side → Bit → Act → Event
 event x b a = record { side = x; bit = b; act = a }
-
-abbrev pub no_event : Event
-no_event = event P X WriteEnd
 
 -- the views
 

@@ -1,6 +1,5 @@
 -- The words of a flickering ring: one for each bit, which is 0 or 1, or 2 while a write of the bit is under way.
 use Rattle.std.specs.Prelude.{◌≡◌, ℕ, ◌+◌, ◌*◌, ◌==◌, ◌&&◌, nat_lt, Bool, true, false, Option, Some, None, List, replicate, slice_index, slice_set, if◌then◌else◌}
-use Rattle.std.proofs.Common.{lit≤}
 use Rattle.bits_core.specs.declared.shapes.Shape.{Shape}
 use Rattle.bits_core.specs.declared.events.Bit.{Bit}
 use Rattle.bits_core.specs.declared.events.Bit.TheVariants.{S, R, X, Cell}
@@ -8,22 +7,6 @@ use Rattle.bits_core.specs.declared.events.Event.{Event}
 use Rattle.bits_core.specs.Shape.{belongs, capacity_of, modulus_of, width_of}
 use Rattle.bits_core.specs.History.{open_write, held}
 use Rattle.ring_seats.specs.declared.layout.TheConstants.{APART, FIRST_S}
-
-abbrev pub no_shape : Shape
-no_shape = record {
-  capacity = 1;
-  modulus = 3;
-  width = 1;
-  batch = 1;
-  has_cells = lit≤ tt;
-  few_cells = lit≤ tt;
-  room_to_count = lit≤ tt;
-  small_modulus = lit≤ tt;
-  has_digits = lit≤ tt;
-  few_digits = lit≤ tt;
-  has_batch = lit≤ tt;
-  small_batch = lit≤ tt;
-}
 
 -- the word of a value
 abbrev pub value_word : Bool → ℕ

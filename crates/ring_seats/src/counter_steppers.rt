@@ -26,9 +26,8 @@ impl<'a> Stepper<'a, Counting> {
     {
         laws_below();
         let side = self.side;
-        let word = theirs(side);
         self.ring
-            .load_all::<Brand, Side>(&mut self.seat, word, &side)
+            .load::<Brand, _>(&mut self.seat, theirs(side), &side)
     }
 
     // One store: a whole unary write of the side's own count.
@@ -39,9 +38,8 @@ impl<'a> Stepper<'a, Counting> {
     {
         laws_below();
         let side = self.side;
-        let word = ours(side);
         self.ring
-            .store_all::<Brand, Side>(&mut self.seat, word, &side, new);
+            .store::<Brand, _>(&mut self.seat, ours(side), &side, new);
     }
 
     // One store: a whole word write.
@@ -54,7 +52,7 @@ impl<'a> Stepper<'a, Counting> {
         laws_below();
         let word = 3 + cell as usize;
         self.ring
-            .store_all::<Brand, u64>(&mut self.seat, word, &cell, item);
+            .store::<Brand, _>(&mut self.seat, word, &cell, item);
     }
 
     // A store for each item, to the cells one behind the other from this one on: their word writes.
@@ -82,7 +80,7 @@ impl<'a> Stepper<'a, Counting> {
         ensures { GrowsBy self.old self.new (Write X true ∷ []) }
     {
         laws_below();
-        self.ring.store_all::<Brand, ()>(&mut self.seat, 0, &(), 1);
+        self.ring.store::<Brand, _>(&mut self.seat, 0, &(), 1);
     }
 
     // One load: a whole word read.
@@ -95,8 +93,7 @@ impl<'a> Stepper<'a, Counting> {
     {
         laws_below();
         let word = 3 + cell as usize;
-        self.ring
-            .load_all::<Brand, u64>(&mut self.seat, word, &cell)
+        self.ring.load::<Brand, _>(&mut self.seat, word, &cell)
     }
 
     // One load: a read of the close bit.
@@ -106,7 +103,7 @@ impl<'a> Stepper<'a, Counting> {
         ensures { GrowsBy self.old self.new (Read X result ∷ []) }
     {
         laws_below();
-        let found = self.ring.load_all::<Brand, ()>(&mut self.seat, 0, &());
+        let found = self.ring.load::<Brand, _>(&mut self.seat, 0, &());
         found == 1
     }
 }

@@ -75,12 +75,12 @@ impl<'a> Stepper<'a, Flickering> {
                 let word = self.ring.word_of(bit);
                 self.kept.first = self
                     .ring
-                    .load_at::<Brand, ()>(&mut self.seat, word, bit, side, &());
+                    .load::<Brand, _>(&mut self.seat, word, &(side, bit));
             }
             Access::Write(bit, value) => {
                 let word = self.ring.word_of(bit);
                 self.ring
-                    .store_at::<Brand, bool>(&mut self.seat, word, bit, side, &value, 2);
+                    .store::<Brand, _>(&mut self.seat, word, &(side, bit, value), 2);
             }
         }
     }
@@ -102,14 +102,14 @@ impl<'a> Stepper<'a, Flickering> {
                 let word = self.ring.word_of(bit);
                 let found = self
                     .ring
-                    .load_at::<Brand, O>(&mut self.seat, word, bit, side, oracle);
+                    .load::<Brand, _>(&mut self.seat, word, &(side, bit, &*oracle));
                 answer(self.kept.first, found, oracle)
             }
             Access::Write(bit, value) => {
                 let word = self.ring.word_of(bit);
                 let new = word_of(value);
                 self.ring
-                    .store_at::<Brand, bool>(&mut self.seat, word, bit, side, &value, new);
+                    .store::<Brand, _>(&mut self.seat, word, &(side, bit), new);
                 value
             }
         }
@@ -129,8 +129,8 @@ impl<'a> Stepper<'a, Flickering> {
         laws_below();
         let side = self.side;
         let word = ring.word_of(bit);
-        let first = ring.load_at::<Brand, ()>(&mut self.seat, word, bit, side, &());
-        let again = ring.load_at::<Brand, O>(&mut self.seat, word, bit, side, oracle);
+        let first = ring.load::<Brand, _>(&mut self.seat, word, &(side, bit));
+        let again = ring.load::<Brand, _>(&mut self.seat, word, &(side, bit, &*oracle));
         self.kept.first = first;
         answer(first, again, oracle)
     }
@@ -148,8 +148,8 @@ impl<'a> Stepper<'a, Flickering> {
         let side = self.side;
         let word = ring.word_of(bit);
         let new = word_of(value);
-        ring.store_at::<Brand, bool>(&mut self.seat, word, bit, side, &value, 2);
-        ring.store_at::<Brand, ()>(&mut self.seat, word, bit, side, &(), new);
+        ring.store::<Brand, _>(&mut self.seat, word, &(side, bit, value), 2);
+        ring.store::<Brand, _>(&mut self.seat, word, &(side, bit), new);
     }
 
     /// The whole access, which can be made now, and its answer: that of a read by its two loads, or by the oracle, which is asked at

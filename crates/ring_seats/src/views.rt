@@ -142,59 +142,9 @@ impl Keeping for Flickering {
     }
 }
 
-// What a step adds to the list of its seat.
-pub trait AddedEvent {
-    ghost use Rattle.std.specs.Prelude.{ℕ};
-    ghost use Rattle.bits_core.specs.declared.shapes.Shape.{Shape};
-    ghost use Rattle.bits_core.specs.declared.events.Event.{Event};
-
-    ghost shape: { Shape };
-
-    // By the number that a load found, or that a store wrote.
-    ghost event: { ℕ → Event };
-}
-
-impl AddedEvent for Brand {
-    ghost use Rattle.ring_seats.specs.Rule.{no_event};
-    ghost use Rattle.ring_seats.specs.Words.{no_shape};
-
-    ghost shape = { no_shape };
-
-    ghost event = { λ _. no_event };
-}
-
-// A step that adds an event.
-pub struct Adds<N> {
-    note: PhantomData<N>,
-}
-
-impl<N: AddedEvent> Play<(), View> for Adds<N> {
-    ghost use Rattle.ring_seats.specs.Rule.{Added};
-
-    ghost then = { λ _. Added N.shape N.event };
-}
-
-// A step by which the joint seat learns the history.
-pub struct Learns<N> {
-    note: PhantomData<N>,
-}
-
-impl<N: AddedEvent> Play<(), View> for Learns<N> {
-    ghost use Rattle.ring_seats.specs.Rule.{Learned};
-
-    ghost then = { λ _ m _. Learned N.shape m };
-}
-
-// A load by no end, which finds the word of a state that keeps the rule.
-pub struct Finds<K, N> {
-    kind: PhantomData<K>,
-    note: PhantomData<N>,
-}
-
-impl<K: Kind, N: AddedEvent> Play<(), View> for Finds<K, N> {
-    ghost use Rattle.ring_seats.specs.Rule.{KeptBy, IsWordFound};
-
-    ghost then = { λ step _ n _. IsWordFound (KeptBy K.count K.shows N.shape) step.word n };
+// What a step of a seat tells is picked by the proof of its call; with no pick it tells nothing.
+impl Play<(), View> for Brand {
+    ghost then = { λ _ _ _ _. Unit {0} };
 }
 
 // The joint view is cut in two.

@@ -1,16 +1,17 @@
 //! The words of a ring as its ends reach them.
-ghost use Rattle.std.specs.Prelude.{◌≡◌, ℕ, ◌<◌, true, []};
-ghost use Rattle.atomic_table.specs.Table.{Allows};
+ghost use Rattle.std.specs.Prelude.{◌≡◌, ◌<◌, true, []};
+ghost use mathlib.Core.Option.{none};
+ghost use Rattle.atomic_table.specs.Table.{Allows, step};
 ghost use Rattle.bits_core.specs.declared.events.Side.TheVariants.{P, C};
 ghost use Rattle.bits_core.specs.Shape.{belongs};
-ghost use Rattle.ring_seats.specs.Rule.{KeepsFlickerRule, KeptBy, Added, Learned, Holds, IsWordFound, IsIdle, joint, joined, putter_of, taker_of};
+ghost use Rattle.ring_seats.specs.Rule.{KeepsFlickerRule, KeptBy, Learned, Holds, IsWordFound, IsIdle, joint, joined, putter_of, taker_of};
 ghost use Rattle.ring_seats.specs.Words.{word_place};
 
 use crate::laws::laws_below;
 use crate::layout::place_of;
-use crate::views::{AddedEvent, Adds, Both, Cut, Finds, Flickering, Kind, Learns, RuleOf, View};
-use atomic_table::{Seat, Shared};
-use bits_core::{Bit, Shape, Side};
+use crate::views::{Both, Cut, Flickering, Kind, RuleOf, View};
+use atomic_table::{Play, Seat, Shared};
+use bits_core::{Bit, Shape};
 use std::marker::{Brand, Model};
 
 /// The words of a ring, by which a seat steps. To a contract they are that ring.
@@ -60,13 +61,45 @@ impl<'a, K: Kind> Words<'a, K> {
     }
 
     // A load by no end.
-    pub(crate) fn find<N: AddedEvent>(&self, word: usize) -> u64
-        requires own { word < K.count self.now.shape }
-        requires shape { N.shape ≡ self.now.shape }
+    pub(crate) fn find(&self, word: usize) -> u64
+        requires { word < K.count self.now.shape }
         ensures { IsWordFound (KeptBy K.count K.shows self.now.shape) word result }
     {
-        let (found, _seat) = self.shared.load_new_seat::<Finds<K, N>>(word);
+        let (found, _seat) = self.shared.load_new_seat::<Brand>(word);
         found
+    }
+
+    // A load by a seat, and what the proof of its call picks for it to tell. That may name `about`.
+    #[inline(always)]
+    pub(crate) fn load<N: Play<(), View>, T>(
+        &self,
+        seat: &mut Seat<(), View>,
+        word: usize,
+        about: &T,
+    ) -> u64
+        requires own { (seat.old.table_id ≡ self.now.id) × (word < K.count self.now.shape) }
+        requires rule { Allows (KeptBy K.count K.shows self.now.shape) self.now.id.slots seat.old.id seat.old.me word (λ n. n) (N.then (step self.now.id.slots word 0 0 none) seat.old.me) }
+        ensures same { (seat.new.table_id ≡ seat.old.table_id) × (seat.new.id ≡ seat.old.id) }
+        ensures told { N.then (step self.now.id.slots word 0 0 none) seat.old.me result seat.new.me }
+    {
+        self.shared.load::<N>(seat, word)
+    }
+
+    // A store by a seat, in the same way.
+    #[inline(always)]
+    pub(crate) fn store<N: Play<(), View>, T>(
+        &self,
+        seat: &mut Seat<(), View>,
+        word: usize,
+        about: &T,
+        new: u64,
+    )
+        requires own { (seat.old.table_id ≡ self.now.id) × (word < K.count self.now.shape) }
+        requires rule { Allows (KeptBy K.count K.shows self.now.shape) self.now.id.slots seat.old.id seat.old.me word (λ _. new) (λ _. N.then (step self.now.id.slots word new 0 none) seat.old.me new) }
+        ensures same { (seat.new.table_id ≡ seat.old.table_id) × (seat.new.id ≡ seat.old.id) }
+        ensures told { N.then (step self.now.id.slots word new 0 none) seat.old.me new seat.new.me }
+    {
+        self.shared.store::<N>(seat, word, new);
     }
 
     // Cuts the joint seat in two.
@@ -79,14 +112,13 @@ impl<'a, K: Kind> Words<'a, K> {
     }
 
     // The joint seat learns the history.
-    pub(crate) fn learn<N: AddedEvent>(&self, seat: &mut Seat<(), View>)
+    pub(crate) fn learn(&self, seat: &mut Seat<(), View>)
         requires own { (seat.old.table_id ≡ self.now.id) × (seat.old.me.0.puts ≡ true) × (seat.old.me.0.takes ≡ true) }
         requires idle { IsIdle P seat.old.me.0.put × IsIdle C seat.old.me.0.taken }
-        requires shape { N.shape ≡ self.now.shape }
         ensures { (seat.new.table_id ≡ seat.old.table_id) × Learned self.now.shape seat.old.me seat.new.me }
     {
         laws_below();
-        let _ = self.shared.load::<Learns<N>>(seat, 0);
+        let _ = self.shared.load::<Brand>(seat, 0);
     }
 
     // Puts the two seats together, and the joint seat learns the history.
@@ -100,7 +132,7 @@ impl<'a, K: Kind> Words<'a, K> {
     {
         laws_below();
         self.shared.join_seat::<Both>(seat, other);
-        self.learn::<Brand>(seat);
+        self.learn(seat);
     }
 }
 
@@ -111,7 +143,8 @@ impl<'a> Words<'a, Flickering> {
     #[inline(always)]
     pub(crate) fn word_of(&self, bit: Bit) -> usize
         requires { belongs self.now.shape bit ≡ true }
-        ensures { result ≡ word_place self.now.shape bit }
+        ensures place { result ≡ word_place self.now.shape bit }
+        ensures below { result < word_count self.now.shape }
     {
         place_of(&self.shape, bit)
     }
@@ -122,45 +155,6 @@ impl<'a> Words<'a, Flickering> {
         ensures { IsWordFound (KeepsFlickerRule self.now.shape) (word_place self.now.shape bit) result }
     {
         let place = self.word_of(bit);
-        self.find::<Brand>(place)
-    }
-
-    // A load, at the word of the bit. `side` and `about` are for the proof.
-    #[inline(always)]
-    pub(crate) fn load_at<N: AddedEvent, T>(
-        &self,
-        seat: &mut Seat<(), View>,
-        word: usize,
-        bit: Bit,
-        side: Side,
-        about: &T,
-    ) -> u64
-        requires own { (seat.old.table_id ≡ self.now.id) × (belongs self.now.shape bit ≡ true) }
-        requires place { word ≡ word_place self.now.shape bit }
-        requires rule { (slots : ℕ) → Allows (KeepsFlickerRule self.now.shape) slots seat.old.id seat.old.me (word_place self.now.shape bit) (λ n. n) (Added N.shape N.event seat.old.me) }
-        ensures same { (seat.new.table_id ≡ seat.old.table_id) × (seat.new.id ≡ seat.old.id) }
-        ensures added { Added N.shape N.event seat.old.me result seat.new.me }
-    {
-        self.shared.load::<Adds<N>>(seat, word)
-    }
-
-    // A store, at the word of the bit.
-    #[inline(always)]
-    pub(crate) fn store_at<N: AddedEvent, T>(
-        &self,
-        seat: &mut Seat<(), View>,
-        word: usize,
-        bit: Bit,
-        side: Side,
-        about: &T,
-        new: u64,
-    )
-        requires own { (seat.old.table_id ≡ self.now.id) × (belongs self.now.shape bit ≡ true) }
-        requires place { word ≡ word_place self.now.shape bit }
-        requires rule { (slots : ℕ) → Allows (KeepsFlickerRule self.now.shape) slots seat.old.id seat.old.me (word_place self.now.shape bit) (λ _. new) (λ _. Added N.shape N.event seat.old.me new) }
-        ensures same { (seat.new.table_id ≡ seat.old.table_id) × (seat.new.id ≡ seat.old.id) }
-        ensures added { Added N.shape N.event seat.old.me new seat.new.me }
-    {
-        self.shared.store::<Adds<N>>(seat, word, new);
+        self.find(place)
     }
 }

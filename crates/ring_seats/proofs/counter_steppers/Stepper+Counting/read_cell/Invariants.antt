@@ -2,8 +2,8 @@ use Rattle.std.specs.Prelude.{◌^◌}
 use Rattle.bits_core.specs.declared.events.Side.TheVariants.{C}
 use Rattle.bits_core.specs.Shape.{width_of}
 use Rattle.register_core.specs.Word.{word_read}
-use Rattle.ring_seats.specs.Counters.{IsBelow}
+use Rattle.ring_seats.specs.Counters.{AddedAll, IsBelow}
 use Rattle.ring_seats.proofs.counter_steppers.Stepper+Counting.read_cell.Given as goal
 
-abbrev pub ghosts-load_all : goal.ghosts-load_all
-ghosts-load_all a = record { shape = a.self.now.shape; side = C; made = word_read (width_of a.self.now.shape) a.about.now; tells = IsBelow (2 ^ width_of a.self.now.shape) }
+abbrev pub ghosts-load : goal.ghosts-load
+ghosts-load a = record { then = λ _. AddedAll a.self.now.shape C (word_read (width_of a.self.now.shape) a.about.now) (IsBelow (2 ^ width_of a.self.now.shape)) }

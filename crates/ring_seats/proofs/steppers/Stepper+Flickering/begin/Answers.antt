@@ -1,42 +1,45 @@
-use Rattle.std.proofs.Common.{[], ◌∷◌, ◌++◌, sym, subst, refl}
+use Rattle.std.proofs.Common.{ℕ, [], ◌∷◌, ◌++◌, sym, subst, refl}
+use Rattle.atomic_table.specs.Table.{Allows}
 use Rattle.bits_core.specs.declared.events.Access.{Access}
 use Rattle.bits_core.specs.declared.events.Act.TheVariants.{ReadBegin, WriteBegin}
 use Rattle.bits_core.specs.Open.{IsOpenRight}
 use Rattle.ring_seats.specs.Programs.{Follows, begin_of}
 use Rattle.ring_seats.specs.Ring.{RingEnd}
-use Rattle.ring_seats.specs.Rule.{IsIdle}
+use Rattle.ring_seats.specs.Rule.{Added, IsIdle, KeepsFlickerRule, event}
 use Rattle.ring_seats.specs.Steppers.{AreAnswered}
 use Rattle.ring_seats.proofs.Moves.{begins_read, begins_write}
 use Rattle.ring_seats.proofs.Answered.{quiet_step}
 use Rattle.ring_seats.proofs.Accesses.{end_at}
 use Rattle.ring_seats.proofs.steppers.Stepper+Flickering.begin.Goals as goal
 
-pub load_at-self-inside-requires-clause-rule : goal.load_at-self-inside-requires-clause-rule
-load_at-self-inside-requires-clause-rule c =
+pub load-self-inside-requires-clause-rule : goal.load-self-inside-requires-clause-rule
+load-self-inside-requires-clause-rule c =
     let h = c.self.inside in
     let is = sym c.self.view_is in
     let right = subst (λ (z : RingEnd × Access). IsOpenRight z.0.ring.shape z.0.side z.1) (λ i. (is i, c.in-Read.is i)) c.requires.right in
-    λ slots. begins_read c.laws_below.ensures h.ring.shape h.side c.in-Read.bit slots h.seat.id h.seat.me c.self.invariant.2 c.self.invariant.3 right.0 right.1 (subst (λ (e : RingEnd). IsIdle e.side e.list) is c.requires.idle)
-    (subst (λ (z : RingEnd × Access). Follows z.0.ring.shape z.0.side (z.0.list ++ begin_of z.0.side z.1 ∷ [])) (λ i. (is i, c.in-Read.is i)) c.requires.program)
+    subst (λ (n : ℕ). Allows (KeepsFlickerRule h.ring.shape) h.ring.id.slots h.seat.id h.seat.me n (λ n. n) (Added h.ring.shape (λ _. event h.side c.in-Read.bit ReadBegin) h.seat.me)) (sym c.word_of-word.ensures.place)
+    (begins_read c.laws_below.ensures h.ring.shape h.side c.in-Read.bit h.ring.id.slots h.seat.id h.seat.me c.self.invariant.2 c.self.invariant.3 right.0 right.1 (subst (λ (e : RingEnd). IsIdle e.side e.list) is c.requires.idle)
+    (subst (λ (z : RingEnd × Access). Follows z.0.ring.shape z.0.side (z.0.list ++ begin_of z.0.side z.1 ∷ [])) (λ i. (is i, c.in-Read.is i)) c.requires.program))
 
-pub store_at-requires-clause-rule : goal.store_at-requires-clause-rule
-store_at-requires-clause-rule c =
+pub store-requires-clause-rule : goal.store-requires-clause-rule
+store-requires-clause-rule c =
     let h = c.self.inside in
     let is = sym c.self.view_is in
     let right = subst (λ (z : RingEnd × Access). IsOpenRight z.0.ring.shape z.0.side z.1) (λ i. (is i, c.in-Write.is i)) c.requires.right in
-    λ slots. begins_write c.laws_below.ensures h.ring.shape h.side c.in-Write.bit slots h.seat.id h.seat.me c.self.invariant.2 c.self.invariant.3 right.0 right.1 (subst (λ (e : RingEnd). IsIdle e.side e.list) is c.requires.idle) c.in-Write.value
-    (subst (λ (z : RingEnd × Access). Follows z.0.ring.shape z.0.side (z.0.list ++ begin_of z.0.side z.1 ∷ [])) (λ i. (is i, c.in-Write.is i)) c.requires.program)
+    subst (λ (n : ℕ). Allows (KeepsFlickerRule h.ring.shape) h.ring.id.slots h.seat.id h.seat.me n (λ _. 2) (λ _. Added h.ring.shape (λ _. event h.side c.in-Write.bit (WriteBegin c.in-Write.value)) h.seat.me 2)) (sym c.word_of-word-in-Write.ensures.place)
+    (begins_write c.laws_below.ensures h.ring.shape h.side c.in-Write.bit h.ring.id.slots h.seat.id h.seat.me c.self.invariant.2 c.self.invariant.3 right.0 right.1 (subst (λ (e : RingEnd). IsIdle e.side e.list) is c.requires.idle) c.in-Write.value
+    (subst (λ (z : RingEnd × Access). Follows z.0.ring.shape z.0.side (z.0.list ++ begin_of z.0.side z.1 ∷ [])) (λ i. (is i, c.in-Write.is i)) c.requires.program))
 
 pub returns-in-Read-clause-quiet : goal.returns-in-Read-clause-quiet
 returns-in-Read-clause-quiet c said =
     let h = c.self.inside in
-    let l = c.load_at-self-inside in
+    let l = c.load-self-inside in
     subst (λ (e : RingEnd). AreAnswered e (end_at h.ring h.side l.new.seat.me.0) said said) c.self.view_is
-    (quiet_step h.ring h.side c.in-Read.bit ReadBegin l.result h.seat.me.0 l.new.seat.me.0 l.ensures.added.view refl refl said)
+    (quiet_step h.ring h.side c.in-Read.bit ReadBegin l.result h.seat.me.0 l.new.seat.me.0 l.ensures.told.view refl refl said)
 
 pub returns-in-Write-clause-quiet : goal.returns-in-Write-clause-quiet
 returns-in-Write-clause-quiet c said =
     let h = c.self.inside in
-    let l = c.store_at in
+    let l = c.store in
     subst (λ (e : RingEnd). AreAnswered e (end_at h.ring h.side l.new.seat.me.0) said said) c.self.view_is
-    (quiet_step h.ring h.side c.in-Write.bit (WriteBegin c.in-Write.value) 2 h.seat.me.0 l.new.seat.me.0 l.ensures.added.view refl refl said)
+    (quiet_step h.ring h.side c.in-Write.bit (WriteBegin c.in-Write.value) 2 h.seat.me.0 l.new.seat.me.0 l.ensures.told.view refl refl said)

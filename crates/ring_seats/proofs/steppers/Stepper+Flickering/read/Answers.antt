@@ -16,32 +16,34 @@ use Rattle.ring_seats.proofs.Moves.{begins_read, ends_read, opened_by}
 use Rattle.ring_seats.proofs.Answered.{answered_then, asked_so, quiet_step, read_step}
 use Rattle.ring_seats.proofs.steppers.Stepper+Flickering.read.Goals as goal
 
-pub load_at-first-requires-clause-rule : goal.load_at-first-requires-clause-rule
-load_at-first-requires-clause-rule g c =
+pub load-first-requires-clause-rule : goal.load-first-requires-clause-rule
+load-first-requires-clause-rule g c =
     let h = c.self.inside in
     let ring_is = subst (λ (e : RingEnd). c.args.ring.now ≡ e.ring) (sym c.self.view_is) c.requires.ring in
     let is = sym c.self.view_is in
     let b = c.args.bit in
     let can = subst (λ (e : RingEnd). CanMake e (Read b)) is c.requires.can in
-    subst (λ (r : Ring). (slots : ℕ) → Allows (KeepsFlickerRule r.shape) slots h.seat.id h.seat.me (word_place r.shape b) (λ n. n) (Added r.shape (λ _. event h.side b ReadBegin) h.seat.me)) (sym ring_is)
-    (λ slots. begins_read c.laws_below.ensures h.ring.shape h.side b slots h.seat.id h.seat.me c.self.invariant.2 c.self.invariant.3
+    let word : word_place h.ring.shape b ≡ c.word_of-word.result = ap (λ (r : Ring). word_place r.shape b) (sym ring_is) ∙ sym c.word_of-word.ensures.place in
+    subst (λ (z : Ring × ℕ). Allows (KeepsFlickerRule z.0.shape) z.0.id.slots h.seat.id h.seat.me z.1 (λ n. n) (Added z.0.shape (λ _. event h.side b ReadBegin) h.seat.me)) (λ i. (sym ring_is i, word i))
+    (begins_read c.laws_below.ensures h.ring.shape h.side b h.ring.id.slots h.seat.id h.seat.me c.self.invariant.2 c.self.invariant.3
     (subst (λ (e : RingEnd). belongs e.ring.shape b ≡ true) is c.requires.bit.0)
     (subst (λ (e : RingEnd). e.side ≡ reader b) is c.requires.bit.1)
     can.0 can.1)
 
-pub load_at-again-requires-clause-rule : goal.load_at-again-requires-clause-rule
-load_at-again-requires-clause-rule g c =
+pub load-again-requires-clause-rule : goal.load-again-requires-clause-rule
+load-again-requires-clause-rule g c =
     let h = c.self.inside in
     let ring_is = subst (λ (e : RingEnd). c.args.ring.now ≡ e.ring) (sym c.self.view_is) c.requires.ring in
     let is = sym c.self.view_is in
     let b = c.args.bit in
     let can = subst (λ (e : RingEnd). CanMake e (Read b)) is c.requires.can in
-    let first = c.load_at-first.result in
-    let seat = c.load_at-first.new.seat in
-    let view = c.load_at-first.ensures.added.view in
+    let first = c.load-first.result in
+    let seat = c.load-first.new.seat in
+    let view = c.load-first.ensures.told.view in
     let said = g.O.Oracle.answers c.args.oracle.now 0 in
-    subst (λ (r : Ring). (slots : ℕ) → Allows (KeepsFlickerRule r.shape) slots seat.id seat.me (word_place r.shape b) (λ n. n) (Added r.shape (λ n. event h.side b (ReadEnd (answer_of seat.me.0.first n said))) seat.me)) (sym ring_is)
-    (λ slots. ends_read c.laws_below.ensures h.ring.shape h.side b slots seat.id seat.me
+    let word : word_place h.ring.shape b ≡ c.word_of-word.result = ap (λ (r : Ring). word_place r.shape b) (sym ring_is) ∙ sym c.word_of-word.ensures.place in
+    subst (λ (z : Ring × ℕ). Allows (KeepsFlickerRule z.0.shape) z.0.id.slots seat.id seat.me z.1 (λ n. n) (Added z.0.shape (λ n. event h.side b (ReadEnd (answer_of seat.me.0.first n said))) seat.me)) (λ i. (sym ring_is i, word i))
+    (ends_read c.laws_below.ensures h.ring.shape h.side b h.ring.id.slots seat.id seat.me
     (may_still h.side b ReadBegin first h.seat.me.0 seat.me.0 view h.side true c.self.invariant.2)
     (may_still h.side b ReadBegin first h.seat.me.0 seat.me.0 view (other h.side) false c.self.invariant.3)
     (subst (λ (e : RingEnd). belongs e.ring.shape b ≡ true) is c.requires.bit.0)
@@ -56,26 +58,26 @@ invariant_of-self g c =
     let is = sym c.self.view_is in
     let b = c.args.bit in
     let can = subst (λ (e : RingEnd). CanMake e (Read b)) is c.requires.can in
-    let one = c.load_at-first in
-    let two = c.load_at-again in
+    let one = c.load-first in
+    let two = c.load-again in
     let v1 = one.new.seat.me.0 in
     let a = ReadEnd (answer_of v1.first two.result (g.O.Oracle.answers c.args.oracle.now 0)) in (
       two.ensures.same.0 ∙ one.ensures.same.0 ∙ c.self.invariant.0,
-      two.ensures.added.carried ∙ one.ensures.added.carried ∙ c.self.invariant.1,
-      may_still h.side b a two.result v1 two.new.seat.me.0 two.ensures.added.view h.side true (may_still h.side b ReadBegin one.result h.seat.me.0 v1 one.ensures.added.view h.side true c.self.invariant.2),
-      may_still h.side b a two.result v1 two.new.seat.me.0 two.ensures.added.view (other h.side) false (may_still h.side b ReadBegin one.result h.seat.me.0 v1 one.ensures.added.view (other h.side) false c.self.invariant.3),
-      (ap (λ (u : View). u.first) two.ensures.added.view ∙ ap (λ (u : View). u.first) one.ensures.added.view, none_open c.laws_below.ensures h.side b a two.result v1 two.new.seat.me.0 two.ensures.added.view refl h.kept.access _ c.self.invariant.4.1 can.0),
+      two.ensures.told.carried ∙ one.ensures.told.carried ∙ c.self.invariant.1,
+      may_still h.side b a two.result v1 two.new.seat.me.0 two.ensures.told.view h.side true (may_still h.side b ReadBegin one.result h.seat.me.0 v1 one.ensures.told.view h.side true c.self.invariant.2),
+      may_still h.side b a two.result v1 two.new.seat.me.0 two.ensures.told.view (other h.side) false (may_still h.side b ReadBegin one.result h.seat.me.0 v1 one.ensures.told.view (other h.side) false c.self.invariant.3),
+      (ap (λ (u : View). u.first) two.ensures.told.view ∙ ap (λ (u : View). u.first) one.ensures.told.view, none_open c.laws_below.ensures h.side b a two.result v1 two.new.seat.me.0 two.ensures.told.view refl h.kept.access _ c.self.invariant.4.1 can.0),
     )
 
 pub returns-clause-made : goal.returns-clause-made
 returns-clause-made g c =
     let h = c.self.inside in
     let ring_is = subst (λ (e : RingEnd). c.args.ring.now ≡ e.ring) (sym c.self.view_is) c.requires.ring in
-    let one = c.load_at-first in
-    let two = c.load_at-again in
+    let one = c.load-first in
+    let two = c.load-again in
     let said = g.O.Oracle.answers c.args.oracle.now 0 in
-    let added_one = subst (λ (r : Ring). Added r.shape (λ _. event h.side c.args.bit ReadBegin) h.seat.me one.result one.new.seat.me) ring_is one.ensures.added in
-    let added_two = subst (λ (r : Ring). Added r.shape (λ n. event h.side c.args.bit (ReadEnd (answer_of one.new.seat.me.0.first n said))) one.new.seat.me two.result two.new.seat.me) ring_is two.ensures.added in
+    let added_one = subst (λ (r : Ring). Added r.shape (λ _. event h.side c.args.bit ReadBegin) h.seat.me one.result one.new.seat.me) ring_is one.ensures.told in
+    let added_two = subst (λ (r : Ring). Added r.shape (λ n. event h.side c.args.bit (ReadEnd (answer_of one.new.seat.me.0.first n said))) one.new.seat.me two.result two.new.seat.me) ring_is two.ensures.told in
     subst (λ (e : RingEnd). HasMade e (end_at h.ring h.side two.new.seat.me.0) (Read c.args.bit) c.answer.result) c.self.view_is
     (made_read h.ring h.side c.args.bit h.seat.me one.new.seat.me two.new.seat.me one.result two.result said c.answer.result added_one added_two c.answer.ensures.answer)
 
@@ -83,15 +85,15 @@ pub returns-clause-answered : goal.returns-clause-answered
 returns-clause-answered g c =
     let h = c.self.inside in
     let b = c.args.bit in
-    let one = c.load_at-first in
-    let two = c.load_at-again in
+    let one = c.load-first in
+    let two = c.load-again in
     let before = g.O.Oracle.answers c.args.oracle.now in
     let after = g.O.Oracle.answers c.answer.new.oracle in
     let v1 = one.new.seat.me.0 in
     let v2 = two.new.seat.me.0 in
-    let first_is : v1.first ≡ one.result = ap (λ (u : View). u.first) one.ensures.added.view in
+    let first_is : v1.first ≡ one.result = ap (λ (u : View). u.first) one.ensures.told.view in
     let asked = asked_so g.O.Oracle.answers c.args.oracle.now c.answer.new.oracle (agrees v1.first two.result) (λ t. c.answer.ensures.agree (ap (λ (n : ℕ). agrees n two.result) (sym first_is) ∙ t)) (λ t. c.answer.ensures.asks (ap (λ (n : ℕ). agrees n two.result) (sym first_is) ∙ t)) in
     subst (λ (e : RingEnd). AreAnswered e (end_at h.ring h.side v2) before after) c.self.view_is
     (answered_then (end_at h.ring h.side h.seat.me.0) (end_at h.ring h.side v1) (end_at h.ring h.side v2) before before after
-    (quiet_step h.ring h.side b ReadBegin one.result h.seat.me.0 v1 one.ensures.added.view refl refl before)
-    (read_step h.ring h.side b two.result v1 v2 before after two.ensures.added.view asked))
+    (quiet_step h.ring h.side b ReadBegin one.result h.seat.me.0 v1 one.ensures.told.view refl refl before)
+    (read_step h.ring h.side b two.result v1 v2 before after two.ensures.told.view asked))

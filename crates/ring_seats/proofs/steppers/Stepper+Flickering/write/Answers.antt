@@ -16,22 +16,23 @@ use Rattle.ring_seats.proofs.Moves.{begins_write, ends_write, opened_by}
 use Rattle.ring_seats.proofs.Answered.{answered_then, quiet_step}
 use Rattle.ring_seats.proofs.steppers.Stepper+Flickering.write.Goals as goal
 
-pub store_at-requires-clause-rule : goal.store_at-requires-clause-rule
-store_at-requires-clause-rule c =
+pub store-requires-clause-rule : goal.store-requires-clause-rule
+store-requires-clause-rule c =
     let h = c.self.inside in
     let ring_is = subst (λ (e : RingEnd). c.args.ring.now ≡ e.ring) (sym c.self.view_is) c.requires.ring in
     let is = sym c.self.view_is in
     let b = c.args.bit in
     let v = c.args.value in
     let can = subst (λ (e : RingEnd). CanMake e (Write b v)) is c.requires.can in
-    subst (λ (r : Ring). (slots : ℕ) → Allows (KeepsFlickerRule r.shape) slots h.seat.id h.seat.me (word_place r.shape b) (λ _. 2) (λ _. Added r.shape (λ _. event h.side b (WriteBegin v)) h.seat.me 2)) (sym ring_is)
-    (λ slots. begins_write c.laws_below.ensures h.ring.shape h.side b slots h.seat.id h.seat.me c.self.invariant.2 c.self.invariant.3
+    let word : word_place h.ring.shape b ≡ c.word_of-word.result = ap (λ (r : Ring). word_place r.shape b) (sym ring_is) ∙ sym c.word_of-word.ensures.place in
+    subst (λ (z : Ring × ℕ). Allows (KeepsFlickerRule z.0.shape) z.0.id.slots h.seat.id h.seat.me z.1 (λ _. 2) (λ _. Added z.0.shape (λ _. event h.side b (WriteBegin v)) h.seat.me 2)) (λ i. (sym ring_is i, word i))
+    (begins_write c.laws_below.ensures h.ring.shape h.side b h.ring.id.slots h.seat.id h.seat.me c.self.invariant.2 c.self.invariant.3
     (subst (λ (e : RingEnd). belongs e.ring.shape b ≡ true) is c.requires.bit.0)
     (subst (λ (e : RingEnd). e.side ≡ writer b) is c.requires.bit.1)
     can.0 v can.1)
 
-pub store_at-requires-2-clause-rule : goal.store_at-requires-2-clause-rule
-store_at-requires-2-clause-rule c =
+pub store-requires-2-clause-rule : goal.store-requires-2-clause-rule
+store-requires-2-clause-rule c =
     let h = c.self.inside in
     let ring_is = subst (λ (e : RingEnd). c.args.ring.now ≡ e.ring) (sym c.self.view_is) c.requires.ring in
     let is = sym c.self.view_is in
@@ -39,12 +40,13 @@ store_at-requires-2-clause-rule c =
     let v = c.args.value in
     let shape = h.ring.shape in
     let can = subst (λ (e : RingEnd). CanMake e (Write b v)) is c.requires.can in
-    let seat = c.store_at.new.seat in
-    let view = c.store_at.ensures.added.view in
+    let seat = c.store.new.seat in
+    let view = c.store.ensures.told.view in
     let new = c.word_of-new.result in
-    subst (λ (r : Ring). (slots : ℕ) → Allows (KeepsFlickerRule r.shape) slots seat.id seat.me (word_place r.shape b) (λ _. new) (λ _. Added r.shape (λ _. event h.side b WriteEnd) seat.me new)) (sym ring_is)
-    (λ slots. subst (λ (n : ℕ). Allows (KeepsFlickerRule shape) slots seat.id seat.me (word_place shape b) (λ _. n) (λ _. Added shape (λ _. event h.side b WriteEnd) seat.me n)) (sym c.word_of-new.ensures)
-    (ends_write c.laws_below.ensures shape h.side b slots seat.id seat.me
+    let word : word_place h.ring.shape b ≡ c.word_of-word.result = ap (λ (r : Ring). word_place r.shape b) (sym ring_is) ∙ sym c.word_of-word.ensures.place in
+    subst (λ (z : Ring × ℕ). Allows (KeepsFlickerRule z.0.shape) z.0.id.slots seat.id seat.me z.1 (λ _. new) (λ _. Added z.0.shape (λ _. event h.side b WriteEnd) seat.me new)) (λ i. (sym ring_is i, word i))
+    (subst (λ (n : ℕ). Allows (KeepsFlickerRule shape) h.ring.id.slots seat.id seat.me (word_place shape b) (λ _. n) (λ _. Added shape (λ _. event h.side b WriteEnd) seat.me n)) (sym c.word_of-new.ensures)
+    (ends_write c.laws_below.ensures shape h.side b h.ring.id.slots seat.id seat.me
     (may_still h.side b (WriteBegin v) 2 h.seat.me.0 seat.me.0 view h.side true c.self.invariant.2)
     (may_still h.side b (WriteBegin v) 2 h.seat.me.0 seat.me.0 view (other h.side) false c.self.invariant.3)
     (subst (λ (e : RingEnd). belongs e.ring.shape b ≡ true) is c.requires.bit.0)
@@ -60,25 +62,25 @@ invariant_of-self c =
     let b = c.args.bit in
     let v = c.args.value in
     let can = subst (λ (e : RingEnd). CanMake e (Write b v)) is c.requires.can in
-    let one = c.store_at in
-    let two = c.store_at-2 in
+    let one = c.store in
+    let two = c.store-2 in
     let new = c.word_of-new.result in
     let v1 = one.new.seat.me.0 in (
       two.ensures.same.0 ∙ one.ensures.same.0 ∙ c.self.invariant.0,
-      two.ensures.added.carried ∙ one.ensures.added.carried ∙ c.self.invariant.1,
-      may_still h.side b WriteEnd new v1 two.new.seat.me.0 two.ensures.added.view h.side true (may_still h.side b (WriteBegin v) 2 h.seat.me.0 v1 one.ensures.added.view h.side true c.self.invariant.2),
-      may_still h.side b WriteEnd new v1 two.new.seat.me.0 two.ensures.added.view (other h.side) false (may_still h.side b (WriteBegin v) 2 h.seat.me.0 v1 one.ensures.added.view (other h.side) false c.self.invariant.3),
-      (ap (λ (u : View). u.first) two.ensures.added.view ∙ ap (λ (u : View). u.first) one.ensures.added.view ∙ c.self.invariant.4.0, none_open c.laws_below.ensures h.side b WriteEnd new v1 two.new.seat.me.0 two.ensures.added.view refl h.kept.access _ c.self.invariant.4.1 can.0),
+      two.ensures.told.carried ∙ one.ensures.told.carried ∙ c.self.invariant.1,
+      may_still h.side b WriteEnd new v1 two.new.seat.me.0 two.ensures.told.view h.side true (may_still h.side b (WriteBegin v) 2 h.seat.me.0 v1 one.ensures.told.view h.side true c.self.invariant.2),
+      may_still h.side b WriteEnd new v1 two.new.seat.me.0 two.ensures.told.view (other h.side) false (may_still h.side b (WriteBegin v) 2 h.seat.me.0 v1 one.ensures.told.view (other h.side) false c.self.invariant.3),
+      (ap (λ (u : View). u.first) two.ensures.told.view ∙ ap (λ (u : View). u.first) one.ensures.told.view ∙ c.self.invariant.4.0, none_open c.laws_below.ensures h.side b WriteEnd new v1 two.new.seat.me.0 two.ensures.told.view refl h.kept.access _ c.self.invariant.4.1 can.0),
     )
 
 pub returns-clause-made : goal.returns-clause-made
 returns-clause-made c =
     let h = c.self.inside in
     let ring_is = subst (λ (e : RingEnd). c.args.ring.now ≡ e.ring) (sym c.self.view_is) c.requires.ring in
-    let one = c.store_at in
-    let two = c.store_at-2 in
-    let added_one = subst (λ (r : Ring). Added r.shape (λ _. event h.side c.args.bit (WriteBegin c.args.value)) h.seat.me 2 one.new.seat.me) ring_is one.ensures.added in
-    let added_two = subst (λ (r : Ring). Added r.shape (λ _. event h.side c.args.bit WriteEnd) one.new.seat.me c.word_of-new.result two.new.seat.me) ring_is two.ensures.added in
+    let one = c.store in
+    let two = c.store-2 in
+    let added_one = subst (λ (r : Ring). Added r.shape (λ _. event h.side c.args.bit (WriteBegin c.args.value)) h.seat.me 2 one.new.seat.me) ring_is one.ensures.told in
+    let added_two = subst (λ (r : Ring). Added r.shape (λ _. event h.side c.args.bit WriteEnd) one.new.seat.me c.word_of-new.result two.new.seat.me) ring_is two.ensures.told in
     subst (λ (e : RingEnd). HasMade e (end_at h.ring h.side two.new.seat.me.0) (Write c.args.bit c.args.value) c.args.value) c.self.view_is
     (made_write h.ring h.side c.args.bit h.seat.me one.new.seat.me two.new.seat.me c.args.value 2 c.word_of-new.result added_one added_two)
 
@@ -86,11 +88,11 @@ pub returns-clause-quiet : goal.returns-clause-quiet
 returns-clause-quiet c said =
     let h = c.self.inside in
     let b = c.args.bit in
-    let one = c.store_at in
-    let two = c.store_at-2 in
+    let one = c.store in
+    let two = c.store-2 in
     let v1 = one.new.seat.me.0 in
     let v2 = two.new.seat.me.0 in
     subst (λ (e : RingEnd). AreAnswered e (end_at h.ring h.side v2) said said) c.self.view_is
     (answered_then (end_at h.ring h.side h.seat.me.0) (end_at h.ring h.side v1) (end_at h.ring h.side v2) said said said
-    (quiet_step h.ring h.side b (WriteBegin c.args.value) 2 h.seat.me.0 v1 one.ensures.added.view refl refl said)
-    (quiet_step h.ring h.side b WriteEnd c.word_of-new.result v1 v2 two.ensures.added.view refl refl said))
+    (quiet_step h.ring h.side b (WriteBegin c.args.value) 2 h.seat.me.0 v1 one.ensures.told.view refl refl said)
+    (quiet_step h.ring h.side b WriteEnd c.word_of-new.result v1 v2 two.ensures.told.view refl refl said))

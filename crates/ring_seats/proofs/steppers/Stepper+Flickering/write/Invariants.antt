@@ -1,9 +1,9 @@
 use Rattle.bits_core.specs.declared.events.Act.TheVariants.{WriteBegin, WriteEnd}
-use Rattle.ring_seats.specs.Rule.{event}
+use Rattle.ring_seats.specs.Rule.{Added, event}
 use Rattle.ring_seats.proofs.steppers.Stepper+Flickering.write.Given as goal
 
-abbrev pub ghosts-store_at : goal.ghosts-store_at
-ghosts-store_at a = record { shape = a.self.now.shape; event = λ _. event a.side a.bit (WriteBegin a.about.now) }
+abbrev pub ghosts-store : goal.ghosts-store
+ghosts-store a = record { then = λ _. Added a.self.now.shape (λ _. event a.about.now.0 a.about.now.1 (WriteBegin a.about.now.2)) }
 
-abbrev pub ghosts-store_at-2 : goal.ghosts-store_at-2
-ghosts-store_at-2 a = record { shape = a.self.now.shape; event = λ _. event a.side a.bit WriteEnd }
+abbrev pub ghosts-store-2 : goal.ghosts-store-2
+ghosts-store-2 a = record { then = λ _. Added a.self.now.shape (λ _. event a.about.now.0 a.about.now.1 WriteEnd) }
