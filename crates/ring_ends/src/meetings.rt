@@ -144,10 +144,5 @@ impl FlickerRing<Global> {
 pub(crate) fn is_closed_reply(reply: Option<TakeReply>) -> bool
     ensures { result ≡ closed_reply reply }
 {
-    match reply {
-        Some(TakeReply::Closed) => true,
-        Some(TakeReply::Item(_)) => false,
-        Some(TakeReply::Empty) => false,
-        None => false,
-    }
+    matches!(reply, Some(TakeReply::Closed))
 }

@@ -314,19 +314,13 @@ impl<'a, O: Oracle + Drop> PutEnd for Putter<'a, O> {
     fn put(&mut self, item: u64) -> PutReply {
         begin_put(&mut self.machine, item);
         finish(&mut self.stepper, &mut self.machine, &mut self.oracle);
-        match self.machine.reply() {
-            Some(reply) => reply,
-            None => unreachable!(),
-        }
+        self.machine.reply().unwrap()
     }
 
     fn put_all(&mut self, items: &[u64]) -> BatchReply {
         begin_put_all(&mut self.machine, items);
         finish(&mut self.stepper, &mut self.machine, &mut self.oracle);
-        match self.machine.batch_reply() {
-            Some(reply) => reply,
-            None => unreachable!(),
-        }
+        self.machine.batch_reply().unwrap()
     }
 
     fn close(&mut self) {

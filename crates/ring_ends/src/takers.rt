@@ -240,9 +240,6 @@ impl<'a, O: Oracle + Drop> TakeEnd for Taker<'a, O> {
     fn take(&mut self) -> TakeReply {
         begin_take(&mut self.machine);
         finish(&mut self.stepper, &mut self.machine, &mut self.oracle);
-        match self.machine.reply() {
-            Some(reply) => reply,
-            None => unreachable!(),
-        }
+        self.machine.reply().unwrap()
     }
 }

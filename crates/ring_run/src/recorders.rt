@@ -80,10 +80,7 @@ impl<'a> Log<'a> {
     // Records a line with these numbers, one at least, where there is room for it and was for all before it.
     fn add(&self, ticket: u64, code: u64, numbers: &[u64]) {
         let used = self.used.load(Ordering::SeqCst);
-        let free = match self.slots.get(used as usize..) {
-            Some(free) => free,
-            None => &[],
-        };
+        let free = self.slots.get(used as usize..).unwrap_or(&[]);
         let whole = self.lost.load(Ordering::SeqCst) == NEVER;
         if !whole || free.len() < numbers.len() {
             if whole {
@@ -99,10 +96,10 @@ impl<'a> Log<'a> {
         self.used.store(used.saturating_add(numbers.len() as u64), Ordering::SeqCst);
     }
 
-    // The slots in use from this place on.
-    fn from(&self, place: usize) -> &[Slot] {
+    // The slots in use.
+    fn in_use(&self) -> &[Slot] {
         let used = self.used.load(Ordering::SeqCst);
-        match self.slots.get(place..used as usize) {
+        match self.slots.get(..used as usize) {
             Some(slots) => slots,
             None => &[],
         }
@@ -156,8 +153,8 @@ impl<'a> Recorder<'a> {
         let puts = self.puts.lost.load(Ordering::SeqCst);
         let takes = self.takes.lost.load(Ordering::SeqCst);
         RecordedLines {
-            puts: self.puts.from(0),
-            takes: self.takes.from(0),
+            puts: self.puts.in_use(),
+            takes: self.takes.in_use(),
             end: puts.min(takes),
         }
     }
@@ -176,12 +173,8 @@ impl Gate for Recorder<'_> {
         match reply {
             // (how many were stored is told where these are fewer than the put offered)
             BatchReply::Stored(stored) => {
-                let told = if stored == items.len() as u64 {
-                    0
-                } else {
-                    stored
-                };
-                self.puts(STORED, &[told]);
+                let all = stored == items.len() as u64;
+                self.puts(STORED, &[if all { 0 } else { stored }]);
             }
             BatchReply::Full => self.puts(FULL, &[0]),
             BatchReply::Closed => self.puts(PUT_CLOSED, &[0]),
@@ -211,10 +204,7 @@ impl Gate for Recorder<'_> {
 
 // The ticket of the first of these slots, where there is one.
 fn first_ticket(slots: &[Slot]) -> u64 {
-    match slots.first() {
-        Some(slot) => slot.ticket(),
-        None => NEVER,
-    }
+    slots.first().map_or(NEVER, Slot::ticket)
 }
 
 // How many slots at the front have this ticket.
@@ -306,14 +296,13 @@ impl RecordedLines<'_> {
         if put.min(take) >= self.end {
             return Ok(None);
         }
-        if put < take {
-            let (line, rest) = self.puts.split_at(slots_of(self.puts, put));
-            self.puts = rest;
-            read_slots(line, numbers)
+        let side = if put < take {
+            &mut self.puts
         } else {
-            let (line, rest) = self.takes.split_at(slots_of(self.takes, take));
-            self.takes = rest;
-            read_slots(line, numbers)
-        }
+            &mut self.takes
+        };
+        let (line, rest) = side.split_at(slots_of(side, put.min(take)));
+        *side = rest;
+        read_slots(line, numbers)
     }
 }

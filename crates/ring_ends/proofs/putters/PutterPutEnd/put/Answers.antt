@@ -1,4 +1,4 @@
-use Rattle.std.proofs.Common.{[], ◌∷◌, sym, ◌∙◌}
+use Rattle.std.proofs.Common.{IsSome, [], ◌∷◌, sym, subst, ◌∙◌}
 use Rattle.ring_core.specs.ProducerState.{Put}
 use Rattle.ring_ends.specs.Ends.{HasPutAll}
 use Rattle.ring_seats.specs.Steppers.{AreAnswered}
@@ -20,10 +20,10 @@ finish-requires g c = ready producing put_laws (put_begun c.self.inside.oracle c
 pub invariant_of-self : goal.invariant_of-self
 invariant_of-self g c = whole_invariant producing put_laws (done g (goal.at.invariant_of-self g c).After-finish)
 
-pub unreachable-requires : goal.unreachable-requires
-unreachable-requires g c =
-    let (x, is, has) = item_told c.finish.new.machine (HasPutAll c.finish.new.stepper.ring.shape (c.args.item ∷ []) c.args.self.now.end.list c.finish.new.stepper.list) (put_ended (c.args.item ∷ []) (done g (goal.at.unreachable-requires g c).After-finish)) (c.finish.ensures.kind ∙ c.begin_put.ensures.kind) c.reply.result c.reply.ensures.state in
-    some_item x (sym is ∙ c.in-None.is)
+pub unwrap-requires : goal.unwrap-requires
+unwrap-requires g c =
+    let (x, is, has) = item_told c.finish.new.machine (HasPutAll c.finish.new.stepper.ring.shape (c.args.item ∷ []) c.args.self.now.end.list c.finish.new.stepper.list) (put_ended (c.args.item ∷ []) (done g (goal.at.unwrap-requires g c).After-finish)) (c.finish.ensures.kind ∙ c.begin_put.ensures.kind) c.reply.result c.reply.ensures.state in
+    subst IsSome (sym is) (some_item x)
 
 pub returns-clause-same : goal.returns-clause-same
 returns-clause-same g c = same_whole producing put_laws (done g (goal.at.returns-clause-same g c).After-finish)
@@ -37,7 +37,7 @@ returns-clause-idle g c = idle_after producing put_laws (done g (goal.at.returns
 pub returns-clause-phrase : goal.returns-clause-phrase
 returns-clause-phrase g c =
     let (x, is, has) = item_told c.finish.new.machine (HasPutAll c.finish.new.stepper.ring.shape (c.args.item ∷ []) c.args.self.now.end.list c.finish.new.stepper.list) (put_ended (c.args.item ∷ []) (done g (goal.at.returns-clause-phrase g c).After-finish)) (c.finish.ensures.kind ∙ c.begin_put.ensures.kind) c.reply.result c.reply.ensures.state in
-    (x, sym c.in-Some.is ∙ is, has)
+    (x, sym c.unwrap.ensures ∙ is, has)
 
 pub returns-clause-answered : goal.returns-clause-answered
 returns-clause-answered g c = put_seen c.self.view_is (λ e x. AreAnswered e c.finish.new.stepper (g.O.Oracle.answers x) (g.O.Oracle.answers c.finish.new.oracle)) c.finish.ensures.answered

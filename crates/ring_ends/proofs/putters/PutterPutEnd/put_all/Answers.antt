@@ -1,11 +1,11 @@
-use Rattle.std.proofs.Common.{sym, ◌∙◌}
+use Rattle.std.proofs.Common.{IsSome, refl, sym, subst, ◌∙◌}
 use Rattle.ring_core.specs.ProducerState.{Put}
 use Rattle.ring_ends.specs.Ends.{HasPutAll}
 use Rattle.ring_seats.specs.Steppers.{AreAnswered}
 use Rattle.ring_ends.specs.Machines.{producing}
 use Rattle.ring_ends.proofs.MachineWhole.{Whole, idle_after, lawful_whole, ready, same_whole, whole_invariant}
 use Rattle.ring_ends.proofs.PutterCalls.{put_begun, put_laws, put_seen}
-use Rattle.ring_ends.proofs.PutterWhole.{batch_told, idle_there, put_ended, put_whole, some_reply, told_so}
+use Rattle.ring_ends.proofs.PutterWhole.{batch_told, idle_there, put_ended, put_whole, told_so}
 use Rattle.ring_ends.proofs.putters.PutterPutEnd.put_all.Given.{Over}
 use Rattle.ring_ends.proofs.putters.PutterPutEnd.put_all.Goals.{After-finish}
 use Rattle.ring_ends.proofs.putters.PutterPutEnd.put_all.Goals as goal
@@ -20,10 +20,10 @@ finish-requires g c = ready producing put_laws (put_begun c.self.inside.oracle c
 pub invariant_of-self : goal.invariant_of-self
 invariant_of-self g c = whole_invariant producing put_laws (done g (goal.at.invariant_of-self g c).After-finish)
 
-pub unreachable-requires : goal.unreachable-requires
-unreachable-requires g c =
-    let told = batch_told c.finish.new.machine (HasPutAll c.finish.new.stepper.ring.shape c.args.items.now c.args.self.now.end.list c.finish.new.stepper.list) (put_ended c.args.items.now (done g (goal.at.unreachable-requires g c).After-finish)) (c.finish.ensures.kind ∙ c.begin_put_all.ensures.kind) c.batch_reply.result c.batch_reply.ensures.state in
-    some_reply told.0 (sym told.1 ∙ c.in-None.is)
+pub unwrap-requires : goal.unwrap-requires
+unwrap-requires g c =
+    let told = batch_told c.finish.new.machine (HasPutAll c.finish.new.stepper.ring.shape c.args.items.now c.args.self.now.end.list c.finish.new.stepper.list) (put_ended c.args.items.now (done g (goal.at.unwrap-requires g c).After-finish)) (c.finish.ensures.kind ∙ c.begin_put_all.ensures.kind) c.batch_reply.result c.batch_reply.ensures.state in
+    subst IsSome (sym told.1) refl
 
 pub returns-clause-same : goal.returns-clause-same
 returns-clause-same g c = same_whole producing put_laws (done g (goal.at.returns-clause-same g c).After-finish)
@@ -36,7 +36,7 @@ returns-clause-idle g c = idle_after producing put_laws (done g (goal.at.returns
 
 pub returns-clause-phrase : goal.returns-clause-phrase
 returns-clause-phrase g c =
-    told_so (HasPutAll c.finish.new.stepper.ring.shape c.args.items.now c.args.self.now.end.list c.finish.new.stepper.list) c.batch_reply.result (batch_told c.finish.new.machine (HasPutAll c.finish.new.stepper.ring.shape c.args.items.now c.args.self.now.end.list c.finish.new.stepper.list) (put_ended c.args.items.now (done g (goal.at.returns-clause-phrase g c).After-finish)) (c.finish.ensures.kind ∙ c.begin_put_all.ensures.kind) c.batch_reply.result c.batch_reply.ensures.state) c.in-Some.reply c.in-Some.is
+    told_so (HasPutAll c.finish.new.stepper.ring.shape c.args.items.now c.args.self.now.end.list c.finish.new.stepper.list) c.batch_reply.result (batch_told c.finish.new.machine (HasPutAll c.finish.new.stepper.ring.shape c.args.items.now c.args.self.now.end.list c.finish.new.stepper.list) (put_ended c.args.items.now (done g (goal.at.returns-clause-phrase g c).After-finish)) (c.finish.ensures.kind ∙ c.begin_put_all.ensures.kind) c.batch_reply.result c.batch_reply.ensures.state) c.unwrap.result c.unwrap.ensures
 
 pub returns-clause-answered : goal.returns-clause-answered
 returns-clause-answered g c = put_seen c.self.view_is (λ e x. AreAnswered e c.finish.new.stepper (g.O.Oracle.answers x) (g.O.Oracle.answers c.finish.new.oracle)) c.finish.ensures.answered

@@ -1,9 +1,9 @@
-use Rattle.std.proofs.Common.{sym, ◌∙◌}
+use Rattle.std.proofs.Common.{IsSome, refl, sym, subst, ◌∙◌}
 use Rattle.ring_ends.specs.Ends.{HasTaken}
 use Rattle.ring_seats.specs.Steppers.{AreAnswered}
 use Rattle.ring_ends.specs.Machines.{consuming}
 use Rattle.ring_ends.proofs.MachineWhole.{Whole, idle_after, lawful_whole, ready, same_whole, whole_invariant}
-use Rattle.ring_ends.proofs.PutterWhole.{some_reply, told_so}
+use Rattle.ring_ends.proofs.PutterWhole.{told_so}
 use Rattle.ring_ends.proofs.TakerCalls.{take_begun, take_laws, take_seen}
 use Rattle.ring_ends.proofs.TakerWhole.{idle_there, take_ended, take_whole}
 use Rattle.ring_ends.proofs.takers.TakerTakeEnd.take.Given.{Over}
@@ -20,8 +20,8 @@ finish-requires g c = ready consuming take_laws (take_begun c.self.inside.oracle
 pub invariant_of-self : goal.invariant_of-self
 invariant_of-self g c = whole_invariant consuming take_laws (done g (goal.at.invariant_of-self g c).After-finish)
 
-pub unreachable-requires : goal.unreachable-requires
-unreachable-requires g c = let told = take_ended (done g (goal.at.unreachable-requires g c).After-finish) in some_reply told.0 (sym told.1 ∙ sym c.reply.ensures.state ∙ c.in-None.is)
+pub unwrap-requires : goal.unwrap-requires
+unwrap-requires g c = let told = take_ended (done g (goal.at.unwrap-requires g c).After-finish) in subst IsSome (sym (c.reply.ensures.state ∙ told.1)) refl
 
 pub returns-clause-same : goal.returns-clause-same
 returns-clause-same g c = same_whole consuming take_laws (done g (goal.at.returns-clause-same g c).After-finish)
@@ -34,7 +34,7 @@ returns-clause-idle g c = idle_after consuming take_laws (done g (goal.at.return
 
 pub returns-clause-phrase : goal.returns-clause-phrase
 returns-clause-phrase g c =
-    told_so (HasTaken c.finish.new.stepper.ring.shape c.args.self.now.end.list c.finish.new.stepper.list) c.finish.new.machine.reply (take_ended (done g (goal.at.returns-clause-phrase g c).After-finish)) c.in-Some.reply (sym c.reply.ensures.state ∙ c.in-Some.is)
+    told_so (HasTaken c.finish.new.stepper.ring.shape c.args.self.now.end.list c.finish.new.stepper.list) c.finish.new.machine.reply (take_ended (done g (goal.at.returns-clause-phrase g c).After-finish)) c.unwrap.result (sym c.reply.ensures.state ∙ c.unwrap.ensures)
 
 pub returns-clause-answered : goal.returns-clause-answered
 returns-clause-answered g c = take_seen c.self.view_is (λ e x. AreAnswered e c.finish.new.stepper (g.O.Oracle.answers x) (g.O.Oracle.answers c.finish.new.oracle)) c.finish.ensures.answered
