@@ -10,6 +10,7 @@ cd -- "$top"
 . tools/building.sh
 
 room=$(mktemp -d) || exit 1
+trying=
 passed=0
 failed=0
 
@@ -41,7 +42,8 @@ rank_tests() {
 [ ! -w /proc/self/autogroup ] || rank_tests &
 ranking=$!
 end() {
-    kill -s TERM -- "-$testing" "$ranking" 2>/dev/null
+    # shellcheck disable=SC2086
+    kill -s TERM -- "-$testing" "$ranking" $trying 2>/dev/null
     rm -rf "$room"
 }
 trap end EXIT
@@ -50,10 +52,17 @@ trap 'exit 130' INT
 trap 'exit 129' HUP
 
 # The program is built before it is tried.
+parts="examples launcher trust docs"
 if ./lamport_ring --version; then
-    for part in tests/examples tests/launcher tests/trust tests/docs; do
-        "$part" >"$room/part"
-        count "$room/part"
+    for part in $parts; do
+        "tests/$part" >"$room/$part" &
+        trying="$trying $!"
+    done
+    # shellcheck disable=SC2086
+    wait $trying
+    trying=
+    for part in $parts; do
+        count "$room/$part"
     done
 else
     failed=1
