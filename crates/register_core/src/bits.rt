@@ -1,15 +1,16 @@
 //! Logical writes of one bit.
-ghost use Rattle.std.specs.Prelude.{◌≡◌, ◌≢◌, Some, None, Bool, List, [], ◌∷◌, ◌++◌};
+ghost use Rattle.std.specs.Prelude.{◌≡◌, ◌≢◌, Some, None, Bool, List, [], ◌∷◌, ◌++◌, ⊤};
 ghost use Rattle.bits_core.specs.Made.{Made, answered};
 ghost use Rattle.register_core.specs.Machine.{IsNext};
 
 use bits_core::{Access, Bit};
+use std::alloc::AllocError;
 use std::marker::Model;
 
 /// Writes values to a bit: one write where the value changes, and none where it does not. It remembers the bit.
 ///
 /// In use: `ring_core::Producer` closes with one, the bit `X`.
-#[derive(Clone, Debug, Drop)]
+#[derive(Debug, Drop)]
 pub struct BitWriter {
     bit: Bit,
     held: bool,
@@ -24,6 +25,17 @@ impl Model for BitWriter {
     ghost view = { λ w. record { bit = w.bit; held = w.held; wanted = w.wanted } };
 
     ghost invariant = { λ w. Unit {0} };
+}
+
+// By hand, as a derived one clones each field, which costs the proof ten times as much.
+impl Clone for BitWriter {
+    ghost is_clone = { λ x y. y ≡ x };
+
+    ghost is_infallible = { λ _. ⊤ };
+
+    fn clone(&self) -> Result<Self, AllocError> {
+        Ok(BitWriter { ..*self })
+    }
 }
 
 impl BitWriter {

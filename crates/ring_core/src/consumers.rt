@@ -1,5 +1,5 @@
 //! The consumer's machine.
-ghost use Rattle.std.specs.Prelude.{◌≡◌, ◌≢◌, ℕ, ◌+◌, ◌<◌, true, false, Some, None, List, [], ◌∷◌, ◌++◌, ◌↔◌, IsTrue, IfSome, IfNone, length, suc};
+ghost use Rattle.std.specs.Prelude.{◌≡◌, ◌≢◌, ℕ, ◌+◌, ◌<◌, true, false, Some, None, List, [], ◌∷◌, ◌++◌, ◌↔◌, IsTrue, IfSome, IfNone, length, suc, ⊤};
 ghost use Rattle.bits_core.specs.declared.events.Side.TheVariants.{C};
 ghost use Rattle.bits_core.specs.Made.{Made, answered};
 ghost use Rattle.bits_core.specs.Open.{IsOpenRight};
@@ -7,6 +7,7 @@ ghost use Rattle.bits_core.specs.Open.{IsOpenRight};
 use crate::counts::{has_item, past_in};
 use bits_core::{Access, Bit, Shape, Side};
 use register_core::{UnaryScan, UnaryWriter, WordReader};
+use std::alloc::AllocError;
 use std::marker::Model;
 use std::snapshot::Snapshot;
 
@@ -37,7 +38,7 @@ enum Stage {
 /// The side that takes items (Lamport 1977): it tells the accesses of its takes one by one. It takes no memory.
 ///
 /// In use: as its counterpart, the producer, is in `uses::by_hand`.
-#[derive(Clone, Debug, Drop)]
+#[derive(Debug, Drop)]
 pub struct Consumer {
     shape: Shape,
     count: u64,
@@ -58,6 +59,20 @@ impl Model for Consumer {
     ghost view = { λ p. record { shape = p.shape; count = p.count; cell = p.cell; stage = p.stage; scan = p.scan; word = p.word; row = p.row; told = p.told; reply = p.reply } };
 
     ghost invariant = { λ p. IsConsumer (record { shape = p.shape; count = p.count; cell = p.cell; stage = p.stage; scan = p.scan; word = p.word; row = p.row; told = p.told; reply = p.reply }) };
+}
+
+// By hand, as a derived one clones each field, which costs the proof ten times as much.
+impl Clone for Consumer {
+    ghost is_clone = { λ x y. y ≡ x };
+
+    ghost is_infallible = { λ _. ⊤ };
+
+    fn clone(&self) -> Result<Self, AllocError> {
+        Ok(Consumer {
+            row: self.row.clone()?,
+            ..*self
+        })
+    }
 }
 
 impl Consumer {

@@ -1,5 +1,5 @@
 //! The producer's machine.
-ghost use Rattle.std.specs.Prelude.{◌≡◌, ◌≢◌, ◌⊎◌, ℕ, ◌+◌, ◌^◌, ◌<◌, ◌≤◌, true, false, Option, Some, None, List, [], ◌∷◌, ◌++◌, ◌↔◌, IsTrue, IfSome, IfNone, length, suc, take};
+ghost use Rattle.std.specs.Prelude.{◌≡◌, ◌≢◌, ◌⊎◌, ℕ, ◌+◌, ◌^◌, ◌<◌, ◌≤◌, true, false, Option, Some, None, List, [], ◌∷◌, ◌++◌, ◌↔◌, IsTrue, IfSome, IfNone, length, suc, ⊤, take};
 ghost use Rattle.bits_core.specs.declared.events.Side.TheVariants.{P};
 ghost use Rattle.bits_core.specs.Shape.{capacity_of, modulus_of, width_of};
 ghost use Rattle.bits_core.specs.Made.{Made, answered};
@@ -9,6 +9,7 @@ ghost use Rattle.ring_core.specs.Counts as counts;
 use crate::counts::{distance, has_room, past_in};
 use bits_core::{Access, Bit, Shape, Side};
 use register_core::{UnaryScan, UnaryWriter, WordWriter};
+use std::alloc::AllocError;
 use std::marker::Model;
 use std::snapshot::Snapshot;
 
@@ -80,7 +81,7 @@ enum Stage {
 /// The side that puts items (Lamport 1977): it tells the accesses of its calls one by one. It takes no memory.
 ///
 /// In use: `uses::by_hand::step_producer`.
-#[derive(Clone, Debug, Drop)]
+#[derive(Debug, Drop)]
 pub struct Producer {
     shape: Shape,
     count: u64,
@@ -107,6 +108,20 @@ impl Model for Producer {
     ghost view = { λ p. record { shape = p.shape; count = p.count; cell = p.cell; stage = p.stage; scan = p.scan; word = p.word; row = p.row; closed = p.closed; items = take p.offered p.items; most = p.most; index = p.index; batched = p.batched; reply = p.reply } };
 
     ghost invariant = { λ p. IsProducer (record { shape = p.shape; count = p.count; cell = p.cell; stage = p.stage; scan = p.scan; word = p.word; row = p.row; closed = p.closed; items = take p.offered p.items; most = p.most; index = p.index; batched = p.batched; reply = p.reply }) × (p.offered ≤ 64) × (p.most ≤ 64) × (p.index ≤ 64) };
+}
+
+// By hand, as a derived one clones each field, which costs the proof ten times as much.
+impl Clone for Producer {
+    ghost is_clone = { λ x y. y ≡ x };
+
+    ghost is_infallible = { λ _. ⊤ };
+
+    fn clone(&self) -> Result<Self, AllocError> {
+        Ok(Producer {
+            row: self.row.clone()?,
+            ..*self
+        })
+    }
 }
 
 impl Producer {
