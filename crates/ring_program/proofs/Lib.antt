@@ -1,3 +1,4 @@
+pub mod CommandLemmas
 mod PlayLemmas
 mod RecordingText
 mod Endings

@@ -1,8 +1,10 @@
 -- What the words of the command line ask for.
-use Rattle.std.specs.Prelude.{ℕ, Bool, true, false, List, [], ◌∷◌, Option, Some, None, codes, if◌then◌else◌, option_and_then, option_map}
+use Rattle.std.specs.Prelude.{◌≡◌, ℕ, Bool, true, false, List, [], ◌∷◌, Option, Some, None, codes, if◌then◌else◌, option_and_then, option_map}
 use Rattle.std.specs.Option.{option_map_or, unwrap_or}
 use Rattle.std.specs.Str.{bytes_eq}
-use Rattle.clap.specs.Words.{App, Kinds, Row, Rule, Text, fault_of, first_of, new_app, new_rule, subcommand_of, with_rule, with_subcommand}
+use Rattle.clap.specs.Words.{App, Kinds, Row, Rule, Text, app_of, fault_of, first_of, new_app, new_rule, subcommand_of, with_rule, with_subcommand}
+use Rattle.clap.specs.declared.builder.command.Command.{Command}
+use Rattle.clap.specs.declared.builder.command.Command.TheViews.{out-Command}
 use Rattle.clap.specs.declared.builder.action.ArgAction.TheVariants.{Set, SetTrue}
 use Rattle.clap.specs.ValueTests.{is_unsigned_in}
 use Rattle.clap.specs.declared.builder.value_parser.ValueParser.TheVariants.{Unsigned}
@@ -19,6 +21,14 @@ use Rattle.ring_program.specs.declared.run_line.Run.{Run}
 use Rattle.ring_program.specs.declared.run_line.RunText.{RunText}
 use Rattle.ring_program.specs.declared.run_line.RunText.TheVariants.{Totals, Report, Recording}
 use Rattle.ring_program.specs.declared.run_line.TheConstants.{ITEM_LIMIT}
+
+-- a command of this application, with no option that its subcommands have too
+abbrev pub IsCommand : Command → App → Type 0
+IsCommand command app = (app_of command ≡ app) × ((out-Command command).has_globals ≡ false)
+
+-- the command with one option more
+abbrev pub HasOption : Rule → Command → Command → Type 0
+HasOption rule old new = (app : App) → IsCommand old app → IsCommand new (with_rule app rule)
 
 -- an option that is given or not
 abbrev pub flag_rule : Text → Rule
@@ -62,20 +72,28 @@ batch_rule = record (number_rule (codes "batch") largest) { defaults = codes "1"
 abbrev pub ring_rule : Rule
 ring_rule = record (value_rule (codes "ring")) { defaults = codes "flicker" ∷ [] }
 
--- `run`, with the five options that have to be given, three that may be left out, and two flags
+-- `run`, with the five options that have to be given
+abbrev pub run_required : App
+run_required =
+    with_rule (with_rule (with_rule (with_rule (with_rule (new_app (codes "run"))
+    (required_rule (codes "capacity") largest)) (required_rule (codes "modulus") largest)) (required_rule (codes "width") largest))
+    (required_rule (codes "count") ITEM_LIMIT)) (required_rule (codes "limit") largest)
+
+-- `run`, with these, three that may be left out, and two flags
 abbrev pub run_application : App
 run_application =
-    with_rule (with_rule (with_rule (with_rule (with_rule (with_rule (with_rule (with_rule (with_rule (with_rule (new_app (codes "run"))
-    (required_rule (codes "capacity") largest)) (required_rule (codes "modulus") largest)) (required_rule (codes "width") largest))
-    (required_rule (codes "count") ITEM_LIMIT)) (required_rule (codes "limit") largest)) (number_rule (codes "takes") largest)) batch_rule) ring_rule)
-    (flag_rule (codes "report"))) (flag_rule (codes "record"))
+    with_rule (with_rule (with_rule (with_rule (with_rule run_required
+    (number_rule (codes "takes") largest)) batch_rule) ring_rule) (flag_rule (codes "report"))) (flag_rule (codes "record"))
 
--- the program, which has a version, and of which one command has to be named
-unfoldable pub application : App
-application =
+-- the program with no commands: it has a version, and one command has to be named
+abbrev pub program_alone : App
+program_alone =
     let named = new_app (codes "lamport_ring") in
-    let required = record named { top = record named.top { subcommand_required = true; has_version = true } } in
-    with_subcommand (with_subcommand (with_subcommand required audit_command.top) play_command.top) run_application.top
+    record named { top = record named.top { subcommand_required = true; has_version = true } }
+
+-- the program
+unfoldable pub application : App
+application = with_subcommand (with_subcommand (with_subcommand program_alone audit_command.top) play_command.top) run_application.top
 
 -- the flag of this id was given
 abbrev pub is_flag_given : Text → List Row → Bool

@@ -1,15 +1,14 @@
 //! The command line.
 ghost use Rattle.std.specs.Prelude.{◌≡◌, ◌⊎◌, ◌∷◌, ℕ, List, Some, codes, true, false, [], IfOk, IfErr, OnOk, None, map, option_map};
-ghost use Rattle.clap.specs.Words.{HasKind, app_of, fault_of, found_of, kind_of, rows_of, rule_of, subcommand_of, subcommand_rows_of};
-ghost use Rattle.clap.specs.declared.builder.command.Command.TheViews.{out-Command};
+ghost use Rattle.clap.specs.Words.{HasKind, app_of, fault_of, found_of, kind_of, rows_of, subcommand_of, subcommand_rows_of};
 ghost use Rattle.ring_program.specs.declared.run_line.RingKind.TheVariants as kind;
 ghost use Rattle.near_misses.specs.declared.misses.NearMiss.TheVariants as miss;
-ghost use Rattle.ring_program.specs.CommandLine.{application, audit_command, audit_request_of, big_run, long_run, play_command, play_request, play_request_of, record_run, report_and_record, report_run, request_in, request_of, run_of_numbers, short_run, torus_run, wrong_request, wrong_rule};
+ghost use Rattle.ring_program.specs.CommandLine.{HasOption, IsCommand, application, audit_command, audit_request_of, big_run, long_run, play_command, play_request, play_request_of, program_alone, record_run, report_and_record, report_run, request_in, request_of, run_of_numbers, short_run, torus_run, wrong_request, wrong_rule};
 
-use crate::options::{flag_option, is_given, value_option};
+use crate::options::{is_given, new_command, value_option, with_flag};
 use crate::run_line::{Run, RunText, run_command, run_found};
 use clap::error::ErrorKind;
-use clap::{Arg, ArgMatches, Command, Error};
+use clap::{ArgMatches, Command, Error};
 use near_misses::NearMiss;
 use std::alloc::{AllocError, Global};
 
@@ -170,86 +169,58 @@ pub enum Request {
 }
 
 fn audit<'a>(alloc: Global) -> Result<Command<'a>, AllocError>
-    ensures made { IfOk result (λ command. app_of command ≡ audit_command) }
-    ensures local { IfOk result (λ command. (out-Command command).has_globals ≡ false) }
+    ensures { IfOk result (λ command. IsCommand command audit_command) }
 {
-    let command = Command::new(alloc, "audit")
-        .about(
-            "Audit a trace of a ring's accesses to safe bits, or recorded calls, from standard input",
-        )
-        .override_usage(AUDIT_USAGE)
-        .after_help(AUDIT_HELP);
-    let bits = flag_option(
-        alloc,
-        "bits",
-        "Check the bits alone, not the programs of the two sides",
-    );
-    let command = command.arg(bits)?;
-    let long = flag_option(
-        alloc,
-        "long",
-        "With --bits: read a trace of any length, in pieces",
-    );
-    let command = command.arg(long)?;
-    let calls = flag_option(
-        alloc,
-        "calls",
-        "Audit a recording of the calls of any queue",
-    );
-    let command = command.arg(calls)?;
-    let why = flag_option(
-        alloc,
-        "why",
-        "Tell of a fault what was due, in further lines",
-    );
-    let command = command.arg(why)?;
+    let about =
+        "Audit a trace of a ring's accesses to safe bits, or recorded calls, from standard input";
+    let command = new_command(alloc, "audit", about, AUDIT_USAGE, AUDIT_HELP);
+    let help = "Check the bits alone, not the programs of the two sides";
+    let command = with_flag(alloc, command, "bits", help)?;
+    let help = "With --bits: read a trace of any length, in pieces";
+    let command = with_flag(alloc, command, "long", help)?;
+    let help = "Audit a recording of the calls of any queue";
+    let command = with_flag(alloc, command, "calls", help)?;
+    let help = "Tell of a fault what was due, in further lines";
+    let command = with_flag(alloc, command, "why", help)?;
     Ok(command)
 }
 
-// The option of the near miss.
-fn wrong_option<'a>(alloc: Global) -> Arg<'a>
-    ensures rule { rule_of result ≡ wrong_rule }
-    ensures local { result.global ≡ false }
+// The command with the near miss.
+fn with_wrong<'a>(alloc: Global, command: Command<'a>) -> Result<Command<'a>, AllocError>
+    ensures { IfOk result (HasOption wrong_rule command.entry) }
 {
     let help = "Play by the ring of this name, which breaks one rule";
-    value_option(alloc, "wrong", "NAME", help)
+    command.arg(value_option(alloc, "wrong", "NAME", help))
 }
 
 fn play<'a>(alloc: Global) -> Result<Command<'a>, AllocError>
-    ensures made { IfOk result (λ command. app_of command ≡ play_command) }
-    ensures local { IfOk result (λ command. (out-Command command).has_globals ≡ false) }
+    ensures { IfOk result (λ command. IsCommand command play_command) }
 {
-    let command = Command::new(alloc, "play")
-        .about("Play a script of the ring's two sides, from standard input")
-        .override_usage(PLAY_USAGE)
-        .after_help(PLAY_HELP);
-    let trace = flag_option(
-        alloc,
-        "trace",
-        "Print the whole history, as a trace, in place of the report",
-    );
-    let command = command.arg(trace)?;
-    let calls = flag_option(
-        alloc,
-        "calls",
-        "Print the calls of the play, as recorded calls, in place of the report",
-    );
-    let command = command.arg(calls)?;
-    let wrong = wrong_option(alloc);
-    let command = command.arg(wrong)?;
+    let about = "Play a script of the ring's two sides, from standard input";
+    let command = new_command(alloc, "play", about, PLAY_USAGE, PLAY_HELP);
+    let help = "Print the whole history, as a trace, in place of the report";
+    let command = with_flag(alloc, command, "trace", help)?;
+    let help = "Print the calls of the play, as recorded calls, in place of the report";
+    let command = with_flag(alloc, command, "calls", help)?;
+    let command = with_wrong(alloc, command)?;
     Ok(command)
+}
+
+// The program with no commands yet.
+fn bare_program<'a>(alloc: Global) -> Command<'a>
+    ensures { app_of result ≡ program_alone }
+{
+    let about =
+        "A producer-consumer ring from safe bits: plays of scripts, audits of recorded histories, two threads";
+    let command = Command::new(alloc, "lamport_ring").about(about);
+    let command = command.version(VERSION).after_help(PROGRAM_HELP);
+    command.subcommand_required(true)
 }
 
 fn program<'a>(alloc: Global) -> Result<Command<'a>, AllocError>
     ensures { IfOk result (λ command. app_of command ≡ application) }
 {
-    let command = Command::new(alloc, "lamport_ring")
-        .about(
-            "A producer-consumer ring from safe bits: plays of scripts, audits of recorded histories, two threads",
-        )
-        .version(VERSION)
-        .after_help(PROGRAM_HELP)
-        .subcommand_required(true);
+    let command = bare_program(alloc);
     let audit = audit(alloc)?;
     let command = command.subcommand(audit)?;
     let play = play(alloc)?;

@@ -1,10 +1,24 @@
-//! What the words say of one option.
-ghost use Rattle.std.specs.Prelude.{◌≡◌, Some, false};
-ghost use Rattle.clap.specs.Words.{found_of, new_rule, rows_of, rule_of};
-ghost use Rattle.ring_program.specs.CommandLine.{flag_rule, is_flag_given, number_given, number_in, value_rule};
+//! Commands and their options, and what the words say of one option.
+ghost use Rattle.std.specs.Prelude.{◌≡◌, IfOk, Some, false};
+ghost use Rattle.clap.specs.Words.{found_of, new_app, new_rule, rows_of, rule_of};
+ghost use Rattle.ring_program.specs.CommandLine.{HasOption, IsCommand, flag_rule, is_flag_given, number_given, number_in, value_rule};
 
-use clap::{Arg, ArgAction, ArgMatches};
-use std::alloc::Global;
+use clap::{Arg, ArgAction, ArgMatches, Command};
+use std::alloc::{AllocError, Global};
+
+/// A command by this name with no options yet, and its texts.
+pub fn new_command<'a>(
+    alloc: Global,
+    name: &'a str,
+    about: &'a str,
+    usage: &'a str,
+    help: &'a str,
+) -> Command<'a>
+    ensures { IsCommand result (new_app name.entry.now) }
+{
+    let command = Command::new(alloc, name).about(about);
+    command.override_usage(usage).after_help(help)
+}
 
 // An option by this word.
 fn named_option<'a>(alloc: Global, id: &'a str, help: &'a str) -> Arg<'a>
@@ -14,12 +28,16 @@ fn named_option<'a>(alloc: Global, id: &'a str, help: &'a str) -> Arg<'a>
     Arg::new(alloc, id).long(id).help(help)
 }
 
-/// An option that is given or not, by this word.
-pub fn flag_option<'a>(alloc: Global, id: &'a str, help: &'a str) -> Arg<'a>
-    ensures rule { rule_of result ≡ flag_rule id.entry.now }
-    ensures local { result.global ≡ false }
+/// The command with an option that is given or not, by this word.
+pub fn with_flag<'a>(
+    alloc: Global,
+    command: Command<'a>,
+    id: &'a str,
+    help: &'a str,
+) -> Result<Command<'a>, AllocError>
+    ensures { IfOk result (HasOption (flag_rule id.entry.now) command.entry) }
 {
-    named_option(alloc, id, help).action(ArgAction::SetTrue)
+    command.arg(named_option(alloc, id, help).action(ArgAction::SetTrue))
 }
 
 /// An option by this word, with a value, which the help calls by a name.

@@ -1,10 +1,9 @@
 //! The command `run` of the command line.
-ghost use Rattle.std.specs.Prelude.{◌≡◌, IfOk, Some, false, option_map};
-ghost use Rattle.clap.specs.Words.{app_of, first_of, found_of, rows_of, rule_of};
-ghost use Rattle.clap.specs.declared.builder.command.Command.TheViews.{out-Command};
-ghost use Rattle.ring_program.specs.CommandLine.{batch_rule, number_rule, required_rule, ring_given, ring_in, ring_rule, run_application, run_in, text_asked, text_given};
+ghost use Rattle.std.specs.Prelude.{◌≡◌, IfOk, Some, codes, false, option_map};
+ghost use Rattle.clap.specs.Words.{first_of, found_of, rows_of, rule_of};
+ghost use Rattle.ring_program.specs.CommandLine.{HasOption, IsCommand, batch_rule, largest, number_rule, required_rule, ring_given, ring_in, ring_rule, run_application, run_in, run_required, text_asked, text_given};
 
-use crate::options::{flag_option, is_given, number_found, value_option};
+use crate::options::{is_given, new_command, number_found, value_option, with_flag};
 use clap::builder::ValueParser;
 use clap::{Arg, ArgMatches, Command};
 use ring_run::Limits;
@@ -107,70 +106,99 @@ fn number_option<'a>(alloc: Global, id: &'a str, name: &'a str, most: u64, help:
     value_option(alloc, id, name, help).value_parser(ValueParser::unsigned(0, most))
 }
 
-// One that has to be given.
-fn required_option<'a>(
+// The command with a number that has to be given.
+fn with_required<'a>(
     alloc: Global,
+    command: Command<'a>,
     id: &'a str,
     name: &'a str,
     most: u64,
     help: &'a str,
-) -> Arg<'a>
-    ensures rule { rule_of result ≡ required_rule id.entry.now most }
-    ensures local { result.global ≡ false }
+) -> Result<Command<'a>, AllocError>
+    ensures { IfOk result (HasOption (required_rule id.entry.now most) command.entry) }
 {
-    number_option(alloc, id, name, most, help).required(true)
+    command.arg(number_option(alloc, id, name, most, help).required(true))
 }
 
-// The option that may be left out, and is 1 then.
-fn batch_option<'a>(alloc: Global) -> Arg<'a>
-    ensures rule { rule_of result ≡ batch_rule }
-    ensures local { result.global ≡ false }
+// The command with the limit of takes.
+fn with_takes<'a>(alloc: Global, command: Command<'a>) -> Result<Command<'a>, AllocError>
+    ensures { IfOk result (HasOption (number_rule (codes "takes") largest) command.entry) }
+{
+    let help = "The most takes, where not L";
+    command.arg(number_option(alloc, "takes", "T", u64::MAX, help))
+}
+
+// The command with the batch, which may be left out, and is 1 then.
+fn with_batch<'a>(alloc: Global, command: Command<'a>) -> Result<Command<'a>, AllocError>
+    ensures { IfOk result (HasOption batch_rule command.entry) }
 {
     let help = "The most items under one count write";
-    number_option(alloc, "batch", "G", u64::MAX, help).default_value("1")
+    let batch = number_option(alloc, "batch", "G", u64::MAX, help);
+    command.arg(batch.default_value("1"))
 }
 
-// The option of the ring, which is `flicker` where it is left out.
-fn ring_option<'a>(alloc: Global) -> Arg<'a>
-    ensures rule { rule_of result ≡ ring_rule }
-    ensures local { result.global ≡ false }
+// The command with the ring, which is `flicker` where it is left out.
+fn with_ring<'a>(alloc: Global, command: Command<'a>) -> Result<Command<'a>, AllocError>
+    ensures { IfOk result (HasOption ring_rule command.entry) }
 {
-    value_option(alloc, "ring", "RING", "flicker or counter").default_value("flicker")
+    let ring = value_option(alloc, "ring", "RING", "flicker or counter");
+    command.arg(ring.default_value("flicker"))
+}
+
+// The command with the options that have to be given.
+fn required_part<'a>(alloc: Global) -> Result<Command<'a>, AllocError>
+    ensures { IfOk result (λ command. IsCommand command run_required) }
+{
+    let about = "Relay items through a ring, in two threads";
+    let command = new_command(alloc, "run", about, RUN_USAGE, RUN_HELP);
+    let command = with_required(alloc, command, "capacity", "B", u64::MAX, "How many cells")?;
+    let command = with_required(
+        alloc,
+        command,
+        "modulus",
+        "M",
+        u64::MAX,
+        "Modulus of the counts",
+    )?;
+    let command = with_required(
+        alloc,
+        command,
+        "width",
+        "W",
+        u64::MAX,
+        "Binary digits of an item",
+    )?;
+    let command = with_required(
+        alloc,
+        command,
+        "count",
+        "N",
+        ITEM_LIMIT,
+        "How many items to put",
+    )?;
+    let command = with_required(
+        alloc,
+        command,
+        "limit",
+        "L",
+        u64::MAX,
+        "The most puts, and takes",
+    )?;
+    Ok(command)
 }
 
 /// The command.
 pub fn run_command<'a>(alloc: Global) -> Result<Command<'a>, AllocError>
-    ensures made { IfOk result (λ command. app_of command ≡ run_application) }
-    ensures local { IfOk result (λ command. (out-Command command).has_globals ≡ false) }
+    ensures { IfOk result (λ command. IsCommand command run_application) }
 {
-    let command = Command::new(alloc, "run")
-        .about("Relay items through a ring, in two threads")
-        .override_usage(RUN_USAGE)
-        .after_help(RUN_HELP);
-    let capacity = required_option(alloc, "capacity", "B", u64::MAX, "How many cells");
-    let command = command.arg(capacity)?;
-    let modulus = required_option(alloc, "modulus", "M", u64::MAX, "Modulus of the counts");
-    let command = command.arg(modulus)?;
-    let width = required_option(alloc, "width", "W", u64::MAX, "Binary digits of an item");
-    let command = command.arg(width)?;
-    let count = required_option(alloc, "count", "N", ITEM_LIMIT, "How many items to put");
-    let command = command.arg(count)?;
-    let limit = required_option(alloc, "limit", "L", u64::MAX, "The most puts, and takes");
-    let command = command.arg(limit)?;
-    let takes = number_option(alloc, "takes", "T", u64::MAX, "The most takes, where not L");
-    let command = command.arg(takes)?;
-    let batch = batch_option(alloc);
-    let command = command.arg(batch)?;
-    let ring = ring_option(alloc);
-    let command = command.arg(ring)?;
-    let report = flag_option(alloc, "report", "Tell the calls, and the items a second");
-    let command = command.arg(report)?;
-    let record = flag_option(
-        alloc,
-        "record",
-        "Print a recording of the calls in place of the text",
-    );
-    let command = command.arg(record)?;
+    let command = required_part(alloc)?;
+    let command = with_takes(alloc, command)?;
+    let command = with_batch(alloc, command)?;
+    let command = with_ring(alloc, command)?;
+    let help = "Tell the calls, and the items a second";
+    let command = with_flag(alloc, command, "report", help)?;
+    let help = "Print a recording of the calls in place of the text";
+    let command = with_flag(alloc, command, "record", help)?;
     Ok(command)
 }
 

@@ -1,0 +1,6 @@
+use Rattle.std.proofs.Common.{rules}
+use Rattle.ring_program.proofs.CommandLemmas.{adds_option, if_ok}
+use Rattle.ring_program.proofs.run_line.with_required.Goals as goal
+
+pub returns : goal.returns
+returns c = if_ok _ (adds_option _ c.required.result _ (search rules) (search rules)) c.arg.ensures
