@@ -22,7 +22,7 @@ use Rattle.ring_seats.proofs.Moves.{list_of-mine, may_step-more, opened_by}
 abbrev pub end_at : Ring → Side → View → RingEnd
 end_at ring x v = record { ring = ring; side = x; list = list_of x v; known = v.known; loads = v.loads }
 
-grows : (ring : Ring) (x : Side) (e : Event) (got : ℕ) (v w : View) → w ≡ and_event x e got v → Stands ring.shape x (list_of x w) w.known → Grows (end_at ring x v) (end_at ring x w) e
+pub grows : (ring : Ring) (x : Side) (e : Event) (got : ℕ) (v w : View) → w ≡ and_event x e got v → Stands ring.shape x (list_of x w) w.known → Grows (end_at ring x v) (end_at ring x w) e
 grows ring x e got v w is stands = record {
   same = record { ring = refl; side = refl; known = ap (λ (u : View). u.known) is };
   list = ap (list_of x) is ∙ list_of-mine x e got v;

@@ -1,5 +1,5 @@
 -- What reads answered, step by step.
-use Rattle.std.proofs.Common.{◌≡◌, ℕ, ◌+◌, Bool, true, false, List, [], ◌∷◌, ◌++◌, refl, ap, sym, ◌∙◌, arith, append_assoc, append-nil, add-zero}
+use Rattle.std.proofs.Common.{◌≡◌, ℕ, ◌+◌, Bool, true, false, List, [], ◌∷◌, ◌++◌, refl, ap, sym, ◌∙◌, inl, inr, arith, append_assoc, append-nil, add-zero}
 use Rattle.std.specs.Prelude.{if◌then◌else◌}
 use Rattle.bits_core.specs.declared.events.Side.{Side}
 use Rattle.bits_core.specs.declared.events.Bit.{Bit}
@@ -11,7 +11,7 @@ use Rattle.ring_seats.specs.declared.views.View.{View}
 use Rattle.ring_seats.specs.declared.views.Loads.{Loads}
 use Rattle.ring_seats.specs.Rule.{and_event, event, kept_loads, list_of}
 use Rattle.ring_seats.specs.Words.{agrees, answer_of}
-use Rattle.ring_seats.specs.Steppers.{AreAnswered, and_answer, answers_by, answers_in, asks_of_all, asks_of}
+use Rattle.ring_seats.specs.Steppers.{AreAnswered, IsAskedOnce, and_answer, answers_by, answers_in, asks_of_all, asks_of}
 use Rattle.ring_seats.proofs.Accesses.{end_at}
 use Rattle.ring_seats.proofs.Moves.{list_of-mine}
 
@@ -58,6 +58,11 @@ pub asked_so : {O : Type 0} (answers : O → ℕ → Bool) (old new : O) (agree 
     → (i : ℕ) → answers new i ≡ answers old (i + (if agree then 0 else 1))
 asked_so answers old new true kept asks i = ap (λ o. answers o i) (kept refl) ∙ ap (answers old) (sym (add-zero i))
 asked_so answers old new false kept asks i = asks refl i
+
+-- and that it was asked at most once
+pub asked_once : {O : Type 0} (answers : O → ℕ → Bool) (old new : O) (agree : Bool) → (agree ≡ true → new ≡ old) → (agree ≡ false → (i : ℕ) → answers new i ≡ answers old (i + 1)) → IsAskedOnce answers old new
+asked_once answers old new true kept asks = inl (kept refl)
+asked_once answers old new false kept asks = inr (asks refl)
 
 module _ (ring : Ring) (x : Side) (b : Bit) where
   -- a step that ends no read

@@ -43,6 +43,14 @@ may_step-more : (x y : Side) (es : List Event) (v : View) → may_step y (and_ev
 may_step-more x P es v = refl
 may_step-more x C es v = refl
 
+-- what whole accesses leave as it was, and what they add
+module _ (x : Side) (es : List Event) (v w : View) (is : w ≡ and_events x es v) where
+  pub may_still : (y : Side) (may : Bool) → may_step y v ≡ may → may_step y w ≡ may
+  may_still y may was = ap (may_step y) is ∙ may_step-more x y es v ∙ was
+
+  pub list_more : list_of x w ≡ list_of x v ++ es
+  list_more = ap (list_of x) is ∙ list_of-more x es v
+
 module _ (laws : LawsBelow) (shape : Shape) where
   seats_more : (x : Side) (made : List Made) (h known : List Event) (owner : Side → ℕ) (views : List View) (id : ℕ) (v : View) → Blocked laws shape x h made
       → get_elem? views id ≡ some v → may_step x v ≡ true → may_step (other x) v ≡ false → SeatsKnow h known owner views

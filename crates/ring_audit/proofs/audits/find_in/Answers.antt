@@ -1,4 +1,4 @@
-use Rattle.std.proofs.Common.{◌≡◌, ℕ, ◌+◌, ◌<◌, List, [], length, take, subst, sym, ap, ◌∙◌, refl, arith}
+use Rattle.std.proofs.Common.{◌≡◌, ℕ, ◌+◌, ◌<◌, List, [], length, take, subst, sym, ap, ◌∙◌, refl, arith, length-append, inl, inr}
 use Rattle.std.proofs.Math.Seq.{take-length}
 use Rattle.std.proofs.lemmas.List.{take_more}
 use Rattle.bits_core.specs.declared.events.Event.{Event}
@@ -134,3 +134,29 @@ returns-in-Fault-clause-found g c =
     let end : i ≡ length part = omega (arith, c.loop-i-test.false, c.loop-i.auto.i-end) in
     let whole : take i part ≡ take c.in-Fault.place h = ap (λ k. take k part) end ∙ take-length part ∙ ap (λ k. take k h) place_is in
     break_of_bits c.fault_breaks.ensures shape h c.in-Fault.place c.in-Fault.kind c.in-Fault.ensures.verdict (subst (BothFollow shape) whole c.loop-i.invariant.follow)
+
+pub returns-in_err-on-clause-few : goal.returns-in_err-on-clause-few
+returns-in_err-on-clause-few g c =
+    let long = length_part c.args.events.now c.lawful_length.result c.lawful_length.ensures.within in
+    on_err c.from_residual.result
+    (elim c.in_err-on.ensures.full [
+      | inl full ↦ inl (omega (arith, long))
+      | inr full ↦ inr (omega (arith, long))
+    ])
+
+pub returns-in_err-on-clause-put_slots : goal.returns-in_err-on-clause-put_slots
+returns-in_err-on-clause-put_slots g c = λ first same. c.in_err-on.ensures.put_slots first (c.loop-i.invariant.put_slots first same)
+
+pub returns-in_err-on-clause-taken_slots : goal.returns-in_err-on-clause-taken_slots
+returns-in_err-on-clause-taken_slots g c = λ first same. c.in_err-on.ensures.taken_slots first (c.loop-i.invariant.taken_slots first same)
+
+pub returns-then-not-branch-clause-put_slots : goal.returns-then-not-branch-clause-put_slots
+returns-then-not-branch-clause-put_slots g c = λ first same. c.in_ok-on.ensures.put_slots first (c.loop-i.invariant.put_slots first same)
+
+pub returns-then-not-branch-clause-taken_slots : goal.returns-then-not-branch-clause-taken_slots
+returns-then-not-branch-clause-taken_slots g c = λ first same. c.in_ok-on.ensures.taken_slots first (c.loop-i.invariant.taken_slots first same)
+
+pub returns-in-Lawful-clause-within : goal.returns-in-Lawful-clause-within
+returns-in-Lawful-clause-within g c =
+    let st = c.loop-i.invariant.stands in
+    (omega (arith, st.counted_is, ap length st.put_is, length-append st.items st.stored), omega (arith, ap length c.as_slice.ensures))

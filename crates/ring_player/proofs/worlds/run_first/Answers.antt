@@ -1,5 +1,6 @@
 use Rattle.std.proofs.Common.{◌≡◌, ℕ, ◌+◌, ◌-◌, min, List, length, ◌++◌, [], take, refl, sym, ap, subst, ◌∙◌, arith}
 use Rattle.std.specs.Prelude.{replicate, slice_index_or}
+use Rattle.std.proofs.Math.Seq.{take-length}
 use Rattle.std.proofs.lemmas.List.{length-append, length-replicate}
 use Rattle.bits_core.specs.declared.events.Event.{Event}
 use Rattle.bits_core.specs.declared.events.Side.{Side}
@@ -63,3 +64,20 @@ returns-in_err-repeat-clause-full g c =
     let l = c.loop-run.invariant in
     let e = c.in_err-repeat.ensures.full in
     on_err c.from_residual.result (e.0, omega (arith, e.1, l.few, l.within, c.min-count.ensures, within_all runs c.loop-run.run-index none c.loop-run-test.true, ap length c.runs-run-items.ensures))
+
+pub returns-clause-plays : goal.returns-clause-plays
+returns-clause-plays g c =
+    let runs : List Run = c.runs-run-items.result.now in
+    let k : ℕ = c.args.letters in
+    let l = c.loop-run.invariant in
+    let end : c.loop-run.run-index ≡ length runs = omega arith in
+    let all : spelled (take c.loop-run.run-index runs) ≡ spelled c.args.script.runs.now = ap (λ i. spelled (take i runs)) end ∙ ap spelled (take-length runs) ∙ l.all in
+    subst (λ (t : List Side). Plays (content_of c.args.script) (take k t) c.loop-run.world.history) all l.plays
+
+pub returns-clause-few : goal.returns-clause-few
+returns-clause-few g c =
+    let runs : List Run = c.runs-run-items.result.now in
+    let l = c.loop-run.invariant in
+    let end : c.loop-run.run-index ≡ length runs = omega arith in
+    let all : spelled (take c.loop-run.run-index runs) ≡ spelled c.args.script.runs.now = ap (λ i. spelled (take i runs)) end ∙ ap spelled (take-length runs) ∙ l.all in
+    omega (arith, l.few, l.within, ap length all)

@@ -7,7 +7,7 @@ use Rattle.queue_calls.specs.Told.{told}
 use Rattle.queue_calls.specs.declared.lines.Word.{Word}
 use Rattle.queue_calls.specs.declared.lines.Word.TheVariants.{Queue}
 use Rattle.queue_calls.specs.declared.recordings.Begun.TheVariants as begun
-use Rattle.queue_calls.proofs.HeardLines.{first_line, first_heard, further_line, count_is, further_heard}
+use Rattle.queue_calls.proofs.HeardLines.{first_line, is_line, first_heard, further_line, count_is, further_heard}
 use Rattle.queue_calls.proofs.recordings.Lines.read.Goals as goal
 
 -- what holds on success follows from what else holds on success
@@ -60,3 +60,7 @@ returns-in-Queue-clause-read g c before has =
             (subst (λ ns. HasHeard g.S.Items.Fifo.items c.begins.new.self (capacity_told ns) []) c.as_slice-numbers.ensures c.begins.ensures.heard);
       },
     )
+
+pub returns-in_default-2-clause-refused : goal.returns-in_default-2-clause-refused
+returns-in_default-2-clause-refused g c before has =
+    (omega (arith, has.count, c.in-Some.ensures.1), λ l on. c.in_ok-word.ensures.none c.in_default-2.is l.word l.numbers (is_line before c.args.line.now l on))

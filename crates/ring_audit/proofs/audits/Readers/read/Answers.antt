@@ -1,8 +1,8 @@
-use Rattle.std.proofs.Common.{ap, length, subst}
+use Rattle.std.proofs.Common.{arith, length-append, ℕ, ap, length, subst}
 use Rattle.ring_audit.specs.declared.takes.TakeStep.TheVariants as takes
 use Rattle.ring_audit.specs.TakeReading.{HasReadTake}
 use Rattle.ring_audit.specs.Reading.{reading}
-use Rattle.ring_audit.proofs.Readings.{put_stops, put_stores, put_counts, take_stops}
+use Rattle.ring_audit.proofs.Readings.{put_stops, put_goes, put_stores, put_counts, take_stops, take_goes, take_takes}
 use Rattle.ring_audit.proofs.Rooms.{on_err, put_needs, take_needs}
 use Rattle.ring_audit.proofs.audits.Readers.read.Goals as goal
 
@@ -44,3 +44,28 @@ returns-in-Stops-read-clause-stops g c f =
     let r = c.args.self.now in
     let read : HasReadTake r.puts.shape r.takes c.read-in-C.new.self c.args.event takes.Stops = subst (λ s. HasReadTake s r.takes c.read-in-C.new.self c.args.event takes.Stops) c.requires c.in-Stops-read.ensures.read in
     take_stops c.own_changes.ensures r.puts.shape (reading r.puts r.takes r.counted (g.S.Store.items c.args.put.now) (g.S.Store.items c.args.taken.now)) c.read-in-C.new.self c.args.event c.in-C.is read
+
+pub returns-in_ok-push-in-Stores-clause-few : goal.returns-in_ok-push-in-Stores-clause-few
+returns-in_ok-push-in-Stores-clause-few g c = (omega (arith, length-append {A = ℕ}, ap length c.in_ok-push-in-Stores.ensures.pushed), omega arith)
+
+pub returns-in_ok-push-in-Takes-clause-few : goal.returns-in_ok-push-in-Takes-clause-few
+returns-in_ok-push-in-Takes-clause-few g c = (omega arith, omega (arith, length-append {A = ℕ}, ap length c.in_ok-push-in-Takes.ensures.pushed))
+
+pub returns-in-GoesOn-clause-goes_on : goal.returns-in-GoesOn-clause-goes_on
+returns-in-GoesOn-clause-goes_on g c f =
+    let r = c.args.self.now in
+    put_goes c.own_changes.ensures r.puts.shape (reading r.puts r.takes r.counted (g.S.Store.items c.args.put.now) (g.S.Store.items c.args.taken.now)) c.read.new.self c.args.event c.in-P.is c.in-GoesOn.ensures.read
+
+pub returns-in-GoesOn-read-clause-goes_on : goal.returns-in-GoesOn-read-clause-goes_on
+returns-in-GoesOn-read-clause-goes_on g c f =
+    let r = c.args.self.now in
+    let read : HasReadTake r.puts.shape r.takes c.read-in-C.new.self c.args.event takes.GoesOn = subst (λ s. HasReadTake s r.takes c.read-in-C.new.self c.args.event takes.GoesOn) c.requires c.in-GoesOn-read.ensures.read in
+    take_goes c.own_changes.ensures r.puts.shape (reading r.puts r.takes r.counted (g.S.Store.items c.args.put.now) (g.S.Store.items c.args.taken.now)) c.read-in-C.new.self c.args.event c.in-C.is read
+
+pub returns-in_ok-push-in-Takes-clause-goes_on : goal.returns-in_ok-push-in-Takes-clause-goes_on
+returns-in_ok-push-in-Takes-clause-goes_on g c f =
+    let r = c.args.self.now in
+    let read : HasReadTake r.puts.shape r.takes c.read-in-C.new.self c.args.event (takes.Takes c.in-Takes.item) =
+    subst (λ s. HasReadTake s r.takes c.read-in-C.new.self c.args.event (takes.Takes c.in-Takes.item)) c.requires c.in-Takes.ensures.read in
+    take_takes c.own_changes.ensures r.puts.shape (reading r.puts r.takes r.counted (g.S.Store.items c.args.put.now) (g.S.Store.items c.args.taken.now)) c.read-in-C.new.self c.args.event c.in-Takes.item
+    (g.S.Store.items c.push-in-Takes.new.store) c.in-C.is read c.in_ok-push-in-Takes.ensures.pushed

@@ -1,15 +1,17 @@
-use Rattle.std.proofs.Common.{ℕ, [], ◌∷◌, ◌++◌, sym, subst, refl}
+use Rattle.std.proofs.Common.{ℕ, true, false, Some, [], ◌∷◌, ◌++◌, ap, ◌∙◌, sym, subst, refl}
 use Rattle.atomic_table.specs.Table.{Allows}
 use Rattle.bits_core.specs.declared.events.Access.{Access}
 use Rattle.bits_core.specs.declared.events.Act.TheVariants.{ReadBegin, WriteBegin}
+use Rattle.bits_core.specs.Bits.{other}
 use Rattle.bits_core.specs.Open.{IsOpenRight}
+use Rattle.ring_seats.specs.declared.views.View.{View}
 use Rattle.ring_seats.specs.Programs.{Follows, begin_of}
 use Rattle.ring_seats.specs.Ring.{RingEnd}
 use Rattle.ring_seats.specs.Rule.{Added, IsIdle, KeepsFlickerRule, event}
-use Rattle.ring_seats.specs.Steppers.{AreAnswered}
-use Rattle.ring_seats.proofs.Moves.{begins_read, begins_write}
+use Rattle.ring_seats.specs.Steppers.{AreAnswered, Grows}
+use Rattle.ring_seats.proofs.Moves.{begins_read, begins_write, opened_by}
 use Rattle.ring_seats.proofs.Answered.{quiet_step}
-use Rattle.ring_seats.proofs.Accesses.{end_at}
+use Rattle.ring_seats.proofs.Accesses.{end_at, grows, may_still}
 use Rattle.ring_seats.proofs.steppers.Stepper+Flickering.begin.Goals as goal
 
 pub load-self-inside-requires-clause-rule : goal.load-self-inside-requires-clause-rule
@@ -43,3 +45,44 @@ returns-in-Write-clause-quiet c said =
     let l = c.store in
     subst (λ (e : RingEnd). AreAnswered e (end_at h.ring h.side l.new.seat.me.0) said said) c.self.view_is
     (quiet_step h.ring h.side c.in-Write.bit (WriteBegin c.in-Write.value) 2 h.seat.me.0 l.new.seat.me.0 l.ensures.told.view refl refl said)
+
+pub invariant_of-self : goal.invariant_of-self
+invariant_of-self c =
+    let h = c.self.inside in
+    let l = c.load-self-inside in
+    let view = l.ensures.told.view in
+    let v1 = l.new.seat.me.0 in (
+      l.ensures.same.0 ∙ c.self.invariant.0,
+      l.ensures.told.carried ∙ c.self.invariant.1,
+      may_still h.side c.in-Read.bit ReadBegin l.result h.seat.me.0 v1 view h.side true c.self.invariant.2,
+      may_still h.side c.in-Read.bit ReadBegin l.result h.seat.me.0 v1 view (other h.side) false c.self.invariant.3,
+      (ap (λ (u : View). u.first) view, ap Some c.in-Read.is ∙ sym (opened_by c.laws_below.ensures h.side c.in-Read.bit ReadBegin l.result h.seat.me.0 v1 view)),
+    )
+
+pub invariant_of-self-in-Write : goal.invariant_of-self-in-Write
+invariant_of-self-in-Write c =
+    let h = c.self.inside in
+    let l = c.store in
+    let view = l.ensures.told.view in
+    let a = WriteBegin c.in-Write.value in
+    let v1 = l.new.seat.me.0 in (
+      l.ensures.same.0 ∙ c.self.invariant.0,
+      l.ensures.told.carried ∙ c.self.invariant.1,
+      may_still h.side c.in-Write.bit a 2 h.seat.me.0 v1 view h.side true c.self.invariant.2,
+      may_still h.side c.in-Write.bit a 2 h.seat.me.0 v1 view (other h.side) false c.self.invariant.3,
+      (ap (λ (u : View). u.first) view ∙ c.self.invariant.4.0, ap Some c.in-Write.is ∙ sym (opened_by c.laws_below.ensures h.side c.in-Write.bit a 2 h.seat.me.0 v1 view)),
+    )
+
+pub returns-in-Read-clause-grows : goal.returns-in-Read-clause-grows
+returns-in-Read-clause-grows c =
+    let h = c.self.inside in
+    let l = c.load-self-inside in
+    subst (λ (z : RingEnd × Access). Grows z.0 (end_at h.ring h.side l.new.seat.me.0) (begin_of z.0.side z.1)) (λ i. (c.self.view_is i, sym c.in-Read.is i))
+    (grows h.ring h.side (event h.side c.in-Read.bit ReadBegin) l.result h.seat.me.0 l.new.seat.me.0 l.ensures.told.view l.ensures.told.stands)
+
+pub returns-in-Write-clause-grows : goal.returns-in-Write-clause-grows
+returns-in-Write-clause-grows c =
+    let h = c.self.inside in
+    let l = c.store in
+    subst (λ (z : RingEnd × Access). Grows z.0 (end_at h.ring h.side l.new.seat.me.0) (begin_of z.0.side z.1)) (λ i. (c.self.view_is i, sym c.in-Write.is i))
+    (grows h.ring h.side (event h.side c.in-Write.bit (WriteBegin c.in-Write.value)) 2 h.seat.me.0 l.new.seat.me.0 l.ensures.told.view l.ensures.told.stands)

@@ -1,4 +1,4 @@
-use Rattle.std.proofs.Common.{◌≡◌, ℕ, true, false, Some, ap, ◌∙◌, sym, subst, refl}
+use Rattle.std.proofs.Common.{◌≡◌, ℕ, Bool, true, false, Some, ap, ◌∙◌, sym, subst, refl}
 use Rattle.atomic_table.specs.Table.{Allows}
 use Rattle.bits_core.specs.declared.events.Access.{Access}
 use Rattle.bits_core.specs.declared.events.Act.TheVariants.{ReadEnd, WriteEnd}
@@ -6,14 +6,14 @@ use Rattle.bits_core.specs.Bits.{other}
 use Rattle.bits_core.specs.History.{open_access}
 use Rattle.bits_core.specs.Open.{IsOpenRight}
 use Rattle.ring_seats.specs.declared.views.View.{View}
-use Rattle.ring_seats.specs.Programs.{GoesOn}
+use Rattle.ring_seats.specs.Programs.{GoesOn, ending_event}
 use Rattle.ring_seats.specs.Ring.{RingEnd}
 use Rattle.ring_seats.specs.Rule.{KeepsFlickerRule, Added, event}
-use Rattle.ring_seats.specs.Steppers.{AreAnswered}
+use Rattle.ring_seats.specs.Steppers.{AreAnswered, Grows}
 use Rattle.ring_seats.specs.Words.{agrees, answer_of}
 use Rattle.ring_seats.proofs.Moves.{ends_read, ends_write, opened_by}
-use Rattle.ring_seats.proofs.Answered.{asked_so, quiet_step, read_step}
-use Rattle.ring_seats.proofs.Accesses.{end_at, may_still}
+use Rattle.ring_seats.proofs.Answered.{asked_once, asked_so, quiet_step, read_step}
+use Rattle.ring_seats.proofs.Accesses.{end_at, grows, may_still}
 use Rattle.ring_seats.proofs.steppers.Stepper+Flickering.end.Goals as goal
 
 pub load-found-requires-clause-rule : goal.load-found-requires-clause-rule
@@ -68,3 +68,38 @@ returns-in-Write-clause-answered g c =
     let l = c.store in
     subst (λ (e : RingEnd). AreAnswered e (end_at h.ring h.side l.new.seat.me.0) (g.O.Oracle.answers c.args.oracle.now) (g.O.Oracle.answers c.args.oracle.now)) c.self.view_is
     (quiet_step h.ring h.side c.in-Write.bit WriteEnd c.word_of-new.result h.seat.me.0 l.new.seat.me.0 l.ensures.told.view refl refl (g.O.Oracle.answers c.args.oracle.now))
+
+pub invariant_of-self : goal.invariant_of-self
+invariant_of-self g c =
+    let h = c.self.inside in
+    let l = c.load-found in
+    let view = l.ensures.told.view in
+    let a = ReadEnd (answer_of h.seat.me.0.first l.result (g.O.Oracle.answers c.args.oracle.now 0)) in
+    let v1 = l.new.seat.me.0 in (
+      l.ensures.same.0 ∙ c.self.invariant.0,
+      l.ensures.told.carried ∙ c.self.invariant.1,
+      may_still h.side c.in-Read.bit a l.result h.seat.me.0 v1 view h.side true c.self.invariant.2,
+      may_still h.side c.in-Read.bit a l.result h.seat.me.0 v1 view (other h.side) false c.self.invariant.3,
+      (ap (λ (u : View). u.first) view ∙ c.self.invariant.4.0, sym (opened_by c.laws_below.ensures h.side c.in-Read.bit a l.result h.seat.me.0 v1 view)),
+    )
+
+pub returns-in-Read-clause-grows : goal.returns-in-Read-clause-grows
+returns-in-Read-clause-grows g c =
+    let h = c.self.inside in
+    let l = c.load-found in
+    let said = g.O.Oracle.answers c.args.oracle.now 0 in
+    let v = answer_of h.seat.me.0.first l.result said in
+    let is : v ≡ c.answer.result = ap (λ (n : ℕ). answer_of n l.result said) c.self.invariant.4.0 ∙ sym c.answer.ensures.answer in
+    subst (λ (z : RingEnd × (Access × Bool)). Grows z.0 (end_at h.ring h.side l.new.seat.me.0) (ending_event z.0.side z.1.0 z.1.1)) (λ i. (c.self.view_is i, (sym c.in-Read.is i, is i)))
+    (grows h.ring h.side (event h.side c.in-Read.bit (ReadEnd v)) l.result h.seat.me.0 l.new.seat.me.0 l.ensures.told.view l.ensures.told.stands)
+
+pub returns-in-Read-clause-oracle : goal.returns-in-Read-clause-oracle
+returns-in-Read-clause-oracle g c =
+    asked_once g.O.Oracle.answers c.args.oracle.now c.answer.new.oracle (agrees c.self.inside.kept.first c.load-found.result) c.answer.ensures.agree c.answer.ensures.asks
+
+pub returns-in-Write-clause-grows : goal.returns-in-Write-clause-grows
+returns-in-Write-clause-grows g c =
+    let h = c.self.inside in
+    let l = c.store in
+    subst (λ (z : RingEnd × Access). Grows z.0 (end_at h.ring h.side l.new.seat.me.0) (ending_event z.0.side z.1 c.in-Write.value)) (λ i. (c.self.view_is i, sym c.in-Write.is i))
+    (grows h.ring h.side (event h.side c.in-Write.bit WriteEnd) c.word_of-new.result h.seat.me.0 l.new.seat.me.0 l.ensures.told.view l.ensures.told.stands)

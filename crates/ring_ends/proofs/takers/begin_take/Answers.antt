@@ -1,0 +1,22 @@
+use Rattle.std.proofs.Common.{rules, ◌≡◌, ◌⊎◌, inl, inr, Bool, true, false, None, ap, sym, ◌∙◌, refl}
+use Rattle.ring_core.specs.ConsumerState.{ConsumerState, due_take, is_taking}
+use Rattle.ring_ends.proofs.takers.begin_take.Goals as goal
+
+-- a take that was told of the close is refused, and else it begins
+split : {A B : Type 0} (told : Bool) → (told ≡ false → A) → (told ≡ true → B) → A ⊎ B
+split false a b = inl (a refl)
+split true a b = inr (b refl)
+
+pub returns-then-is_none : goal.returns-then-is_none
+returns-then-is_none c = record {
+  begins = λ calls made at.
+      let m = c.args.machine.now in
+      let over : c.next.result ≡ None = search rules in
+      let rests = (c.next.ensures.rest calls made at over).0 in
+      let none : due_take m ≡ None = sym c.next.ensures.due ∙ over in (
+        c.take.ensures.shape,
+        c.take.ensures.stands calls made at,
+        split m.told (λ new. (c.take.ensures.begun new, inr (none, rests)))
+            (λ told. let e = c.take.ensures.refused told in (ap is_taking e ∙ rests, rests, none, (sym at.told_is ∙ told, ap (λ (x : ConsumerState). x.reply) e))),
+      );
+}
