@@ -8,7 +8,7 @@ use ring_core::distance;
 use ring_player::Told;
 
 // How far the call under way has come.
-#[derive(Clone, Copy, PartialEq, Eq, Debug)]
+#[derive(Clone, Copy)]
 enum Stage {
     Between,
     // so many bits of the consumer's count answered 0

@@ -50,7 +50,7 @@ fn highest_set(bits: &[bool; 256], below: u8) -> Option<u8>
 }
 
 /// In which order a count write makes its writes.
-#[derive(Clone, Copy, PartialEq, Eq, Debug)]
+#[derive(Clone, Copy)]
 pub enum Order {
     /// It sets its bit, and clears those below from the highest down, as a ring does.
     Downwards,

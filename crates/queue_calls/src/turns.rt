@@ -1,7 +1,7 @@
 //! What an auditor keeps of the calls under way.
 
 // What the producer is in.
-#[derive(Clone, Copy, PartialEq, Eq, Debug)]
+#[derive(Clone, Copy)]
 pub enum PutTurn {
     // no call
     Free,
@@ -14,7 +14,7 @@ pub enum PutTurn {
 }
 
 // What the consumer is in.
-#[derive(Clone, Copy, PartialEq, Eq, Debug)]
+#[derive(Clone, Copy)]
 pub enum TakeTurn {
     // no call
     Rests,

@@ -20,7 +20,7 @@ use ring_core::{distance, has_room};
 use std::marker::Model;
 
 /// What an event of the producer came to.
-#[derive(Clone, Copy, PartialEq, Eq, Debug)]
+#[derive(Clone, Copy)]
 pub enum PutStep {
     /// It is not the next one of any puts.
     Stops,
@@ -33,7 +33,7 @@ pub enum PutStep {
 }
 
 /// How far the put under way has come.
-#[derive(Clone, Copy, PartialEq, Eq, Debug)]
+#[derive(Clone, Copy)]
 enum Stage {
     Resting,
     Scanning,

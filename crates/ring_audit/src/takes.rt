@@ -17,7 +17,7 @@ use ring_core::{Consumer, TakeReply};
 use std::marker::Model;
 
 /// What an event of the consumer came to.
-#[derive(Clone, Copy, PartialEq, Eq, Debug)]
+#[derive(Clone, Copy)]
 pub enum TakeStep {
     /// It is not the next one of any takes.
     Stops,

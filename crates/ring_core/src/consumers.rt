@@ -25,7 +25,7 @@ pub enum TakeReply {
 }
 
 /// How far the take under way has come.
-#[derive(Clone, Copy, PartialEq, Eq, Debug)]
+#[derive(Clone, Copy, Debug)]
 enum Stage {
     Idle,
     Scanning,

@@ -69,7 +69,7 @@ fn keep(kept: &mut [u64; 64], items: &[u64])
 }
 
 /// How far the call under way has come.
-#[derive(Clone, Copy, PartialEq, Eq, Debug)]
+#[derive(Clone, Copy, Debug)]
 enum Stage {
     Idle,
     Scanning,

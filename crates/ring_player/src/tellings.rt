@@ -44,7 +44,7 @@ pub enum Told {
 }
 
 // Where the producer is in its calls: between two, in a put, in the close, behind it.
-#[derive(Clone, Copy, PartialEq, Eq, Debug)]
+#[derive(Clone, Copy)]
 pub enum PutStage {
     Between,
     Putting,
@@ -53,7 +53,7 @@ pub enum PutStage {
 }
 
 // Where the consumer is: between two calls, in a take, behind one that was told that the ring is closed.
-#[derive(Clone, Copy, PartialEq, Eq, Debug)]
+#[derive(Clone, Copy)]
 pub enum TakeStage {
     Between,
     Taking,
@@ -61,7 +61,7 @@ pub enum TakeStage {
 }
 
 // What was counted of the puts that are over: the items that they stored, and how many found the ring full.
-#[derive(Clone, Copy, PartialEq, Eq, Debug)]
+#[derive(Clone, Copy)]
 struct PutCount {
     stored: usize,
     full: u64,
@@ -134,7 +134,7 @@ fn take_says(
 }
 
 // Where both sides are.
-#[derive(Clone, Copy, PartialEq, Eq, Debug)]
+#[derive(Clone, Copy)]
 struct Stages {
     put: PutStage,
     take: TakeStage,

@@ -3,10 +3,10 @@ use Rattle.std.proofs.Common.{◌≡◌, ◌∙◌, ap₂, false, ◌||◌}
 use Rattle.std.specs.Result.{IfOk}
 use Rattle.std.specs.declared.result.Result.{Result}
 use Rattle.std.specs.declared.result.Result.TheVariants.{Ok, Err}
-use Rattle.clap.specs.Words.{AddsArg, App, Rule, rule_of, with_rule}
+use Rattle.clap.specs.Words.{AddsArg, Rule, rule_of, with_rule}
 use Rattle.clap.specs.declared.builder.arg.Arg.{Arg}
 use Rattle.clap.specs.declared.builder.command.Command.{Command}
-use Rattle.ring_program.specs.CommandLine.{HasOption, IsCommand}
+use Rattle.ring_program.specs.CommandLine.{HasOption}
 
 -- what holds of each value that has P holds where there is one
 pub if_ok : {T E : Type 0} {P Q : T → Type 0} (r : Result T E) → ((x : T) → P x → Q x) → IfOk r P → IfOk r Q

@@ -10,7 +10,7 @@ use std::io;
 use std::io::Write;
 
 /// How a command that answered ends.
-#[derive(Clone, Copy, Debug, PartialEq, Eq)]
+#[derive(Clone, Copy)]
 pub enum Ending {
     /// The work was done: a script was played, a history is lawful, or a relay's taker was told that the ring is closed.
     Done,

@@ -133,7 +133,7 @@ Exit status:
   3  the audit found a fault";
 
 /// What the words ask of an input.
-#[derive(Clone, Copy, Debug, PartialEq, Eq)]
+#[derive(Clone, Copy)]
 pub enum Question {
     /// `audit`
     Audit,
@@ -156,7 +156,7 @@ pub enum Question {
 }
 
 /// What the words ask for.
-#[derive(Clone, Copy, Debug, PartialEq, Eq)]
+#[derive(Clone, Copy)]
 pub enum Request {
     /// To read an input, and to answer of it.
     OnInput(Question),

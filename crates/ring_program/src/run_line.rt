@@ -62,7 +62,7 @@ Exit status:
   2  the command line is wrong";
 
 /// Which ring a run goes through.
-#[derive(Clone, Copy, Debug, PartialEq, Eq)]
+#[derive(Clone, Copy)]
 pub enum RingKind {
     /// A word for each bit, which flickers while it is written.
     Flicker,
@@ -71,7 +71,7 @@ pub enum RingKind {
 }
 
 /// What the text of a run tells.
-#[derive(Clone, Copy, Debug, PartialEq, Eq)]
+#[derive(Clone, Copy)]
 pub enum RunText {
     /// How many items were put and taken, and whether the taker was told that the ring is closed.
     Totals,
@@ -82,7 +82,7 @@ pub enum RunText {
 }
 
 /// What `run` is asked for.
-#[derive(Clone, Copy, Debug, PartialEq, Eq)]
+#[derive(Clone, Copy)]
 pub struct Run {
     pub ring: RingKind,
     /// The numbers of the ring's shape.

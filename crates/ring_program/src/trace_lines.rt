@@ -7,14 +7,14 @@ use thiserror::Error;
 const SHOWN_LIMIT: usize = 80;
 
 /// A line of a text without its line feed, and whether it has one.
-#[derive(Clone, Copy, Debug)]
+#[derive(Clone, Copy)]
 pub struct Line<'a> {
     pub text: &'a [u8],
     pub has_feed: bool,
 }
 
 /// What is wrong with a line of a trace.
-#[derive(Clone, Copy, PartialEq, Eq, Debug, Error)]
+#[derive(Clone, Copy, Debug, Error)]
 pub enum LineFault {
     #[error("begins with a byte order mark")]
     ByteOrderMark,
@@ -40,7 +40,7 @@ pub enum LineFault {
 
 /// A line as it is shown: between quotes, each byte that is no printable ASCII escaped, and cut behind
 /// `SHOWN_LIMIT` characters, with two dots where it was cut.
-#[derive(Clone, Copy, Debug)]
+#[derive(Clone, Copy)]
 pub struct Shown<'a> {
     pub line: &'a [u8],
 }
