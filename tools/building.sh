@@ -51,7 +51,8 @@ how_far() {
     awk -v count="$2" '
         { run = ""; if (sub(/^@/, "")) { run = $1; sub(/^[^ ]* /, "") } }
         /^rt: chose --jobs/ { if (!(run in crate)) order[++runs] = run; crate[run] = $NF; now[run] = ""; proved[run] = 0; at++ }
-        # (one process alone tells none before its end)
+        /^checked .*, [0-9]+ of [0-9]+$/ { now[run] = " " $(NF - 2) "/" $NF }
+        # (one process of rt tells none before its end)
         /^so far: / { now[run] = $3 > 0 ? " " $3 "/" $5 : "" }
         /^logic=proved/ || /^built$/ { proved[run] = 1 }
         END {

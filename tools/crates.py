@@ -1,0 +1,76 @@
+"""For the scripts in Python: which crates stand on which, what each is proved from, and the words by which the kit's rattle checks or
+builds one over the libraries of those below it (`rattle build --help`)."""
+import functools
+import hashlib
+import os
+import re
+import subprocess
+import sys
+
+TOP = os.path.dirname(os.path.dirname(os.path.abspath(__file__)))
+PARTS = ("src", "specs", "proofs")
+
+
+@functools.lru_cache(maxsize=None)
+def listed():
+    """Returns of each crate of crates.txt whether it is a static library, and what it stands on, of the kit too."""
+    found = {}
+    with open(f"{TOP}/crates.txt", encoding="utf-8") as file:
+        for line in file:
+            said = re.match(r"([a-z]\w*)([^:]*):(.*)", line)
+            if said:
+                found[said[1]] = "staticlib" in said[2].split(), said[3].split()
+    return found
+
+
+def uses(crate):
+    """Returns the crates of the repository that the crate names."""
+    return [it for it in listed()[crate][1] if it in listed()]
+
+
+def below(crate):
+    """Returns the crates that it stands on, each after those that it stands on itself."""
+    found = []
+    for use in uses(crate):
+        found += [it for it in [*below(use), use] if it not in found]
+    return found
+
+
+@functools.lru_cache(maxsize=None)
+def kit():
+    """Returns the folder of the kit."""
+    try:
+        said = subprocess.run(["rt", "doc"], stdout=subprocess.PIPE, stdin=subprocess.DEVNULL, text=True, check=True)
+    except (OSError, subprocess.CalledProcessError):
+        sys.exit("the command rt of the Rattle kit is not on the PATH")
+    return os.path.dirname(said.stdout.strip())
+
+
+def words(crate, libraries, is_checked=False):
+    """Returns what rattle is told of the crate, to be run in its folder. Those below it are read from libraries/NAME.rlib. Where the
+    crate is checked already, the logic is not loaded."""
+    is_static, names = listed()[crate]
+    is_program = os.path.exists(f"{TOP}/crates/{crate}/src/main.rt")
+    found = ["--crate-name", crate, f"src/{'main' if is_program else 'lib'}.rt"]
+    for name in ["std", *names]:
+        found += ["--extern", f"{name}={libraries if name in listed() else f'{kit()}/rlibs'}/{name}.rlib"]
+    found += ["-L", f"dependency={kit()}/rlibs", "-L", f"dependency={libraries}", "--links", f"{crate}="]
+    found += ["--antt-project", f"{kit()}/rattle/logic/antt-project.json"]
+    found += [] if is_checked else ["--logic-built", f"{kit()}/logic_built"]
+    return found + ["--crate-type", "staticlib"] * is_static
+
+
+def sum_of(crate):
+    """Returns a checksum of what the crate's proof is of: its files and those of the crates below it, and the kit."""
+    found = hashlib.sha256()
+    with open(f"{kit()}/KIT-ID", "rb") as file:
+        found.update(file.read())
+    for name in [*below(crate), crate]:
+        found.update(repr((name, listed()[name])).encode())
+        for part in PARTS:
+            for at, folders, files in os.walk(f"{TOP}/crates/{name}/{part}"):
+                folders.sort()
+                for each in sorted(files):
+                    with open(f"{at}/{each}", "rb") as file:
+                        found.update(repr((os.path.relpath(f"{at}/{each}", TOP), file.read())).encode())
+    return found.hexdigest()
