@@ -51,22 +51,27 @@ trap 'exit 143' TERM
 trap 'exit 130' INT
 trap 'exit 129' HUP
 
-# The program is built before it is tried.
-parts="examples launcher trust docs"
-if ./lamport_ring --version; then
-    for part in $parts; do
-        "tests/$part" >"$room/$part" &
-        trying="$trying $!"
-    done
-    # shellcheck disable=SC2086
-    wait $trying
-    trying=
-    for part in $parts; do
-        count "$room/$part"
-    done
+# These need no program.
+for part in launcher trust docs; do
+    "tests/$part" >"$room/$part" &
+    trying="$trying $!"
+done
+./lamport_ring --version &
+trying="$trying $!"
+if wait $!; then
+    tests/examples >"$room/examples" &
+    trying="$trying $!"
+    wait $!
+    count "$room/examples"
 else
     failed=1
 fi
+# shellcheck disable=SC2086
+wait $trying
+trying=
+for part in launcher trust docs; do
+    count "$room/$part"
+done
 say "the tests with no proof"
 wait "$testing"
 count "$room/unproved"
