@@ -258,21 +258,3 @@ const CLOSED: [Play<'static>; 5] = [
 fn plays_that_close_have_their_lists(rt: HostRuntime) -> Result<(), Fail> {
     expect_plays(&rt, &CLOSED)
 }
-
-// A full ring, which the producer finds full again and again.
-const LONG: Play<'static> = Play {
-    shape: SMALL,
-    items: "1,1",
-    takes: 0,
-    close: false,
-    schedule: "P1000000",
-    oracle: "",
-    put: &[1],
-    taken: &[],
-    told: false,
-};
-
-#[test]
-fn the_play_of_a_million_letters_is_lawful(rt: HostRuntime) -> Result<(), Fail> {
-    expect_play(&rt, &LONG)
-}

@@ -151,30 +151,6 @@ fn batches_give_their_reports(rt: HostRuntime) -> Result<(), Fail> {
     expect_reports(&rt, &BATCHES)
 }
 
-const A_MILLION_FULL: [Case<'static>; 1] = [(
-    "a million letters of a full ring",
-    ONE,
-    ("[1,1]", 0, false, "P1000000", ""),
-    (1_000_000, &[1], &[], false, [499_996, 0, 0]),
-)];
-
-#[test]
-fn a_full_ring_is_played_for_a_million_letters(rt: HostRuntime) -> Result<(), Fail> {
-    expect_reports(&rt, &A_MILLION_FULL)
-}
-
-const A_MILLION_IDLE: [Case<'static>; 1] = [(
-    "a million idle letters",
-    ONE,
-    ("[]", 0, false, "P1000000", ""),
-    (0, &[], &[], false, [0, 0, 0]),
-)];
-
-#[test]
-fn a_million_idle_letters_add_nothing(rt: HostRuntime) -> Result<(), Fail> {
-    expect_reports(&rt, &A_MILLION_IDLE)
-}
-
 // A call of a side begins with the read of the first bit of the other side's count.
 fn begins_call(event: &Event) -> bool {
     event.act == Act::ReadBegin && (event.bit == Bit::R(0) || event.bit == Bit::S(0))

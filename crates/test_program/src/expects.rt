@@ -3,12 +3,10 @@ use bits_core::{Kind, Verdict};
 use ring_audit::Finding;
 use ring_player::Report;
 use ring_program::{
-    AppFault, Refusal, audit_text, execute, load, relay_report, relay_text, report_text,
-    verdict_text,
+    AppFault, Refusal, audit_text, execute, relay_report, relay_text, report_text, verdict_text,
 };
 use ring_run::Outcome;
 use std::alloc::{AllocGlobal, Global};
-use std::io;
 use std::io::Read;
 use std::process::Abort;
 use std::test::Fail;
@@ -299,17 +297,6 @@ pub fn expect_words(
         );
     }
     Ok(())
-}
-
-/// So many bytes are an input of this length, or too many.
-pub fn expect_load(rt: &(impl Abort + AllocGlobal), count: u64, length: Option<usize>) {
-    match load(rt.alloc(), &mut io::repeat(0).take(count)) {
-        Ok(bytes) => assert_eq!(rt; Some(bytes.len()), length),
-        Err(fault) => {
-            assert_eq!(rt; fault, AppFault::TooLarge);
-            assert_eq!(rt; length, None);
-        }
-    }
 }
 
 // A verdict has this text.

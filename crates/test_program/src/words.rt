@@ -1,10 +1,9 @@
 use crate::expects::{
-    BITS, LONG, expect_faults, expect_load, expect_run_on, expect_statuses, expect_texts,
-    expect_verdicts, expect_words,
+    BITS, LONG, expect_faults, expect_run_on, expect_statuses, expect_texts, expect_verdicts,
+    expect_words,
 };
 use bits_core::Kind;
-use ring_program::{AppFault, INPUT_LIMIT};
-use std::io;
+use ring_program::AppFault;
 use std::test::Fail;
 
 const INVERSION: &str =
@@ -218,15 +217,6 @@ fn tells_its_version(rt: HostRuntime) {
         "lamport_ring 0.1.0\n",
         "",
     );
-}
-
-#[test]
-fn bounds_the_input(rt: HostRuntime) {
-    expect_load(&rt, 33_554_432, Some(INPUT_LIMIT));
-    expect_load(&rt, 33_554_433, None);
-    expect_load(&rt, u64::MAX, None);
-    let err = "refused: input is too large\n";
-    expect_run_on(&rt, BITS, &mut io::repeat(0), 1, "", err);
 }
 
 const TEXTS: [(usize, Kind, &str); 5] = [
