@@ -51,26 +51,28 @@ trap 'exit 143' TERM
 trap 'exit 130' INT
 trap 'exit 129' HUP
 
+# try PART..: tries the parts beside what follows.
+try() {
+    for part in "$@"; do
+        "tests/$part" >"$room/$part" &
+        trying="$trying $!"
+    done
+}
+
 # These need no program.
-for part in launcher trust docs; do
-    "tests/$part" >"$room/$part" &
-    trying="$trying $!"
-done
+try launcher trust
 ./lamport_ring --version &
 trying="$trying $!"
 if wait $!; then
-    tests/examples >"$room/examples" &
-    trying="$trying $!"
-    wait $!
-    count "$room/examples"
+    try examples docs
 else
     failed=1
 fi
 # shellcheck disable=SC2086
 wait $trying
 trying=
-for part in launcher trust docs; do
-    count "$room/$part"
+for part in launcher trust examples docs; do
+    [ ! -e "$room/$part" ] || count "$room/$part"
 done
 say "the tests with no proof"
 wait "$testing"
