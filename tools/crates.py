@@ -46,18 +46,24 @@ def kit():
     return os.path.dirname(said.stdout.strip())
 
 
+def kind(crate):
+    """Returns whether the crate is a `program`, a `staticlib` or a `library`."""
+    if os.path.exists(f"{TOP}/crates/{crate}/src/main.rt"):
+        return "program"
+    return "staticlib" if listed()[crate][0] else "library"
+
+
 def words(crate, libraries, is_checked=False):
     """Returns what rattle is told of the crate, to be run in its folder. Those below it are read from libraries/NAME.rlib. Where the
     crate is checked already, the logic is not loaded."""
-    is_static, names = listed()[crate]
-    is_program = os.path.exists(f"{TOP}/crates/{crate}/src/main.rt")
-    found = ["--crate-name", crate, f"src/{'main' if is_program else 'lib'}.rt"]
+    names = listed()[crate][1]
+    found = ["--crate-name", crate, f"src/{'main' if kind(crate) == 'program' else 'lib'}.rt"]
     for name in ["std", *names]:
         found += ["--extern", f"{name}={libraries if name in listed() else f'{kit()}/rlibs'}/{name}.rlib"]
     found += ["-L", f"dependency={kit()}/rlibs", "-L", f"dependency={libraries}", "--links", f"{crate}="]
     found += ["--antt-project", f"{kit()}/rattle/logic/antt-project.json"]
     found += [] if is_checked else ["--logic-built", f"{kit()}/logic_built"]
-    return found + ["--crate-type", "staticlib"] * is_static
+    return found + ["--crate-type", "staticlib"] * (kind(crate) == "staticlib")
 
 
 def sum_of(crate):

@@ -83,8 +83,14 @@ pub enum Cause {
 fn since<W: fmt::Write>(f: &mut fmt::Formatter<W>, says: &str, item: u64, line: u64) -> fmt::Result
     ensures writes { WritesOnOk W.write_str_gives f.old result (says.now ++ (codes ", but item " ++ (decimal item ++ (codes " was inside since line " ++ decimal line)))) f.new }
 {
-    f.write_str(says)?;
-    write!(f, ", but item {item} was inside since line {line}")
+    write!(f, "{says}, but item {item} was inside since line {line}")
+}
+
+// The words of a call that says so after a close that this line ended.
+fn closed_at<W: fmt::Write>(f: &mut fmt::Formatter<W>, says: &str, line: u64) -> fmt::Result
+    ensures writes { WritesOnOk W.write_str_gives f.old result (says.now ++ (codes ", but closed at line " ++ decimal line)) f.new }
+{
+    write!(f, "{says}, but closed at line {line}")
 }
 
 impl fmt::Display for Cause {
@@ -96,14 +102,14 @@ impl fmt::Display for Cause {
     /// The words of the cause.
     fn fmt<W: fmt::Write>(&self, f: &mut fmt::Formatter<W>) -> fmt::Result {
         match *self {
-            Cause::StoredAfterClose(n) => write!(f, "stored, but closed at line {n}"),
+            Cause::StoredAfterClose(n) => closed_at(f, "stored", n),
             Cause::OnlySomeStored { count, item } => write!(
                 f,
                 "only {count} stored, but item {item} was taken"
             ),
             Cause::StoredTooMany(n) => write!(f, "stored, but at least {n} items are inside"),
             Cause::FullWithRoom(n) => write!(f, "full, but at most {n} items were inside"),
-            Cause::FullAfterClose(n) => write!(f, "full, but closed at line {n}"),
+            Cause::FullAfterClose(n) => closed_at(f, "full", n),
             Cause::NotStoredButTaken(n) => write!(f, "not stored, but item {n} was taken"),
             Cause::ClosedWithoutClose => f.write_str("closed, but there was no close"),
             Cause::ItemAfterTold => f.write_str("item, but closed was told"),
@@ -124,10 +130,10 @@ impl fmt::Display for Cause {
             Cause::NotTaken(n) => write!(f, "not taken, but {n} items are inside"),
             Cause::EmptyAfterTold => f.write_str("empty, but closed was told"),
             Cause::EmptyWhileInside { item, stored_at } => since(f, "empty", item, stored_at),
-            Cause::EmptyAfterClose(n) => write!(f, "empty, but closed at line {n}"),
+            Cause::EmptyAfterClose(n) => closed_at(f, "empty", n),
             Cause::ShortAfterTold => f.write_str("short, but closed was told"),
             Cause::ShortWhileInside { item, stored_at } => since(f, "short", item, stored_at),
-            Cause::ShortAfterClose(n) => write!(f, "short, but closed at line {n}"),
+            Cause::ShortAfterClose(n) => closed_at(f, "short", n),
             Cause::ClosedBeforeClose => f.write_str("closed, but no close has begun"),
             Cause::ClosedWhileInside { item, stored_at } => since(f, "closed", item, stored_at),
         }
