@@ -2,12 +2,40 @@ use Rattle.bits_core.specs.declared.audits.Kind.TheVariants.{WrongSide, OutOfTur
 use Rattle.ring_program.proofs.WhyLemmas.{fault_of_kind, map_ok, not_following, why_there}
 use Rattle.ring_program.proofs.why.push_why.Goals as goal
 
+pub push_fault-requires-clause-lawful : goal.push_fault-requires-clause-lawful
+push_fault-requires-clause-lawful g c =
+    let shape = c.args.shape.now in
+    let h = c.args.events.now in
+    let first = fault_of_kind shape h c.args.verdict c.in-Fault.place c.in-Fault.kind WrongSide c.in-Fault.is c.in-WrongSide.is c.requires.there in
+    (c.fault_breaks.ensures shape h c.in-Fault.place WrongSide first).0
+
+pub push_fault-requires-clause-faulty : goal.push_fault-requires-clause-faulty
+push_fault-requires-clause-faulty g c =
+    let shape = c.args.shape.now in
+    let h = c.args.events.now in
+    let first = fault_of_kind shape h c.args.verdict c.in-Fault.place c.in-Fault.kind WrongSide c.in-Fault.is c.in-WrongSide.is c.requires.there in
+    not_following c.fault_breaks.ensures c.lawful_by_one_more.ensures shape h c.in-Fault.place WrongSide _ first
+
+pub push_fault-requires-in-OutOfTurn-clause-lawful : goal.push_fault-requires-in-OutOfTurn-clause-lawful
+push_fault-requires-in-OutOfTurn-clause-lawful g c =
+    let shape = c.args.shape.now in
+    let h = c.args.events.now in
+    let first = fault_of_kind shape h c.args.verdict c.in-Fault.place c.in-Fault.kind OutOfTurn c.in-Fault.is c.in-OutOfTurn.is c.requires.there in
+    (c.fault_breaks.ensures shape h c.in-Fault.place OutOfTurn first).0
+
 pub push_fault-requires-in-OutOfTurn-clause-faulty : goal.push_fault-requires-in-OutOfTurn-clause-faulty
 push_fault-requires-in-OutOfTurn-clause-faulty g c =
     let shape = c.args.shape.now in
     let h = c.args.events.now in
     let first = fault_of_kind shape h c.args.verdict c.in-Fault.place c.in-Fault.kind OutOfTurn c.in-Fault.is c.in-OutOfTurn.is c.requires.there in
     not_following c.fault_breaks.ensures c.lawful_by_one_more.ensures shape h c.in-Fault.place OutOfTurn _ first
+
+pub push_fault-requires-in-NotPermitted-clause-lawful : goal.push_fault-requires-in-NotPermitted-clause-lawful
+push_fault-requires-in-NotPermitted-clause-lawful g c =
+    let shape = c.args.shape.now in
+    let h = c.args.events.now in
+    let first = fault_of_kind shape h c.args.verdict c.in-Fault.place c.in-Fault.kind NotPermitted c.in-Fault.is c.in-NotPermitted.is c.requires.there in
+    (c.fault_breaks.ensures shape h c.in-Fault.place NotPermitted first).0
 
 pub push_fault-requires-in-NotPermitted-clause-faulty : goal.push_fault-requires-in-NotPermitted-clause-faulty
 push_fault-requires-in-NotPermitted-clause-faulty g c =
@@ -39,3 +67,15 @@ returns-in-NotPermitted-clause-told g c =
     map_ok c.push_fault-in-NotPermitted.result
     (λ t. (t.0, t.1, why_there c.args.shape.now c.args.events.now c.args.verdict c.in-Fault.place c.in-Fault.kind NotPermitted _ t.0 c.in-Fault.is c.in-NotPermitted.is c.requires.there t.2))
     c.push_fault-in-NotPermitted.ensures.told
+
+pub returns-in-NotProgram-clause-err : goal.returns-in-NotProgram-clause-err
+returns-in-NotProgram-clause-err g c = c.push_instead.ensures.err
+
+pub returns-in-WrongSide-clause-err : goal.returns-in-WrongSide-clause-err
+returns-in-WrongSide-clause-err g c = c.push_fault.ensures.err
+
+pub returns-in-OutOfTurn-clause-err : goal.returns-in-OutOfTurn-clause-err
+returns-in-OutOfTurn-clause-err g c = c.push_fault-in-OutOfTurn.ensures.err
+
+pub returns-in-NotPermitted-clause-err : goal.returns-in-NotPermitted-clause-err
+returns-in-NotPermitted-clause-err g c = c.push_fault-in-NotPermitted.ensures.err
