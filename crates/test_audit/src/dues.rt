@@ -35,7 +35,7 @@ fn expect_dues(rt: &(impl Abort + AllocGlobal), cases: &[Case]) -> Result<(), Fa
     Ok(())
 }
 
-const DUE: [Case<'static>; 8] = [
+static DUE: [Case<'static>; 8] = [
     // between calls: the scan's first read, or the close
     (
         "shape 1 3 1\n",

@@ -24,7 +24,7 @@ const PLAIN_PATH: &str =
 const COUNT_WRITE_OPEN: &str =
     "shape 1 3 1\nP read r0\nP got r0 1\nP write c0.0 1\nP wrote c0.0\nP write s1 1\nP wrote s1\nP write s0 0\nC read s0\nC got s0 0\nC read s1\nC got s1 1\nC read c0.0\nC got c0.0 1\nC write r1 1\nC wrote r1\nC write r0 0\nC wrote r0\nC read s0\nC got s0 1\nC read x\nC got x 0\n";
 
-const ITEMS: [Case<'static>; 2] = [
+static ITEMS: [Case<'static>; 2] = [
     (PLAIN_PATH, Expected::Lawful(&[1], &[1], false)),
     (COUNT_WRITE_OPEN, Expected::Lawful(&[1], &[1], false)),
 ];
@@ -34,7 +34,7 @@ fn the_lists_are_those_of_the_calls(rt: HostRuntime) -> Result<(), Fail> {
     expect_findings(&rt, &ITEMS)
 }
 
-const NO_PROGRAM: [Case<'static>; 6] = [
+static NO_PROGRAM: [Case<'static>; 6] = [
     // two reads of s0 under a write of it that no put makes
     (
         "shape 1 3 1\nP write s0 0\nC read s0\nC got s0 1\nC read s0\nC got s0 0\nP wrote s0\nC read s0\nC got s0 0\n",
@@ -72,7 +72,7 @@ fn an_event_that_no_call_makes_is_not_of_the_program(rt: HostRuntime) -> Result<
     expect_findings(&rt, &NO_PROGRAM)
 }
 
-const CLOSES: [Case<'static>; 5] = [
+static CLOSES: [Case<'static>; 5] = [
     (
         "shape 1 3 1\nP write x 1\nP wrote x\nP read r0\n",
         Expected::Fault(2, Kind::NotProgram),
@@ -103,7 +103,7 @@ fn nothing_comes_after_a_close_or_after_closed(rt: HostRuntime) -> Result<(), Fa
     expect_findings(&rt, &CLOSES)
 }
 
-const BOTH_FAULTS: [Case<'static>; 4] = [
+static BOTH_FAULTS: [Case<'static>; 4] = [
     // the bits are at fault first
     (
         "shape 1 3 1\nP read r0\nP got r0 0\nP write s1 1\n",
@@ -223,6 +223,16 @@ fn changed<A: Allocator>(
 // The items that are taken where the plain path, changed at a place, is lawful; elsewhere it is at fault.
 type Lawful<'a> = (usize, &'a [u64]);
 
+// Whether the place is one of these, and its items were taken.
+fn is_lawful_at<A: Allocator>(place: usize, finding: &Finding<A>, places: &[Lawful]) -> bool {
+    for (at, taken) in places {
+        if *at == place && is_found(finding, Expected::Lawful(&[1], taken, false)) {
+            return true;
+        }
+    }
+    false
+}
+
 fn expect_lawful_places(
     rt: &(impl Abort + AllocGlobal),
     change: Change,
@@ -235,10 +245,7 @@ fn expect_lawful_places(
         let finding = audit(rt.alloc(), &shape, made.as_slice())?;
         if let Finding::Lawful { .. } = finding {
             lawful = lawful.saturating_add(1);
-            assert!(rt;
-                places.iter().any(|(p, taken)| *p == place
-                    && is_found(&finding, Expected::Lawful(&[1], taken, false)))
-            );
+            assert!(rt; is_lawful_at(place, &finding, places));
         }
     }
     assert!(rt; lawful == places.len());

@@ -436,7 +436,7 @@ const TAKES_MORE: Case = Case {
     fault: Some(Fault::OutOfTurn),
 };
 
-const CASES: [Case; 37] = [
+static CASES: [Case; 37] = [
     ALL_ANSWERS,
     EMPTY_OF_FULL,
     EMPTY_OF_ONE,

@@ -40,7 +40,7 @@ pub const REPORT: Report = Report {
 };
 
 // A text that is refused, and at which line.
-pub const REFUSED: [(&[u8], u64); 29] = [
+pub static REFUSED: [(&[u8], u64); 29] = [
     (b"", 1),
     (b"\n", 1),
     (b"queue 8", 1),
@@ -109,8 +109,8 @@ fn pieces_are_cut_anywhere(rt: HostRuntime) -> Result<(), Fail> {
 
 #[test]
 fn other_texts_are_refused_at_their_line(rt: HostRuntime) -> Result<(), Fail> {
-    for (text, line) in REFUSED {
-        let refused = Err(RecordingFault::BadLine(line));
+    for (text, line) in REFUSED.iter() {
+        let refused = Err(RecordingFault::BadLine(*line));
         assert!(rt; found_in_two(rt.alloc(), text, 0) == refused);
         assert!(rt; found_by_bytes(rt.alloc(), text) == refused);
     }

@@ -6,21 +6,28 @@ use queue_calls::{
 use std::process::Abort;
 use std::test::Fail;
 
+// Events, over two slots, and how each is answered: where there is no slot, the auditor is as it was.
+static FED: [(Event<'static>, Result<(), Fault>); 11] = [
+    (Event::PutBegins(&[1, 2, 3]), Err(Fault::OutOfMemory)),
+    (Event::PutBegins(&[1, 2]), Ok(())),
+    (Event::PutStored(2), Ok(())),
+    (Event::PutBegins(&[3]), Err(Fault::OutOfMemory)),
+    (Event::TakeBegins(1), Ok(())),
+    (Event::TakeItems(&[1]), Ok(())),
+    (Event::PutBegins(&[3]), Ok(())),
+    (Event::PutStored(1), Ok(())),
+    (Event::TakeBegins(2), Ok(())),
+    (Event::TakeItems(&[2, 4]), Err(Fault::NotLinearizable)),
+    (Event::TakeItems(&[2, 3]), Ok(())),
+];
+
 #[test]
 fn too_few_slots_leave_the_auditor(rt: HostRuntime) -> Result<(), Fail> {
     let mut slots = [0; 2];
     let mut auditor = CallAuditor::with(Slots::new(&mut slots), exactly(4));
-    assert!(rt; auditor.feed(Event::PutBegins(&[1, 2, 3])) == Err(Fault::OutOfMemory));
-    assert!(rt; auditor.feed(Event::PutBegins(&[1, 2])) == Ok(()));
-    assert!(rt; auditor.feed(Event::PutStored(2)) == Ok(()));
-    assert!(rt; auditor.feed(Event::PutBegins(&[3])) == Err(Fault::OutOfMemory));
-    assert!(rt; auditor.feed(Event::TakeBegins(1)) == Ok(()));
-    assert!(rt; auditor.feed(Event::TakeItems(&[1])) == Ok(()));
-    assert!(rt; auditor.feed(Event::PutBegins(&[3])) == Ok(()));
-    assert!(rt; auditor.feed(Event::PutStored(1)) == Ok(()));
-    assert!(rt; auditor.feed(Event::TakeBegins(2)) == Ok(()));
-    assert!(rt; auditor.feed(Event::TakeItems(&[2, 4])) == Err(Fault::NotLinearizable));
-    assert!(rt; auditor.feed(Event::TakeItems(&[2, 3])) == Ok(()));
+    for (event, answer) in FED.iter() {
+        assert!(rt; auditor.feed(*event) == *answer);
+    }
     Ok(())
 }
 
@@ -30,14 +37,18 @@ fn many_items_go_round_the_slots(rt: HostRuntime) -> Result<(), Fail> {
     let mut auditor = CallAuditor::with(Slots::new(&mut slots), exactly(3));
     for turn in 0..40 {
         let items = [turn, turn + 100, turn + 200];
-        assert!(rt; auditor.feed(Event::PutBegins(&items[..2])) == Ok(()));
-        assert!(rt; auditor.feed(Event::PutStored(2)) == Ok(()));
-        assert!(rt; auditor.feed(Event::TakeBegins(1)) == Ok(()));
-        assert!(rt; auditor.feed(Event::TakeItems(&items[..1])) == Ok(()));
-        assert!(rt; auditor.feed(Event::PutBegins(&items[2..])) == Ok(()));
-        assert!(rt; auditor.feed(Event::PutStored(1)) == Ok(()));
-        assert!(rt; auditor.feed(Event::TakeBegins(2)) == Ok(()));
-        assert!(rt; auditor.feed(Event::TakeItems(&items[1..])) == Ok(()));
+        for event in [
+            Event::PutBegins(&items[..2]),
+            Event::PutStored(2),
+            Event::TakeBegins(1),
+            Event::TakeItems(&items[..1]),
+            Event::PutBegins(&items[2..]),
+            Event::PutStored(1),
+            Event::TakeBegins(2),
+            Event::TakeItems(&items[1..]),
+        ] {
+            assert!(rt; auditor.feed(event) == Ok(()));
+        }
     }
     Ok(())
 }
@@ -117,9 +128,10 @@ fn other_texts_are_refused_in_slots(rt: HostRuntime) -> Result<(), Fail> {
         bytes: 40,
         ..ENOUGH
     };
-    for (text, line) in REFUSED {
-        assert!(rt; found(text, 1, room) == Err(RecordingFault::BadLine(line)));
-        assert!(rt; found(text, 40, room) == Err(RecordingFault::BadLine(line)));
+    for (text, line) in REFUSED.iter() {
+        let refused = Err(RecordingFault::BadLine(*line));
+        assert!(rt; found(text, 1, room) == refused);
+        assert!(rt; found(text, 40, room) == refused);
     }
     Ok(())
 }

@@ -1,8 +1,8 @@
-use crate::play_scripts::{Asked, Numbers, ONE, text_of};
+use crate::play_scripts::{Asked, Numbers, ONE, expect, script_of};
 use bits_core::{Verdict, audit_bits};
 use near_misses::{NearFault, NearMiss, play_near};
 use refusing::Refusing;
-use ring_player::{Script, Told};
+use ring_player::Told;
 use std::alloc::{AllocGlobal, Global};
 use std::process::Abort;
 use std::test::Fail;
@@ -10,7 +10,7 @@ use std::test::Fail;
 // What a near miss is to tell of a script.
 type Near<'a> = (NearMiss, Numbers, Asked<'a>, &'a [Told]);
 
-const CASES: [Near<'static>; 5] = [
+static CASES: [Near<'static>; 5] = [
     // The count write spans the take, which reads the cell before the item is there: 0 for 1.
     (
         NearMiss::CountBeforeCell,
@@ -88,12 +88,16 @@ const CASES: [Near<'static>; 5] = [
 
 fn expect_told(rt: &(impl Abort + AllocGlobal), cases: &[Near]) -> Result<(), Fail> {
     for (miss, shape, asked, wanted) in cases {
-        let text = text_of(rt.alloc(), shape, asked)?;
-        let script = Script::read(rt.alloc(), text.as_bytes())?;
+        let script = script_of(rt.alloc(), rt.alloc(), shape, asked)?;
         let played = play_near(rt.alloc(), *miss, &script)?;
-        assert!(rt; played.told.as_slice() == *wanted, "{miss:?}");
+        expect(
+            rt,
+            played.told.as_slice() == *wanted,
+            "what is told",
+            miss.name(),
+        );
         let verdict = audit_bits(&script.shape(), played.history.as_slice());
-        assert_eq!(rt; verdict, Verdict::Lawful);
+        expect(rt, verdict == Verdict::Lawful, "history", miss.name());
     }
     Ok(())
 }
@@ -124,20 +128,15 @@ const MANY: u64 = 1_000_000;
 // Whether the play was refused, where the allocation after so many is.
 fn is_refused(rt: &(impl Abort + AllocGlobal), allocations: u64) -> Result<bool, Fail> {
     let alloc: Refusing<Global> = Refusing::after(rt.alloc(), MANY);
-    let (miss, shape, asked, wanted) = CASES[2];
-    let text = text_of(rt.alloc(), &shape, &asked)?;
-    let script = Script::read_in(&alloc, rt.alloc(), text.as_bytes())?;
+    let (miss, shape, asked, wanted) = &CASES[2];
+    let script = script_of(&alloc, rt.alloc(), shape, asked)?;
     alloc.refuse_after(allocations);
-    match play_near(&alloc, miss, &script) {
-        Err(fault) => {
-            assert!(rt; fault == NearFault::OutOfMemory && alloc.has_refused());
-            Ok(true)
-        }
-        Ok(played) => {
-            assert!(rt; !alloc.has_refused() && played.told.as_slice() == wanted);
-            Ok(false)
-        }
-    }
+    let (is_right, is_refused) = match play_near(&alloc, *miss, &script) {
+        Err(fault) => (fault == NearFault::OutOfMemory, true),
+        Ok(played) => (played.told.as_slice() == *wanted, false),
+    };
+    assert!(rt; is_right && is_refused == alloc.has_refused());
+    Ok(is_refused)
 }
 
 #[test]

@@ -1,7 +1,8 @@
-use crate::play_scripts::{Asked, ONE, Wanted, expect_report, text_of};
+use crate::play_scripts::{Asked, ONE, Wanted, expect_report, script_of};
 use bits_core::{Event, Side, Store};
 use refusing::Refusing;
-use ring_player::{PlayFault, Script, World, play};
+use ring_player::{PlayFault, World, play};
+use ring_script::Run;
 use std::alloc::{AllocGlobal, Global};
 use std::process::Abort;
 use std::test::Fail;
@@ -57,32 +58,39 @@ fn step_again<E: Store<Event>, T: Store<u64>>(
     }
 }
 
-#[test]
-fn steps_that_were_refused_can_be_made_again(rt: HostRuntime) -> Result<(), Fail> {
-    let alloc = Refusing::after(rt.alloc(), MANY);
-    let text = text_of(rt.alloc(), &ONE, &WRAP)?;
-    let script = Script::read_in(&alloc, rt.alloc(), text.as_bytes())?;
-    let mut world = World::new(&alloc, &script);
+// Makes the steps of the schedule. Answers how many were refused first.
+fn steps_again<E: Store<Event>, T: Store<u64>>(
+    rt: &impl Abort,
+    alloc: &Refusing<Global>,
+    world: &mut World<E, T>,
+    runs: &[Run],
+) -> Result<u64, Fail> {
     let mut refused: u64 = 0;
-    for run in script.runs() {
+    for run in runs {
         for made in 0..run.count {
-            if step_again(&rt, &alloc, &mut world, run.side)? {
+            if step_again(rt, alloc, world, run.side)? {
                 refused = refused.saturating_add(1);
             }
         }
     }
+    Ok(refused)
+}
+
+#[test]
+fn steps_that_were_refused_can_be_made_again(rt: HostRuntime) -> Result<(), Fail> {
+    let alloc = Refusing::after(rt.alloc(), MANY);
+    let script = script_of(&alloc, rt.alloc(), &ONE, &WRAP)?;
+    let mut world = World::new(&alloc, &script);
     // the first growths of the history and of the items taken
-    assert!(rt; 2 <= refused);
-    let report = world.report();
-    expect_report(&rt, "a world refused", &script, &report, &WRAPPED);
+    assert!(rt; 2 <= steps_again(&rt, &alloc, &mut world, script.runs())?);
+    expect_report(&rt, "a world refused", &script, &world.report(), &WRAPPED);
     Ok(())
 }
 
 // Plays the wrap, where the allocation after so many is refused, and answers whether one was.
 fn is_refused(rt: &(impl Abort + AllocGlobal), allocations: u64) -> Result<bool, Fail> {
     let alloc = Refusing::after(rt.alloc(), MANY);
-    let text = text_of(rt.alloc(), &ONE, &WRAP)?;
-    let script = Script::read_in(&alloc, rt.alloc(), text.as_bytes())?;
+    let script = script_of(&alloc, rt.alloc(), &ONE, &WRAP)?;
     alloc.refuse_after(allocations);
     match play(&alloc, &script) {
         Err(fault) => {

@@ -32,6 +32,22 @@ pub fn text_of(alloc: Global, shape: &Numbers, asked: &Asked) -> Result<String, 
     Ok(format!(in alloc; "{{{numbers},{calls},{texts}}}")?)
 }
 
+/// The script, its lists in memory of the allocator.
+pub fn script_of<A: Allocator + Copy>(
+    lists: A,
+    alloc: Global,
+    shape: &Numbers,
+    asked: &Asked,
+) -> Result<Script<A>, Fail> {
+    let text = text_of(alloc, shape, asked)?;
+    Ok(Script::read_in(lists, alloc, text.as_bytes())?)
+}
+
+/// It holds; else what of which case does not. (A message is dear to prove, so this one is for all.)
+pub fn expect(rt: &impl Abort, holds: bool, what: &str, case: &str) {
+    assert!(rt; holds, "{what} of {case}");
+}
+
 /// The report says what is wanted of it, and its history is lawful.
 pub fn expect_report<A: Allocator, E: Store<Event>, T: Store<u64>>(
     rt: &impl Abort,
@@ -40,25 +56,22 @@ pub fn expect_report<A: Allocator, E: Store<Event>, T: Store<u64>>(
     report: &Report<E, T>,
     wanted: &Wanted,
 ) {
-    let (events, put, taken, told, counts) = *wanted;
-    assert_eq!(rt; report.history.as_slice().len(), events, "events of {name}");
-    assert!(rt; report.put == put, "items put of {name}");
-    assert!(rt; report.taken.as_slice() == taken, "items taken of {name}");
-    assert_eq!(rt; report.told, told, "told of {name}");
-    assert_eq!(rt;
+    let found: Wanted = (
+        report.history.as_slice().len(),
+        report.put,
+        report.taken.as_slice(),
+        report.told,
         [report.full, report.empty, report.flicker],
-        counts,
-        "full, empty, flicker of {name}"
     );
+    expect(rt, found == *wanted, "report", name);
     let verdict = audit_bits(&script.shape(), report.history.as_slice());
-    assert_eq!(rt; verdict, Verdict::Lawful, "audit of {name}");
+    expect(rt, verdict == Verdict::Lawful, "history", name);
 }
 
 /// Each script gives its report.
 pub fn expect_reports(rt: &(impl Abort + AllocGlobal), cases: &[Case]) -> Result<(), Fail> {
     for (name, shape, asked, wanted) in cases {
-        let text = text_of(rt.alloc(), shape, asked)?;
-        let script = Script::read(rt.alloc(), text.as_bytes())?;
+        let script = script_of(rt.alloc(), rt.alloc(), shape, asked)?;
         let report = ring_player::play(rt.alloc(), &script)?;
         expect_report(rt, name, &script, &report, wanted);
     }

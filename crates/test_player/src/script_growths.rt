@@ -43,7 +43,7 @@ fn each_growth_of_a_script_may_be_refused(rt: HostRuntime) -> Result<(), Fail> {
     Ok(())
 }
 
-const NO_GROWTH: [(&[u8], ScriptFault); 3] = [
+static NO_GROWTH: [(&[u8], ScriptFault); 3] = [
     (b"{", ScriptFault::NotJson),
     (b"[]", ScriptFault::NotObject),
     (b"{\"note\":1}", ScriptFault::UnknownField),

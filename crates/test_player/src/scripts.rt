@@ -5,7 +5,7 @@ use std::process::Abort;
 use std::test::Fail;
 
 // The fields of a plain script.
-const PLAIN: [(&str, &str); 8] = [
+static PLAIN: [(&str, &str); 8] = [
     ("capacity", "1"),
     ("modulus", "3"),
     ("width", "1"),
@@ -22,10 +22,9 @@ fn script_with(alloc: Global, left_out: &[&str], members: &str) -> Result<String
     let mut text = String::from_str(alloc, "{\"batch\":1")?;
     for (name, value) in PLAIN.iter() {
         if !left_out.iter().any(|other| *other == *name) {
-            text.push_str(",\"")?;
-            text.push_str(name)?;
-            text.push_str("\":")?;
-            text.push_str(value)?;
+            for part in [",\"", name, "\":", value] {
+                text.push_str(part)?;
+            }
         }
     }
     text.push_str(members)?;
@@ -45,11 +44,8 @@ fn expect_with(
     fault: Option<ScriptFault>,
 ) -> Result<(), Fail> {
     let text = script_with(rt.alloc(), &[], members)?;
-    assert_eq!(rt;
-        Script::read(rt.alloc(), text.as_bytes()).err(),
-        fault,
-        "{members}"
-    );
+    let found = Script::read(rt.alloc(), text.as_bytes()).err();
+    assert!(rt; found == fault, "{members}");
     Ok(())
 }
 
@@ -83,16 +79,20 @@ fn expect_lists(rt: &impl Abort, script: &Script<Global>, items: &[u64], oracle:
     assert!(rt; script.oracle() == oracle);
 }
 
+fn expect_letter(rt: &impl Abort, script: &Script<Global>, place: u64, side: Option<Side>) {
+    assert!(rt; script.letter(place) == side, "letter {place}");
+}
+
 // The letters of the schedule are those of a text of P and C, and there are no more.
 fn expect_letters(rt: &impl Abort, script: &Script<Global>, letters: &str) {
     for (place, letter) in letters.as_bytes().iter().enumerate() {
         let side = if *letter == b'P' { Side::P } else { Side::C };
-        assert_eq!(rt; script.letter(place as u64), Some(side), "at {place}");
+        expect_letter(rt, script, place as u64, Some(side));
     }
     let count = letters.len() as u64;
     expect_number(rt, "letters", script.len(), count);
-    assert_eq!(rt; script.letter(count), None);
-    assert_eq!(rt; script.letter(u64::MAX), None);
+    expect_letter(rt, script, count, None);
+    expect_letter(rt, script, u64::MAX, None);
 }
 
 #[test]
@@ -144,7 +144,7 @@ fn reads_a_batch(rt: HostRuntime) -> Result<(), Fail> {
     Ok(())
 }
 
-const ACCEPTED: [&str; 16] = [
+static ACCEPTED: [&str; 16] = [
     "",
     ",\"batch\":1",
     ",\"schedule\":\"P1000000\"",
@@ -171,7 +171,7 @@ fn accepts(rt: HostRuntime) -> Result<(), Fail> {
     Ok(())
 }
 
-const SHAPE_FAULTS: [(&str, ShapeFault); 11] = [
+static SHAPE_FAULTS: [(&str, ShapeFault); 11] = [
     (",\"capacity\":0", ShapeFault::Capacity),
     (",\"capacity\":65", ShapeFault::Capacity),
     (",\"modulus\":2", ShapeFault::Modulus),
@@ -205,7 +205,7 @@ fn refuses_shapes(rt: HostRuntime) -> Result<(), Fail> {
     Ok(())
 }
 
-const WIDE_ITEMS: [(&str, u64); 8] = [
+static WIDE_ITEMS: [(&str, u64); 8] = [
     (",\"items\":[2]", 0),
     (",\"items\":[1,0,2,3]", 2),
     (",\"width\":3,\"items\":[7,8]", 1),
@@ -224,7 +224,7 @@ fn refuses_items_that_do_not_fit(rt: HostRuntime) -> Result<(), Fail> {
     Ok(())
 }
 
-const BAD_SCHEDULES: [(&str, u64); 9] = [
+static BAD_SCHEDULES: [(&str, u64); 9] = [
     (",\"schedule\":\"P0C\"", 1),
     (",\"schedule\":\"3P\"", 0),
     (",\"schedule\":\"0\"", 0),
@@ -244,7 +244,7 @@ fn refuses_bytes_of_a_schedule(rt: HostRuntime) -> Result<(), Fail> {
     Ok(())
 }
 
-const TOO_LONG: [&str; 6] = [
+static TOO_LONG: [&str; 6] = [
     ",\"schedule\":\"P1000001\"",
     ",\"schedule\":\"P999999C2\"",
     ",\"schedule\":\"P1000000C\"",
@@ -261,7 +261,7 @@ fn refuses_long_schedules(rt: HostRuntime) -> Result<(), Fail> {
     Ok(())
 }
 
-const BAD_ORACLES: [(&str, u64); 3] = [
+static BAD_ORACLES: [(&str, u64); 3] = [
     (",\"oracle\":\"01x\"", 2),
     (",\"oracle\":\"2\"", 0),
     (",\"oracle\":\"1 0\"", 1),
@@ -275,7 +275,7 @@ fn refuses_bytes_of_an_oracle(rt: HostRuntime) -> Result<(), Fail> {
     Ok(())
 }
 
-const UNKNOWN: [&str; 5] = [
+static UNKNOWN: [&str; 5] = [
     ",\"note\":0",
     ",\"Capacity\":1",
     ",\"\":1",
@@ -291,7 +291,7 @@ fn refuses_unknown_names(rt: HostRuntime) -> Result<(), Fail> {
     Ok(())
 }
 
-const NEEDED: [(&str, Field); 8] = [
+static NEEDED: [(&str, Field); 8] = [
     ("capacity", Field::Capacity),
     ("modulus", Field::Modulus),
     ("width", Field::Width),
@@ -324,7 +324,7 @@ fn names_the_missing_field(rt: HostRuntime) -> Result<(), Fail> {
     Ok(())
 }
 
-const WRONG_KINDS: [(&str, Field); 19] = [
+static WRONG_KINDS: [(&str, Field); 19] = [
     (",\"capacity\":\"1\"", Field::Capacity),
     (",\"modulus\":true", Field::Modulus),
     (",\"width\":null", Field::Width),
@@ -356,7 +356,7 @@ fn names_the_field_of_the_wrong_kind(rt: HostRuntime) -> Result<(), Fail> {
     expect_with(&rt, first, Some(ScriptFault::WrongKind(Field::Close)))
 }
 
-const OTHER_NUMBERS: [&str; 8] = [
+static OTHER_NUMBERS: [&str; 8] = [
     "-1",
     "-0.5",
     "1.0",
@@ -413,7 +413,7 @@ fn keeps_the_depth(rt: HostRuntime) -> Result<(), Fail> {
     )
 }
 
-const BYTES: [(&[u8], ScriptFault); 14] = [
+static BYTES: [(&[u8], ScriptFault); 14] = [
     (b"", ScriptFault::NotJson),
     (b"{", ScriptFault::NotJson),
     (b"{}{}", ScriptFault::NotJson),
@@ -437,7 +437,7 @@ fn refuses_bytes(rt: HostRuntime) {
     }
 }
 
-const WORDS: [(ScriptFault, u8, &str); 16] = [
+static WORDS: [(ScriptFault, u8, &str); 16] = [
     (ScriptFault::NotJson, 1, "script is not JSON"),
     (ScriptFault::NotObject, 2, "script is not an object"),
     (ScriptFault::UnknownField, 3, "script has an unknown field"),

@@ -1,10 +1,9 @@
 //! One form for all machines, and what tests expect of them.
 ghost use Rattle.std.specs.Prelude.{◌≡◌};
 
-use bits_core::{
-    Access, Event, Memory, MemoryFault, Oracle, Shape, Side, Store, Verdict, audit_bits,
-};
+use bits_core::{Access, Event, Memory, Oracle, Shape, Side, Store, Verdict, audit_bits};
 use register_core::{BitWriter, UnaryScan, UnaryWriter, WordReader, WordWriter};
+use ring_steps::{Step, next_event};
 use std::process::Abort;
 
 /// A machine of one side: the access that is due, and its answer.
@@ -100,53 +99,39 @@ impl Machine for Count {
 }
 
 /// The side's next event: the end of the access that it has open, or the begin of the one that is due.
-/// True where there was one.
+/// True where there was one. That the memory runs out fails the test.
 pub fn step<S: Store<Event>, M: Machine, O: Oracle>(
+    rt: &impl Abort,
     memory: &mut Memory<S>,
     side: Side,
     machine: &mut M,
     oracle: &mut O,
-) -> Result<bool, MemoryFault> {
-    match memory.pending(side) {
-        Some(Access::Read(_)) => {
-            let answer = memory.end_read(side, oracle)?;
+) -> bool {
+    let step = next_event(memory, side, machine.due(), oracle);
+    match step.expect(rt, "memory for the event") {
+        Step::Nothing => false,
+        Step::Begin => true,
+        Step::End(answer) => {
             machine.answered(answer);
-            return Ok(true);
+            true
         }
-        Some(Access::Write(_, _)) => {
-            memory.end_write(side)?;
-            machine.answered(false);
-            return Ok(true);
-        }
-        None => {}
-    }
-    match machine.due() {
-        Some(Access::Read(bit)) if memory.shape().has(bit) && side == bit.reader() => {
-            memory.begin_read(side, bit)?;
-            Ok(true)
-        }
-        Some(Access::Write(bit, value)) if memory.shape().has(bit) && side == bit.writer() => {
-            memory.begin_write(side, bit, value)?;
-            Ok(true)
-        }
-        _ => Ok(false),
     }
 }
 
 /// So many of these steps, or until there is none.
 pub fn steps<S: Store<Event>, M: Machine, O: Oracle>(
+    rt: &impl Abort,
     memory: &mut Memory<S>,
     side: Side,
     machine: &mut M,
     oracle: &mut O,
     most: u64,
-) -> Result<(), MemoryFault> {
+) {
     for _ in 0..most {
-        if !step(memory, side, machine, oracle)? {
+        if !step(rt, memory, side, machine, oracle) {
             break;
         }
     }
-    Ok(())
 }
 
 pub fn expect_lawful<S: Store<Event>>(
@@ -155,19 +140,20 @@ pub fn expect_lawful<S: Store<Event>>(
     events: usize,
     flickers: u64,
 ) {
-    assert_eq!(rt;
-        (memory.events().len(), memory.flickers()),
-        (events, flickers)
-    );
-    assert_eq!(rt;
-        audit_bits(&memory.shape(), memory.events()),
-        Verdict::Lawful
-    );
+    assert!(rt; memory.events().len() == events);
+    assert!(rt; memory.flickers() == flickers);
+    assert!(rt; audit_bits(&memory.shape(), memory.events()) == Verdict::Lawful);
 }
 
 /// The access that is due.
-pub fn expect_due(rt: &impl Abort, machine: &impl Machine, access: Option<Access>) {
-    assert_eq!(rt; machine.due(), access);
+pub fn expect_due(rt: &impl Abort, due: Option<Access>, wanted: Option<Access>) {
+    assert_eq!(rt; due, wanted);
+}
+
+/// The access is due, and is made with this answer.
+pub fn expect_access(rt: &impl Abort, machine: &mut impl Machine, access: Access, answer: bool) {
+    expect_due(rt, machine.due(), Some(access));
+    machine.answered(answer);
 }
 
 /// The value that was read.

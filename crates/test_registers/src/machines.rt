@@ -1,7 +1,6 @@
-ghost use Rattle.std.specs.Prelude.{◌≡◌};
-
+use crate::driving::{Count, Machine, expect_access, expect_due, expect_true, expect_value};
 use bits_core::{Access, Bit, Shape, Side};
-use register_core::{BitWriter, UnaryScan, UnaryWriter, WordReader, WordWriter};
+use register_core::{BitWriter, UnaryScan, WordReader, WordWriter};
 use std::process::Abort;
 use std::test::Fail;
 
@@ -11,30 +10,15 @@ type Part = (u8, bool);
 // A value that is written to a count, and the bit writes that this takes.
 type Write<'a> = (u64, &'a [Part]);
 
-fn expect_due(rt: &impl Abort, found: Option<Access>, wanted: Option<Access>) {
-    assert_eq!(rt; found, wanted);
-}
-
-fn expect_value(rt: &impl Abort, found: Option<u64>, wanted: Option<u64>) {
-    assert_eq!(rt; found, wanted);
-}
-
-fn expect_true(rt: &impl Abort, holds: bool) {
-    assert!(rt; holds);
-}
-
 // An item is written to the cell by writes of these digits, and none after them.
 fn expect_word_written(rt: &impl Abort, shape: &Shape, cell: u8, item: u64, digits: &[bool]) {
     if u64::from(cell) < shape.capacity() && shape.fits(item) {
         let mut writer = WordWriter::new(shape, u64::from(cell), item);
         for (digit, value) in (0..64u8).zip(digits.iter()) {
-            let due = writer.next();
-            expect_due(rt, due, Some(Access::Write(Bit::Cell(cell, digit), *value)));
-            if due.is_some() {
-                writer.feed(false);
-            }
+            let access = Access::Write(Bit::Cell(cell, digit), *value);
+            expect_access(rt, &mut writer, access, false);
         }
-        expect_due(rt, writer.next(), None);
+        expect_due(rt, writer.due(), None);
     } else {
         expect_true(rt, false);
     }
@@ -46,13 +30,10 @@ fn expect_word_read(rt: &impl Abort, shape: &Shape, cell: u8, digits: &[bool], i
         let mut reader = WordReader::new(shape, u64::from(cell));
         for (digit, value) in (0..64u8).zip(digits.iter()) {
             expect_value(rt, reader.value(), None);
-            let due = reader.next();
-            expect_due(rt, due, Some(Access::Read(Bit::Cell(cell, digit))));
-            if due.is_some() {
-                reader.feed(*value);
-            }
+            let access = Access::Read(Bit::Cell(cell, digit));
+            expect_access(rt, &mut reader, access, *value);
         }
-        expect_due(rt, reader.next(), None);
+        expect_due(rt, reader.due(), None);
         expect_value(rt, reader.value(), Some(item));
     } else {
         expect_true(rt, false);
@@ -78,7 +59,7 @@ fn words_are_read_digit_by_digit_upwards(rt: HostRuntime) -> Result<(), Fail> {
 }
 
 // The value, and whether the bit is written.
-const LOGICAL: [(bool, bool); 6] = [
+static LOGICAL: [(bool, bool); 6] = [
     (false, false),
     (true, true),
     (true, false),
@@ -94,49 +75,10 @@ fn an_unchanged_write_has_no_access(rt: HostRuntime) {
         if writer.next().is_none() {
             writer.write(*value);
         }
-        let access = Access::Write(Bit::X, *value);
-        expect_due(
-            &rt,
-            writer.next(),
-            if *is_written { Some(access) } else { None },
-        );
-        if writer.next().is_some() {
-            writer.feed(true);
+        if *is_written {
+            expect_access(&rt, &mut writer, Access::Write(Bit::X, *value), true);
         }
-        expect_due(&rt, writer.next(), None);
-    }
-}
-
-// A writer of a side's count, with the modulus that its values stay below.
-#[derive(Drop)]
-struct Count {
-    writer: UnaryWriter,
-    modulus: u64,
-    ghost of_modulus: { writer.modulus ≡ modulus },
-}
-
-impl Count {
-    fn new(shape: &Shape, side: Side) -> Count {
-        Count {
-            writer: UnaryWriter::new(shape, side),
-            modulus: shape.modulus(),
-        }
-    }
-
-    // Begins a write of the value, where nothing is due.
-    fn write(&mut self, value: u64) {
-        if self.writer.next().is_none() && value < self.modulus {
-            self.writer.write(value);
-        }
-    }
-
-    // The access that is due, which is made.
-    fn made(&mut self) -> Option<Access> {
-        let due = self.writer.next();
-        if due.is_some() {
-            self.writer.feed(true);
-        }
-        due
+        expect_due(&rt, writer.due(), None);
     }
 }
 
@@ -152,17 +94,17 @@ fn bit_of(side: Side, number: u8) -> Bit {
 fn expect_written(rt: &impl Abort, shape: &Shape, side: Side, writes: &[Write]) {
     let mut count = Count::new(shape, side);
     for (value, parts) in writes {
-        expect_due(rt, count.made(), None);
+        expect_due(rt, count.due(), None);
         count.write(*value);
         for (number, bit_value) in parts.iter() {
             let access = Access::Write(bit_of(side, *number), *bit_value);
-            expect_due(rt, count.made(), Some(access));
+            expect_access(rt, &mut count, access, true);
         }
     }
-    expect_due(rt, count.made(), None);
+    expect_due(rt, count.due(), None);
 }
 
-const SET_THEN_CLEARED: [Write<'static>; 4] = [
+static SET_THEN_CLEARED: [Write<'static>; 4] = [
     (2, &[(2, true), (0, false)]),
     (0, &[(0, true)]),
     (2, &[(0, false)]),
@@ -176,7 +118,7 @@ fn a_count_is_set_and_then_cleared_downwards(rt: HostRuntime) -> Result<(), Fail
 }
 
 // Each value over what the last ones left.
-const OVER_OTHERS: [Write<'static>; 5] = [
+static OVER_OTHERS: [Write<'static>; 5] = [
     (2, &[(2, true), (0, false)]),
     (0, &[(0, true)]),
     (1, &[(1, true), (0, false)]),
@@ -191,7 +133,7 @@ fn a_value_is_written_over_what_the_last_ones_left(rt: HostRuntime) -> Result<()
 }
 
 // Bit 1 is still set at the end, so two are cleared, from the highest down.
-const OF_CONSUMER: [Write<'static>; 3] = [
+static OF_CONSUMER: [Write<'static>; 3] = [
     (1, &[(1, true), (0, false)]),
     (0, &[(0, true)]),
     (3, &[(3, true), (1, false), (0, false)]),
@@ -215,15 +157,12 @@ fn expect_scan(rt: &impl Abort, shape: &Shape, side: Side, writer: Side, value: 
     let mut scan = UnaryScan::new(shape, side);
     for number in 0..=value {
         expect_value(rt, scan.value(), None);
-        let due = scan.next();
-        expect_due(rt, due, Some(Access::Read(bit_of(writer, number))));
-        let is_last = scan.expects_one();
-        expect_true(rt, is_last == (u64::from(number) + 1 == shape.modulus()));
-        if due.is_some() && (number == value || !is_last) {
-            scan.feed(number == value);
-        }
+        let is_last = u64::from(number) + 1 == shape.modulus();
+        expect_true(rt, scan.expects_one() == is_last);
+        let access = Access::Read(bit_of(writer, number));
+        expect_access(rt, &mut scan, access, number == value);
     }
-    expect_due(rt, scan.next(), None);
+    expect_due(rt, scan.due(), None);
     expect_true(rt, !scan.expects_one());
     expect_value(rt, scan.value(), Some(u64::from(value)));
 }

@@ -1,11 +1,11 @@
 ghost use Rattle.std.specs.Prelude.{◌≡◌};
 
 use bits_core::{
-    Always, Event, Memory, MemoryFault, Oracle, Shape, ShapeFault, Side, Store, Tape, Verdict,
-    audit_bits,
+    Always, Event, Memory, Oracle, Shape, ShapeFault, Side, Store, Tape, Verdict, audit_bits,
 };
 use ring_core::{BatchReply, Consumer, Producer, PutReply, TakeReply};
 use ring_steps::{Step, next_event};
+use std::alloc::AllocGlobal;
 use std::process::Abort;
 use std::test::Fail;
 
@@ -51,66 +51,65 @@ impl Puts {
     // At most so many events: fewer where the call is over before.
     fn run<S: Store<Event>, O: Oracle>(
         &mut self,
+        rt: &impl Abort,
         memory: &mut Memory<S>,
         oracle: &mut O,
         events: u64,
-    ) -> Result<(), MemoryFault> {
+    ) {
         for _ in 0..events {
-            if let Step::End(answer) = next_event(memory, Side::P, self.producer.next(), oracle)?
+            let step = next_event(memory, Side::P, self.producer.next(), oracle);
+            if let Step::End(answer) = step.expect(rt, "memory for the event")
                 && self.producer.next().is_some()
                 && (answer || !self.producer.expects_one())
             {
                 self.producer.feed(answer);
             }
         }
-        Ok(())
+    }
+
+    fn make<S: Store<Event>>(&mut self, rt: &impl Abort, memory: &mut Memory<S>, call: Call) {
+        match call {
+            Call::PutAll(items) => self.put_all(items),
+            Call::Put(item) => self.put(item),
+            Call::Close => self.close(),
+            Call::Run => self.run(rt, memory, &mut Always(false), 40),
+        }
     }
 }
 
 // A whole take.
 fn take<S: Store<Event>, O: Oracle>(
+    rt: &impl Abort,
     consumer: &mut Consumer,
     memory: &mut Memory<S>,
     oracle: &mut O,
-) -> Result<(), MemoryFault> {
+) {
     if consumer.next().is_none() {
         consumer.take();
     }
     for _ in 0..40 {
-        if let Step::End(answer) = next_event(memory, Side::C, consumer.next(), oracle)?
+        let step = next_event(memory, Side::C, consumer.next(), oracle);
+        if let Step::End(answer) = step.expect(rt, "memory for the event")
             && consumer.next().is_some()
             && (answer || !consumer.expects_one())
         {
             consumer.feed(answer);
         }
     }
-    Ok(())
 }
 
-// So many events were made, and the puts were answered so.
-fn expect_batch<S: Store<Event>>(
+// So many events were made, and the last call was answered so: as a put of one item, and as one of several.
+fn expect_replies<S: Store<Event>>(
     rt: &impl Abort,
     puts: &Puts,
     memory: &Memory<S>,
     events: usize,
-    reply: Option<BatchReply>,
+    put: Option<PutReply>,
+    batch: Option<BatchReply>,
 ) {
-    assert_eq!(rt; memory.events().len(), events);
-    assert_eq!(rt; puts.producer.batch_reply(), reply);
-    assert_eq!(rt; puts.producer.reply(), None);
-}
-
-// The same of a put of one item.
-fn expect_put<S: Store<Event>>(
-    rt: &impl Abort,
-    puts: &Puts,
-    memory: &Memory<S>,
-    events: usize,
-    reply: Option<PutReply>,
-) {
-    assert_eq!(rt; memory.events().len(), events);
-    assert_eq!(rt; puts.producer.reply(), reply);
-    assert_eq!(rt; puts.producer.batch_reply(), None);
+    assert!(rt; memory.events().len() == events);
+    assert!(rt; puts.producer.reply() == put);
+    assert!(rt; puts.producer.batch_reply() == batch);
 }
 
 // A whole take has so many events and is answered so.
@@ -121,12 +120,11 @@ fn expect_take<S: Store<Event>, O: Oracle>(
     oracle: &mut O,
     events: usize,
     reply: TakeReply,
-) -> Result<(), MemoryFault> {
+) {
     let before = memory.events().len();
-    take(consumer, memory, oracle)?;
-    assert_eq!(rt; memory.events().len().checked_sub(before), Some(events));
-    assert_eq!(rt; consumer.reply(), Some(reply));
-    Ok(())
+    take(rt, consumer, memory, oracle);
+    assert!(rt; memory.events().len().checked_sub(before) == Some(events));
+    assert!(rt; consumer.reply() == Some(reply));
 }
 
 fn expect_lawful<S: Store<Event>>(
@@ -135,13 +133,20 @@ fn expect_lawful<S: Store<Event>>(
     events: usize,
     flickers: u64,
 ) {
-    assert_eq!(rt; memory.events().len(), events);
-    assert_eq!(rt; memory.flickers(), flickers);
-    assert_eq!(rt;
-        audit_bits(&memory.shape(), memory.events()),
-        Verdict::Lawful
-    );
+    assert!(rt; memory.events().len() == events);
+    assert!(rt; memory.flickers() == flickers);
+    assert!(rt; audit_bits(&memory.shape(), memory.events()) == Verdict::Lawful);
 }
+
+// The events of each take, and its reply.
+static TAKES: [(usize, TakeReply); 4] = [
+    // scans that read 0 in s0 see the items
+    (14, TakeReply::Item(1)),
+    (14, TakeReply::Item(0)),
+    (14, TakeReply::Item(1)),
+    // the next one reads 1 there: the distance from 3 is 4, over the capacity
+    (4, TakeReply::Empty),
+];
 
 #[test]
 fn a_batch_of_three_goes_through_under_one_count_write(rt: HostRuntime) -> Result<(), Fail> {
@@ -149,87 +154,84 @@ fn a_batch_of_three_goes_through_under_one_count_write(rt: HostRuntime) -> Resul
     let mut memory = Memory::new(rt.alloc(), shape);
     let mut puts = Puts::new(shape);
     let mut consumer = Consumer::new(shape);
-    let bits = [false, false, false, true];
-    let mut oracle = Tape::new(&bits);
+    let mut oracle = Tape::new(&[false, false, false, true]);
     // the write of 0 to s0 stays open
     puts.put_all(&[1, 0, 1]);
-    puts.run(&mut memory, &mut oracle, 11)?;
-    expect_batch(&rt, &puts, &memory, 11, None);
-    // scans that read 0 in s0 see the items
-    for item in [1, 0, 1] {
+    puts.run(&rt, &mut memory, &mut oracle, 11);
+    expect_replies(&rt, &puts, &memory, 11, None, None);
+    for (events, reply) in TAKES.iter() {
         expect_take(
             &rt,
             &mut consumer,
             &mut memory,
             &mut oracle,
-            14,
-            TakeReply::Item(item),
-        )?;
+            *events,
+            *reply,
+        );
     }
-    // the next one reads 1 there: the distance from 3 is 4, over the capacity
-    expect_take(
-        &rt,
-        &mut consumer,
-        &mut memory,
-        &mut oracle,
-        4,
-        TakeReply::Empty,
-    )?;
     expect_lawful(&rt, &memory, 57, 4);
     Ok(())
 }
 
-#[test]
-fn a_batch_is_stored_as_far_as_there_is_room(rt: HostRuntime) -> Result<(), Fail> {
+#[derive(Clone, Copy)]
+enum Call<'a> {
+    PutAll(&'a [u64]),
+    Put(u64),
+    Close,
+    // the events of the call that is under way
+    Run,
+}
+
+// A call, the events so far, and what was replied to a put of one item and to one of several.
+type Case<'a> = (Call<'a>, usize, Option<PutReply>, Option<BatchReply>);
+
+fn expect_calls(rt: &(impl Abort + AllocGlobal), cases: &[Case]) -> Result<(), Fail> {
     let shape = Shape::with_batch(3, 6, 1, 2)?;
     let mut memory = Memory::new(rt.alloc(), shape);
-    let mut oracle = Always(false);
     let mut puts = Puts::new(shape);
-    expect_batch(&rt, &puts, &memory, 0, None);
-    puts.put_all(&[1, 0]);
-    expect_batch(&rt, &puts, &memory, 0, None);
-    puts.run(&mut memory, &mut oracle, 40)?;
-    expect_batch(&rt, &puts, &memory, 10, Some(BatchReply::Stored(2)));
-    puts.put_all(&[1, 1]);
-    puts.run(&mut memory, &mut oracle, 40)?;
-    expect_batch(&rt, &puts, &memory, 18, Some(BatchReply::Stored(1)));
-    puts.put_all(&[1]);
-    puts.run(&mut memory, &mut oracle, 40)?;
-    expect_batch(&rt, &puts, &memory, 20, Some(BatchReply::Full));
-    expect_lawful(&rt, &memory, 20, 0);
+    expect_replies(rt, &puts, &memory, 0, None, None);
+    for (call, events, put, batch) in cases {
+        puts.make(rt, &mut memory, *call);
+        expect_replies(rt, &puts, &memory, *events, *put, *batch);
+    }
+    expect_lawful(rt, &memory, 20, 0);
     Ok(())
 }
+
+static BATCHES: [Case<'static>; 6] = [
+    (Call::PutAll(&[1, 0]), 0, None, None),
+    (Call::Run, 10, None, Some(BatchReply::Stored(2))),
+    (Call::PutAll(&[1, 1]), 10, None, None),
+    (Call::Run, 18, None, Some(BatchReply::Stored(1))),
+    (Call::PutAll(&[1]), 18, None, None),
+    (Call::Run, 20, None, Some(BatchReply::Full)),
+];
+
+#[test]
+fn a_batch_is_stored_as_far_as_there_is_room(rt: HostRuntime) -> Result<(), Fail> {
+    expect_calls(&rt, &BATCHES)
+}
+
+static TWO_REPLIES: [Case<'static>; 9] = [
+    (Call::PutAll(&[1, 0]), 0, None, None),
+    (Call::Run, 10, None, Some(BatchReply::Stored(2))),
+    (Call::Put(1), 10, None, None),
+    (Call::Run, 18, Some(PutReply::Stored), None),
+    (Call::Close, 18, None, None),
+    (Call::Run, 20, None, None),
+    // after the close each is answered at once
+    (Call::PutAll(&[1, 1]), 20, None, Some(BatchReply::Closed)),
+    (Call::Put(1), 20, Some(PutReply::Closed), None),
+    (Call::Close, 20, None, None),
+];
 
 // Each of the two replies is that of the last call, where that was a put of its kind.
 #[test]
 fn a_put_has_one_of_two_replies(rt: HostRuntime) -> Result<(), Fail> {
-    let shape = Shape::with_batch(3, 6, 1, 2)?;
-    let mut memory = Memory::new(rt.alloc(), shape);
-    let mut oracle = Always(false);
-    let mut puts = Puts::new(shape);
-    puts.put_all(&[1, 0]);
-    puts.run(&mut memory, &mut oracle, 40)?;
-    expect_batch(&rt, &puts, &memory, 10, Some(BatchReply::Stored(2)));
-    puts.put(1);
-    expect_put(&rt, &puts, &memory, 10, None);
-    puts.run(&mut memory, &mut oracle, 40)?;
-    expect_put(&rt, &puts, &memory, 18, Some(PutReply::Stored));
-    puts.close();
-    expect_batch(&rt, &puts, &memory, 18, None);
-    puts.run(&mut memory, &mut oracle, 40)?;
-    expect_batch(&rt, &puts, &memory, 20, None);
-    // after the close each is answered at once
-    puts.put_all(&[1, 1]);
-    expect_batch(&rt, &puts, &memory, 20, Some(BatchReply::Closed));
-    puts.put(1);
-    expect_put(&rt, &puts, &memory, 20, Some(PutReply::Closed));
-    puts.close();
-    expect_batch(&rt, &puts, &memory, 20, None);
-    expect_lawful(&rt, &memory, 20, 0);
-    Ok(())
+    expect_calls(&rt, &TWO_REPLIES)
 }
 
-const SHAPES: [((u64, u64, u64, u64), Option<ShapeFault>); 7] = [
+static SHAPES: [((u64, u64, u64, u64), Option<ShapeFault>); 7] = [
     ((3, 6, 1, 3), Some(ShapeFault::Modulus)),
     ((3, 7, 1, 3), None),
     ((3, 7, 1, 4), Some(ShapeFault::Batch)),
@@ -251,7 +253,7 @@ fn shapes_have_batches(rt: HostRuntime) {
     expect_shapes(&rt, SHAPES.as_slice());
 }
 
-const FITTING: [(&[u64], bool); 5] = [
+static FITTING: [(&[u64], bool); 5] = [
     (&[], true),
     (&[7], true),
     (&[0, 7, 3], true),

@@ -1,11 +1,11 @@
 ghost use Rattle.std.specs.Prelude.{◌≡◌};
 
 use bits_core::{
-    Access, Act, Always, Bit, Event, Memory, MemoryFault, Oracle, Shape, Side, Store, Tape,
-    Verdict, audit_bits,
+    Access, Act, Always, Bit, Event, Memory, Oracle, Shape, Side, Store, Tape, Verdict, audit_bits,
 };
 use ring_core::{Consumer, Producer, PutReply, TakeReply};
 use ring_steps::{Step, next_event};
+use std::alloc::AllocGlobal;
 use std::process::Abort;
 use std::test::Fail;
 
@@ -48,23 +48,38 @@ impl<'a> Ring<'a> {
         }
     }
 
-    // One event of the producer, which begins its next call where it is idle; nothing once it is done.
-    fn step_producer<S: Store<Event>, O: Oracle>(
-        &mut self,
-        memory: &mut Memory<S>,
-        oracle: &mut O,
-    ) -> Result<(), MemoryFault> {
-        if self.producer.next().is_none() {
-            match self.items.get(self.stored) {
-                Some(item) if self.shape.fits(*item) => self.producer.put(*item),
-                _ if self.closes && !self.producer.is_closed() => self.producer.close(),
-                _ => {}
-            }
+    // Begins a put of the item, unless a call is under way.
+    fn put(&mut self, item: u64) {
+        if self.producer.next().is_none() && self.shape.fits(item) {
+            self.producer.put(item);
         }
-        if let Step::End(answer) = next_event(memory, Side::P, self.producer.next(), oracle)?
-            && self.producer.next().is_some()
-            && (answer || !self.producer.expects_one())
-        {
+    }
+
+    // Begins the close, and a take, likewise.
+    fn close(&mut self) {
+        if self.producer.next().is_none() {
+            self.producer.close();
+        }
+    }
+
+    fn take(&mut self) {
+        if self.consumer.next().is_none() {
+            self.consumer.take();
+        }
+    }
+
+    // Begins the producer's next call, if there is one.
+    fn begin_producer(&mut self) {
+        match self.items.get(self.stored) {
+            Some(item) => self.put(*item),
+            None if self.closes && !self.producer.is_closed() => self.close(),
+            None => {}
+        }
+    }
+
+    // Hands the producer an answer, and counts the reply.
+    fn feed_producer(&mut self, answer: bool) {
+        if self.producer.next().is_some() && (answer || !self.producer.expects_one()) {
             self.producer.feed(answer);
             match self.producer.reply() {
                 Some(PutReply::Stored) => self.stored = self.stored.saturating_add(1),
@@ -72,22 +87,25 @@ impl<'a> Ring<'a> {
                 _ => {}
             }
         }
-        Ok(())
     }
 
-    // One event of the consumer, which begins its next take where it is idle; nothing once it is done.
-    fn step_consumer<S: Store<Event>, O: Oracle>(
+    // One event of the producer, which begins its next call where it is idle; nothing once it is done.
+    fn step_producer<S: Store<Event>, O: Oracle>(
         &mut self,
+        rt: &impl Abort,
         memory: &mut Memory<S>,
         oracle: &mut O,
-    ) -> Result<(), MemoryFault> {
-        if self.consumer.next().is_none() && self.taken < self.takes && !self.told {
-            self.consumer.take();
+    ) {
+        self.begin_producer();
+        let step = next_event(memory, Side::P, self.producer.next(), oracle);
+        if let Step::End(answer) = step.expect(rt, "memory for the event") {
+            self.feed_producer(answer);
         }
-        if let Step::End(answer) = next_event(memory, Side::C, self.consumer.next(), oracle)?
-            && self.consumer.next().is_some()
-            && (answer || !self.consumer.expects_one())
-        {
+    }
+
+    // Hands the consumer an answer, and counts the reply.
+    fn feed_consumer(&mut self, answer: bool) {
+        if self.consumer.next().is_some() && (answer || !self.consumer.expects_one()) {
             self.consumer.feed(answer);
             match self.consumer.reply() {
                 Some(TakeReply::Item(item)) => {
@@ -99,25 +117,50 @@ impl<'a> Ring<'a> {
                 None => {}
             }
         }
-        Ok(())
+    }
+
+    // One event of the consumer, which begins its next take where it is idle; nothing once it is done.
+    fn step_consumer<S: Store<Event>, O: Oracle>(
+        &mut self,
+        rt: &impl Abort,
+        memory: &mut Memory<S>,
+        oracle: &mut O,
+    ) {
+        if self.taken < self.takes && !self.told {
+            self.take();
+        }
+        let step = next_event(memory, Side::C, self.consumer.next(), oracle);
+        if let Step::End(answer) = step.expect(rt, "memory for the event") {
+            self.feed_consumer(answer);
+        }
+    }
+
+    fn step<S: Store<Event>, O: Oracle>(
+        &mut self,
+        rt: &impl Abort,
+        memory: &mut Memory<S>,
+        oracle: &mut O,
+        side: Side,
+    ) {
+        match side {
+            Side::P => self.step_producer(rt, memory, oracle),
+            Side::C => self.step_consumer(rt, memory, oracle),
+        }
     }
 
     // So many steps of each side in turn.
     fn run<S: Store<Event>, O: Oracle>(
         &mut self,
+        rt: &impl Abort,
         memory: &mut Memory<S>,
         oracle: &mut O,
         schedule: &[(Side, u64)],
-    ) -> Result<(), MemoryFault> {
+    ) {
         for (side, count) in schedule {
             for _ in 0..*count {
-                match side {
-                    Side::P => self.step_producer(memory, oracle)?,
-                    Side::C => self.step_consumer(memory, oracle)?,
-                }
+                self.step(rt, memory, oracle, *side);
             }
         }
-        Ok(())
     }
 }
 
@@ -170,10 +213,32 @@ fn expect_report<S: Store<Event>>(
     };
     assert_eq!(rt; made, report);
     assert!(rt; ring.in_order);
-    assert_eq!(rt;
-        audit_bits(&memory.shape(), memory.events()),
-        Verdict::Lawful
-    );
+    assert!(rt; audit_bits(&memory.shape(), memory.events()) == Verdict::Lawful);
+}
+
+// So many steps of each side in turn lead to the report.
+fn expect_run<S: Store<Event>, O: Oracle>(
+    rt: &impl Abort,
+    ring: &mut Ring,
+    memory: &mut Memory<S>,
+    oracle: &mut O,
+    schedule: &[(Side, u64)],
+    report: Report,
+) {
+    ring.run(rt, memory, oracle, schedule);
+    expect_report(rt, ring, memory, report);
+}
+
+// The same over a new memory.
+fn expect_new_run<O: Oracle>(
+    rt: &(impl Abort + AllocGlobal),
+    ring: &mut Ring,
+    oracle: &mut O,
+    schedule: &[(Side, u64)],
+    report: Report,
+) {
+    let mut memory = Memory::new(rt.alloc(), ring.shape);
+    expect_run(rt, ring, &mut memory, oracle, schedule, report);
 }
 
 fn expect_put(rt: &impl Abort, ring: &Ring, reply: Option<PutReply>) {
@@ -182,6 +247,13 @@ fn expect_put(rt: &impl Abort, ring: &Ring, reply: Option<PutReply>) {
 
 fn expect_take(rt: &impl Abort, ring: &Ring, reply: Option<TakeReply>) {
     assert_eq!(rt; ring.consumer.reply(), reply);
+}
+
+// The last replies, with no call under way.
+fn expect_replies(rt: &impl Abort, ring: &Ring, put: Option<PutReply>, take: Option<TakeReply>) {
+    expect_idle(rt, ring);
+    expect_put(rt, ring, put);
+    expect_take(rt, ring, take);
 }
 
 fn expect_due(rt: &impl Abort, due: Option<Access>, wanted: Option<Access>) {
@@ -209,47 +281,58 @@ fn plain(events: usize, stored: usize, taken: usize) -> Report {
 
 #[test]
 fn an_item_goes_through(rt: HostRuntime) -> Result<(), Fail> {
-    let shape = Shape::new(1, 3, 1)?;
-    let mut memory = Memory::new(rt.alloc(), shape);
-    let mut ring = Ring::new(&shape, &[1], 1, false);
-    ring.run(
-        &mut memory,
-        &mut Always(false),
-        &[(Side::P, 8), (Side::C, 10)],
-    )?;
-    expect_report(&rt, &ring, &memory, plain(18, 1, 1));
+    let mut ring = Ring::new(&Shape::new(1, 3, 1)?, &[1], 1, false);
+    let schedule = [(Side::P, 8), (Side::C, 10)];
+    let report = plain(18, 1, 1);
+    expect_new_run(&rt, &mut ring, &mut Always(false), &schedule, report);
     Ok(())
 }
 
 #[test]
 fn a_second_put_finds_one_cell_full(rt: HostRuntime) -> Result<(), Fail> {
-    let shape = Shape::new(1, 3, 1)?;
-    let mut memory = Memory::new(rt.alloc(), shape);
-    let mut ring = Ring::new(&shape, &[1, 1], 0, false);
-    ring.run(&mut memory, &mut Always(false), &[(Side::P, 10)])?;
-    expect_report(&rt, &ring, &memory, plain(10, 1, 0).full(1));
+    let mut ring = Ring::new(&Shape::new(1, 3, 1)?, &[1, 1], 0, false);
+    let report = plain(10, 1, 0).full(1);
+    expect_new_run(&rt, &mut ring, &mut Always(false), &[(Side::P, 10)], report);
     expect_put(&rt, &ring, Some(PutReply::Full));
     Ok(())
 }
+
+// Steps of the sides and then the events so far, the items taken, whether the consumer was told, and what the take has replied.
+static SECOND_SCAN: [(&[(Side, u64)], usize, usize, bool, Option<TakeReply>); 4] = [
+    // a take begins its scan; then an item is put and the ring is closed
+    (&[(Side::C, 2), (Side::P, 10)], 12, 0, false, None),
+    (&[(Side::C, 12)], 24, 1, false, Some(TakeReply::Item(1))),
+    (&[(Side::C, 10)], 34, 1, true, Some(TakeReply::Closed)),
+    // both sides are done
+    (
+        &[(Side::P, 3), (Side::C, 5)],
+        34,
+        1,
+        true,
+        Some(TakeReply::Closed),
+    ),
+];
 
 #[test]
 fn a_second_scan_finds_the_item(rt: HostRuntime) -> Result<(), Fail> {
     let shape = Shape::new(1, 3, 1)?;
     let mut memory = Memory::new(rt.alloc(), shape);
     let mut ring = Ring::new(&shape, &[1], 2, true);
-    let mut zeros = Always(false);
-    // a take begins its scan; then an item is put and the ring is closed
-    ring.run(&mut memory, &mut zeros, &[(Side::C, 2), (Side::P, 10)])?;
-    expect_report(&rt, &ring, &memory, plain(12, 1, 0));
-    assert!(rt; ring.producer.is_closed());
-    ring.run(&mut memory, &mut zeros, &[(Side::C, 12)])?;
-    expect_report(&rt, &ring, &memory, plain(24, 1, 1));
-    expect_take(&rt, &ring, Some(TakeReply::Item(1)));
-    ring.run(&mut memory, &mut zeros, &[(Side::C, 10)])?;
-    expect_report(&rt, &ring, &memory, plain(34, 1, 1).told());
-    // both sides are done
-    ring.run(&mut memory, &mut zeros, &[(Side::P, 3), (Side::C, 5)])?;
-    expect_report(&rt, &ring, &memory, plain(34, 1, 1).told());
+    for (schedule, events, taken, told, reply) in SECOND_SCAN.iter() {
+        ring.run(&rt, &mut memory, &mut Always(false), schedule);
+        let report = plain(*events, 1, *taken);
+        expect_report(
+            &rt,
+            &ring,
+            &memory,
+            Report {
+                told: *told,
+                ..report
+            },
+        );
+        assert!(rt; ring.producer.is_closed());
+        expect_take(&rt, &ring, *reply);
+    }
     Ok(())
 }
 
@@ -258,25 +341,21 @@ fn two_cells_hold_two_items(rt: HostRuntime) -> Result<(), Fail> {
     let shape = Shape::new(2, 4, 2)?;
     let mut memory = Memory::new(rt.alloc(), shape);
     let mut ring = Ring::new(&shape, &[2, 1, 3], 1, false);
-    let mut zeros = Always(false);
-    ring.run(&mut memory, &mut zeros, &[(Side::P, 22)])?;
-    expect_report(&rt, &ring, &memory, plain(22, 2, 0).full(1));
-    ring.run(&mut memory, &mut zeros, &[(Side::C, 14), (Side::P, 12)])?;
-    expect_report(&rt, &ring, &memory, plain(48, 3, 1).full(1));
+    let zeros = &mut Always(false);
+    let full = plain(22, 2, 0).full(1);
+    expect_run(&rt, &mut ring, &mut memory, zeros, &[(Side::P, 22)], full);
+    let schedule = [(Side::C, 14), (Side::P, 12)];
+    let report = plain(48, 3, 1).full(1);
+    expect_run(&rt, &mut ring, &mut memory, zeros, &schedule, report);
     Ok(())
 }
 
 #[test]
 fn the_largest_shape_works(rt: HostRuntime) -> Result<(), Fail> {
-    let shape = Shape::new(1, 256, 64)?;
-    let mut memory = Memory::new(rt.alloc(), shape);
-    let mut ring = Ring::new(&shape, &[u64::MAX], 1, false);
-    ring.run(
-        &mut memory,
-        &mut Always(true),
-        &[(Side::P, 134), (Side::C, 136)],
-    )?;
-    expect_report(&rt, &ring, &memory, plain(270, 1, 1));
+    let mut ring = Ring::new(&Shape::new(1, 256, 64)?, &[u64::MAX], 1, false);
+    let schedule = [(Side::P, 134), (Side::C, 136)];
+    let report = plain(270, 1, 1);
+    expect_new_run(&rt, &mut ring, &mut Always(true), &schedule, report);
     expect_take(&rt, &ring, Some(TakeReply::Item(u64::MAX)));
     Ok(())
 }
@@ -300,7 +379,7 @@ fn expect_count_writes<S: Store<Event>>(
     let mut place = 0;
     for event in memory.events().iter().skip(before) {
         if let Some(write) = count_write(event) {
-            assert_eq!(rt; writes.get(place).copied(), Some(write));
+            assert!(rt; writes.get(place).copied() == Some(write));
             place = place.saturating_add(1);
         }
     }
@@ -315,64 +394,62 @@ fn expect_call<S: Store<Event>>(
     side: Side,
     events: usize,
     writes: &[(u8, bool)],
-) -> Result<(), MemoryFault> {
+) {
     let before = memory.events().len();
     for _ in 0..events {
-        match side {
-            Side::P => ring.step_producer(memory, &mut Always(false))?,
-            Side::C => ring.step_consumer(memory, &mut Always(false))?,
-        }
+        ring.step(rt, memory, &mut Always(false), side);
     }
     expect_idle(rt, ring);
     assert!(rt; memory.events().len().checked_sub(before) == Some(events));
     expect_count_writes(rt, memory, before, writes);
-    Ok(())
 }
+
+// The whole calls of five puts and takes: the side, its events, and the writes to its count.
+static FIVE_ITEMS: [(Side, usize, &[(u8, bool)]); 10] = [
+    (Side::P, 8, &[(1, true), (0, false)]),
+    (Side::C, 10, &[(1, true), (0, false)]),
+    (Side::P, 10, &[(2, true), (1, false)]),
+    (Side::C, 12, &[(2, true), (1, false)]),
+    // bit 2 stays set, so the next write of 2 has the one access that clears bit 1
+    (Side::P, 10, &[(0, true)]),
+    (Side::C, 6, &[(0, true)]),
+    (Side::P, 8, &[(1, true), (0, false)]),
+    (Side::C, 10, &[(1, true), (0, false)]),
+    (Side::P, 8, &[(1, false)]),
+    (Side::C, 10, &[(1, false)]),
+];
 
 #[test]
 fn five_items_write_the_count_two_with_one_access(rt: HostRuntime) -> Result<(), Fail> {
     let shape = Shape::new(1, 3, 1)?;
     let mut memory = Memory::new(rt.alloc(), shape);
     let mut ring = Ring::new(&shape, &[1, 0, 0, 1, 1], 5, false);
-    let to_one: [(u8, bool); 2] = [(1, true), (0, false)];
-    let to_two: [(u8, bool); 2] = [(2, true), (1, false)];
-    let to_zero: [(u8, bool); 1] = [(0, true)];
-    let clear_one: [(u8, bool); 1] = [(1, false)];
-    expect_call(&rt, &mut ring, &mut memory, Side::P, 8, &to_one)?;
-    expect_call(&rt, &mut ring, &mut memory, Side::C, 10, &to_one)?;
-    expect_call(&rt, &mut ring, &mut memory, Side::P, 10, &to_two)?;
-    expect_call(&rt, &mut ring, &mut memory, Side::C, 12, &to_two)?;
-    // bit 2 stays set, so the next write of 2 has the one access that clears bit 1
-    expect_call(&rt, &mut ring, &mut memory, Side::P, 10, &to_zero)?;
-    expect_call(&rt, &mut ring, &mut memory, Side::C, 6, &to_zero)?;
-    expect_call(&rt, &mut ring, &mut memory, Side::P, 8, &to_one)?;
-    expect_call(&rt, &mut ring, &mut memory, Side::C, 10, &to_one)?;
-    expect_call(&rt, &mut ring, &mut memory, Side::P, 8, &clear_one)?;
-    expect_call(&rt, &mut ring, &mut memory, Side::C, 10, &clear_one)?;
+    for (side, events, writes) in FIVE_ITEMS.iter() {
+        expect_call(&rt, &mut ring, &mut memory, *side, *events, writes);
+    }
     expect_report(&rt, &ring, &memory, plain(92, 5, 5));
     Ok(())
 }
 
 #[test]
 fn an_open_count_write_is_seen_and_then_not(rt: HostRuntime) -> Result<(), Fail> {
-    let shape = Shape::new(1, 3, 1)?;
-    let mut memory = Memory::new(rt.alloc(), shape);
-    let mut ring = Ring::new(&shape, &[1], 2, false);
+    let mut ring = Ring::new(&Shape::new(1, 3, 1)?, &[1], 2, false);
     // the write of 0 to s0 stays open: the first scan gives 1, and the second one the old count
-    ring.run(
-        &mut memory,
+    let schedule = [(Side::P, 7), (Side::C, 14)];
+    let report = plain(21, 0, 1).empty(1).flickers(2);
+    expect_new_run(
+        &rt,
+        &mut ring,
         &mut Tape::new(&[false, true]),
-        &[(Side::P, 7), (Side::C, 14)],
-    )?;
-    expect_report(&rt, &ring, &memory, plain(21, 0, 1).empty(1).flickers(2));
+        &schedule,
+        report,
+    );
     Ok(())
 }
 
 #[test]
 fn a_count_wraps_while_its_write_is_open(rt: HostRuntime) -> Result<(), Fail> {
-    let shape = Shape::new(1, 3, 1)?;
-    let mut memory = Memory::new(rt.alloc(), shape);
-    let mut ring = Ring::new(&shape, &[1, 0, 1], 3, false);
+    let mut ring = Ring::new(&Shape::new(1, 3, 1)?, &[1, 0, 1], 3, false);
     let schedule: [(Side, u64); 6] = [
         (Side::P, 8),
         (Side::C, 10),
@@ -382,8 +459,14 @@ fn a_count_wraps_while_its_write_is_open(rt: HostRuntime) -> Result<(), Fail> {
         (Side::C, 14),
     ];
     // the count goes from 2 to 0: the scans give 2 and then 0
-    ring.run(&mut memory, &mut Tape::new(&[false, true]), &schedule)?;
-    expect_report(&rt, &ring, &memory, plain(63, 2, 3).empty(1).flickers(2));
+    let report = plain(63, 2, 3).empty(1).flickers(2);
+    expect_new_run(
+        &rt,
+        &mut ring,
+        &mut Tape::new(&[false, true]),
+        &schedule,
+        report,
+    );
     Ok(())
 }
 
@@ -391,35 +474,32 @@ fn a_count_wraps_while_its_write_is_open(rt: HostRuntime) -> Result<(), Fail> {
 fn calls_after_the_close_are_answered_at_once(rt: HostRuntime) -> Result<(), Fail> {
     let shape = Shape::new(1, 3, 1)?;
     let mut memory = Memory::new(rt.alloc(), shape);
-    let mut zeros = Always(false);
     let mut ring = Ring::new(&shape, &[], 1, true);
-    expect_put(&rt, &ring, None);
-    expect_take(&rt, &ring, None);
+    expect_replies(&rt, &ring, None, None);
     assert!(rt; !ring.producer.is_closed());
-    ring.run(&mut memory, &mut zeros, &[(Side::P, 1)])?;
+    ring.run(&rt, &mut memory, &mut Always(false), &[(Side::P, 1)]);
     assert!(rt; ring.producer.is_closed());
-    ring.run(&mut memory, &mut zeros, &[(Side::P, 1), (Side::C, 6)])?;
+    ring.run(
+        &rt,
+        &mut memory,
+        &mut Always(false),
+        &[(Side::P, 1), (Side::C, 6)],
+    );
     expect_report(&rt, &ring, &memory, plain(8, 0, 0).told());
-    expect_put(&rt, &ring, None);
-    if ring.producer.next().is_none() && ring.shape.fits(1) {
-        ring.producer.put(1);
-    }
-    expect_due(&rt, ring.producer.next(), None);
-    expect_put(&rt, &ring, Some(PutReply::Closed));
-    if ring.producer.next().is_none() {
-        ring.producer.close();
-    }
-    expect_due(&rt, ring.producer.next(), None);
-    expect_put(&rt, &ring, None);
-    assert!(rt; ring.producer.is_closed());
-    expect_take(&rt, &ring, Some(TakeReply::Closed));
-    if ring.consumer.next().is_none() {
-        ring.consumer.take();
-    }
-    expect_due(&rt, ring.consumer.next(), None);
-    expect_take(&rt, &ring, Some(TakeReply::Closed));
+    expect_calls_after_close(&rt, &mut ring);
     expect_report(&rt, &ring, &memory, plain(8, 0, 0).told());
     Ok(())
+}
+
+fn expect_calls_after_close(rt: &impl Abort, ring: &mut Ring) {
+    expect_replies(rt, ring, None, Some(TakeReply::Closed));
+    ring.put(1);
+    expect_replies(rt, ring, Some(PutReply::Closed), Some(TakeReply::Closed));
+    ring.close();
+    expect_replies(rt, ring, None, Some(TakeReply::Closed));
+    assert!(rt; ring.producer.is_closed());
+    ring.take();
+    expect_replies(rt, ring, None, Some(TakeReply::Closed));
 }
 
 #[test]

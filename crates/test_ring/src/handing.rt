@@ -85,9 +85,9 @@ fn expect_replies<S: Store<Event>>(
     put: Option<PutReply>,
     take: Option<TakeReply>,
 ) {
-    assert_eq!(rt; ring.memory.events().len(), events);
-    assert_eq!(rt; ring.producer.reply(), put);
-    assert_eq!(rt; ring.consumer.reply(), take);
+    assert!(rt; ring.memory.events().len() == events);
+    assert!(rt; ring.producer.reply() == put);
+    assert!(rt; ring.consumer.reply() == take);
 }
 
 #[test]

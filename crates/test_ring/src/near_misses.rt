@@ -1,7 +1,7 @@
 // Three rings that are nearly right. Each makes a lawful history of bits, so safe bits are not to blame.
 use bits_core::{
-    Access, Always, Bit, Event, Memory, MemoryFault, Oracle, Shape, Side, Store, Tape, Verdict,
-    audit_bits, write_trace,
+    Access, Always, Bit, Event, Memory, Oracle, Shape, Side, Store, Tape, Verdict, audit_bits,
+    write_trace,
 };
 use register_core::{UnaryScan, UnaryWriter, WordWriter};
 use ring_core::{Consumer, Producer, PutReply, TakeReply};
@@ -9,52 +9,70 @@ use ring_steps::{Step, next_event};
 use std::process::Abort;
 use std::test::Fail;
 
-// The whole of the access that is due, if there is one: its answer.
-fn whole_access<S: Store<Event>, O: Oracle>(
+// The side's next event. That the memory runs out fails the test.
+fn step<S: Store<Event>, O: Oracle>(
+    rt: &impl Abort,
     memory: &mut Memory<S>,
     side: Side,
     due: Option<Access>,
     oracle: &mut O,
-) -> Result<Option<bool>, MemoryFault> {
-    next_event(memory, side, due, oracle)?;
-    match next_event(memory, side, due, oracle)? {
-        Step::End(answer) => Ok(Some(answer)),
-        _ => Ok(None),
+) -> Step {
+    next_event(memory, side, due, oracle).expect(rt, "memory for the event")
+}
+
+// The whole of the access that is due, if there is one: its answer.
+fn whole_access<S: Store<Event>, O: Oracle>(
+    rt: &impl Abort,
+    memory: &mut Memory<S>,
+    side: Side,
+    due: Option<Access>,
+    oracle: &mut O,
+) -> Option<bool> {
+    step(rt, memory, side, due, oracle);
+    match step(rt, memory, side, due, oracle) {
+        Step::End(answer) => Some(answer),
+        _ => None,
     }
 }
 
 // A scan by a side, and its value.
 fn scan<S: Store<Event>>(
+    rt: &impl Abort,
     memory: &mut Memory<S>,
     shape: &Shape,
     side: Side,
-) -> Result<Option<u64>, MemoryFault> {
+) -> Option<u64> {
     let mut scan = UnaryScan::new(shape, side);
     for _ in 0..3 {
         if scan.next().is_some()
-            && let Some(answer) = whole_access(memory, side, scan.next(), &mut Always(false))?
+            && let Some(answer) = whole_access(rt, memory, side, scan.next(), &mut Always(false))
             && (answer || !scan.expects_one())
         {
             scan.feed(answer);
         }
     }
-    Ok(scan.value())
+    scan.value()
 }
 
-// So many bit writes of the producer's count.
-fn write_bits<S: Store<Event>>(
+// So many bit writes of a value to the producer's count, and the access that is then due.
+fn write_count<S: Store<Event>>(
+    rt: &impl Abort,
     memory: &mut Memory<S>,
-    count: &mut UnaryWriter,
+    shape: &Shape,
+    value: u64,
     writes: u64,
-) -> Result<(), MemoryFault> {
+) -> Option<Access> {
+    let mut count = UnaryWriter::new(shape, Side::P);
+    if value < shape.modulus() {
+        count.write(value);
+    }
     for _ in 0..writes {
-        if whole_access(memory, Side::P, count.next(), &mut Always(false))?.is_some()
-            && count.next().is_some()
-        {
+        let answer = whole_access(rt, memory, Side::P, count.next(), &mut Always(false));
+        if answer.is_some() && count.next().is_some() {
             count.feed(false);
         }
     }
-    Ok(())
+    count.next()
 }
 
 // The word write of an item of one digit.
@@ -64,38 +82,66 @@ fn write_digit<S: Store<Event>>(
     shape: &Shape,
     cell: u64,
     item: bool,
-) -> Result<(), MemoryFault> {
+) {
     assert!(rt; cell < shape.capacity());
     if cell < shape.capacity() && shape.fits(u64::from(item)) {
         let mut word = WordWriter::new(shape, cell, u64::from(item));
-        if whole_access(memory, Side::P, word.next(), &mut Always(false))?.is_some()
-            && word.next().is_some()
-        {
+        let answer = whole_access(rt, memory, Side::P, word.next(), &mut Always(false));
+        if answer.is_some() && word.next().is_some() {
             word.feed(false);
         }
         expect_due(rt, word.next(), None);
     }
-    Ok(())
 }
 
 // A whole take, of at most 20 accesses.
 fn take<S: Store<Event>, O: Oracle>(
+    rt: &impl Abort,
     memory: &mut Memory<S>,
     consumer: &mut Consumer,
     oracle: &mut O,
-) -> Result<Option<TakeReply>, MemoryFault> {
+) -> Option<TakeReply> {
     if consumer.next().is_none() {
         consumer.take();
     }
     for _ in 0..20 {
         if consumer.next().is_some()
-            && let Some(answer) = whole_access(memory, Side::C, consumer.next(), oracle)?
+            && let Some(answer) = whole_access(rt, memory, Side::C, consumer.next(), oracle)
             && (answer || !consumer.expects_one())
         {
             consumer.feed(answer);
         }
     }
-    Ok(consumer.reply())
+    consumer.reply()
+}
+
+// The accesses of a put, at most 8.
+fn make_put<S: Store<Event>>(rt: &impl Abort, memory: &mut Memory<S>, producer: &mut Producer) {
+    for _ in 0..8 {
+        if producer.next().is_some()
+            && let Some(answer) = whole_access(
+                rt,
+                memory,
+                Side::P,
+                producer.next(),
+                &mut Always(false),
+            )
+            && (answer || !producer.expects_one())
+        {
+            producer.feed(answer);
+        }
+    }
+}
+
+// A close, of one access.
+fn close<S: Store<Event>>(rt: &impl Abort, memory: &mut Memory<S>, producer: &mut Producer) {
+    if producer.next().is_none() {
+        producer.close();
+    }
+    let answer = whole_access(rt, memory, Side::P, producer.next(), &mut Always(false));
+    if answer.is_some() && producer.next().is_some() {
+        producer.feed(true);
+    }
 }
 
 fn expect_due(rt: &impl Abort, due: Option<Access>, wanted: Option<Access>) {
@@ -109,10 +155,9 @@ fn expect_scan<S: Store<Event>>(
     shape: &Shape,
     side: Side,
     value: u64,
-) -> Result<(), MemoryFault> {
-    let scanned = scan(memory, shape, side)?;
+) {
+    let scanned = scan(rt, memory, shape, side);
     assert_eq!(rt; scanned, Some(value));
-    Ok(())
 }
 
 fn expect_lawful_trace<S: Store<Event>>(
@@ -120,10 +165,7 @@ fn expect_lawful_trace<S: Store<Event>>(
     memory: &Memory<S>,
     trace: &str,
 ) -> Result<(), Fail> {
-    assert_eq!(rt;
-        audit_bits(&memory.shape(), memory.events()),
-        Verdict::Lawful
-    );
+    assert!(rt; audit_bits(&memory.shape(), memory.events()) == Verdict::Lawful);
     let shape = memory.shape();
     assert!(rt; shape.batch() == 1);
     if shape.batch() == 1 {
@@ -220,14 +262,12 @@ fn a_count_before_its_cell_takes_a_stale_item(rt: HostRuntime) -> Result<(), Fai
     let shape = Shape::new(1, 3, 1)?;
     let mut memory = Memory::new(rt.alloc(), shape);
     // a put of 1: the scan, then the count, and the cell last
-    expect_scan(&rt, &mut memory, &shape, Side::P, 0)?;
-    let mut count = UnaryWriter::new(&shape, Side::P);
-    count.write(1);
-    write_bits(&mut memory, &mut count, 2)?;
-    expect_due(&rt, count.next(), None);
+    expect_scan(&rt, &mut memory, &shape, Side::P, 0);
+    let due = write_count(&rt, &mut memory, &shape, 1, 2);
+    expect_due(&rt, due, None);
     let mut consumer = Consumer::new(shape);
-    let taken = take(&mut memory, &mut consumer, &mut Always(false))?;
-    write_digit(&rt, &mut memory, &shape, 0, true)?;
+    let taken = take(&rt, &mut memory, &mut consumer, &mut Always(false));
+    write_digit(&rt, &mut memory, &shape, 0, true);
     // what was put, and what was taken
     let put: [u64; 1] = [1];
     assert!(rt; taken == Some(TakeReply::Item(0)));
@@ -240,51 +280,37 @@ fn closed_without_a_second_scan_loses_an_item(rt: HostRuntime) -> Result<(), Fai
     let shape = Shape::new(1, 3, 1)?;
     let mut memory = Memory::new(rt.alloc(), shape);
     // a take that scans, finds nothing, and asks for the close bit once an item was put and the ring closed
-    expect_scan(&rt, &mut memory, &shape, Side::C, 0)?;
+    expect_scan(&rt, &mut memory, &shape, Side::C, 0);
     let mut producer = Producer::new(shape);
     producer.put(1);
-    for _ in 0..8 {
-        if producer.next().is_some()
-            && let Some(answer) = whole_access(
-                &mut memory,
-                Side::P,
-                producer.next(),
-                &mut Always(false),
-            )?
-            && (answer || !producer.expects_one())
-        {
-            producer.feed(answer);
-        }
-    }
+    make_put(&rt, &mut memory, &mut producer);
     assert!(rt; producer.reply() == Some(PutReply::Stored));
-    if producer.next().is_none() {
-        producer.close();
-    }
-    if whole_access(&mut memory, Side::P, producer.next(), &mut Always(false))?.is_some()
-        && producer.next().is_some()
-    {
-        producer.feed(true);
-    }
+    close(&rt, &mut memory, &mut producer);
     assert!(rt; producer.is_closed());
     // a consumer that takes the close bit for the end is told that the ring is closed, and has taken nothing
-    let told = whole_access(
-        &mut memory,
-        Side::C,
-        Some(Access::Read(Bit::X)),
-        &mut Always(false),
-    )? == Some(true);
+    let due = Some(Access::Read(Bit::X));
+    let told = whole_access(&rt, &mut memory, Side::C, due, &mut Always(false)) == Some(true);
     let taken: [u64; 0] = [];
     let put: [u64; 1] = [1];
     assert!(rt; told);
     assert!(rt; taken.len() < put.len());
     expect_lawful_trace(&rt, &memory, CLOSED_LOSES_AN_ITEM)?;
     // the second scan finds it
-    expect_scan(&rt, &mut memory, &shape, Side::C, 1)?;
+    expect_scan(&rt, &mut memory, &shape, Side::C, 1);
     Ok(())
 }
 
 fn expect_taken(rt: &impl Abort, taken: Option<TakeReply>, wanted: Option<TakeReply>) {
     assert_eq!(rt; taken, wanted);
+}
+
+// A put of 1 and 0: the scan, both words, and the count, whose last write stays open.
+fn put_two<S: Store<Event>>(rt: &impl Abort, memory: &mut Memory<S>, shape: &Shape) {
+    expect_scan(rt, memory, shape, Side::P, 0);
+    write_digit(rt, memory, shape, 0, true);
+    write_digit(rt, memory, shape, 1, false);
+    let last = write_count(rt, memory, shape, 2, 1);
+    step(rt, memory, Side::P, last, &mut Always(false));
 }
 
 // A batch of two over counts modulo capacity + batch, which is one too few: the count that the open write replaces is
@@ -293,24 +319,16 @@ fn expect_taken(rt: &impl Abort, taken: Option<TakeReply>, wanted: Option<TakeRe
 fn a_batch_needs_a_larger_modulus(rt: HostRuntime) -> Result<(), Fail> {
     let shape = Shape::new(2, 4, 1)?;
     let mut memory = Memory::new(rt.alloc(), shape);
-    // a put of 1 and 0: the scan, both words, and the count, whose last write stays open
-    expect_scan(&rt, &mut memory, &shape, Side::P, 0)?;
-    write_digit(&rt, &mut memory, &shape, 0, true)?;
-    write_digit(&rt, &mut memory, &shape, 1, false)?;
-    let mut count = UnaryWriter::new(&shape, Side::P);
-    count.write(2);
-    write_bits(&mut memory, &mut count, 1)?;
-    next_event(&mut memory, Side::P, count.next(), &mut Always(false))?;
+    put_two(&rt, &mut memory, &shape);
     // two scans read 0 in s0, and the third one 1
-    let bits = [false, false, true];
-    let mut oracle = Tape::new(&bits);
+    let mut oracle = Tape::new(&[false, false, true]);
     let mut consumer = Consumer::new(shape);
     for item in [1, 0] {
-        let taken = take(&mut memory, &mut consumer, &mut oracle)?;
+        let taken = take(&rt, &mut memory, &mut consumer, &mut oracle);
         expect_taken(&rt, taken, Some(TakeReply::Item(item)));
     }
     // no third item was put
-    let stale = take(&mut memory, &mut consumer, &mut oracle)?;
+    let stale = take(&rt, &mut memory, &mut consumer, &mut oracle);
     expect_taken(&rt, stale, Some(TakeReply::Item(1)));
     expect_lawful_trace(&rt, &memory, BATCH_COUNT_COMES_BACK)
 }

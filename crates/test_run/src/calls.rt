@@ -23,6 +23,11 @@ enum Call {
 // A shape, by its capacity, modulus, width and batch; calls in their order; and at the end: closed, told.
 type Case = ([u64; 4], &'static [Call], bool, bool);
 
+// The put of this item, or of it and more, is answered as is wanted.
+fn expect_reply(rt: &impl Abort, is_wanted: bool, item: u64) {
+    assert!(rt; is_wanted, "put {item}");
+}
+
 // The call is answered so. It is no meeting.
 fn expect_answer<P: PutEnd, T: TakeEnd>(rt: &impl Abort, putter: &mut P, taker: &mut T, call: &Call)
     requires idle { P.idle putter.old × T.idle taker.old }
@@ -35,18 +40,17 @@ fn expect_answer<P: PutEnd, T: TakeEnd>(rt: &impl Abort, putter: &mut P, taker: 
         Call::Put(item, wanted) => {
             assert!(rt; shape.fits(item));
             let reply = putter.put(item);
-            assert_eq!(rt; reply, wanted, "put {item}");
+            expect_reply(rt, reply == wanted, item);
         }
         Call::PutAll(items, wanted) => {
             assert!(rt; !items.is_empty() && items.len() as u64 <= shape.batch());
             assert!(rt; shape.fits_all(items));
             let reply = putter.put_all(items);
-            assert_eq!(rt; reply, wanted, "put {items:?}");
+            expect_reply(rt, reply == wanted, items[0]);
         }
         Call::Close => putter.close(),
         Call::Take(wanted) => {
-            let reply = taker.take();
-            assert_eq!(rt; reply, wanted);
+            assert!(rt; taker.take() == wanted);
         }
         Call::Meet => {}
     }
@@ -126,17 +130,26 @@ fn expect_run<E: Ends>(rt: &impl Abort, first: E, case: &Case) {
     assert_eq!(rt; ends.finish(), (closed, told));
 }
 
-// So it is on a ring of either kind.
-fn expect_calls(rt: &(impl Abort + AllocGlobal), case: &Case) -> Result<(), Fail> {
-    let ([capacity, modulus, width, batch], _, _, _) = *case;
-    let shape = Shape::with_batch(capacity, modulus, width, batch)?;
+fn expect_flicker(rt: &(impl Abort + AllocGlobal), shape: Shape, case: &Case) -> Result<(), Fail> {
     let (ring, start) = FlickerRing::new(rt.alloc(), shape)?;
     let (putter, taker) = ring.ends(start, Flip::new(), Flip::new());
     expect_run(rt, FlickerEnds { putter, taker }, case);
+    Ok(())
+}
+
+fn expect_counter(rt: &(impl Abort + AllocGlobal), shape: Shape, case: &Case) -> Result<(), Fail> {
     let (ring, start) = CounterRing::new(rt.alloc(), shape)?;
     let (putter, taker) = ring.ends(start);
     expect_run(rt, CounterEnds { putter, taker }, case);
     Ok(())
+}
+
+// So it is on a ring of either kind.
+fn expect_calls(rt: &(impl Abort + AllocGlobal), case: &Case) -> Result<(), Fail> {
+    let [capacity, modulus, width, batch] = case.0;
+    let shape = Shape::with_batch(capacity, modulus, width, batch)?;
+    expect_flicker(rt, shape, case)?;
+    expect_counter(rt, shape, case)
 }
 
 // Ends of one ring of this kind meet, a take finds the ring empty, and so the run ends.
@@ -167,7 +180,7 @@ fn ends_of_either_kind_meet_and_end_alike(rt: HostRuntime) -> Result<(), Fail> {
     Ok(())
 }
 
-const MEETING: Case = (
+static MEETING: Case = (
     [1, 3, 1, 1],
     &[
         Call::Put(1, PutReply::Stored),
@@ -188,7 +201,7 @@ fn ends_that_meet_between_their_calls_hand_items_over(rt: HostRuntime) -> Result
     expect_calls(&rt, &MEETING)
 }
 
-const UNMET: Case = (
+static UNMET: Case = (
     [1, 3, 1, 1],
     &[
         Call::Put(1, PutReply::Stored),
@@ -209,7 +222,7 @@ fn ends_that_never_meet_hand_items_over(rt: HostRuntime) -> Result<(), Fail> {
     expect_calls(&rt, &UNMET)
 }
 
-const ENDINGS: [Case; 5] = [
+static ENDINGS: [Case; 5] = [
     // no call at all
     ([1, 3, 1, 1], &[], false, false),
     (
@@ -251,7 +264,7 @@ fn a_run_ends_closed_and_told_as_it_was(rt: HostRuntime) -> Result<(), Fail> {
     Ok(())
 }
 
-const ALONE: Case = (
+static ALONE: Case = (
     [2, 4, 2, 1],
     &[
         Call::Put(2, PutReply::Stored),
@@ -271,7 +284,7 @@ fn a_putter_alone_fills_the_ring_and_closes_it(rt: HostRuntime) -> Result<(), Fa
     expect_calls(&rt, &ALONE)
 }
 
-const PARTIAL: Case = (
+static PARTIAL: Case = (
     [3, 6, 1, 2],
     &[
         Call::PutAll(&[1, 0], BatchReply::Stored(2)),

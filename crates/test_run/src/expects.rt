@@ -32,21 +32,35 @@ pub const SHAPES: [Numbers; 4] = [[1, 3, 6, 1], [2, 4, 6, 1], [3, 5, 6, 1], [3, 
 /// Answers of an oracle.
 pub const TAPE: &[bool] = &[false, true, true, false, true, false, false];
 
+/// It holds; else what of which case does not. (A message is dear to prove, so this one is for all.)
+pub fn expect(rt: &impl Abort, holds: bool, what: &str, case: &str) {
+    assert!(rt; holds, "{what} of {case}");
+}
+
 /// The items taken are the first that were put, and where the taker was told that the ring is closed they are all.
 pub fn expect_in_order<A: Allocator>(rt: &impl Abort, outcome: &Outcome<A>, items: &[u64]) {
     let taken = outcome.taken.as_slice();
     assert!(rt; taken.len() as u64 <= outcome.put && outcome.put <= items.len() as u64);
     for (place, item) in taken.iter().enumerate() {
-        assert_eq!(rt; Some(*item), items.get(place).copied(), "item {place}");
+        assert!(rt; items.get(place) == Some(item), "item {place}");
     }
     assert!(rt; !outcome.closed || taken.len() == items.len());
 }
 
 /// A ring of either kind.
-#[derive(Clone, Copy, Debug)]
+#[derive(Clone, Copy)]
 pub enum Kind {
     Flicker,
     Counter,
+}
+
+impl Kind {
+    pub fn name(self) -> &'static str {
+        match self {
+            Kind::Flicker => "a flickering ring",
+            Kind::Counter => "a counter ring",
+        }
+    }
 }
 
 /// A relay of the items on a ring of the kind: its items are in order.

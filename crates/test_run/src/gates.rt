@@ -1,5 +1,7 @@
 //! Gates that make one side of a relay wait for the other, so many looks at most.
-use crate::expects::{ITEMS, Kind, Numbers, ONE, SHAPES, TAPE, expect_flicker, expect_relay};
+use crate::expects::{
+    ITEMS, Kind, Numbers, ONE, SHAPES, TAPE, expect, expect_flicker, expect_relay,
+};
 use bits_core::{Always, Flip, Oracle, Side, Tape};
 use ring_run::{Gate, Limits, Outcome, YieldGate};
 use std::alloc::{AllocGlobal, Allocator};
@@ -44,11 +46,9 @@ fn expect_meeting(rt: &(impl Abort + AllocGlobal + Threads), kind: Kind) -> Resu
         ran_out: AtomicBool::new(false),
     };
     let outcome = expect_relay(rt, kind, &ONE, &[1], Limits::both(1), &gate)?;
-    assert!(rt;
-        gate.putter.load(Ordering::SeqCst) && gate.taker.load(Ordering::SeqCst),
-        "{kind:?}"
-    );
-    assert!(rt; !gate.ran_out.load(Ordering::SeqCst), "{kind:?}");
+    let have_met = gate.putter.load(Ordering::SeqCst) && gate.taker.load(Ordering::SeqCst);
+    let is_met = have_met && !gate.ran_out.load(Ordering::SeqCst);
+    expect(rt, is_met, "the meeting", kind.name());
     assert!(rt; outcome.put == 1 && outcome.calls == 1 && outcome.full == 0);
     Ok(())
 }

@@ -1,15 +1,10 @@
+use crate::expects::{Kind, expect};
 use bits_core::Shape;
 use refusing::Refusing;
 use ring_run::{CounterRing, FlickerRing, RunFault};
 use std::alloc::{AllocGlobal, Allocator};
 use std::process::Abort;
 use std::test::Fail;
-
-#[derive(Clone, Copy, Debug)]
-enum Kind {
-    Flicker,
-    Counter,
-}
 
 // How the allocator refuses a ring of the shape.
 fn refusal<A: Allocator + Copy>(alloc: A, kind: Kind, shape: Shape) -> Option<RunFault> {
@@ -31,13 +26,14 @@ fn expect_refused_rings(
         let alloc = Refusing::after(rt.alloc(), allocations);
         let refused = refusal(&alloc, kind, shape);
         if !alloc.has_refused() {
-            assert_eq!(rt; refused, None, "{kind:?}");
-            assert!(rt; 1 <= allocations);
+            let is_made = refused.is_none() && 1 <= allocations;
+            expect(rt, is_made, "the last growth", kind.name());
             return Ok(());
         }
-        assert_eq!(rt; refused, Some(RunFault::OutOfMemory), "{kind:?}");
+        let is_refused = refused == Some(RunFault::OutOfMemory);
+        expect(rt, is_refused, "a growth", kind.name());
     }
-    assert!(rt; false, "a growth was refused each time");
+    expect(rt, false, "each growth", kind.name());
     Ok(())
 }
 

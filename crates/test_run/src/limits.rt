@@ -2,7 +2,7 @@ ghost use Rattle.std.specs.Prelude.{◌≡◌, ◌∷◌, [], IfOk};
 ghost use Rattle.bits_core.specs.Shape.{AllFit};
 ghost use Rattle.ring_run.specs.Steppers.{IsSameEnd};
 
-use crate::expects::{ITEMS, Kind, Numbers, ONE, expect_relay};
+use crate::expects::{ITEMS, Kind, Numbers, ONE, expect, expect_relay};
 use bits_core::{Flip, Shape};
 use ring_run::{CounterRing, FlickerRing, FreeGate, Limits, Outcome, PutEnd, relay};
 use std::alloc::{AllocGlobal, Allocator};
@@ -13,8 +13,27 @@ use std::thread::Threads;
 // What a relay comes to: items put, puts made, items taken, closed, and how often full and empty.
 type Wanted = (u64, u64, &'static [u64], bool, [u64; 2]);
 
-// A shape, the items, the most puts and the most takes, and all that it may come to.
-type Case = (Numbers, &'static [u64], (u64, u64), &'static [Wanted]);
+// A name, a shape, the items, the most puts and the most takes, and all that it may come to.
+type Case = (
+    &'static str,
+    Numbers,
+    &'static [u64],
+    (u64, u64),
+    &'static [Wanted],
+);
+
+// Whether it came to one of these.
+fn is_one_of<A: Allocator>(outcome: &Outcome<A>, wanted: &[Wanted]) -> bool {
+    for (put, calls, taken, closed, counts) in wanted {
+        if (outcome.put, outcome.calls, outcome.closed) == (*put, *calls, *closed)
+            && outcome.taken.as_slice() == *taken
+            && [outcome.full, outcome.empty] == *counts
+        {
+            return true;
+        }
+    }
+    false
+}
 
 // Each relay on a ring of the kind comes to one of what it may come to.
 fn expect_cases(
@@ -22,23 +41,13 @@ fn expect_cases(
     kind: Kind,
     cases: &[Case],
 ) -> Result<(), Fail> {
-    for (numbers, items, (puts, takes), wanted) in cases {
+    for (name, numbers, items, (puts, takes), wanted) in cases {
         let limits = Limits {
             puts: *puts,
             takes: *takes,
         };
         let outcome = expect_relay(rt, kind, numbers, items, limits, &FreeGate)?;
-        let mut is_wanted = false;
-        for (put, calls, taken, closed, counts) in *wanted {
-            is_wanted |= (outcome.put, outcome.calls, outcome.closed) == (*put, *calls, *closed)
-                && outcome.taken.as_slice() == *taken
-                && [outcome.full, outcome.empty] == *counts;
-        }
-        assert!(rt;
-            is_wanted,
-            "{kind:?}, {} items, limits {limits:?}",
-            items.len()
-        );
+        expect(rt, is_one_of(&outcome, wanted), name, kind.name());
     }
     Ok(())
 }
@@ -46,23 +55,44 @@ fn expect_cases(
 // One cell of six bits.
 const SIX: Numbers = [1, 3, 6, 1];
 
-const LIMITED: [Case; 6] = [
-    // no call but the close, where all items are put
-    (SIX, &[0, 1, 2], (0, 0), &[(0, 0, &[], false, [0, 0])]),
-    (SIX, &[], (0, 0), &[(0, 0, &[], false, [0, 0])]),
-    // a take before the put, or after it
+static LIMITED: [Case; 6] = [
     (
+        "no call",
+        SIX,
+        &[0, 1, 2],
+        (0, 0),
+        &[(0, 0, &[], false, [0, 0])],
+    ),
+    (
+        "no call but the close, as there is no item",
+        SIX,
+        &[],
+        (0, 0),
+        &[(0, 0, &[], false, [0, 0])],
+    ),
+    (
+        "a take before the put, or after it",
         SIX,
         &ITEMS,
         (1, 1),
         &[(1, 1, &[0], false, [0, 0]), (1, 1, &[], false, [0, 1])],
     ),
-    // takes alone
-    (ONE, &[1, 0, 1], (0, 5), &[(0, 0, &[], false, [0, 5])]),
-    // puts alone
-    (ONE, &[1, 0], (5, 0), &[(1, 5, &[], false, [4, 0])]),
-    // a take before the close, or after it
     (
+        "takes alone",
+        ONE,
+        &[1, 0, 1],
+        (0, 5),
+        &[(0, 0, &[], false, [0, 5])],
+    ),
+    (
+        "puts alone",
+        ONE,
+        &[1, 0],
+        (5, 0),
+        &[(1, 5, &[], false, [4, 0])],
+    ),
+    (
+        "a take before the close, or after it",
         ONE,
         &[],
         (0, 1),
@@ -80,15 +110,16 @@ fn a_relay_stops_at_its_limits(rt: HostRuntime) -> Result<(), Fail> {
 fn limits_may_be_the_same_for_both(rt: HostRuntime) {
     for n in [0, 1, u64::MAX] {
         let limits = Limits { puts: n, takes: n };
-        assert_eq!(rt; Limits::both(n), limits);
+        assert!(rt; Limits::both(n) == limits);
     }
 }
 
 fn expect_all(rt: &(impl Abort + AllocGlobal + Threads), kind: Kind) -> Result<(), Fail> {
     let limits = Limits::both(u64::MAX);
     let outcome = expect_relay(rt, kind, &SIX, &ITEMS, limits, &FreeGate)?;
-    assert!(rt; outcome.put == 64 && outcome.closed, "{kind:?}");
-    assert!(rt; outcome.taken.as_slice() == ITEMS.as_slice(), "{kind:?}");
+    let is_whole = outcome.put == 64 && outcome.closed;
+    let is_all = is_whole && outcome.taken.as_slice() == ITEMS.as_slice();
+    expect(rt, is_all, "all items", kind.name());
     Ok(())
 }
 

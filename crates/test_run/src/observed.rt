@@ -10,7 +10,7 @@ const BITS: [Bit; 3] = [Bit::S(0), Bit::S(1), Bit::Cell(0, 0)];
 
 // The words of these bits, before a put of 1 into an empty ring of one cell of one bit, and after each of its steps: r0 is
 // read, the digit is written, and s becomes 1.
-const PUT: [[u64; 3]; 9] = [
+static PUT: [[u64; 3]; 9] = [
     [1, 0, 0],
     [1, 0, 0],
     [1, 0, 0],
@@ -26,7 +26,7 @@ fn expect_words(rt: &impl Abort, ring: &FlickerRing<Global>, wanted: &[u64; 3]) 
     let shape = ring.shape();
     for (bit, word) in BITS.iter().zip(wanted) {
         assert!(rt; shape.has(*bit));
-        assert_eq!(rt; ring.observe(*bit), *word, "{bit:?}");
+        assert!(rt; ring.observe(*bit) == *word, "{bit:?}");
     }
 }
 
@@ -45,10 +45,10 @@ fn a_word_is_2_while_its_bit_is_written(rt: HostRuntime) -> Result<(), Fail> {
 // The words of the close bit, of both counters and of the cells, in order.
 fn expect_counts(rt: &impl Abort, ring: &CounterRing<Global>, wanted: &[u64]) {
     let count = 3 + ring.shape().capacity() as usize;
-    assert_eq!(rt; wanted.len(), count);
+    assert!(rt; wanted.len() == count);
     for (place, word) in wanted.iter().enumerate() {
         assert!(rt; place < count);
-        assert_eq!(rt; ring.observe(place), *word, "word {place}");
+        assert!(rt; ring.observe(place) == *word, "word {place}");
     }
 }
 

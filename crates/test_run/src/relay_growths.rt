@@ -1,6 +1,6 @@
 ghost use Rattle.bits_core.specs.Shape.{AllFit};
 
-use crate::expects::{ITEMS, Kind, Numbers, expect_in_order, relay_between, relay_counted};
+use crate::expects::{ITEMS, Kind, Numbers, expect, expect_in_order, relay_between, relay_counted};
 use bits_core::{Flip, Shape};
 use refusing::Refusing;
 use ring_run::{
@@ -64,11 +64,11 @@ fn expect_refused_relays(
         refused = refused.saturating_add(u64::from(is_refused));
         if !has_growth {
             // the words of the ring, twice, and room for the items taken
-            assert!(rt; 3 <= refused, "{kind:?}");
+            expect(rt, 3 <= refused, "growths", kind.name());
             return Ok(());
         }
     }
-    assert!(rt; false, "{kind:?}: a growth was refused each time");
+    expect(rt, false, "each growth", kind.name());
     Ok(())
 }
 

@@ -1,5 +1,6 @@
 // Scripts that both ends follow by single steps, and what comes of them.
-use crate::steps::{Script, begin};
+use crate::expects::expect;
+use crate::steps::{Consuming, Producing, Script, begin};
 use bits_core::{Shape, Side};
 use ring_run::FlickerRing;
 use std::alloc::AllocGlobal;
@@ -19,13 +20,13 @@ type Case = (
     Wanted,
 );
 
-// The steps of the script give what is wanted.
-fn expect_script(rt: &(impl Abort + AllocGlobal), case: &Case) -> Result<(), Fail> {
-    let (name, [capacity, modulus, width, batch], script, steps, wanted) = *case;
-    let (events, stored, taken, told, counts) = wanted;
-    let shape = Shape::with_batch(capacity, modulus, width, batch)?;
-    let (ring, start) = FlickerRing::new(rt.alloc(), shape)?;
-    let (mut producing, mut consuming) = begin(&ring, start, script, taken);
+// Makes the steps in their order. Answers how many were made.
+fn make_steps(
+    rt: &impl Abort,
+    producing: &mut Producing<'_>,
+    consuming: &mut Consuming<'_>,
+    steps: &[(Side, u64)],
+) -> u64 {
     let mut made: u64 = 0;
     for (side, count) in steps {
         for _ in 0..*count {
@@ -36,15 +37,23 @@ fn expect_script(rt: &(impl Abort + AllocGlobal), case: &Case) -> Result<(), Fai
             made = made.saturating_add(u64::from(is_made));
         }
     }
-    assert_eq!(rt; made, events, "steps of {name}");
-    assert_eq!(rt; producing.stored, stored, "items stored of {name}");
-    assert_eq!(rt; consuming.taken, taken.len(), "items taken of {name}");
-    assert_eq!(rt; consuming.told, told, "told of {name}");
-    assert_eq!(rt;
-        [producing.full, consuming.empty],
-        counts,
-        "full and empty of {name}"
-    );
+    made
+}
+
+// The steps of the script give what is wanted.
+fn expect_script(rt: &(impl Abort + AllocGlobal), case: &Case) -> Result<(), Fail> {
+    let (name, [capacity, modulus, width, batch], script, steps, wanted) = *case;
+    let (events, stored, taken, told, counts) = wanted;
+    let shape = Shape::with_batch(capacity, modulus, width, batch)?;
+    let (ring, start) = FlickerRing::new(rt.alloc(), shape)?;
+    let (mut producing, mut consuming) = begin(&ring, start, script, taken);
+    let made = make_steps(rt, &mut producing, &mut consuming, steps);
+    expect(rt, made == events, "steps", name);
+    expect(rt, producing.stored == stored, "items stored", name);
+    expect(rt, consuming.taken == taken.len(), "items taken", name);
+    expect(rt, consuming.told == told, "told", name);
+    let found = [producing.full, consuming.empty];
+    expect(rt, found == counts, "full and empty", name);
     Ok(())
 }
 
@@ -58,7 +67,7 @@ const ONE_ZERO: &[bool] = &[true, false];
 
 const ZERO_ONE: &[bool] = &[false, true];
 
-const PUTS: [Case; 16] = [
+static PUTS: [Case; 16] = [
     (
         "the plain path",
         ONE,
@@ -195,7 +204,7 @@ fn steps_that_interleave_give_what_their_script_says(rt: HostRuntime) -> Result<
     Ok(())
 }
 
-const BATCHES: [Case; 2] = [
+static BATCHES: [Case; 2] = [
     // the write of the count is open to the end
     (
         "a batch of three",

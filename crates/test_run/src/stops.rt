@@ -13,7 +13,7 @@ const SHAPES: [[u64; 4]; 3] = [[1, 3, 1, 1], [2, 5, 1, 2], [3, 7, 2, 3]];
 const ITEMS: &[u64] = &[1, 0, 1, 1, 0, 0, 1];
 
 // All items are put and the ring closed, and one more than these is wanted; by the answers of three oracles.
-const SCRIPTS: [Script<'static>; 3] = [
+static SCRIPTS: [Script<'static>; 3] = [
     (ITEMS, true, 8, &[]),
     (ITEMS, true, 8, &[false, true]),
     (ITEMS, true, 8, &[true, true, false]),
@@ -28,6 +28,11 @@ const ROUNDS: u64 = 600;
 // Who stops, after how many steps of either side, and whether its end is dropped then.
 type Stop = (Side, u64, bool);
 
+// It holds; else what, after which stop.
+fn expect_at(rt: &impl Abort, holds: bool, what: &str, stop: Stop) {
+    assert!(rt; holds, "{what}: {stop:?}");
+}
+
 // All that was stored is taken, at most the items of the put that was stopped beside it; and takes go on to return.
 fn expect_taken(
     rt: &impl Abort,
@@ -41,19 +46,16 @@ fn expect_taken(
         let _made = consuming.step(rt);
     }
     let taken = consuming.taken as u64;
-    assert!(rt; stored <= taken, "{stop:?}: {stored} stored, {taken} taken");
-    assert!(rt;
-        taken <= stored.saturating_add(batch),
-        "{stop:?}: {stored} stored, {taken} taken"
-    );
-    assert!(rt;
+    let most = stored.saturating_add(batch);
+    let is_all = taken == ITEMS.len() as u64;
+    expect_at(rt, stored <= taken && taken <= most, "items taken", stop);
+    expect_at(
+        rt,
         empty < consuming.empty || consuming.told,
-        "{stop:?}: takes return"
+        "takes return",
+        stop,
     );
-    assert!(rt;
-        !consuming.told || taken == ITEMS.len() as u64,
-        "{stop:?}: told"
-    );
+    expect_at(rt, !consuming.told || is_all, "told", stop);
 }
 
 // As many items are stored as there is room for beside those that were not taken, at most one more for the take that was stopped;
@@ -71,18 +73,10 @@ fn expect_stored(
     }
     let stored = producing.stored;
     let room = taken.saturating_add(capacity);
-    assert!(rt;
-        stored <= room.saturating_add(1),
-        "{stop:?}: {stored} stored, {taken} taken"
-    );
-    assert!(rt;
-        room <= stored || stored == ITEMS.len() as u64,
-        "{stop:?}: {stored} stored, {taken} taken"
-    );
-    assert!(rt;
-        full < producing.full || stored == ITEMS.len() as u64,
-        "{stop:?}: puts return"
-    );
+    let is_all = stored == ITEMS.len() as u64;
+    expect_at(rt, stored <= room.saturating_add(1), "items stored", stop);
+    expect_at(rt, room <= stored || is_all, "room for items", stop);
+    expect_at(rt, full < producing.full || is_all, "puts return", stop);
 }
 
 fn let_putter_go(_producing: Producing<'_>) {}
@@ -149,6 +143,23 @@ fn an_end_that_is_dropped_in_a_call_leaves_the_other_true(rt: HostRuntime) -> Re
     expect_stops(&rt, Side::C, true)
 }
 
+// Rounds of so many steps of the producer, and so many of the consumer.
+fn make_rounds(
+    rt: &impl Abort,
+    producing: &mut Producing<'_>,
+    consuming: &mut Consuming<'_>,
+    (puts, takes): (u64, u64),
+) {
+    for _ in 0..ROUNDS {
+        for _ in 0..puts {
+            let _made = producing.step();
+        }
+        for _ in 0..takes {
+            let _made = consuming.step(rt);
+        }
+    }
+}
+
 // One side makes so many steps for each of the other's: all items come through, and the end is told.
 fn expect_slow(
     rt: &(impl Abort + AllocGlobal),
@@ -162,24 +173,18 @@ fn expect_slow(
     let (ring, start) = FlickerRing::new(rt.alloc(), shape)?;
     let (items, _, _, _) = *script;
     let (mut producing, mut consuming) = begin(&ring, start, *script, items);
-    let (puts, takes) = match slow {
+    let times_of = match slow {
         Side::P => (1, times),
         Side::C => (times, 1),
     };
-    for _ in 0..ROUNDS {
-        for _ in 0..puts {
-            let _made = producing.step();
-        }
-        for _ in 0..takes {
-            let _made = consuming.step(rt);
-        }
-    }
-    assert!(rt;
-        consuming.told,
-        "{numbers:?}, {slow:?} slower, {times} times"
+    make_rounds(rt, &mut producing, &mut consuming, times_of);
+    let is_all = consuming.taken == ITEMS.len() && producing.stored == ITEMS.len() as u64;
+    expect_at(
+        rt,
+        consuming.told && is_all,
+        "far slower, so many times",
+        (slow, times, false),
     );
-    assert_eq!(rt; consuming.taken, ITEMS.len());
-    assert_eq!(rt; producing.stored, ITEMS.len() as u64);
     Ok(())
 }
 
