@@ -5,7 +5,6 @@ use refusing::Refusing;
 use ring_player::Told;
 use std::alloc::{AllocGlobal, Global};
 use std::process::Abort;
-use std::test::Fail;
 
 // What a near miss is to tell of a script.
 type Near<'a> = (NearMiss, Numbers, Asked<'a>, &'a [Told]);
@@ -86,10 +85,10 @@ static CASES: [Near<'static>; 5] = [
     ),
 ];
 
-fn expect_told(rt: &(impl Abort + AllocGlobal), cases: &[Near]) -> Result<(), Fail> {
+fn expect_told(rt: &(impl Abort + AllocGlobal), cases: &[Near]) {
     for (miss, shape, asked, wanted) in cases {
-        let script = script_of(rt.alloc(), rt.alloc(), shape, asked)?;
-        let played = play_near(rt.alloc(), *miss, &script)?;
+        let script = script_of(rt, rt.alloc(), shape, asked);
+        let played = play_near(rt.alloc(), *miss, &script).expect(rt, "memory for the play");
         expect(
             rt,
             played.told.as_slice() == *wanted,
@@ -99,16 +98,15 @@ fn expect_told(rt: &(impl Abort + AllocGlobal), cases: &[Near]) -> Result<(), Fa
         let verdict = audit_bits(&script.shape(), played.history.as_slice());
         expect(rt, verdict == Verdict::Lawful, "history", miss.name());
     }
-    Ok(())
 }
 
 #[test]
-fn near_misses_lose_double_and_tell_too_soon(rt: HostRuntime) -> Result<(), Fail> {
-    expect_told(&rt, &CASES)
+fn near_misses_lose_double_and_tell_too_soon(rt: HostRuntime) {
+    expect_told(&rt, &CASES);
 }
 
 #[test]
-fn near_misses_have_their_names(rt: HostRuntime) -> Result<(), Fail> {
+fn near_misses_have_their_names(rt: HostRuntime) {
     for (miss, name) in [
         (NearMiss::CountBeforeCell, "count-before-cell"),
         (NearMiss::NoSecondScan, "no-second-scan"),
@@ -119,36 +117,34 @@ fn near_misses_have_their_names(rt: HostRuntime) -> Result<(), Fail> {
         assert!(rt; miss.name() == name && NearMiss::named(name) == Some(miss));
     }
     assert!(rt; NearMiss::named("torus").is_none());
-    Ok(())
 }
 
 // As many allocations as none makes.
 const MANY: u64 = 1_000_000;
 
 // Whether the play was refused, where the allocation after so many is.
-fn is_refused(rt: &(impl Abort + AllocGlobal), allocations: u64) -> Result<bool, Fail> {
+fn is_refused(rt: &(impl Abort + AllocGlobal), allocations: u64) -> bool {
     let alloc: Refusing<Global> = Refusing::after(rt.alloc(), MANY);
     let (miss, shape, asked, wanted) = &CASES[2];
-    let script = script_of(&alloc, rt.alloc(), shape, asked)?;
+    let script = script_of(rt, &alloc, shape, asked);
     alloc.refuse_after(allocations);
     let (is_right, is_refused) = match play_near(&alloc, *miss, &script) {
         Err(fault) => (fault == NearFault::OutOfMemory, true),
         Ok(played) => (played.told.as_slice() == *wanted, false),
     };
     assert!(rt; is_right && is_refused == alloc.has_refused());
-    Ok(is_refused)
+    is_refused
 }
 
 #[test]
-fn each_growth_of_a_near_miss_may_be_refused(rt: HostRuntime) -> Result<(), Fail> {
+fn each_growth_of_a_near_miss_may_be_refused(rt: HostRuntime) {
     let mut refused: u64 = 0;
     for allocations in 0..40 {
-        if !is_refused(&rt, allocations)? {
+        if !is_refused(&rt, allocations) {
             break;
         }
         refused = refused.saturating_add(1);
     }
     // the first growths of the history and of what is told
     assert!(rt; 2 <= refused && refused < 40);
-    Ok(())
 }

@@ -38,7 +38,7 @@ fn step_again<E: Store<Event>, T: Store<u64>>(
     alloc: &Refusing<Global>,
     world: &mut World<E, T>,
     side: Side,
-) -> Result<bool, Fail> {
+) -> bool {
     let before = seen(world);
     alloc.refuse_after(0);
     let step = world.step(side);
@@ -47,13 +47,13 @@ fn step_again<E: Store<Event>, T: Store<u64>>(
     match step {
         Ok(moved) => {
             assert!(rt; moved && !refused);
-            Ok(false)
+            false
         }
         Err(fault) => {
             assert!(rt; fault == PlayFault::OutOfMemory && refused);
             assert!(rt; seen(world) == before);
-            assert!(rt; world.step(side)?);
-            Ok(true)
+            assert!(rt; world.step(side) == Ok(true));
+            true
         }
     }
 }
@@ -64,59 +64,57 @@ fn steps_again<E: Store<Event>, T: Store<u64>>(
     alloc: &Refusing<Global>,
     world: &mut World<E, T>,
     runs: &[Run],
-) -> Result<u64, Fail> {
+) -> u64 {
     let mut refused: u64 = 0;
     for run in runs {
         for made in 0..run.count {
-            if step_again(rt, alloc, world, run.side)? {
+            if step_again(rt, alloc, world, run.side) {
                 refused = refused.saturating_add(1);
             }
         }
     }
-    Ok(refused)
+    refused
 }
 
 #[test]
-fn steps_that_were_refused_can_be_made_again(rt: HostRuntime) -> Result<(), Fail> {
+fn steps_that_were_refused_can_be_made_again(rt: HostRuntime) {
     let alloc = Refusing::after(rt.alloc(), MANY);
-    let script = script_of(&alloc, rt.alloc(), &ONE, &WRAP)?;
+    let script = script_of(&rt, &alloc, &ONE, &WRAP);
     let mut world = World::new(&alloc, &script);
     // the first growths of the history and of the items taken
-    assert!(rt; 2 <= steps_again(&rt, &alloc, &mut world, script.runs())?);
+    assert!(rt; 2 <= steps_again(&rt, &alloc, &mut world, script.runs()));
     expect_report(&rt, "a world refused", &script, &world.report(), &WRAPPED);
-    Ok(())
 }
 
 // Plays the wrap, where the allocation after so many is refused, and answers whether one was.
-fn is_refused(rt: &(impl Abort + AllocGlobal), allocations: u64) -> Result<bool, Fail> {
+fn is_refused(rt: &(impl Abort + AllocGlobal), allocations: u64) -> bool {
     let alloc = Refusing::after(rt.alloc(), MANY);
-    let script = script_of(&alloc, rt.alloc(), &ONE, &WRAP)?;
+    let script = script_of(rt, &alloc, &ONE, &WRAP);
     alloc.refuse_after(allocations);
     match play(&alloc, &script) {
         Err(fault) => {
             assert!(rt; fault == PlayFault::OutOfMemory && alloc.has_refused());
-            Ok(true)
+            true
         }
         Ok(report) => {
             assert!(rt; !alloc.has_refused());
             expect_report(rt, "a play", &script, &report, &WRAPPED);
-            Ok(false)
+            false
         }
     }
 }
 
 #[test]
-fn each_growth_of_a_play_may_be_refused(rt: HostRuntime) -> Result<(), Fail> {
+fn each_growth_of_a_play_may_be_refused(rt: HostRuntime) {
     let mut refused: u64 = 0;
     for allocations in 0..40 {
-        if !is_refused(&rt, allocations)? {
+        if !is_refused(&rt, allocations) {
             break;
         }
         refused = refused.saturating_add(1);
     }
     // the first growths of the history and of the items taken
     assert!(rt; 2 <= refused && refused < 40);
-    Ok(())
 }
 
 #[test]

@@ -1,9 +1,8 @@
 //! Scripts, and what their reports say.
 use bits_core::{Event, Store, Verdict, audit_bits};
-use ring_player::{Report, Script};
-use std::alloc::{AllocGlobal, Allocator, Global};
+use ring_player::{Report, Script, play};
+use std::alloc::{AllocError, AllocGlobal, Allocator, Global};
 use std::process::Abort;
-use std::test::Fail;
 
 /// A shape: capacity, modulus, width, batch.
 pub type Numbers = [u64; 4];
@@ -20,8 +19,7 @@ pub type Case<'a> = (&'a str, Numbers, Asked<'a>, Wanted<'a>);
 /// One cell of one bit, and puts of one item.
 pub const ONE: Numbers = [1, 3, 1, 1];
 
-/// The text of a script.
-pub fn text_of(alloc: Global, shape: &Numbers, asked: &Asked) -> Result<String, Fail> {
+fn text_of(alloc: Global, shape: &Numbers, asked: &Asked) -> Result<String, AllocError> {
     let [capacity, modulus, width, batch] = *shape;
     let (items, takes, close, schedule, oracle) = *asked;
     let numbers = format!(in alloc;
@@ -29,18 +27,19 @@ pub fn text_of(alloc: Global, shape: &Numbers, asked: &Asked) -> Result<String, 
     )?;
     let calls = format!(in alloc; "\"items\":{items},\"takes\":{takes},\"close\":{close}")?;
     let texts = format!(in alloc; "\"schedule\":\"{schedule}\",\"oracle\":\"{oracle}\"")?;
-    Ok(format!(in alloc; "{{{numbers},{calls},{texts}}}")?)
+    format!(in alloc; "{{{numbers},{calls},{texts}}}")
 }
 
-/// The script, its lists in memory of the allocator.
+/// The script, its lists in memory of the allocator. (A `?` is dear to prove, so where memory or a script is lacking the test ends here.)
 pub fn script_of<A: Allocator + Copy>(
+    rt: &(impl Abort + AllocGlobal),
     lists: A,
-    alloc: Global,
     shape: &Numbers,
     asked: &Asked,
-) -> Result<Script<A>, Fail> {
-    let text = text_of(alloc, shape, asked)?;
-    Ok(Script::read_in(lists, alloc, text.as_bytes())?)
+) -> Script<A> {
+    let text = text_of(rt.alloc(), shape, asked).expect(rt, "memory for the text");
+    let script = Script::read_in(lists, rt.alloc(), text.as_bytes());
+    script.expect(rt, "a script")
 }
 
 /// It holds; else what of which case does not. (A message is dear to prove, so this one is for all.)
@@ -69,11 +68,10 @@ pub fn expect_report<A: Allocator, E: Store<Event>, T: Store<u64>>(
 }
 
 /// Each script gives its report.
-pub fn expect_reports(rt: &(impl Abort + AllocGlobal), cases: &[Case]) -> Result<(), Fail> {
+pub fn expect_reports(rt: &(impl Abort + AllocGlobal), cases: &[Case]) {
     for (name, shape, asked, wanted) in cases {
-        let script = script_of(rt.alloc(), rt.alloc(), shape, asked)?;
-        let report = ring_player::play(rt.alloc(), &script)?;
+        let script = script_of(rt, rt.alloc(), shape, asked);
+        let report = play(rt.alloc(), &script).expect(rt, "memory for the play");
         expect_report(rt, name, &script, &report, wanted);
     }
-    Ok(())
 }

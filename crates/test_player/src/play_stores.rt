@@ -4,7 +4,6 @@ use bits_core::{Act, Bit, Event, Filled, Side, Store};
 use ring_player::{PlayFault, Report, Script, World, play, play_first};
 use std::alloc::{AllocGlobal, Allocator};
 use std::process::Abort;
-use std::test::Fail;
 
 // What a slot holds before it is in use.
 const UNUSED: Event = Event {
@@ -27,10 +26,13 @@ fn expect_first<A: Allocator, E: Store<Event>, T: Store<u64>>(
     letters: u64,
     whole: &Report<E, T>,
     wanted: &Wanted,
-) -> Result<(), Fail> {
+) {
     let (mut slots, mut items) = ([UNUSED; 70], [0; 4]);
     let (events, taken) = (Filled::new(&mut slots), Filled::new(&mut items));
-    let report = play_first(script.as_ref(), letters, events, taken)?;
+    let report = play_first(script.as_ref(), letters, events, taken).expect(
+        rt,
+        "slots for the play",
+    );
     assert!(rt;
         whole
             .history
@@ -42,23 +44,16 @@ fn expect_first<A: Allocator, E: Store<Event>, T: Store<u64>>(
     if script.len() <= letters {
         expect_report(rt, "a play in slots", script, &report, wanted);
     }
-    Ok(())
 }
 
 // The play of the script, and that in slots, of any number of letters.
-fn expect_play(
-    rt: &(impl Abort + AllocGlobal),
-    shape: &Numbers,
-    asked: &Asked,
-    wanted: &Wanted,
-) -> Result<(), Fail> {
-    let script = script_of(rt.alloc(), rt.alloc(), shape, asked)?;
-    let whole = play(rt.alloc(), &script)?;
+fn expect_play(rt: &(impl Abort + AllocGlobal), shape: &Numbers, asked: &Asked, wanted: &Wanted) {
+    let script = script_of(rt, rt.alloc(), shape, asked);
+    let whole = play(rt.alloc(), &script).expect(rt, "memory for the play");
     expect_report(rt, "a play", &script, &whole, wanted);
     for letters in 0..=script.len().saturating_add(1) {
-        expect_first(rt, &script, letters, &whole, wanted)?;
+        expect_first(rt, &script, letters, &whole, wanted);
     }
-    Ok(())
 }
 
 // Makes the steps of the schedule till one is refused, which leaves the world as it was.
@@ -80,28 +75,27 @@ fn expect_steps<A: Allocator, E: Store<Event>, T: Store<u64>>(
 }
 
 // The wrap, where the history and the items taken have so many slots. Answers how many steps were made.
-fn steps_made(rt: &(impl Abort + AllocGlobal), events: usize, taken: usize) -> Result<usize, Fail> {
-    let script = script_of(rt.alloc(), rt.alloc(), &ONE, &WRAP)?;
+fn steps_made(rt: &(impl Abort + AllocGlobal), events: usize, taken: usize) -> usize {
+    let script = script_of(rt, rt.alloc(), &ONE, &WRAP);
     let (mut slots, mut items) = ([UNUSED; 63], [0; 3]);
     let history = Filled::new(&mut slots[..events.min(63)]);
     let taken = Filled::new(&mut items[..taken.min(3)]);
     let mut world = World::over(script.as_ref(), history, taken);
     expect_steps(rt, &script, &mut world);
-    Ok(world.history().len())
+    world.history().len()
 }
 
 #[test]
-fn a_play_in_slots_is_the_play(rt: HostRuntime) -> Result<(), Fail> {
-    expect_play(&rt, &ONE, &WRAP, &WRAPPED)?;
-    expect_play(&rt, &PAIRS, &PAIRED, &PAIRS_PUT)
+fn a_play_in_slots_is_the_play(rt: HostRuntime) {
+    expect_play(&rt, &ONE, &WRAP, &WRAPPED);
+    expect_play(&rt, &PAIRS, &PAIRED, &PAIRS_PUT);
 }
 
 #[test]
-fn a_step_with_no_slot_left_changes_nothing(rt: HostRuntime) -> Result<(), Fail> {
-    assert!(rt; steps_made(&rt, 63, 3)? == 63);
-    assert!(rt; steps_made(&rt, 62, 3)? == 62);
+fn a_step_with_no_slot_left_changes_nothing(rt: HostRuntime) {
+    assert!(rt; steps_made(&rt, 63, 3) == 63);
+    assert!(rt; steps_made(&rt, 62, 3) == 62);
     // The last take has its item with its last event, the last of the play.
-    assert!(rt; steps_made(&rt, 63, 2)? < 63);
-    assert!(rt; steps_made(&rt, 63, 0)? < 18);
-    Ok(())
+    assert!(rt; steps_made(&rt, 63, 2) < 63);
+    assert!(rt; steps_made(&rt, 63, 0) < 18);
 }

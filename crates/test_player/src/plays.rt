@@ -3,7 +3,6 @@ use bits_core::{Act, Bit, Event, Side, Store};
 use ring_player::{World, play};
 use std::alloc::AllocGlobal;
 use std::process::Abort;
-use std::test::Fail;
 
 static WHOLE_CALLS: [Case<'static>; 6] = [
     (
@@ -51,8 +50,8 @@ static WHOLE_CALLS: [Case<'static>; 6] = [
 ];
 
 #[test]
-fn whole_calls_give_their_reports(rt: HostRuntime) -> Result<(), Fail> {
-    expect_reports(&rt, &WHOLE_CALLS)
+fn whole_calls_give_their_reports(rt: HostRuntime) {
+    expect_reports(&rt, &WHOLE_CALLS);
 }
 
 static OVERLAPS: [Case<'static>; 5] = [
@@ -89,8 +88,8 @@ static OVERLAPS: [Case<'static>; 5] = [
 ];
 
 #[test]
-fn overlapped_reads_answer_as_the_oracle_says(rt: HostRuntime) -> Result<(), Fail> {
-    expect_reports(&rt, &OVERLAPS)
+fn overlapped_reads_answer_as_the_oracle_says(rt: HostRuntime) {
+    expect_reports(&rt, &OVERLAPS);
 }
 
 static CLOSES: [Case<'static>; 5] = [
@@ -127,8 +126,8 @@ static CLOSES: [Case<'static>; 5] = [
 ];
 
 #[test]
-fn a_close_is_told_once_it_is_read(rt: HostRuntime) -> Result<(), Fail> {
-    expect_reports(&rt, &CLOSES)
+fn a_close_is_told_once_it_is_read(rt: HostRuntime) {
+    expect_reports(&rt, &CLOSES);
 }
 
 static BATCHES: [Case<'static>; 2] = [
@@ -147,8 +146,8 @@ static BATCHES: [Case<'static>; 2] = [
 ];
 
 #[test]
-fn batches_give_their_reports(rt: HostRuntime) -> Result<(), Fail> {
-    expect_reports(&rt, &BATCHES)
+fn batches_give_their_reports(rt: HostRuntime) {
+    expect_reports(&rt, &BATCHES);
 }
 
 // A call of a side begins with the read of the first bit of the other side's count.
@@ -162,51 +161,49 @@ fn expect_calls(
     shape: &[u64; 4],
     asked: &Asked,
     lengths: &[usize],
-) -> Result<(), Fail> {
-    let script = script_of(rt.alloc(), rt.alloc(), shape, asked)?;
-    let report = play(rt.alloc(), &script)?;
+) {
+    let script = script_of(rt, rt.alloc(), shape, asked);
+    let report = play(rt.alloc(), &script).expect(rt, "memory for the play");
     let mut made: Vec<usize, _> = Vec::new(rt.alloc());
     let mut length: usize = 0;
     for event in report.history.iter() {
         if begins_call(event) && 0 < length {
-            made.push(length)?;
+            made.push(length).expect(rt, "memory for a length");
             length = 0;
         }
         length = length.saturating_add(1);
     }
-    made.push(length)?;
+    made.push(length).expect(rt, "memory for a length");
     assert!(rt; made.as_slice() == lengths);
-    Ok(())
 }
 
 #[test]
-fn calls_have_their_events(rt: HostRuntime) -> Result<(), Fail> {
+fn calls_have_their_events(rt: HostRuntime) {
     let five = ("[1,0,0,1,1]", 5, false, "P8C10P10C12P10C6P8C10P8C10", "");
-    expect_calls(&rt, &ONE, &five, &[8, 10, 10, 12, 10, 6, 8, 10, 8, 10])?;
+    expect_calls(&rt, &ONE, &five, &[8, 10, 10, 12, 10, 6, 8, 10, 8, 10]);
     let partial = ("[1,0,1,1]", 0, false, "P20", "");
-    expect_calls(&rt, &[3, 6, 1, 2], &partial, &[10, 8, 2])
+    expect_calls(&rt, &[3, 6, 1, 2], &partial, &[10, 8, 2]);
 }
 
 // The next steps of a side: so many that add an event, and then two that add none.
 fn expect_steps<E: Store<Event>, T: Store<u64>>(
-    rt: &(impl Abort + AllocGlobal),
+    rt: &impl Abort,
     world: &mut World<E, T>,
     side: Side,
     count: usize,
-) -> Result<(), Fail> {
+) {
     let before = world.history().len();
     for made in 0..count.saturating_add(2) {
-        assert!(rt; world.step(side)? == (made < count));
+        assert!(rt; world.step(side) == Ok(made < count));
     }
     assert!(rt; world.history().len() == before.saturating_add(count));
-    Ok(())
 }
 
 #[test]
-fn a_side_that_is_done_adds_nothing(rt: HostRuntime) -> Result<(), Fail> {
-    let script = script_of(rt.alloc(), rt.alloc(), &ONE, &("[1]", 2, true, "", ""))?;
+fn a_side_that_is_done_adds_nothing(rt: HostRuntime) {
+    let script = script_of(&rt, rt.alloc(), &ONE, &("[1]", 2, true, "", ""));
     let mut world = World::new(rt.alloc(), &script);
-    expect_steps(&rt, &mut world, Side::P, 10)?;
-    expect_steps(&rt, &mut world, Side::C, 20)?;
-    expect_steps(&rt, &mut world, Side::P, 0)
+    expect_steps(&rt, &mut world, Side::P, 10);
+    expect_steps(&rt, &mut world, Side::C, 20);
+    expect_steps(&rt, &mut world, Side::P, 0);
 }

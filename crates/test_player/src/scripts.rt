@@ -1,8 +1,7 @@
 use bits_core::{ShapeFault, Side};
 use ring_script::{Field, ITEM_LIMIT, LETTER_LIMIT, Script, ScriptFault};
-use std::alloc::{AllocGlobal, Global};
+use std::alloc::{AllocError, AllocGlobal, Global};
 use std::process::Abort;
-use std::test::Fail;
 
 // The fields of a plain script.
 static PLAIN: [(&str, &str); 8] = [
@@ -18,7 +17,7 @@ static PLAIN: [(&str, &str); 8] = [
 
 // A plain script with its batch named, without some fields, and with further members behind it, each
 // with a comma before it. Since the last of two equal names counts, these change what is plain.
-fn script_with(alloc: Global, left_out: &[&str], members: &str) -> Result<String, Fail> {
+fn script_with(alloc: Global, left_out: &[&str], members: &str) -> Result<String, AllocError> {
     let mut text = String::from_str(alloc, "{\"batch\":1")?;
     for (name, value) in PLAIN.iter() {
         if !left_out.iter().any(|other| *other == *name) {
@@ -32,21 +31,21 @@ fn script_with(alloc: Global, left_out: &[&str], members: &str) -> Result<String
     Ok(text)
 }
 
+// The script that the text is.
+fn read(rt: &(impl Abort + AllocGlobal), text: &str) -> Script<Global> {
+    Script::read(rt.alloc(), text.as_bytes()).expect(rt, "a script")
+}
+
 // The bytes have this fault, or none.
 fn expect_fault(rt: &(impl Abort + AllocGlobal), bytes: &[u8], fault: Option<ScriptFault>) {
     assert_eq!(rt; Script::read(rt.alloc(), bytes).err(), fault);
 }
 
 // A plain script with these members behind it has this fault, or none.
-fn expect_with(
-    rt: &(impl Abort + AllocGlobal),
-    members: &str,
-    fault: Option<ScriptFault>,
-) -> Result<(), Fail> {
-    let text = script_with(rt.alloc(), &[], members)?;
+fn expect_with(rt: &(impl Abort + AllocGlobal), members: &str, fault: Option<ScriptFault>) {
+    let text = script_with(rt.alloc(), &[], members).expect(rt, "memory for the text");
     let found = Script::read(rt.alloc(), text.as_bytes()).err();
     assert!(rt; found == fault, "{members}");
-    Ok(())
 }
 
 // The same where the members are a text, so many of a part, and a text.
@@ -54,11 +53,12 @@ fn expect_repeated(
     rt: &(impl Abort + AllocGlobal),
     members: (&str, &str, usize, &str),
     fault: Option<ScriptFault>,
-) -> Result<(), Fail> {
+) {
     let (before, part, times, after) = members;
-    let parts = part.repeat(rt.alloc(), times)?;
-    let whole = format!(in rt.alloc(); "{before}{parts}{after}")?;
-    expect_with(rt, whole.as_str(), fault)
+    let parts = part.repeat(rt.alloc(), times);
+    let parts = parts.expect(rt, "memory for the parts");
+    let whole = format!(in rt.alloc(); "{before}{parts}{after}");
+    expect_with(rt, &whole.expect(rt, "memory for the text"), fault);
 }
 
 fn expect_number(rt: &impl Abort, what: &str, made: u64, wanted: u64) {
@@ -96,52 +96,49 @@ fn expect_letters(rt: &impl Abort, script: &Script<Global>, letters: &str) {
 }
 
 #[test]
-fn reads_each_field(rt: HostRuntime) -> Result<(), Fail> {
+fn reads_each_field(rt: HostRuntime) {
     let text = "{\"capacity\":4,\"modulus\":9,\"width\":3,\"items\":[7,0,5],\"takes\":2,\
         \"close\":true,\"schedule\":\"CP2C3\",\"oracle\":\"011\"}";
-    let script = Script::read(rt.alloc(), text.as_bytes())?;
+    let script = read(&rt, text);
     expect_shape(&rt, &script, [4, 9, 3, 1]);
     expect_lists(&rt, &script, &[7, 0, 5], &[false, true, true]);
     expect_number(&rt, "takes", script.takes(), 2);
     assert!(rt; script.closes());
     expect_letters(&rt, &script, "CPPCCC");
-    Ok(())
 }
 
 #[test]
-fn reads_fields_in_another_order(rt: HostRuntime) -> Result<(), Fail> {
+fn reads_fields_in_another_order(rt: HostRuntime) {
     let text = " { \"oracle\" : \"\", \"schedule\" : \"\", \"close\" : false, \"takes\" : 0,\n\
         \"items\" : [ ], \"batch\" : 64, \"width\" : 64, \"modulus\" : 256, \"capacity\" : 64 } \n";
-    let script = Script::read(rt.alloc(), text.as_bytes())?;
+    let script = read(&rt, text);
     expect_shape(&rt, &script, [64, 256, 64, 64]);
     expect_lists(&rt, &script, &[], &[]);
     expect_number(&rt, "takes", script.takes(), 0);
     assert!(rt; !script.closes());
     expect_letters(&rt, &script, "");
-    Ok(())
 }
 
 // Of a name that stands twice the last value counts, whatever the first one was.
 #[test]
-fn reads_the_last_of_a_name(rt: HostRuntime) -> Result<(), Fail> {
+fn reads_the_last_of_a_name(rt: HostRuntime) {
     let twice = ",\"takes\":5,\"takes\":6,\"close\":0,\"close\":true";
-    let text = script_with(rt.alloc(), &[], twice)?;
-    let script = Script::read(rt.alloc(), text.as_bytes())?;
+    let text = script_with(rt.alloc(), &[], twice).expect(&rt, "memory for the text");
+    let script = read(&rt, &text);
     expect_number(&rt, "takes", script.takes(), 6);
     assert!(rt; script.closes());
     expect_with(
         &rt,
         ",\"takes\":5,\"takes\":null",
         Some(ScriptFault::WrongKind(Field::Takes)),
-    )
+    );
 }
 
 #[test]
-fn reads_a_batch(rt: HostRuntime) -> Result<(), Fail> {
-    let three = script_with(rt.alloc(), &[], ",\"capacity\":3,\"modulus\":7,\"batch\":3")?;
-    let script = Script::read(rt.alloc(), three.as_bytes())?;
-    expect_shape(&rt, &script, [3, 7, 1, 3]);
-    Ok(())
+fn reads_a_batch(rt: HostRuntime) {
+    let members = ",\"capacity\":3,\"modulus\":7,\"batch\":3";
+    let three = script_with(rt.alloc(), &[], members).expect(&rt, "memory for the text");
+    expect_shape(&rt, &read(&rt, &three), [3, 7, 1, 3]);
 }
 
 static ACCEPTED: [&str; 16] = [
@@ -164,11 +161,10 @@ static ACCEPTED: [&str; 16] = [
 ];
 
 #[test]
-fn accepts(rt: HostRuntime) -> Result<(), Fail> {
+fn accepts(rt: HostRuntime) {
     for members in ACCEPTED.iter() {
-        expect_with(&rt, members, None)?;
+        expect_with(&rt, members, None);
     }
-    Ok(())
 }
 
 static SHAPE_FAULTS: [(&str, ShapeFault); 11] = [
@@ -198,11 +194,10 @@ static SHAPE_FAULTS: [(&str, ShapeFault); 11] = [
 ];
 
 #[test]
-fn refuses_shapes(rt: HostRuntime) -> Result<(), Fail> {
+fn refuses_shapes(rt: HostRuntime) {
     for (members, fault) in SHAPE_FAULTS.iter() {
-        expect_with(&rt, members, Some(ScriptFault::Shape(*fault)))?;
+        expect_with(&rt, members, Some(ScriptFault::Shape(*fault)));
     }
-    Ok(())
 }
 
 static WIDE_ITEMS: [(&str, u64); 8] = [
@@ -217,11 +212,10 @@ static WIDE_ITEMS: [(&str, u64); 8] = [
 ];
 
 #[test]
-fn refuses_items_that_do_not_fit(rt: HostRuntime) -> Result<(), Fail> {
+fn refuses_items_that_do_not_fit(rt: HostRuntime) {
     for (members, place) in WIDE_ITEMS.iter() {
-        expect_with(&rt, members, Some(ScriptFault::ItemTooWide(*place)))?;
+        expect_with(&rt, members, Some(ScriptFault::ItemTooWide(*place)));
     }
-    Ok(())
 }
 
 static BAD_SCHEDULES: [(&str, u64); 9] = [
@@ -237,11 +231,10 @@ static BAD_SCHEDULES: [(&str, u64); 9] = [
 ];
 
 #[test]
-fn refuses_bytes_of_a_schedule(rt: HostRuntime) -> Result<(), Fail> {
+fn refuses_bytes_of_a_schedule(rt: HostRuntime) {
     for (members, place) in BAD_SCHEDULES.iter() {
-        expect_with(&rt, members, Some(ScriptFault::BadSchedule(*place)))?;
+        expect_with(&rt, members, Some(ScriptFault::BadSchedule(*place)));
     }
-    Ok(())
 }
 
 static TOO_LONG: [&str; 6] = [
@@ -254,11 +247,10 @@ static TOO_LONG: [&str; 6] = [
 ];
 
 #[test]
-fn refuses_long_schedules(rt: HostRuntime) -> Result<(), Fail> {
+fn refuses_long_schedules(rt: HostRuntime) {
     for members in TOO_LONG.iter() {
-        expect_with(&rt, members, Some(ScriptFault::ScheduleTooLong))?;
+        expect_with(&rt, members, Some(ScriptFault::ScheduleTooLong));
     }
-    Ok(())
 }
 
 static BAD_ORACLES: [(&str, u64); 3] = [
@@ -268,11 +260,10 @@ static BAD_ORACLES: [(&str, u64); 3] = [
 ];
 
 #[test]
-fn refuses_bytes_of_an_oracle(rt: HostRuntime) -> Result<(), Fail> {
+fn refuses_bytes_of_an_oracle(rt: HostRuntime) {
     for (members, place) in BAD_ORACLES.iter() {
-        expect_with(&rt, members, Some(ScriptFault::BadOracle(*place)))?;
+        expect_with(&rt, members, Some(ScriptFault::BadOracle(*place)));
     }
-    Ok(())
 }
 
 static UNKNOWN: [&str; 5] = [
@@ -284,11 +275,10 @@ static UNKNOWN: [&str; 5] = [
 ];
 
 #[test]
-fn refuses_unknown_names(rt: HostRuntime) -> Result<(), Fail> {
+fn refuses_unknown_names(rt: HostRuntime) {
     for members in UNKNOWN.iter() {
-        expect_with(&rt, members, Some(ScriptFault::UnknownField))?;
+        expect_with(&rt, members, Some(ScriptFault::UnknownField));
     }
-    Ok(())
 }
 
 static NEEDED: [(&str, Field); 8] = [
@@ -303,25 +293,19 @@ static NEEDED: [(&str, Field); 8] = [
 ];
 
 // Without the field, and without the later one too, the field is the one that is missing.
-fn expect_missing(
-    rt: &(impl Abort + AllocGlobal),
-    name: &str,
-    later: &str,
-    field: Field,
-) -> Result<(), Fail> {
+fn expect_missing(rt: &(impl Abort + AllocGlobal), name: &str, later: &str, field: Field) {
     assert!(rt; field.name() == name);
-    let text = script_with(rt.alloc(), &[later, name], ",\"batch\":null")?;
+    let text = script_with(rt.alloc(), &[later, name], ",\"batch\":null");
+    let text = text.expect(rt, "memory for the text");
     expect_fault(rt, text.as_bytes(), Some(ScriptFault::MissingField(field)));
-    Ok(())
 }
 
 #[test]
-fn names_the_missing_field(rt: HostRuntime) -> Result<(), Fail> {
+fn names_the_missing_field(rt: HostRuntime) {
     for (name, field) in NEEDED.iter() {
-        expect_missing(&rt, name, name, *field)?;
-        expect_missing(&rt, name, "oracle", *field)?;
+        expect_missing(&rt, name, name, *field);
+        expect_missing(&rt, name, "oracle", *field);
     }
-    Ok(())
 }
 
 static WRONG_KINDS: [(&str, Field); 19] = [
@@ -348,12 +332,12 @@ static WRONG_KINDS: [(&str, Field); 19] = [
 
 // Each field of a wrong kind in turn; and of two the first, of which the batch is the last.
 #[test]
-fn names_the_field_of_the_wrong_kind(rt: HostRuntime) -> Result<(), Fail> {
+fn names_the_field_of_the_wrong_kind(rt: HostRuntime) {
     for (members, field) in WRONG_KINDS.iter() {
-        expect_with(&rt, members, Some(ScriptFault::WrongKind(*field)))?;
+        expect_with(&rt, members, Some(ScriptFault::WrongKind(*field)));
     }
     let first = ",\"batch\":null,\"oracle\":1,\"close\":0";
-    expect_with(&rt, first, Some(ScriptFault::WrongKind(Field::Close)))
+    expect_with(&rt, first, Some(ScriptFault::WrongKind(Field::Close)));
 }
 
 static OTHER_NUMBERS: [&str; 8] = [
@@ -368,49 +352,48 @@ static OTHER_NUMBERS: [&str; 8] = [
 ];
 
 #[test]
-fn refuses_other_numbers(rt: HostRuntime) -> Result<(), Fail> {
+fn refuses_other_numbers(rt: HostRuntime) {
     let modulus = Some(ScriptFault::WrongKind(Field::Modulus));
     let items = Some(ScriptFault::WrongKind(Field::Items));
     for number in OTHER_NUMBERS.iter() {
-        expect_repeated(&rt, (",\"modulus\":", number, 1, ""), modulus)?;
-        expect_repeated(&rt, (",\"items\":[1,", number, 1, "]"), items)?;
+        expect_repeated(&rt, (",\"modulus\":", number, 1, ""), modulus);
+        expect_repeated(&rt, (",\"items\":[1,", number, 1, "]"), items);
     }
-    Ok(())
 }
 
 #[test]
-fn keeps_the_limits(rt: HostRuntime) -> Result<(), Fail> {
+fn keeps_the_limits(rt: HostRuntime) {
     expect_number(&rt, "items", ITEM_LIMIT as u64, 1000);
     expect_number(&rt, "letters", LETTER_LIMIT, 1_000_000);
     let many = Some(ScriptFault::TooManyItems);
     let long = Some(ScriptFault::ScheduleTooLong);
-    expect_repeated(&rt, (",\"items\":[1", ",1", 999, "]"), None)?;
-    expect_repeated(&rt, (",\"items\":[2", ",2", 1000, "]"), many)?;
-    expect_repeated(&rt, (",\"schedule\":\"", "PC", 500_000, "\""), None)?;
-    expect_repeated(&rt, (",\"schedule\":\"P", "PC", 500_000, "\""), long)
+    expect_repeated(&rt, (",\"items\":[1", ",1", 999, "]"), None);
+    expect_repeated(&rt, (",\"items\":[2", ",2", 1000, "]"), many);
+    expect_repeated(&rt, (",\"schedule\":\"", "PC", 500_000, "\""), None);
+    expect_repeated(&rt, (",\"schedule\":\"P", "PC", 500_000, "\""), long);
 }
 
 // A count of more digits than any machine number has.
 #[test]
-fn reads_long_counts(rt: HostRuntime) -> Result<(), Fail> {
+fn reads_long_counts(rt: HostRuntime) {
     let long = Some(ScriptFault::ScheduleTooLong);
     let no_count = Some(ScriptFault::BadSchedule(1));
     let stray = Some(ScriptFault::BadSchedule(101));
-    expect_repeated(&rt, (",\"schedule\":\"P", "0", 64, "\""), no_count)?;
-    expect_repeated(&rt, (",\"schedule\":\"P", "9", 100, "\""), long)?;
-    expect_repeated(&rt, (",\"schedule\":\"P1", "0", 99, "\""), long)?;
-    expect_repeated(&rt, (",\"schedule\":\"P1", "0", 99, "x\""), stray)
+    expect_repeated(&rt, (",\"schedule\":\"P", "0", 64, "\""), no_count);
+    expect_repeated(&rt, (",\"schedule\":\"P", "9", 100, "\""), long);
+    expect_repeated(&rt, (",\"schedule\":\"P1", "0", 99, "\""), long);
+    expect_repeated(&rt, (",\"schedule\":\"P1", "0", 99, "x\""), stray);
 }
 
 #[test]
-fn keeps_the_depth(rt: HostRuntime) -> Result<(), Fail> {
-    let deep = "[".repeat(rt.alloc(), 200)?;
-    let members = format!(in rt.alloc(); ",\"items\":{deep}")?;
+fn keeps_the_depth(rt: HostRuntime) {
+    let deep = "[".repeat(rt.alloc(), 200).expect(&rt, "memory for it");
+    let members = format!(in rt.alloc(); ",\"items\":{deep}").expect(&rt, "memory for it");
     expect_repeated(
         &rt,
         (members.as_str(), "]", 200, ""),
         Some(ScriptFault::NotJson),
-    )
+    );
 }
 
 static BYTES: [(&[u8], ScriptFault); 14] = [
@@ -492,21 +475,17 @@ static WORDS: [(ScriptFault, u8, &str); 16] = [
     ),
 ];
 
-fn expect_words(
-    rt: &(impl Abort + AllocGlobal),
-    faults: &[(ScriptFault, u8, &str)],
-) -> Result<(), Fail> {
+fn expect_words(rt: &(impl Abort + AllocGlobal), faults: &[(ScriptFault, u8, &str)]) {
     for (fault, number, words) in faults {
-        let told = fault.to_string(rt.alloc())?;
+        let told = fault.to_string(rt.alloc()).expect(rt, "memory for words");
         assert!(rt;
             fault.number() == *number && told.as_str() == *words,
             "{told}"
         );
     }
-    Ok(())
 }
 
 #[test]
-fn faults_have_their_numbers_and_words(rt: HostRuntime) -> Result<(), Fail> {
-    expect_words(&rt, WORDS.as_slice())
+fn faults_have_their_numbers_and_words(rt: HostRuntime) {
+    expect_words(&rt, WORDS.as_slice());
 }

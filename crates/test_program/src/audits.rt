@@ -1,8 +1,7 @@
 use crate::expects::{AUDIT, expect_finding_texts, expect_verdicts};
 use bits_core::Kind;
-use std::test::Fail;
 
-const FOUND: [(&str, u8, &str); 14] = [
+static FOUND: [(&str, u8, &str); 14] = [
     // nothing
     ("shape 1 3 1\n", 0, "lawful\nput\ntaken\ntold no\n"),
     // new and then old: lawful by the bits, and of no program
@@ -87,12 +86,12 @@ fn tells_what_the_audit_finds(rt: HostRuntime) {
 }
 
 #[test]
-fn findings_have_their_texts(rt: HostRuntime) -> Result<(), Fail> {
+fn findings_have_their_texts(rt: HostRuntime) {
     let fault = (
         usize::MAX,
         Kind::NotProgram,
         "fault: line 18446744073709551617: not of the program\n",
     );
     let text = "lawful\nput 0 18446744073709551615\ntaken\ntold yes\n";
-    expect_finding_texts(&rt, fault, (&[0, u64::MAX], &[], true, text))
+    expect_finding_texts(&rt, fault, (&[0, u64::MAX], &[], true, text));
 }

@@ -6,10 +6,9 @@ use ring_program::{
     AppFault, Refusal, audit_text, execute, relay_report, relay_text, report_text, verdict_text,
 };
 use ring_run::Outcome;
-use std::alloc::{AllocGlobal, Global};
+use std::alloc::{AllocGlobal, Allocator, Global};
 use std::io::Read;
 use std::process::Abort;
-use std::test::Fail;
 use std::thread::Threads;
 use std::time::{Clock, Duration};
 
@@ -25,6 +24,41 @@ pub const TRACE: &[&str] = &["lamport_ring", "play", "--trace"];
 
 pub const CALLS: &[&str] = &["lamport_ring", "play", "--calls"];
 
+/// What a run has answered: its status, and the texts that it has written.
+#[derive(Drop)]
+pub struct Ended {
+    pub status: u8,
+    pub out: Vec<u8>,
+    pub err: Vec<u8>,
+}
+
+impl Ended {
+    /// Whether it is this.
+    pub fn is(&self, status: u8, out: &str, err: &str) -> bool {
+        let is_told = self.out.as_slice() == out.as_bytes()
+            && self.err.as_slice() == err.as_bytes();
+        self.status == status && is_told
+    }
+}
+
+/// A run on the reader, whose allocations are of this allocator.
+pub fn run_in<A: Allocator + Copy, R: Read>(
+    rt: &(impl Abort + AllocGlobal + Threads + Clock),
+    alloc: A,
+    words: &[&str],
+    input: &mut R,
+) -> Ended {
+    let mut out = Vec::new(rt.alloc());
+    let mut err = Vec::new(rt.alloc());
+    let status = execute(rt, alloc, words, input, &mut out, &mut err);
+    Ended { status, out, err }
+}
+
+/// It holds of these words. (A message is dear to prove, so this one is for all.)
+pub fn expect_of(rt: &impl Abort, holds: bool, words: &[&str]) {
+    assert!(rt; holds, "{words:?}");
+}
+
 /// A run on the reader ends with this status, and has written these texts.
 pub fn expect_run_on<R: Read>(
     rt: &(impl Abort + AllocGlobal + Threads + Clock),
@@ -34,12 +68,8 @@ pub fn expect_run_on<R: Read>(
     out: &str,
     err: &str,
 ) {
-    let mut output = Vec::new(rt.alloc());
-    let mut errors = Vec::new(rt.alloc());
-    let ended = execute(rt, rt.alloc(), words, input, &mut output, &mut errors);
-    assert_eq!(rt; ended, status);
-    assert!(rt; output.as_slice() == out.as_bytes());
-    assert!(rt; errors.as_slice() == err.as_bytes());
+    let ended = run_in(rt, rt.alloc(), words, input);
+    expect_of(rt, ended.is(status, out, err), words);
 }
 
 /// Each run with these words and more has this status and these texts. It reads nothing.
@@ -47,15 +77,23 @@ pub fn expect_runs(
     rt: &(impl Abort + AllocGlobal + Threads + Clock),
     front: &[&'static str],
     rows: &[(&'static [&'static str], u8, &'static str, &'static str)],
-) -> Result<(), Fail> {
+) {
     for (more, status, out, err) in rows {
-        let mut words = front.to_vec(rt.alloc())?;
-        words.extend_from_slice(more)?;
+        let mut words = front.to_vec(rt.alloc()).expect(rt, "memory for words");
+        words.extend_from_slice(more).expect(rt, "memory for words");
         let mut input = b"unread".as_slice();
         expect_run_on(rt, words.as_slice(), &mut input, *status, out, err);
         assert!(rt; input == b"unread".as_slice());
     }
-    Ok(())
+}
+
+/// The items in a list.
+pub fn listed(rt: &(impl Abort + AllocGlobal), items: &[u64]) -> Vec<u64> {
+    items.to_vec(rt.alloc()).expect(rt, "memory for the items")
+}
+
+fn expect_text(rt: &impl Abort, told: &str, text: &str) {
+    assert!(rt; told == text, "{told}");
 }
 
 /// The text of a relay that came to this.
@@ -65,18 +103,17 @@ pub fn expect_relay_text(
     taken: &[u64],
     closed: bool,
     text: &str,
-) -> Result<(), Fail> {
+) {
     let outcome = Outcome {
         put,
         calls: put,
-        taken: taken.to_vec(rt.alloc())?,
+        taken: listed(rt, taken),
         closed,
         full: 0,
         empty: 0,
     };
-    let told = relay_text(rt.alloc(), &outcome)?;
-    assert!(rt; told.as_bytes() == text.as_bytes());
-    Ok(())
+    let told = relay_text(rt.alloc(), &outcome);
+    expect_text(rt, &told.expect(rt, "memory for the text"), text);
 }
 
 /// A relay that came to some numbers, with the time that it took, and the text of its report.
@@ -92,23 +129,19 @@ pub struct Reported {
 }
 
 /// The report of each of these relays has its text.
-pub fn expect_relay_reports(
-    rt: &(impl Abort + AllocGlobal),
-    rows: &[Reported],
-) -> Result<(), Fail> {
+pub fn expect_relay_reports(rt: &(impl Abort + AllocGlobal), rows: &[Reported]) {
     for row in rows {
         let outcome = Outcome {
             put: row.put,
             calls: row.calls,
-            taken: row.taken.to_vec(rt.alloc())?,
+            taken: listed(rt, row.taken),
             closed: row.closed,
             full: row.full,
             empty: row.empty,
         };
-        let told = relay_report(rt.alloc(), &outcome, row.nanos.map(Duration::from_nanos))?;
-        assert!(rt; told.as_bytes() == row.text.as_bytes());
+        let told = relay_report(rt.alloc(), &outcome, row.nanos.map(Duration::from_nanos));
+        expect_text(rt, &told.expect(rt, "memory for the text"), row.text);
     }
-    Ok(())
 }
 
 // Behind the word there is a space and a number, or `unknown` where it may be.
@@ -131,34 +164,31 @@ pub fn expect_reported_runs(
         &'static str,
         &'static [&'static str],
     )],
-) -> Result<(), Fail> {
+) {
     for (words, status, front, counts) in rows {
-        let mut input = b"".as_slice();
-        let mut output = Vec::new(rt.alloc());
-        let mut errors = Vec::new(rt.alloc());
-        let ended = execute(rt, rt.alloc(), words, &mut input, &mut output, &mut errors);
-        assert_eq!(rt; ended, *status, "status of {words:?}");
-        let text = std::str::from_utf8(output.as_slice())?;
-        let Some(rest) = text.strip_prefix(*front) else {
-            return Err(Fail::new("the text begins otherwise"));
-        };
-        expect_counts(rt, rest, counts);
+        let ended = run_in(rt, rt.alloc(), words, &mut b"".as_slice());
+        let text = text_in(rt, ended.out.as_slice());
+        let has_counts = text
+            .strip_prefix(*front)
+            .is_some_and(|rest| tells(rest, counts));
+        expect_of(rt, ended.status == *status && has_counts, words);
     }
-    Ok(())
 }
 
-// Each line has its word and a number.
-fn expect_counts(rt: &(impl Abort + AllocGlobal), text: &str, counts: &[&str]) {
+// Whether each line has its word and a number.
+fn tells(text: &str, counts: &[&str]) -> bool {
     let mut lines = text.lines();
     for word in counts {
         let line = lines.next().unwrap_or("");
-        let may_be_unknown = *word == "items a second";
-        assert!(rt;
-            tells_number(line, word, may_be_unknown),
-            "no {word:?} in {line:?}"
-        );
+        if !tells_number(line, word, *word == "items a second") {
+            return false;
+        }
     }
-    assert!(rt; lines.next().is_none());
+    lines.next().is_none()
+}
+
+fn text_in<'a>(rt: &impl Abort, bytes: &'a [u8]) -> &'a str {
+    std::str::from_utf8(bytes).expect(rt, "a text")
 }
 
 /// Each input has this status and this text on the output, by this command.
@@ -218,13 +248,10 @@ pub fn expect_lawful_plays(
     rows: &[(&'static str, &'static str)],
 ) {
     for (script, found) in rows {
-        let mut input = script.as_bytes();
-        let mut trace = Vec::new(rt.alloc());
-        let mut errors = Vec::new(rt.alloc());
-        let ended = execute(rt, rt.alloc(), TRACE, &mut input, &mut trace, &mut errors);
-        assert_eq!(rt; ended, 0);
-        expect_run_on(rt, BITS, &mut trace.as_slice(), 0, "lawful\n", "");
-        expect_run_on(rt, AUDIT, &mut trace.as_slice(), 0, found, "");
+        let play = run_in(rt, rt.alloc(), TRACE, &mut script.as_bytes());
+        expect_of(rt, play.status == 0, TRACE);
+        expect_run_on(rt, BITS, &mut play.out.as_slice(), 0, "lawful\n", "");
+        expect_run_on(rt, AUDIT, &mut play.out.as_slice(), 0, found, "");
     }
 }
 
@@ -235,30 +262,30 @@ pub fn expect_report(
     told: bool,
     counts: (u64, u64, u64),
     text: &str,
-) -> Result<(), Fail> {
+) {
     let report = Report {
         history: Vec::new(rt.alloc()),
         put,
-        taken: put.to_vec(rt.alloc())?,
+        taken: listed(rt, put),
         told,
         full: counts.0,
         empty: counts.1,
         flicker: counts.2,
     };
-    let told = report_text(rt.alloc(), &report)?;
-    assert!(rt; told.as_bytes() == text.as_bytes());
-    Ok(())
+    let told = report_text(rt.alloc(), &report);
+    expect_text(rt, &told.expect(rt, "memory for the text"), text);
 }
 
 /// Each refusal has these words.
-pub fn expect_refusal_words(
-    rt: &(impl Abort + AllocGlobal),
-    rows: &[(Refusal, &'static str)],
-) -> Result<(), Fail> {
+pub fn expect_refusal_words(rt: &(impl Abort + AllocGlobal), rows: &[(Refusal, &'static str)]) {
     for (refusal, words) in rows {
-        assert_eq!(rt; refusal.to_string(rt.alloc())?.as_str(), *words);
+        expect_refusal_text(rt, refusal, words);
     }
-    Ok(())
+}
+
+fn expect_refusal_text(rt: &(impl Abort + AllocGlobal), refusal: &Refusal, words: &str) {
+    let told = refusal.to_string(rt.alloc());
+    expect_text(rt, &told.expect(rt, "memory for the words"), words);
 }
 
 /// Each command line has this status: with 0 there is a text on the output alone, with 2 on the
@@ -268,13 +295,10 @@ pub fn expect_statuses(
     rows: &[(&'static [&'static str], u8)],
 ) {
     for (words, status) in rows {
-        let mut input = b"".as_slice();
-        let mut output = Vec::new(rt.alloc());
-        let mut errors = Vec::new(rt.alloc());
-        let ended = execute(rt, rt.alloc(), words, &mut input, &mut output, &mut errors);
-        assert_eq!(rt; ended, *status, "status of {words:?}");
-        assert_eq!(rt; output.is_empty(), *status == 2);
-        assert_eq!(rt; errors.is_empty(), *status == 0);
+        let ended = run_in(rt, rt.alloc(), words, &mut b"".as_slice());
+        expect_of(rt, ended.status == *status, words);
+        expect_of(rt, ended.out.is_empty() == (*status == 2), words);
+        expect_of(rt, ended.err.is_empty() == (*status == 0), words);
     }
 }
 
@@ -282,43 +306,40 @@ pub fn expect_statuses(
 pub fn expect_words(
     rt: &(impl Abort + AllocGlobal + Threads + Clock),
     rows: &[(&'static [&'static str], u8, &'static str)],
-) -> Result<(), Fail> {
+) {
     for (words, status, piece) in rows {
-        let mut input = b"".as_slice();
-        let mut output = Vec::new(rt.alloc());
-        let mut errors = Vec::new(rt.alloc());
-        let ended = execute(rt, rt.alloc(), words, &mut input, &mut output, &mut errors);
-        assert_eq!(rt; ended, *status, "status of {words:?}");
-        let bytes = if *status == 0 { output } else { errors };
-        let text = std::str::from_utf8(bytes.as_slice())?;
-        assert!(rt;
-            text.contains(*piece),
-            "no {piece:?} in the text of {words:?}"
-        );
+        let ended = run_in(rt, rt.alloc(), words, &mut b"".as_slice());
+        expect_of(rt, ended.status == *status, words);
+        let is_there = if *status == 0 {
+            text_in(rt, ended.out.as_slice()).contains(*piece)
+        } else {
+            text_in(rt, ended.err.as_slice()).contains(*piece)
+        };
+        expect_of(rt, is_there, words);
     }
-    Ok(())
 }
 
-// A verdict has this text.
-fn expect_text(rt: &(impl Abort + AllocGlobal), verdict: &Verdict, text: &str) -> Result<(), Fail> {
-    let told = verdict_text(rt.alloc(), verdict)?;
-    assert!(rt; told.as_bytes() == text.as_bytes());
-    Ok(())
+fn expect_verdict(rt: &(impl Abort + AllocGlobal), verdict: &Verdict, text: &str) {
+    let told = verdict_text(rt.alloc(), verdict);
+    expect_text(rt, &told.expect(rt, "memory for the text"), text);
 }
 
 /// Each fault has this text, and the lawful verdict its own.
-pub fn expect_texts(
-    rt: &(impl Abort + AllocGlobal),
-    rows: &[(usize, Kind, &'static str)],
-) -> Result<(), Fail> {
+pub fn expect_texts(rt: &(impl Abort + AllocGlobal), rows: &[(usize, Kind, &'static str)]) {
     for (place, kind, text) in rows {
         let verdict = Verdict::Fault {
             place: *place,
             kind: *kind,
         };
-        expect_text(rt, &verdict, text)?;
+        expect_verdict(rt, &verdict, text);
     }
-    expect_text(rt, &Verdict::Lawful, "lawful\n")
+    expect_verdict(rt, &Verdict::Lawful, "lawful\n");
+}
+
+// What an audit found has this text.
+fn expect_finding(rt: &(impl Abort + AllocGlobal), finding: &Finding<Global>, text: &str) {
+    let told = audit_text(rt.alloc(), finding);
+    expect_text(rt, &told.expect(rt, "memory for the text"), text);
 }
 
 /// A fault that an audit found has this text, and these lists theirs.
@@ -326,33 +347,24 @@ pub fn expect_finding_texts(
     rt: &(impl Abort + AllocGlobal),
     fault: (usize, Kind, &str),
     lists: (&[u64], &[u64], bool, &str),
-) -> Result<(), Fail> {
+) {
     let (place, kind, text) = fault;
-    let told = audit_text(rt.alloc(), &Finding::<Global>::Fault { place, kind })?;
-    assert!(rt; told.as_bytes() == text.as_bytes());
+    expect_finding(rt, &Finding::Fault { place, kind }, text);
     let (put, taken, told, text) = lists;
     let finding = Finding::Lawful {
-        put: put.to_vec(rt.alloc())?,
-        taken: taken.to_vec(rt.alloc())?,
+        put: listed(rt, put),
+        taken: listed(rt, taken),
         told,
     };
-    let told = audit_text(rt.alloc(), &finding)?;
-    assert!(rt; told.as_bytes() == text.as_bytes());
-    Ok(())
+    expect_finding(rt, &finding, text);
 }
 
 /// Each fault has this number and these words, also as a refusal.
-pub fn expect_faults(
-    rt: &(impl Abort + AllocGlobal),
-    rows: &[(AppFault, u8, &'static str)],
-) -> Result<(), Fail> {
+pub fn expect_faults(rt: &(impl Abort + AllocGlobal), rows: &[(AppFault, u8, &'static str)]) {
     for (fault, number, words) in rows {
-        assert_eq!(rt; fault.number(), *number);
-        assert_eq!(rt; fault.to_string(rt.alloc())?.as_str(), *words);
-        assert_eq!(rt;
-            Refusal::App(*fault).to_string(rt.alloc())?.as_str(),
-            *words
-        );
+        assert!(rt; fault.number() == *number);
+        let told = fault.to_string(rt.alloc());
+        expect_text(rt, &told.expect(rt, "memory for the words"), words);
+        expect_refusal_text(rt, &Refusal::App(*fault), words);
     }
-    Ok(())
 }

@@ -1,4 +1,5 @@
 //! Runs of the program in which a call fails, with what they must write and how they must end.
+use crate::expects::{expect_of, expect_run_on, listed, run_in};
 use crate::fakes::{HaltingReader, HaltingWriter};
 use bits_core::{TraceFault, Verdict, read_trace};
 use refusing::Refusing;
@@ -30,12 +31,7 @@ pub fn expect_read(
     out: &str,
     err: &str,
 ) {
-    let mut output = Vec::new(rt.alloc());
-    let mut errors = Vec::new(rt.alloc());
-    let ended = execute(rt, rt.alloc(), words, &mut input, &mut output, &mut errors);
-    assert_eq!(rt; ended, status);
-    assert!(rt; output.as_slice() == out.as_bytes());
-    assert!(rt; errors.as_slice() == err.as_bytes());
+    expect_run_on(rt, words, &mut input, status, out, err);
 }
 
 /// Each read of the input failing in turn, and none.
@@ -75,14 +71,17 @@ pub fn expect_written(
     let mut input = bytes;
     let mut errors = Vec::new(rt.alloc());
     let ended = execute(rt, rt.alloc(), words, &mut input, &mut output, &mut errors);
-    assert_eq!(rt; ended, status);
-    assert_eq!(rt; output.taken, taken);
     let err = if status == 1 {
         "refused: output failed\n"
     } else {
         ""
     };
-    assert!(rt; errors.as_slice() == err.as_bytes());
+    let is_told = errors.as_slice() == err.as_bytes();
+    expect_of(
+        rt,
+        ended == status && output.taken == taken && is_told,
+        words,
+    );
 }
 
 /// Each write of the output failing in turn, then none, and then the flush.
@@ -119,7 +118,7 @@ pub fn expect_unheard(
         let mut output = Vec::new(rt.alloc());
         let mut errors = HaltingWriter::after(writes_before);
         let ended = execute(rt, rt.alloc(), words, &mut bytes, &mut output, &mut errors);
-        assert_eq!(rt; ended, *status, "status of {words:?}");
+        expect_of(rt, ended == *status, words);
     }
 }
 
@@ -134,18 +133,12 @@ fn expect_growth(
 ) -> bool {
     let (words, input, status, least) = row;
     let alloc = Refusing::after(rt.alloc(), allocations);
-    let mut bytes = input.as_bytes();
-    let mut output = Vec::new(rt.alloc());
-    let mut errors = Vec::new(rt.alloc());
-    let ended = execute(rt, &alloc, words, &mut bytes, &mut output, &mut errors);
+    let ended = run_in(rt, &alloc, words, &mut input.as_bytes());
     if !alloc.has_refused() {
-        assert_eq!(rt; ended, *status);
-        assert!(rt; *least <= allocations);
+        expect_of(rt, ended.status == *status && *least <= allocations, words);
         return false;
     }
-    assert_eq!(rt; ended, 1, "growth {allocations}");
-    assert!(rt; output.is_empty());
-    assert!(rt; errors.as_slice() == b"refused: out of memory\n".as_slice());
+    expect_of(rt, ended.is(1, "", "refused: out of memory\n"), words);
     true
 }
 
@@ -173,18 +166,14 @@ fn expect_ended(
 ) -> (bool, bool) {
     let alloc = Refusing::after(rt.alloc(), allocations);
     let mut input = script;
-    let mut output = Vec::new(rt.alloc());
-    let mut errors = Vec::new(rt.alloc());
-    let ended = execute(rt, &alloc, words, &mut input, &mut output, &mut errors);
-    let is_refused = ended != 0;
-    let (out, err) = if is_refused {
-        assert_eq!(rt; ended, 1);
-        ("", "refused: out of memory\n")
+    let ended = run_in(rt, &alloc, words, &mut input);
+    let is_refused = ended.status != 0;
+    let is_right = if is_refused {
+        ended.is(1, "", "refused: out of memory\n")
     } else {
-        (out, "")
+        ended.is(0, out, "")
     };
-    assert!(rt; output.as_slice() == out.as_bytes());
-    assert!(rt; errors.as_slice() == err.as_bytes());
+    expect_of(rt, is_right, words);
     (is_refused, alloc.has_refused())
 }
 
@@ -222,15 +211,9 @@ fn expect_told(
 ) -> bool {
     let (words, input, err) = row;
     let alloc = Refusing::after(rt.alloc(), allocations);
-    let mut bytes = input.as_bytes();
-    let mut output = Vec::new(rt.alloc());
-    let mut errors = Vec::new(rt.alloc());
-    let ended = execute(rt, &alloc, words, &mut bytes, &mut output, &mut errors);
-    assert_eq!(rt; ended, 1, "growth {allocations}");
-    assert!(rt; output.is_empty());
-    let is_short = errors.as_slice() == b"refused: out of memory\n".as_slice();
-    assert!(rt; is_short || errors.as_slice() == err.as_bytes());
-    assert!(rt; !is_short || alloc.has_refused());
+    let ended = run_in(rt, &alloc, words, &mut input.as_bytes());
+    let is_short = ended.is(1, "", "refused: out of memory\n") && alloc.has_refused();
+    expect_of(rt, is_short || ended.is(1, "", err), words);
     alloc.has_refused()
 }
 
@@ -251,18 +234,33 @@ pub fn expect_told_at_each_growth(
     }
 }
 
+// Whether there was a growth to refuse, where the one after so many is: it was refused so, and else none was.
+fn expect_growth_refused<F: PartialEq + Copy>(
+    rt: &impl Abort,
+    fault: Option<F>,
+    short: F,
+    has_refused: bool,
+    allocations: u64,
+) -> bool {
+    let is_right = if has_refused {
+        fault == Some(short)
+    } else {
+        fault.is_none() && 1 <= allocations
+    };
+    assert!(rt; is_right);
+    has_refused
+}
+
 /// `load`, each growth refused in turn, and none.
 pub fn expect_refused_load(rt: &(impl Abort + AllocGlobal), bytes: &[u8]) {
     for allocations in 0..20 {
         let alloc = Refusing::after(rt.alloc(), allocations);
         let mut input = bytes;
-        let refused = load(&alloc, &mut input).err();
-        if !alloc.has_refused() {
-            assert_eq!(rt; refused, None);
-            assert!(rt; 1 <= allocations);
+        let fault = load(&alloc, &mut input).err();
+        let short = AppFault::OutOfMemory;
+        if !expect_growth_refused(rt, fault, short, alloc.has_refused(), allocations) {
             return;
         }
-        assert_eq!(rt; refused, Some(AppFault::OutOfMemory));
     }
     assert!(rt; false, "a growth was refused each time");
 }
@@ -271,13 +269,11 @@ pub fn expect_refused_load(rt: &(impl Abort + AllocGlobal), bytes: &[u8]) {
 pub fn expect_refused_trace(rt: &(impl Abort + AllocGlobal), bytes: &[u8]) {
     for allocations in 0..20 {
         let alloc = Refusing::after(rt.alloc(), allocations);
-        let refused = read_trace(&alloc, bytes).err();
-        if !alloc.has_refused() {
-            assert_eq!(rt; refused, None);
-            assert!(rt; 1 <= allocations);
+        let fault = read_trace(&alloc, bytes).err();
+        let short = TraceFault::OutOfMemory;
+        if !expect_growth_refused(rt, fault, short, alloc.has_refused(), allocations) {
             return;
         }
-        assert_eq!(rt; refused, Some(TraceFault::OutOfMemory));
     }
     assert!(rt; false, "a growth was refused each time");
 }
@@ -286,37 +282,29 @@ pub fn expect_refused_trace(rt: &(impl Abort + AllocGlobal), bytes: &[u8]) {
 pub fn expect_refused_text(rt: &(impl Abort + AllocGlobal), verdict: &Verdict) {
     for allocations in 0..20 {
         let alloc = Refusing::after(rt.alloc(), allocations);
-        let refused = verdict_text(&alloc, verdict).err();
-        if !alloc.has_refused() {
-            assert_eq!(rt; refused, None);
-            assert!(rt; 1 <= allocations);
+        let fault = verdict_text(&alloc, verdict).err();
+        let short = AppFault::OutOfMemory;
+        if !expect_growth_refused(rt, fault, short, alloc.has_refused(), allocations) {
             return;
         }
-        assert_eq!(rt; refused, Some(AppFault::OutOfMemory));
     }
     assert!(rt; false, "a growth was refused each time");
 }
 
 /// `audit_text`, each growth refused in turn, and none.
 pub fn expect_refused_finding(rt: &(impl Abort + AllocGlobal), put: &[u64], taken: &[u64]) {
-    let (Ok(put), Ok(taken)) = (put.to_vec(rt.alloc()), taken.to_vec(rt.alloc())) else {
-        assert!(rt; false, "the lists have room");
-        return;
-    };
     let finding = Finding::Lawful {
-        put,
-        taken,
+        put: listed(rt, put),
+        taken: listed(rt, taken),
         told: true,
     };
     for allocations in 0..20 {
         let alloc = Refusing::after(rt.alloc(), allocations);
-        let refused = audit_text(&alloc, &finding).err();
-        if !alloc.has_refused() {
-            assert_eq!(rt; refused, None);
-            assert!(rt; 1 <= allocations);
+        let fault = audit_text(&alloc, &finding).err();
+        let short = AppFault::OutOfMemory;
+        if !expect_growth_refused(rt, fault, short, alloc.has_refused(), allocations) {
             return;
         }
-        assert_eq!(rt; refused, Some(AppFault::OutOfMemory));
     }
     assert!(rt; false, "a growth was refused each time");
 }
@@ -334,13 +322,11 @@ pub fn expect_refused_report(rt: &(impl Abort + AllocGlobal), put: &[u64]) {
     };
     for allocations in 0..20 {
         let alloc = Refusing::after(rt.alloc(), allocations);
-        let refused = report_text(&alloc, &report).err();
-        if !alloc.has_refused() {
-            assert_eq!(rt; refused, None);
-            assert!(rt; 1 <= allocations);
+        let fault = report_text(&alloc, &report).err();
+        let short = AppFault::OutOfMemory;
+        if !expect_growth_refused(rt, fault, short, alloc.has_refused(), allocations) {
             return;
         }
-        assert_eq!(rt; refused, Some(AppFault::OutOfMemory));
     }
     assert!(rt; false, "a growth was refused each time");
 }

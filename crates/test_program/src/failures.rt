@@ -109,7 +109,7 @@ fn reads_nothing_where_nothing_is_asked(rt: HostRuntime) {
     expect_read(&rt, RELAY, input, 0, "put 8\ntaken 8\nclosed yes\n", "");
 }
 
-const UNHEARD: [(&[&str], &str, u8); 6] = [
+static UNHEARD: [(&[&str], &str, u8); 6] = [
     (AUDIT, STALE, 3),
     (AUDIT, "x", 1),
     (PLAY, PLAIN, 0),
@@ -126,7 +126,7 @@ fn ignores_a_failed_standard_error(rt: HostRuntime) {
     expect_unheard(&rt, 60, &UNHEARD);
 }
 
-const TOLD: [Told; 3] = [
+static TOLD: [Told; 3] = [
     (
         AUDIT,
         "shape 1 3 1\nP read r0\nP got r0\n",
@@ -149,7 +149,7 @@ fn a_cause_takes_no_status_away(rt: HostRuntime) {
     expect_told_at_each_growth(&rt, &TOLD);
 }
 
-const GROWING: [Growing; 5] = [
+static GROWING: [Growing; 5] = [
     // the input, the events and the text
     (BITS, STALE, 3, 3),
     (BITS, INVERSION, 0, 3),

@@ -6,7 +6,6 @@ use ring_audit::AuditFault;
 use ring_player::{PlayFault, ScriptFault};
 use ring_program::Refusal;
 use ring_run::RunFault;
-use std::test::Fail;
 
 const PLAIN: &str =
     "{\"capacity\":1,\"modulus\":3,\"width\":1,\"items\":[1],\"takes\":1,\"close\":false,\"schedule\":\"P8C10\",\"oracle\":\"\"}";
@@ -69,7 +68,7 @@ const BATCH: &str =
 const CLOSED: &str =
     "{\"capacity\":1,\"modulus\":3,\"width\":1,\"items\":[1],\"takes\":2,\"close\":true,\"schedule\":\"C2P10C22\",\"oracle\":\"\"}";
 
-const PLAYS: [(&str, &str, Option<&str>); 9] = [
+static PLAYS: [(&str, &str, Option<&str>); 9] = [
     (PLAIN, PLAIN_REPORT, Some(PLAIN_TRACE)),
     // a batch of 1 is what a script without one has
     (
@@ -125,7 +124,7 @@ fn tells_the_report_and_the_trace_of_a_play(rt: HostRuntime) {
     expect_plays(&rt, &PLAYS);
 }
 
-const CALLS: [(&str, &str); 9] = [
+static CALLS: [(&str, &str); 9] = [
     (PLAIN, "queue 1\nP put 1\nP stored\nC take\nC item 1\n"),
     // no letter: no call
     (
@@ -174,7 +173,7 @@ fn tells_the_calls_of_a_play(rt: HostRuntime) {
     expect_calls(&rt, &CALLS);
 }
 
-const FOUND: [(&str, &str); 4] = [
+static FOUND: [(&str, &str); 4] = [
     (PLAIN, "lawful\nput 1\ntaken 1\ntold no\n"),
     (SEEN_OLD, "lawful\nput 1\ntaken 1\ntold no\n"),
     (BATCH, "lawful\nput 1 0 1\ntaken 1 0 1\ntold no\n"),
@@ -187,15 +186,15 @@ fn the_trace_of_a_play_is_lawful(rt: HostRuntime) {
 }
 
 #[test]
-fn reports_have_their_text(rt: HostRuntime) -> Result<(), Fail> {
+fn reports_have_their_text(rt: HostRuntime) {
     let text = "events 0\nput\ntaken\ntold no\nfull 0\nempty 0\nflicker 0\n";
-    expect_report(&rt, &[], false, (0, 0, 0), text)?;
+    expect_report(&rt, &[], false, (0, 0, 0), text);
     let text =
         "events 0\nput 0 18446744073709551615\ntaken 0 18446744073709551615\ntold yes\nfull 18446744073709551615\nempty 1\nflicker 20\n";
-    expect_report(&rt, &[0, u64::MAX], true, (u64::MAX, 1, 20), text)
+    expect_report(&rt, &[0, u64::MAX], true, (u64::MAX, 1, 20), text);
 }
 
-const WORDS: [(Refusal, &str); 5] = [
+static WORDS: [(Refusal, &str); 5] = [
     (
         Refusal::Script(ScriptFault::BadSchedule(7)),
         "schedule is wrong at byte 7",
@@ -210,6 +209,6 @@ const WORDS: [(Refusal, &str); 5] = [
 ];
 
 #[test]
-fn refusals_have_the_words_of_their_faults(rt: HostRuntime) -> Result<(), Fail> {
-    expect_refusal_words(&rt, &WORDS)
+fn refusals_have_the_words_of_their_faults(rt: HostRuntime) {
+    expect_refusal_words(&rt, &WORDS);
 }

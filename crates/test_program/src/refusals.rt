@@ -1,6 +1,6 @@
 use crate::expects::{AUDIT, BITS, CALLS, PLAY, TRACE, expect_refusals};
 
-const TRACES: [(&[u8], &str); 47] = [
+static TRACES: [(&[u8], &str); 47] = [
     // no text
     (
         b"",
@@ -204,7 +204,7 @@ fn says_what_is_wrong_in_a_trace(rt: HostRuntime) {
     expect_refusals(&rt, &[AUDIT, BITS], &TRACES);
 }
 
-const SCRIPTS: [(&[u8], &str); 27] = [
+static SCRIPTS: [(&[u8], &str); 27] = [
     // no JSON
     (
         b"",

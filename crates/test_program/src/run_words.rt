@@ -1,9 +1,8 @@
 use crate::expects::{expect_runs, expect_statuses, expect_words};
-use std::test::Fail;
 
 pub(crate) const RUN: &str = "run";
 
-const STATUSES: [(&[&str], u8); 8] = [
+static STATUSES: [(&[&str], u8); 8] = [
     (&["lamport_ring", RUN], 2),
     (
         &[
@@ -104,7 +103,7 @@ const RUN_HELP: &[&str] = &["lamport_ring", RUN, "--help"];
 const EXAMPLE: &str =
     "  lamport_ring run --capacity 1 --modulus 3 --width 6 --count 64 \\\n    --limit 1000000000\n";
 
-const WORDS: [(&[&str], u8, &str); 8] = [
+static WORDS: [(&[&str], u8, &str); 8] = [
     (&["lamport_ring", "--help"], 0, EXAMPLE),
     (RUN_HELP, 0, EXAMPLE),
     (
@@ -136,13 +135,13 @@ const WORDS: [(&[&str], u8, &str); 8] = [
 ];
 
 #[test]
-fn help_of_run_has_its_words(rt: HostRuntime) -> Result<(), Fail> {
-    expect_words(&rt, &WORDS)
+fn help_of_run_has_its_words(rt: HostRuntime) {
+    expect_words(&rt, &WORDS);
 }
 
 const SHAPELESS: [&str; 6] = ["lamport_ring", "run", "--count", "1", "--limit", "1"];
 
-const SHAPELESS_RUNS: [(&[&str], u8, &str, &str); 3] = [
+static SHAPELESS_RUNS: [(&[&str], u8, &str, &str); 3] = [
     (
         &["--capacity", "1", "--modulus", "2", "--width", "6"],
         1,
@@ -171,11 +170,11 @@ const SHAPELESS_RUNS: [(&[&str], u8, &str, &str); 3] = [
 ];
 
 #[test]
-fn refuses_numbers_of_no_shape(rt: HostRuntime) -> Result<(), Fail> {
-    expect_runs(&rt, &SHAPELESS, &SHAPELESS_RUNS)
+fn refuses_numbers_of_no_shape(rt: HostRuntime) {
+    expect_runs(&rt, &SHAPELESS, &SHAPELESS_RUNS);
 }
 
-const FRONT: [&str; 6] = [
+static FRONT: [&str; 6] = [
     "lamport_ring",
     "run",
     "--modulus=3",
@@ -184,7 +183,7 @@ const FRONT: [&str; 6] = [
     "--limit=1",
 ];
 
-const NO_RINGS: [(&[&str], u8, &str, &str); 8] = [
+static NO_RINGS: [(&[&str], u8, &str, &str); 8] = [
     (
         &["--capacity=1", "--ring", "torus"],
         2,
@@ -252,11 +251,11 @@ const NO_RINGS: [(&[&str], u8, &str, &str); 8] = [
 ];
 
 #[test]
-fn names_a_ring_that_there_is_not(rt: HostRuntime) -> Result<(), Fail> {
-    expect_runs(&rt, &FRONT, &NO_RINGS)
+fn names_a_ring_that_there_is_not(rt: HostRuntime) {
+    expect_runs(&rt, &FRONT, &NO_RINGS);
 }
 
-const SIGNED: [(&[&str], u8, &str, &str); 6] = [
+static SIGNED: [(&[&str], u8, &str, &str); 6] = [
     (
         &["--capacity", "-1"],
         2,
@@ -297,6 +296,6 @@ const SIGNED: [(&[&str], u8, &str, &str); 6] = [
 ];
 
 #[test]
-fn names_a_number_that_is_none(rt: HostRuntime) -> Result<(), Fail> {
-    expect_runs(&rt, &FRONT, &SIGNED)
+fn names_a_number_that_is_none(rt: HostRuntime) {
+    expect_runs(&rt, &FRONT, &SIGNED);
 }

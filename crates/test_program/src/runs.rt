@@ -2,9 +2,8 @@ use crate::expects::{
     Reported, expect_relay_reports, expect_relay_text, expect_reported_runs, expect_runs,
 };
 use crate::run_words::RUN;
-use std::test::Fail;
 
-const SMALL: [&str; 8] = [
+static SMALL: [&str; 8] = [
     "lamport_ring",
     "run",
     "--capacity",
@@ -16,7 +15,7 @@ const SMALL: [&str; 8] = [
 ];
 
 // What follows the options of the shape, the status, the output and the standard error.
-const RUNS: [(&[&str], u8, &str, &str); 10] = [
+static RUNS: [(&[&str], u8, &str, &str); 10] = [
     (
         &["--count", "64", "--limit", "1000000000"],
         0,
@@ -99,11 +98,11 @@ const RUNS: [(&[&str], u8, &str, &str); 10] = [
 ];
 
 #[test]
-fn relays_items_through_two_threads(rt: HostRuntime) -> Result<(), Fail> {
-    expect_runs(&rt, &SMALL, &RUNS)
+fn relays_items_through_two_threads(rt: HostRuntime) {
+    expect_runs(&rt, &SMALL, &RUNS);
 }
 
-const BATCHED: [&str; 10] = [
+static BATCHED: [&str; 10] = [
     "lamport_ring",
     "run",
     "--capacity",
@@ -116,7 +115,7 @@ const BATCHED: [&str; 10] = [
     "3",
 ];
 
-const BATCHED_RUNS: [(&[&str], u8, &str, &str); 2] = [
+static BATCHED_RUNS: [(&[&str], u8, &str, &str); 2] = [
     (
         &["--count", "64", "--limit", "1000000000"],
         0,
@@ -139,12 +138,12 @@ const BATCHED_RUNS: [(&[&str], u8, &str, &str); 2] = [
 ];
 
 #[test]
-fn relays_batches(rt: HostRuntime) -> Result<(), Fail> {
-    expect_runs(&rt, &BATCHED, &BATCHED_RUNS)
+fn relays_batches(rt: HostRuntime) {
+    expect_runs(&rt, &BATCHED, &BATCHED_RUNS);
 }
 
 // The widest items, of which each is its number.
-const WIDE: [&str; 8] = [
+static WIDE: [&str; 8] = [
     "lamport_ring",
     "run",
     "--capacity",
@@ -155,7 +154,7 @@ const WIDE: [&str; 8] = [
     "64",
 ];
 
-const WIDE_RUNS: [(&[&str], u8, &str, &str); 1] = [(
+static WIDE_RUNS: [(&[&str], u8, &str, &str); 1] = [(
     &["--count", "20", "--limit", "1000000000"],
     0,
     "put 20\ntaken 20\nclosed yes\n",
@@ -163,23 +162,23 @@ const WIDE_RUNS: [(&[&str], u8, &str, &str); 1] = [(
 )];
 
 #[test]
-fn relays_the_widest_items(rt: HostRuntime) -> Result<(), Fail> {
-    expect_runs(&rt, &WIDE, &WIDE_RUNS)
+fn relays_the_widest_items(rt: HostRuntime) {
+    expect_runs(&rt, &WIDE, &WIDE_RUNS);
 }
 
 #[test]
-fn relays_have_their_text(rt: HostRuntime) -> Result<(), Fail> {
+fn relays_have_their_text(rt: HostRuntime) {
     expect_relay_text(
         &rt,
         u64::MAX,
         &[],
         false,
         "put 18446744073709551615\ntaken 0\nclosed no\n",
-    )?;
-    expect_relay_text(&rt, 2, &[5, 6], true, "put 2\ntaken 2\nclosed yes\n")
+    );
+    expect_relay_text(&rt, 2, &[5, 6], true, "put 2\ntaken 2\nclosed yes\n");
 }
 
-const REPORTS: [Reported; 6] = [
+static REPORTS: [Reported; 6] = [
     Reported {
         put: 3,
         calls: 10,
@@ -245,13 +244,13 @@ const REPORTS: [Reported; 6] = [
 ];
 
 #[test]
-fn reports_of_relays_have_their_text(rt: HostRuntime) -> Result<(), Fail> {
-    expect_relay_reports(&rt, &REPORTS)
+fn reports_of_relays_have_their_text(rt: HostRuntime) {
+    expect_relay_reports(&rt, &REPORTS);
 }
 
 const COUNTS: &[&str] = &["calls", "full", "empty", "items a second"];
 
-const REPORTED: [(&[&str], u8, &str, &[&str]); 3] = [
+static REPORTED: [(&[&str], u8, &str, &[&str]); 3] = [
     (
         &[
             "lamport_ring",
@@ -304,6 +303,6 @@ const REPORTED: [(&[&str], u8, &str, &[&str]); 3] = [
 ];
 
 #[test]
-fn runs_tell_their_report(rt: HostRuntime) -> Result<(), Fail> {
-    expect_reported_runs(&rt, &REPORTED)
+fn runs_tell_their_report(rt: HostRuntime) {
+    expect_reported_runs(&rt, &REPORTED);
 }

@@ -5,7 +5,7 @@ const WHY: &[&str] = &["lamport_ring", "audit", "--why"];
 const BITS_WHY: &[&str] = &["lamport_ring", "audit", "--bits", "--why"];
 
 // What is due by the programs, where the bits are lawful.
-const DUES: [(&str, u8, &str); 5] = [
+static DUES: [(&str, u8, &str); 5] = [
     // a lawful history has no further line
     (
         "shape 1 3 1\nP read r0\nP got r0 1\n",
@@ -39,7 +39,7 @@ const DUES: [(&str, u8, &str); 5] = [
 ];
 
 // Why the bits do not permit an event, with the programs and without them.
-const REASONS: [(&str, u8, &str); 6] = [
+static REASONS: [(&str, u8, &str); 6] = [
     // first values
     (
         "shape 1 3 1\nC read s0\nC got s0 0\n",
@@ -78,7 +78,7 @@ const REASONS: [(&str, u8, &str); 6] = [
 ];
 
 // What a bit held that was written: the value of the last write that ended, before the read began.
-const HELD: [(&str, u8, &str); 3] = [
+static HELD: [(&str, u8, &str); 3] = [
     (
         "shape 1 3 1\nP write s0 0\nP wrote s0\nC read s0\nC got s0 1\n",
         3,

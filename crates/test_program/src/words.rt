@@ -4,14 +4,13 @@ use crate::expects::{
 };
 use bits_core::Kind;
 use ring_program::AppFault;
-use std::test::Fail;
 
 const INVERSION: &str =
     "shape 1 3 1\nP write s0 0\nC read s0\nC got s0 1\nC read s0\nC got s0 0\nP wrote s0\nC read s0\nC got s0 0\n";
 
 const STALE: &str = "shape 1 3 1\nC read s0\nC got s0 0\n";
 
-const VERDICTS: [(&str, u8, &str); 11] = [
+static VERDICTS: [(&str, u8, &str); 11] = [
     // a stale read without cause
     (STALE, 3, "fault: line 3: not permitted\n"),
     // two reads during a write: new and then old, old and then new; then each with a stale read
@@ -68,7 +67,7 @@ fn tells_the_verdict_of_a_trace_of_any_length(rt: HostRuntime) {
 }
 
 // What the words ask for decides the status.
-const STATUSES: [(&[&str], u8); 28] = [
+static STATUSES: [(&[&str], u8); 28] = [
     (&["lamport_ring", "audit", "--long"], 2),
     (&["lamport_ring", "audit", "--calls", "--long"], 2),
     (&["lamport_ring", "audit", "--bits", "--calls", "--long"], 2),
@@ -119,7 +118,7 @@ const PLAY_EXAMPLE: &str = "  lamport_ring play < examples/plain_path.json\n";
 const CALLS_EXAMPLE: &str =
     "  lamport_ring play --calls < examples/plain_path.json | lamport_ring audit --calls\n";
 
-const WORDS: [(&[&str], u8, &str); 29] = [
+static WORDS: [(&[&str], u8, &str); 29] = [
     (HELP, 0, EXAMPLE),
     (HELP, 0, PLAY_EXAMPLE),
     (HELP, 0, AUDIT_EXAMPLE),
@@ -202,8 +201,8 @@ const WORDS: [(&[&str], u8, &str); 29] = [
 ];
 
 #[test]
-fn help_and_complaints_have_their_words(rt: HostRuntime) -> Result<(), Fail> {
-    expect_words(&rt, &WORDS)
+fn help_and_complaints_have_their_words(rt: HostRuntime) {
+    expect_words(&rt, &WORDS);
 }
 
 #[test]
@@ -219,7 +218,7 @@ fn tells_its_version(rt: HostRuntime) {
     );
 }
 
-const TEXTS: [(usize, Kind, &str); 5] = [
+static TEXTS: [(usize, Kind, &str); 5] = [
     (0, Kind::WrongSide, "fault: line 2: wrong side\n"),
     (0, Kind::OutOfTurn, "fault: line 2: out of turn\n"),
     (0, Kind::NotPermitted, "fault: line 2: not permitted\n"),
@@ -232,11 +231,11 @@ const TEXTS: [(usize, Kind, &str); 5] = [
 ];
 
 #[test]
-fn verdicts_have_their_texts(rt: HostRuntime) -> Result<(), Fail> {
-    expect_texts(&rt, &TEXTS)
+fn verdicts_have_their_texts(rt: HostRuntime) {
+    expect_texts(&rt, &TEXTS);
 }
 
-const FAULTS: [(AppFault, u8, &str); 4] = [
+static FAULTS: [(AppFault, u8, &str); 4] = [
     (AppFault::ReadFailed, 1, "input failed"),
     (AppFault::TooLarge, 2, "input is too large"),
     (AppFault::WriteFailed, 3, "output failed"),
@@ -244,6 +243,6 @@ const FAULTS: [(AppFault, u8, &str); 4] = [
 ];
 
 #[test]
-fn faults_have_their_numbers_and_words(rt: HostRuntime) -> Result<(), Fail> {
-    expect_faults(&rt, &FAULTS)
+fn faults_have_their_numbers_and_words(rt: HostRuntime) {
+    expect_faults(&rt, &FAULTS);
 }

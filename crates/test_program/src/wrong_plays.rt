@@ -1,5 +1,4 @@
 use crate::expects::{expect_run_on, expect_runs};
-use std::test::Fail;
 
 const PLAIN: &str =
     "{\"capacity\":1,\"modulus\":3,\"width\":1,\"items\":[1],\"takes\":1,\"close\":false,\"schedule\":\"P5C10\",\"oracle\":\"\"}";
@@ -12,18 +11,17 @@ const CALLS: &str = "queue 1\nP put 1\nC take\nC item 0\n";
 const WRONG: &[&str] = &["lamport_ring", "play", "--wrong", "count-before-cell"];
 
 #[test]
-fn plays_a_script_by_a_near_miss(rt: HostRuntime) -> Result<(), Fail> {
+fn plays_a_script_by_a_near_miss(rt: HostRuntime) {
     for (option, out) in [("--trace", TRACE), ("--calls", CALLS)] {
-        let mut words = WRONG.to_vec(rt.alloc())?;
-        words.push(option)?;
+        let mut words = WRONG.to_vec(rt.alloc()).expect(&rt, "memory for words");
+        words.push(option).expect(&rt, "memory for words");
         let mut bytes = PLAIN.as_bytes();
         expect_run_on(&rt, words.as_slice(), &mut bytes, 0, out, "");
     }
-    Ok(())
 }
 
 // Words behind the program's name that do not go together.
-const CLASHES: [(&[&str], u8, &str, &str); 6] = [
+static CLASHES: [(&[&str], u8, &str, &str); 6] = [
     (
         &["play", "--wrong", "torus", "--calls"],
         2,
@@ -63,6 +61,6 @@ const CLASHES: [(&[&str], u8, &str, &str); 6] = [
 ];
 
 #[test]
-fn refuses_words_that_do_not_go_together(rt: HostRuntime) -> Result<(), Fail> {
-    expect_runs(&rt, &["lamport_ring"], &CLASHES)
+fn refuses_words_that_do_not_go_together(rt: HostRuntime) {
+    expect_runs(&rt, &["lamport_ring"], &CLASHES);
 }

@@ -1,6 +1,7 @@
 // Whole calls of both ends in one thread, in a given order, on a ring of either kind.
 ghost use Rattle.std.specs.Prelude.{◌≡◌, None, false};
 
+use crate::expects::shape_of;
 use bits_core::{Flip, Shape};
 use ring_core::{BatchReply, PutReply, TakeReply};
 use ring_run::{
@@ -8,7 +9,6 @@ use ring_run::{
 };
 use std::alloc::AllocGlobal;
 use std::process::Abort;
-use std::test::Fail;
 
 // A call, and how it is answered.
 #[derive(Clone, Copy)]
@@ -130,26 +130,25 @@ fn expect_run<E: Ends>(rt: &impl Abort, first: E, case: &Case) {
     assert_eq!(rt; ends.finish(), (closed, told));
 }
 
-fn expect_flicker(rt: &(impl Abort + AllocGlobal), shape: Shape, case: &Case) -> Result<(), Fail> {
-    let (ring, start) = FlickerRing::new(rt.alloc(), shape)?;
+fn expect_flicker(rt: &(impl Abort + AllocGlobal), shape: Shape, case: &Case) {
+    let made = FlickerRing::new(rt.alloc(), shape);
+    let (ring, start) = made.expect(rt, "memory for the ring");
     let (putter, taker) = ring.ends(start, Flip::new(), Flip::new());
     expect_run(rt, FlickerEnds { putter, taker }, case);
-    Ok(())
 }
 
-fn expect_counter(rt: &(impl Abort + AllocGlobal), shape: Shape, case: &Case) -> Result<(), Fail> {
-    let (ring, start) = CounterRing::new(rt.alloc(), shape)?;
+fn expect_counter(rt: &(impl Abort + AllocGlobal), shape: Shape, case: &Case) {
+    let made = CounterRing::new(rt.alloc(), shape);
+    let (ring, start) = made.expect(rt, "memory for the ring");
     let (putter, taker) = ring.ends(start);
     expect_run(rt, CounterEnds { putter, taker }, case);
-    Ok(())
 }
 
 // So it is on a ring of either kind.
-fn expect_calls(rt: &(impl Abort + AllocGlobal), case: &Case) -> Result<(), Fail> {
-    let [capacity, modulus, width, batch] = case.0;
-    let shape = Shape::with_batch(capacity, modulus, width, batch)?;
-    expect_flicker(rt, shape, case)?;
-    expect_counter(rt, shape, case)
+fn expect_calls(rt: &(impl Abort + AllocGlobal), case: &Case) {
+    let shape = shape_of(rt, &case.0);
+    expect_flicker(rt, shape, case);
+    expect_counter(rt, shape, case);
 }
 
 // Ends of one ring of this kind meet, a take finds the ring empty, and so the run ends.
@@ -169,15 +168,16 @@ fn expect_empty<K: RingOf<P, T>, P: PutEnd, T: TakeEnd>(
 }
 
 #[test]
-fn ends_of_either_kind_meet_and_end_alike(rt: HostRuntime) -> Result<(), Fail> {
-    let shape = Shape::new(1, 3, 1)?;
-    let (ring, start) = FlickerRing::new(rt.alloc(), shape)?;
+fn ends_of_either_kind_meet_and_end_alike(rt: HostRuntime) {
+    let shape = shape_of(&rt, &[1, 3, 1, 1]);
+    let made = FlickerRing::new(rt.alloc(), shape);
+    let (ring, start) = made.expect(&rt, "memory for the ring");
     let (putter, taker) = ring.ends(start, Flip::new(), Flip::new());
     expect_empty(&rt, &ring, putter, taker);
-    let (ring, start) = CounterRing::new(rt.alloc(), shape)?;
+    let made = CounterRing::new(rt.alloc(), shape);
+    let (ring, start) = made.expect(&rt, "memory for the ring");
     let (putter, taker) = ring.ends(start);
     expect_empty(&rt, &ring, putter, taker);
-    Ok(())
 }
 
 static MEETING: Case = (
@@ -197,8 +197,8 @@ static MEETING: Case = (
 );
 
 #[test]
-fn ends_that_meet_between_their_calls_hand_items_over(rt: HostRuntime) -> Result<(), Fail> {
-    expect_calls(&rt, &MEETING)
+fn ends_that_meet_between_their_calls_hand_items_over(rt: HostRuntime) {
+    expect_calls(&rt, &MEETING);
 }
 
 static UNMET: Case = (
@@ -218,8 +218,8 @@ static UNMET: Case = (
 );
 
 #[test]
-fn ends_that_never_meet_hand_items_over(rt: HostRuntime) -> Result<(), Fail> {
-    expect_calls(&rt, &UNMET)
+fn ends_that_never_meet_hand_items_over(rt: HostRuntime) {
+    expect_calls(&rt, &UNMET);
 }
 
 static ENDINGS: [Case; 5] = [
@@ -257,11 +257,10 @@ static ENDINGS: [Case; 5] = [
 ];
 
 #[test]
-fn a_run_ends_closed_and_told_as_it_was(rt: HostRuntime) -> Result<(), Fail> {
+fn a_run_ends_closed_and_told_as_it_was(rt: HostRuntime) {
     for case in ENDINGS.iter() {
-        expect_calls(&rt, case)?;
+        expect_calls(&rt, case);
     }
-    Ok(())
 }
 
 static ALONE: Case = (
@@ -280,8 +279,8 @@ static ALONE: Case = (
 );
 
 #[test]
-fn a_putter_alone_fills_the_ring_and_closes_it(rt: HostRuntime) -> Result<(), Fail> {
-    expect_calls(&rt, &ALONE)
+fn a_putter_alone_fills_the_ring_and_closes_it(rt: HostRuntime) {
+    expect_calls(&rt, &ALONE);
 }
 
 static PARTIAL: Case = (
@@ -296,6 +295,6 @@ static PARTIAL: Case = (
 );
 
 #[test]
-fn a_batch_is_stored_as_far_as_there_is_room(rt: HostRuntime) -> Result<(), Fail> {
-    expect_calls(&rt, &PARTIAL)
+fn a_batch_is_stored_as_far_as_there_is_room(rt: HostRuntime) {
+    expect_calls(&rt, &PARTIAL);
 }

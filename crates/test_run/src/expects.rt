@@ -10,7 +10,6 @@ use ring_run::{
 };
 use std::alloc::{AllocGlobal, Allocator, Global};
 use std::process::Abort;
-use std::test::Fail;
 use std::thread::Threads;
 
 /// The items 0 to 63.
@@ -47,6 +46,12 @@ pub fn expect_in_order<A: Allocator>(rt: &impl Abort, outcome: &Outcome<A>, item
     assert!(rt; !outcome.closed || taken.len() == items.len());
 }
 
+/// The shape of these numbers. (A `?` is dear to prove, so what fails only where memory or a shape is lacking ends the test.)
+pub fn shape_of(rt: &impl Abort, numbers: &Numbers) -> Shape {
+    let [capacity, modulus, width, batch] = *numbers;
+    Shape::with_batch(capacity, modulus, width, batch).expect(rt, "a shape")
+}
+
 /// A ring of either kind.
 #[derive(Clone, Copy)]
 pub enum Kind {
@@ -71,17 +76,17 @@ pub fn expect_relay<G: Gate + Sync>(
     items: &[u64],
     limits: Limits,
     gate: &G,
-) -> Result<Outcome<Global>, Fail> {
+) -> Outcome<Global> {
     if matches!(kind, Kind::Flicker) {
         let oracles = (Flip::new(), Flip::new());
         return expect_flicker(rt, numbers, oracles, items, limits, gate);
     }
-    let [capacity, modulus, width, batch] = *numbers;
-    let shape = Shape::with_batch(capacity, modulus, width, batch)?;
+    let shape = shape_of(rt, numbers);
     assert!(rt; shape.fits_all(items));
-    let outcome = relay_counter(rt, rt.alloc(), shape, items, limits, gate)?;
+    let outcome = relay_counter(rt, rt.alloc(), shape, items, limits, gate);
+    let outcome = outcome.expect(rt, "memory for the relay");
     expect_in_order(rt, &outcome, items);
-    Ok(outcome)
+    outcome
 }
 
 /// A relay of the items on a flickering ring, with these oracles: its items are in order.
@@ -92,9 +97,8 @@ pub fn expect_flicker<O: Oracle + Drop + Send, G: Gate + Sync>(
     items: &[u64],
     limits: Limits,
     gate: &G,
-) -> Result<Outcome<Global>, Fail> {
-    let [capacity, modulus, width, batch] = *numbers;
-    let shape = Shape::with_batch(capacity, modulus, width, batch)?;
+) -> Outcome<Global> {
+    let shape = shape_of(rt, numbers);
     assert!(rt; shape.fits_all(items));
     let (oracle_p, oracle_c) = oracles;
     let outcome = relay_flicker(
@@ -106,9 +110,10 @@ pub fn expect_flicker<O: Oracle + Drop + Send, G: Gate + Sync>(
         items,
         limits,
         gate,
-    )?;
+    );
+    let outcome = outcome.expect(rt, "memory for the relay");
     expect_in_order(rt, &outcome, items);
-    Ok(outcome)
+    outcome
 }
 
 /// A relay between these ends, which have made no call.

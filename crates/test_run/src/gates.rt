@@ -8,7 +8,6 @@ use std::alloc::{AllocGlobal, Allocator};
 use std::hint::spin_loop;
 use std::process::Abort;
 use std::sync::atomic::{AtomicBool, AtomicU64, Ordering};
-use std::test::Fail;
 use std::thread::Threads;
 
 // Each side waits before its first call until the other one is there.
@@ -39,24 +38,23 @@ impl Gate for Meeting {
     }
 }
 
-fn expect_meeting(rt: &(impl Abort + AllocGlobal + Threads), kind: Kind) -> Result<(), Fail> {
+fn expect_meeting(rt: &(impl Abort + AllocGlobal + Threads), kind: Kind) {
     let gate = Meeting {
         putter: AtomicBool::new(false),
         taker: AtomicBool::new(false),
         ran_out: AtomicBool::new(false),
     };
-    let outcome = expect_relay(rt, kind, &ONE, &[1], Limits::both(1), &gate)?;
+    let outcome = expect_relay(rt, kind, &ONE, &[1], Limits::both(1), &gate);
     let have_met = gate.putter.load(Ordering::SeqCst) && gate.taker.load(Ordering::SeqCst);
     let is_met = have_met && !gate.ran_out.load(Ordering::SeqCst);
     expect(rt, is_met, "the meeting", kind.name());
     assert!(rt; outcome.put == 1 && outcome.calls == 1 && outcome.full == 0);
-    Ok(())
 }
 
 #[test]
-fn both_sides_run_at_the_same_time(rt: HostRuntime) -> Result<(), Fail> {
-    expect_meeting(&rt, Kind::Flicker)?;
-    expect_meeting(&rt, Kind::Counter)
+fn both_sides_run_at_the_same_time(rt: HostRuntime) {
+    expect_meeting(&rt, Kind::Flicker);
+    expect_meeting(&rt, Kind::Counter);
 }
 
 // The taker waits before its fourth take until the putter has made 100 puts. Keeps what each side was last said to have made.
@@ -123,53 +121,46 @@ fn expect_held<O: Oracle + Drop + Send>(
     rt: &(impl Abort + AllocGlobal + Threads),
     numbers: &Numbers,
     oracles: (O, O),
-) -> Result<(), Fail> {
+) {
     let gate = Held::new();
     let limits = Limits::both(1_000_000);
-    let outcome = expect_flicker(rt, numbers, oracles, &ITEMS, limits, &gate)?;
+    let outcome = expect_flicker(rt, numbers, oracles, &ITEMS, limits, &gate);
     gate.expect_full(rt, &outcome);
-    Ok(())
 }
 
-fn expect_held_counter(
-    rt: &(impl Abort + AllocGlobal + Threads),
-    numbers: &Numbers,
-) -> Result<(), Fail> {
+fn expect_held_counter(rt: &(impl Abort + AllocGlobal + Threads), numbers: &Numbers) {
     let gate = Held::new();
     let limits = Limits::both(1_000_000);
-    let outcome = expect_relay(rt, Kind::Counter, numbers, &ITEMS, limits, &gate)?;
+    let outcome = expect_relay(rt, Kind::Counter, numbers, &ITEMS, limits, &gate);
     gate.expect_full(rt, &outcome);
-    Ok(())
 }
 
 #[test]
-fn a_taker_that_is_held_leaves_the_ring_full(rt: HostRuntime) -> Result<(), Fail> {
+fn a_taker_that_is_held_leaves_the_ring_full(rt: HostRuntime) {
     for numbers in SHAPES.iter() {
-        expect_held(&rt, numbers, (Always(false), Always(false)))?;
-        expect_held(&rt, numbers, (Always(true), Always(true)))?;
-        expect_held(&rt, numbers, (Flip::new(), Flip::new()))?;
-        expect_held(&rt, numbers, (Tape::new(TAPE), Tape::new(TAPE)))?;
-        expect_held_counter(&rt, numbers)?;
+        expect_held(&rt, numbers, (Always(false), Always(false)));
+        expect_held(&rt, numbers, (Always(true), Always(true)));
+        expect_held(&rt, numbers, (Flip::new(), Flip::new()));
+        expect_held(&rt, numbers, (Tape::new(TAPE), Tape::new(TAPE)));
+        expect_held_counter(&rt, numbers);
     }
-    Ok(())
 }
 
 // All but the first of 1,000 puts find the ring full where nothing is taken. With no such limit the whole relay ends.
-fn expect_yields(rt: &(impl Abort + AllocGlobal + Threads), kind: Kind) -> Result<(), Fail> {
+fn expect_yields(rt: &(impl Abort + AllocGlobal + Threads), kind: Kind) {
     let limits = Limits {
         puts: 1000,
         takes: 0,
     };
-    let outcome = expect_relay(rt, kind, &ONE, &[1, 0], limits, &YieldGate)?;
+    let outcome = expect_relay(rt, kind, &ONE, &[1, 0], limits, &YieldGate);
     assert!(rt; outcome.put == 1 && outcome.calls == 1000 && outcome.full == 999);
     let limits = Limits::both(u64::MAX);
-    let outcome = expect_relay(rt, kind, &SHAPES[0], &ITEMS, limits, &YieldGate)?;
+    let outcome = expect_relay(rt, kind, &SHAPES[0], &ITEMS, limits, &YieldGate);
     assert!(rt; outcome.closed);
-    Ok(())
 }
 
 #[test]
-fn a_gate_that_yields_changes_nothing(rt: HostRuntime) -> Result<(), Fail> {
-    expect_yields(&rt, Kind::Flicker)?;
-    expect_yields(&rt, Kind::Counter)
+fn a_gate_that_yields_changes_nothing(rt: HostRuntime) {
+    expect_yields(&rt, Kind::Flicker);
+    expect_yields(&rt, Kind::Counter);
 }

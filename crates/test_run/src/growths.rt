@@ -1,4 +1,4 @@
-use crate::expects::{Kind, expect};
+use crate::expects::{Kind, Numbers, expect, shape_of};
 use bits_core::Shape;
 use refusing::Refusing;
 use ring_run::{CounterRing, FlickerRing, RunFault};
@@ -15,37 +15,30 @@ fn refusal<A: Allocator + Copy>(alloc: A, kind: Kind, shape: Shape) -> Option<Ru
 }
 
 // Makes a ring of the shape, each growth refused in turn, and then none.
-fn expect_refused_rings(
-    rt: &(impl Abort + AllocGlobal),
-    kind: Kind,
-    numbers: &(u64, u64, u64),
-) -> Result<(), Fail> {
-    let (capacity, modulus, width) = *numbers;
-    let shape = Shape::new(capacity, modulus, width)?;
+fn expect_refused_rings(rt: &(impl Abort + AllocGlobal), kind: Kind, numbers: &Numbers) {
+    let shape = shape_of(rt, numbers);
     for allocations in 0..20 {
         let alloc = Refusing::after(rt.alloc(), allocations);
         let refused = refusal(&alloc, kind, shape);
         if !alloc.has_refused() {
             let is_made = refused.is_none() && 1 <= allocations;
             expect(rt, is_made, "the last growth", kind.name());
-            return Ok(());
+            return;
         }
         let is_refused = refused == Some(RunFault::OutOfMemory);
         expect(rt, is_refused, "a growth", kind.name());
     }
     expect(rt, false, "each growth", kind.name());
-    Ok(())
 }
 
-const SHAPES: [(u64, u64, u64); 3] = [(1, 3, 1), (3, 5, 6), (64, 256, 64)];
+const SHAPES: [Numbers; 3] = [[1, 3, 1, 1], [3, 5, 6, 1], [64, 256, 64, 1]];
 
 #[test]
-fn a_ring_is_refused_at_each_growth(rt: HostRuntime) -> Result<(), Fail> {
+fn a_ring_is_refused_at_each_growth(rt: HostRuntime) {
     for numbers in SHAPES.iter() {
-        expect_refused_rings(&rt, Kind::Flicker, numbers)?;
-        expect_refused_rings(&rt, Kind::Counter, numbers)?;
+        expect_refused_rings(&rt, Kind::Flicker, numbers);
+        expect_refused_rings(&rt, Kind::Counter, numbers);
     }
-    Ok(())
 }
 
 #[test]

@@ -1,13 +1,12 @@
-ghost use Rattle.std.specs.Prelude.{◌≡◌, ◌∷◌, [], IfOk};
+ghost use Rattle.std.specs.Prelude.{◌≡◌, ◌∷◌, []};
 ghost use Rattle.bits_core.specs.Shape.{AllFit};
 ghost use Rattle.ring_run.specs.Steppers.{IsSameEnd};
 
-use crate::expects::{ITEMS, Kind, Numbers, ONE, expect, expect_relay};
+use crate::expects::{ITEMS, Kind, Numbers, ONE, expect, expect_relay, shape_of};
 use bits_core::{Flip, Shape};
 use ring_run::{CounterRing, FlickerRing, FreeGate, Limits, Outcome, PutEnd, relay};
 use std::alloc::{AllocGlobal, Allocator};
 use std::process::Abort;
-use std::test::Fail;
 use std::thread::Threads;
 
 // What a relay comes to: items put, puts made, items taken, closed, and how often full and empty.
@@ -36,20 +35,15 @@ fn is_one_of<A: Allocator>(outcome: &Outcome<A>, wanted: &[Wanted]) -> bool {
 }
 
 // Each relay on a ring of the kind comes to one of what it may come to.
-fn expect_cases(
-    rt: &(impl Abort + AllocGlobal + Threads),
-    kind: Kind,
-    cases: &[Case],
-) -> Result<(), Fail> {
+fn expect_cases(rt: &(impl Abort + AllocGlobal + Threads), kind: Kind, cases: &[Case]) {
     for (name, numbers, items, (puts, takes), wanted) in cases {
         let limits = Limits {
             puts: *puts,
             takes: *takes,
         };
-        let outcome = expect_relay(rt, kind, numbers, items, limits, &FreeGate)?;
+        let outcome = expect_relay(rt, kind, numbers, items, limits, &FreeGate);
         expect(rt, is_one_of(&outcome, wanted), name, kind.name());
     }
-    Ok(())
 }
 
 // One cell of six bits.
@@ -101,9 +95,9 @@ static LIMITED: [Case; 6] = [
 ];
 
 #[test]
-fn a_relay_stops_at_its_limits(rt: HostRuntime) -> Result<(), Fail> {
-    expect_cases(&rt, Kind::Flicker, &LIMITED)?;
-    expect_cases(&rt, Kind::Counter, &LIMITED)
+fn a_relay_stops_at_its_limits(rt: HostRuntime) {
+    expect_cases(&rt, Kind::Flicker, &LIMITED);
+    expect_cases(&rt, Kind::Counter, &LIMITED);
 }
 
 #[test]
@@ -114,19 +108,18 @@ fn limits_may_be_the_same_for_both(rt: HostRuntime) {
     }
 }
 
-fn expect_all(rt: &(impl Abort + AllocGlobal + Threads), kind: Kind) -> Result<(), Fail> {
+fn expect_all(rt: &(impl Abort + AllocGlobal + Threads), kind: Kind) {
     let limits = Limits::both(u64::MAX);
-    let outcome = expect_relay(rt, kind, &SIX, &ITEMS, limits, &FreeGate)?;
+    let outcome = expect_relay(rt, kind, &SIX, &ITEMS, limits, &FreeGate);
     let is_whole = outcome.put == 64 && outcome.closed;
     let is_all = is_whole && outcome.taken.as_slice() == ITEMS.as_slice();
     expect(rt, is_all, "all items", kind.name());
-    Ok(())
 }
 
 #[test]
-fn all_items_go_through_one_cell(rt: HostRuntime) -> Result<(), Fail> {
-    expect_all(&rt, Kind::Flicker)?;
-    expect_all(&rt, Kind::Counter)
+fn all_items_go_through_one_cell(rt: HostRuntime) {
+    expect_all(&rt, Kind::Flicker);
+    expect_all(&rt, Kind::Counter);
 }
 
 // What came of two items put by the end of one ring while an end of another, closed and empty, takes.
@@ -136,17 +129,15 @@ fn expect_apart<A: Allocator>(rt: &impl Abort, outcome: &Outcome<A>) {
 }
 
 // Puts two items by this end, with the taker of another ring, which was closed before.
-fn relay_apart<E: PutEnd + Send>(
-    rt: &(impl Abort + AllocGlobal + Threads),
-    putter: &mut E,
-) -> Result<(), Fail>
+fn relay_apart<E: PutEnd + Send>(rt: &(impl Abort + AllocGlobal + Threads), putter: &mut E)
     requires idle { E.idle putter.old }
     requires fresh { (E.end putter.old).list ≡ [] }
     requires wide { AllFit (E.end putter.old).ring.shape (0 ∷ 1 ∷ []) }
     ensures idle { E.idle putter.new }
     ensures same { IsSameEnd (E.end putter.old) (E.end putter.new) }
 {
-    let (other, start) = FlickerRing::new(rt.alloc(), Shape::new(1, 3, 1)?)?;
+    let made = FlickerRing::new(rt.alloc(), shape_of(rt, &ONE));
+    let (other, start) = made.expect(rt, "memory for the ring");
     let (mut closer, mut told) = other.ends(start, Flip::new(), Flip::new());
     closer.close();
     let limits = Limits::both(5);
@@ -158,39 +149,37 @@ fn relay_apart<E: PutEnd + Send>(
         &[0, 1],
         limits,
         &FreeGate,
-    )?;
-    expect_apart(rt, &outcome);
+    );
+    expect_apart(rt, &outcome.expect(rt, "memory for the relay"));
     let ended = FlickerRing::finish(closer, told);
     assert!(rt; ended.closed() && ended.told());
-    Ok(())
 }
 
 // Two cells of one bit.
-fn two_cells() -> Result<Shape, Fail>
-    ensures { IfOk result (λ shape. AllFit shape (0 ∷ 1 ∷ [])) }
+fn two_cells(rt: &impl Abort) -> Shape
+    ensures { AllFit result (0 ∷ 1 ∷ []) }
 {
-    let shape = Shape::new(2, 4, 1)?;
-    Ok(shape)
+    Shape::new(2, 4, 1).expect(rt, "a shape")
 }
 
 // The putter of one ring and the taker of another.
 #[test]
-fn ends_of_two_rings_are_worked_alike(rt: HostRuntime) -> Result<(), Fail> {
-    let (ring, start) = FlickerRing::new(rt.alloc(), two_cells()?)?;
+fn ends_of_two_rings_are_worked_alike(rt: HostRuntime) {
+    let made = FlickerRing::new(rt.alloc(), two_cells(&rt));
+    let (ring, start) = made.expect(&rt, "memory for the ring");
     let (mut putter, taker) = ring.ends(start, Flip::new(), Flip::new());
-    relay_apart(&rt, &mut putter)?;
+    relay_apart(&rt, &mut putter);
     let ended = FlickerRing::finish(putter, taker);
     assert!(rt; ended.closed() && !ended.told());
-    Ok(())
 }
 
 // The putter of a counter ring and the taker of a flickering ring.
 #[test]
-fn ends_of_rings_of_both_kinds_are_worked_alike(rt: HostRuntime) -> Result<(), Fail> {
-    let (ring, start) = CounterRing::new(rt.alloc(), two_cells()?)?;
+fn ends_of_rings_of_both_kinds_are_worked_alike(rt: HostRuntime) {
+    let made = CounterRing::new(rt.alloc(), two_cells(&rt));
+    let (ring, start) = made.expect(&rt, "memory for the ring");
     let (mut putter, taker) = ring.ends(start);
-    relay_apart(&rt, &mut putter)?;
+    relay_apart(&rt, &mut putter);
     let ended = CounterRing::finish(putter, taker);
     assert!(rt; ended.closed() && !ended.told());
-    Ok(())
 }

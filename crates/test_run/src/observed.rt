@@ -1,10 +1,10 @@
 // What is found in the words of a ring between the steps of its ends, by who holds neither of them.
+use crate::expects::{ONE, shape_of};
 use crate::steps::begin;
-use bits_core::{Bit, Shape};
+use bits_core::Bit;
 use ring_run::{CounterRing, FlickerRing, PutEnd, TakeEnd};
 use std::alloc::Global;
 use std::process::Abort;
-use std::test::Fail;
 
 const BITS: [Bit; 3] = [Bit::S(0), Bit::S(1), Bit::Cell(0, 0)];
 
@@ -31,15 +31,15 @@ fn expect_words(rt: &impl Abort, ring: &FlickerRing<Global>, wanted: &[u64; 3]) 
 }
 
 #[test]
-fn a_word_is_2_while_its_bit_is_written(rt: HostRuntime) -> Result<(), Fail> {
-    let (ring, start) = FlickerRing::new(rt.alloc(), Shape::new(1, 3, 1)?)?;
+fn a_word_is_2_while_its_bit_is_written(rt: HostRuntime) {
+    let made = FlickerRing::new(rt.alloc(), shape_of(&rt, &ONE));
+    let (ring, start) = made.expect(&rt, "memory for the ring");
     let script: (&[u64], bool, usize, &[bool]) = (&[1], false, 0, &[]);
     let (mut producing, _consuming) = begin(&ring, start, script, &[]);
     for words in PUT.iter() {
         expect_words(&rt, &ring, words);
         let _made = producing.step();
     }
-    Ok(())
 }
 
 // The words of the close bit, of both counters and of the cells, in order.
@@ -53,9 +53,10 @@ fn expect_counts(rt: &impl Abort, ring: &CounterRing<Global>, wanted: &[u64]) {
 }
 
 #[test]
-fn a_counter_ring_s_words_are_counts_and_items(rt: HostRuntime) -> Result<(), Fail> {
-    let shape = Shape::new(2, 4, 3)?;
-    let (ring, start) = CounterRing::new(rt.alloc(), shape)?;
+fn a_counter_ring_s_words_are_counts_and_items(rt: HostRuntime) {
+    let shape = shape_of(&rt, &[2, 4, 3, 1]);
+    let made = CounterRing::new(rt.alloc(), shape);
+    let (ring, start) = made.expect(&rt, "memory for the ring");
     let (mut putter, mut taker) = ring.ends(start);
     expect_counts(&rt, &ring, &[0, 0, 0, 0, 0]);
     assert!(rt; shape.fits(5) && shape.fits(6));
@@ -66,5 +67,4 @@ fn a_counter_ring_s_words_are_counts_and_items(rt: HostRuntime) -> Result<(), Fa
     let _item = taker.take();
     putter.close();
     expect_counts(&rt, &ring, &[1, 2, 1, 5, 6]);
-    Ok(())
 }

@@ -2,9 +2,8 @@
 use crate::expects::{Kind, Numbers, expect_relay};
 use queue_calls::Word;
 use ring_run::{Limits, RecordedLines, Recorder, Slot};
-use std::alloc::{AllocGlobal, Global};
+use std::alloc::AllocGlobal;
 use std::process::Abort;
-use std::test::Fail;
 use std::thread::Threads;
 
 /// Up to two cells, of puts of up to two items.
@@ -33,27 +32,29 @@ static TAKES: [(Word, &[u64]); 4] = [
 ];
 
 // So many slots.
-fn slots(alloc: Global, room: usize) -> Result<Vec<Slot>, Fail> {
-    let mut slots = Vec::new(alloc);
+fn slots(rt: &(impl Abort + AllocGlobal), room: usize) -> Vec<Slot> {
+    let mut slots = Vec::new(rt.alloc());
     for _ in 0..room {
-        slots.push(Slot::new())?;
+        slots.push(Slot::new()).expect(rt, "memory for the slots");
     }
-    Ok(slots)
+    slots
 }
 
 // Whether these lines are recorded, and no more.
 fn are_recorded(
-    alloc: Global,
+    rt: &(impl Abort + AllocGlobal),
     mut lines: RecordedLines<'_>,
     expected: &[(Word, &[u64])],
-) -> Result<bool, Fail> {
-    let mut numbers = Vec::new(alloc);
+) -> bool {
+    let mut numbers = Vec::new(rt.alloc());
     for (word, told) in expected {
-        if lines.next(&mut numbers)? != Some(*word) || numbers.as_slice() != *told {
-            return Ok(false);
+        let next = lines.next(&mut numbers).expect(rt, "memory for a line");
+        if next != Some(*word) || numbers.as_slice() != *told {
+            return false;
         }
     }
-    Ok(lines.next(&mut numbers)?.is_none())
+    let end = lines.next(&mut numbers).expect(rt, "memory for a line");
+    end.is_none()
 }
 
 // With room for so many lines of either side, these lines are recorded.
@@ -63,34 +64,33 @@ fn expect_recorded(
     items: &[u64],
     limits: Limits,
     expected: &[(Word, &[u64])],
-) -> Result<(), Fail> {
+) {
     for kind in [Kind::Flicker, Kind::Counter] {
-        let (puts, takes) = (slots(rt.alloc(), room)?, slots(rt.alloc(), room)?);
+        let (puts, takes) = (slots(rt, room), slots(rt, room));
         let recorder = Recorder::new(puts.as_slice(), takes.as_slice());
-        let _outcome = expect_relay(rt, kind, &TWO, items, limits, &recorder)?;
-        let is_so = are_recorded(rt.alloc(), recorder.lines(), expected)?;
+        let _outcome = expect_relay(rt, kind, &TWO, items, limits, &recorder);
+        let is_so = are_recorded(rt, recorder.lines(), expected);
         assert!(rt; is_so, "{}, room {room}", kind.name());
     }
-    Ok(())
 }
 
 #[test]
-fn each_line_is_recorded(rt: HostRuntime) -> Result<(), Fail> {
+fn each_line_is_recorded(rt: HostRuntime) {
     let puts = Limits { puts: 2, takes: 0 };
     let takes = Limits { puts: 0, takes: 2 };
-    expect_recorded(&rt, 8, &[7, 8, 9, 10, 11], puts, &PUTS)?;
-    expect_recorded(&rt, 8, &[7], puts, &PART_OF_A_PUT)?;
-    expect_recorded(&rt, 8, &[7], takes, &TAKES)
+    expect_recorded(&rt, 8, &[7, 8, 9, 10, 11], puts, &PUTS);
+    expect_recorded(&rt, 8, &[7], puts, &PART_OF_A_PUT);
+    expect_recorded(&rt, 8, &[7], takes, &TAKES);
 }
 
 // A line for which there is no room ends the recording, and so does one of either side.
 #[test]
-fn a_recording_ends_where_its_room_does(rt: HostRuntime) -> Result<(), Fail> {
+fn a_recording_ends_where_its_room_does(rt: HostRuntime) {
     let puts = Limits { puts: 2, takes: 0 };
     let takes = Limits { puts: 0, takes: 2 };
-    expect_recorded(&rt, 0, &[7, 8, 9, 10, 11], puts, &[])?;
-    expect_recorded(&rt, 1, &[7, 8, 9, 10, 11], puts, &[])?;
-    expect_recorded(&rt, 4, &[7, 8, 9, 10, 11], puts, &PUTS[..2])?;
-    expect_recorded(&rt, 5, &[7, 8, 9, 10, 11], puts, &PUTS[..3])?;
-    expect_recorded(&rt, 3, &[7], takes, &TAKES[..3])
+    expect_recorded(&rt, 0, &[7, 8, 9, 10, 11], puts, &[]);
+    expect_recorded(&rt, 1, &[7, 8, 9, 10, 11], puts, &[]);
+    expect_recorded(&rt, 4, &[7, 8, 9, 10, 11], puts, &PUTS[..2]);
+    expect_recorded(&rt, 5, &[7, 8, 9, 10, 11], puts, &PUTS[..3]);
+    expect_recorded(&rt, 3, &[7], takes, &TAKES[..3]);
 }

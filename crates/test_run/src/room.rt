@@ -3,12 +3,11 @@ ghost use Rattle.std.specs.Prelude.{◌≡◌, ◌^◌, ◌<◌};
 ghost use Rattle.bits_core.specs.Shape.{width_of};
 ghost use Rattle.test_run.specs.Room.{KnowsRoom};
 
-use bits_core::Shape;
+use crate::expects::{ONE, shape_of};
 use ring_core::PutReply;
 use ring_run::laws::full_after_meeting;
 use ring_run::{CounterRing, PutEnd};
 use std::process::Abort;
-use std::test::Fail;
 
 // A put by an end that knows of room: whether it was stored. It is never answered `Full`.
 fn put_into_room<E: PutEnd>(putter: &mut E, item: u64) -> bool
@@ -26,12 +25,12 @@ fn put_into_room<E: PutEnd>(putter: &mut E, item: u64) -> bool
 }
 
 #[test]
-fn the_first_put_into_a_ring_is_stored(rt: HostRuntime) -> Result<(), Fail> {
-    let shape = Shape::new(1, 3, 1)?;
-    let (ring, start) = CounterRing::new(rt.alloc(), shape)?;
+fn the_first_put_into_a_ring_is_stored(rt: HostRuntime) {
+    let shape = shape_of(&rt, &ONE);
+    let made = CounterRing::new(rt.alloc(), shape);
+    let (ring, start) = made.expect(&rt, "memory for the ring");
     let (mut putter, _taker) = ring.ends(start);
     assert!(rt; shape.fits(1));
     let is_stored = put_into_room(&mut putter, 1);
     assert!(rt; is_stored);
-    Ok(())
 }

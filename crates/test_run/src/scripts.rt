@@ -1,11 +1,10 @@
 // Scripts that both ends follow by single steps, and what comes of them.
-use crate::expects::expect;
+use crate::expects::{expect, shape_of};
 use crate::steps::{Consuming, Producing, Script, begin};
-use bits_core::{Shape, Side};
+use bits_core::Side;
 use ring_run::FlickerRing;
 use std::alloc::AllocGlobal;
 use std::process::Abort;
-use std::test::Fail;
 
 // What is wanted: the steps made, the items that puts stored, the items taken, whether closed was told, and how often full
 // and empty.
@@ -41,11 +40,11 @@ fn make_steps(
 }
 
 // The steps of the script give what is wanted.
-fn expect_script(rt: &(impl Abort + AllocGlobal), case: &Case) -> Result<(), Fail> {
-    let (name, [capacity, modulus, width, batch], script, steps, wanted) = *case;
+fn expect_script(rt: &(impl Abort + AllocGlobal), case: &Case) {
+    let (name, numbers, script, steps, wanted) = *case;
     let (events, stored, taken, told, counts) = wanted;
-    let shape = Shape::with_batch(capacity, modulus, width, batch)?;
-    let (ring, start) = FlickerRing::new(rt.alloc(), shape)?;
+    let made = FlickerRing::new(rt.alloc(), shape_of(rt, &numbers));
+    let (ring, start) = made.expect(rt, "memory for the ring");
     let (mut producing, mut consuming) = begin(&ring, start, script, taken);
     let made = make_steps(rt, &mut producing, &mut consuming, steps);
     expect(rt, made == events, "steps", name);
@@ -54,7 +53,6 @@ fn expect_script(rt: &(impl Abort + AllocGlobal), case: &Case) -> Result<(), Fai
     expect(rt, consuming.told == told, "told", name);
     let found = [producing.full, consuming.empty];
     expect(rt, found == counts, "full and empty", name);
-    Ok(())
 }
 
 const P: Side = Side::P;
@@ -197,11 +195,10 @@ static PUTS: [Case; 16] = [
 ];
 
 #[test]
-fn steps_that_interleave_give_what_their_script_says(rt: HostRuntime) -> Result<(), Fail> {
+fn steps_that_interleave_give_what_their_script_says(rt: HostRuntime) {
     for case in PUTS.iter() {
-        expect_script(&rt, case)?;
+        expect_script(&rt, case);
     }
-    Ok(())
 }
 
 static BATCHES: [Case; 2] = [
@@ -223,9 +220,8 @@ static BATCHES: [Case; 2] = [
 ];
 
 #[test]
-fn steps_of_batches_give_what_their_script_says(rt: HostRuntime) -> Result<(), Fail> {
+fn steps_of_batches_give_what_their_script_says(rt: HostRuntime) {
     for case in BATCHES.iter() {
-        expect_script(&rt, case)?;
+        expect_script(&rt, case);
     }
-    Ok(())
 }

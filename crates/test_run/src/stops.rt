@@ -1,11 +1,11 @@
 // One side stops for ever at each of its steps, or its end is dropped there, in the middle of a call; or it is far slower than the
 // other. The other side's calls return, and what they answer is true.
+use crate::expects::shape_of;
 use crate::steps::{Consuming, Producing, Script, begin};
-use bits_core::{Shape, Side};
+use bits_core::Side;
 use ring_run::FlickerRing;
 use std::alloc::AllocGlobal;
 use std::process::Abort;
-use std::test::Fail;
 
 // By their capacity, modulus, width and batch.
 const SHAPES: [[u64; 4]; 3] = [[1, 3, 1, 1], [2, 5, 1, 2], [3, 7, 2, 3]];
@@ -89,11 +89,11 @@ fn expect_stop(
     numbers: &[u64; 4],
     script: &Script<'static>,
     stop: Stop,
-) -> Result<(), Fail> {
-    let [capacity, modulus, width, batch] = *numbers;
+) {
+    let [capacity, _, _, batch] = *numbers;
     let (side, steps, drops) = stop;
-    let shape = Shape::with_batch(capacity, modulus, width, batch)?;
-    let (ring, start) = FlickerRing::new(rt.alloc(), shape)?;
+    let made = FlickerRing::new(rt.alloc(), shape_of(rt, numbers));
+    let (ring, start) = made.expect(rt, "memory for the ring");
     let (items, _, _, _) = *script;
     let (mut producing, mut consuming) = begin(&ring, start, *script, items);
     for _ in 0..steps {
@@ -116,31 +116,29 @@ fn expect_stop(
             expect_stored(rt, &mut producing, taken, capacity, stop);
         }
     }
-    Ok(())
 }
 
 // At each of its steps, by each oracle.
-fn expect_stops(rt: &(impl Abort + AllocGlobal), side: Side, drops: bool) -> Result<(), Fail> {
+fn expect_stops(rt: &(impl Abort + AllocGlobal), side: Side, drops: bool) {
     for numbers in SHAPES.iter() {
         for script in SCRIPTS.iter() {
             for steps in 0..130 {
-                expect_stop(rt, numbers, script, (side, steps, drops))?;
+                expect_stop(rt, numbers, script, (side, steps, drops));
             }
         }
     }
-    Ok(())
 }
 
 #[test]
-fn a_side_that_stops_at_any_step_leaves_the_other_true(rt: HostRuntime) -> Result<(), Fail> {
-    expect_stops(&rt, Side::P, false)?;
-    expect_stops(&rt, Side::C, false)
+fn a_side_that_stops_at_any_step_leaves_the_other_true(rt: HostRuntime) {
+    expect_stops(&rt, Side::P, false);
+    expect_stops(&rt, Side::C, false);
 }
 
 #[test]
-fn an_end_that_is_dropped_in_a_call_leaves_the_other_true(rt: HostRuntime) -> Result<(), Fail> {
-    expect_stops(&rt, Side::P, true)?;
-    expect_stops(&rt, Side::C, true)
+fn an_end_that_is_dropped_in_a_call_leaves_the_other_true(rt: HostRuntime) {
+    expect_stops(&rt, Side::P, true);
+    expect_stops(&rt, Side::C, true);
 }
 
 // Rounds of so many steps of the producer, and so many of the consumer.
@@ -167,10 +165,9 @@ fn expect_slow(
     script: &Script<'static>,
     slow: Side,
     times: u64,
-) -> Result<(), Fail> {
-    let [capacity, modulus, width, batch] = *numbers;
-    let shape = Shape::with_batch(capacity, modulus, width, batch)?;
-    let (ring, start) = FlickerRing::new(rt.alloc(), shape)?;
+) {
+    let made = FlickerRing::new(rt.alloc(), shape_of(rt, numbers));
+    let (ring, start) = made.expect(rt, "memory for the ring");
     let (items, _, _, _) = *script;
     let (mut producing, mut consuming) = begin(&ring, start, *script, items);
     let times_of = match slow {
@@ -185,18 +182,16 @@ fn expect_slow(
         "far slower, so many times",
         (slow, times, false),
     );
-    Ok(())
 }
 
 #[test]
-fn a_side_that_is_far_slower_loses_nothing(rt: HostRuntime) -> Result<(), Fail> {
+fn a_side_that_is_far_slower_loses_nothing(rt: HostRuntime) {
     for numbers in SHAPES.iter() {
         for script in SCRIPTS.iter() {
             for times in [2, 31, 200] {
-                expect_slow(&rt, numbers, script, Side::P, times)?;
-                expect_slow(&rt, numbers, script, Side::C, times)?;
+                expect_slow(&rt, numbers, script, Side::P, times);
+                expect_slow(&rt, numbers, script, Side::C, times);
             }
         }
     }
-    Ok(())
 }
