@@ -10,7 +10,19 @@ cd -- "$top"
 . tools/building.sh
 
 room=$(mktemp -d) || exit 1
+testing=
+ranking=
 trying=
+end() {
+    # shellcheck disable=SC2086
+    kill -s TERM -- ${testing:+"-$testing"} $ranking $trying 2>/dev/null
+    rm -rf "$room"
+}
+trap end EXIT
+trap 'exit 143' TERM
+trap 'exit 130' INT
+trap 'exit 129' HUP
+
 passed=0
 failed=0
 
@@ -24,9 +36,15 @@ count() {
     failed=$((failed + $2))
 }
 
-# The tests need no proof. They run beside the build of the program, which leaves processors idle, and after it in rank; in a process
-# group of their own, so that an end of this script ends them too.
-setsid nice -n 19 tests/unproved >"$room/unproved" 2>&1 </dev/null &
+# The tests need no proof. They run beside the last crates of the program's build, which leave processors idle, and after it in rank; in
+# a process group of their own, so that an end of this script ends them too.
+./lamport_ring --version &
+building=$!
+trying=$building
+# shellcheck disable=SC2016
+setsid nice -n 19 sh -c '
+    while kill -0 "$0" 2>/dev/null && [ ! -e crates/lamport_ring/out/rlib/ring_run.sum ]; do sleep 1; done
+    exec tests/unproved' "$building" >"$room/unproved" 2>&1 </dev/null &
 testing=$!
 
 # rank_tests: gives the tests the lowest rank. Linux may rank sessions, where `nice` counts within one alone, and each run of tests
@@ -41,15 +59,6 @@ rank_tests() {
 } 2>/dev/null
 [ ! -w /proc/self/autogroup ] || rank_tests &
 ranking=$!
-end() {
-    # shellcheck disable=SC2086
-    kill -s TERM -- "-$testing" "$ranking" $trying 2>/dev/null
-    rm -rf "$room"
-}
-trap end EXIT
-trap 'exit 143' TERM
-trap 'exit 130' INT
-trap 'exit 129' HUP
 
 # try PART..: tries the parts beside what follows.
 try() {
@@ -61,9 +70,7 @@ try() {
 
 # These need no program.
 try launcher trust
-./lamport_ring --version &
-trying="$trying $!"
-if wait $!; then
+if wait "$building"; then
     try examples docs
 else
     failed=1
