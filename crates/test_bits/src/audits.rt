@@ -1,32 +1,27 @@
 use bits_core::{Act, Bit, Event, Kind, Shape, Side, Verdict, audit_bits, read_trace};
 use std::alloc::AllocGlobal;
 use std::process::Abort;
-use std::test::Fail;
 
 // A trace, and what the audit says of it.
 type Case<'a> = (&'a str, Verdict);
 
 const LAWFUL: Verdict = Verdict::Lawful;
 
-fn expect_verdict(
-    rt: &(impl Abort + AllocGlobal),
-    text: &str,
-    verdict: Verdict,
-) -> Result<(), Fail> {
-    let (shape, events) = read_trace(rt.alloc(), text.as_bytes())?;
-    assert_eq!(rt; audit_bits(&shape, events.as_slice()), verdict, "in {text}");
-    Ok(())
+fn expect_verdict(rt: &(impl Abort + AllocGlobal), text: &str, verdict: Verdict) {
+    let read = read_trace(rt.alloc(), text.as_bytes());
+    let (shape, events) = read.expect(rt, "a trace");
+    let found = audit_bits(&shape, events.as_slice());
+    assert_eq!(rt; found, verdict, "in {text}");
 }
 
-fn expect_verdicts(rt: &(impl Abort + AllocGlobal), cases: &[Case]) -> Result<(), Fail> {
+fn expect_verdicts(rt: &(impl Abort + AllocGlobal), cases: &[Case]) {
     for (text, verdict) in cases {
-        expect_verdict(rt, text, *verdict)?;
+        expect_verdict(rt, text, *verdict);
     }
-    Ok(())
 }
 
 #[test]
-fn a_stale_read_without_cause_is_not_permitted(rt: HostRuntime) -> Result<(), Fail> {
+fn a_stale_read_without_cause_is_not_permitted(rt: HostRuntime) {
     expect_verdict(
         &rt,
         "shape 1 3 1\nC read s0\nC got s0 0\n",
@@ -34,11 +29,11 @@ fn a_stale_read_without_cause_is_not_permitted(rt: HostRuntime) -> Result<(), Fa
             place: 1,
             kind: Kind::NotPermitted,
         },
-    )
+    );
 }
 
 // Two reads of s0 while a write of 0 to it is open, over the 1 that it holds, and a read after it.
-const INVERSIONS: [Case<'static>; 2] = [
+static INVERSIONS: [Case<'static>; 2] = [
     (
         "shape 1 3 1\nP write s0 0\nC read s0\nC got s0 0\nC read s0\nC got s0 1\nP wrote s0\nC read s0\nC got s0 0\n",
         LAWFUL,
@@ -50,8 +45,8 @@ const INVERSIONS: [Case<'static>; 2] = [
 ];
 
 #[test]
-fn a_new_old_inversion_is_lawful(rt: HostRuntime) -> Result<(), Fail> {
-    expect_verdicts(&rt, &INVERSIONS)
+fn a_new_old_inversion_is_lawful(rt: HostRuntime) {
+    expect_verdicts(&rt, &INVERSIONS);
 }
 
 const STALE: Verdict = Verdict::Fault {
@@ -59,7 +54,7 @@ const STALE: Verdict = Verdict::Fault {
     kind: Kind::NotPermitted,
 };
 
-const STALE_AFTER: [Case<'static>; 2] = [
+static STALE_AFTER: [Case<'static>; 2] = [
     (
         "shape 1 3 1\nP write s0 0\nC read s0\nC got s0 0\nC read s0\nC got s0 1\nP wrote s0\nC read s0\nC got s0 1\n",
         STALE,
@@ -71,20 +66,20 @@ const STALE_AFTER: [Case<'static>; 2] = [
 ];
 
 #[test]
-fn the_old_value_is_stale_once_the_write_has_ended(rt: HostRuntime) -> Result<(), Fail> {
-    expect_verdicts(&rt, &STALE_AFTER)
+fn the_old_value_is_stale_once_the_write_has_ended(rt: HostRuntime) {
+    expect_verdicts(&rt, &STALE_AFTER);
 }
 
 #[test]
-fn an_unchanged_write_may_flicker(rt: HostRuntime) -> Result<(), Fail> {
+fn an_unchanged_write_may_flicker(rt: HostRuntime) {
     expect_verdict(
         &rt,
         "shape 1 3 1\nP write s0 1\nC read s0\nC got s0 0\n",
         LAWFUL,
-    )
+    );
 }
 
-const SPANS: [Case<'static>; 2] = [
+static SPANS: [Case<'static>; 2] = [
     (
         "shape 1 3 1\nC read s0\nP write s0 0\nP wrote s0\nC got s0 1\n",
         LAWFUL,
@@ -96,8 +91,8 @@ const SPANS: [Case<'static>; 2] = [
 ];
 
 #[test]
-fn a_read_may_span_a_whole_write(rt: HostRuntime) -> Result<(), Fail> {
-    expect_verdicts(&rt, &SPANS)
+fn a_read_may_span_a_whole_write(rt: HostRuntime) {
+    expect_verdicts(&rt, &SPANS);
 }
 
 const OUT_OF_TURN_AT_1: Verdict = Verdict::Fault {
@@ -105,7 +100,7 @@ const OUT_OF_TURN_AT_1: Verdict = Verdict::Fault {
     kind: Kind::OutOfTurn,
 };
 
-const SMALL: [Case<'static>; 9] = [
+static SMALL: [Case<'static>; 9] = [
     ("shape 1 3 1\n", LAWFUL),
     ("shape 3 7 1 3\n", LAWFUL),
     (
@@ -139,22 +134,22 @@ const SMALL: [Case<'static>; 9] = [
 ];
 
 #[test]
-fn small_verdicts(rt: HostRuntime) -> Result<(), Fail> {
-    expect_verdicts(&rt, &SMALL)
+fn small_verdicts(rt: HostRuntime) {
+    expect_verdicts(&rt, &SMALL);
 }
 
 // Events that no trace of the shape 1 3 1 has.
-fn expect_wrong_side(rt: &impl Abort, event: Event) -> Result<(), Fail> {
+fn expect_wrong_side(rt: &impl Abort, event: Event) {
+    let shape = Shape::new(1, 3, 1).expect(rt, "a shape");
     let wrong = Verdict::Fault {
         place: 0,
         kind: Kind::WrongSide,
     };
-    assert_eq!(rt; audit_bits(&Shape::new(1, 3, 1)?, &[event]), wrong);
-    Ok(())
+    assert_eq!(rt; audit_bits(&shape, &[event]), wrong);
 }
 
 #[test]
-fn a_bit_outside_the_shape_is_the_wrong_sides(rt: HostRuntime) -> Result<(), Fail> {
+fn a_bit_outside_the_shape_is_the_wrong_sides(rt: HostRuntime) {
     expect_wrong_side(
         &rt,
         Event {
@@ -162,7 +157,7 @@ fn a_bit_outside_the_shape_is_the_wrong_sides(rt: HostRuntime) -> Result<(), Fai
             bit: Bit::R(3),
             act: Act::ReadEnd(true),
         },
-    )?;
+    );
     expect_wrong_side(
         &rt,
         Event {
@@ -170,5 +165,5 @@ fn a_bit_outside_the_shape_is_the_wrong_sides(rt: HostRuntime) -> Result<(), Fai
             bit: Bit::Cell(255, 255),
             act: Act::WriteBegin(true),
         },
-    )
+    );
 }

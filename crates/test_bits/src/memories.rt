@@ -5,7 +5,6 @@ use bits_core::{
 use refusing::Refusing;
 use std::alloc::AllocGlobal;
 use std::process::Abort;
-use std::test::Fail;
 
 // What a side is to do: to end the access that it has open, or else to begin one of the bit, which
 // writes the value where the side is the bit's writer.
@@ -23,15 +22,26 @@ pub fn make<S: Store<Event>, O: Oracle>(
     choice: Choice,
 ) -> Result<Option<bool>, MemoryFault> {
     let (side, bit, value) = choice;
-    match memory.pending(side) {
+    let made = match memory.pending(side) {
         Some(Access::Read(_)) => return Ok(Some(memory.end_read(side, oracle)?)),
-        Some(Access::Write(_, _)) => memory.end_write(side)?,
-        None if !memory.shape().has(bit) => {}
-        None if side == bit.reader() => memory.begin_read(side, bit)?,
-        None if side == bit.writer() => memory.begin_write(side, bit, value)?,
-        None => {}
-    }
+        Some(Access::Write(_, _)) => memory.end_write(side),
+        None if !memory.shape().has(bit) => Ok(()),
+        None if side == bit.reader() => memory.begin_read(side, bit),
+        None if side == bit.writer() => memory.begin_write(side, bit, value),
+        None => Ok(()),
+    };
+    made?;
     Ok(None)
+}
+
+// The same, where there is memory for the event. (A `?` is dear to prove, so where memory is lacking the test ends here.)
+pub fn expect_made<S: Store<Event>, O: Oracle>(
+    rt: &impl Abort,
+    memory: &mut Memory<S>,
+    oracle: &mut O,
+    choice: Choice,
+) -> Option<bool> {
+    make(memory, oracle, choice).expect(rt, "memory for the event")
 }
 
 // So many events and flickers; the history is lawful, and the same once it was written and read again.
@@ -39,29 +49,24 @@ fn expect_history<S: Store<Event>>(
     rt: &(impl Abort + AllocGlobal),
     memory: &Memory<S>,
     counts: (usize, u64),
-) -> Result<(), Fail> {
+) {
     let shape = memory.shape();
     let events = memory.events();
     assert_eq!(rt; (events.len(), memory.flickers()), counts);
     assert_eq!(rt; audit_bits(&shape, events), Verdict::Lawful);
-    let text = write_trace(rt.alloc(), &shape, events)?;
-    let (shape_again, events_again) = read_trace(rt.alloc(), text.as_bytes())?;
+    let text = write_trace(rt.alloc(), &shape, events).expect(rt, "memory for the text");
+    let read = read_trace(rt.alloc(), text.as_bytes());
+    let (shape_again, events_again) = read.expect(rt, "a trace");
     assert!(rt; shape_again == shape);
     assert!(rt; events_again.as_slice() == events);
-    Ok(())
 }
 
 // The text of the history that a memory hands out.
-fn expect_text<S: Store<Event>>(
-    rt: &(impl Abort + AllocGlobal),
-    memory: Memory<S>,
-    wanted: &str,
-) -> Result<(), Fail> {
+fn expect_text<S: Store<Event>>(rt: &(impl Abort + AllocGlobal), memory: Memory<S>, wanted: &str) {
     let shape = memory.shape();
     let events = memory.into_events();
-    let text = write_trace(rt.alloc(), &shape, events.as_slice())?;
-    assert_eq!(rt; text.as_str(), wanted);
-    Ok(())
+    let text = write_trace(rt.alloc(), &shape, events.as_slice());
+    assert_eq!(rt; text.expect(rt, "memory for the text").as_str(), wanted);
 }
 
 fn expect_answers<O: Oracle>(rt: &impl Abort, oracle: &mut O, answers: &[bool]) {
@@ -89,18 +94,16 @@ fn expect_steps(
     steps: &[Step],
     flickers: u64,
     text: &str,
-) -> Result<(), Fail> {
-    let mut memory = Memory::new(rt.alloc(), Shape::new(1, 3, 1)?);
+) {
+    let shape = Shape::new(1, 3, 1).expect(rt, "a shape");
+    let mut memory = Memory::new(rt.alloc(), shape);
     let mut oracle = Tape::new(tape);
     for (side, value, answer, open) in steps {
-        assert_eq!(rt;
-            make(&mut memory, &mut oracle, (*side, S0, *value))?,
-            *answer
-        );
-        assert_eq!(rt; memory.pending(*side), *open);
+        let made = expect_made(rt, &mut memory, &mut oracle, (*side, S0, *value));
+        assert_eq!(rt; (made, memory.pending(*side)), (*answer, *open));
     }
-    expect_history(rt, &memory, (steps.len(), flickers))?;
-    expect_text(rt, memory, text)
+    expect_history(rt, &memory, (steps.len(), flickers));
+    expect_text(rt, memory, text);
 }
 
 const READ_S0: Option<Access> = Some(Access::Read(S0));
@@ -108,7 +111,7 @@ const READ_S0: Option<Access> = Some(Access::Read(S0));
 const WRITE_S0: Option<Access> = Some(Access::Write(S0, false));
 
 // Two reads within a write, and one after it, which does not ask the tape.
-const READS_IN_A_WRITE: [Step; 8] = [
+static READS_IN_A_WRITE: [Step; 8] = [
     (Side::P, false, None, WRITE_S0),
     (Side::C, false, None, READ_S0),
     (Side::C, false, Some(true), None),
@@ -120,18 +123,18 @@ const READS_IN_A_WRITE: [Step; 8] = [
 ];
 
 #[test]
-fn overlapped_reads_of_one_bit_ask_the_oracle(rt: HostRuntime) -> Result<(), Fail> {
+fn overlapped_reads_of_one_bit_ask_the_oracle(rt: HostRuntime) {
     expect_steps(
         &rt,
         &[true, false, true],
         &READS_IN_A_WRITE,
         2,
         "shape 1 3 1\nP write s0 0\nC read s0\nC got s0 1\nC read s0\nC got s0 0\nP wrote s0\nC read s0\nC got s0 0\n",
-    )
+    );
 }
 
 // A read, a whole write within it, and a read after both.
-const WRITE_IN_A_READ: [Step; 6] = [
+static WRITE_IN_A_READ: [Step; 6] = [
     (Side::C, false, None, READ_S0),
     (Side::P, false, None, WRITE_S0),
     (Side::P, false, None, None),
@@ -141,18 +144,18 @@ const WRITE_IN_A_READ: [Step; 6] = [
 ];
 
 #[test]
-fn a_read_spanned_by_a_write_flickers(rt: HostRuntime) -> Result<(), Fail> {
+fn a_read_spanned_by_a_write_flickers(rt: HostRuntime) {
     expect_steps(
         &rt,
         &[true],
         &WRITE_IN_A_READ,
         1,
         "shape 1 3 1\nC read s0\nP write s0 0\nP wrote s0\nC got s0 1\nC read s0\nC got s0 0\n",
-    )
+    );
 }
 
 // A write that begins during a read of the bit marks that read alone: not the next one after the write.
-const MARK_IS_CLEARED: [Step; 6] = [
+static MARK_IS_CLEARED: [Step; 6] = [
     (Side::C, false, None, READ_S0),
     (Side::P, false, None, WRITE_S0),
     (Side::C, false, Some(false), None),
@@ -162,18 +165,20 @@ const MARK_IS_CLEARED: [Step; 6] = [
 ];
 
 #[test]
-fn a_read_after_an_overlapped_one_does_not_ask(rt: HostRuntime) -> Result<(), Fail> {
+fn a_read_after_an_overlapped_one_does_not_ask(rt: HostRuntime) {
     expect_steps(
         &rt,
         &[false, true],
         &MARK_IS_CLEARED,
         1,
         "shape 1 3 1\nC read s0\nP write s0 0\nC got s0 0\nP wrote s0\nC read s0\nC got s0 0\n",
-    )
+    );
 }
 
+pub const CHOICE_COUNT: usize = 18;
+
 // One event after the other. The events of a history grow at some of them.
-pub const CHOICES: [Choice; 18] = [
+pub static CHOICES: [Choice; CHOICE_COUNT] = [
     (Side::P, S0, false),
     (Side::C, S0, false),
     (Side::C, S0, false),
@@ -224,8 +229,8 @@ fn call_of<S: Store<Event>>(memory: &Memory<S>, choice: Choice) -> usize {
 
 // The choices over a memory whose allocator refuses one growth, beside one that is never refused. Which of the
 // four calls was refused, if one was: it changed nothing, and is made once more.
-fn refused_call(rt: &(impl Abort + AllocGlobal), allocations: u64) -> Result<Option<usize>, Fail> {
-    let shape = Shape::new(1, 3, 1)?;
+fn refused_call(rt: &(impl Abort + AllocGlobal), allocations: u64) -> Option<usize> {
+    let shape = Shape::new(1, 3, 1).expect(rt, "a shape");
     let alloc = Refusing::after(rt.alloc(), allocations);
     let mut memory = Memory::new(&alloc, shape);
     let mut oracle = Flip::new();
@@ -237,32 +242,31 @@ fn refused_call(rt: &(impl Abort + AllocGlobal), allocations: u64) -> Result<Opt
             expect_true(rt, alloc.has_refused());
             expect_same(rt, &memory, &other, (oracle, other_oracle));
             refused = Some(call_of(&memory, *choice));
-            make(&mut memory, &mut oracle, *choice)?;
+            expect_made(rt, &mut memory, &mut oracle, *choice);
         }
-        make(&mut other, &mut other_oracle, *choice)?;
+        expect_made(rt, &mut other, &mut other_oracle, *choice);
         expect_same(rt, &memory, &other, (oracle, other_oracle));
     }
     expect_true(rt, memory.events().len() == CHOICES.len());
     expect_true(rt, alloc.has_refused() == refused.is_some());
-    Ok(refused)
+    refused
 }
 
 #[test]
-fn each_refused_growth_changes_nothing(rt: HostRuntime) -> Result<(), Fail> {
+fn each_refused_growth_changes_nothing(rt: HostRuntime) {
     let mut seen = [false; 4];
     for allocations in 0..20 {
-        match refused_call(&rt, allocations)? {
+        match refused_call(&rt, allocations) {
             Some(call) if call < 4 => seen[call] = true,
             _ => break,
         }
     }
     // Each of the two begins and the two ends was refused once.
     expect_true(&rt, seen == [true; 4]);
-    Ok(())
 }
 
 // So many choices, each event's number from the one before, over all kinds of bits and both sides.
-fn make_many<S: Store<Event>>(memory: &mut Memory<S>, events: u64) -> Result<(), MemoryFault> {
+fn make_many<S: Store<Event>>(rt: &impl Abort, memory: &mut Memory<S>, events: u64) {
     let mut oracle = Flip::new();
     let bits = [
         Bit::S(0),
@@ -278,30 +282,28 @@ fn make_many<S: Store<Event>>(memory: &mut Memory<S>, events: u64) -> Result<(),
         number = number.wrapping_mul(75) % 65_537;
         let side = if number % 2 == 0 { Side::P } else { Side::C };
         let bit = bits[(number / 2 % 7) as usize];
-        make(memory, &mut oracle, (side, bit, number % 3 == 0))?;
+        expect_made(rt, memory, &mut oracle, (side, bit, number % 3 == 0));
     }
-    Ok(())
 }
 
 // A body that gives up past 1,000 or past 10,000 events would meet its contract.
 #[test]
-fn twenty_thousand_events_are_made_written_and_read_again(rt: HostRuntime) -> Result<(), Fail> {
-    let mut memory = Memory::new(rt.alloc(), Shape::with_batch(2, 5, 2, 2)?);
-    make_many(&mut memory, 20_000)?;
+fn twenty_thousand_events_are_made_written_and_read_again(rt: HostRuntime) {
+    let shape = Shape::with_batch(2, 5, 2, 2).expect(&rt, "a shape");
+    let mut memory = Memory::new(rt.alloc(), shape);
+    make_many(&rt, &mut memory, 20_000);
     let flickers = memory.flickers();
     expect_true(&rt, 100 < flickers);
-    expect_history(&rt, &memory, (20_000, flickers))
+    expect_history(&rt, &memory, (20_000, flickers));
 }
 
 // Whether a growth was refused while the choices' history was written and read again, and then the fault.
-fn expect_round_trip_refused(
-    rt: &(impl Abort + AllocGlobal),
-    allocations: u64,
-) -> Result<bool, Fail> {
-    let mut memory = Memory::new(rt.alloc(), Shape::new(1, 3, 1)?);
+fn expect_round_trip_refused(rt: &(impl Abort + AllocGlobal), allocations: u64) -> bool {
+    let shape = Shape::new(1, 3, 1).expect(rt, "a shape");
+    let mut memory = Memory::new(rt.alloc(), shape);
     let mut oracle = Flip::new();
     for choice in CHOICES.iter() {
-        make(&mut memory, &mut oracle, *choice)?;
+        expect_made(rt, &mut memory, &mut oracle, *choice);
     }
     let alloc = Refusing::after(rt.alloc(), allocations);
     let shape = memory.shape();
@@ -315,18 +317,17 @@ fn expect_round_trip_refused(
         None
     };
     assert_eq!(rt; fault, wanted);
-    Ok(alloc.has_refused())
+    alloc.has_refused()
 }
 
 #[test]
-fn writing_and_reading_refuse_at_each_growth(rt: HostRuntime) -> Result<(), Fail> {
+fn writing_and_reading_refuse_at_each_growth(rt: HostRuntime) {
     let mut refusals: u64 = 0;
     for allocations in 0..60 {
-        if !expect_round_trip_refused(&rt, allocations)? {
+        if !expect_round_trip_refused(&rt, allocations) {
             break;
         }
         refusals = allocations;
     }
     expect_true(&rt, 3 < refusals && refusals < 50);
-    Ok(())
 }

@@ -2,22 +2,27 @@ use bits_core::{Bit, Kind, Memory, MemoryFault, Shape, ShapeFault, TraceFault};
 use std::alloc::AllocGlobal;
 use std::fmt::Display;
 use std::process::Abort;
-use std::test::Fail;
 
 // Capacity, modulus, width and batch, and why they are no shape.
 type Numbers = (u64, u64, u64, u64, Option<ShapeFault>);
 
-fn expect_numbers(rt: &impl Abort, numbers: &Numbers) {
+// What was made of the numbers, and how. (A message is dear to prove, so this one is for both.)
+fn expect_made(rt: &impl Abort, how: &str, made: Result<Shape, ShapeFault>, numbers: &Numbers) {
     let (capacity, modulus, width, batch, refused) = *numbers;
-    let shape = Shape::with_batch(capacity, modulus, width, batch);
     assert_eq!(rt;
-        shape.err(),
+        made.err(),
         refused,
-        "{capacity} {modulus} {width} {batch}"
+        "{how} {capacity} {modulus} {width} {batch}"
     );
+}
+
+fn expect_numbers(rt: &impl Abort, numbers: &Numbers) {
+    let (capacity, modulus, width, batch, _) = *numbers;
+    let shape = Shape::with_batch(capacity, modulus, width, batch);
+    expect_made(rt, "with_batch", shape, numbers);
     if batch == 1 {
         let single = Shape::new(capacity, modulus, width);
-        assert_eq!(rt; single.err(), refused, "{capacity} {modulus} {width}");
+        expect_made(rt, "new", single, numbers);
     }
 }
 
@@ -28,7 +33,7 @@ fn expect_shapes(rt: &impl Abort, rows: &[Numbers]) {
     }
 }
 
-const SINGLE: [Numbers; 10] = [
+static SINGLE: [Numbers; 10] = [
     (1, 3, 1, 1, None),
     (64, 66, 64, 1, None),
     (64, 256, 1, 1, None),
@@ -46,7 +51,7 @@ fn shapes_accepted_and_refused(rt: HostRuntime) {
     expect_shapes(&rt, &SINGLE);
 }
 
-const BATCHES: [Numbers; 11] = [
+static BATCHES: [Numbers; 11] = [
     (3, 7, 1, 3, None),
     (3, 6, 1, 2, None),
     (64, 129, 64, 64, None),
@@ -67,9 +72,9 @@ fn batches_accepted_and_refused(rt: HostRuntime) {
     expect_shapes(&rt, &BATCHES);
 }
 
-fn expect_getters(rt: &impl Abort, numbers: (u64, u64, u64, u64)) -> Result<(), Fail> {
+fn expect_getters(rt: &impl Abort, numbers: (u64, u64, u64, u64)) {
     let (capacity, modulus, width, batch) = numbers;
-    let shape = Shape::with_batch(capacity, modulus, width, batch)?;
+    let shape = Shape::with_batch(capacity, modulus, width, batch).expect(rt, "a shape");
     let found = (
         shape.capacity(),
         shape.modulus(),
@@ -77,19 +82,18 @@ fn expect_getters(rt: &impl Abort, numbers: (u64, u64, u64, u64)) -> Result<(), 
         shape.batch(),
     );
     assert_eq!(rt; found, numbers);
-    assert!(rt; shape == Shape::with_batch(capacity, modulus, width, batch)?);
-    Ok(())
+    assert!(rt; Shape::with_batch(capacity, modulus, width, batch) == Ok(shape));
 }
 
 #[test]
-fn a_shape_tells_its_numbers(rt: HostRuntime) -> Result<(), Fail> {
-    expect_getters(&rt, (2, 5, 3, 2))?;
-    expect_getters(&rt, (64, 256, 64, 1))?;
-    expect_getters(&rt, (3, 9, 64, 3))
+fn a_shape_tells_its_numbers(rt: HostRuntime) {
+    expect_getters(&rt, (2, 5, 3, 2));
+    expect_getters(&rt, (64, 256, 64, 1));
+    expect_getters(&rt, (3, 9, 64, 3));
 }
 
 // Width, item, and whether it fits.
-const ITEMS: [(u64, u64, bool); 6] = [
+static ITEMS: [(u64, u64, bool); 6] = [
     (3, 7, true),
     (3, 8, false),
     (1, 1, true),
@@ -99,11 +103,11 @@ const ITEMS: [(u64, u64, bool); 6] = [
 ];
 
 #[test]
-fn an_item_fits_below_the_power_of_the_width(rt: HostRuntime) -> Result<(), Fail> {
+fn an_item_fits_below_the_power_of_the_width(rt: HostRuntime) {
     for (width, item, fits) in ITEMS.iter() {
-        expect_flag(&rt, Shape::new(2, 5, *width)?.fits(*item), *fits);
+        let shape = Shape::new(2, 5, *width).expect(&rt, "a shape");
+        expect_flag(&rt, shape.fits(*item), *fits);
     }
-    Ok(())
 }
 
 fn expect_flag(rt: &impl Abort, found: bool, wanted: bool) {
@@ -111,7 +115,7 @@ fn expect_flag(rt: &impl Abort, found: bool, wanted: bool) {
 }
 
 // Whether the bit is one of the shape 2 5 3.
-const BITS: [(Bit, bool); 10] = [
+static BITS: [(Bit, bool); 10] = [
     (Bit::S(0), true),
     (Bit::S(4), true),
     (Bit::S(5), false),
@@ -125,29 +129,26 @@ const BITS: [(Bit, bool); 10] = [
 ];
 
 #[test]
-fn a_shape_has_its_bits(rt: HostRuntime) -> Result<(), Fail> {
-    let shape = Shape::new(2, 5, 3)?;
+fn a_shape_has_its_bits(rt: HostRuntime) {
+    let shape = Shape::new(2, 5, 3).expect(&rt, "a shape");
     for (bit, belongs) in BITS.iter() {
         expect_flag(&rt, shape.has(*bit), *belongs);
     }
-    Ok(())
 }
 
 // The words that a value is written as.
-fn expect_words(
-    rt: &(impl Abort + AllocGlobal),
-    value: &impl Display,
-    words: &str,
-) -> Result<(), Fail> {
-    assert_eq!(rt; value.to_string(rt.alloc())?.as_str(), words);
-    Ok(())
+fn expect_words(rt: &(impl Abort + AllocGlobal), value: &impl Display, words: &str) {
+    let written = value
+        .to_string(rt.alloc())
+        .expect(rt, "memory for the words");
+    assert_eq!(rt; written.as_str(), words);
 }
 
 fn expect_number(rt: &impl Abort, found: u8, wanted: u8) {
     assert_eq!(rt; found, wanted);
 }
 
-const SHAPE_FAULTS: [(ShapeFault, u8, &str); 4] = [
+static SHAPE_FAULTS: [(ShapeFault, u8, &str); 4] = [
     (ShapeFault::Capacity, 1, "capacity must be from 1 to 64"),
     (
         ShapeFault::Modulus,
@@ -159,17 +160,16 @@ const SHAPE_FAULTS: [(ShapeFault, u8, &str); 4] = [
 ];
 
 #[test]
-fn shape_faults_have_their_numbers_and_words(rt: HostRuntime) -> Result<(), Fail> {
+fn shape_faults_have_their_numbers_and_words(rt: HostRuntime) {
     for (fault, number, words) in SHAPE_FAULTS.iter() {
         expect_number(&rt, fault.number(), *number);
-        expect_words(&rt, fault, words)?;
+        expect_words(&rt, fault, words);
         // a bad shape has the words of its fault
-        expect_words(&rt, &TraceFault::BadShape(*fault), words)?;
+        expect_words(&rt, &TraceFault::BadShape(*fault), words);
     }
-    Ok(())
 }
 
-const TRACE_FAULTS: [(TraceFault, u8, &str); 4] = [
+static TRACE_FAULTS: [(TraceFault, u8, &str); 4] = [
     (
         TraceFault::BadShape(ShapeFault::Width),
         1,
@@ -185,15 +185,14 @@ const TRACE_FAULTS: [(TraceFault, u8, &str); 4] = [
 ];
 
 #[test]
-fn trace_faults_have_their_numbers_and_words(rt: HostRuntime) -> Result<(), Fail> {
+fn trace_faults_have_their_numbers_and_words(rt: HostRuntime) {
     for (fault, number, words) in TRACE_FAULTS.iter() {
         expect_number(&rt, fault.number(), *number);
-        expect_words(&rt, fault, words)?;
+        expect_words(&rt, fault, words);
     }
-    Ok(())
 }
 
-const KINDS: [(Kind, u8, &str); 4] = [
+static KINDS: [(Kind, u8, &str); 4] = [
     (Kind::WrongSide, 1, "wrong side"),
     (Kind::OutOfTurn, 2, "out of turn"),
     (Kind::NotPermitted, 3, "not permitted"),
@@ -201,26 +200,27 @@ const KINDS: [(Kind, u8, &str); 4] = [
 ];
 
 #[test]
-fn kinds_have_their_numbers_and_words(rt: HostRuntime) -> Result<(), Fail> {
+fn kinds_have_their_numbers_and_words(rt: HostRuntime) {
     for (kind, number, words) in KINDS.iter() {
         expect_number(&rt, kind.number(), *number);
-        expect_words(&rt, kind, words)?;
+        expect_words(&rt, kind, words);
     }
-    Ok(())
 }
 
 #[test]
-fn a_memory_shows_its_history(rt: HostRuntime) -> Result<(), Fail> {
-    let memory = Memory::new(rt.alloc(), Shape::new(1, 3, 1)?);
+fn a_memory_shows_its_history(rt: HostRuntime) {
+    let shape = Shape::new(1, 3, 1).expect(&rt, "a shape");
+    let memory = Memory::new(rt.alloc(), shape);
+    let shown = format!(in rt.alloc(); "{memory:?}");
     expect_words(
         &rt,
-        &format!(in rt.alloc(); "{memory:?}")?,
+        &shown.expect(&rt, "memory for the text"),
         "Memory { shape: Shape { capacity: 1, modulus: 3, width: 1, batch: 1 }, events: [], flickers: 0 }",
-    )
+    );
 }
 
 #[test]
-fn the_fault_of_a_memory(rt: HostRuntime) -> Result<(), Fail> {
+fn the_fault_of_a_memory(rt: HostRuntime) {
     expect_number(&rt, MemoryFault::OutOfMemory.number(), 1);
-    expect_words(&rt, &MemoryFault::OutOfMemory, "out of memory")
+    expect_words(&rt, &MemoryFault::OutOfMemory, "out of memory");
 }

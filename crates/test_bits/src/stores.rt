@@ -1,10 +1,9 @@
-use crate::memories::{CHOICES, expect_same, expect_true, make};
+use crate::memories::{CHOICE_COUNT, CHOICES, expect_made, expect_same, expect_true, make};
 use bits_core::{
     Act, Bit, Event, Filled, Flip, Memory, Shape, Side, TraceFault, read_trace, read_trace_into,
 };
 use std::alloc::AllocGlobal;
 use std::process::Abort;
-use std::test::Fail;
 
 // What a slot holds before it is in use.
 const UNUSED: Event = Event {
@@ -16,8 +15,8 @@ const UNUSED: Event = Event {
 const TRACE: &[u8] = b"shape 1 3 1\nP write s0 1\nC read s0\nP wrote s0\nC got s0 0\n";
 
 // The trace is read into so many slots as with an allocator, where there is room for its four events.
-fn expect_read(rt: &(impl Abort + AllocGlobal), slots: &mut [Event]) -> Result<(), Fail> {
-    let (shape, events) = read_trace(rt.alloc(), TRACE)?;
+fn expect_read(rt: &(impl Abort + AllocGlobal), slots: &mut [Event]) {
+    let (shape, events) = read_trace(rt.alloc(), TRACE).expect(rt, "a trace");
     expect_true(rt, events.len() == 4);
     let has_room = 4 <= slots.len();
     match read_trace_into(TRACE, slots) {
@@ -30,18 +29,16 @@ fn expect_read(rt: &(impl Abort + AllocGlobal), slots: &mut [Event]) -> Result<(
             assert_eq!(rt; fault, TraceFault::OutOfMemory);
         }
     }
-    Ok(())
 }
 
 #[test]
-fn a_trace_is_read_into_slots(rt: HostRuntime) -> Result<(), Fail> {
+fn a_trace_is_read_into_slots(rt: HostRuntime) {
     let mut slots = [UNUSED; 6];
     for count in 0..=slots.len() {
-        expect_read(&rt, &mut slots[..count])?;
+        expect_read(&rt, &mut slots[..count]);
     }
     // What stands behind the events stays.
     expect_true(&rt, slots[4] == UNUSED && slots[5] == UNUSED);
-    Ok(())
 }
 
 // The fault of bytes, whatever room there is.
@@ -60,8 +57,8 @@ fn a_line_is_read_before_room_is_wanted(rt: HostRuntime) {
 
 // How many of the choices a memory makes whose history has these slots. Beside it is one with an allocator: they
 // are the same, also where no slot was left.
-fn made_in(rt: &(impl Abort + AllocGlobal), slots: &mut [Event]) -> Result<usize, Fail> {
-    let shape = Shape::new(1, 3, 1)?;
+fn made_in(rt: &(impl Abort + AllocGlobal), slots: &mut [Event]) -> usize {
+    let shape = Shape::new(1, 3, 1).expect(rt, "a shape");
     let mut memory = Memory::over(Filled::new(slots), shape);
     let mut oracle = Flip::new();
     let mut other = Memory::new(rt.alloc(), shape);
@@ -70,18 +67,17 @@ fn made_in(rt: &(impl Abort + AllocGlobal), slots: &mut [Event]) -> Result<usize
         if make(&mut memory, &mut oracle, *choice).is_err() {
             break;
         }
-        make(&mut other, &mut other_oracle, *choice)?;
+        expect_made(rt, &mut other, &mut other_oracle, *choice);
         expect_same(rt, &memory, &other, (oracle, other_oracle));
     }
     expect_same(rt, &memory, &other, (oracle, other_oracle));
-    Ok(memory.into_events().len())
+    memory.into_events().len()
 }
 
 #[test]
-fn a_memory_fills_its_slots(rt: HostRuntime) -> Result<(), Fail> {
-    let mut slots = [UNUSED; CHOICES.len()];
+fn a_memory_fills_its_slots(rt: HostRuntime) {
+    let mut slots = [UNUSED; CHOICE_COUNT];
     for count in 0..=slots.len() {
-        assert_eq!(rt; made_in(&rt, &mut slots[..count])?, count);
+        assert_eq!(rt; made_in(&rt, &mut slots[..count]), count);
     }
-    Ok(())
 }

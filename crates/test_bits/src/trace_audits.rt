@@ -2,7 +2,6 @@ use bits_core::{
     Act, Bit, BitAuditor, Event, Kind, Shape, ShapeFault, Side, TraceAudit, TraceFault, Verdict,
 };
 use std::process::Abort;
-use std::test::Fail;
 
 // What an audit finds of a text: a verdict, or the fault of the text.
 type Found = Result<Verdict, TraceFault>;
@@ -13,7 +12,7 @@ type Case = (&'static str, Found);
 // Two events of a lawful history, which leave it as it was.
 const TWO_EVENTS: &str = "P write s1 1\nP wrote s1\n";
 
-const CASES: [Case; 12] = [
+static CASES: [Case; 12] = [
     ("shape 1 3 1\n", Ok(Verdict::Lawful)),
     (
         "shape 1 3 1\nP write s1 1\nP wrote s1\nC read s1\nC got s1 1\n",
@@ -88,8 +87,8 @@ fn expect_found(rt: &impl Abort, text: &[u8], found: Found) {
 
 #[test]
 fn a_trace_is_audited_wherever_it_is_cut(rt: HostRuntime) {
-    for (text, found) in CASES {
-        expect_found(&rt, text.as_bytes(), found);
+    for (text, found) in CASES.iter() {
+        expect_found(&rt, text.as_bytes(), *found);
     }
 }
 
@@ -98,47 +97,47 @@ fn no_line_is_no_trace(rt: HostRuntime) {
     assert_eq!(rt; found_by_bytes(b""), Err(TraceFault::BadLine(1)));
 }
 
+// The audit reads the piece. (A `?` is dear to prove.)
+fn expect_read(rt: &impl Abort, audit: &mut TraceAudit, piece: &str) {
+    assert_eq!(rt; audit.read(piece.as_bytes()), Ok(()));
+}
+
 #[test]
-fn one_piece_is_read_again_and_again(rt: HostRuntime) -> Result<(), Fail> {
+fn one_piece_is_read_again_and_again(rt: HostRuntime) {
     let mut audit = TraceAudit::new();
-    audit.read(b"shape 1 3 1\n")?;
+    expect_read(&rt, &mut audit, "shape 1 3 1\n");
     for _ in 0..10_000u32 {
-        audit.read(TWO_EVENTS.as_bytes())?;
+        expect_read(&rt, &mut audit, TWO_EVENTS);
     }
     assert_eq!(rt; audit.verdict(), Ok(Verdict::Lawful));
-    audit.read(b"C write s1 1\n")?;
-    audit.read(TWO_EVENTS.as_bytes())?;
+    expect_read(&rt, &mut audit, "C write s1 1\n");
+    expect_read(&rt, &mut audit, TWO_EVENTS);
     let fault = Verdict::Fault {
         place: 20_000,
         kind: Kind::WrongSide,
     };
     assert_eq!(rt; audit.verdict(), Ok(fault));
     assert_eq!(rt; audit.read(b"no line\n"), Err(TraceFault::BadLine(20_005)));
-    Ok(())
 }
 
-fn event(side: Side, act: Act) -> Event {
-    Event {
-        side,
-        bit: Bit::S(1),
-        act,
-    }
-}
+// Events of s1, one after the other, and why each may not follow.
+static FED: [(Side, Act, Option<Kind>); 7] = [
+    (Side::P, Act::WriteBegin(true), None),
+    (Side::C, Act::ReadEnd(true), Some(Kind::OutOfTurn)),
+    (Side::C, Act::WriteEnd, Some(Kind::WrongSide)),
+    (Side::P, Act::WriteEnd, None),
+    (Side::C, Act::ReadBegin, None),
+    (Side::C, Act::ReadEnd(false), Some(Kind::NotPermitted)),
+    (Side::C, Act::ReadEnd(true), None),
+];
 
 #[test]
-fn an_event_that_may_not_follow_is_not_heard(rt: HostRuntime) -> Result<(), Fail> {
-    let mut auditor = BitAuditor::new(&Shape::new(1, 3, 1)?);
-    assert_eq!(rt; auditor.feed(event(Side::P, Act::WriteBegin(true))), None);
-    let read_end = event(Side::C, Act::ReadEnd(true));
-    assert_eq!(rt; auditor.feed(read_end), Some(Kind::OutOfTurn));
-    assert_eq!(rt;
-        auditor.feed(event(Side::C, Act::WriteEnd)),
-        Some(Kind::WrongSide)
-    );
-    assert_eq!(rt; auditor.feed(event(Side::P, Act::WriteEnd)), None);
-    assert_eq!(rt; auditor.feed(event(Side::C, Act::ReadBegin)), None);
-    let other_answer = event(Side::C, Act::ReadEnd(false));
-    assert_eq!(rt; auditor.feed(other_answer), Some(Kind::NotPermitted));
-    assert_eq!(rt; auditor.feed(read_end), None);
-    Ok(())
+fn an_event_that_may_not_follow_is_not_heard(rt: HostRuntime) {
+    let mut auditor = BitAuditor::new(&Shape::new(1, 3, 1).expect(&rt, "a shape"));
+    let bit = Bit::S(1);
+    for (place, (side, act, fault)) in FED.iter().enumerate() {
+        let (side, act) = (*side, *act);
+        let found = auditor.feed(Event { side, bit, act });
+        assert_eq!(rt; found, *fault, "event {place}");
+    }
 }

@@ -1,30 +1,29 @@
-use bits_core::{Act, Bit, Shape, ShapeFault, Side, TraceFault, read_trace, write_trace};
+use bits_core::{Act, Bit, Event, Shape, ShapeFault, Side, TraceFault, read_trace, write_trace};
 use std::alloc::AllocGlobal;
 use std::process::Abort;
-use std::test::Fail;
 
 // An event: who, which bit, and what.
 type Row = (Side, Bit, Act);
 
 // The text is a trace of this shape and these events, and it is what is written for them.
-fn expect_trace(
-    rt: &(impl Abort + AllocGlobal),
-    text: &str,
-    shape: &Shape,
-    rows: &[Row],
-) -> Result<(), Fail> {
-    let (shape_read, events) = read_trace(rt.alloc(), text.as_bytes())?;
+fn expect_trace(rt: &(impl Abort + AllocGlobal), text: &str, shape: &Shape, rows: &[Row]) {
+    let read = read_trace(rt.alloc(), text.as_bytes());
+    let (shape_read, events) = read.expect(rt, "a trace");
     assert_eq!(rt; shape_read, *shape);
-    assert_eq!(rt; events.len(), rows.len());
-    for (event, (side, bit, act)) in events.iter().zip(rows.iter()) {
-        assert_eq!(rt; (event.side, event.bit, event.act), (*side, *bit, *act));
-    }
-    let again = write_trace(rt.alloc(), &shape_read, events.as_slice())?;
-    assert_eq!(rt; again.as_str(), text);
-    Ok(())
+    expect_rows(rt, events.as_slice(), rows);
+    let again = write_trace(rt.alloc(), &shape_read, events.as_slice());
+    assert_eq!(rt; again.expect(rt, "memory for the text").as_str(), text);
 }
 
-const ROWS: [Row; 8] = [
+fn expect_rows(rt: &impl Abort, events: &[Event], rows: &[Row]) {
+    assert_eq!(rt; events.len(), rows.len());
+    for (event, row) in events.iter().zip(rows.iter()) {
+        let (side, bit, act) = *row;
+        assert_eq!(rt; *event, Event { side, bit, act });
+    }
+}
+
+static ROWS: [Row; 8] = [
     (Side::P, Bit::S(255), Act::WriteBegin(true)),
     (Side::P, Bit::S(255), Act::WriteEnd),
     (Side::C, Bit::S(0), Act::ReadBegin),
@@ -36,25 +35,32 @@ const ROWS: [Row; 8] = [
 ];
 
 #[test]
-fn each_line_is_one_event(rt: HostRuntime) -> Result<(), Fail> {
+fn each_line_is_one_event(rt: HostRuntime) {
     expect_trace(
         &rt,
         "shape 64 256 64\nP write s255 1\nP wrote s255\nC read s0\nC got s0 0\nC write r17 0\nP read x\nC wrote x\nP write c63.9 0\n",
-        &Shape::new(64, 256, 64)?,
+        &Shape::new(64, 256, 64).expect(&rt, "a shape"),
         &ROWS,
-    )
+    );
+}
+
+// The same of a shape with these numbers.
+fn expect_batch(rt: &(impl Abort + AllocGlobal), text: &str, numbers: [u64; 4], rows: &[Row]) {
+    let [capacity, modulus, width, batch] = numbers;
+    let shape = Shape::with_batch(capacity, modulus, width, batch);
+    expect_trace(rt, text, &shape.expect(rt, "a shape"), rows);
 }
 
 #[test]
-fn line_one_names_a_batch_over_1(rt: HostRuntime) -> Result<(), Fail> {
-    expect_trace(&rt, "shape 3 7 1 3\n", &Shape::with_batch(3, 7, 1, 3)?, &[])?;
-    expect_trace(&rt, "shape 3 7 1\n", &Shape::with_batch(3, 7, 1, 1)?, &[])?;
-    expect_trace(
+fn line_one_names_a_batch_over_1(rt: HostRuntime) {
+    expect_batch(&rt, "shape 3 7 1 3\n", [3, 7, 1, 3], &[]);
+    expect_batch(&rt, "shape 3 7 1\n", [3, 7, 1, 1], &[]);
+    expect_batch(
         &rt,
         "shape 64 129 64 64\nP read r128\n",
-        &Shape::with_batch(64, 129, 64, 64)?,
+        [64, 129, 64, 64],
         &[(Side::P, Bit::R(128), Act::ReadBegin)],
-    )
+    );
 }
 
 fn expect_fault(rt: &(impl Abort + AllocGlobal), text: &[u8], fault: TraceFault) {
@@ -68,7 +74,7 @@ fn expect_faults(rt: &(impl Abort + AllocGlobal), texts: &[&str], fault: TraceFa
     }
 }
 
-const NO_LINE_ONE: [&str; 22] = [
+static NO_LINE_ONE: [&str; 22] = [
     "",
     "shape 1 3 1",
     "shape 1 3\n",
@@ -100,7 +106,7 @@ fn a_first_line_of_no_form_is_bad(rt: HostRuntime) {
     expect_faults(&rt, &NO_LINE_ONE, TraceFault::BadLine(1));
 }
 
-const BAD_SHAPES: [(&str, ShapeFault); 12] = [
+static BAD_SHAPES: [(&str, ShapeFault); 12] = [
     ("shape 1 9999 1\n", ShapeFault::Modulus),
     ("shape 1 2 1\n", ShapeFault::Modulus),
     ("shape 0 3 1\n", ShapeFault::Capacity),
@@ -123,7 +129,7 @@ fn numbers_that_are_no_shape_are_told(rt: HostRuntime) {
 }
 
 // Each stands behind a line of the shape 1 3 1.
-const NO_LINE_TWO: [&str; 24] = [
+static NO_LINE_TWO: [&str; 24] = [
     "shape 1 3 1\nP read r",
     "shape 1 3 1\nP read r0",
     "shape 1 3 1\nP read r3\n",
