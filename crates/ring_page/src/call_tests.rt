@@ -1,6 +1,5 @@
 use crate::{Against, CallsTold, Counts, page_calls};
 use queue_calls::{Offered, Taken};
-use std::test::Fail;
 
 const NO_COUNTS: Counts = Counts {
     calls: 0,
@@ -63,7 +62,7 @@ fn calls(text: &str, room: usize) -> CallsTold {
 }
 
 #[test]
-fn a_lawful_recording_is_told_with_its_report(rt: HostRuntime) -> Result<(), Fail> {
+fn a_lawful_recording_is_told_with_its_report(rt: HostRuntime) {
     let text =
         "queue 2\nC take\nP put 7 8\nC item 7\nP stored\nP put 9 10\nP stored 1\nP put 11\nP full\nC take 3\n\
         C item 8 9\nC take 3\nC empty\nP close\nP closed\nC take\nC closed\n";
@@ -89,11 +88,10 @@ fn a_lawful_recording_is_told_with_its_report(rt: HostRuntime) -> Result<(), Fai
     assert!(rt; calls(text, 8) == told);
     assert!(rt; calls(text, 3) == told);
     assert!(rt; calls("queue\n", 0).outcome == 0);
-    Ok(())
 }
 
 // A text, the line at fault, and what speaks against it.
-const AGAINST: [(&str, u64, [u64; 5]); 4] = [
+static AGAINST: [(&str, u64, [u64; 5]); 4] = [
     (
         "queue 8\nP put 12\nP stored\nC take\nC empty\n",
         5,
@@ -117,8 +115,9 @@ const AGAINST: [(&str, u64, [u64; 5]); 4] = [
 ];
 
 #[test]
-fn a_fault_of_a_recording_is_told_with_its_cause(rt: HostRuntime) -> Result<(), Fail> {
-    for (text, line, [number, item, next, count, other]) in AGAINST {
+fn a_fault_of_a_recording_is_told_with_its_cause(rt: HostRuntime) {
+    for (text, line, against) in AGAINST.iter() {
+        let [number, item, next, count, other] = *against;
         let against = Against {
             number,
             item,
@@ -129,7 +128,7 @@ fn a_fault_of_a_recording_is_told_with_its_cause(rt: HostRuntime) -> Result<(), 
         let told = CallsTold {
             outcome: 1,
             number: 2,
-            line,
+            line: *line,
             against,
             counts: NO_COUNTS,
         };
@@ -143,11 +142,10 @@ fn a_fault_of_a_recording_is_told_with_its_cause(rt: HostRuntime) -> Result<(), 
         counts: NO_COUNTS,
     };
     assert!(rt; calls("queue 8\nC take\nC take\n", 8) == out_of_turn);
-    Ok(())
 }
 
 #[test]
-fn no_recording_and_no_room_are_told(rt: HostRuntime) -> Result<(), Fail> {
+fn no_recording_and_no_room_are_told(rt: HostRuntime) {
     let refused = |number, line| CallsTold {
         outcome: 2,
         number,
@@ -160,5 +158,4 @@ fn no_recording_and_no_room_are_told(rt: HostRuntime) -> Result<(), Fail> {
     assert!(rt; calls("queue 8\nC take", 8) == refused(1, 2));
     assert!(rt; calls("queue 8\nC take", 5) == refused(3, 0));
     assert!(rt; calls("queue 8\nP put 1 2 3\n", 2) == refused(3, 0));
-    Ok(())
 }

@@ -4,7 +4,6 @@ use crate::{
 };
 use std::alloc::AllocGlobal;
 use std::process::Abort;
-use std::test::Fail;
 
 const NO_MARK: Mark = Mark {
     side: 9,
@@ -56,21 +55,29 @@ const NOTHING_TOLD: Told = Told {
     programs: UNJUDGED,
 };
 
-fn audit(text: &str, marks: &mut [Mark]) -> Told {
+// What is told, with the first items put and taken.
+fn audit_with_items(text: &str, marks: &mut [Mark]) -> (Told, [u64; 4], [u64; 4]) {
     let mut told = NOTHING_TOLD;
     let mut put = [7; 4];
     let mut taken = [7; 4];
     page_audit(text.as_bytes(), marks, &mut put, &mut taken, &mut told);
+    (told, put, taken)
+}
+
+fn audit(text: &str, marks: &mut [Mark]) -> Told {
+    let (told, _, _) = audit_with_items(text, marks);
     told
 }
 
 // What the audit of programs tells, with the first items put and taken.
 fn judge(text: &str) -> (Judged, [u64; 4], [u64; 4]) {
-    let mut told = NOTHING_TOLD;
-    let mut put = [7; 4];
-    let mut taken = [7; 4];
-    page_audit(text.as_bytes(), &mut [], &mut put, &mut taken, &mut told);
+    let (told, put, taken) = audit_with_items(text, &mut []);
     (told.programs, put, taken)
+}
+
+// It holds; else what of which text does not. (A message is dear to prove, so this one is for all.)
+fn expect(rt: &impl Abort, holds: bool, what: &str, text: &str) {
+    assert!(rt; holds, "{what} of {text}");
 }
 
 // The numbers of a mark, and what it shows: held, overlapped, clashes.
@@ -95,7 +102,7 @@ fn expect_rows(rt: &impl Abort, marks: &[Mark], rows: &[Row]) {
 const INVERSION: &str =
     "shape 1 3 1\nP write s0 0\nC read s0\nC got s0 0\nC read s0\nC got s0 1\nP wrote s0\nC read s0\nC got s0 0\n";
 
-const INVERSION_ROWS: [Row; 8] = [
+static INVERSION_ROWS: [Row; 8] = [
     ([0, 0, 0, 0, 2], false, [true, false, false]),
     ([1, 0, 0, 0, 0], false, [true, false, true]),
     ([1, 0, 0, 0, 1], false, [true, true, false]),
@@ -107,7 +114,7 @@ const INVERSION_ROWS: [Row; 8] = [
 ];
 
 #[test]
-fn a_lawful_trace_is_told_with_its_marks(rt: HostRuntime) -> Result<(), Fail> {
+fn a_lawful_trace_is_told_with_its_marks(rt: HostRuntime) {
     let mut marks = [NO_MARK; 9];
     let told = audit(INVERSION, &mut marks);
     assert_eq!(rt;
@@ -128,19 +135,17 @@ fn a_lawful_trace_is_told_with_its_marks(rt: HostRuntime) -> Result<(), Fail> {
     );
     expect_rows(&rt, &marks, &INVERSION_ROWS);
     assert_eq!(rt; marks[8], NO_MARK);
-    Ok(())
 }
 
 #[test]
-fn as_many_marks_are_told_as_there_is_room_for(rt: HostRuntime) -> Result<(), Fail> {
+fn as_many_marks_are_told_as_there_is_room_for(rt: HostRuntime) {
     let mut marks = [NO_MARK; 3];
     assert_eq!(rt; audit(INVERSION, &mut marks).count, 8);
     expect_rows(&rt, &marks, &INVERSION_ROWS);
-    Ok(())
 }
 
 #[test]
-fn marks_show_nothing_from_the_fault_on(rt: HostRuntime) -> Result<(), Fail> {
+fn marks_show_nothing_from_the_fault_on(rt: HostRuntime) {
     let mut marks = [NO_MARK; 4];
     let told = audit(
         "shape 2 7 3 2\nP write c1.2 1\nC read c1.2\nP wrote c1.2\nP wrote c1.2\n",
@@ -172,13 +177,12 @@ fn marks_show_nothing_from_the_fault_on(rt: HostRuntime) -> Result<(), Fail> {
             ([0, 3, 1, 2, 3], false, [false, false, false]),
         ],
     );
-    Ok(())
 }
 
 const PUT: &str = "shape 1 3 1\nP read r0\nP got r0 1\nP write c0.0 1\nP wrote c0.0\n";
 
 #[test]
-fn what_the_programs_have_done_is_told(rt: HostRuntime) -> Result<(), Fail> {
+fn what_the_programs_have_done_is_told(rt: HostRuntime) {
     let (judged, put, _) = judge(PUT);
     assert_eq!(rt;
         judged,
@@ -199,11 +203,10 @@ fn what_the_programs_have_done_is_told(rt: HostRuntime) -> Result<(), Fail> {
         [judged.outcome, judged.may_close, judged.may_scan],
         [0, 1, 0]
     );
-    Ok(())
 }
 
 #[test]
-fn what_was_due_is_told(rt: HostRuntime) -> Result<(), Fail> {
+fn what_was_due_is_told(rt: HostRuntime) {
     // the count before the cell
     let (judged, _, _) = judge("shape 1 3 1\nP read r0\nP got r0 1\nP write s1 1\n");
     let cell = Due {
@@ -228,34 +231,31 @@ fn what_was_due_is_told(rt: HostRuntime) -> Result<(), Fail> {
             ..UNJUDGED
         }
     );
-    Ok(())
 }
 
 #[test]
-fn since_when_a_bit_holds_its_value_is_told(rt: HostRuntime) -> Result<(), Fail> {
+fn since_when_a_bit_holds_its_value_is_told(rt: HostRuntime) {
     let mut marks = [NO_MARK; 1];
     let told = audit("shape 1 3 1\nC read s0\nC got s0 0\n", &mut marks);
     assert_eq!(rt; [told.number, told.place, told.since], [3, 1, 0]);
     let text = "shape 1 3 1\nP write s0 0\nP wrote s0\nP write s1 1\nC read s0\nC got s0 1\n";
     let told = audit(text, &mut marks);
     assert_eq!(rt; [told.number, told.place, told.since], [3, 4, 2]);
-    Ok(())
 }
 
 // Two items put, and slots for one.
 #[test]
-fn too_few_slots_are_told(rt: HostRuntime) -> Result<(), Fail> {
+fn too_few_slots_are_told(rt: HostRuntime) {
     let mut told = NOTHING_TOLD;
     let mut taken = [7; 4];
     page_audit(PUT.as_bytes(), &mut [], &mut [], &mut taken, &mut told);
     assert_eq!(rt; (told.outcome, told.programs), (0, UNJUDGED));
-    Ok(())
 }
 
 // A text that is no trace, with the number of its fault, its place and that of the shape's fault.
 type Refusal<'a> = (&'a str, [u64; 3]);
 
-const REFUSALS: [Refusal<'static>; 5] = [
+static REFUSALS: [Refusal<'static>; 5] = [
     ("", [2, 1, 0]),
     ("shape 1 3 1\nP write s3 0\n", [2, 2, 0]),
     ("shape 0 3 1\n", [1, 0, 1]),
@@ -264,47 +264,41 @@ const REFUSALS: [Refusal<'static>; 5] = [
 ];
 
 #[test]
-fn a_text_that_is_no_trace_is_refused(rt: HostRuntime) -> Result<(), Fail> {
+fn a_text_that_is_no_trace_is_refused(rt: HostRuntime) {
     for (text, numbers) in REFUSALS.iter() {
         let mut marks = [NO_MARK; 1];
         let told = audit(text, &mut marks);
-        assert_eq!(rt;
-            [told.number, told.place, told.shape_fault],
-            *numbers,
-            "in {text}"
-        );
-        assert_eq!(rt;
-            (told.outcome, told.count, told.batch),
-            (2, 0, 0),
-            "in {text}"
-        );
+        let found = [told.number, told.place, told.shape_fault];
+        expect(&rt, found == *numbers, "numbers", text);
+        let found = [told.outcome, told.count, told.batch];
+        expect(&rt, found == [2, 0, 0], "outcome", text);
     }
-    Ok(())
 }
 
-// The consumer reads r2 in a row, so many times begun.
-fn reads(rt: &impl AllocGlobal, begun: usize) -> Result<String, Fail> {
-    let mut text = String::from_str(rt.alloc(), "shape 1 3 1\n")?;
+// The consumer reads r2 in a row, so many times begun. (A `?` is dear to prove, so where memory is lacking the test ends here.)
+fn reads(rt: &(impl Abort + AllocGlobal), begun: usize) -> String {
+    let made = String::from_str(rt.alloc(), "shape 1 3 1\n");
+    let mut text = made.expect(rt, "memory for the text");
     for place in 0..begun {
-        text.push_str(if place % 2 == 0 {
+        let line = if place % 2 == 0 {
             "P read r2\n"
         } else {
             "P got r2 0\n"
-        })?;
+        };
+        text.push_str(line).expect(rt, "memory for the text");
     }
-    Ok(text)
+    text
 }
 
 #[test]
-fn a_trace_of_more_events_than_there_is_room_for_is_refused(rt: HostRuntime) -> Result<(), Fail> {
+fn a_trace_of_more_events_than_there_is_room_for_is_refused(rt: HostRuntime) {
     let mut marks = [NO_MARK; 1];
-    let most = reads(&rt, EVENT_ROOM)?;
+    let most = reads(&rt, EVENT_ROOM);
     let told = audit(most.as_str(), &mut marks);
     assert_eq!(rt; (told.outcome, told.count), (0, 10_000));
-    let more = reads(&rt, EVENT_ROOM + 1)?;
+    let more = reads(&rt, EVENT_ROOM + 1);
     let told = audit(more.as_str(), &mut marks);
     assert_eq!(rt; (told.outcome, told.number, told.count), (2, 4, 0));
-    Ok(())
 }
 
 // Two items of three digits through two cells, one put after the other, and a close; three takes.
@@ -358,7 +352,7 @@ fn play(
 }
 
 #[test]
-fn a_play_is_told(rt: HostRuntime) -> Result<(), Fail> {
+fn a_play_is_told(rt: HostRuntime) {
     let (played, put, taken) = play(&ASKED, &[5, 2], "P100C100", "");
     assert_eq!(rt; (put, taken), ([5, 2, 7], [5, 2, 7]));
     assert_eq!(rt;
@@ -367,11 +361,10 @@ fn a_play_is_told(rt: HostRuntime) -> Result<(), Fail> {
     );
     assert_eq!(rt; [played.full, played.empty, played.flickers], [0, 0, 0]);
     assert_eq!(rt; played.all_letters, 200);
-    Ok(())
 }
 
 #[test]
-fn the_first_letters_are_played(rt: HostRuntime) -> Result<(), Fail> {
+fn the_first_letters_are_played(rt: HostRuntime) {
     let none = Asked {
         letters: 0,
         ..ASKED
@@ -386,11 +379,10 @@ fn the_first_letters_are_played(rt: HostRuntime) -> Result<(), Fail> {
     let (played, put, _) = play(&eleven, &[5, 2], "P100C100", "");
     assert_eq!(rt; (played.count, played.put, put), (11, 1, [5, 7, 7]));
     assert_eq!(rt; (played.told, played.all_letters), (0, 200));
-    Ok(())
 }
 
 #[test]
-fn an_empty_ring_and_a_full_one_are_told(rt: HostRuntime) -> Result<(), Fail> {
+fn an_empty_ring_and_a_full_one_are_told(rt: HostRuntime) {
     let narrow = Asked {
         capacity: 1,
         modulus: 3,
@@ -402,7 +394,6 @@ fn an_empty_ring_and_a_full_one_are_told(rt: HostRuntime) -> Result<(), Fail> {
         (true, true, 1)
     );
     assert_eq!(rt; (taken, played.taken), ([5, 2, 7], 2));
-    Ok(())
 }
 
 // Puts into a full ring, as many events as there is room for, and one more.
@@ -425,34 +416,34 @@ fn a_play_fills_the_room_for_events(rt: HostRuntime) {
 }
 
 #[test]
-fn an_overlapped_read_has_the_oracles_answer(rt: HostRuntime) -> Result<(), Fail> {
+fn an_overlapped_read_has_the_oracles_answer(rt: HostRuntime) {
     // s0 is being written while the consumer reads it twice: by its answers 0 and 1 the first scan goes on to s1.
     let (played, _, taken) = play(&ASKED, &[5, 2], "P11C2P1C20", "0");
     assert_eq!(rt; (played.flickers, played.taken, taken), (1, 1, [5, 7, 7]));
     let (played, _, taken) = play(&ASKED, &[5, 2], "P11C2P1C20", "1");
     assert_eq!(rt; (played.flickers, played.empty, taken), (1, 1, [5, 7, 7]));
-    Ok(())
 }
 
 // What is no script: the items, the schedule, the oracle; the numbers of the fault and of its place.
 type Stray<'a> = (&'a [u64], &'a str, &'a str, [u64; 2]);
 
+static STRAYS: [Stray<'static>; 4] = [
+    (&[1, 8], "PC", "", [8, 1]),
+    (&[1], "PCx", "", [9, 2]),
+    (&[1], "P1000001", "", [10, 0]),
+    (&[1], "PC", "012", [11, 2]),
+];
+
 #[test]
-fn what_is_no_script_is_refused(rt: HostRuntime) -> Result<(), Fail> {
-    let strays: [Stray; 4] = [
-        (&[1, 8], "PC", "", [8, 1]),
-        (&[1], "PCx", "", [9, 2]),
-        (&[1], "P1000001", "", [10, 0]),
-        (&[1], "PC", "012", [11, 2]),
-    ];
-    for (items, schedule, oracle, numbers) in strays.iter() {
+fn what_is_no_script_is_refused(rt: HostRuntime) {
+    for (items, schedule, oracle, numbers) in STRAYS.iter() {
         let (played, put, taken) = play(&ASKED, items, schedule, oracle);
-        assert_eq!(rt; [played.number, played.place], *numbers, "in {schedule}");
-        assert_eq!(rt;
-            (played.outcome, played.count, put, taken),
-            (2, 0, [7; 3], [7; 3]),
-            "in {schedule}"
-        );
+        let found = [played.number, played.place];
+        expect(&rt, found == *numbers, "numbers", schedule);
+        let found = [played.outcome, played.count];
+        expect(&rt, found == [2, 0], "outcome", schedule);
+        let found = [put, taken];
+        expect(&rt, found == [[7; 3]; 2], "items", schedule);
     }
     let flat = Asked { width: 0, ..ASKED };
     let (played, _, _) = play(&flat, &[1], "PC", "");
@@ -460,28 +451,27 @@ fn what_is_no_script_is_refused(rt: HostRuntime) -> Result<(), Fail> {
         [played.outcome, played.number, played.shape_fault],
         [2, 6, 3]
     );
-    Ok(())
 }
 
 // A text of so many parts.
-fn repeated(rt: &impl AllocGlobal, part: &str, count: usize) -> Result<String, Fail> {
-    let mut text = String::from_str(rt.alloc(), "")?;
+fn repeated(rt: &(impl Abort + AllocGlobal), part: &str, count: usize) -> String {
+    let made = String::from_str(rt.alloc(), "");
+    let mut text = made.expect(rt, "memory for the text");
     for _ in 0..count {
-        text.push_str(part)?;
+        text.push_str(part).expect(rt, "memory for the text");
     }
-    Ok(text)
+    text
 }
 
 #[test]
-fn a_script_of_more_than_there_is_room_for_is_refused(rt: HostRuntime) -> Result<(), Fail> {
-    let runs = repeated(&rt, "P", RUN_ROOM)?;
+fn a_script_of_more_than_there_is_room_for_is_refused(rt: HostRuntime) {
+    let runs = repeated(&rt, "P", RUN_ROOM);
     let (played, _, _) = play(&ASKED, &[1], runs.as_str(), "");
     assert_eq!(rt; (played.outcome, played.all_letters), (0, 1_000));
-    let runs = repeated(&rt, "P", RUN_ROOM + 1)?;
+    let runs = repeated(&rt, "P", RUN_ROOM + 1);
     let (played, _, _) = play(&ASKED, &[1], runs.as_str(), "");
     assert_eq!(rt; (played.outcome, played.number), (2, 12));
-    let answers = repeated(&rt, "0", ANSWER_ROOM + 1)?;
+    let answers = repeated(&rt, "0", ANSWER_ROOM + 1);
     let (played, _, _) = play(&ASKED, &[1], "PC", answers.as_str());
     assert_eq!(rt; (played.outcome, played.number), (2, 12));
-    Ok(())
 }
