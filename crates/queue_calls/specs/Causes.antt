@@ -1,6 +1,8 @@
 -- The words of what speaks against a line of a recording.
 use Rattle.std.specs.Prelude.{ℕ, List, ◌++◌, codes, decimal}
 use Rattle.queue_calls.specs.declared.causes.Cause.{Cause}
+use Rattle.queue_calls.specs.declared.causes.Said.{Said}
+use Rattle.queue_calls.specs.declared.causes.Said.TheVariants as said
 use Rattle.queue_calls.specs.declared.causes.Cause.TheVariants.{StoredAfterClose, OnlySomeStored, StoredTooMany, FullWithRoom, FullAfterClose, NotStoredButTaken, ClosedWithoutClose, ItemAfterTold, NotNext, ComesAgain, NotPut, NoMoreWhileInside, NotTaken, EmptyAfterTold, EmptyWhileInside, EmptyAfterClose, ShortAfterTold, ShortWhileInside, ShortAfterClose, ClosedBeforeClose, ClosedWhileInside}
 
 abbrev pub cause_words : Cause → List ℕ
@@ -25,3 +27,10 @@ cause_words (ShortWhileInside item stored_at) = codes "short, but item " ++ (dec
 cause_words (ShortAfterClose n) = codes "short, but closed at line " ++ decimal n
 cause_words ClosedBeforeClose = codes "closed, but no close has begun"
 cause_words (ClosedWhileInside item stored_at) = codes "closed, but item " ++ (decimal item ++ (codes " was inside since line " ++ decimal stored_at))
+
+-- the words of what a cause says
+abbrev pub said_words : Said → List ℕ
+said_words (said.Words words) = words.now
+said_words (said.One before n behind) = before.now ++ (decimal n ++ behind.now)
+said_words (said.Two before n between m behind) = before.now ++ (decimal n ++ (between.now ++ (decimal m ++ behind.now)))
+said_words (said.NotNext item next line) = cause_words (NotNext item next line)

@@ -1,6 +1,6 @@
 //! What speaks against a line of a recording.
-ghost use Rattle.std.specs.Prelude.{◌++◌, codes, decimal};
-ghost use Rattle.std.specs.Fmt.{WritesOnOk};
+ghost use Rattle.std.specs.Prelude.{◌≡◌, ◌++◌, codes, decimal};
+ghost use Rattle.queue_calls.specs.Causes.{cause_words, said_words};
 
 use std::fmt;
 
@@ -79,63 +79,115 @@ pub enum Cause {
     },
 }
 
-// The words of a call that says so while an item was inside, put by the call that this line ended.
-fn since<W: fmt::Write>(f: &mut fmt::Formatter<W>, says: &str, item: u64, line: u64) -> fmt::Result
-    ensures writes { WritesOnOk W.write_str_gives f.old result (says.now ++ (codes ", but item " ++ (decimal item ++ (codes " was inside since line " ++ decimal line)))) f.new }
-{
-    write!(f, "{says}, but item {item} was inside since line {line}")
+// What a cause says.
+#[derive(Clone, Copy)]
+pub enum Said {
+    // words
+    Words(&'static str),
+    // words with a number between them
+    One(&'static str, u64, &'static str),
+    // words with two numbers between them
+    Two(&'static str, u64, &'static str, u64, &'static str),
+    // that the first item was taken, where the second is next, whose put this line began
+    NotNext(u64, u64, u64),
 }
 
-// The words of a call that says so after a close that this line ended.
-fn closed_at<W: fmt::Write>(f: &mut fmt::Formatter<W>, says: &str, line: u64) -> fmt::Result
-    ensures writes { WritesOnOk W.write_str_gives f.old result (says.now ++ (codes ", but closed at line " ++ decimal line)) f.new }
+// The words of a call that says so while an item was inside, put by the call that this line ended.
+fn since(says: &'static str, item: u64, line: u64) -> Said
+    ensures { said_words result ≡ says.now ++ (decimal item ++ (codes " was inside since line " ++ decimal line)) }
 {
-    write!(f, "{says}, but closed at line {line}")
+    Said::Two(says, item, " was inside since line ", line, "")
+}
+
+impl Cause {
+    // What it says.
+    fn said(self) -> Said
+        ensures { said_words result ≡ cause_words self }
+    {
+        match self {
+            Cause::StoredAfterClose(n) => Said::One("stored, but closed at line ", n, ""),
+            Cause::OnlySomeStored { count, item } => Said::Two(
+                "only ",
+                count as u64,
+                " stored, but item ",
+                item,
+                " was taken",
+            ),
+            Cause::StoredTooMany(n) => Said::One(
+                "stored, but at least ",
+                n as u64,
+                " items are inside",
+            ),
+            Cause::FullWithRoom(n) => Said::One(
+                "full, but at most ",
+                n as u64,
+                " items were inside",
+            ),
+            Cause::FullAfterClose(n) => Said::One("full, but closed at line ", n, ""),
+            Cause::NotStoredButTaken(n) => Said::One("not stored, but item ", n, " was taken"),
+            Cause::ClosedWithoutClose => Said::Words("closed, but there was no close"),
+            Cause::ItemAfterTold => Said::Words("item, but closed was told"),
+            Cause::NotNext {
+                item,
+                next,
+                offered_at,
+            } => Said::NotNext(item, next, offered_at),
+            Cause::ComesAgain { item, taken_at } => Said::Two(
+                "item ",
+                item,
+                " comes again, it was taken at line ",
+                taken_at,
+                "",
+            ),
+            Cause::NotPut(n) => Said::One("item ", n, " was not put"),
+            Cause::NoMoreWhileInside { item, stored_at } => since(
+                "no more, but item ",
+                item,
+                stored_at,
+            ),
+            Cause::NotTaken(n) => Said::One("not taken, but ", n as u64, " items are inside"),
+            Cause::EmptyAfterTold => Said::Words("empty, but closed was told"),
+            Cause::EmptyWhileInside { item, stored_at } => since(
+                "empty, but item ",
+                item,
+                stored_at,
+            ),
+            Cause::EmptyAfterClose(n) => Said::One("empty, but closed at line ", n, ""),
+            Cause::ShortAfterTold => Said::Words("short, but closed was told"),
+            Cause::ShortWhileInside { item, stored_at } => since(
+                "short, but item ",
+                item,
+                stored_at,
+            ),
+            Cause::ShortAfterClose(n) => Said::One("short, but closed at line ", n, ""),
+            Cause::ClosedBeforeClose => Said::Words("closed, but no close has begun"),
+            Cause::ClosedWhileInside { item, stored_at } => since(
+                "closed, but item ",
+                item,
+                stored_at,
+            ),
+        }
+    }
 }
 
 impl fmt::Display for Cause {
     ghost use Rattle.std.specs.Prelude.{Some};
-    ghost use Rattle.queue_calls.specs.Causes.{cause_words};
 
     ghost output = { λ c. Some (cause_words c) };
 
     /// The words of the cause.
     fn fmt<W: fmt::Write>(&self, f: &mut fmt::Formatter<W>) -> fmt::Result {
-        match *self {
-            Cause::StoredAfterClose(n) => closed_at(f, "stored", n),
-            Cause::OnlySomeStored { count, item } => write!(
+        match self.said() {
+            Said::Words(words) => f.write_str(words),
+            Said::One(before, n, behind) => write!(f, "{before}{n}{behind}"),
+            Said::Two(before, n, between, m, behind) => write!(
                 f,
-                "only {count} stored, but item {item} was taken"
+                "{before}{n}{between}{m}{behind}"
             ),
-            Cause::StoredTooMany(n) => write!(f, "stored, but at least {n} items are inside"),
-            Cause::FullWithRoom(n) => write!(f, "full, but at most {n} items were inside"),
-            Cause::FullAfterClose(n) => closed_at(f, "full", n),
-            Cause::NotStoredButTaken(n) => write!(f, "not stored, but item {n} was taken"),
-            Cause::ClosedWithoutClose => f.write_str("closed, but there was no close"),
-            Cause::ItemAfterTold => f.write_str("item, but closed was told"),
-            Cause::NotNext {
-                item,
-                next,
-                offered_at,
-            } => write!(
+            Said::NotNext(item, next, line) => write!(
                 f,
-                "item {item}, but item {next} of line {offered_at} is next"
+                "item {item}, but item {next} of line {line} is next"
             ),
-            Cause::ComesAgain { item, taken_at } => write!(
-                f,
-                "item {item} comes again, it was taken at line {taken_at}"
-            ),
-            Cause::NotPut(n) => write!(f, "item {n} was not put"),
-            Cause::NoMoreWhileInside { item, stored_at } => since(f, "no more", item, stored_at),
-            Cause::NotTaken(n) => write!(f, "not taken, but {n} items are inside"),
-            Cause::EmptyAfterTold => f.write_str("empty, but closed was told"),
-            Cause::EmptyWhileInside { item, stored_at } => since(f, "empty", item, stored_at),
-            Cause::EmptyAfterClose(n) => closed_at(f, "empty", n),
-            Cause::ShortAfterTold => f.write_str("short, but closed was told"),
-            Cause::ShortWhileInside { item, stored_at } => since(f, "short", item, stored_at),
-            Cause::ShortAfterClose(n) => closed_at(f, "short", n),
-            Cause::ClosedBeforeClose => f.write_str("closed, but no close has begun"),
-            Cause::ClosedWhileInside { item, stored_at } => since(f, "closed", item, stored_at),
         }
     }
 }
