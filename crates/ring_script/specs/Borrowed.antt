@@ -1,4 +1,7 @@
 -- What a borrowed script is seen as.
+use Rattle.std.specs.Prelude.{Bool, List}
+use Rattle.bits_core.specs.declared.events.Side.{Side}
+use Rattle.bits_core.specs.declared.shapes.Shape.{Shape}
 use Rattle.ring_script.specs.Schedule.{spelled}
 use Rattle.ring_script.specs.Content.{Content}
 use Rattle.ring_script.specs.Script.{HeldFields}
@@ -28,4 +31,15 @@ held_of fields = record {
   schedule = fields.schedule.now;
   oracle = fields.oracle.now;
   batch = fields.batch;
+}
+
+-- the content where this shape, these letters and these answers were read of the values
+abbrev pub content_read : HeldFields → Shape → List Side → List Bool → Content
+content_read held shape letters oracle = record {
+  shape = shape;
+  items = held.items;
+  takes = held.takes;
+  closes = held.close;
+  letters = letters;
+  oracle = oracle;
 }

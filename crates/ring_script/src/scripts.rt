@@ -3,7 +3,7 @@ ghost use Rattle.std.specs.Prelude.{◌≡◌, ◌⊎◌, ◌<◌, ◌≤◌, �
 ghost use Rattle.serde_json.specs.View.{view};
 ghost use Rattle.bits_core.specs.Shape.{HasBatch, width_of};
 ghost use Rattle.ring_script.specs.Schedule.{run_count, spelled};
-ghost use Rattle.ring_script.specs.Borrowed.{content_of, held_of};
+ghost use Rattle.ring_script.specs.Borrowed.{content_of, content_read, held_of};
 ghost use Rattle.ring_script.specs.Content.{Content};
 ghost use Rattle.ring_script.specs.Script.{Fit, IsScript};
 ghost use Rattle.ring_script.specs.ScriptReading.{given_by, given_in, given_of, is_no_answer, is_too_wide, items_within, json_of, oracle_of, schedule_of, script_of, shape_in};
@@ -210,15 +210,11 @@ fn read_value<A: Allocator + Copy>(alloc: A, value: &Value) -> Result<Script<A>,
 }
 
 // The script whose fields hold this.
-#[tactic(auto, unfolding(crate::specs::ScriptReading::given_of))]
 fn read_typed<A: Allocator + Copy>(alloc: A, typed: Typed<'_, A>) -> Result<Script<A>, ScriptFault>
     ensures read { IfOk result (λ script. given_of (typed_view typed.entry) ≡ Ok (given_by script)) }
     ensures refused { IfErr result (λ e. (e ≡ ScriptFault.OutOfMemory) ⊎ (given_of (typed_view typed.entry) ≡ Err e)) }
 {
-    let shape = read_shape(typed.capacity, typed.modulus, typed.width, typed.batch)?;
-    check_items(&shape, &typed.items)?;
-    let runs = read_schedule(Vec::new(alloc), typed.schedule.as_bytes())?;
-    let oracle = read_oracle(Vec::new(alloc), typed.oracle.as_bytes())?;
+    let (shape, runs, oracle) = read_texts(alloc, &typed)?;
     let letters = letter_count(&runs);
     Ok(Script {
         shape,
@@ -229,6 +225,24 @@ fn read_typed<A: Allocator + Copy>(alloc: A, typed: Typed<'_, A>) -> Result<Scri
         letters,
         oracle,
     })
+}
+
+// The shape, the runs of the schedule and the answers of the oracle, where the items fit too.
+#[tactic(auto, unfolding(crate::specs::ScriptReading::given_of))]
+fn read_texts<A: Allocator + Copy>(
+    alloc: A,
+    typed: &Typed<'_, A>,
+) -> Result<(Shape, Vec<Run, A>, Vec<bool, A>), ScriptFault>
+    ensures read { IfOk result (λ x. given_of (typed_view typed.now) ≡ Ok (given_by (content_read (typed_view typed.now) x.0 (spelled x.1.items) x.2.items))) }
+    ensures items { IfOk result (λ x. items_within (width_of x.0) typed.now.items.items ≡ Ok tt) }
+    ensures within { IfOk result (λ x. length (spelled x.1.items) ≤ LETTER_LIMIT) }
+    ensures refused { IfErr result (λ e. (e ≡ ScriptFault.OutOfMemory) ⊎ (given_of (typed_view typed.now) ≡ Err e)) }
+{
+    let shape = read_shape(typed.capacity, typed.modulus, typed.width, typed.batch)?;
+    check_items(&shape, &typed.items)?;
+    let runs = read_schedule(Vec::new(alloc), typed.schedule.as_bytes())?;
+    let oracle = read_oracle(Vec::new(alloc), typed.oracle.as_bytes())?;
+    Ok((shape, runs, oracle))
 }
 
 // The script of the values of its fields, with its runs and its answers in these stores, which are empty.

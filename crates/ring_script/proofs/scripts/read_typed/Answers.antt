@@ -1,12 +1,9 @@
-use Rattle.std.proofs.Common.{rules, ◌≡◌, Ok, length}
-use Rattle.bits_core.specs.Shape.{width_of}
+use Rattle.std.proofs.Common.{rules, ◌≡◌, length}
 use Rattle.ring_script.specs.Schedule.{spelled}
-use Rattle.ring_script.specs.ScriptReading.{items_within}
 use Rattle.ring_script.proofs.ScriptLemmas.{is_kept}
 use Rattle.ring_script.proofs.scripts.read_typed.Goals as goal
 
 pub invariant_of-result : goal.invariant_of-result
 invariant_of-result g c =
-    let fits : items_within (width_of c.in_ok-shape.shape) c.args.typed.items.items ≡ Ok tt = search rules in
-    let counted : c.letter_count-letters.result ≡ length (spelled c.in_ok-runs.runs.items) = search rules in
-    is_kept _ _ _ _ fits counted c.in_ok-runs.ensures.within
+    let counted : c.letter_count-letters.result ≡ length (spelled c.in_ok-shape.runs.items) = search rules in
+    is_kept _ _ _ _ c.in_ok-shape.ensures.items counted c.in_ok-shape.ensures.within
