@@ -45,15 +45,18 @@ pub struct Typed<'v, A: Allocator> {
 fn is_a_name(name: &str) -> bool
     ensures { result ≡ is_name name.now }
 {
-    name == "capacity"
-        || name == "modulus"
-        || name == "width"
-        || name == "items"
-        || name == "takes"
-        || name == "close"
-        || name == "schedule"
-        || name == "oracle"
-        || name == "batch"
+    matches!(
+        name,
+        "capacity"
+            | "modulus"
+            | "width"
+            | "items"
+            | "takes"
+            | "close"
+            | "schedule"
+            | "oracle"
+            | "batch"
+    )
 }
 
 // Whether each key is the name of a field.

@@ -1,7 +1,8 @@
 //! What stands where the reading of a script stops, for somebody who is to mend it.
-ghost use Rattle.std.specs.Prelude.{◌≡◌, IfSome, OnSome};
+ghost use Rattle.std.specs.Prelude.{◌≡◌, IfSome, OnSome, Some};
+ghost use Rattle.serde_json.specs.View.{view};
 ghost use Rattle.ring_script.specs.Faults.{IsScriptFault};
-ghost use Rattle.ring_script.specs.Stops.{HasByte};
+ghost use Rattle.ring_script.specs.Stops.{HasByte, byte_in};
 
 use crate::faults::{Field, ScriptFault};
 use serde_json::{Error, Value};
@@ -48,6 +49,13 @@ pub fn byte_of_text(json: Global, bytes: &[u8], field: Field, place: u64) -> Opt
     ensures { IfSome result (HasByte bytes.now field place) }
 {
     let value = Value::from_slice(json, bytes).ok()?;
+    byte_in(&value, field, place)
+}
+
+// The same, of the JSON value that the bytes are.
+fn byte_in(value: &Value, field: Field, place: u64) -> Option<u8>
+    ensures { IfSome result (λ byte. byte_in field place (view value.now) ≡ Some byte) }
+{
     let text = value.get(field.name())?.as_str()?;
     let place = usize::try_from(place).ok()?;
     text.as_bytes().get(place).copied()
