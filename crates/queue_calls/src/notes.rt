@@ -108,6 +108,24 @@ fn count_begin<T>(report: &mut Report, other: &mut Option<Call<T>>) -> bool {
     }
 }
 
+// Counts how a call ends; where it is a put, one that offered so many items.
+fn count_end(report: &mut Report, offered: usize, event: Event<'_>) {
+    match event {
+        Event::PutStored(count) => {
+            if count < offered {
+                report.full = report.full.saturating_add(1);
+            }
+        }
+        Event::PutFull | Event::PutShort => report.full = report.full.saturating_add(1),
+        Event::TakeEmpty | Event::TakeShort => report.empty = report.empty.saturating_add(1),
+        Event::PutNothing | Event::TakeNothing => {
+            report.nothing = report.nothing.saturating_add(1);
+        }
+        Event::TakeClosed => report.told = true,
+        _ => {}
+    }
+}
+
 impl<S: Storage> Notes<S> {
     /// Nothing of a queue with no bound, with these lists to keep notes in.
     pub fn new(offered: S::Offered, offers: S::Numbers, taken: S::Taken) -> Notes<S> {
@@ -148,28 +166,9 @@ impl<S: Storage> Notes<S> {
         report
     }
 
-    // Counts how a call ends. A put that is under way still offers its items.
-    fn count_end(&mut self, event: Event<'_>) {
-        let report = &mut self.report;
-        match event {
-            Event::PutStored(count) => {
-                if count < self.offers.as_slice().len() {
-                    report.full = report.full.saturating_add(1);
-                }
-            }
-            Event::PutFull | Event::PutShort => report.full = report.full.saturating_add(1),
-            Event::TakeEmpty | Event::TakeShort => report.empty = report.empty.saturating_add(1),
-            Event::PutNothing | Event::TakeNothing => {
-                report.nothing = report.nothing.saturating_add(1);
-            }
-            Event::TakeClosed => report.told = true,
-            _ => {}
-        }
-    }
-
     /// Notes an event, of this line, with which the history is linearizable.
     pub fn note(&mut self, line: u64, event: Event<'_>) -> Result<(), AllocError> {
-        self.count_end(event);
+        count_end(&mut self.report, self.offers.as_slice().len(), event);
         match event {
             Event::PutBegins(items) => self.put_begins(line, items)?,
             Event::PutStored(count) => self.put_ends(line, count),
