@@ -12,6 +12,7 @@ use Rattle.queue_calls.specs.declared.lines.Word.TheVariants.{Queue, Put, Stored
 use Rattle.queue_calls.specs.declared.recordings.Begun.{Begun}
 use Rattle.queue_calls.specs.declared.recordings.Begun.TheVariants as begun
 use Rattle.queue_calls.specs.declared.recordings.Hearing.{Hearing}
+use Rattle.queue_calls.proofs.LineLemmas.{line_same}
 
 -- ---- events
 
@@ -81,6 +82,21 @@ is_line before bytes l on =
       allowed = format.0;
       small = format.1;
     }
+
+-- the word of a line that goes on with lines is the one that was read of it
+same_word : (before : List Line) (bytes numbers : List ℕ) (w : Word) (l : Line) → IsLine bytes w numbers → ContinuesLines before bytes l → w ≡ l.word
+same_word before bytes numbers w l is on = (line_same bytes w l.word numbers l.numbers is (is_line before bytes l on)).0
+
+-- no line that goes on with none has another word than the first
+pub not_the_first : (before : List Line) (bytes numbers : List ℕ) (w : Word) (l : Line) → before ≡ [] → w ≢ Queue → IsLine bytes w numbers → ¬ (ContinuesLines before bytes l)
+not_the_first [] bytes numbers w l none other is on = other (same_word [] bytes numbers w l is on ∙ on.0.0)
+not_the_first (x ∷ before) bytes numbers w l none other is on = absurd (omega (arith, ap length none))
+
+-- no line that goes on with others tells no event
+pub not_further : (before : List Line) (bytes numbers told : List ℕ) (b : Begun) (w : Word) (l : Line) → before ≢ [] → event_told b w told ≡ None → IsLine bytes w numbers → ¬ (ContinuesLines before bytes l)
+not_further [] bytes numbers told b w l some none is on = some refl
+not_further (x ∷ further) bytes numbers told b w l some none is on =
+    (All-last further l on.0.2).0 (sym (same_word (x ∷ further) bytes numbers w l is on) ∙ no_event b w told none)
 
 -- the first line
 pub first_line : (before : List Line) (bytes numbers : List ℕ) → before ≡ [] → IsLine bytes Queue numbers → ContinuesLines before bytes (line Queue numbers)

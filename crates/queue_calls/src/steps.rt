@@ -100,11 +100,7 @@ pub fn put_effect(put: Putter<'_>, does: Does) -> Option<Putter<'_>>
 {
     match (does, put) {
         (Does::Enqueue(item), Putter::Putting(lacked, stored, items))
-            if stored < items.len() && items[stored] == item => Some(Putter::Putting(
-            lacked,
-            stored + 1,
-            items,
-        )),
+            if items.get(stored) == Some(&item) => Some(Putter::Putting(lacked, stored + 1, items)),
         (Does::FindNoRoom(count), Putter::Putting(0, 0, items)) => Some(Putter::Putting(
             count, 0, items,
         )),

@@ -7,7 +7,7 @@ use Rattle.queue_calls.specs.Told.{told}
 use Rattle.queue_calls.specs.declared.lines.Word.{Word}
 use Rattle.queue_calls.specs.declared.lines.Word.TheVariants.{Queue}
 use Rattle.queue_calls.specs.declared.recordings.Begun.TheVariants as begun
-use Rattle.queue_calls.proofs.HeardLines.{first_line, is_line, first_heard, further_line, count_is, further_heard}
+use Rattle.queue_calls.proofs.HeardLines.{first_line, is_line, first_heard, further_line, count_is, further_heard, not_the_first, not_further}
 use Rattle.queue_calls.proofs.recordings.Lines.read.Goals as goal
 
 -- what holds on success follows from what else holds on success
@@ -64,3 +64,18 @@ returns-in-Queue-clause-read g c before has =
 pub returns-in_default-2-clause-refused : goal.returns-in_default-2-clause-refused
 returns-in_default-2-clause-refused g c before has =
     (omega (arith, has.count, c.in-Some.ensures.1), λ l on. c.in_ok-word.ensures.none c.in_default-2.is l.word l.numbers (is_line before c.args.line.now l on))
+
+pub returns-in_default-word : goal.returns-in_default-word
+returns-in_default-word g c = record {
+  read = tt;
+  refused = λ before has.
+      let none : before ≡ [] = nil_from_length before (omega (arith, has.count, c.in-Some.ensures.1, c.if-count-eq1.true)) in
+      let is = read_is _ _ _ _ c.in-Some-2.is c.in_ok-word.ensures.line in
+      (omega (arith, has.count, c.in-Some.ensures.1), λ l. not_the_first before c.args.line.now _ c.in-Some-2.word l none c.in_default-word.not-Queue is);
+}
+
+pub returns-in_default-event_told-clause-refused : goal.returns-in_default-event_told-clause-refused
+returns-in_default-event_told-clause-refused g c before has =
+    let some : before ≢ [] = λ none. c.if-count-eq1.false (omega (arith, has.count, c.in-Some.ensures.1, ap length none)) in
+    let is = read_is _ _ _ _ c.in-Some-2.is c.in_ok-word.ensures.line in
+    (omega (arith, has.count, c.in-Some.ensures.1), λ l. not_further before c.args.line.now _ _ c.args.self.now.hearing.begun c.in-Some-2.word l some (sym c.in_default-event_told.ensures) is)
