@@ -1,12 +1,14 @@
-use Rattle.std.proofs.Common.{◌≡◌, ◌≤◌, ℕ, ◌+◌, ◌++◌, ◌∷◌, [], Bool, true, false, Some, List, length, refl, ap, sym, subst, ◌∙◌, arith}
-use Rattle.std.specs.Prelude.{◌↔◌, if◌then◌else◌}
+use Rattle.std.proofs.Common.{◌≡◌, ◌≤◌, ℕ, ◌+◌, ◌++◌, ◌∷◌, [], Bool, true, false, None, Some, List, length, refl, ap, sym, subst, ◌∙◌, arith}
+use Rattle.std.specs.Prelude.{◌↔◌, IsSome, if◌then◌else◌}
 use Rattle.std.proofs.lemmas.List.{length-append}
 use mir.Val.{bool_byte}
 use Rattle.bits_core.specs.declared.events.Event.{Event}
 use Rattle.bits_core.specs.declared.events.Act.TheVariants.{ReadEnd}
-use Rattle.bits_core.specs.History.{is_overlapped, open_access}
+use Rattle.bits_core.specs.declared.events.Bit.{Bit}
+use Rattle.bits_core.specs.declared.shapes.Shape.{Shape}
+use Rattle.bits_core.specs.History.{held_at_begin, is_overlapped, open_access}
 use Rattle.bits_core.specs.Marks.{AreMarks}
-use Rattle.bits_core.specs.Memory.{EndsOverlappedRead, IsRecord, is_read_overlapped, open_bit}
+use Rattle.bits_core.specs.Memory.{EndsOverlappedRead, IsRecord, MemoryState, held_for_read, is_read_overlapped, open_bit, with_answer}
 use Rattle.bits_core.specs.Open.{bit_of}
 use Rattle.bits_core.proofs.Flickers.{IsRecord-push, MayFollow-answer, flickers-le}
 use Rattle.bits_core.proofs.FlickerLaws.{ends_overlapped}
@@ -20,6 +22,12 @@ byte_is false = refl
 byte-le : (b : Bool) → bool_byte b ≤ 1
 byte-le true = omega arith
 byte-le false = omega arith
+
+abbrev state : Shape → List Event → ℕ → ℕ → MemoryState
+state shape h n room = record { shape = shape; events = h; flickers = n; room = room }
+
+same_state : (shape : Shape) {x y : List Event} {m n i j : ℕ} → x ≡ y → m ≡ n → i ≡ j → state shape x m i ≡ state shape y n j
+same_state shape events flickers room = cc
 
 pub overflow_add-self : goal.overflow_add-self
 overflow_add-self g c =
@@ -68,3 +76,55 @@ returns-clause-overlap g c =
     let its_bit : open_bit s h ≡ b = ap bit_of still in
     let told_of_bit = subst (λ x. (is_overlapped s x h ≡ true) ↔ EndsOverlappedRead after (length h)) (sym its_bit) told_after in
     subst (λ r. (is_read_overlapped s r.events ≡ true) ↔ EndsOverlappedRead after (length r.events)) c.self.view_is told_of_bit
+
+pub returns-clause-ok : goal.returns-clause-ok
+returns-clause-ok g c =
+    let s = c.args.side in
+    let b = c.in-Some-Read.bit in
+    let h : List Event = g.S.Store.items c.self.inside.events in
+    let still = ap (λ r. open_access s r.events) c.self.view_is ∙ sym c.in-Some-Read.ensures.access ∙ ap Some c.in-Some-Read.field-0-is in
+    let due = c.settled-settled.ensures c.self.inside.shape h c.self.invariant.1 still in
+    let its_bit : open_bit s h ≡ b = ap bit_of still in
+    let v = c.read_answer-answer.result in
+    let n : ℕ = c.self.inside.flickers in
+    let overlapped : c.is_none.result ≡ is_overlapped s b h = overlapped-is s b h c.settled-settled.result c.is_none.result due c.is_none.ensures in
+    let counted : n + c.from.result ≡ n + (if is_read_overlapped s h then 1 else 0) = ap (λ (k : ℕ). n + k) (c.from.ensures ∙ byte_is c.is_none.result ∙ ap (λ (t : Bool). if t then 1 else 0) overlapped ∙ ap (λ x. if is_overlapped s x h then 1 else 0) (sym its_bit)) in
+    let e : Bit → Event = λ x. record { side = s; bit = x; act = ReadEnd v } in
+    let items : g.S.Store.items c.add.new.self ≡ h ++ e (open_bit s h) ∷ [] = c.add.ensures.items ∙ ap (λ (t : List Event). t ++ e b ∷ []) c.in_ok-reserve-in-Some-Read.ensures.items ∙ ap (λ x. h ++ e x ∷ []) (sym its_bit) in
+    let room = c.add.ensures.kept ∙ c.in_ok-reserve-in-Some-Read.ensures.kept in
+    same_state c.self.inside.shape items counted room ∙ ap (λ m. with_answer m s v) c.self.view_is
+
+pub returns-clause-answer : goal.returns-clause-answer
+returns-clause-answer g c =
+    let s = c.args.side in
+    let b = c.in-Some-Read.bit in
+    let h : List Event = g.S.Store.items c.self.inside.events in
+    let still = ap (λ r. open_access s r.events) c.self.view_is ∙ sym c.in-Some-Read.ensures.access ∙ ap Some c.in-Some-Read.field-0-is in
+    let due = c.settled-settled.ensures c.self.inside.shape h c.self.invariant.1 still in
+    let its_bit : open_bit s h ≡ b = ap bit_of still in
+    let asked = g.O.Oracle.answers c.args.oracle.now 0 in
+    c.read_answer-answer.ensures.value ∙ answer-is s b h c.settled-settled.result asked due
+    ∙ ap (λ x. if is_overlapped s x h then asked else held_at_begin s x h) (sym its_bit)
+    ∙ ap (λ m. if is_read_overlapped s m.events then asked else held_for_read s m.events) c.self.view_is
+
+pub returns-clause-asked : goal.returns-clause-asked
+returns-clause-asked g c is =
+    let s = c.args.side in
+    let b = c.in-Some-Read.bit in
+    let h : List Event = g.S.Store.items c.self.inside.events in
+    let still = ap (λ r. open_access s r.events) c.self.view_is ∙ sym c.in-Some-Read.ensures.access ∙ ap Some c.in-Some-Read.field-0-is in
+    let due = c.settled-settled.ensures c.self.inside.shape h c.self.invariant.1 still in
+    let its_bit : open_bit s h ≡ b = ap bit_of still in
+    let overlapped = ap (λ x. is_overlapped s x h) (sym its_bit) ∙ ap (λ m. is_read_overlapped s m.events) c.self.view_is ∙ is in
+    c.read_answer-answer.ensures.asked (due ∙ ap (λ t. if t then None else Some (held_at_begin s b h)) overlapped)
+
+pub returns-clause-not_asked : goal.returns-clause-not_asked
+returns-clause-not_asked g c is =
+    let s = c.args.side in
+    let b = c.in-Some-Read.bit in
+    let h : List Event = g.S.Store.items c.self.inside.events in
+    let still = ap (λ r. open_access s r.events) c.self.view_is ∙ sym c.in-Some-Read.ensures.access ∙ ap Some c.in-Some-Read.field-0-is in
+    let due = c.settled-settled.ensures c.self.inside.shape h c.self.invariant.1 still in
+    let its_bit : open_bit s h ≡ b = ap bit_of still in
+    let overlapped = ap (λ x. is_overlapped s x h) (sym its_bit) ∙ ap (λ m. is_read_overlapped s m.events) c.self.view_is ∙ is in
+    c.read_answer-answer.ensures.not_asked (subst IsSome (sym (due ∙ ap (λ t. if t then None else Some (held_at_begin s b h)) overlapped)) refl)
