@@ -1,9 +1,49 @@
-use Rattle.std.proofs.Common.{◌≡◌, ◌++◌, ◌∷◌, [], List, length, inr, ap, subst, sym, ◌∙◌, arith, rules}
+use Rattle.std.proofs.Common.{◌≡◌, ℕ, ◌≤◌, ◌++◌, ◌∷◌, [], true, List, length, inr, refl, ap, subst, sym, ◌∙◌, append-nil, arith, rules}
+use Rattle.std.specs.Prelude.{◌==◌}
+use Rattle.std.proofs.lemmas.Bool.{eqb-true}
 use Rattle.bits_core.specs.declared.events.Event.{Event}
-use Rattle.bits_core.specs.TraceText.{trace_text}
-use Rattle.bits_core.specs.Trace.{AreOfShape, HasMore}
-use Rattle.bits_core.proofs.TraceLemmas.{AreOfShape-push, goes_on_at, length-push, text_more}
+use Rattle.bits_core.specs.declared.shapes.Shape.{Shape}
+use Rattle.bits_core.specs.declared.traces.TheConstants.{EVENT_LIMIT}
+use Rattle.bits_core.specs.Shape.{batch_of, capacity_of, modulus_of, width_of}
+use Rattle.bits_core.specs.TraceText.{shape_line, trace_text}
+use Rattle.bits_core.specs.Trace.{AreOfShape, BeginsWithShape, HasMore}
+use Rattle.bits_core.proofs.TraceLemmas.{AreOfShape-push, goes_on_at, length-push, line_takes, text_more}
 use Rattle.bits_core.proofs.traces.read_lines.Goals as goal
+
+no_events : (shape : Shape) (bytes rest : List ℕ) → BeginsWithShape bytes shape rest → bytes ≡ trace_text shape [] ++ rest
+no_events shape bytes rest begins = begins ∙ ap (λ (t : List ℕ). t ++ rest) (sym (append-nil (shape_line (capacity_of shape) (modulus_of shape) (width_of shape) (batch_of shape))))
+
+no_bytes : (rest : List ℕ) → true ≡ (length rest == 0) → rest ≡ []
+no_bytes [] is = refl
+no_bytes (b ∷ rest) is = let some : length (b ∷ rest) ≡ 0 = eqb-true (length (b ∷ rest)) 0 (sym is) in absurd (omega arith)
+
+pub loop-rest-init : goal.loop-rest-init
+loop-rest-init g c =
+    let shape = c.in_ok-shape.shape in
+    let rest = c.in_ok-shape.rest.now in
+    let none : [] ≡ g.S.Store.items c.args.store.now = sym c.requires.empty in
+    record {
+      text = subst (λ (t : List Event). c.args.bytes.now ≡ trace_text shape t ++ rest) none (no_events shape c.args.bytes.now rest c.in_ok-shape.ensures.read);
+      of_shape = subst (λ (t : List Event). AreOfShape shape t) none (λ k d below. absurd (omega arith));
+      within = subst (λ (t : List Event). length t ≤ EVENT_LIMIT) none (omega arith);
+      slots = λ first s. s;
+    }
+
+pub loop-rest-smaller : goal.loop-rest-smaller
+loop-rest-smaller g c = omega (arith, line_takes c.in-Some.event c.in-Some.others.now, ap length c.in-Some.ensures.1)
+
+pub overflow_add-result : goal.overflow_add-result
+overflow_add-result g c = omega (arith, c.loop-rest.invariant.within, ap length c.as_slice-count.ensures)
+
+pub returns-clause-read : goal.returns-clause-read
+returns-clause-read g c =
+    let l = c.loop-rest.invariant in
+    let text : List ℕ = trace_text c.in_ok-shape.shape (g.S.Store.items c.loop-rest.store) in
+    record {
+      text = l.text ∙ ap (λ (t : List ℕ). text ++ t) (no_bytes c.loop-rest.rest.now c.loop-rest-test.ensures) ∙ append-nil text;
+      of_shape = l.of_shape;
+      within = l.within;
+    }
 
 pub returns-then-count-eq-EVENT_LIMIT-clause-refused : goal.returns-then-count-eq-EVENT_LIMIT-clause-refused
 returns-then-count-eq-EVENT_LIMIT-clause-refused g c =
