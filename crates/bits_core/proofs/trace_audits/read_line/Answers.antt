@@ -1,10 +1,10 @@
-use Rattle.std.proofs.Common.{◌++◌, List, ℕ, sym, subst, rules}
+use Rattle.std.proofs.Common.{◌++◌, List, ℕ, refl, sym, subst, rules}
 use Rattle.bits_core.specs.Trace.{RefusesTraceText}
 use Rattle.bits_core.specs.TraceAudits.{BeginsWithNoLine, HasEnded}
 use Rattle.bits_core.specs.Shape.{batch_of, capacity_of, modulus_of, width_of}
 use Rattle.bits_core.specs.TraceText.{event_line, shape_line}
 use Rattle.bits_core.specs.declared.traces.TraceFault.TheVariants.{BadLine}
-use Rattle.bits_core.proofs.TraceTexts.{behind_ended, event_ends, first_ended, next_ended, no_line_refused, nothing_ended, shape_ends, too_many}
+use Rattle.bits_core.proofs.TraceTexts.{bad_shape_more, behind_ended, event_ends, first_ended, next_ended, no_line_refused, nothing_ended, shape_ends, too_many}
 use Rattle.bits_core.proofs.trace_audits.read_line.Goals as goal
 
 pub returns-in_err-unread-in-Ok-None-clause-refused : goal.returns-in_err-unread-in-Ok-None-clause-refused
@@ -60,3 +60,13 @@ returns-in_ok-hear-in-Some-read_event-clause-read c =
       begins.1,
       λ text ended. next_ended c.args.hearing.now c.in-Some.heard c.hear.new.self e text c.in-Some.is ended begins.0 c.in_ok-hear-in-Some-read_event.ensures.heard,
     )
+
+pub returns-in-Err-clause-refused : goal.returns-in-Err-clause-refused
+returns-in-Err-clause-refused c = λ text more ended.
+    bad_shape_more c.in-Err.fault text c.args.bytes.now more (subst (λ h. HasEnded h text) c.in-None.is ended) c.in-Err.ensures.refused
+
+pub returns-in_ok-unread-in-Ok-None-clause-read : goal.returns-in_ok-unread-in-Ok-None-clause-read
+returns-in_ok-unread-in-Ok-None-clause-read c = (c.in_ok-unread-in-Ok-None.ensures.unended, refl)
+
+pub returns-in_ok-unread-in-None-read_event-clause-read : goal.returns-in_ok-unread-in-None-read_event-clause-read
+returns-in_ok-unread-in-None-read_event-clause-read c = (c.in_ok-unread-in-None-read_event.ensures.unended, sym c.in-Some.is)
