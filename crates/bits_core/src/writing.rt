@@ -41,13 +41,25 @@ fn value_word(act: Act) -> &'static str
     }
 }
 
-fn push_number<A: Allocator>(text: &mut String<A>, number: u64) -> Result<(), TraceFault>
-    ensures ok { OnOk result (string_bytes text.new ≡ string_bytes text.old ++ decimal number) }
+fn push_text<A: Allocator>(text: &mut String<A>, word: &str) -> Result<(), TraceFault>
+    ensures ok { OnOk result (string_bytes text.new ≡ string_bytes text.old ++ word.now) }
     ensures err { IfErr result (λ e. e ≡ TraceFault.OutOfMemory) }
 {
+    Ok(text.push_str(word)?)
+}
+
+// A text, and a number after it.
+fn push_numbered<A: Allocator>(
+    text: &mut String<A>,
+    word: &str,
+    number: u64,
+) -> Result<(), TraceFault>
+    ensures ok { OnOk result (string_bytes text.new ≡ string_bytes text.old ++ (word.now ++ decimal number)) }
+    ensures err { IfErr result (λ e. e ≡ TraceFault.OutOfMemory) }
+{
+    push_text(text, word)?;
     let mut buffer = Buffer::new();
-    text.push_str(buffer.format(number))?;
-    Ok(())
+    push_text(text, buffer.format(number))
 }
 
 // A letter, and the index after it.
@@ -59,8 +71,7 @@ fn push_indexed<A: Allocator>(
     ensures ok { OnOk result (string_bytes text.new ≡ string_bytes text.old ++ (letter.now ++ decimal index)) }
     ensures err { IfErr result (λ e. e ≡ TraceFault.OutOfMemory) }
 {
-    text.push_str(letter)?;
-    push_number(text, u64::from(index))
+    push_numbered(text, letter, u64::from(index))
 }
 
 fn push_bit<A: Allocator>(text: &mut String<A>, bit: Bit) -> Result<(), TraceFault>
@@ -70,7 +81,7 @@ fn push_bit<A: Allocator>(text: &mut String<A>, bit: Bit) -> Result<(), TraceFau
     match bit {
         Bit::S(index) => push_indexed(text, "s", index),
         Bit::R(index) => push_indexed(text, "r", index),
-        Bit::X => Ok(text.push_str("x")?),
+        Bit::X => push_text(text, "x"),
         Bit::Cell(cell, digit) => {
             push_indexed(text, "c", cell)?;
             push_indexed(text, ".", digit)
@@ -87,11 +98,11 @@ pub fn push_event<A: Allocator>(text: &mut String<A>, event: Event) -> Result<()
     ensures ok { OnOk result (string_bytes text.new ≡ string_bytes text.old ++ event_line event) }
     ensures err { IfErr result (λ e. e ≡ TraceFault.OutOfMemory) }
 {
-    text.push_str(side_word(event.side))?;
-    text.push_str(act_word(event.act))?;
+    push_text(text, side_word(event.side))?;
+    push_text(text, act_word(event.act))?;
     push_bit(text, event.bit)?;
-    text.push_str(value_word(event.act))?;
-    Ok(text.push_str("\n")?)
+    push_text(text, value_word(event.act))?;
+    push_text(text, "\n")
 }
 
 // A batch after a space, where it is not 1.
@@ -103,8 +114,7 @@ fn push_batch<A: Allocator>(text: &mut String<A>, batch: u64) -> Result<(), Trac
     if batch == 1 {
         return Ok(());
     }
-    text.push_str(" ")?;
-    push_number(text, batch)
+    push_numbered(text, " ", batch)
 }
 
 // A batch, and the end of the line.
@@ -113,19 +123,16 @@ fn push_last<A: Allocator>(text: &mut String<A>, batch: u64) -> Result<(), Trace
     ensures err { IfErr result (λ e. e ≡ TraceFault.OutOfMemory) }
 {
     push_batch(text, batch)?;
-    Ok(text.push_str("\n")?)
+    push_text(text, "\n")
 }
 
 fn push_shape<A: Allocator>(text: &mut String<A>, shape: &Shape) -> Result<(), TraceFault>
     ensures ok { OnOk result (string_bytes text.new ≡ string_bytes text.old ++ shape_line (capacity_of shape.now) (modulus_of shape.now) (width_of shape.now) (batch_of shape.now)) }
     ensures err { IfErr result (λ e. e ≡ TraceFault.OutOfMemory) }
 {
-    text.push_str("shape ")?;
-    push_number(text, shape.capacity())?;
-    text.push_str(" ")?;
-    push_number(text, shape.modulus())?;
-    text.push_str(" ")?;
-    push_number(text, shape.width())?;
+    push_numbered(text, "shape ", shape.capacity())?;
+    push_numbered(text, " ", shape.modulus())?;
+    push_numbered(text, " ", shape.width())?;
     push_last(text, shape.batch())
 }
 
