@@ -114,13 +114,13 @@ fn event_count<M: Store<Event>>(memory: &Memory<M>) -> usize
     memory.events().len()
 }
 
-/// Ends the read that the side has open.
+/// Ends the read that the side has open. It answers true, as each step does that makes an event.
 fn end_read<M: Store<Event>, A: Actor, O: Oracle>(
     memory: &mut Memory<M>,
     actor: &mut A,
     oracle: &mut O,
     side: Side,
-) -> Result<(), PlayFault>
+) -> Result<bool, PlayFault>
     requires open { IsReading (open_access side memory.old.events) }
     requires playing { IsPlaying side memory.old.events (A.due actor.old) (A.stands actor.old) }
     requires side { A.side actor.old ≡ side }
@@ -130,7 +130,7 @@ fn end_read<M: Store<Event>, A: Actor, O: Oracle>(
     ensures script { A.script actor.new ≡ A.script actor.old }
     ensures side { A.side actor.new ≡ A.side actor.old }
     ensures playing { IsPlaying side memory.new.events (A.due actor.new) (A.stands actor.new) }
-    ensures ok { OnOk result (IsMove (A.script actor.old) side true memory.old.events memory.new.events) }
+    ensures ok { IfOk result (λ moved. IsMove (A.script actor.old) side moved memory.old.events memory.new.events) }
     ensures err { OnErr result (memory.new.events ≡ memory.old.events) }
     ensures rooms { (memory.new.room ≡ memory.old.room) × (A.room actor.new ≡ A.room actor.old) }
     ensures full { OnErr result ((memory.old.room ≤ length memory.old.events) ⊎ (A.room actor.old ≤ A.kept actor.old)) }
@@ -147,15 +147,15 @@ fn end_read<M: Store<Event>, A: Actor, O: Oracle>(
     let answer = memory.end_read(side, oracle)?;
     memory.events();
     actor.end(answer);
-    Ok(())
+    Ok(true)
 }
 
-/// Ends the write that the side has open.
+/// Ends the write that the side has open. It answers true, as each step does that makes an event.
 fn end_write<M: Store<Event>, A: Actor>(
     memory: &mut Memory<M>,
     actor: &mut A,
     side: Side,
-) -> Result<(), PlayFault>
+) -> Result<bool, PlayFault>
     requires open { IsWriting (open_access side memory.old.events) }
     requires playing { IsPlaying side memory.old.events (A.due actor.old) (A.stands actor.old) }
     requires side { A.side actor.old ≡ side }
@@ -163,7 +163,7 @@ fn end_write<M: Store<Event>, A: Actor>(
     ensures script { A.script actor.new ≡ A.script actor.old }
     ensures side { A.side actor.new ≡ A.side actor.old }
     ensures playing { IsPlaying side memory.new.events (A.due actor.new) (A.stands actor.new) }
-    ensures ok { OnOk result (IsMove (A.script actor.old) side true memory.old.events memory.new.events) }
+    ensures ok { IfOk result (λ moved. IsMove (A.script actor.old) side moved memory.old.events memory.new.events) }
     ensures err { OnErr result (memory.new.events ≡ memory.old.events) }
     ensures rooms { (memory.new.room ≡ memory.old.room) × (A.room actor.new ≡ A.room actor.old) }
     ensures full { OnErr result ((memory.old.room ≤ length memory.old.events) ⊎ (A.room actor.old ≤ A.kept actor.old)) }
@@ -176,7 +176,7 @@ fn end_write<M: Store<Event>, A: Actor>(
     actor.reserve()?;
     memory.end_write(side)?;
     actor.end(true);
-    Ok(())
+    Ok(true)
 }
 
 /// Begins the next access of the side, if it is not done.
@@ -235,14 +235,8 @@ pub fn advance<M: Store<Event>, A: Actor, O: Oracle>(
     ensures turns { (turns : ℕ → Bool) → IsAtTurn turns memory.old.events (O.answers oracle.old) → IsAtTurn turns memory.new.events (O.answers oracle.new) }
 {
     match memory.pending(side) {
-        Some(Access::Read(_)) => {
-            end_read(memory, actor, oracle, side)?;
-            Ok(true)
-        }
-        Some(Access::Write(_, _)) => {
-            end_write(memory, actor, side)?;
-            Ok(true)
-        }
+        Some(Access::Read(_)) => end_read(memory, actor, oracle, side),
+        Some(Access::Write(_, _)) => end_write(memory, actor, side),
         None => go_on(memory, actor, side),
     }
 }
