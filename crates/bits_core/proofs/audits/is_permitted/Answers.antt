@@ -1,5 +1,5 @@
 -- Found by search without these lines too; with them a wrong body is refused at once.
-use Rattle.std.proofs.Common.{◌≡◌, Bool, true, false, Some, None, List, refl, ap, sym, subst, inl, inr, ◌∙◌, rules}
+use Rattle.std.proofs.Common.{◌≡◌, Bool, true, false, Some, None, List, refl, sym, subst, inl, inr, ◌∙◌, rules}
 use Rattle.std.specs.Prelude.{◌↔◌, ◌⊎◌, IsTrue, if◌then◌else◌}
 use mathlib.Core.Bool.{beq}
 use Rattle.bits_core.specs.declared.events.Act.{Act}

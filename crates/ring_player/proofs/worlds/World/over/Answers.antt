@@ -1,4 +1,4 @@
-use Rattle.std.proofs.Common.{◌≡◌, [], None, List, Bool, sym, ap, subst, ◌∙◌}
+use Rattle.std.proofs.Common.{[], None, List, Bool, sym, ap, subst, ◌∙◌}
 use Rattle.bits_core.specs.Memory.{MemoryState}
 use Rattle.bits_core.specs.Oracle.{turn}
 use Rattle.ring_player.specs.Actors.{HasWritten, PutActorStands, TakeActorStands}
