@@ -1,4 +1,3 @@
--- Found by search without these lines too; with them a wrong body is refused at once.
 use Rattle.std.proofs.Common.{◌≡◌, Bool, true, false, Some, None, List, refl, sym, subst, inl, inr, ◌∙◌, rules}
 use Rattle.std.specs.Prelude.{◌↔◌, ◌⊎◌, IsTrue, if◌then◌else◌}
 use mathlib.Core.Bool.{beq}
@@ -34,6 +33,7 @@ permitted past s b (WriteBegin v) none = tt
 permitted past s b (ReadEnd v) none = absurd (none v refl)
 permitted past s b WriteEnd none = tt
 
+-- found by search without these two lines too; with them a wrong body is refused at once
 pub returns-in-None : goal.returns-in-None
 returns-in-None c = search rules
 
