@@ -4,4 +4,5 @@ mod RecordingText
 mod Endings
 mod RunItems
 mod TellingText
+mod TextLemmas
 pub mod WhyLemmas

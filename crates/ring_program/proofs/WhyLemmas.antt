@@ -1,19 +1,21 @@
 -- Why the event at fault is.
 use Rattle.std.proofs.Common.{◌≡◌, ℕ, suc, ◌+◌, ◌<◌, List, [], ◌∷◌, ◌++◌, Result, Ok, Err, OnOk, subst, sym, arith, length, take, ap, ◌∙◌}
 use Rattle.std.proofs.Math.ListN.{get_or}
-use Rattle.std.proofs.lemmas.List.{take_more}
+use Rattle.std.proofs.lemmas.List.{length-take-le, take_more}
 use Rattle.std.proofs.lemmas.Option.{slice_get-get_or, slice_get_within}
-use Rattle.bits_core.specs.Audit.{IsFirstFault}
+use Rattle.bits_core.specs.Audit.{IsFirstFault, IsVerdict}
 use Rattle.bits_core.specs.Laws.{FaultBreaks, LawfulByOneMore}
 use Rattle.bits_core.specs.Lawful.{IsLawful}
 use Rattle.bits_core.specs.Steps.{MayFollow}
 use Rattle.bits_core.specs.declared.audits.Kind.{Kind}
 use Rattle.bits_core.specs.declared.audits.Kind.TheVariants.{WrongSide, OutOfTurn, NotPermitted, NotProgram}
 use Rattle.bits_core.specs.declared.audits.Verdict.{Verdict}
-use Rattle.bits_core.specs.declared.audits.Verdict.TheVariants.{Fault}
+use Rattle.bits_core.specs.declared.audits.Verdict.TheVariants.{Lawful, Fault}
 use Rattle.bits_core.specs.declared.events.Event.{Event}
 use Rattle.bits_core.specs.declared.shapes.Shape.{Shape}
-use Rattle.ring_program.specs.Why.{IsFaultThere, TellsWhy, TellsWhyAt}
+use Rattle.ring_audit.specs.Audit.{IsFinding, Statement}
+use Rattle.ring_audit.specs.Audit as audit
+use Rattle.ring_program.specs.Why.{IsFaultThere, TellsWhy, TellsWhyAt, verdict_in}
 
 -- what holds where a call went well, from what did
 pub map_ok : {A E P Q : Type 0} → (r : Result A E) → (P → Q) → OnOk r P → OnOk r Q
@@ -40,6 +42,10 @@ first_of_kind shape h place NotProgram there = there
 pub fault_within : (shape : Shape) (h : List Event) (verdict : Verdict) (place : ℕ) (kind : Kind) → verdict ≡ Fault place kind → IsFaultThere shape h verdict → place < length h
 fault_within shape h verdict place kind is there = first_of_kind shape h place kind (subst (λ v. IsFaultThere shape h v) is there)
 
+-- the events before a fault are as many as its place says
+pub fault_behind : (shape : Shape) (h : List Event) (verdict : Verdict) (place : ℕ) (kind : Kind) → verdict ≡ Fault place kind → IsFaultThere shape h verdict → place ≡ length (take place h)
+fault_behind shape h verdict place kind is there = sym (length-take-le place h (omega (arith, fault_within shape h verdict place kind is there)))
+
 pub fault_of_kind : (shape : Shape) (h : List Event) (verdict : Verdict) (place : ℕ) (kind k : Kind) → verdict ≡ Fault place kind → kind ≡ k → IsFaultThere shape h verdict
     → IsFaultThere shape h (Fault place k)
 fault_of_kind shape h verdict place kind k is kind_is there = subst (λ x. IsFaultThere shape h (Fault place x)) kind_is (subst (λ v. IsFaultThere shape h v) is there)
@@ -51,3 +57,19 @@ why_there shape h verdict place kind k d more is kind_is there told =
     let within = fault_within shape h verdict place kind is there in
     subst (λ v. TellsWhy shape h v more) (sym is)
     (get_or h place d, slice_get-get_or h place d within, subst (λ x. TellsWhyAt shape (take place h) (get_or h place d) x more) (sym kind_is) told)
+
+-- the fault that a verdict on the bits tells is there
+pub there_by_verdict : (shape : Shape) (h : List Event) (verdict : Verdict) → IsVerdict shape h verdict → IsFaultThere shape h verdict
+there_by_verdict shape h Lawful is = tt
+there_by_verdict shape h (Fault place NotProgram) is = slice_get_within h place is.event is.at_place
+there_by_verdict shape h (Fault place WrongSide) is = is
+there_by_verdict shape h (Fault place OutOfTurn) is = is
+there_by_verdict shape h (Fault place NotPermitted) is = is
+
+-- and the one that a finding tells
+pub there_by_finding : (shape : Shape) (h : List Event) (found : Statement) → IsFinding shape h found → IsFaultThere shape h (verdict_in found)
+there_by_finding shape h (audit.Lawful put taken told) is = tt
+there_by_finding shape h (audit.Fault place NotProgram) is = is.within
+there_by_finding shape h (audit.Fault place WrongSide) is = is.kind_is
+there_by_finding shape h (audit.Fault place OutOfTurn) is = is.kind_is
+there_by_finding shape h (audit.Fault place NotPermitted) is = is.kind_is

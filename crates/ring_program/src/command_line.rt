@@ -181,8 +181,7 @@ fn audit<'a>(alloc: Global) -> Result<Command<'a>, AllocError>
     let help = "Audit a recording of the calls of any queue";
     let command = with_flag(alloc, command, "calls", help)?;
     let help = "Tell of a fault what was due, in further lines";
-    let command = with_flag(alloc, command, "why", help)?;
-    Ok(command)
+    with_flag(alloc, command, "why", help)
 }
 
 // The command with the near miss.
@@ -202,8 +201,7 @@ fn play<'a>(alloc: Global) -> Result<Command<'a>, AllocError>
     let command = with_flag(alloc, command, "trace", help)?;
     let help = "Print the calls of the play, as recorded calls, in place of the report";
     let command = with_flag(alloc, command, "calls", help)?;
-    let command = with_wrong(alloc, command)?;
-    Ok(command)
+    with_wrong(alloc, command)
 }
 
 // The program with no commands yet.
@@ -226,8 +224,7 @@ fn program<'a>(alloc: Global) -> Result<Command<'a>, AllocError>
     let play = play(alloc)?;
     let command = command.subcommand(play)?;
     let run = run_command(alloc)?;
-    let command = command.subcommand(run)?;
-    Ok(command)
+    command.subcommand(run)
 }
 
 // The matches of the words, where the program takes them.

@@ -176,15 +176,14 @@ fn required_part<'a>(alloc: Global) -> Result<Command<'a>, AllocError>
         ITEM_LIMIT,
         "How many items to put",
     )?;
-    let command = with_required(
+    with_required(
         alloc,
         command,
         "limit",
         "L",
         u64::MAX,
         "The most puts, and takes",
-    )?;
-    Ok(command)
+    )
 }
 
 /// The command.
@@ -198,8 +197,7 @@ pub fn run_command<'a>(alloc: Global) -> Result<Command<'a>, AllocError>
     let help = "Tell the calls, and the items a second";
     let command = with_flag(alloc, command, "report", help)?;
     let help = "Print a recording of the calls in place of the text";
-    let command = with_flag(alloc, command, "record", help)?;
-    Ok(command)
+    with_flag(alloc, command, "record", help)
 }
 
 // The ring of this name.

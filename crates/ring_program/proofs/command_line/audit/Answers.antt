@@ -1,3 +1,6 @@
+use Rattle.std.proofs.Common.{codes}
+use Rattle.ring_program.proofs.CommandLemmas.{one_more}
+use Rattle.ring_program.specs.CommandLine.{flag_rule}
 use Rattle.ring_program.proofs.command_line.audit.Goals as goal
 
 -- each option is one more
@@ -6,4 +9,4 @@ returns c =
     let bits = c.in_ok-command.ensures _ c.new_command-command.ensures in
     let long = c.in_ok-command-2.ensures _ bits in
     let calls = c.in_ok-command-3.ensures _ long in
-    c.in_ok-command-4.ensures _ calls
+    one_more c.with_flag-4.result (flag_rule (codes "why")) c.in_ok-command-3.command _ calls c.with_flag-4.ensures

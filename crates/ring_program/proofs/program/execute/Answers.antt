@@ -1,4 +1,4 @@
-use Rattle.std.proofs.Common.{◌≡◌, ◌⊎◌, ◌∙◌, ℕ, List, Option, Some, None, inl, inr, refl, subst, sym, IfSome, IfNone}
+use Rattle.std.proofs.Common.{◌≡◌, ◌⊎◌, ◌∙◌, ℕ, List, Option, Some, None, ap, inl, inr, refl, subst, sym, IfSome, IfNone}
 use Rattle.clap.specs.Words.{HasKind, Kinds, kind_of}
 use Rattle.clap.specs.declared.error.Error.{Error}
 use Rattle.clap.specs.declared.error.kind.ErrorKind.{ErrorKind}
@@ -88,6 +88,13 @@ asked_so : (found : Option Request) (r : Request) (input before after : Option (
     → Ends r input before after status → IfSome found (λ q. Ends q input before after status)
 asked_so found r input before after status same ends = subst (λ q. IfSome q (λ asked. Ends asked input before after status)) same ends
 
+status_so : (found : Option Request) (r : Request) (status : ℕ) → Some r ≡ found → IsStatusOf r status → IsStatus found status
+status_so found r status same is = subst (λ q. IsStatus q status) same is
+
+-- the words ask for the request that was read
+read_so : (request r : Request) (read found : Option Request) → request ≡ r → read ≡ Some request → read ≡ found → Some r ≡ found
+read_so request r read found is kept asked = sym (ap Some is) ∙ sym kept ∙ asked
+
 where_none : (request : Option Request) (P : Type 0) → P → IfNone request P
 where_none None P h = h
 where_none (Some r) P h = tt
@@ -101,3 +108,35 @@ returns-in-Err-clause-unasked g c = where_none _ _ (unasked_by _ c.in-Err.error 
 
 pub returns-in-Err-clause-statuses : goal.returns-in-Err-clause-statuses
 returns-in-Err-clause-statuses g c = status_by _ (kind_of c.in-Err.error) _ _ c.explain.result c.explain.ensures.explained c.in-Err.ensures.refused
+
+pub returns-in-OnInput-clause-asked : goal.returns-in-OnInput-clause-asked
+returns-in-OnInput-clause-asked g c =
+    asked_so _ (OnInput c.in-OnInput.question) (g.I.Read.remaining c.args.input.now) _ _ c.answer_question.result (read_so c.in-Ok-Some.request (OnInput c.in-OnInput.question) c.in-Ok-Some.field-0 _ c.in-OnInput.is c.in-Ok-Some.field-0-is c.in-Ok-Some.ensures.asked)
+    c.answer_question.ensures.asked
+
+pub returns-in-OnInput-clause-statuses : goal.returns-in-OnInput-clause-statuses
+returns-in-OnInput-clause-statuses g c = status_so _ (OnInput c.in-OnInput.question) c.answer_question.result (read_so c.in-Ok-Some.request (OnInput c.in-OnInput.question) c.in-Ok-Some.field-0 _ c.in-OnInput.is c.in-Ok-Some.field-0-is c.in-Ok-Some.ensures.asked) c.answer_question.ensures.statuses
+
+pub returns-in-Calls-clause-asked : goal.returns-in-Calls-clause-asked
+returns-in-Calls-clause-asked g c =
+    asked_so _ Calls (g.I.Read.remaining c.args.input.now) _ _ c.answer_calls.result (read_so c.in-Ok-Some.request Calls c.in-Ok-Some.field-0 _ c.in-Calls.is c.in-Ok-Some.field-0-is c.in-Ok-Some.ensures.asked)
+    c.answer_calls.ensures.asked
+
+pub returns-in-Calls-clause-statuses : goal.returns-in-Calls-clause-statuses
+returns-in-Calls-clause-statuses g c = status_so _ Calls c.answer_calls.result (read_so c.in-Ok-Some.request Calls c.in-Ok-Some.field-0 _ c.in-Calls.is c.in-Ok-Some.field-0-is c.in-Ok-Some.ensures.asked) c.answer_calls.ensures.statuses
+
+pub returns-in-LongBits-clause-asked : goal.returns-in-LongBits-clause-asked
+returns-in-LongBits-clause-asked g c =
+    asked_so _ LongBits (g.I.Read.remaining c.args.input.now) _ _ c.answer_long_bits.result (read_so c.in-Ok-Some.request LongBits c.in-Ok-Some.field-0 _ c.in-LongBits.is c.in-Ok-Some.field-0-is c.in-Ok-Some.ensures.asked)
+    c.answer_long_bits.ensures.asked
+
+pub returns-in-LongBits-clause-statuses : goal.returns-in-LongBits-clause-statuses
+returns-in-LongBits-clause-statuses g c = status_so _ LongBits c.answer_long_bits.result (read_so c.in-Ok-Some.request LongBits c.in-Ok-Some.field-0 _ c.in-LongBits.is c.in-Ok-Some.field-0-is c.in-Ok-Some.ensures.asked) c.answer_long_bits.ensures.statuses
+
+pub returns-in-Run-clause-asked : goal.returns-in-Run-clause-asked
+returns-in-Run-clause-asked g c =
+    asked_so _ (Run c.in-Run.run') (g.I.Read.remaining c.args.input.now) _ _ c.answer_run.result (read_so c.in-Ok-Some.request (Run c.in-Run.run') c.in-Ok-Some.field-0 _ c.in-Run.is c.in-Ok-Some.field-0-is c.in-Ok-Some.ensures.asked)
+    c.answer_run.ensures.asked
+
+pub returns-in-Run-clause-statuses : goal.returns-in-Run-clause-statuses
+returns-in-Run-clause-statuses g c = status_so _ (Run c.in-Run.run') c.answer_run.result (read_so c.in-Ok-Some.request (Run c.in-Run.run') c.in-Ok-Some.field-0 _ c.in-Run.is c.in-Ok-Some.field-0-is c.in-Ok-Some.ensures.asked) c.answer_run.ensures.statuses

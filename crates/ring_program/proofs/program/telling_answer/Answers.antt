@@ -1,6 +1,9 @@
 use Rattle.std.proofs.Common.{refl}
 use Rattle.ring_program.proofs.program.telling_answer.Goals as goal
 
+pub calls_text-requires : goal.calls_text-requires
+calls_text-requires g c = record { linearizable = rw c.as_slice.ensures.value c.in_ok-told.ensures.2.linearizable }
+
 pub returns-clause-answered : goal.returns-clause-answered
 returns-clause-answered g c =
     let told = c.in_ok-told.ensures in

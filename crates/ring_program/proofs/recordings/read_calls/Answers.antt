@@ -1,4 +1,4 @@
-use Rattle.std.proofs.Common.{rules, arith, ◌≡◌, ◌≢◌, ◌≤◌, ◌+◌, ◌-◌, ◌^◌, length-append, ℕ, zero, suc, List, [], ◌++◌, Option, Some, None, Result, Ok, Err, IfErr, IfSome, inr, subst, sym, refl, take, length, append_assoc}
+use Rattle.std.proofs.Common.{rules, arith, ◌≡◌, ◌≢◌, ◌≤◌, ◌+◌, ◌-◌, ◌^◌, length-append, ℕ, zero, suc, List, [], ◌++◌, Option, Some, None, Result, Ok, Err, IfErr, IfSome, inl, inr, subst, sym, refl, take, length, append_assoc}
 use Rattle.std.specs.Result.{IsErrAnd}
 use Rattle.std.proofs.KnownBytes.{Consumes-nil, Consumes-trans, Consumes-whole}
 use Rattle.std.proofs.lemmas.List.{append-nil, length-take-le}
@@ -7,6 +7,7 @@ use Rattle.queue_calls.specs.Recordings.{RefusesText}
 use Rattle.queue_calls.specs.declared.recordings.CallsFinding.{CallsFinding}
 use Rattle.queue_calls.specs.declared.recordings.RecordingFault.{RecordingFault}
 use Rattle.ring_program.specs.Answers.{IsCallsCause}
+use Rattle.ring_program.specs.declared.faults.AppFault.TheVariants as app
 use Rattle.ring_program.specs.declared.faults.Refusal.{Refusal}
 use Rattle.ring_program.specs.declared.faults.Refusal.TheVariants as refusal
 use Rattle.ring_program.proofs.recordings.read_calls.Goals as goal
@@ -34,6 +35,15 @@ one_more turns count came piece before some within = omega (arith, before, some,
 -- so many turns have read so many bytes
 all_turns : (turns : ℕ) (came more : List ℕ) → turns ≤ length came → 18446744073709551615 ≤ turns → 2 ^ 64 - 1 ≤ length (came ++ more)
 all_turns turns came more read over = omega (arith, read, over, length-append came more)
+
+-- a fault of the text is no fault of the output
+not_written : (result : Result CallsFinding Refusal) (fault : RecordingFault) → IsErrAnd result (λ e. e ≡ refusal.Calls fault) → IfErr result (λ e. e ≢ refusal.App app.WriteFailed)
+not_written (Ok finding) fault is = tt
+not_written (Err e) fault is = λ written. cc
+
+of_any : (input : Option (List ℕ)) (P : List ℕ → Type 0) → ((bytes : List ℕ) → P bytes) → IfSome input P
+of_any None P holds = tt
+of_any (Some bytes) P holds = holds bytes
 
 pub loop-init : goal.loop-init
 loop-init g c = ([], Consumes-nil _, c.new-recording.ensures, search rules)
@@ -71,3 +81,13 @@ unfolding IsCallsCause
 returns-clause-refused g c =
     let came = c.loop.invariant.0 in
     of_front _ _ _ _ c.loop.invariant.1 (λ more. inr (inr (_, refl, all_turns _ came more c.loop.invariant.3 c.loop-test.false)))
+
+pub returns-in-Err-clause-refused : goal.returns-in-Err-clause-refused
+unfolding IsCallsCause
+returns-in-Err-clause-refused g c = of_any _ _ (λ bytes. inr (inl refl))
+
+pub returns-in_err-finding-clause-unwritten : goal.returns-in_err-finding-clause-unwritten
+returns-in_err-finding-clause-unwritten g c = not_written c.from_residual.result c.in_err-finding.field-0.0 c.from_residual.ensures.1
+
+pub returns-in_err-read-clause-unwritten : goal.returns-in_err-read-clause-unwritten
+returns-in_err-read-clause-unwritten g c = not_written c.from_residual-in_err-read.result c.in_err-read.field-0.0 c.from_residual-in_err-read.ensures.1

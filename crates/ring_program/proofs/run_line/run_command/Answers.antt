@@ -1,3 +1,6 @@
+use Rattle.std.proofs.Common.{codes}
+use Rattle.ring_program.proofs.CommandLemmas.{one_more}
+use Rattle.ring_program.specs.CommandLine.{flag_rule}
 use Rattle.ring_program.proofs.run_line.run_command.Goals as goal
 
 -- each option is one more
@@ -7,4 +10,4 @@ returns c =
     let batch = c.in_ok-command-3.ensures _ takes in
     let ring = c.in_ok-command-4.ensures _ batch in
     let report = c.in_ok-command-5.ensures _ ring in
-    c.in_ok-command-6.ensures _ report
+    one_more c.with_flag-2.result (flag_rule (codes "record")) c.in_ok-command-5.command _ report c.with_flag-2.ensures

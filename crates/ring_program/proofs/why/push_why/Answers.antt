@@ -1,5 +1,9 @@
+use Rattle.std.proofs.Common.{[], refl, string_bytes, subst, sym}
+use Rattle.std.proofs.lemmas.List.{append-nil}
 use Rattle.bits_core.specs.declared.audits.Kind.TheVariants.{WrongSide, OutOfTurn, NotPermitted, NotProgram}
-use Rattle.ring_program.proofs.WhyLemmas.{fault_of_kind, map_ok, not_following, why_there}
+use Rattle.bits_core.specs.declared.audits.Verdict.{Verdict}
+use Rattle.ring_program.specs.Why.{TellsWhy}
+use Rattle.ring_program.proofs.WhyLemmas.{fault_behind, fault_of_kind, fault_within, map_ok, not_following, why_there}
 use Rattle.ring_program.proofs.why.push_why.Goals as goal
 
 pub push_fault-requires-clause-lawful : goal.push_fault-requires-clause-lawful
@@ -79,3 +83,22 @@ returns-in-OutOfTurn-clause-err g c = c.push_fault-in-OutOfTurn.ensures.err
 
 pub returns-in-NotPermitted-clause-err : goal.returns-in-NotPermitted-clause-err
 returns-in-NotPermitted-clause-err g c = c.push_fault-in-NotPermitted.ensures.err
+
+pub bounds-events-place : goal.bounds-events-place
+bounds-events-place g c = fault_within c.args.shape.now c.args.events.now c.args.verdict c.in-Fault.place c.in-Fault.kind c.in-Fault.is c.requires.there
+
+pub slice_bounds-push_instead-end : goal.slice_bounds-push_instead-end
+slice_bounds-push_instead-end g c = fault_behind c.args.shape.now c.args.events.now c.args.verdict c.in-Fault.place c.in-Fault.kind c.in-Fault.is c.requires.there
+
+pub slice_bounds-push_fault-end : goal.slice_bounds-push_fault-end
+slice_bounds-push_fault-end g c = fault_behind c.args.shape.now c.args.events.now c.args.verdict c.in-Fault.place c.in-Fault.kind c.in-Fault.is c.requires.there
+
+pub slice_bounds-push_fault-end-in-OutOfTurn : goal.slice_bounds-push_fault-end-in-OutOfTurn
+slice_bounds-push_fault-end-in-OutOfTurn g c = fault_behind c.args.shape.now c.args.events.now c.args.verdict c.in-Fault.place c.in-Fault.kind c.in-Fault.is c.requires.there
+
+pub slice_bounds-push_fault-end-in-NotPermitted : goal.slice_bounds-push_fault-end-in-NotPermitted
+slice_bounds-push_fault-end-in-NotPermitted g c = fault_behind c.args.shape.now c.args.events.now c.args.verdict c.in-Fault.place c.in-Fault.kind c.in-Fault.is c.requires.there
+
+pub returns-in-Lawful-clause-told : goal.returns-in-Lawful-clause-told
+returns-in-Lawful-clause-told g c =
+    ([], sym (append-nil (string_bytes c.args.text.now)), subst (λ (v : Verdict). TellsWhy c.args.shape.now c.args.events.now v []) (sym c.in-Lawful.is) refl)

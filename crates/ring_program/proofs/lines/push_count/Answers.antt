@@ -1,0 +1,12 @@
+use Rattle.std.proofs.Common.{◌++◌, codes, string_bytes}
+use Rattle.ring_program.specs.Texts.{number_text}
+use Rattle.ring_program.proofs.TextLemmas.{behind}
+use Rattle.ring_program.proofs.lines.push_count.Goals as goal
+
+pub returns-clause-ok : goal.returns-clause-ok
+returns-clause-ok g c =
+    let named = string_bytes c.push_str.new.self in
+    let text = string_bytes c.push_str-2.new.self in
+    let number = number_text c.args.count in
+    behind (string_bytes c.args.text.now) named text c.args.word.now (number ++ codes "\n") c.in_ok-push_str.ensures.bytes
+    (behind named (string_bytes c.push_number.new.text) text number (codes "\n") c.in_ok-push_number.ensures.ok c.in_ok-push_str-2.ensures.bytes)
