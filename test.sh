@@ -1,7 +1,8 @@
 #!/bin/sh
-# The tests: the program, built by its proof where it is missing or old, on each example, what it prints and how it ends; the
-# launcher; and each #[test], with no proof of its own. ./gate has the whole: every proof from nothing, the tests' too, and the
-# wrong bodies. The last line is `N passed, M failed`.
+# The tests: the program on each example, what it prints and how it ends; the launcher, tools/install, the documents; and each #[test],
+# with no proof of its own. The program is the one that ./lamport_ring runs: the shipped one where it is of these sources. With --prove it
+# is first built here by its proof. What cannot be tried here, for want of the kit or of Python, is told and left out. ./gate has the
+# whole: every proof from nothing, the tests' too, and the wrong bodies. The last line is `N passed, M failed`.
 set -u
 name=test.sh
 started=$(date +%s)
@@ -23,8 +24,16 @@ trap 'exit 143' TERM
 trap 'exit 130' INT
 trap 'exit 129' HUP
 
+case "$*" in
+"" | --prove) ;;
+*)
+    say "./test.sh, or ./test.sh --prove"
+    exit 2
+    ;;
+esac
 passed=0
 failed=0
+missing=
 
 # count FILE: adds what the last line of the file counts; a part without such a line has failed.
 count() {
@@ -36,16 +45,16 @@ count() {
     failed=$((failed + $2))
 }
 
-# The tests need no proof. They run beside the last crates of the program's build, which leave processors idle, and after it in rank; in
-# a process group of their own, so that an end of this script ends them too.
-./lamport_ring --version &
+# lacks COMMAND WHAT: tells that this is left out where the command is not there; whether it is.
+lacks() {
+    ! command -v "$1" >/dev/null || return 1
+    missing="$missing
+left out, as there is no $1 on the PATH: $2"
+}
+
+./lamport_ring "${1:---which}" >"$room/built" &
 building=$!
 trying=$building
-# shellcheck disable=SC2016
-setsid nice -n 19 sh -c '
-    while kill -0 "$0" 2>/dev/null && [ ! -e crates/lamport_ring/out/rlib/ring_run.sum ]; do sleep 1; done
-    exec tests/unproved' "$building" >"$room/unproved" 2>&1 </dev/null &
-testing=$!
 
 # rank_tests: gives the tests the lowest rank. Linux may rank sessions, where `nice` counts within one alone, and each run of tests
 # begins one of its own.
@@ -57,33 +66,51 @@ rank_tests() {
             while read -r each; do echo 19 >"/proc/$each/autogroup"; done
     done
 } 2>/dev/null
-[ ! -w /proc/self/autogroup ] || rank_tests &
-ranking=$!
+
+# The tests need no proof. They run beside the last crates of a build, which leave processors idle, and after it in rank; in a process
+# group of their own, so that an end of this script ends them too.
+if ! lacks rt "each #[test]"; then
+    # shellcheck disable=SC2016
+    setsid nice -n 19 sh -c '
+        while kill -0 "$0" 2>/dev/null && [ ! -e crates/lamport_ring/out/rlib/ring_run.sum ]; do sleep 1; done
+        exec tests/unproved' "$building" >"$room/unproved" 2>&1 </dev/null &
+    testing=$!
+    [ ! -w /proc/self/autogroup ] || rank_tests &
+    ranking=$!
+fi
 
 # try PART..: tries the parts beside what follows.
+tried=
 try() {
     for part in "$@"; do
         "tests/$part" >"$room/$part" &
         trying="$trying $!"
+        tried="$tried $part"
     done
 }
 
 # These need no program.
-try launcher trust
+lacks python3 "tests of the launcher, the documents and docs/TRUST.md" || try launcher trust
 if wait "$building"; then
-    try examples docs
+    PROGRAM=$(./lamport_ring --which) || exit 1
+    export PROGRAM
+    say "the program: $PROGRAM"
+    try examples install
+    ! command -v python3 >/dev/null || try docs
 else
     failed=1
 fi
+[ "$#" -eq 0 ] || cat "$room/built"
 # shellcheck disable=SC2086
 wait $trying
 trying=
-for part in launcher trust examples docs; do
-    [ ! -e "$room/$part" ] || count "$room/$part"
-done
-say "the tests with no proof"
-wait "$testing"
-count "$room/unproved"
+for part in $tried; do count "$room/$part"; done
+if [ "$testing" ]; then
+    say "the tests with no proof"
+    wait "$testing"
+    count "$room/unproved"
+fi
 took
+[ ! "$missing" ] || echo "${missing#?}"
 echo "$passed passed, $failed failed"
 [ "$failed" -eq 0 ]

@@ -18,7 +18,7 @@ import tempfile
 import time
 
 TOP = os.path.dirname(os.path.dirname(os.path.abspath(__file__)))
-PROGRAM = f"{TOP}/crates/lamport_ring/out/lamport_ring"
+PROGRAM = subprocess.check_output([f"{TOP}/lamport_ring", "--which"], text=True).strip()
 AUDIT_BITS = [PROGRAM, "audit", "--bits"]
 AUDIT = [PROGRAM, "audit"]
 MEMORY = [f"{TOP}/crates/memory_bench/out/memory_bench"]

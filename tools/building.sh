@@ -26,14 +26,21 @@ crates_below() {
         END { walk(last) }' "$top/crates.txt"
 }
 
-# sources_sum CRATE..: a checksum of what these crates are built from.
+# sources_sum CRATE..: a SHA-256 of what these crates are built from, their files and their lines of crates.txt: the same on each machine.
 sources_sum() {
     (
         cd "$top" || exit
+        export LC_ALL=C
+        folders=
+        names=
         for crate in "$@"; do
-            grep "^$crate[: ]" crates.txt
-            find "crates/$crate/src" "crates/$crate/specs" "crates/$crate/proofs" -type f -exec cksum {} + 2>/dev/null
-        done | sort | cksum
+            names="$names|$crate"
+            for part in src specs proofs; do
+                [ ! -d "crates/$crate/$part" ] || folders="$folders crates/$crate/$part"
+            done
+        done
+        # shellcheck disable=SC2086
+        { grep -E "^(${names#|})[: ]" crates.txt; find $folders -type f -exec sha256sum {} +; } | sort | sha256sum | cut -d ' ' -f 1
     )
 }
 

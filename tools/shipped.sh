@@ -1,0 +1,29 @@
+# For the launcher, the tests and the gate: the program as shipped, dist/lamport_ring, and dist/BUILT, which says of which sources it was
+# built (`sources` and their sum), by which kit (`kit` and its line) and what its own SHA-256 is (`program`). The script that reads this
+# file has read tools/building.sh.
+
+shipped="$top/dist/lamport_ring"
+
+# built_of WORD: what dist/BUILT says behind the word.
+built_of() { sed -n "s/^$1 //p" "$top/dist/BUILT" 2>/dev/null; }
+
+# sha_of FILE
+sha_of() { sha256sum <"$1" | cut -d ' ' -f 1; }
+
+# is_of SUM: whether the shipped program says that it was built of the sources with this sum.
+is_of() { [ -e "$shipped" ] && [ "$(built_of sources)" = "$1" ]; }
+
+# is_whole: whether it has the bytes that dist/BUILT names.
+is_whole() { [ "$(built_of program)" = "$(sha_of "$shipped")" ]; }
+
+# runs_here: whether it runs on this machine; if not, it says why.
+runs_here() {
+    if ! [ -x "$shipped" ]; then
+        say "dist/lamport_ring may not be executed: chmod +x dist/lamport_ring"
+        return 1
+    fi
+    told=$("$shipped" --version 2>&1 >/dev/null) && return 0
+    say "dist/lamport_ring does not run here: it needs Linux on x86-64, as made since 2009, with glibc 2.34 or later (Debian 12, Ubuntu 22.04, RHEL 9)"
+    say "here is $(uname -s) on $(uname -m), with $(getconf GNU_LIBC_VERSION 2>/dev/null || echo "no glibc")${told:+; it said: $(echo "$told" | head -n 1)}"
+    return 1
+}
