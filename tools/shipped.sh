@@ -23,7 +23,7 @@ runs_here() {
         return 1
     fi
     told=$("$shipped" --version 2>&1 >/dev/null) && return 0
-    say "dist/lamport_ring does not run here: it needs Linux on x86-64, as made since 2009, with glibc 2.34 or later (Debian 12, Ubuntu 22.04, RHEL 9)"
-    say "here is $(uname -s) on $(uname -m), with $(getconf GNU_LIBC_VERSION 2>/dev/null || echo "no glibc")${told:+; it said: $(echo "$told" | head -n 1)}"
+    say "dist/lamport_ring does not run here: it needs Linux on x86-64 with glibc 2.34 or later, as Debian 12, Ubuntu 22.04 and RHEL 9 have"
+    say "here is $(uname -s) on $(uname -m) with $(getconf GNU_LIBC_VERSION 2>/dev/null || echo "no glibc")${told:+; it said: $(echo "$told" | head -n 1)}"
     return 1
 }
