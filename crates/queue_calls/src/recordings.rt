@@ -1,5 +1,5 @@
 //! The text of recorded calls, read in pieces, and what is found.
-ghost use Rattle.std.specs.Prelude.{◌≡◌, ◌+◌, List, [], ◌∷◌, ℕ, ◌++◌, IfErr, IfOk, OnOk, MatchOption, length, option_map};
+ghost use Rattle.std.specs.Prelude.{◌≡◌, ◌≢◌, ◌+◌, List, [], ◌∷◌, ℕ, ◌++◌, IfErr, IfOk, OnOk, MatchOption, length, option_map};
 ghost use Rattle.queue_calls.specs.Calls.{Event as AnEvent};
 ghost use Rattle.queue_calls.specs.Queue.{Capacity as ACapacity};
 ghost use Rattle.queue_calls.specs.Told.{meant, told};
@@ -307,6 +307,8 @@ impl<A: Allocator + Copy> RecordingIn<Memory<A>> {
 }
 
 impl<S: Storage> RecordingIn<S> {
+    ghost use Rattle.queue_calls.specs.declared.recordings.RecordingFault.TheVariants.{OutOfMemory};
+
     /// A recording of which nothing was read, with these lists to read it in. What they hold is taken away.
     pub fn within(lists: Lists<S>) -> RecordingIn<S>
         ensures { HasRead S.Items.items S.Bytes.items result [] }
@@ -364,10 +366,11 @@ impl<S: Storage> RecordingIn<S> {
         Ok(())
     }
 
-    /// What is found, where the text ends here: `BadLine` where its last line has not ended, or there is none.
+    /// What is found, where the text ends here: `BadLine` where its last line has not ended, or there is none. No memory is taken.
     pub fn finding(&self) -> Result<CallsFinding, RecordingFault>
         ensures found { IfOk result (λ finding. (bytes : List ℕ) → HasRead S.Items.items S.Bytes.items self.now bytes → IsFindingOf bytes finding) }
         ensures refused { IfErr result (λ e. (bytes : List ℕ) → HasRead S.Items.items S.Bytes.items self.now bytes → RefusesText e bytes) }
+        ensures takes_no_memory { IfErr result (λ e. e ≢ OutOfMemory) }
     {
         if self.lines.count > 0 && self.cut.is_empty() {
             return Ok(self.lines.hearing.finding());
