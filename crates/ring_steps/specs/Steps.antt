@@ -1,10 +1,11 @@
 -- What one step of a side over a memory comes to.
-use Rattle.std.specs.Prelude.{◌≡◌, Bool, false, if◌then◌else◌, Option, Some, None, [], ◌∷◌, ◌++◌}
+use Rattle.std.specs.Prelude.{◌≡◌, Bool, false, if◌then◌else◌, Option, Some, None, List, [], ◌∷◌, ◌++◌}
 use Rattle.bits_core.specs.declared.events.Side.{Side}
+use Rattle.bits_core.specs.declared.events.Event.{Event}
 use Rattle.bits_core.specs.declared.events.Access.{Access}
 use Rattle.bits_core.specs.declared.events.Access.TheVariants.{Read, Write}
 use Rattle.bits_core.specs.declared.shapes.Shape.{Shape}
-use Rattle.bits_core.specs.History.{open_access}
+use Rattle.bits_core.specs.History.{open_access, is_overlapped}
 use Rattle.bits_core.specs.Made.{answered, end_event, opening_event}
 use Rattle.bits_core.specs.Memory.{MemoryState, held_for_read, is_read_overlapped}
 use Rattle.bits_core.specs.Open.{IsOpenRight}
@@ -16,6 +17,16 @@ use Rattle.ring_steps.specs.declared.Step.TheVariants.{Nothing, Begin, End}
 abbrev pub IsAnswerOf : Side → MemoryState → Bool → Access → Bool → Type 0
 IsAnswerOf side m said (Read bit) v = v ≡ (if is_read_overlapped side m.events then said else held_for_read side m.events)
 IsAnswerOf side m said (Write bit value) v = v ≡ false
+
+-- whether the access, open of the side, is a read that a write overlapped so far
+abbrev pub is_open_overlapped : Side → List Event → Option Access → Bool
+is_open_overlapped side h None = false
+is_open_overlapped side h (Some (Read bit)) = is_overlapped side bit h
+is_open_overlapped side h (Some (Write bit value)) = false
+
+-- whether the side's next event asks the oracle: it ends a read that a write overlapped
+abbrev pub asks_oracle : Side → List Event → Bool
+asks_oracle side h = is_open_overlapped side h (open_access side h)
 
 -- whether an access is due that the side may make
 abbrev pub MayBegin : Shape → Side → Option Access → Type 0

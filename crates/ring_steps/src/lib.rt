@@ -5,8 +5,8 @@
 //! one likes. The crate `uses` has a whole put so.
 #![tactic(auto)]
 
-ghost use Rattle.std.specs.Prelude.{◌≡◌, IfOk, OnErr};
-ghost use Rattle.ring_steps.specs.Steps.{HasMadeStep};
+ghost use Rattle.std.specs.Prelude.{◌≡◌, ◌+◌, ◌≤◌, ℕ, true, false, if◌then◌else◌, length, IfOk, OnOk, OnErr};
+ghost use Rattle.ring_steps.specs.Steps.{HasMadeStep, asks_oracle};
 
 use bits_core::{Access, Event, Memory, MemoryFault, Oracle, Side, Store};
 
@@ -22,10 +22,10 @@ pub enum Step {
 }
 
 /// The side's next event: the end of the access that it has open, or the begin of the one that is due. An access that is due is
-/// begun only where it is of a bit of the memory's shape and by the side that may. The oracle is asked where a read ends that a
-/// write overlapped.
+/// begun only where it is of a bit of the memory's shape and by the side that may. The oracle is asked once where a read ends that
+/// a write overlapped, and else it is left alone.
 ///
-/// `OutOfMemory` leaves all as it was.
+/// `OutOfMemory`, only where the history has as many events as there is room for, leaves all as it was.
 pub fn next_event<S: Store<Event>, O: Oracle>(
     memory: &mut Memory<S>,
     side: Side,
@@ -34,7 +34,12 @@ pub fn next_event<S: Store<Event>, O: Oracle>(
 ) -> Result<Step, MemoryFault>
     ensures shape { memory.new.shape ≡ memory.old.shape }
     ensures step { IfOk result (HasMadeStep side due (O.answers oracle.old 0) memory.old memory.new) }
+    ensures asked { OnOk result (asks_oracle side memory.old.events ≡ true → (i : ℕ) → O.answers oracle.new i ≡ O.answers oracle.old (i + 1)) }
+    ensures not_asked { asks_oracle side memory.old.events ≡ false → oracle.new ≡ oracle.old }
+    ensures flickers { OnOk result (memory.new.flickers ≡ memory.old.flickers + (if asks_oracle side memory.old.events then 1 else 0)) }
+    ensures room { memory.new.room ≡ memory.old.room }
     ensures fault { OnErr result ((memory.new ≡ memory.old) × (oracle.new ≡ oracle.old)) }
+    ensures full { OnErr result (memory.old.room ≤ length memory.old.events) }
 {
     match memory.pending(side) {
         Some(Access::Read(_)) => return Ok(Step::End(memory.end_read(side, oracle)?)),
