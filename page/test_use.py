@@ -209,7 +209,7 @@ REASONS = [  # a text, and the reasons beside its two verdicts
     ("shape 1 3 1\nP write s0 0\nP wrote s0\nP write s0 1\nP wrote s0\nC read s0\nC got s0 0\n",
      "s0 holds 1 since line 5, and no write overlaps the read of line 6: it has to answer 1", ""),
     ("shape 1 3 1\nP write s0 0\nP wrote s1\n", "P's write of s0 in line 2 is open: its end was to come", ""),
-    ("shape 1 3 1\nC read s0\nP read r1\n", "", "in line 3 was due: P write x 1, or read r0"),
+    ("shape 1 3 1\nC read s0\nP read r1\n", "", "in line 3 was due: P read r0, or write x 1"),
     ("shape 1 3 1\nP read r0\nP got r0 1\nP read r0\n", "", "in line 4 was due: P write c0.0 0 or 1"),
     ("shape 1 3 1\nP read r0\nC got s0 1\n", "C has no access open that this could end", ""),
     ("shape 1 3 1\nP read r0\nP got r0 1\nP got r0 1\n", "P has no access open that this could end", ""),

@@ -9,17 +9,20 @@ use Rattle.bits_core.specs.declared.events.Bit.TheVariants.{S, R, X, Cell}
 use Rattle.bits_core.specs.declared.events.Act.{Act}
 use Rattle.bits_core.specs.declared.events.Act.TheVariants.{ReadBegin, ReadEnd, WriteBegin, WriteEnd}
 use Rattle.bits_core.specs.declared.events.Access.{Access}
+use Rattle.bits_core.specs.declared.events.Access.TheVariants as begins
 use Rattle.bits_core.specs.declared.events.Event.{Event}
 use Rattle.bits_core.specs.declared.shapes.Shape.{Shape}
 use Rattle.bits_core.specs.Bits.{begun_by}
 use Rattle.bits_core.specs.Made.{opening_event}
+use Rattle.register_core.specs.Row.{row_bit}
+use Rattle.register_core.specs.UnaryState.{UnaryState, due_unary, due_writes, first_access}
 use Rattle.ring_core.specs.Puts.{put_program}
 use Rattle.ring_core.specs.Takes.{take_program}
 use Rattle.ring_audit.specs.Sides.{EndsSo, AreOfPuts, AreOfTakes}
 use Rattle.ring_audit.specs.PutReading.{PutReading, PutsStand}
 use Rattle.ring_audit.specs.TakeReading.{TakeReading, TakesStand}
 use Rattle.ring_audit.specs.Reading.{BothFollow}
-use Rattle.ring_audit.specs.Dues.{GoesOnBehind, IsDueOf, IsNoneOf}
+use Rattle.ring_audit.specs.Dues.{GoesOnBehind, IsDueOf, IsNoneOf, act_rank, ComesBefore, ComeInOrder, AreInOrder}
 use Rattle.ring_audit.specs.declared.choices.Dues.{Dues}
 use Rattle.ring_audit.proofs.Beginnings.{begins_so}
 use Rattle.ring_audit.proofs.Breaks.{begins_take}
@@ -196,6 +199,53 @@ all_told shape h s candidates told first second third all e = (of_told, back)
             ]
           ]
         ]
+
+-- ---- in which order they stand
+
+-- what was among events in their order stands so too
+pub kept_in_order :
+    (among told : Dues) → ((e : Event) → told.first ≡ Some e → among.first ≡ Some e) → ((e : Event) → told.second ≡ Some e → among.second ≡ Some e) →
+    ((e : Event) → told.third ≡ Some e → among.third ≡ Some e) → AreInOrder among → AreInOrder told
+kept_in_order among told first second third order =
+    (λ e f is is'. order.0 e f (first e is) (second f is'), λ e f is is'. order.1 e f (first e is) (third f is'), λ e f is is'. order.2 e f (second e is) (third f is'))
+
+pub in_order : (e f : Event) (one other : Option Event) → one ≡ Some e → other ≡ Some f → ComesBefore e f → ComeInOrder one other
+in_order e f one other is is' before e' f' told told' =
+    let same : e ≡ e' = cc in
+    let same' : f ≡ f' = cc in
+    subst (λ z. ComesBefore e' z) same' (subst (λ z. ComesBefore z f) same before)
+
+-- two events that stand in their order, and no third
+pub two_in_order : (e f : Event) (dues : Dues) → dues.first ≡ Some e → dues.second ≡ Some f → dues.third ≡ None → ComesBefore e f → AreInOrder dues
+two_in_order e f dues one other none before = (
+  in_order e f dues.first dues.second one other before,
+  λ e' f' is is'. (let clash : None ≡ Some f' = sym none ∙ is' in absurd (cc)),
+  λ e' f' is is'. (let clash : None ≡ Some f' = sym none ∙ is' in absurd (cc)),
+)
+
+-- a word's digits come before the count
+pub digits_in_order :
+    (b : Bit) (j i : ℕ) (dues : Dues) → b ≡ Cell j i → dues.first ≡ Some (opening_event P (begins.Write b false)) → dues.second ≡ Some (opening_event P (begins.Write b true)) →
+    ((e : Event) → dues.third ≡ Some e → act_rank e.bit e.act ≡ 2) → AreInOrder dues
+digits_in_order b j i dues cell zero one count =
+    let zero_rank : act_rank b (WriteBegin false) ≡ 0 = ap (λ z. act_rank z (WriteBegin false)) cell in
+    let one_rank : act_rank b (WriteBegin true) ≡ 1 = ap (λ z. act_rank z (WriteBegin true)) cell in (
+      in_order _ _ dues.first dues.second zero one (omega (arith, zero_rank, one_rank)),
+      λ e f is is'. in_order (opening_event P (begins.Write b false)) f dues.first dues.third zero is' (omega (arith, zero_rank, count f is')) e f is is',
+      λ e f is is'. in_order (opening_event P (begins.Write b true)) f dues.second dues.third one is' (omega (arith, one_rank, count f is')) e f is is',
+    )
+
+-- the write of a count's bit comes behind them
+pub counts_last : (row : UnaryState) (due : Option Access) (told : Option Event) → row.side ≡ P → due ≡ due_unary row → ((a : Access) → due ≡ Some a → told ≡ Some (opening_event P a)) →
+    (due ≡ None → told ≡ None) → (e : Event) → told ≡ Some e → act_rank e.bit e.act ≡ 2
+counts_last row due told side is opens none e told_is =
+    elim (due_writes row) as (λ ws. due ≡ first_access (row_bit row.side) ws → act_rank e.bit e.act ≡ 2) [
+      | [] ↦ λ no_due. (let clash : Some e ≡ None = sym told_is ∙ none no_due in absurd (cc))
+      | x ∷ ws ↦ λ a_due.
+          (let opened : told ≡ Some (opening_event P (begins.Write (row_bit row.side x.bit) x.value)) = opens (begins.Write (row_bit row.side x.bit) x.value) a_due in
+          let same : opening_event P (begins.Write (row_bit row.side x.bit) x.value) ≡ e = cc in
+          subst (λ (z : Event). act_rank z.bit z.act ≡ 2) same (ap (λ s. act_rank (row_bit s x.bit) (WriteBegin x.value)) side))
+    ] is
 
 -- ---- what the reader of puts has inside
 

@@ -1,11 +1,13 @@
 //! The few events of one side of which the next one has to be one.
-ghost use Rattle.std.specs.Prelude.{◌≡◌, ◌≢◌, Bool, Some};
+ghost use Rattle.std.specs.Prelude.{◌≡◌, ◌≢◌, ℕ, Bool, None, Some};
 ghost use Rattle.bits_core.specs.declared.events.Side.TheVariants.{P};
 ghost use Rattle.bits_core.specs.declared.events.Bit.{Bit as ABit};
+ghost use Rattle.bits_core.specs.declared.events.Bit.TheVariants.{Cell};
 ghost use Rattle.bits_core.specs.declared.events.Event.{Event as AnEvent};
 ghost use Rattle.bits_core.specs.declared.events.Access.{Access as AnAccess};
 ghost use Rattle.bits_core.specs.declared.events.Access.TheVariants as begins;
 ghost use Rattle.bits_core.specs.Made.{opening_event};
+ghost use Rattle.ring_audit.specs.Dues.{AreInOrder, act_rank};
 ghost use Rattle.ring_audit.specs.Sides.{EndsSo};
 
 use bits_core::{Access, Act, Event, Side};
@@ -22,7 +24,8 @@ pub struct Dues {
 
 // The event with which the side begins the access.
 pub fn opening(side: Side, access: Option<Access>) -> Option<Event>
-    ensures { (a : AnAccess) → access ≡ Some a → result ≡ Some (opening_event side a) }
+    ensures some { (a : AnAccess) → access ≡ Some a → result ≡ Some (opening_event side a) }
+    ensures none { access ≡ None → result ≡ None }
 {
     match access {
         Some(access) => Some(access.opening(side)),
@@ -32,7 +35,8 @@ pub fn opening(side: Side, access: Option<Access>) -> Option<Event>
 
 // The events with which the side may end the access.
 pub fn ends(side: Side, access: Access) -> Dues
-    ensures { (e : AnEvent) (v : Bool) → e.side ≡ side → EndsSo access e v → result.first ≢ Some e → result.second ≢ Some e → ⊥ }
+    ensures only { (e : AnEvent) (v : Bool) → e.side ≡ side → EndsSo access e v → result.first ≢ Some e → result.second ≢ Some e → ⊥ }
+    ensures order { AreInOrder result }
 {
     match access {
         Access::Read(bit) => Dues {
@@ -64,6 +68,7 @@ pub fn ends(side: Side, access: Access) -> Dues
 pub fn writes(read: Option<Access>, other: Option<Event>) -> Dues
     ensures writes { (b : ABit) (v : Bool) → read ≡ Some (begins.Read b) → result.first ≢ Some (opening_event P (begins.Write b v)) → result.second ≢ Some (opening_event P (begins.Write b v)) → ⊥ }
     ensures other { result.third ≡ other }
+    ensures order { ((b : ABit) → read ≡ Some (begins.Read b) → (j : ℕ) × (i : ℕ) × (b ≡ Cell j i)) → ((e : AnEvent) → other ≡ Some e → act_rank e.bit e.act ≡ 2) → AreInOrder result }
 {
     match read {
         Some(access) => match access {
@@ -80,7 +85,8 @@ pub fn writes(read: Option<Access>, other: Option<Event>) -> Dues
 
 // One event, if there is one.
 pub fn only(event: Option<Event>) -> Dues
-    ensures { result.third ≡ event }
+    ensures third { result.third ≡ event }
+    ensures order { AreInOrder result }
 {
     Dues {
         first: None,

@@ -2,7 +2,7 @@
 ghost use Rattle.std.specs.Prelude.{◌≡◌, ◌↔◌, ◌++◌, ◌∷◌, [], List, Some, IsTrue, IfSome, MatchOption, true, false};
 ghost use Rattle.bits_core.specs.declared.events.Event.{Event as AnEvent};
 ghost use Rattle.ring_audit.specs.Reading.{BothFollow};
-ghost use Rattle.ring_audit.specs.Dues.{BothStand, GoesOnBehind, IsDueOf, IsNoneOf};
+ghost use Rattle.ring_audit.specs.Dues.{AreInOrder, BothStand, GoesOnBehind, IsDueOf, IsNoneOf};
 
 use crate::choices::{Dues, only};
 use crate::puts::{PutReader, PutStep};
@@ -65,7 +65,8 @@ impl Followers {
     // The events of the side of which the next one has to be one.
     fn candidates(&mut self, side: Side) -> Dues
         requires { self.old.takes.consumer.shape ≡ self.old.puts.shape }
-        ensures { (h : List AnEvent) (e : AnEvent) → BothStand self.old.puts.shape self.old.puts self.old.takes h → e.side ≡ side → IsNoneOf result e → ¬ GoesOnBehind self.old.puts.shape h e }
+        ensures only { (h : List AnEvent) (e : AnEvent) → BothStand self.old.puts.shape self.old.puts self.old.takes h → e.side ≡ side → IsNoneOf result e → ¬ GoesOnBehind self.old.puts.shape h e }
+        ensures order { AreInOrder result }
     {
         own_changes();
         match side {
@@ -121,7 +122,8 @@ fn kept(shape: &Shape, events: &[Event], side: Side, event: Option<Event>) -> Op
 
 // Events of which each is one that is of the side and goes on with the programs behind these.
 fn candidates(shape: &Shape, events: &[Event], side: Side) -> Dues
-    ensures { (e : AnEvent) → e.side ≡ side → IsNoneOf result e → ¬ GoesOnBehind shape.now events.now e }
+    ensures only { (e : AnEvent) → e.side ≡ side → IsNoneOf result e → ¬ GoesOnBehind shape.now events.now e }
+    ensures order { AreInOrder result }
 {
     match read_all(shape, events) {
         None => only(None),
@@ -130,8 +132,9 @@ fn candidates(shape: &Shape, events: &[Event], side: Side) -> Dues
 }
 
 /// The events of the side that go on with the programs behind these: each event of it with which both sides still
-/// follow their programs is told, and no other. There are at most three; where these events are not of the
-/// programs, or the side has made its last call, there is none.
+/// follow their programs is told once, and no other. There are at most three; where these events are not of the
+/// programs, or the side has made its last call, there is none. They stand in one order: a read's answer 0, and 1; the begin of
+/// a scan, and of the close; the write of a digit 0, of 1, and of the count.
 ///
 /// Said of the programs alone: whether the bits permit the answer of a read is the audit's to say. Where an audit
 /// tells `NotProgram` at a place, the events before that place are to be passed. It goes over them at most four
@@ -140,7 +143,8 @@ fn candidates(shape: &Shape, events: &[Event], side: Side) -> Dues
 /// For example, behind no event they are `P read r0`, the begin of a put, and `P write x 1`, that of the close. In
 /// use: `lamport_ring audit --why`.
 pub fn due_behind(shape: &Shape, events: &[Event], side: Side) -> Dues
-    ensures { (e : AnEvent) → IsDueOf result e ↔ ((e.side ≡ side) × GoesOnBehind shape.now events.now e) }
+    ensures due { (e : AnEvent) → IsDueOf result e ↔ ((e.side ≡ side) × GoesOnBehind shape.now events.now e) }
+    ensures order { AreInOrder result }
 {
     let some = candidates(shape, events, side);
     Dues {

@@ -8,7 +8,7 @@ ghost use Rattle.bits_core.specs.Shape.{modulus_of, batch_of};
 ghost use Rattle.ring_core.specs.Counts.{LeavesRoom, LeavesRoomFor};
 ghost use Rattle.bits_core.specs.declared.events.Access.{Access as AnAccess};
 ghost use Rattle.ring_audit.specs.Sides.{AreOfPuts};
-ghost use Rattle.ring_audit.specs.Dues.{IsNoneOf};
+ghost use Rattle.ring_audit.specs.Dues.{AreInOrder, IsNoneOf};
 ghost use Rattle.ring_audit.specs.PutReading.{PutsStand, HasReadPut, WerePut};
 
 use crate::choices::{Dues, ends, only, opening, writes};
@@ -358,7 +358,8 @@ impl PutReader {
 
     /// The events of which the next one of any puts has to be one. Nothing else is said of the reader then.
     pub fn candidates(&mut self) -> Dues
-        ensures { (es : List AnEvent) (items stored : List ℕ) (e : AnEvent) → PutsStand self.old.shape self.old es items stored → e.side ≡ P → IsNoneOf result e → ¬ AreOfPuts self.old.shape (es ++ e ∷ []) }
+        ensures only { (es : List AnEvent) (items stored : List ℕ) (e : AnEvent) → PutsStand self.old.shape self.old es items stored → e.side ≡ P → IsNoneOf result e → ¬ AreOfPuts self.old.shape (es ++ e ∷ []) }
+        ensures order { AreInOrder result }
     {
         match self.open_access {
             Some(access) => ends(Side::P, access),
@@ -369,14 +370,15 @@ impl PutReader {
     // While no access is open: the begins of which the next one has to be one.
     fn openings(&mut self) -> Dues
         requires { self.old.open_access ≡ None }
-        ensures { (es : List AnEvent) (items stored : List ℕ) (access : AnAccess) → PutsStand self.old.shape self.old es items stored → IsNoneOf result (opening_event P access) → ¬ AreOfPuts self.old.shape (es ++ opening_event P access ∷ []) }
+        ensures only { (es : List AnEvent) (items stored : List ℕ) (access : AnAccess) → PutsStand self.old.shape self.old es items stored → IsNoneOf result (opening_event P access) → ¬ AreOfPuts self.old.shape (es ++ opening_event P access ∷ []) }
+        ensures order { AreInOrder result }
     {
         puts_go_on();
         calls_are_first();
         match self.stage {
             Stage::Resting => Dues {
-                first: opening(Side::P, Some(Access::Write(Bit::X, true))),
-                second: opening(Side::P, Some(Access::Read(Bit::R(0)))),
+                first: opening(Side::P, Some(Access::Read(Bit::R(0)))),
+                second: opening(Side::P, Some(Access::Write(Bit::X, true))),
                 third: None,
             },
             Stage::Scanning => only(opening(Side::P, self.scan.next())),
@@ -392,7 +394,8 @@ impl PutReader {
     fn word_or_count(&mut self) -> Dues
         requires none { self.old.open_access ≡ None }
         requires stage { self.old.stage ≡ Choosing }
-        ensures { (es : List AnEvent) (items stored : List ℕ) (access : AnAccess) → PutsStand self.old.shape self.old es items stored → IsNoneOf result (opening_event P access) → ¬ AreOfPuts self.old.shape (es ++ opening_event P access ∷ []) }
+        ensures only { (es : List AnEvent) (items stored : List ℕ) (access : AnAccess) → PutsStand self.old.shape self.old es items stored → IsNoneOf result (opening_event P access) → ¬ AreOfPuts self.old.shape (es ++ opening_event P access ∷ []) }
+        ensures order { AreInOrder result }
     {
         puts_go_on();
         let word = WordReader::new(&self.shape, self.cell).next();

@@ -6,7 +6,7 @@ ghost use Rattle.bits_core.specs.declared.events.Access.{Access as AnAccess};
 ghost use Rattle.bits_core.specs.Made.{answered, end_event, opening_event};
 ghost use Rattle.ring_core.specs.ConsumerState.{due_take};
 ghost use Rattle.ring_audit.specs.Sides.{AreOfTakes};
-ghost use Rattle.ring_audit.specs.Dues.{IsNoneOf};
+ghost use Rattle.ring_audit.specs.Dues.{AreInOrder, IsNoneOf};
 ghost use Rattle.ring_audit.specs.TakeReading.{TakesStand, HasReadTake, WereTaken, step_by, tells_closed};
 
 use crate::choices::{Dues, ends, only, opening};
@@ -136,7 +136,8 @@ impl TakeReader {
 
     /// The events of which the next one of any takes has to be one. Nothing else is said of the reader then.
     pub fn candidates(&mut self) -> Dues
-        ensures { (es : List AnEvent) (items : List ℕ) (e : AnEvent) → TakesStand self.old.consumer.shape self.old es items → e.side ≡ C → IsNoneOf result e → ¬ AreOfTakes self.old.consumer.shape (es ++ e ∷ []) }
+        ensures only { (es : List AnEvent) (items : List ℕ) (e : AnEvent) → TakesStand self.old.consumer.shape self.old es items → e.side ≡ C → IsNoneOf result e → ¬ AreOfTakes self.old.consumer.shape (es ++ e ∷ []) }
+        ensures order { AreInOrder result }
     {
         match self.open_access {
             Some(access) => ends(Side::C, access),

@@ -9,7 +9,7 @@ use Rattle.bits_core.specs.declared.events.Event.{Event}
 use Rattle.bits_core.specs.declared.events.Side.TheVariants.{P, C}
 use Rattle.bits_core.specs.declared.shapes.Shape.{Shape}
 use Rattle.ring_audit.specs.Audit.{HasTooFewSlots, IsFinding, statement_in}
-use Rattle.ring_audit.specs.Dues.{GoesOnBehind, IsDueOf}
+use Rattle.ring_audit.specs.Dues.{AreInOrder, GoesOnBehind, IsDueOf}
 use Rattle.ring_audit.specs.declared.audits.Found.{Found}
 use Rattle.ring_audit.specs.declared.audits.Found.TheVariants.{Lawful, Fault}
 use Rattle.ring_audit.specs.declared.choices.Dues.{Dues}
@@ -88,13 +88,13 @@ abbrev pub none_due : Dues
 none_due = record { first = None; second = None; third = None }
 
 -- Where an event is not of its side's program, these were due of its side: each that goes on with the programs behind the events before
--- it, and no other. None is told of a fault of the bits.
+-- it, and no other, in their order. None is told of a fault of the bits.
 abbrev pub WereDue : Kind → Shape → List Event → ℕ → Dues → Type 0
 WereDue WrongSide shape h place dues = dues ≡ none_due
 WereDue OutOfTurn shape h place dues = dues ≡ none_due
 WereDue NotPermitted shape h place dues = dues ≡ none_due
 WereDue NotProgram shape h place dues =
-    (e : Event) → slice_get h place ≡ Some e → (due : Event) → IsDueOf dues due ↔ ((due.side ≡ e.side) × GoesOnBehind shape (take place h) due)
+    AreInOrder dues × ((e : Event) → slice_get h place ≡ Some e → (due : Event) → IsDueOf dues due ↔ ((due.side ≡ e.side) × GoesOnBehind shape (take place h) due))
 
 -- what was found, as numbers
 abbrev pub TellsFound : Shape → List Event → Found → Judged → Type 0

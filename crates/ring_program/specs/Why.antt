@@ -17,7 +17,7 @@ use Rattle.bits_core.specs.declared.reasons.Reason.TheVariants.{NotInShape, Only
 use Rattle.bits_core.specs.declared.shapes.Shape.{Shape}
 use Rattle.ring_audit.specs.Audit.{Statement}
 use Rattle.ring_audit.specs.Audit as audit
-use Rattle.ring_audit.specs.Dues.{GoesOnBehind, IsDueOf}
+use Rattle.ring_audit.specs.Dues.{AreInOrder, GoesOnBehind, IsDueOf}
 use Rattle.ring_audit.specs.declared.choices.Dues.{Dues}
 
 -- the verdict that is in a finding
@@ -74,9 +74,9 @@ reason_line side (Held value since begun) = held_line value since begun
 
 -- ---- what they say
 
--- these events of the side go on with the programs, and no other
+-- these events of the side go on with the programs, and no other, in their order
 abbrev pub AreDues : Shape → List Event → Side → Dues → Type 0
-AreDues shape past side dues = (e : Event) → IsDueOf dues e ↔ ((e.side ≡ side) × GoesOnBehind shape past e)
+AreDues shape past side dues = ((e : Event) → IsDueOf dues e ↔ ((e.side ≡ side) × GoesOnBehind shape past e)) × AreInOrder dues
 
 -- why the event may not follow these
 abbrev pub TellsReason : Shape → List Event → Event → List ℕ → Type 0

@@ -28,7 +28,7 @@ static DUES: [(&str, u8, &str); 5] = [
     (
         "shape 1 3 1\nP write s1 1\n",
         3,
-        "fault: line 2: not of the program\ndue: P write x 1\ndue: P read r0\n",
+        "fault: line 2: not of the program\ndue: P read r0\ndue: P write x 1\n",
     ),
     // behind its close the producer makes no call
     (

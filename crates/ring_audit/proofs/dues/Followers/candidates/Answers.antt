@@ -6,13 +6,13 @@ use Rattle.ring_audit.specs.TakeReading.{TakesStand}
 use Rattle.ring_audit.proofs.Readings.{own_more}
 use Rattle.ring_audit.proofs.dues.Followers.candidates.Goals as goal
 
-pub returns-in-P : goal.returns-in-P
-returns-in-P c h e st by none (of_puts, of_takes) =
+pub returns-in-P-clause-only : goal.returns-in-P-clause-only
+returns-in-P-clause-only c h e st by none (of_puts, of_takes) =
     let r = c.args.self.now in
-    c.candidates.ensures (own P h) st.stands.items st.stands.stored e st.stands.puts_stand (by ∙ c.in-P.is) none (subst (AreOfPuts r.puts.shape) (own_more c.own_changes.ensures P P h e (by ∙ c.in-P.is)) of_puts)
+    c.candidates.ensures.only (own P h) st.stands.items st.stands.stored e st.stands.puts_stand (by ∙ c.in-P.is) none (subst (AreOfPuts r.puts.shape) (own_more c.own_changes.ensures P P h e (by ∙ c.in-P.is)) of_puts)
 
-pub returns-in-C : goal.returns-in-C
-returns-in-C c h e st by none (of_puts, of_takes) =
+pub returns-in-C-clause-only : goal.returns-in-C-clause-only
+returns-in-C-clause-only c h e st by none (of_puts, of_takes) =
     let r = c.args.self.now in
     let stands : TakesStand r.takes.consumer.shape r.takes (own C h) st.taken = subst (λ s. TakesStand s r.takes (own C h) st.taken) (sym c.requires) st.stands.takes_stand in
-    c.candidates-in-C.ensures (own C h) st.taken e stands (by ∙ c.in-C.is) none (subst (λ s. AreOfTakes s (own C h ++ e ∷ [])) (sym c.requires) (subst (AreOfTakes r.puts.shape) (own_more c.own_changes.ensures C C h e (by ∙ c.in-C.is)) of_takes))
+    c.candidates-in-C.ensures.only (own C h) st.taken e stands (by ∙ c.in-C.is) none (subst (λ s. AreOfTakes s (own C h ++ e ∷ [])) (sym c.requires) (subst (AreOfTakes r.puts.shape) (own_more c.own_changes.ensures C C h e (by ∙ c.in-C.is)) of_takes))

@@ -3,13 +3,13 @@ use Rattle.ring_audit.specs.TakeReading.{TakeReading}
 use Rattle.ring_audit.proofs.DueLemmas.{take_open, take_rest}
 use Rattle.ring_audit.proofs.takes.TakeReader.candidates.Goals as goal
 
-pub returns-in-Some : goal.returns-in-Some
-returns-in-Some c es items e st by none =
+pub returns-in-Some-clause-only : goal.returns-in-Some-clause-only
+returns-in-Some-clause-only c es items e st by none =
     let now : TakeReading = c.args.self.now in
-    take_open now.consumer.shape now es items c.in-Some.access e st (sym (ap (λ (z : TakeReading). z.open_access) c.self.view_is) ∙ c.in-Some.is) by (λ v is. c.ends.ensures e v by is none.0 none.1)
+    take_open now.consumer.shape now es items c.in-Some.access e st (sym (ap (λ (z : TakeReading). z.open_access) c.self.view_is) ∙ c.in-Some.is) by (λ v is. c.ends.ensures.only e v by is none.0 none.1)
 
-pub returns-in-None : goal.returns-in-None
-returns-in-None c es items e st by none =
+pub returns-in-None-clause-only : goal.returns-in-None-clause-only
+returns-in-None-clause-only c es items e st by none =
     let now : TakeReading = c.args.self.now in
     take_rest now.consumer.shape now es items e st (sym (ap (λ (z : TakeReading). z.open_access) c.self.view_is) ∙ c.in-None.is) by
-    (λ a is. c.due.ensures.only es items a st (λ same. none.2 (c.only.ensures ∙ c.opening.ensures a same ∙ ap Some (sym is))))
+    (λ a is. c.due.ensures.only es items a st (λ same. none.2 (c.only.ensures.third ∙ c.opening.ensures.some a same ∙ ap Some (sym is))))
