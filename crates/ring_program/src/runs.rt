@@ -20,7 +20,7 @@ use crate::run_line::{RingKind, Run, RunText};
 use bits_core::{Flip, Shape};
 use queue_calls::Word;
 use ring_run::{
-    Gate, Limits, Outcome, Recorder, RunFault, Slot, YieldGate, relay_counter, relay_flicker,
+    Gate, Limits, Outcome, Recorder, RestGate, RunFault, Slot, relay_counter, relay_flicker,
 };
 use std::alloc::Allocator;
 use std::io;
@@ -242,7 +242,7 @@ fn relay_through<R: Threads, A: Allocator + Copy, G: Gate + Sync>(
     }
 }
 
-// The same, with the calls recorded where that was asked for.
+// The same, with the calls recorded where that was asked for, and else with rests where a side has to wait.
 fn relay_run<R: Threads, A: Allocator + Copy>(
     rt: &R,
     alloc: A,
@@ -259,7 +259,8 @@ fn relay_run<R: Threads, A: Allocator + Copy>(
 {
     match run.text {
         RunText::Totals | RunText::Report => {
-            relay_through(rt, alloc, run.ring, shape, items, run.limits, &YieldGate)
+            let gate = RestGate::for_ring(&shape);
+            relay_through(rt, alloc, run.ring, shape, items, run.limits, &gate)
         }
         RunText::Recording => {
             relay_through(rt, alloc, run.ring, shape, items, run.limits, recorder)

@@ -8,7 +8,7 @@ pub mod laws;
 mod recorders;
 mod relays;
 
-pub use gates::{FreeGate, Gate, YieldGate};
+pub use gates::{FreeGate, Gate, RestGate, YieldGate};
 pub use recorders::{RecordedLines, Recorder, Slot};
 pub use relays::{Limits, Outcome, relay, relay_counter, relay_flicker};
 pub use ring_ends::{

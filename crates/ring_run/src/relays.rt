@@ -66,6 +66,7 @@ fn put_in_order<E: PutEnd, G: Gate>(
     let mut put = 0;
     let mut made = 0;
     let mut full = 0;
+    let mut waits = 0;
     'puts: while put < items.len() && made < limit {
         gate.pass(Side::P, made);
         let next = put + next_batch(&shape, items.len() - put);
@@ -73,8 +74,15 @@ fn put_in_order<E: PutEnd, G: Gate>(
         let reply = putter.put_all(&items[put..next]);
         gate.put_ended(&items[put..next], reply);
         match reply {
-            BatchReply::Stored(stored) => put += stored as usize,
-            BatchReply::Full => full += 1,
+            BatchReply::Stored(stored) => {
+                put += stored as usize;
+                waits = 0;
+            }
+            BatchReply::Full => {
+                full += 1;
+                waits += 1;
+                gate.wait(Side::P, waits);
+            }
             BatchReply::Closed => unreachable!(),
         }
         made += 1;
@@ -107,14 +115,22 @@ fn take_all<A: Allocator, E: TakeEnd, G: Gate>(
     takes_are_read();
     let mut empty = 0;
     let mut closed = false;
+    let mut waits = 0;
     'takes: while !closed && items.len() as u64 + empty < limit {
         gate.pass(Side::C, items.len() as u64 + empty);
         gate.take_begins();
         let reply = taker.take();
         gate.take_ended(reply);
         match reply {
-            TakeReply::Item(item) => items.push(item)?,
-            TakeReply::Empty => empty += 1,
+            TakeReply::Item(item) => {
+                items.push(item)?;
+                waits = 0;
+            }
+            TakeReply::Empty => {
+                empty += 1;
+                waits += 1;
+                gate.wait(Side::C, waits);
+            }
             TakeReply::Closed => closed = true,
         }
     }
@@ -195,7 +211,8 @@ fn relay_into<R: Threads, A: Allocator, E: PutEnd + Send, F: TakeEnd + Send, G: 
 /// shape's batch has, goes on behind those that were stored, and closes behind the last; so a put that found the ring
 /// full is made again. The other side takes until it is told that the ring is closed. Neither makes more puts or takes
 /// than its limit (the close is not counted), and each passes the gate before each of them, with the number that it has
-/// made. The gate is told where each put, each take and the close begins and where it ends, by the thread that makes it.
+/// made. The gate is told where each put, each take and the close begins and where it ends, by the thread that makes it; and
+/// behind each put that found the ring full, and each take that found it empty, how many have in a row.
 ///
 /// The ends have made no call yet, and every item has to fit the width. It takes memory for the items that are taken:
 /// before any call it makes room for as many as there are items, or takes by the limit where these are fewer.

@@ -12,7 +12,7 @@ use Rattle.ring_run.proofs.relays.put_in_order.Goals as goal
 pub puts-init : goal.puts-init
 puts-init g c =
     let e = g.E.PutEnd.end c.args.putter.now in
-    (c.requires.idle, record { ring = refl; side = refl; known = refl }, no_puts_are e.ring.shape e.list c.args.items.now c.requires.fresh, omega arith, omega arith, refl, refl, c.shape-shape.ensures.shape)
+    (c.requires.idle, record { ring = refl; side = refl; known = refl }, no_puts_are e.ring.shape e.list c.args.items.now c.requires.fresh, omega arith, omega arith, refl, refl, c.shape-shape.ensures.shape, omega arith)
 
 pub put_all-reply-requires-clause-batch : goal.put_all-reply-requires-clause-batch
 put_all-reply-requires-clause-batch g c =
@@ -51,4 +51,5 @@ puts-preserved g c =
       refl,
       refl,
       i.7 ∙ sym (ap (λ (x : Ring). x.shape) s.same.ring),
+      elim c.match-reply.branch [ in-Stored w ↦ omega (arith, w.waits-is) | in-Full w ↦ omega (arith, i.8, w.full-is, w.waits-is) ],
     )

@@ -6,7 +6,7 @@ use Rattle.ring_run.proofs.relays.put_in_order.Given as goal
 abbrev pub invariant-puts : goal.invariant-puts
 invariant-puts g l =
     g.E.PutEnd.idle l.putter × IsSameEnd (g.E.PutEnd.end l.initial.putter) (g.E.PutEnd.end l.putter) ×
-    PutsAre (g.E.PutEnd.end l.putter).ring.shape (g.E.PutEnd.end l.putter).list l.items l.put l.made l.full false × (l.made ≤ l.limit) × (l.full ≤ l.made) × (l.items ≡ l.initial.items) × (l.limit ≡ l.initial.limit) × (l.shape ≡ (g.E.PutEnd.end l.putter).ring.shape)
+    PutsAre (g.E.PutEnd.end l.putter).ring.shape (g.E.PutEnd.end l.putter).list l.items l.put l.made l.full false × (l.made ≤ l.limit) × (l.full ≤ l.made) × (l.items ≡ l.initial.items) × (l.limit ≡ l.initial.limit) × (l.shape ≡ (g.E.PutEnd.end l.putter).ring.shape) × (l.waits ≤ l.full)
 
 abbrev pub decreases-puts : goal.decreases-puts
 decreases-puts g l = l.limit - l.made

@@ -14,10 +14,11 @@ takes-init g c =
       omega (arith, ap length c.requires.none),
       refl,
       omega arith,
+      omega arith,
     )
 
-pub takes-preserved-in-Continue-1 : goal.takes-preserved-in-Continue-1
-takes-preserved-in-Continue-1 g c =
+pub takes-preserved-in-Item : goal.takes-preserved-in-Item
+takes-preserved-in-Item g c =
     let a = g.E.TakeEnd.end c.takes.taker in
     let b = g.E.TakeEnd.end c.take-reply.new.self in
     let i = c.takes.invariant in
@@ -32,6 +33,7 @@ takes-preserved-in-Continue-1 g c =
       subst (λ (t : Bool). length c.push.new.self.items + c.takes.empty + (if t then 1 else 0) ≤ c.args.limit) (sym yet) (omega (arith, ap length list, length-append c.takes.items.items (c.in-Item.item ∷ []), c.if-len-empty.true, c.len.ensures)),
       refl,
       omega (arith, i.5, c.push.ensures.capacity),
+      omega arith,
     )
 
 pub takes-preserved-in-Empty : goal.takes-preserved-in-Empty
@@ -50,6 +52,7 @@ takes-preserved-in-Empty g c =
       subst (λ (t : Bool). length c.takes.items.items + (c.takes.empty + 1) + (if t then 1 else 0) ≤ c.args.limit) (sym yet) (omega (arith, c.if-len-empty.true, c.len.ensures)),
       refl,
       i.5,
+      omega (arith, i.6),
     )
 
 pub takes-preserved : goal.takes-preserved
@@ -67,6 +70,7 @@ takes-preserved g c =
       omega (arith, c.if-len-empty.true, c.len.ensures),
       refl,
       i.5,
+      i.6,
     )
 
 pub returns-in_err-push-in-Item-clause-fault : goal.returns-in_err-push-in-Item-clause-fault
