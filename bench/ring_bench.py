@@ -1,76 +1,86 @@
 #!/usr/bin/env python3
-"""Time an item of the running ring: python3 bench/ring_bench.py, from any folder, on a machine that does nothing else.
+"""Time an item of the running rings: python3 bench/ring_bench.py, from any folder, on a machine that does nothing else.
 
-For some shapes and each of three rings it prints how long an item takes from the one thread to the other, in nanoseconds:
-the wall clock of the process that moves many items less that of the process that moves one, by their number. So what a
-process takes to begin and to end is left out. It is told as the difference of the median times of some runs, and of the
-shortest. The program's command `run` and a twin in plain Rust (ring_twin.rs, built with rustc -O) have their runs turn by
-turn; the ratio is that of the medians, since now and then a run is twice as fast where both threads share a core. Where
-the program is not built, or has no `run`, or not this ring, the twin stands alone.
+For nine shapes it prints how many nanoseconds an item takes from the one thread to the other, as `run --report` tells, beside a
+twin in plain Rust (ring_twin.rs, built with rustc -O) that does the same, and beside a usual ring. Their runs are in turn, and told
+are the medians, with the first and the third quarter; the ratio is that of the medians. Each of the two threads has a core: the
+last two of those that the bench is permitted. `taskset -c 2 python3 bench/ring_bench.py` has both threads on that one.
 """
 import os
+import re
 import statistics
 import subprocess
+import sys
 import tempfile
 
-from bench import PROGRAM, build_twin, seconds
+from bench import PROGRAM, TOP, build_twin
 
-RUNS = 15
-COUNT = 500_000
-SHAPES = [(1, 3, 1), (8, 10, 16), (64, 256, 64)]
-# The rings of the twin, and the words by which `run` runs the same algorithm, where it does.
-RINGS = [("flicker", []), ("counter", ["--ring", "counter"]), ("usual", None)]
-
-
-def has_run():
-    if not os.path.exists(PROGRAM):
-        return False
-    return subprocess.run([PROGRAM, "run", "--help"], capture_output=True).returncode == 0
-
-
-def program_seconds(words, shape, count):
-    numbers = zip(["capacity", "modulus", "width", "count", "limit"], [*shape, count, 2**64 - 1])
-    options = [word for name, number in numbers for word in (f"--{name}", str(number))]
-    return seconds([PROGRAM, "run", *options, *words], "", f"put {count}\ntaken {count}\nclosed yes\n".encode())
+RUNS = 21
+COUNT = 200_000
+# Rings, with capacity, modulus, width and batch.
+SHAPES = [
+    ("flicker", (1, 3, 1, 1)),
+    ("flicker", (8, 10, 16, 1)),
+    ("flicker", (64, 256, 64, 1)),
+    ("counter", (1, 3, 1, 1)),
+    ("counter", (8, 10, 16, 1)),
+    ("counter", (64, 256, 64, 1)),
+    ("counter", (8, 17, 16, 8)),
+    ("counter", (64, 256, 64, 16)),
+    ("counter", (64, 256, 64, 64)),
+]
 
 
-def twin_seconds(twin, name, shape, count):
-    return seconds([twin, name, *map(str, [*shape, count])], "", None)
+def build_apart(folder, core):
+    """Builds what puts the second thread of a process on this core, and gives what a process is to have in its environment."""
+    apart = f"{folder}/apart.so"
+    subprocess.run(["rustc", "-O", "--edition", "2024", "--crate-type", "cdylib", "-o", apart, f"{TOP}/bench/apart.rs"], check=True)
+    return {"LD_PRELOAD": apart, "CORE": str(core)}
 
 
-def nanoseconds(runs):
-    """What an item takes, median and shortest, by the times of runs with many items and with one."""
-    many, one = runs[COUNT], runs[1]
-    return [(take(many) - take(one)) / (COUNT - 1) * 1e9 for take in (statistics.median, min)]
+def commands(twin, ring, shape):
+    """The program, its twin and the usual ring, on a ring of this shape."""
+    options = [f"--{name}={number}" for name, number in zip(["capacity", "modulus", "width", "batch"], shape)]
+    numbers = [*map(str, shape), str(COUNT)]
+    run = [PROGRAM, "run", "--report", f"--ring={ring}", *options, f"--count={COUNT}", f"--limit={2**64 - 1}"]
+    return run, [twin, ring, *numbers], [twin, "usual", *numbers]
 
 
-def rings(twin):
+def nanoseconds(command, env):
+    """Runs the command once, and gives the nanoseconds an item."""
+    done = subprocess.run(command, env=env, stdin=subprocess.DEVNULL, stdout=subprocess.PIPE, text=True, check=False)
+    pace = re.search(r"^items a second (\d+)$", done.stdout, re.M)
+    if done.returncode != 0 or not pace or not done.stdout.startswith(f"put {COUNT}\ntaken {COUNT}\nclosed yes\n"):
+        sys.exit(f"{command} ended with {done.returncode} and printed {done.stdout!r}")
+    return 1e9 / int(pace[1])
+
+
+def told(times):
+    first, median, third = statistics.quantiles(times, n=4)
+    return f"{median:.0f} ({first:.0f} to {third:.0f})"
+
+
+def rings(twin, env):
     """The table of rings."""
-    ours = has_run()
-    print("| Ring | Capacity, modulus, width | `run`, ns an item | Shortest | Twin, ns an item | Shortest | Ratio |")
-    print("|---|---|---|---|---|---|---|")
-    for shape in SHAPES:
-        for name, words in RINGS:
-            runs = {"run": {COUNT: [], 1: []}, "twin": {COUNT: [], 1: []}}
-            for _ in range(RUNS):
-                for count in [COUNT, 1]:
-                    if ours and words is not None:
-                        runs["run"][count].append(program_seconds(words, shape, count))
-                    runs["twin"][count].append(twin_seconds(twin, name, shape, count))
-            median, shortest = nanoseconds(runs["twin"])
-            left, ratio = "| |", ""
-            if runs["run"][1]:
-                our_median, our_shortest = nanoseconds(runs["run"])
-                left, ratio = f"{our_median:.0f} | {our_shortest:.0f} |", f"{our_median / median:.2f}"
-            print(f"| {name} | {', '.join(map(str, shape))} | {left} {median:.0f} | {shortest:.0f} | {ratio} |", flush=True)
+    print("| Ring | Capacity, modulus, width, batch | `run` | Twin | Ratio | Usual ring |")
+    print("|---|---|---|---|---|---|")
+    for ring, shape in SHAPES:
+        each = commands(twin, ring, shape)
+        rounds = [[nanoseconds(command, env) for command in each] for _ in range(RUNS)]
+        run, same, usual = zip(*rounds)
+        ratio = statistics.median(run) / statistics.median(same)
+        print(f"| {ring} | {', '.join(map(str, shape))} | {told(run)} | {told(same)} | {ratio:.2f} | {told(usual)} |", flush=True)
 
 
 def main():
+    cores = sorted(os.sched_getaffinity(0))[-2:]
     with tempfile.TemporaryDirectory() as folder:
         twin = build_twin("ring_twin", folder)
-        print(f"{os.cpu_count()} cores, {RUNS} runs of each, {COUNT:,} items")
+        env = build_apart(folder, cores[-1])
+        os.sched_setaffinity(0, cores[:1])
+        print(f"nanoseconds an item, {'two cores' if len(cores) == 2 else 'one core'}, {RUNS} runs of each, {COUNT:,} items")
         print()
-        rings(twin)
+        rings(twin, env)
 
 
 if __name__ == "__main__":

@@ -1,14 +1,18 @@
-// Rings for one producer and one consumer in plain Rust, over two threads, which ring_bench.py measures against:
+// Rings for one producer and one consumer in plain Rust, over two threads, which ring_bench.py measures `lamport_ring run` against:
 //
-//   ring_twin flicker B M W N   a word for each safe bit: the ring of safe bits as its programs say
-//   ring_twin counter B M W N   a word for each count and for each cell, with counts modulo M
-//   ring_twin usual B M W N     head and tail by acquire and release; B a power of two, M of no use
+//   ring_twin flicker B M W G N   a word for each safe bit: the ring of safe bits as its programs say
+//   ring_twin counter B M W G N   a word for each count and for each cell, with counts modulo M
+//   ring_twin usual B M W G N     head and tail by acquire and release, each kept by the other side as it was last seen; B a power of
+//                                 two, M of no use
 //
-// Each moves the items i mod 2^W, i from 0 to N-1, through B cells, checks that each arrives in its turn, and prints its
-// name and the nanoseconds that an item took.
+// Each does what `run` does. It moves the list of the items i mod 2^W, i from 0 to N-1, through B cells into another list, in puts of G
+// items at most; the producer closes behind the last, and the consumer takes until it is told so. Each side yields its processor at
+// each 256th call, and rests where it has to wait, as by the gate of `run`. The words of the first two lie as those of the rings of
+// `run`. What was taken is compared with what was put, and the text is that of `run --report`.
+use std::hint::spin_loop;
 use std::process::exit;
+use std::sync::atomic::AtomicU64;
 use std::sync::atomic::Ordering::{Acquire, Relaxed, Release, SeqCst};
-use std::sync::atomic::{AtomicU64, AtomicUsize};
 use std::thread;
 use std::time::Instant;
 
@@ -17,24 +21,12 @@ struct Shape {
     capacity: usize,
     modulus: usize,
     width: usize,
+    batch: usize,
 }
 
 impl Shape {
-    // The item of this number.
     fn item(&self, number: u64) -> u64 {
         number & (u64::MAX >> (64 - self.width))
-    }
-
-    fn cell(&self, number: u64) -> usize {
-        number as usize % self.capacity
-    }
-
-    fn next_count(&self, count: usize) -> usize {
-        if count + 1 == self.modulus {
-            0
-        } else {
-            count + 1
-        }
     }
 
     // How far a is ahead of b.
@@ -42,8 +34,11 @@ impl Shape {
         if a >= b { a - b } else { a + self.modulus - b }
     }
 
-    fn has_room(&self, put: usize, taken: usize) -> bool {
-        self.distance(put, taken) < self.capacity
+    // How many of so many items there is room for.
+    fn fitting(&self, put: usize, taken: usize, offered: usize) -> usize {
+        self.capacity
+            .saturating_sub(self.distance(put, taken))
+            .min(offered)
     }
 
     fn has_item(&self, put: usize, taken: usize) -> bool {
@@ -51,46 +46,167 @@ impl Shape {
     }
 }
 
-// Runs the two sides at once, and gives the nanoseconds.
-fn race(producer: impl FnOnce() + Send, consumer: impl FnOnce()) -> u128 {
-    let start = Instant::now();
-    thread::scope(|scope| {
-        scope.spawn(producer);
-        consumer();
-    });
-    start.elapsed().as_nanos()
-}
-
-fn expect(wanted: u64, taken: u64) {
-    if taken != wanted {
-        eprintln!("ring_twin: {taken} was taken, not {wanted}");
-        exit(1)
-    }
+// So many more, and from 0 on again behind the last.
+fn past_in(n: usize, more: usize, size: usize) -> usize {
+    let sum = n + more;
+    if sum < size { sum } else { sum - size }
 }
 
 fn words(length: usize) -> Vec<AtomicU64> {
     (0..length).map(|_| AtomicU64::new(0)).collect()
 }
 
-// The bits of a ring, a word for each: 0 or 1, or 2 while a write is under way.
+// The end of a producer.
+trait PutEnd: Send {
+    // Stores the first of these items, as many as there is room for, and tells how many: 0 where the ring is full.
+    fn put(&mut self, items: &[u64]) -> usize;
+
+    fn close(&mut self);
+}
+
+enum Taken {
+    Item(u64),
+    Empty,
+    Closed,
+}
+
+// The end of a consumer.
+trait TakeEnd {
+    fn take(&mut self) -> Taken;
+}
+
+// How many calls a side makes between two that yield.
+const TURN: u64 = 256;
+
+// What a side passes before each of its calls.
+fn pass(count: u64) {
+    if count % TURN == TURN - 1 {
+        thread::yield_now();
+    }
+}
+
+// How a side waits: so many hints are a rest, it rests so often in a row, and then yields. It has had to so many times in a row.
+struct Waiting {
+    hints: usize,
+    rests: u64,
+    times: u64,
+}
+
+impl Waiting {
+    fn new(shape: Shape) -> Self {
+        Waiting {
+            hints: 4 * shape.capacity,
+            rests: (16 / shape.capacity as u64).max(1),
+            times: 0,
+        }
+    }
+
+    fn wait(&mut self) {
+        self.times += 1;
+        if self.times > self.rests {
+            thread::yield_now();
+        } else {
+            for _ in 0..self.hints {
+                spin_loop();
+            }
+        }
+    }
+}
+
+// Puts the items in order and closes behind the last. Tells how many puts were made, and how many found the ring full.
+fn put_all(mut end: impl PutEnd, shape: Shape, items: &[u64]) -> (u64, u64) {
+    let mut waiting = Waiting::new(shape);
+    let (mut put, mut calls, mut full) = (0, 0, 0);
+    while put < items.len() {
+        pass(calls);
+        let stored = end.put(&items[put..items.len().min(put + shape.batch)]);
+        calls += 1;
+        put += stored;
+        if stored == 0 {
+            full += 1;
+            waiting.wait();
+        } else {
+            waiting.times = 0;
+        }
+    }
+    end.close();
+    (calls, full)
+}
+
+// Takes until the ring is closed. Tells how many takes found it empty.
+fn take_all(mut end: impl TakeEnd, shape: Shape, items: &mut Vec<u64>) -> u64 {
+    let mut waiting = Waiting::new(shape);
+    let mut empty = 0;
+    loop {
+        pass(items.len() as u64 + empty);
+        match end.take() {
+            Taken::Item(item) => {
+                items.push(item);
+                waiting.times = 0;
+            }
+            Taken::Empty => {
+                empty += 1;
+                waiting.wait();
+            }
+            Taken::Closed => return empty,
+        }
+    }
+}
+
+// Moves the items from the one end to the other, and tells what came of it, from this moment on.
+fn relay(start: Instant, putter: impl PutEnd, taker: impl TakeEnd, shape: Shape, items: &[u64]) {
+    let mut taken = Vec::with_capacity(items.len());
+    let ((calls, full), empty) = thread::scope(|scope| {
+        let puts = scope.spawn(|| put_all(putter, shape, items));
+        let empty = take_all(taker, shape, &mut taken);
+        (puts.join().expect("a producer that ends"), empty)
+    });
+    let nanoseconds = start.elapsed().as_nanos();
+    if taken != items {
+        eprintln!("ring_twin: the items taken are not those put");
+        exit(1)
+    }
+    let pace = taken.len() as u128 * 1_000_000_000 / nanoseconds;
+    println!("put {}\ntaken {}\nclosed yes", items.len(), taken.len());
+    println!("calls {calls}\nfull {full}\nempty {empty}\nitems a second {pace}");
+}
+
+// The words of a ring of safe bits: 0 or 1, or 2 while a write is under way. So many lie between the close bit, the two counts and
+// the cells.
+const APART: usize = 16;
+
 struct SafeBits {
-    s: Vec<AtomicU64>,
-    r: Vec<AtomicU64>,
-    x: AtomicU64,
-    cells: Vec<AtomicU64>,
+    words: Vec<AtomicU64>,
+    s: usize,
+    r: usize,
+    cells: usize,
+    width: usize,
 }
 
 impl SafeBits {
     fn new(shape: Shape) -> Self {
-        let bits = SafeBits {
-            s: words(shape.modulus),
-            r: words(shape.modulus),
-            x: AtomicU64::new(0),
-            cells: words(shape.capacity * shape.width),
-        };
-        bits.s[0].store(1, SeqCst);
-        bits.r[0].store(1, SeqCst);
-        bits
+        let s = 1 + APART;
+        let r = s + shape.modulus + APART;
+        let cells = r + shape.modulus + APART;
+        let words = words(cells + shape.capacity * (shape.width + APART));
+        words[s].store(1, SeqCst);
+        words[r].store(1, SeqCst);
+        SafeBits {
+            words,
+            s,
+            r,
+            cells,
+            width: shape.width,
+        }
+    }
+
+    fn close(&self) -> &AtomicU64 {
+        &self.words[0]
+    }
+
+    fn cell(&self, cell: usize) -> &[AtomicU64] {
+        let first = self.cells + cell * (self.width + APART);
+        &self.words[first..first + self.width]
     }
 }
 
@@ -158,114 +274,273 @@ impl<'a> Row<'a> {
     }
 }
 
-fn put_flickering(shape: Shape, bits: &SafeBits, count: u64) {
-    let mut reader = Reader { flip: 0 };
-    let mut row = Row::new(&bits.s);
-    let mut put = 0;
-    for number in 0..count {
-        while !shape.has_room(put, reader.scan(&bits.r)) {}
-        let item = shape.item(number);
-        let cell = shape.cell(number) * shape.width;
-        for digit in 0..shape.width {
-            write_bit(&bits.cells[cell + digit], item >> digit & 1);
-        }
-        put = shape.next_count(put);
-        row.write(put);
-    }
-    write_bit(&bits.x, 1);
+// An end of a ring of safe bits: its own count, the bits of the other one, and what it remembers.
+struct FlickerEnd<'a> {
+    shape: Shape,
+    bits: &'a SafeBits,
+    row: Row<'a>,
+    other: &'a [AtomicU64],
+    reader: Reader,
+    count: usize,
+    cell: usize,
 }
 
-// Takes until the ring is told to be closed, and gives how many were taken.
-fn take_flickering(shape: Shape, bits: &SafeBits) -> u64 {
-    let mut reader = Reader { flip: 0 };
-    let mut row = Row::new(&bits.r);
-    let mut taken = 0;
-    for number in 0.. {
-        while !shape.has_item(reader.scan(&bits.s), taken) {
+impl<'a> FlickerEnd<'a> {
+    fn new(shape: Shape, bits: &'a SafeBits, own: usize, other: usize) -> Self {
+        FlickerEnd {
+            shape,
+            bits,
+            row: Row::new(&bits.words[own..own + shape.modulus]),
+            other: &bits.words[other..other + shape.modulus],
+            reader: Reader { flip: 0 },
+            count: 0,
+            cell: 0,
+        }
+    }
+
+    fn go_on(&mut self, by: usize) {
+        self.count = past_in(self.count, by, self.shape.modulus);
+        self.row.write(self.count);
+        self.cell = past_in(self.cell, by, self.shape.capacity);
+    }
+
+    fn sees_item(&mut self) -> bool {
+        let seen = self.reader.scan(self.other);
+        self.shape.has_item(seen, self.count)
+    }
+}
+
+impl PutEnd for FlickerEnd<'_> {
+    fn put(&mut self, items: &[u64]) -> usize {
+        let seen = self.reader.scan(self.other);
+        let most = self.shape.fitting(self.count, seen, items.len());
+        if most == 0 {
+            return 0;
+        }
+        let mut cell = self.cell;
+        for item in &items[..most] {
+            for (digit, bit) in self.bits.cell(cell).iter().enumerate() {
+                write_bit(bit, item >> digit & 1);
+            }
+            cell = past_in(cell, 1, self.shape.capacity);
+        }
+        self.go_on(most);
+        most
+    }
+
+    fn close(&mut self) {
+        write_bit(self.bits.close(), 1);
+    }
+}
+
+impl TakeEnd for FlickerEnd<'_> {
+    fn take(&mut self) -> Taken {
+        if !self.sees_item() {
+            if self.reader.read(self.bits.close()) == 0 {
+                return Taken::Empty;
+            }
             // behind a close a second scan tells whether an item came before it
-            if reader.read(&bits.x) == 1 {
-                if shape.has_item(reader.scan(&bits.s), taken) {
-                    break;
-                }
-                return number;
+            if !self.sees_item() {
+                return Taken::Closed;
             }
         }
-        let cell = shape.cell(number) * shape.width;
         let mut item = 0;
-        for digit in 0..shape.width {
-            item |= reader.read(&bits.cells[cell + digit]) << digit;
+        for (digit, bit) in self.bits.cell(self.cell).iter().enumerate() {
+            item |= self.reader.read(bit) << digit;
         }
-        expect(shape.item(number), item);
-        taken = shape.next_count(taken);
-        row.write(taken);
+        self.go_on(1);
+        Taken::Item(item)
     }
-    unreachable!()
 }
 
-fn flicker(shape: Shape, count: u64) -> u128 {
+fn flicker(shape: Shape, items: &[u64]) {
+    let start = Instant::now();
     let bits = SafeBits::new(shape);
-    race(
-        || put_flickering(shape, &bits, count),
-        || expect(count, take_flickering(shape, &bits)),
-    )
+    let putter = FlickerEnd::new(shape, &bits, bits.s, bits.r);
+    let taker = FlickerEnd::new(shape, &bits, bits.r, bits.s);
+    relay(start, putter, taker, shape, items)
 }
 
-fn counter(shape: Shape, count: u64) -> u128 {
-    let (s, r) = (AtomicUsize::new(0), AtomicUsize::new(0));
-    let x = AtomicU64::new(0);
-    let cells = words(shape.capacity);
-    let producer = || {
-        let mut put = 0;
-        for number in 0..count {
-            while !shape.has_room(put, r.load(SeqCst)) {}
-            cells[shape.cell(number)].store(shape.item(number), SeqCst);
-            put = shape.next_count(put);
-            s.store(put, SeqCst);
+// The places of the words of a counter ring.
+const CLOSE: usize = 0;
+const S: usize = 1;
+const R: usize = 2;
+const CELLS: usize = 3;
+
+// An end of a counter ring, with the places of its own count and of the other one.
+struct CounterEnd<'a> {
+    shape: Shape,
+    words: &'a [AtomicU64],
+    own: usize,
+    other: usize,
+    count: usize,
+    cell: usize,
+}
+
+impl<'a> CounterEnd<'a> {
+    fn new(shape: Shape, words: &'a [AtomicU64], own: usize, other: usize) -> Self {
+        CounterEnd {
+            shape,
+            words,
+            own,
+            other,
+            count: 0,
+            cell: 0,
         }
-        x.store(1, SeqCst);
-    };
-    let consumer = || {
-        let mut taken = 0;
-        for number in 0.. {
-            while !shape.has_item(s.load(SeqCst), taken) {
-                if x.load(SeqCst) == 1 {
-                    if shape.has_item(s.load(SeqCst), taken) {
-                        break;
-                    }
-                    return expect(count, number);
-                }
+    }
+
+    fn scan(&self) -> usize {
+        self.words[self.other].load(SeqCst) as usize
+    }
+
+    fn sees_item(&self) -> bool {
+        self.shape.has_item(self.scan(), self.count)
+    }
+
+    fn go_on(&mut self, by: usize) {
+        self.count = past_in(self.count, by, self.shape.modulus);
+        self.words[self.own].store(self.count as u64, SeqCst);
+        self.cell = past_in(self.cell, by, self.shape.capacity);
+    }
+}
+
+impl PutEnd for CounterEnd<'_> {
+    fn put(&mut self, items: &[u64]) -> usize {
+        let most = self.shape.fitting(self.count, self.scan(), items.len());
+        if most == 0 {
+            return 0;
+        }
+        let mut cell = self.cell;
+        for item in &items[..most] {
+            self.words[CELLS + cell].store(*item, SeqCst);
+            cell = past_in(cell, 1, self.shape.capacity);
+        }
+        self.go_on(most);
+        most
+    }
+
+    fn close(&mut self) {
+        self.words[CLOSE].store(1, SeqCst);
+    }
+}
+
+impl TakeEnd for CounterEnd<'_> {
+    fn take(&mut self) -> Taken {
+        if !self.sees_item() {
+            if self.words[CLOSE].load(SeqCst) == 0 {
+                return Taken::Empty;
             }
-            expect(shape.item(number), cells[shape.cell(number)].load(SeqCst));
-            taken = shape.next_count(taken);
-            r.store(taken, SeqCst);
+            // behind a close a second scan tells whether an item came before it
+            if !self.sees_item() {
+                return Taken::Closed;
+            }
         }
-    };
-    race(producer, consumer)
+        let item = self.words[CELLS + self.cell].load(SeqCst);
+        self.go_on(1);
+        Taken::Item(item)
+    }
 }
 
-fn usual(shape: Shape, count: u64) -> u128 {
+fn counter(shape: Shape, items: &[u64]) {
+    let start = Instant::now();
+    let words = words(CELLS + shape.capacity);
+    let putter = CounterEnd::new(shape, &words, S, R);
+    let taker = CounterEnd::new(shape, &words, R, S);
+    relay(start, putter, taker, shape, items)
+}
+
+// A word with cache lines of its own.
+#[repr(align(128))]
+struct Alone(AtomicU64);
+
+// The words of a usual ring: head and tail grow without end.
+struct Usual {
+    head: Alone,
+    tail: Alone,
+    closed: Alone,
+    cells: Vec<AtomicU64>,
+}
+
+impl Usual {
+    fn cell(&self, number: u64) -> &AtomicU64 {
+        &self.cells[number as usize & (self.cells.len() - 1)]
+    }
+}
+
+// An end of a usual ring: its own index, and the other one as it was last seen.
+struct UsualEnd<'a> {
+    ring: &'a Usual,
+    own: u64,
+    seen: u64,
+}
+
+impl UsualEnd<'_> {
+    fn room(&self) -> usize {
+        self.ring.cells.len() - (self.own - self.seen) as usize
+    }
+
+    fn sees_item(&mut self) -> bool {
+        if self.seen == self.own {
+            self.seen = self.ring.tail.0.load(Acquire);
+        }
+        self.seen != self.own
+    }
+}
+
+impl PutEnd for UsualEnd<'_> {
+    fn put(&mut self, items: &[u64]) -> usize {
+        if self.room() < items.len() {
+            self.seen = self.ring.head.0.load(Acquire);
+        }
+        let most = self.room().min(items.len());
+        if most == 0 {
+            return 0;
+        }
+        for (number, item) in (self.own..).zip(&items[..most]) {
+            self.ring.cell(number).store(*item, Relaxed);
+        }
+        self.own += most as u64;
+        self.ring.tail.0.store(self.own, Release);
+        most
+    }
+
+    fn close(&mut self) {
+        self.ring.closed.0.store(1, Release);
+    }
+}
+
+impl TakeEnd for UsualEnd<'_> {
+    fn take(&mut self) -> Taken {
+        if !self.sees_item() {
+            if self.ring.closed.0.load(Acquire) == 0 {
+                return Taken::Empty;
+            }
+            if !self.sees_item() {
+                return Taken::Closed;
+            }
+        }
+        let item = self.ring.cell(self.own).load(Relaxed);
+        self.own += 1;
+        self.ring.head.0.store(self.own, Release);
+        Taken::Item(item)
+    }
+}
+
+fn usual(shape: Shape, items: &[u64]) {
     assert!(shape.capacity.is_power_of_two());
-    let (head, tail) = (AtomicUsize::new(0), AtomicUsize::new(0));
-    let cells = words(shape.capacity);
-    let mask = shape.capacity - 1;
-    let producer = || {
-        for number in 0..count as usize {
-            while number - head.load(Acquire) == shape.capacity {}
-            cells[number & mask].store(shape.item(number as u64), Relaxed);
-            tail.store(number + 1, Release);
-        }
+    let start = Instant::now();
+    let ring = Usual {
+        head: Alone(AtomicU64::new(0)),
+        tail: Alone(AtomicU64::new(0)),
+        closed: Alone(AtomicU64::new(0)),
+        cells: words(shape.capacity),
     };
-    let consumer = || {
-        for number in 0..count as usize {
-            while tail.load(Acquire) == number {}
-            expect(
-                shape.item(number as u64),
-                cells[number & mask].load(Relaxed),
-            );
-            head.store(number + 1, Release);
-        }
+    let end = || UsualEnd {
+        ring: &ring,
+        own: 0,
+        seen: 0,
     };
-    race(producer, consumer)
+    relay(start, end(), end(), shape, items)
 }
 
 fn main() {
@@ -275,24 +550,25 @@ fn main() {
         .skip(1)
         .map_while(|word| word.parse().ok())
         .collect();
-    let (Some(name), &[capacity, modulus, width, count]) = (words.first(), &numbers[..]) else {
-        eprintln!("usage: ring_twin flicker|counter|usual CAPACITY MODULUS WIDTH COUNT");
+    let (Some(name), &[capacity, modulus, width, batch, count]) = (words.first(), &numbers[..])
+    else {
+        eprintln!("usage: ring_twin flicker|counter|usual CAPACITY MODULUS WIDTH BATCH COUNT");
         exit(2)
     };
     let shape = Shape {
         capacity,
         modulus,
         width,
+        batch,
     };
-    let count = count as u64;
-    let nanoseconds = match name.as_str() {
-        "flicker" => flicker(shape, count),
-        "counter" => counter(shape, count),
-        "usual" => usual(shape, count),
+    let items: Vec<u64> = (0..count as u64).map(|number| shape.item(number)).collect();
+    match name.as_str() {
+        "flicker" => flicker(shape, &items),
+        "counter" => counter(shape, &items),
+        "usual" => usual(shape, &items),
         _ => {
             eprintln!("ring_twin: no ring is named {name}");
             exit(2)
         }
-    };
-    println!("{name} {:.1}", nanoseconds as f64 / count as f64);
+    }
 }
