@@ -1,5 +1,5 @@
 -- Which put an access to a cell belongs to, and where the accesses of a put's word stand.
-use Rattle.std.proofs.Common.{◌≡◌, inl, inr, ℕ, zero, suc, ◌+◌, ◌-◌, ◌*◌, ◌%◌, ◌<◌, ◌≤◌, Bool, true, cond, nat_eq, Some, List, [], ◌∷◌, ◌++◌, length, refl, sym, ap, subst, ◌∙◌, arith, append_assoc, append-nil, length-append}
+use Rattle.std.proofs.Common.{◌≡◌, inl, inr, ℕ, zero, suc, ◌+◌, ◌-◌, ◌*◌, ◌%◌, ◌<◌, ◌≤◌, Bool, true, cond, nat_eq, Some, List, [], ◌∷◌, ◌++◌, length, refl, sym, ap, subst, ◌∙◌, arith, append_assoc, length-append}
 use Rattle.std.specs.Prelude.{slice_get}
 use Rattle.std.proofs.lemmas.Bool.Decides.{nat_tests}
 use Rattle.std.proofs.lemmas.List.{map-append}
@@ -17,9 +17,9 @@ use Rattle.register_core.specs.ScanState.{scan_phrase, row_read_by}
 use Rattle.ring_core.specs.Counts.{Count}
 use Rattle.ring_core.specs.Puts.{words_phrase}
 use Rattle.ring_core.proofs.Spans.{Outcome, Passes, Stops, Asks, Span, counts, items_of, whole, IsSpanAt}
-use Rattle.ring_core.proofs.LookSpans.{Look, word_part, count_part, after_look, look_accesses, span_of, spans}
+use Rattle.ring_core.proofs.LookSpans.{Look, words_read, word_part, count_part, after_look, look_accesses, span_of, spans}
 use Rattle.ring_core.proofs.Phrases.{length-digit_writes, at_or_below}
-use Rattle.ring_core.proofs.Lengths.{length-word_write, length-words}
+use Rattle.ring_core.proofs.Lengths.{length-word_write, length-word_read, length-words}
 use Rattle.ring_core.proofs.CellTimes.{to_cell, to_cell-append, to_cell-there, where_in, none_there, none_to_cell, no_cells-scan, no_cells-count, own_cell, look_to_cell, word_to_cell, length-word_writes, stored_to, items_here, cell_items}
 use Rattle.ring_core.proofs.Looks.{after_counts, length-words_read}
 use Rattle.ring_core.proofs.Cuts.{at_most_or_above}
@@ -479,37 +479,87 @@ pub record ReadTime (shape : Shape) (all : List Made) (j item place : ℕ) : Typ
   pub is : all ≡ front ++ (word_read (width_of shape) j item ++ back)
   pub place_is : 2 * length front ≡ place
 
--- each take that takes an item has its word read there
+-- a multiple of what is doubled
+pub doubled : (i w : ℕ) → i * (2 * w) ≡ 2 * (i * w)
+doubled zero w =
+    let none : 0 * (2 * w) ≡ 0 = omega arith in
+    let none' : 0 * w ≡ 0 = omega arith in
+    omega (arith, none, none')
+doubled (suc i) w = omega (arith, suc-mul i (2 * w), suc-mul i w, doubled i w)
+
+-- the word read of an item among those of a look
+pub record ReadIn (shape : Shape) (n : ℕ) (items : List ℕ) (i item : ℕ) : Type 0 where
+  pub front : List Made
+  pub back : List Made
+  pub is : words_read shape n items ≡ front ++ (word_read (width_of shape) ((n + i) % capacity_of shape) item ++ back)
+  pub long : length front ≡ i * width_of shape
+
+read_in : (shape : Shape) (n : ℕ) (items : List ℕ) (i item : ℕ) → slice_get items i ≡ Some item → ReadIn shape n items i item
+read_in shape n [] i item e = absurd (cc)
+read_in shape n (x ∷ items) zero item e =
+    let same : x ≡ item = cc in
+    let here : n ≡ n + 0 = omega arith in
+    let none : 0 * width_of shape ≡ 0 = omega arith in
+    record {
+      front = [];
+      back = words_read shape (suc n) items;
+      is = ap (λ v. word_read (width_of shape) (n % capacity_of shape) v ++ words_read shape (suc n) items) same ∙
+          ap (λ k. word_read (width_of shape) (k % capacity_of shape) item ++ words_read shape (suc n) items) here;
+      long = omega (arith, none);
+    }
+read_in shape n (x ∷ items) (suc i) item e =
+    let r = read_in shape (suc n) items i item e in
+    let first : List Made = word_read (width_of shape) (n % capacity_of shape) x in
+    let next : suc n + i ≡ n + suc i = omega arith in
+    let size : suc i * width_of shape ≡ i * width_of shape + width_of shape = suc-mul i (width_of shape) in
+    record {
+      front = first ++ r.front;
+      back = r.back;
+      is = ap (λ z. first ++ z) r.is ∙ sym (append_assoc first r.front (word_read (width_of shape) ((suc n + i) % capacity_of shape) item ++ r.back)) ∙
+          ap (λ k. (first ++ r.front) ++ (word_read (width_of shape) (k % capacity_of shape) item ++ r.back)) next;
+      long = omega (arith, length-append first r.front, length-word_read (width_of shape) (n % capacity_of shape) x, r.long, size);
+    }
+
+-- the word accesses of a look of the consumer are the word reads of its items
+passes_words : (shape : Shape) (n : ℕ) (o : Outcome) (i item : ℕ) → slice_get (items_of o) i ≡ Some item → word_part C shape n o ≡ words_read shape n (items_of o)
+passes_words shape n (Passes items) i item e = refl
+passes_words shape n Stops i item e = absurd (cc)
+passes_words shape n (Asks answer) i item e = absurd (cc)
+
+-- each take that takes items has the word read of item number i there
 pub read_time :
-    (shape : Shape) (c : Count) (looks : List Look) (behind : List Made) (start number : ℕ) (x : Span) (item : ℕ) →
-    IsSpanAt (spans C shape c looks) start number x → x.outcome ≡ Passes (item ∷ []) →
-    ReadTime shape (look_accesses C shape c looks behind) ((c.number + number) % capacity_of shape) item (start + x.scan)
-read_time shape c [] behind start number x item st e = elim st [ ]
-read_time shape c (l ∷ looks) behind start number x item (inl st) e =
+    (shape : Shape) (c : Count) (looks : List Look) (behind : List Made) (start number : ℕ) (x : Span) (i item : ℕ) →
+    IsSpanAt (spans C shape c looks) start number x → slice_get (items_of x.outcome) i ≡ Some item →
+    ReadTime shape (look_accesses C shape c looks behind) ((c.number + number + i) % capacity_of shape) item (start + x.scan + 2 * (i * width_of shape))
+read_time shape c [] behind start number x i item st e = elim st [ ]
+read_time shape c (l ∷ looks) behind start number x i item (inl st) e =
     let us : List Made = scan_phrase (row_read_by C) l.seen in
     let cs : List Made = count_part C shape c l.outcome in
     let rest : List Made = look_accesses C shape (after_look shape c l.outcome) looks behind in
-    let passes : l.outcome ≡ Passes (item ∷ []) = sym (ap (λ (y : Span). y.outcome) st.2) ∙ e in
-    let same : c.number ≡ c.number + number = omega (arith, st.1) in
-    let word : word_part C shape c.number l.outcome ≡ word_read (width_of shape) ((c.number + number) % capacity_of shape) item =
-    ap (word_part C shape c.number) passes ∙ append-nil (word_read (width_of shape) (c.number % capacity_of shape) item) ∙
-    ap (λ k. word_read (width_of shape) (k % capacity_of shape) item) same in
+    let at : slice_get (items_of l.outcome) i ≡ Some item = sym (ap (λ (y : Span). slice_get (items_of y.outcome) i) st.2) ∙ e in
+    let same : c.number + i ≡ c.number + number + i = omega (arith, st.1) in
+    let r = read_in shape c.number (items_of l.outcome) i item at in
+    let word : List Made = word_read (width_of shape) ((c.number + number + i) % capacity_of shape) item in
+    let words : word_part C shape c.number l.outcome ≡ r.front ++ (word ++ r.back) =
+    passes_words shape c.number l.outcome i item at ∙ r.is ∙ ap (λ k. r.front ++ (word_read (width_of shape) (k % capacity_of shape) item ++ r.back)) same in
     record {
-      front = us;
-      back = cs ++ rest;
-      is = ap (λ z. us ++ (z ++ (cs ++ rest))) word;
-      place_is = omega (arith, st.0, ap (λ (y : Span). y.scan) st.2);
+      front = us ++ r.front;
+      back = r.back ++ (cs ++ rest);
+      is = ap (λ z. us ++ (z ++ (cs ++ rest))) words ∙ ap (λ z. us ++ z) (append_assoc r.front (word ++ r.back) (cs ++ rest)) ∙
+          ap (λ z. us ++ (r.front ++ z)) (append_assoc word r.back (cs ++ rest)) ∙ sym (append_assoc us r.front (word ++ (r.back ++ (cs ++ rest))));
+      place_is = omega (arith, st.0, ap (λ (y : Span). y.scan) st.2, r.long, length-append us r.front);
     }
-read_time shape c (l ∷ looks) behind start number x item (inr st) e =
+read_time shape c (l ∷ looks) behind start number x i item (inr st) e =
     let us : List Made = scan_phrase (row_read_by C) l.seen in
     let ws : List Made = word_part C shape c.number l.outcome in
     let cs : List Made = count_part C shape c l.outcome in
     let next : Count = after_look shape c l.outcome in
-    let numbers : next.number + st.1 ≡ c.number + number = omega (arith, st.3, after_counts c.number l.outcome) in
+    let numbers : next.number + st.1 + i ≡ c.number + number + i = omega (arith, st.3, after_counts c.number l.outcome) in
     let rest : List Made = look_accesses C shape next looks behind in
-    let r : ReadTime shape rest ((c.number + number) % capacity_of shape) item (st.0 + x.scan) =
-    subst (λ k. ReadTime shape rest (k % capacity_of shape) item (st.0 + x.scan)) numbers (read_time shape next looks behind st.0 st.1 x item st.4 e) in
-    let word : List Made = word_read (width_of shape) ((c.number + number) % capacity_of shape) item in
+    let place : ℕ = st.0 + x.scan + 2 * (i * width_of shape) in
+    let r : ReadTime shape rest ((c.number + number + i) % capacity_of shape) item place =
+    subst (λ k. ReadTime shape rest (k % capacity_of shape) item place) numbers (read_time shape next looks behind st.0 st.1 x i item st.4 e) in
+    let word : List Made = word_read (width_of shape) ((c.number + number + i) % capacity_of shape) item in
     record {
       front = us ++ (ws ++ (cs ++ r.front));
       back = r.back;

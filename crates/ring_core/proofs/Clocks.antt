@@ -1,7 +1,7 @@
 -- Two sides on one history: clocks that count their events, and what the registers promise of a scan.
-use Rattle.std.specs.Prelude.{◌≡◌, ◌⊎◌, ℕ, suc, ◌+◌, ◌<◌, ◌≤◌, ◌%◌, Bool, true, false, Some, List, [], ◌∷◌, slice_get}
+use Rattle.std.specs.Prelude.{◌≡◌, ◌⊎◌, ℕ, suc, ◌+◌, ◌*◌, ◌<◌, ◌≤◌, ◌%◌, Bool, true, false, Some, List, slice_get}
 use Rattle.ring_core.specs.Counts.{distance}
-use Rattle.ring_core.proofs.Spans.{Span, Passes, Asks, counts, items_of, before_count, counts_begun, counts_ended, total, IsSpanAt, sizes, tally}
+use Rattle.ring_core.proofs.Spans.{Span, Asks, counts, items_of, before_count, counts_begun, counts_ended, total, IsSpanAt, sizes, tally}
 
 -- The clock of a side says how many of its events stand before a position of the history. Each event is of one side.
 pub record Clocks (p c : ℕ → ℕ) : Type 0 where
@@ -35,9 +35,9 @@ pub record IsPutSpan (modulus capacity n : ℕ) (x : Span) : Type 0 where
   pub room : 1 ≤ counts x.outcome → distance modulus (n % modulus) x.seen + counts x.outcome ≤ capacity
   pub full : counts x.outcome ≡ 0 → capacity ≤ distance modulus (n % modulus) x.seen
 
--- Take number k takes an item exactly where the count that it read shows one.
+-- A take behind k items takes some, no more than the count that it read shows, and none exactly where that shows none.
 pub record IsTakeSpan (modulus capacity k : ℕ) (x : Span) : Type 0 where
-  pub item : counts x.outcome ≡ 1 → (1 ≤ distance modulus x.seen (k % modulus)) × (distance modulus x.seen (k % modulus) ≤ capacity)
+  pub item : 1 ≤ counts x.outcome → (counts x.outcome ≤ distance modulus x.seen (k % modulus)) × (distance modulus x.seen (k % modulus) ≤ capacity)
   pub none : counts x.outcome ≡ 0 → (distance modulus x.seen (k % modulus) ≡ 0) ⊎ (capacity < distance modulus x.seen (k % modulus))
 
 -- A word write of a put is of the cell, and neither the put's word writes nor the read of the cell end before the other begins.
@@ -67,13 +67,17 @@ pub record IsLastWrite (capacity : ℕ) (p : ℕ → ℕ) (puts : List Span) (ce
   pub no_later :
       (s n i : ℕ) (y : Span) → IsSpanAt puts s n y → i < counts y.outcome → (n + i) % capacity ≡ cell → number + index < n + i → s + y.scan ≤ p first → ⊥
 
+-- Word access number i of a look, each of so many events, ends with this event.
+abbrev pub word_end : ℕ → ℕ → Span → ℕ → ℕ
+word_end word s x i = s + x.scan + suc i * word
+
 -- The law of the safe word: a word read that no word write of its cell overlaps gives the item last written.
-abbrev pub AreSafe : ℕ → (p c : ℕ → ℕ) → (puts takes : List Span) → Type 0
-AreSafe capacity p c puts takes =
-    (s k : ℕ) (x : Span) (item : ℕ) → IsSpanAt takes s k x → x.outcome ≡ Passes (item ∷ []) →
-    (first last e : ℕ) → IsPlace c (s + x.scan) first → IsPlace c e last → suc e ≡ s + before_count x →
-    (CellOverlap capacity p puts (k % capacity) first last → ⊥) →
-    (written : ℕ) → IsLastWrite capacity p puts (k % capacity) first written → item ≡ written
+abbrev pub AreSafe : (capacity word : ℕ) → (p c : ℕ → ℕ) → (puts takes : List Span) → Type 0
+AreSafe capacity word p c puts takes =
+    (s k i : ℕ) (x : Span) (item : ℕ) → IsSpanAt takes s k x → slice_get (items_of x.outcome) i ≡ Some item →
+    (first last e : ℕ) → IsPlace c (s + x.scan + i * word) first → IsPlace c e last → suc e ≡ word_end word s x i →
+    (CellOverlap capacity p puts ((k + i) % capacity) first last → ⊥) →
+    (written : ℕ) → IsLastWrite capacity p puts ((k + i) % capacity) first written → item ≡ written
 
 -- The law of the close bit. The close stands behind all puts: its begin is event number `total puts`, its end the next one.
 abbrev pub AreCloseReads : (p c : ℕ → ℕ) → (puts takes : List Span) → Type 0
@@ -84,16 +88,20 @@ AreCloseReads p c puts takes =
 
 -- What the law of the ring rests on: two sides on one history, whose spans follow the rules of puts and takes, and the
 -- laws of the registers between them.
-pub record Ring (modulus capacity batch : ℕ) (p c : ℕ → ℕ) (puts takes : List Span) : Type 0 where
+-- A put stores at most `batch` items, a take takes at most `more`, and each of its word accesses has `word` events.
+pub record Ring (modulus capacity batch more word : ℕ) (p c : ℕ → ℕ) (puts takes : List Span) : Type 0 where
   pub modulus_fits : suc (capacity + batch) ≤ modulus
   pub has_batch : 1 ≤ batch
+  pub modulus_fits_takes : suc (capacity + more) ≤ modulus
+  pub has_more : 1 ≤ more
   pub clocks : Clocks p c
   pub puts_rule : (s n : ℕ) (x : Span) → IsSpanAt puts s n x → IsPutSpan modulus capacity n x
   pub takes_rule : (s k : ℕ) (x : Span) → IsSpanAt takes s k x → IsTakeSpan modulus capacity k x
   pub puts_regular : AreRegular modulus p c puts takes
   pub takes_regular : AreRegular modulus c p takes puts
-  pub words_safe : AreSafe capacity p c puts takes
+  pub words_safe : AreSafe capacity word p c puts takes
   pub close_reads : AreCloseReads p c puts takes
-  -- a word access, and a read of the close bit, has an event
-  pub takes_words : (s k : ℕ) (x : Span) → IsSpanAt takes s k x → counts x.outcome ≡ 1 → 1 ≤ x.word
+  -- a word access, and a read of the close bit, has an event; the word accesses of a take are as long as one another
+  pub has_word : 1 ≤ word
+  pub takes_words : (s k : ℕ) (x : Span) → IsSpanAt takes s k x → 1 ≤ counts x.outcome → x.word ≡ counts x.outcome * word
   pub asks_words : (s k : ℕ) (x : Span) (answer : Bool) → IsSpanAt takes s k x → x.outcome ≡ Asks answer → 1 ≤ x.word

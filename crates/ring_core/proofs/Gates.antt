@@ -118,8 +118,8 @@ proper_at most [] h s n x st = elim st [ ]
 proper_at most (y ∷ ys) h s n x (inl st) = rw st.2 h.0
 proper_at most (y ∷ ys) h s n x (inr st) = proper_at most ys h.1 st.0 st.1 x st.4
 
-module _ (modulus capacity batch : ℕ) (p c : ℕ → ℕ) (puts takes : List Span) (ring : Ring modulus capacity batch p c puts takes)
-    (proper_puts : AllProper batch puts) (proper_takes : AllProper 1 takes) where
+module _ (modulus capacity batch more word : ℕ) (p c : ℕ → ℕ) (puts takes : List Span) (ring : Ring modulus capacity batch more word p c puts takes)
+    (proper_puts : AllProper batch puts) (proper_takes : AllProper more takes) where
   hp : Clock p
   hp = clock_p p c ring.clocks
 
@@ -145,7 +145,7 @@ module _ (modulus capacity batch : ℕ) (p c : ℕ → ℕ) (puts takes : List S
   -- each scan of the consumer that has ended has read so, where the counts were right up to now
   shown : (t : ℕ) → ((u : ℕ) → u ≤ t → Within u) → (s k : ℕ) (x : Span) → IsSpanAt takes s k x → s + x.scan ≤ c t → Shown t s k x
   shown t within s k x st l =
-      let r = read_of modulus c p hc hp 1 batch takes puts proper_takes proper_puts ring.takes_regular t s k x (proper_at 1 takes proper_takes s k x st) st l in
+      let r = read_of modulus c p hc hp more batch takes puts proper_takes proper_puts ring.takes_regular t s k x (proper_at more takes proper_takes s k x st) st l in
       let a = within r.first (omega (arith, r.in_order, r.by_now)) in
       let z = within r.last r.by_now in
       let o = ended_begun batch puts proper_puts (p r.first) in
@@ -165,7 +165,7 @@ module _ (modulus capacity batch : ℕ) (p c : ℕ → ℕ) (puts takes : List S
   pub record Left (t s n : ℕ) (x : Span) : Type 0 where
     pub number : ℕ
     pub value : x.seen ≡ number % modulus
-    pub low : n ≤ number + capacity + 1
+    pub low : n ≤ number + capacity + more
     pub high : number ≤ n
     pub now : number ≤ counts_begun takes (c t)
     pub since : (first : ℕ) → IsPlace p s first → counts_ended takes (c first) ≤ number
@@ -176,10 +176,10 @@ module _ (modulus capacity batch : ℕ) (p c : ℕ → ℕ) (puts takes : List S
   -- the same of a scan of the producer
   left : (t : ℕ) → ((u : ℕ) → u ≤ t → Within u) → (s n : ℕ) (x : Span) → IsSpanAt puts s n x → s + x.scan ≤ p t → Left t s n x
   left t within s n x st l =
-      let r = read_of modulus p c hp hc batch 1 puts takes proper_puts proper_takes ring.puts_regular t s n x (proper_at batch puts proper_puts s n x st) st l in
+      let r = read_of modulus p c hp hc batch more puts takes proper_puts proper_takes ring.puts_regular t s n x (proper_at batch puts proper_puts s n x st) st l in
       let a = within r.first (omega (arith, r.in_order, r.by_now)) in
       let z = within r.last r.by_now in
-      let o = ended_begun 1 takes proper_takes (c r.first) in
+      let o = ended_begun more takes proper_takes (c r.first) in
       record {
         number = r.number;
         value = r.value;
@@ -192,15 +192,15 @@ module _ (modulus capacity batch : ℕ) (p c : ℕ → ℕ) (puts takes : List S
         tallies = r.tallies;
       }
 
-  -- a take that takes an item has read a count above its number
-  shows_item : (t s k : ℕ) (x : Span) → IsSpanAt takes s k x → (r : Shown t s k x) → counts x.outcome ≡ 1 → k < r.number
-  shows_item t s k x st r o =
-      let rule : (1 ≤ distance modulus (r.number % modulus) (k % modulus)) × (distance modulus (r.number % modulus) (k % modulus) ≤ capacity) =
+  -- a take that takes items has read a count that shows them
+  shows_items : (t s k : ℕ) (x : Span) → IsSpanAt takes s k x → (r : Shown t s k x) → 1 ≤ counts x.outcome → k + counts x.outcome ≤ r.number
+  shows_items t s k x st r o =
+      let rule : (counts x.outcome ≤ distance modulus (r.number % modulus) (k % modulus)) × (distance modulus (r.number % modulus) (k % modulus) ≤ capacity) =
       rw r.value at ((ring.takes_rule s k x st).item o) in
       let fits = ring.modulus_fits in
       elim (at_most_or_above k r.number) [
-        | inl l ↦ omega (arith, distance_of modulus k r.number l (omega (arith, r.high)))
-        | inr l ↦ absurd (omega (arith, distance_back modulus k r.number l (omega (arith, r.low)), r.low))
+        | inl l ↦ omega (arith, rule, distance_of modulus k r.number l (omega (arith, r.high)))
+        | inr l ↦ absurd (omega (arith, rule, distance_back modulus k r.number l (omega (arith, r.low)), r.low))
       ]
 
   -- a take that takes none has not
@@ -217,29 +217,24 @@ module _ (modulus capacity batch : ℕ) (p c : ℕ → ℕ) (puts takes : List S
   -- a put that stores items has read a count that leaves room for them
   leaves_room : (t s n : ℕ) (x : Span) → IsSpanAt puts s n x → (r : Left t s n x) → 1 ≤ counts x.outcome → n + counts x.outcome ≤ r.number + capacity
   leaves_room t s n x st r o =
-      let fits = ring.modulus_fits in
-      let most = (proper_at batch puts proper_puts s n x st).few in
+      let fits = ring.modulus_fits_takes in
       let rule : distance modulus (n % modulus) (r.number % modulus) + counts x.outcome ≤ capacity = rw r.value at ((ring.puts_rule s n x st).room o) in
-      omega (arith, rule, fits, o, most, distance_of modulus r.number n r.high (omega (arith, r.low, far fits o most)), r.high)
-    where
-      far : suc (capacity + batch) ≤ modulus → 1 ≤ counts x.outcome → counts x.outcome ≤ batch → suc (suc capacity) ≤ modulus
-      far fits o most = omega (arith, fits, o, most)
+      omega (arith, rule, distance_of modulus r.number n r.high (omega (arith, r.low, fits)), r.high)
 
   -- a put that stores none has read one that leaves no room
   pub leaves_none : (t s n : ℕ) (x : Span) → IsSpanAt puts s n x → (r : Left t s n x) → counts x.outcome ≡ 0 → r.number + capacity ≤ n
   leaves_none t s n x st r o =
-      let fits = ring.modulus_fits in
-      let some = ring.has_batch in
+      let fits = ring.modulus_fits_takes in
       let rule : capacity ≤ distance modulus (n % modulus) (r.number % modulus) = rw r.value at ((ring.puts_rule s n x st).full o) in
-      omega (arith, rule, distance_of modulus r.number n r.high (omega (arith, fits, some, r.low)), r.high)
+      omega (arith, rule, distance_of modulus r.number n r.high (omega (arith, fits, r.low)), r.high)
 
-  -- a take that found an item: the count write of put number k has begun
+  -- a take that found items: the count writes of the puts of all of them have begun
   taken_behind :
       (t : ℕ) → ((u : ℕ) → u ≤ t → Within u) →
-      (s k : ℕ) (x : Span) → IsSpanAt takes s k x → counts x.outcome ≡ 1 → s + x.scan ≤ c t → k < counts_begun puts (p t)
+      (s k : ℕ) (x : Span) → IsSpanAt takes s k x → 1 ≤ counts x.outcome → s + x.scan ≤ c t → k + counts x.outcome ≤ counts_begun puts (p t)
   taken_behind t within s k x st o l =
       let r = shown t within s k x st l in
-      omega (arith, shows_item t s k x st r o, r.now)
+      omega (arith, shows_items t s k x st r o, r.now)
 
   -- a put that found room: the takes of all items more than the capacity below its last one have begun their count write
   room_ahead :
@@ -260,14 +255,13 @@ module _ (modulus capacity batch : ℕ) (p c : ℕ → ℕ) (puts takes : List S
   ])
 
   step_take : (t : ℕ) → ((u : ℕ) → u ≤ t → Within u) → p (suc t) ≡ p t → c (suc t) ≡ suc (c t) → Within (suc t)
-  step_take t within e f = rw (e, f) (elim (begun_step 1 takes proper_takes (c t)) [
+  step_take t within e f = rw (e, f) (elim (begun_step more takes proper_takes (c t)) [
     | inl same ↦ rw same (within t (omega arith))
     | inr x ↦ (
-        let proper = proper_at 1 takes proper_takes x.start x.number x.span x.stands in
-        let w = before-whole 1 x.span proper in
-        let one : counts x.span.outcome ≡ 1 = omega (arith, x.passes, proper.few) in
-        let behind = taken_behind t within x.start x.number x.span x.stands one (omega (arith, x.place, w)) in
-        omega (arith, within t (omega arith), behind, x.now, x.next, one))
+        let proper = proper_at more takes proper_takes x.start x.number x.span x.stands in
+        let w = before-whole more x.span proper in
+        let behind = taken_behind t within x.start x.number x.span x.stands x.passes (omega (arith, x.place, w)) in
+        omega (arith, within t (omega arith), behind, x.now, x.next))
   ])
 
   within_step : (t : ℕ) → ((u : ℕ) → u ≤ t → Within u) → Within (suc t)
@@ -300,8 +294,8 @@ module _ (modulus capacity batch : ℕ) (p c : ℕ → ℕ) (puts takes : List S
   pub left_at : (t s n : ℕ) (x : Span) → IsSpanAt puts s n x → s + x.scan ≤ p t → Left t s n x
   left_at t = left t (λ u _. within u)
 
-  -- from the end of its scan on, a take that found an item is behind the puts
-  pub behind : (t s k : ℕ) (x : Span) → IsSpanAt takes s k x → counts x.outcome ≡ 1 → s + x.scan ≤ c t → k < counts_begun puts (p t)
+  -- from the end of its scan on, a take that found items is, with them, behind the puts
+  pub behind : (t s k : ℕ) (x : Span) → IsSpanAt takes s k x → 1 ≤ counts x.outcome → s + x.scan ≤ c t → k + counts x.outcome ≤ counts_begun puts (p t)
   behind t = taken_behind t (λ u _. within u)
 
   -- and a put that found room is, with its items, at most the capacity ahead of the takes

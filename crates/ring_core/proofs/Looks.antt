@@ -235,12 +235,6 @@ word_is s shape looks start m x st e =
     let one : counts x.outcome * width_of shape ≡ 1 * width_of shape = ap (λ k. k * width_of shape) e in
     omega (arith, words_are s shape looks start m x st (omega (arith, e)), one)
 
--- so it has an event
-pub word_some :
-    (s : Side) (shape : Shape) (looks : List Look) (start m : ℕ) (x : Span) →
-    IsSpanAt (spans s shape first_count looks) start m x → counts x.outcome ≡ 1 → 1 ≤ x.word
-word_some s shape looks start m x st e = omega (arith, word_is s shape looks start m x st e, shape.has_digits)
-
 asks_length : (s : Side) (shape : Shape) (n : ℕ) (o : Outcome) (answer : Bool) → o ≡ Asks answer → length (word_part s shape n o) ≡ 1
 asks_length s shape n (Passes items) answer e = absurd (cc)
 asks_length s shape n Stops answer e = absurd (cc)
@@ -371,13 +365,13 @@ PutRule shape n seen o =
     (1 ≤ counts o → distance (modulus_of shape) (n % modulus_of shape) seen + counts o ≤ capacity_of shape) ×
     (counts o ≡ 0 → capacity_of shape ≤ distance (modulus_of shape) (n % modulus_of shape) seen)
 
-abbrev Shows : ℕ → ℕ → Type 0
-Shows capacity d = (1 ≤ d) × (d ≤ capacity)
+abbrev Shows : ℕ → ℕ → ℕ → Type 0
+Shows m capacity d = (m ≤ d) × (d ≤ capacity)
 
 abbrev TakeRule : Shape → ℕ → ℕ → Outcome → Type 0
 TakeRule shape k seen o =
     FitsShape shape seen o ×
-    (counts o ≡ 1 → Shows (capacity_of shape) (distance (modulus_of shape) seen (k % modulus_of shape))) ×
+    (1 ≤ counts o → Shows (counts o) (capacity_of shape) (distance (modulus_of shape) seen (k % modulus_of shape))) ×
     (counts o ≡ 0 →
     (distance (modulus_of shape) seen (k % modulus_of shape) ≡ 0) ⊎ (capacity_of shape < distance (modulus_of shape) seen (k % modulus_of shape)))
 

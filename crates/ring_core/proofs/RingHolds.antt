@@ -1,6 +1,6 @@
 -- The law of the ring for lawful histories: the rules and the registers of a history make a ring of spans, and its law is read
 -- off that of the spans.
-use Rattle.std.proofs.Common.{◌≡◌, ◌⊎◌, inl, inr, ℕ, suc, ◌+◌, ◌-◌, ◌*◌, ◌<◌, ◌≤◌, Bool, true, false, Some, List, [], ◌∷◌, ◌++◌, length, refl, sym, ap, subst, ◌∙◌, arith, append_assoc, append-nil, length-append}
+use Rattle.std.proofs.Common.{◌≡◌, ◌⊎◌, inl, inr, ℕ, suc, ◌+◌, ◌-◌, ◌*◌, ◌%◌, ◌<◌, ◌≤◌, Bool, true, false, Some, List, [], ◌∷◌, ◌++◌, length, refl, sym, ap, subst, ◌∙◌, arith, append_assoc, append-nil, length-append}
 use Rattle.std.specs.Prelude.{slice_get}
 use Rattle.std.proofs.Math.Nat.{suc-mul}
 use Rattle.bits_core.specs.declared.events.Side.{Side}
@@ -19,8 +19,8 @@ use Rattle.register_core.specs.WordLaw.{WordIsSafe}
 use Rattle.ring_core.specs.Counts.{Count, first_count}
 use Rattle.ring_core.specs.Puts.{Put, Puts, Stored, Full, stored_after, put_phrases, close_phrase}
 use Rattle.ring_core.specs.Takes.{Takes, Open, Closed, End, take_program}
-use Rattle.ring_core.specs.Items.{events_in, all_put, Tells}
-use Rattle.ring_core.proofs.Spans.{Span, Asks, counts, before_count, all_items, total}
+use Rattle.ring_core.specs.Items.{events_in, items_put, all_put, Tells}
+use Rattle.ring_core.proofs.Spans.{Span, Asks, counts, items_of, before_count, all_items, total}
 use Rattle.ring_core.proofs.Clocks.{IsPlace, AreCloseReads, Ring}
 use Rattle.ring_core.proofs.Clocks as clocks
 use Rattle.ring_core.proofs.LookSpans.{put_looks, take_looks, word_part, count_part, look_accesses, spans, put_spans, take_spans}
@@ -32,9 +32,9 @@ use Rattle.ring_core.proofs.HistoryClocks.{clocks_of}
 use Rattle.ring_core.proofs.OwnEvents.{clock_within, clock_end, clock_rises, one_place}
 use Rattle.ring_core.proofs.Following.{length-events}
 use Rattle.ring_core.proofs.LookSpans.{LookAt}
-use Rattle.ring_core.proofs.Looks.{puts_as_looks, takes_as_looks, proper_puts, proper_takes, total_is, look_from_first, words_are, word_is, word_some, asks_word, puts_items, takes_items, put_rules, take_rules, put_fits, take_fits, last_two}
+use Rattle.ring_core.proofs.Looks.{puts_as_looks, takes_as_looks, proper_puts, proper_takes, total_is, look_from_first, words_are, word_is, asks_word, puts_items, takes_items, put_rules, take_rules, put_fits, take_fits, last_two}
 use Rattle.ring_core.proofs.CountRow.{batch_fits, has_batch}
-use Rattle.ring_core.proofs.CellPlaces.{multiple_up}
+use Rattle.ring_core.proofs.CellPlaces.{doubled, multiple_up}
 use Rattle.ring_core.proofs.RegularScans.{put_events, take_events, puts_regular, takes_regular}
 use Rattle.ring_core.proofs.CloseReads.{OwnFacts, read_of_close}
 use Rattle.ring_core.proofs.SafeWords.{close_to_cell, words_are_safe}
@@ -116,10 +116,12 @@ module _ (facts : OwnFacts) (regular : UnaryIsRegular) (scans_made : ScansAreMad
       ((λ f. omega (arith, on_zero f, put_total shape puts)), (λ t. omega (arith, on_one t, put_total shape puts)))
 
   -- the two sides of the history make a ring
-  pub ring : Ring (modulus_of shape) (capacity_of shape) (batch_of shape) (clock P h) (clock C h) (put_spans shape puts) (take_spans shape takes)
+  pub ring : Ring (modulus_of shape) (capacity_of shape) (batch_of shape) 1 (2 * width_of shape) (clock P h) (clock C h) (put_spans shape puts) (take_spans shape takes)
   ring = record {
     modulus_fits = batch_fits shape;
     has_batch = has_batch shape;
+    modulus_fits_takes = omega (arith, batch_fits shape, has_batch shape);
+    has_more = omega arith;
     clocks = clocks_of h;
     puts_rule = λ s n x st. subst (λ i. clocks.IsPutSpan (modulus_of shape) (capacity_of shape) i x) (from_none n) (put_rules shape first_count puts.puts run.puts_follow.are s n x st);
     takes_rule = λ s k x st. subst (λ i. clocks.IsTakeSpan (modulus_of shape) (capacity_of shape) i x) (from_none k) (take_rules shape first_count takes.takes takes.end run.takes_follow.are s k x st);
@@ -130,12 +132,13 @@ module _ (facts : OwnFacts) (regular : UnaryIsRegular) (scans_made : ScansAreMad
         (λ s n x st. (put_fits shape first_count puts.puts run.puts_follow.are s n x st).items)
         (λ s n x st. (take_fits shape first_count takes.takes takes.end run.takes_follow.are s n x st).items);
     close_reads = close_reads;
-    takes_words = word_some C shape (take_looks takes.takes takes.end);
+    has_word = omega (arith, shape.has_digits);
+    takes_words = λ s k x st o. words_are C shape (take_looks takes.takes takes.end) s k x st o ∙ sym (doubled (counts x.outcome) (width_of shape));
     asks_words = λ s k x answer st e. omega (arith, asks_word C shape (take_looks takes.takes takes.end) s k x answer st e);
   }
 
-  pub law : SpanLaw (modulus_of shape) (capacity_of shape) (batch_of shape) (clock P h) (clock C h) (put_spans shape puts) (take_spans shape takes)
-  law = span_law (modulus_of shape) (capacity_of shape) (batch_of shape) (clock P h) (clock C h) (put_spans shape puts) (take_spans shape takes)
+  pub law : SpanLaw (modulus_of shape) (capacity_of shape) (batch_of shape) 1 (2 * width_of shape) (clock P h) (clock C h) (put_spans shape puts) (take_spans shape takes)
+  law = span_law (modulus_of shape) (capacity_of shape) (batch_of shape) 1 (2 * width_of shape) (clock P h) (clock C h) (put_spans shape puts) (take_spans shape takes)
       (proper_puts shape puts run.puts_follow.are) (proper_takes shape takes)
       ring
 
@@ -156,7 +159,14 @@ module _ (facts : OwnFacts) (regular : UnaryIsRegular) (scans_made : ScansAreMad
       (rest, ap (λ l. l ++ rest) (takes_items shape 0 takes.takes takes.end (clock C h t)) ∙ e ∙ sym (puts_items shape first_count puts.puts (clock P h t)))
 
   items : TakesMatchPuts shape h puts takes
-  items t s k x item st o l = ap (λ l. slice_get l k) (puts_items shape first_count puts.puts (clock P h t)) ∙ law.items t s k x item st o l
+  items t s k x item st o l =
+      let one : counts x.outcome ≡ 1 = ap counts o in
+      let word : x.word ≡ 2 * width_of shape = word_is C shape (take_looks takes.takes takes.end) s k x st one in
+      let single : 1 * (2 * width_of shape) ≡ 2 * width_of shape = omega arith in
+      let here : k ≡ k + 0 = omega arith in
+      ap (slice_get (items_put shape first_count puts.puts (clock P h t))) here ∙
+      ap (λ l. slice_get l (k + 0)) (puts_items shape first_count puts.puts (clock P h t)) ∙
+      law.items t s k 0 x item st (ap (λ v. slice_get (items_of v) 0) o) (omega (arith, l, word, single))
 
   empty : EmptyIsFresh shape h puts takes
   empty s k x st o l first q =
@@ -240,7 +250,8 @@ module _ (facts : OwnFacts) (regular : UnaryIsRegular) (scans_made : ScansAreMad
         | inr m ↦ m
         | inl m ↦ absurd (apart start stop' (s + x.scan + 2 * (i * w)) (s' + y.scan + 2 * (1 * w) - 1) a.begins b.ends (same_place start stop' m not_before))
       ] in
-      law.quiet s' k y st' takes_one start' stop' order (omega (arith, b.begins.before, none_before)) ended'
+      let here : k ≡ k + 0 = omega arith in
+      law.quiet s' k 0 y st' (omega (arith, takes_one)) start' stop' order (omega (arith, b.begins.before, none_before)) ended'
       (record {
         start = s;
         number = n;
@@ -248,7 +259,7 @@ module _ (facts : OwnFacts) (regular : UnaryIsRegular) (scans_made : ScansAreMad
         index = i;
         stands = st;
         stored = stores;
-        same_cell = cell;
+        same_cell = cell ∙ ap (λ v. v % capacity_of shape) here;
         begun_before = omega (arith, clock_rises P h (suc start) stop' begun, a.begins.past);
         not_ended = ended start' (at_most start' stop not_after);
       })

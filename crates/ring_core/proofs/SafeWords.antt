@@ -9,7 +9,7 @@ use Rattle.bits_core.specs.declared.events.Bit.TheVariants.{Cell}
 use Rattle.bits_core.specs.declared.events.Access.TheVariants as begins
 use Rattle.bits_core.specs.declared.events.Event.{Event}
 use Rattle.bits_core.specs.declared.shapes.Shape.{Shape}
-use Rattle.bits_core.specs.Shape.{AllFit, capacity_of, width_of}
+use Rattle.bits_core.specs.Shape.{capacity_of, width_of}
 use Rattle.bits_core.specs.Intervals as intervals
 use Rattle.bits_core.specs.Intervals.{IsWrite, end_of}
 use Rattle.bits_core.specs.Lawful.{IsLawful}
@@ -21,7 +21,7 @@ use Rattle.register_core.specs.MadeWrites.{CellWritesAreMade}
 use Rattle.ring_core.specs.Counts.{first_count}
 use Rattle.ring_core.specs.Puts.{close_phrase}
 use Rattle.ring_core.proofs.Spans.{Outcome, Passes, Stops, Asks, Span, counts, items_of, before_count, IsSpanAt}
-use Rattle.ring_core.proofs.Clocks.{IsPlace, CellOverlap, IsLastWrite, AreSafe}
+use Rattle.ring_core.proofs.Clocks.{IsPlace, CellOverlap, IsLastWrite, word_end, AreSafe}
 use Rattle.ring_core.proofs.LookSpans.{Look, look_accesses, spans}
 use Rattle.ring_core.proofs.Cuts.{at_most_or_above}
 use Rattle.ring_core.proofs.Gates.{Clock, clock_up, clock_p, clock_c}
@@ -29,7 +29,8 @@ use Rattle.ring_core.proofs.HistoryClocks.{clocks_of}
 use Rattle.ring_core.proofs.OwnEvents.{clock_within, one_place}
 use Rattle.ring_core.proofs.CloseReads.{OwnFacts}
 use Rattle.ring_core.proofs.CellTimes.{to_cell, looks_to_cell, cell_items, ItemsFit, cell_items_fit}
-use Rattle.ring_core.proofs.CellPlaces.{words_order, multiple_up, CellTime, cell_time, WordTime, word_time, DigitTime, digit_time, word_events, ReadTime, read_time}
+use Rattle.ring_core.proofs.CellPlaces.{doubled, words_order, multiple_up, CellTime, cell_time, WordTime, word_time, DigitTime, digit_time, word_events, ReadTime, read_time}
+use Rattle.ring_core.proofs.Batches.{fits_at}
 use Rattle.ring_core.proofs.CellWrites.{writes_before, write_is_counted, write_is_counted_at_end}
 
 -- a close writes to no cell
@@ -282,12 +283,22 @@ module _ (facts : OwnFacts) (word_is_safe : WordIsSafe) (writes_made : CellWrite
 
   -- ---- a take's word read that no put's word write overlaps
 
-  module _ (s k : ℕ) (x : Span) (item : ℕ) (stands : IsSpanAt takes s k x) (passes : x.outcome ≡ Passes (item ∷ []))
-      (first last e : ℕ) (first_is : IsPlace (clock C h) (s + x.scan) first) (last_is : IsPlace (clock C h) e last) (end_is : suc e ≡ s + before_count x)
-      (quiet : CellOverlap (capacity_of shape) (clock P h) puts (k % capacity_of shape) first last → ⊥)
-      (written : ℕ) (known : IsLastWrite (capacity_of shape) (clock P h) puts (k % capacity_of shape) first written) where
+  module _ (s k i : ℕ) (x : Span) (item : ℕ) (stands : IsSpanAt takes s k x) (at : slice_get (items_of x.outcome) i ≡ Some item)
+      (first last e : ℕ) (first_is : IsPlace (clock C h) (s + x.scan + i * (2 * width)) first) (last_is : IsPlace (clock C h) e last) (end_is : suc e ≡ word_end (2 * width) s x i)
+      (quiet : CellOverlap (capacity_of shape) (clock P h) puts ((k + i) % capacity_of shape) first last → ⊥)
+      (written : ℕ) (known : IsLastWrite (capacity_of shape) (clock P h) puts ((k + i) % capacity_of shape) first written) where
     abbrev cell : ℕ
-    cell = k % capacity_of shape
+    cell = (k + i) % capacity_of shape
+
+    -- where the read begins
+    abbrev from : ℕ
+    from = s + x.scan + i * (2 * width)
+
+    from_is : from ≡ s + x.scan + 2 * (i * width)
+    from_is = omega (arith, doubled i width)
+
+    end_from : suc e ≡ from + 2 * width
+    end_from = omega (arith, end_is, suc-mul i (2 * width))
 
     abbrev items : List ℕ
     items = cell_items shape cell 0 looks
@@ -351,17 +362,12 @@ module _ (facts : OwnFacts) (word_is_safe : WordIsSafe) (writes_made : CellWrite
     some_digit = shape.has_digits
 
     -- the accesses of the read
-    read_accesses : ReadTime shape (look_accesses C shape first_count looks' []) cell item (s + x.scan)
+    read_accesses : ReadTime shape (look_accesses C shape first_count looks' []) cell item from
     read_accesses =
-        let zero_more : 0 + k ≡ k = omega arith in
-        subst (λ n. ReadTime shape (look_accesses C shape first_count looks' []) (n % capacity_of shape) item (s + x.scan)) zero_more
-        (read_time shape first_count looks' [] s k x item stands passes)
-
-    read_events : x.word ≡ 2 * width
-    read_events =
-        let one : counts x.outcome ≡ 1 = ap counts passes in
-        let digits : counts x.outcome * width ≡ 1 * width = ap (λ n. n * width) one in
-        omega (arith, word_events C shape first_count looks' s k x stands (omega (arith, one)), digits)
+        let zero_more : 0 + k + i ≡ k + i = omega arith in
+        subst (ReadTime shape (look_accesses C shape first_count looks' []) cell item) (sym from_is)
+        (subst (λ n. ReadTime shape (look_accesses C shape first_count looks' []) (n % capacity_of shape) item (s + x.scan + 2 * (i * width))) zero_more
+        (read_time shape first_count looks' [] s k x i item stands at))
 
     abbrev begins_at : ℕ → ℕ
     begins_at = begin_place C h (length read_accesses.front)
@@ -374,26 +380,26 @@ module _ (facts : OwnFacts) (word_is_safe : WordIsSafe) (writes_made : CellWrite
 
     first_place : begins_at 0 ≡ first
     first_place =
-        let below : s + x.scan < length (own C h) = omega (arith, all_come, end_is, read_events, some_digit) in
-        ap (place_of C h) (omega (arith, read_accesses.place_is)) ∙ sym (one_place facts.has_place C h (s + x.scan) first first_is)
+        let below : from < length (own C h) = omega (arith, all_come, end_from, some_digit) in
+        ap (place_of C h) (omega (arith, read_accesses.place_is)) ∙ sym (one_place facts.has_place C h from first first_is)
 
     last_place : ends_at (width - 1) ≡ last
     last_place =
-        ap (place_of C h) (omega (arith, read_accesses.place_is, end_is, read_events, some_digit)) ∙
+        ap (place_of C h) (omega (arith, read_accesses.place_is, end_from, some_digit)) ∙
         sym (one_place facts.has_place C h e last last_is)
 
     item_fits : item < 2 ^ width
-    item_fits = (subst (λ (o : Outcome). AllFit shape (items_of o)) passes (fits' s k x stands)).0
+    item_fits = (fits_at shape (items_of x.outcome) i item (fits' s k x stands) at).0
 
     word_is_read : IsWordRead width cell h begins_at ends_at item
     word_is_read =
         reads_made h (look_accesses C shape first_count looks' []) follows' read_accesses.front read_accesses.back width cell item
-        item_fits read_accesses.is (omega (arith, all_come, end_is, read_events, read_accesses.place_is))
+        item_fits read_accesses.is (omega (arith, all_come, end_from, read_accesses.place_is))
 
     in_order : first < last
     in_order = elim (at_most_or_above last first) [
       | inr m ↦ m
-      | inl m ↦ absurd (omega (arith, clock_up (clock C h) consumer_clock last first m, first_is, last_is, end_is, read_events, some_digit))
+      | inl m ↦ absurd (omega (arith, clock_up (clock C h) consumer_clock last first m, first_is, last_is, end_from, some_digit))
     ]
 
     within : first < length h
@@ -466,6 +472,6 @@ module _ (facts : OwnFacts) (word_is_safe : WordIsSafe) (writes_made : CellWrite
         ]
 
   -- the law of the safe word, for the spans of the two sides
-  pub words_are_safe : AreSafe (capacity_of shape) (clock P h) (clock C h) (spans P shape first_count looks) (spans C shape first_count looks')
-  words_are_safe s k x item stands passes first last e first_is last_is end_is quiet written known =
-      read_gives s k x item stands passes first last e first_is last_is end_is quiet written known
+  pub words_are_safe : AreSafe (capacity_of shape) (2 * width) (clock P h) (clock C h) (spans P shape first_count looks) (spans C shape first_count looks')
+  words_are_safe s k i x item stands at first last e first_is last_is end_is quiet written known =
+      read_gives s k i x item stands at first last e first_is last_is end_is quiet written known

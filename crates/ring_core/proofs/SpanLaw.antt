@@ -2,13 +2,13 @@
 use Rattle.std.specs.Prelude.{slice_get, Some}
 use Rattle.std.proofs.Common.{◌≡◌, inl, inr, ℕ, ◌+◌, ◌-◌, ◌<◌, ◌≤◌, ◌%◌, true, false, List, [], ◌∷◌, length, drop, refl, sym, ap, arith}
 use Rattle.bits_core.specs.Made.{IsBeginning}
-use Rattle.ring_core.proofs.Spans.{Span, Passes, Asks, counts, before_count, whole, counts_begun, counts_ended, begun_items, ended_items, all_items, total, IsSpanAt}
+use Rattle.ring_core.proofs.Spans.{Span, Asks, counts, items_of, before_count, whole, counts_begun, counts_ended, begun_items, ended_items, all_items, total, IsSpanAt}
 use Rattle.ring_core.proofs.RingOfSpans.{ReadsCount}
 use Rattle.ring_core.specs.Counts.{distance}
-use Rattle.ring_core.proofs.Clocks.{IsPlace, CellOverlap, Ring}
+use Rattle.ring_core.proofs.Clocks.{IsPlace, CellOverlap, word_end, Ring}
 use Rattle.ring_core.proofs.Timeline.{AllProper, before-whole}
 use Rattle.ring_core.proofs.Gates.{clock_up, clock_c, proper_at, within, shown_at, left_at}
-use Rattle.ring_core.proofs.SpanItems.{quiet, taken_item, prefix, empty_fresh, empty_open, full_fresh, fill_fresh, closed}
+use Rattle.ring_core.proofs.SpanItems.{quiet, taken_item, prefix, empty_fresh, empty_open, full_fresh, fill_fresh, drain_fresh, closed}
 
 -- The last two spans are a read of the close bit, which is 1, and then a scan after which nothing is taken.
 pub record LastTwo (xs : List Span) : Type 0 where
@@ -56,23 +56,23 @@ pub record IsToldAt (c : ℕ → ℕ) (takes : List Span) (t : ℕ) : Type 0 whe
   pub ended : total takes ≤ c t
 
 -- What holds of a ring at every moment.
-pub record SpanLaw (modulus capacity batch : ℕ) (p c : ℕ → ℕ) (puts takes : List Span) : Type 0 where
+pub record SpanLaw (modulus capacity batch more word : ℕ) (p c : ℕ → ℕ) (puts takes : List Span) : Type 0 where
   -- at most as many items are put and not taken as the ring holds
   pub within : (t : ℕ) → (counts_begun takes (c t) ≤ counts_begun puts (p t)) × (counts_begun puts (p t) ≤ counts_begun takes (c t) + capacity)
-  -- put number n reads a count from n - capacity - 1 to n
+  -- put number n reads a count from n - capacity - more to n
   pub put_range :
-      (t s n : ℕ) (x : Span) → IsSpanAt puts s n x → s + x.scan ≤ p t → ReadsCount modulus p c takes s x (n - (capacity + 1)) n
-  -- take number k reads a count from k - batch to k + capacity
+      (t s n : ℕ) (x : Span) → IsSpanAt puts s n x → s + x.scan ≤ p t → ReadsCount modulus p c takes s x (n - (capacity + more)) n
+  -- a take behind k items reads a count from k - batch to k + capacity
   pub take_range :
       (t s k : ℕ) (x : Span) → IsSpanAt takes s k x → s + x.scan ≤ c t → ReadsCount modulus c p puts s x (k - batch) (k + capacity)
   -- no word write of a cell overlaps a word read of it, from its begin at position first to its end, or as long as it is open
   pub quiet :
-      (s k : ℕ) (x : Span) → IsSpanAt takes s k x → counts x.outcome ≡ 1 → (first last : ℕ) → first ≤ last →
-      s + x.scan ≤ c first → c last ≤ s + before_count x → CellOverlap capacity p puts (k % capacity) first last → ⊥
-  -- a take whose word read has ended has the item of the put of its number
+      (s k i : ℕ) (x : Span) → IsSpanAt takes s k x → i < counts x.outcome → (first last : ℕ) → first ≤ last →
+      s + x.scan ≤ c first → c last ≤ s + before_count x → CellOverlap capacity p puts ((k + i) % capacity) first last → ⊥
+  -- word read i of a take behind k items, once it has ended, has item number k + i of those put
   pub items :
-      (t s k : ℕ) (x : Span) (item : ℕ) → IsSpanAt takes s k x → x.outcome ≡ Passes (item ∷ []) → s + before_count x ≤ c t →
-      slice_get (begun_items puts (p t)) k ≡ Some item
+      (t s k i : ℕ) (x : Span) (item : ℕ) → IsSpanAt takes s k x → slice_get (items_of x.outcome) i ≡ Some item → word_end word s x i ≤ c t →
+      slice_get (begun_items puts (p t)) (k + i) ≡ Some item
   -- the items taken are a beginning of the items put
   pub prefix : (t : ℕ) → IsBeginning (ended_items takes (c t)) (begun_items puts (p t))
   -- a take that finds the ring empty: all puts that had ended before it began were taken by takes that had ended then, and
@@ -89,6 +89,11 @@ pub record SpanLaw (modulus capacity batch : ℕ) (p c : ℕ → ℕ) (puts take
   pub fill :
       (t s n : ℕ) (x : Span) → IsSpanAt puts s n x → distance modulus (n % modulus) x.seen + counts x.outcome ≡ capacity → s + x.scan ≤ p t →
       (first : ℕ) → IsPlace p s first → counts_ended takes (c first) + capacity ≤ n + counts x.outcome
+  -- a take that takes all the items that its scan showed: the puts that had ended when it began had stored no more than the items up to
+  -- and with its own
+  pub drain :
+      (t s k : ℕ) (x : Span) → IsSpanAt takes s k x → 1 ≤ counts x.outcome → distance modulus x.seen (k % modulus) ≡ counts x.outcome → s + x.scan ≤ c t →
+      (first : ℕ) → IsPlace c s first → counts_ended puts (p first) ≤ k + counts x.outcome
   -- once a take was told that the ring is closed, at every later moment the close has begun, every item put has been taken,
   -- and no more come
   pub closed :
@@ -97,30 +102,31 @@ pub record SpanLaw (modulus capacity batch : ℕ) (p c : ℕ → ℕ) (puts take
 
 -- The law holds wherever two sides keep the rules of puts and takes and the registers keep theirs.
 pub span_law :
-    (modulus capacity batch : ℕ) (p c : ℕ → ℕ) (puts takes : List Span) → AllProper batch puts → AllProper 1 takes →
-    Ring modulus capacity batch p c puts takes → SpanLaw modulus capacity batch p c puts takes
-span_law modulus capacity batch p c puts takes proper_puts proper_takes ring =
+    (modulus capacity batch more word : ℕ) (p c : ℕ → ℕ) (puts takes : List Span) → AllProper batch puts → AllProper more takes →
+    Ring modulus capacity batch more word p c puts takes → SpanLaw modulus capacity batch more word p c puts takes
+span_law modulus capacity batch more word p c puts takes proper_puts proper_takes ring =
     record {
-      within = within modulus capacity batch p c puts takes ring proper_puts proper_takes;
+      within = within modulus capacity batch more word p c puts takes ring proper_puts proper_takes;
       put_range = λ t s n x st l.
-          (let u = left_at modulus capacity batch p c puts takes ring proper_puts proper_takes t s n x st l in
+          (let u = left_at modulus capacity batch more word p c puts takes ring proper_puts proper_takes t s n x st l in
           record { number = u.number; write = u.write; tallies = u.tallies; value = u.value; low = omega (arith, u.low); high = u.high; not_older = u.since; not_newer = u.until });
       take_range = λ t s k x st l.
-          (let u = shown_at modulus capacity batch p c puts takes ring proper_puts proper_takes t s k x st l in
+          (let u = shown_at modulus capacity batch more word p c puts takes ring proper_puts proper_takes t s k x st l in
           record { number = u.number; write = u.write; tallies = u.tallies; value = u.value; low = omega (arith, u.low); high = u.high; not_older = u.since; not_newer = u.until });
-      quiet = quiet modulus capacity batch p c puts takes ring proper_puts proper_takes;
-      items = taken_item modulus capacity batch p c puts takes ring proper_puts proper_takes;
+      quiet = quiet modulus capacity batch more word p c puts takes ring proper_puts proper_takes;
+      items = taken_item modulus capacity batch more word p c puts takes ring proper_puts proper_takes;
       prefix = λ t.
-          (drop (length (ended_items takes (c t))) (begun_items puts (p t)), sym (prefix modulus capacity batch p c puts takes ring proper_puts proper_takes t));
+          (drop (length (ended_items takes (c t))) (begun_items puts (p t)), sym (prefix modulus capacity batch more word p c puts takes ring proper_puts proper_takes t));
       empty = λ t s k x st o l first is.
-          (let w = before-whole 1 x (proper_at 1 takes proper_takes s k x st) in (
-            empty_fresh modulus capacity batch p c puts takes ring proper_puts proper_takes t s k x st (ap counts o) (omega (arith, w)) first is,
-            empty_open modulus capacity batch p c puts takes ring proper_puts proper_takes t s k x st o l first is,
+          (let w = before-whole more x (proper_at more takes proper_takes s k x st) in (
+            empty_fresh modulus capacity batch more word p c puts takes ring proper_puts proper_takes t s k x st (ap counts o) (omega (arith, w)) first is,
+            empty_open modulus capacity batch more word p c puts takes ring proper_puts proper_takes t s k x st o l first is,
           ));
-      full = full_fresh modulus capacity batch p c puts takes ring proper_puts proper_takes;
-      fill = fill_fresh modulus capacity batch p c puts takes ring proper_puts proper_takes;
+      full = full_fresh modulus capacity batch more word p c puts takes ring proper_puts proper_takes;
+      fill = fill_fresh modulus capacity batch more word p c puts takes ring proper_puts proper_takes;
+      drain = drain_fresh modulus capacity batch more word p c puts takes ring proper_puts proper_takes;
       closed = λ t u told l.
           (let z = told.two in
-          closed modulus capacity batch p c puts takes ring proper_puts proper_takes u z.start z.number z.asked z.stopped z.asked_stands z.asked_is z.stopped_stands
+          closed modulus capacity batch more word p c puts takes ring proper_puts proper_takes u z.start z.number z.asked z.stopped z.asked_stands z.asked_is z.stopped_stands
           z.stopped_is (omega (arith, z.at_end, told.ended, clock_up c (clock_c p c ring.clocks) t u l)));
     }
