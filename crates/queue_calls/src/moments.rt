@@ -43,6 +43,7 @@ impl<'a> Moments<'a> {
     /// more.
     pub fn new(capacity: Capacity, row: &'a [u64]) -> Moments<'a>
         ensures capacity { result.capacity ≡ capacity }
+        ensures row { (result.row.now ≡ row.entry.now) × (result.tail ≡ 0) }
         ensures none { HasFollowed result [] }
     {
         Moments {

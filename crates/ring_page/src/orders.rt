@@ -1,11 +1,12 @@
 //! The order in which the operations of recorded calls take effect.
-ghost use Rattle.std.specs.Prelude.{◌≡◌, ◌∷◌, ◌++◌, List, [], IfSome, IsTrue};
-ghost use Rattle.queue_calls.specs.Calls.{Happens, Effect};
-ghost use Rattle.queue_calls.specs.Queue.{Capacity as ACapacity};
+ghost use Rattle.std.specs.Prelude.{◌≡◌, ◌∷◌, ◌++◌, ℕ, List, [], IfNone, IfSome, IsTrue, false};
+ghost use Rattle.queue_calls.specs.Calls.{Event as AnEvent, Happens, Effect};
+ghost use Rattle.queue_calls.specs.Moments.{point_of};
+ghost use Rattle.queue_calls.specs.Queue.{Capacity as ACapacity, Does as ADoes};
 ghost use Rattle.queue_calls.specs.Steps.{done};
 ghost use Rattle.queue_calls.specs.Told.{meant, told};
 ghost use Rattle.ring_page.specs.declared.orders.Came.{Came};
-ghost use Rattle.ring_page.specs.Order.{HaveCome, TellsMark, TellsOrder, capacity_in};
+ghost use Rattle.ring_page.specs.Order.{HaveCome, LeadsNowhere, TellsMark, TellsOrder, capacity_in};
 
 use queue_calls::{Capacity, Does, Event, Moments};
 
@@ -47,7 +48,8 @@ fn capacity_in(holds: &Holds) -> Capacity
 
 // The event that these numbers tell.
 fn event_in<'a>(numbers: &'a [u64], came: &Came) -> Option<Event<'a>>
-    ensures { IfSome result (λ event. TellsMark numbers.entry.now came.now (Happens (told event))) }
+    ensures some { IfSome result (λ event. TellsMark numbers.entry.now came.now (Happens (told event))) }
+    ensures none { IfNone result ((event : AnEvent) → ¬ TellsMark numbers.entry.now came.now (Happens event)) }
 {
     let count = came.count as usize;
     let from = came.value as usize;
@@ -72,7 +74,8 @@ fn event_in<'a>(numbers: &'a [u64], came: &Came) -> Option<Event<'a>>
 
 // The operation that these numbers tell.
 fn does_in(numbers: &[u64], came: &Came) -> Option<Does>
-    ensures { IfSome result (λ does. TellsMark numbers.now came.now (Effect (done does))) }
+    ensures some { IfSome result (λ does. TellsMark numbers.now came.now (Effect (done does))) }
+    ensures none { IfNone result ((does : ADoes) → ¬ TellsMark numbers.now came.now (Effect does)) }
 {
     let count = came.count as usize;
     match came.kind {
@@ -89,8 +92,10 @@ fn does_in(numbers: &[u64], came: &Came) -> Option<Does>
 
 // The next mark comes. Whether it can.
 fn follow<'a>(moments: &mut Moments<'a>, numbers: &'a [u64], came: &Came) -> bool
-    ensures { (before : List Came) (capacity : ACapacity) → HaveCome numbers.entry.now before capacity moments.old →
-        IsTrue result → HaveCome numbers.entry.now (before ++ came.now ∷ []) capacity moments.new }
+    ensures came { (items : List ℕ) (before : List Came) (capacity : ACapacity) → HaveCome numbers.entry.now items before capacity moments.old →
+        IsTrue result → HaveCome numbers.entry.now items (before ++ came.now ∷ []) capacity moments.new }
+    ensures not { result ≡ false → LeadsNowhere numbers.entry.now moments.old.row.now came.now (meant moments.old.capacity) (point_of moments.old) moments.old.tail }
+    ensures same { result ≡ false → moments.new ≡ moments.old }
 {
     if let Some(event) = event_in(numbers, came) {
         return moments.happens(event);
@@ -101,10 +106,11 @@ fn follow<'a>(moments: &mut Moments<'a>, numbers: &'a [u64], came: &Came) -> boo
     }
 }
 
-/// Tells how many of the first marks of a history of calls can come one after the other, at a queue of this capacity. Where these are all,
-/// the history of the events among them is linearizable, and the operations take effect at the moments at which they stand.
+/// Tells how many of the first marks of a history of calls can come one after the other, at a queue of this capacity, and no more. Where
+/// these are all, the history of the events among them is linearizable, and the operations take effect at the moments at which they stand.
 ///
-/// The items are those that the operations put in, in their order; the numbers those that puts offer and takes take. It takes no memory.
+/// The items are those that the operations put in, in their order: an operation that puts in another item than the next of them is not
+/// counted either. The numbers are those that puts offer and takes take. It takes no memory.
 #[unsafe(no_mangle)]
 pub extern "C" fn page_order(
     holds: &Holds,
@@ -113,7 +119,7 @@ pub extern "C" fn page_order(
     marks: &[Came],
     count: &mut u64,
 )
-    ensures { TellsOrder numbers.now marks.now (capacity_in holds.now) count.new }
+    ensures { TellsOrder numbers.now items.now marks.now (capacity_in holds.now) count.new }
 {
     let mut moments = Moments::new(capacity_in(holds), items);
     for place in 0..marks.len() {

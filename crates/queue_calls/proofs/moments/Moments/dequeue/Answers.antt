@@ -36,4 +36,5 @@ returns c =
       },
       refl,
       refl,
+      omega arith,
     )

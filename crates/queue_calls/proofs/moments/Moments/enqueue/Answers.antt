@@ -26,4 +26,5 @@ returns c =
       },
       refl,
       refl,
+      refl,
     )
