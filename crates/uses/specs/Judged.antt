@@ -1,8 +1,14 @@
--- What is said of the text of a recording by the line at fault, if there is one.
-use Rattle.std.specs.Prelude.{ℕ, Option, Some, None, List}
+-- What is said of a history, and of the text of a recording, by the event or the line at fault, if there is one.
+use Rattle.std.specs.Prelude.{◌<◌, ℕ, suc, Option, Some, None, List, length, take}
 use Rattle.queue_calls.specs.Calls.{Event, IsLinearizable}
 use Rattle.queue_calls.specs.Queue.{Capacity}
 use Rattle.queue_calls.specs.Recordings.{IsRecording, StopsAt}
+
+-- the history is linearizable, or the event of this number, from 0, is the first one with which it is not
+abbrev pub JudgesCalls : Capacity → List Event → Option ℕ → Type 0
+JudgesCalls capacity events None = IsLinearizable capacity events
+JudgesCalls capacity events (Some number) =
+    (number < length events) × IsLinearizable capacity (take number events) × ¬ IsLinearizable capacity (take (suc number) events)
 
 -- the history that the text tells is linearizable, or the event of this line is the first one with which it is not
 abbrev pub JudgesLine : List ℕ → Option ℕ → Type 0

@@ -1,4 +1,5 @@
 pub mod ByHand
+pub mod Findings
 pub mod Judged
 pub mod Minstd
 pub mod Passed

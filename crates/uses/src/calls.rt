@@ -1,31 +1,44 @@
 //! An auditor of recorded calls, fed event by event.
-ghost use Rattle.std.specs.Prelude.{◌≤◌};
+ghost use Rattle.std.specs.Prelude.{◌≡◌, ◌≤◌, [], IfErr, IfOk, map};
+ghost use Rattle.queue_calls.specs.Audits.{Audits};
+ghost use Rattle.queue_calls.specs.Queue.{exactly};
+ghost use Rattle.queue_calls.specs.Told.{meant, told};
+ghost use Rattle.queue_calls.specs.declared.faults.Fault.TheVariants.{OutOfMemory};
+ghost use Rattle.uses.specs.Judged.{JudgesCalls};
 
 use queue_calls::{CallAuditor, Event, Fault, Fifo, Slots, exactly};
 use std::alloc::Allocator;
 
-// The number of the first event, from 0, with which the history is not linearizable.
+// The number of the first event, from 0, with which the history is not linearizable, told by an auditor that has read nothing.
 fn first_of<Q: Fifo<u64>>(
     auditor: &mut CallAuditor<Q>,
     events: &[Event<'_>],
-) -> Result<Option<usize>, Fault> {
+) -> Result<Option<usize>, Fault>
+    ensures judged { Audits Q.items auditor.old [] → IfOk result (JudgesCalls (meant auditor.old.capacity) (map told events.now)) }
+    ensures refused { IfErr result (λ fault. fault ≡ OutOfMemory) }
+{
+    auditor.has_read();
     for (number, event) in events.iter().enumerate() {
         match auditor.feed(*event) {
             Ok(()) => {}
+            Err(Fault::OutOfTurn) => return Ok(Some(number)),
+            Err(Fault::NotLinearizable) => return Ok(Some(number)),
             Err(Fault::OutOfMemory) => return Err(Fault::OutOfMemory),
-            Err(_) => return Ok(Some(number)),
         }
     }
     Ok(None)
 }
 
-/// The number of the first event, from 0, with which the history is not linearizable as one of a queue of this capacity.
+/// The number of the first event, from 0, with which the history is not linearizable as one of a queue of this capacity; none where
+/// it is.
 pub fn first_at_fault<A: Allocator + Copy>(
     alloc: A,
     capacity: usize,
     events: &[Event<'_>],
 ) -> Result<Option<usize>, Fault>
     requires { 1 ≤ capacity }
+    ensures judged { IfOk result (JudgesCalls (exactly capacity) (map told events.now)) }
+    ensures refused { IfErr result (λ fault. fault ≡ OutOfMemory) }
 {
     first_of(&mut CallAuditor::new(alloc, exactly(capacity)), events)
 }
@@ -37,6 +50,8 @@ pub fn first_at_fault_in_slots(
     events: &[Event<'_>],
 ) -> Result<Option<usize>, Fault>
     requires { 1 ≤ capacity }
+    ensures judged { IfOk result (JudgesCalls (exactly capacity) (map told events.now)) }
+    ensures refused { IfErr result (λ fault. fault ≡ OutOfMemory) }
 {
     let list = Slots::new(slots);
     first_of(&mut CallAuditor::with(list, exactly(capacity)), events)

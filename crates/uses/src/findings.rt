@@ -1,10 +1,11 @@
 //! What an audit found, read: how many items are still inside, a sentence, and the finding of a text that comes in pieces.
-ghost use Rattle.std.specs.Prelude.{◌≡◌, ◌+◌, ◌↔◌, IfOk, IfSome, IsSome, flat_map};
-ghost use Rattle.ring_audit.specs.Audit.{IsOfPrograms};
+ghost use Rattle.std.specs.Prelude.{◌≡◌, ◌↔◌, IfOk, IfSome, IsSome, flat_map, string_bytes};
+ghost use Rattle.ring_audit.specs.Audit.{IsOfPrograms, statement};
 ghost use Rattle.queue_calls.specs.Recordings.{IsFindingOf};
+ghost use Rattle.uses.specs.Findings.{HasLeft, fault_words, history_words, sentence};
 ghost use Rattle.uses.specs.Judged.{JudgesLine};
 
-use bits_core::{Event, Shape};
+use bits_core::{Event, Kind, Shape};
 use queue_calls::{CallsFinding, Lent, Lists, Recording, RecordingFault, RecordingIn};
 use ring_audit::{AuditFault, Finding, audit};
 use std::alloc::{AllocError, Allocator};
@@ -15,7 +16,8 @@ pub fn left_inside<A: Allocator + Copy>(
     shape: &Shape,
     events: &[Event],
 ) -> Result<Option<usize>, AuditFault>
-    ensures { IfOk result (λ left. IsSome left ↔ IsOfPrograms shape.now events.now) }
+    ensures found { IfOk result (λ left. IsSome left ↔ IsOfPrograms shape.now events.now) }
+    ensures left { IfOk result (λ left. IfSome left (HasLeft shape.now events.now)) }
 {
     match audit(alloc, shape, events)? {
         Finding::Lawful {
@@ -27,19 +29,38 @@ pub fn left_inside<A: Allocator + Copy>(
     }
 }
 
+// Of a history of the ring: how many items were put and taken, and how it ends.
+fn history_words<A: Allocator>(
+    alloc: A,
+    put: usize,
+    taken: usize,
+    end: &str,
+) -> Result<String<A>, AllocError>
+    ensures { IfOk result (λ text. string_bytes text ≡ history_words put taken end.now) }
+{
+    Ok(format!(in alloc; "a history of the ring: {put} put, {taken} taken, {end}")?)
+}
+
+// Of a fault.
+fn fault_words<A: Allocator>(alloc: A, place: usize, kind: Kind) -> Result<String<A>, AllocError>
+    ensures { IfOk result (λ text. string_bytes text ≡ fault_words place kind) }
+{
+    Ok(format!(in alloc; "event {place} is at fault: {kind}")?)
+}
+
 /// The finding in words.
 pub fn sentence_of<A: Allocator, B: Allocator>(
     alloc: A,
     finding: &Finding<B>,
-) -> Result<String<A>, AllocError> {
+) -> Result<String<A>, AllocError>
+    ensures { IfOk result (λ text. string_bytes text ≡ sentence (statement finding.now)) }
+{
     match finding {
         Finding::Lawful { put, taken, told } => {
-            let put = put.len();
-            let taken = taken.len();
             let end = if *told { "closed" } else { "open" };
-            format!(in alloc; "a history of the ring: {put} put, {taken} taken, {end}")
+            history_words(alloc, put.len(), taken.len(), end)
         }
-        Finding::Fault { place, kind } => format!(in alloc; "event {place} is at fault: {kind}"),
+        Finding::Fault { place, kind } => fault_words(alloc, *place, *kind),
     }
 }
 
