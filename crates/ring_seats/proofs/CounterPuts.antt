@@ -144,7 +144,7 @@ module _ (shape : Shape) where
       row_both P bits (put_phrase shape c x) (put_phrases shape (stored_after shape c x) puts) (stored_count shape (stored_after shape c x) puts).bits
       (row_puts puts (after bits (put_phrase shape c x)) (stored_after shape c x) (row_put bits c x is))
 
-  putter_row : (list : List Event) (calls : Puts) → HasPuts shape list calls → RowIs P (value_left list) (count_of shape calls).bits
+  pub putter_row : (list : List Event) (calls : Puts) → HasPuts shape list calls → RowIs P (value_left list) (count_of shape calls).bits
   putter_row list calls has i =
       let puts : List Made = put_phrases shape first_count calls.puts in
       ap (λ (l : List Event). value_left l (row_bit P i)) has.list_is ∙

@@ -89,7 +89,7 @@ module _ (shape : Shape) where
       row_both C bits (take_phrase shape k x) (take_phrases shape (taken_after k x) takes) (bits_held shape (taken_in (taken_after k x) takes))
       (row_takes takes (after bits (take_phrase shape k x)) (taken_after k x) (row_take bits k x is))
 
-  taker_row : (list : List Event) (calls : Takes) → HasTakes shape list calls → RowIs C (value_left list) (bits_held shape (taken_in 0 calls.takes))
+  pub taker_row : (list : List Event) (calls : Takes) → HasTakes shape list calls → RowIs C (value_left list) (bits_held shape (taken_in 0 calls.takes))
   taker_row list calls has i =
       let takes : List Made = take_phrases shape 0 calls.takes in
       ap (λ (l : List Event). value_left l (row_bit C i)) has.list_is ∙

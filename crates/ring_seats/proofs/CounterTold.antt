@@ -1,16 +1,24 @@
--- The history tells what the words of a counter ring are.
-use Rattle.std.proofs.Common.{◌≡◌, ℕ, zero, suc, ◌<◌, Bool, true≢false, List, slice_index, sym, subst, ◌∙◌, arith}
+-- The history tells what the words of a counter ring are, and so do whole calls what those of its counts are.
+use Rattle.std.proofs.Common.{◌≡◌, ℕ, zero, suc, ◌+◌, ◌%◌, ◌<◌, Bool, true≢false, List, [], ◌∷◌, length, slice_index, ap, sym, subst, ◌∙◌, arith, length-append}
 use native.Mathlib.Decide.{dec_lt}
 use Rattle.bits_core.specs.declared.shapes.Shape.{Shape}
 use Rattle.bits_core.specs.declared.events.Side.{Side}
 use Rattle.bits_core.specs.declared.events.Side.TheVariants.{P, C}
 use Rattle.bits_core.specs.declared.events.Event.{Event}
-use Rattle.bits_core.specs.Shape.{capacity_of, width_of}
+use Rattle.bits_core.specs.Shape.{capacity_of, modulus_of, width_of}
 use Rattle.bits_core.specs.Made.{own}
+use Rattle.register_core.specs.Row.{row_bit}
 use Rattle.register_core.specs.Word.{DigitsTellItems}
+use Rattle.ring_core.specs.Counts.{Count, IsCount, bits_held, first_count}
 use Rattle.ring_core.specs.CountWrites.{CountsShowNumbers}
-use Rattle.ring_seats.specs.Counters.{count_place, cell_place, ShowsWords}
-use Rattle.ring_seats.specs.Laws.{WordsAreTold}
+use Rattle.ring_core.specs.Items.{all_put, all_taken}
+use Rattle.ring_core.specs.ProducerCalls.{count_of}
+use Rattle.ring_core.specs.Puts.{Put, Stored, Full, stored_after, stored_count}
+use Rattle.ring_core.specs.Takes.{Take, Item, ItemAfterClose, Empty, taken_in}
+use Rattle.ring_seats.specs.Counters.{count_place, cell_place, value_left, ShowsWords}
+use Rattle.ring_seats.specs.Laws.{PutsAreShown, TakesAreShown, WordsAreTold}
+use Rattle.ring_seats.proofs.CounterPuts.{RowIs, past_is, putter_row}
+use Rattle.ring_seats.proofs.CounterTakes.{taker_row}
 use Rattle.ring_seats.proofs.LastWrites.{Lowest, count_shows, item_shows}
 
 -- bits have one lowest that is set
@@ -40,3 +48,50 @@ words-told numbers tell shape words others h a b (suc (suc zero)) lt = count_tol
 words-told numbers tell shape words others h a b (suc (suc (suc j))) lt =
     let same : cell_place j ≡ suc (suc (suc j)) = omega arith in
     subst (λ (n : ℕ). slice_index words n ≡ slice_index others n) same (cell_told numbers tell shape words others h a b j (omega (arith, lt)))
+
+-- ---- whole calls
+
+-- the lowest bit that is set after puts is that of the number of items stored
+after_puts : CountsShowNumbers → (shape : Shape) (puts : List Put) (c : Count) → IsCount shape c → IsCount shape (stored_count shape c puts)
+after_puts numbers shape [] c is = is
+after_puts numbers shape (Stored seen items ∷ puts) c is = after_puts numbers shape puts (stored_after shape c (Stored seen items)) ((numbers shape).1 c seen items)
+after_puts numbers shape (Full seen ∷ puts) c is = after_puts numbers shape puts (stored_after shape c (Full seen)) (record { set = is.set; clear = is.clear })
+
+-- and that after takes of the number of items taken
+after_takes : CountsShowNumbers → (shape : Shape) (k : ℕ) → IsCount shape (record { number = k; bits = bits_held shape k })
+after_takes numbers shape zero = (numbers shape).0
+after_takes numbers shape (suc k) = (numbers shape).1 (record { number = k; bits = bits_held shape k }) 0 (0 ∷ [])
+
+-- so many are stored, and taken
+stored_number : (shape : Shape) (puts : List Put) (c : Count) → (stored_count shape c puts).number ≡ c.number + length (all_put puts)
+stored_number shape [] c = omega arith
+stored_number shape (Stored seen items ∷ puts) c =
+    omega (arith, stored_number shape puts (stored_after shape c (Stored seen items)), past_is c.number items, length-append items (all_put puts))
+stored_number shape (Full seen ∷ puts) c = stored_number shape puts (stored_after shape c (Full seen))
+
+taken_number : (takes : List Take) (k : ℕ) → taken_in k takes ≡ k + length (all_taken takes)
+taken_number [] k = omega arith
+taken_number (Item seen item ∷ takes) k = omega (arith, taken_number takes (suc k))
+taken_number (ItemAfterClose seen again item ∷ takes) k = omega (arith, taken_number takes (suc k))
+taken_number (Empty seen ∷ takes) k = taken_number takes k
+
+from_none : (n m : ℕ) → n ≡ 0 + m → n ≡ m
+from_none n m e = omega (arith, e)
+
+-- a count whose bits the list left is the word that shows them
+shown_count : CountsShowNumbers → (shape : Shape) (words : List ℕ) (h : List Event) → ShowsWords shape words h → (x : Side) (c : Count) → IsCount shape c → RowIs x (value_left (own x h)) c.bits → slice_index words (count_place x) ≡ c.number % modulus_of shape
+shown_count numbers shape words h shows x c is row =
+    one_lowest (λ i. value_left (own x h) (row_bit x i)) (slice_index words (count_place x)) (c.number % modulus_of shape)
+    (count_shows numbers shape x (own x h) (slice_index words (count_place x)) (shows.small x) (shows.count x))
+    (record { set = row (c.number % modulus_of shape) ∙ is.set; clear = λ i lt. row i ∙ is.clear i lt })
+
+pub puts-shown : CountsShowNumbers → PutsAreShown
+puts-shown numbers shape words h calls shows has =
+    shown_count numbers shape words h shows P (count_of shape calls) (after_puts numbers shape calls.puts first_count (numbers shape).0) (putter_row shape (own P h) calls has) ∙
+    ap (λ (n : ℕ). n % modulus_of shape) (from_none (count_of shape calls).number (length (all_put calls.puts)) (stored_number shape calls.puts first_count))
+
+pub takes-shown : CountsShowNumbers → TakesAreShown
+takes-shown numbers shape words h calls shows has =
+    let k : ℕ = taken_in 0 calls.takes in
+    shown_count numbers shape words h shows C (record { number = k; bits = bits_held shape k }) (after_takes numbers shape k) (taker_row shape (own C h) calls has) ∙
+    ap (λ (n : ℕ). n % modulus_of shape) (from_none k (length (all_taken calls.takes)) (taken_number calls.takes 0))

@@ -8,6 +8,7 @@ pub mod CounterTakerCalls
 pub mod CounterTakes
 pub mod CounterTold
 pub mod Histories
+pub mod LastStates
 pub mod LastWrites
 pub mod Moves
 pub mod Places

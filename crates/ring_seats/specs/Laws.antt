@@ -1,10 +1,17 @@
 -- What a caller of the seats may rest on.
-use Rattle.std.specs.Prelude.{◌≡◌, ℕ, ◌<◌, Bool, List, slice_index}
+use Rattle.std.specs.Prelude.{◌≡◌, ℕ, ◌%◌, ◌<◌, Bool, List, length, slice_index}
 use Rattle.bits_core.specs.declared.shapes.Shape.{Shape}
+use Rattle.bits_core.specs.declared.events.Side.TheVariants.{P, C}
 use Rattle.bits_core.specs.declared.events.Event.{Event}
+use Rattle.bits_core.specs.Shape.{modulus_of}
+use Rattle.bits_core.specs.Made.{own}
+use Rattle.ring_core.specs.Puts.{Puts}
+use Rattle.ring_core.specs.Takes.{Takes}
+use Rattle.ring_core.specs.Items.{all_put, all_taken}
 use Rattle.ring_seats.specs.Ring.{RingEnd}
 use Rattle.ring_seats.specs.Steppers.{AreAnswered}
-use Rattle.ring_seats.specs.Counters.{ShowsWords, words_of}
+use Rattle.ring_seats.specs.Calls.{HasPuts, HasTakes}
+use Rattle.ring_seats.specs.Counters.{count_place, ShowsWords, words_of}
 
 -- the reads of two stretches of an end's steps, one behind the other, are answered as those of each
 abbrev pub AnswersAdd : Type 0
@@ -15,3 +22,14 @@ abbrev pub WordsAreTold : Type 0
 WordsAreTold =
     (shape : Shape) (words others : List ℕ) (h : List Event) → ShowsWords shape words h → ShowsWords shape others h →
     (place : ℕ) → place < words_of shape → slice_index words place ≡ slice_index others place
+
+-- where a side's events are those of whole calls, the word of its count is how many items these put, or took, modulo the modulus
+abbrev pub PutsAreShown : Type 0
+PutsAreShown =
+    (shape : Shape) (words : List ℕ) (h : List Event) (calls : Puts) → ShowsWords shape words h → HasPuts shape (own P h) calls →
+    slice_index words (count_place P) ≡ length (all_put calls.puts) % modulus_of shape
+
+abbrev pub TakesAreShown : Type 0
+TakesAreShown =
+    (shape : Shape) (words : List ℕ) (h : List Event) (calls : Takes) → ShowsWords shape words h → HasTakes shape (own C h) calls →
+    slice_index words (count_place C) ≡ length (all_taken calls.takes) % modulus_of shape

@@ -1,8 +1,9 @@
 -- What a meeting of two ends gives.
-use Rattle.std.specs.Prelude.{◌≡◌, List}
+use Rattle.std.specs.Prelude.{◌≡◌, true, List}
 use Rattle.bits_core.specs.declared.events.Side.TheVariants.{P, C}
 use Rattle.bits_core.specs.declared.events.Event.{Event}
 use Rattle.bits_core.specs.Made.{own, IsBeginning}
+use Rattle.ring_seats.specs.declared.views.View.{View}
 use Rattle.ring_seats.specs.Ring.{RingEnd}
 use Rattle.ring_seats.specs.Programs.{IsRing}
 
@@ -19,3 +20,10 @@ pub record Meets (p c : RingEnd) (h : List Event) : Type 0 where
   pub taken : own C h ≡ c.list
   pub putter_knew : IsBeginning p.known h
   pub taker_knew : IsBeginning c.known h
+
+-- the seat may step for both sides, and its lists are the two sides of the history that it knows
+pub record KnowsAll (v : View) : Type 0 where
+  pub puts : v.puts ≡ true
+  pub takes : v.takes ≡ true
+  pub put : own P v.known ≡ v.put
+  pub taken : own C v.known ≡ v.taken

@@ -1,6 +1,6 @@
 //! What the ends of a ring, and their callers, may rest on, each the contract of a function that does nothing.
 ghost use Rattle.ring_seats.specs.Below.{LawsBelow};
-ghost use Rattle.ring_seats.specs.Laws.{AnswersAdd, WordsAreTold};
+ghost use Rattle.ring_seats.specs.Laws.{AnswersAdd, PutsAreShown, TakesAreShown, WordsAreTold};
 
 use bits_core::laws::{
     before_last_changes, beginning_is_lawful, empty_is_lawful, held_changes, lawful_by_one_more,
@@ -23,6 +23,15 @@ pub fn words_are_told()
 {
     counts_are_written();
     digits_tell_items();
+}
+
+/// The words of a counter ring tell how far it came: where all calls of a side are over, the word of its count is how many items
+/// it put, or took, modulo the modulus.
+pub fn counts_are_shown()
+    ensures puts { PutsAreShown }
+    ensures takes { TakesAreShown }
+{
+    counts_are_written();
 }
 
 /// The laws on which the steps of seats and the calls of ends rest, put together.

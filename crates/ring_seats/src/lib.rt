@@ -6,6 +6,7 @@
 mod counter_calls;
 mod counter_steppers;
 mod counter_words;
+mod endings;
 pub mod laws;
 mod layout;
 mod meetings;
@@ -16,6 +17,7 @@ mod words;
 
 pub use counter_calls::{close_open, put_open, take_open};
 pub use counter_words::{CounterRule, Counting};
+pub use endings::{LastWords, close_table};
 pub use meetings::{first_steppers, join_steppers, meet_steppers};
 pub use steppers::Stepper;
 pub use tables::{NewTable, counter_table, flicker_table};

@@ -3,7 +3,7 @@ ghost use Rattle.std.specs.Prelude.{◌≡◌, true, false, []};
 ghost use Rattle.bits_core.specs.Bits.{other};
 ghost use Rattle.bits_core.specs.declared.events.Side.TheVariants.{P, C};
 ghost use Rattle.ring_seats.specs.Rule.{IsIdle, joint, list_of, may_step};
-ghost use Rattle.ring_seats.specs.Meetings.{KeepsEnd, Meets};
+ghost use Rattle.ring_seats.specs.Meetings.{KeepsEnd, KnowsAll, Meets};
 ghost use Rattle.ring_seats.specs.Steppers.{StandsAs};
 
 use crate::laws::laws_below;
@@ -73,13 +73,16 @@ pub fn meet_steppers<'a, K: Keeping>(
     (stepper(ring, seat, Side::P), stepper(same, other, Side::C))
 }
 
-/// The two seats, of one ring and with no access open, end in one that knows such a history. It makes no access.
+/// The two seats, of one ring and with no access open, end in one of that ring that knows such a history, and whose lists are its
+/// two sides. It makes no access.
 /// For example, the run of either ring is ended so.
 pub fn join_steppers<'a, K: Keeping>(p: Stepper<'a, K>, c: Stepper<'a, K>) -> Seat<(), View>
     requires sides { (p.side ≡ P) × (c.side ≡ C) }
     requires ring { p.ring ≡ c.ring }
     requires idle { IsIdle P p.list × IsIdle C c.list }
-    ensures { Meets p.entry c.entry result.me.0.known }
+    ensures own { result.table_id ≡ p.entry.ring.id }
+    ensures meets { Meets p.entry c.entry result.me.0.known }
+    ensures knows { KnowsAll result.me.0 }
 {
     let Stepper { ring, mut seat, .. } = p;
     let Stepper { seat: theirs, .. } = c;

@@ -19,4 +19,4 @@ counted P Q f (Err e) h = tt
 pub returns : goal.returns
 returns g c =
     let n : length c.as_slice.result.now ≡ words_of c.args.shape = ap length (c.as_slice.ensures.value ∙ c.in_ok-words.ensures) ∙ length-replicate (words_of c.args.shape) 0 in
-    counted _ _ (λ t h. (h.5, h.0 ∙ n, search rules, h.2, h.4)) c.of_words.result c.of_words.ensures
+    counted _ _ (λ t h. (h.5, h.0 ∙ n, h.1, search rules, h.2, h.4)) c.of_words.result c.of_words.ensures
