@@ -1,5 +1,6 @@
 -- What the meetings of the ends give.
 use Rattle.std.specs.Prelude.{◌≡◌, Bool, List}
+use Rattle.atomic_table.specs.Seated.{TableId}
 use Rattle.bits_core.specs.declared.shapes.Shape.{Shape}
 use Rattle.bits_core.specs.declared.events.Event.{Event}
 use Rattle.ring_core.specs.Puts.{Puts}
@@ -9,8 +10,10 @@ use Rattle.ring_seats.specs.Calls.{HasPuts, HasTakes}
 pub use Rattle.ring_seats.specs.Calls.{closed_reply}
 pub use Rattle.ring_seats.specs.Meetings.{KeepsEnd, Meets}
 
--- a ring whose ends are gone: its history, whether a close stands in it, and whether a take was told that the ring is closed
+-- a ring whose ends are gone: which ring it is, its history, whether a close stands in it, and whether a take was told that the
+-- ring is closed
 pub record Ending : Type 0 where
+  pub id : TableId
   pub history : List Event
   pub closed : Bool
   pub told : Bool

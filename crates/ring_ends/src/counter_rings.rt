@@ -53,8 +53,9 @@ impl<A: Allocator + Copy> CounterRing<A> {
 
 impl<A: Allocator> CounterRing<A> {
     /// Loads a word: number 0 is that of the close bit, 1 the producer's counter, 2 the consumer's, and 3 + j that of
-    /// cell j. Any thread may do so at any time, whatever the two ends are at, and it is no event of theirs. The word is
-    /// that of a state which keeps the ring's rule ([`CounterRule`](ring_seats::CounterRule)). The place is below 3 and the capacity.
+    /// cell j. Any thread may do so at any time, whatever the two ends are at, and it is no event of theirs. A convenience
+    /// for who looks on: the word is that of some state which keeps the ring's rule ([`CounterRule`](ring_seats::CounterRule)). The place is
+    /// below 3 and the capacity.
     pub fn observe(&self, place: usize) -> u64
         requires { place < words_of self.now.shape }
         ensures { IsWordFound (KeptWords self.now.shape) place result }
@@ -119,9 +120,11 @@ impl CounterRing<Global> {
     }
 
     /// Ends the ring's run, of which one lawful history is left, whose sides are the two lists and which begins with
-    /// what each end knew; its calls are linearizable. The ends are those of one ring. It makes no access and takes no memory.
+    /// what each end knew; its calls are linearizable. The ends are those of one ring; they are gone. The ring's words stay as they
+    /// are, and its `close` hands them up. It makes no access and takes no memory.
     pub fn finish<'a>(putter: CounterPutter<'a>, taker: CounterTaker<'a>) -> CounterFinished
         requires ring { putter.ring ≡ taker.ring }
+        ensures ring { result.id ≡ putter.entry.ring.id }
         ensures meets { Meets putter.entry taker.entry result.history }
         ensures linearizable { EachReadingIsLinearizable putter.entry.ring.shape result.history }
         ensures closed { ClosesAre putter.entry.ring.shape putter.entry.list result.closed }

@@ -130,11 +130,12 @@ pub trait RingOf<E: PutEnd, F: TakeEnd> {
         ensures lawful { StandsAs P (E.end result.0) × StandsAs C (F.end result.1) };
 
     /// Ends the ring's run, of which one lawful history is left, whose sides are the two lists and which begins with
-    /// what each end knew; its calls are linearizable. The ends are those of one ring, with no call under way; they are gone. It makes no access and
-    /// takes no memory.
+    /// what each end knew; its calls are linearizable. The ends are those of one ring, with no call under way; they are gone. What is
+    /// left is of that ring. It makes no access and takes no memory.
     fn finish(putter: E, taker: F) -> Finished
         requires ring { (E.end putter).ring ≡ (F.end taker).ring }
         requires idle { E.idle putter × F.idle taker }
+        ensures ring { result.id ≡ (E.end putter).ring.id }
         ensures meets { Meets (E.end putter) (F.end taker) result.history }
         ensures linearizable { EachReadingIsLinearizable (E.end putter).ring.shape result.history }
         ensures closed { ClosesAre (E.end putter).ring.shape (E.end putter).list result.closed }

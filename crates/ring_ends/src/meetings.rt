@@ -17,8 +17,8 @@ use ring_seats::{View, first_steppers, join_steppers, meet_steppers};
 use std::alloc::{Allocator, Global};
 use std::marker::Model;
 
-/// A ring whose run is over: its ends are gone. To a contract it is one lawful history, whether a close stands in it,
-/// and whether a take was told that the ring is closed.
+/// What is left of a ring's run, whose ends are gone. To a contract it is which ring it is of, one lawful history, whether a close
+/// stands in it, and whether a take was told that the ring is closed.
 ///
 /// In use: `uses::two_threads::pass_through`.
 #[derive(Drop)]
@@ -30,10 +30,13 @@ pub struct Finished {
 
 impl Model for Finished {
     ghost use Rattle.ring_ends.specs.Meetings.{Ending};
+    ghost use Rattle.ring_seats.specs.Meetings.{KnowsAll};
 
     ghost Value = { Ending };
 
-    ghost view = { λ f. record { history = f.seat.me.0.known; closed = f.closed; told = f.told } };
+    ghost view = { λ f. record { id = f.seat.table_id; history = f.seat.me.0.known; closed = f.closed; told = f.told } };
+
+    ghost invariant = { λ f. KnowsAll f.seat.me.0 };
 }
 
 impl Finished {
@@ -120,13 +123,14 @@ impl FlickerRing<Global> {
 
     /// Ends the ring's run, of which one lawful history is left, whose sides are the two lists and which begins with
     /// what each end knew; its calls are linearizable. The ends are those of one ring, with no call under way; they are gone, and their oracles with
-    /// them. It makes no access and takes no memory.
+    /// them. The ring's words stay as they are, and its `close` hands them up. It makes no access and takes no memory.
     pub fn finish<'a, O1: Oracle + Drop, O2: Oracle + Drop>(
         putter: Putter<'a, O1>,
         taker: Taker<'a, O2>,
     ) -> Finished
         requires ring { putter.end.ring ≡ taker.end.ring }
         requires idle { (putter.call ≡ None) × (taker.taking ≡ false) }
+        ensures ring { result.id ≡ putter.entry.end.ring.id }
         ensures meets { Meets putter.entry.end taker.entry.end result.history }
         ensures linearizable { EachReadingIsLinearizable putter.entry.end.ring.shape result.history }
         ensures closed { ClosesAre putter.entry.end.ring.shape putter.entry.end.list result.closed }

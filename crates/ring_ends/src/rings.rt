@@ -1,12 +1,13 @@
 //! The ring.
-ghost use Rattle.std.specs.Prelude.{◌≡◌, ◌<◌, true, IfOk};
+ghost use Rattle.std.specs.Prelude.{◌≡◌, ◌<◌, true, IfOk, length};
 ghost use Rattle.bits_core.specs.Shape.{belongs};
 ghost use Rattle.ring_seats.specs.Rule.{KeepsFlickerRule, IsWordFound};
 ghost use Rattle.ring_seats.specs.Words.{word_place};
 
+use crate::meetings::Finished;
 use atomic_table::{Seat, Shared, Table};
 use bits_core::{Bit, MemoryFault, Shape};
-use ring_seats::{Flickering, Kind, RuleOf, View, Words, flicker_table};
+use ring_seats::{Flickering, Kind, LastWords, RuleOf, View, Words, close_table, flicker_table};
 use std::alloc::Allocator;
 use std::marker::Model;
 
@@ -44,13 +45,13 @@ impl<K: Kind, A: Allocator> Model for RingIn<K, A> {
 
     ghost view = { λ r. record { shape = r.shape; id = r.table.shared.table_id } };
 
-    ghost invariant = { λ r. (r.table.shared.key ≡ r.shape) × (r.table.shared.table_id.words ≡ K.count r.shape) × (0 < K.count r.shape) };
+    ghost invariant = { λ r. (r.table.shared.key ≡ r.shape) × (r.table.shared.table_id.words ≡ K.count r.shape) × (r.table.shared.table_id.slots ≡ 0) × (0 < K.count r.shape) };
 }
 
 impl<K: Kind, A: Allocator> RingIn<K, A> {
     // The ring of a table whose key is the shape.
     pub(crate) fn of(table: Table<(), View, Shape, RuleOf<K>, A>, shape: Shape) -> RingIn<K, A>
-        requires { (table.shared.key ≡ shape) × (table.shared.table_id.words ≡ K.count shape) × (0 < K.count shape) }
+        requires { (table.shared.key ≡ shape) × (table.shared.table_id.words ≡ K.count shape) × (table.shared.table_id.slots ≡ 0) × (0 < K.count shape) }
         ensures { result ≡ record { shape = shape; id = table.shared.table_id } }
     {
         RingIn {
@@ -74,6 +75,21 @@ impl<K: Kind, A: Allocator> RingIn<K, A> {
         ensures { (result.now.key ≡ self.now.shape) × (result.now.table_id ≡ self.now.id) × (result.now.table_id.words ≡ K.count self.now.shape) }
     {
         &self.table.shared
+    }
+
+    /// The words of the ring as they stand, where its run is over: they show the history that is left of it, as this kind of ring
+    /// has it ([`Kind`]). They are as many as it has. What is left of the run is of this ring; both are gone. It makes no access
+    /// and takes no memory.
+    ///
+    /// In use: `uses::two_threads::pass_through`.
+    pub fn close(self, finished: Finished) -> LastWords<A>
+        requires ring { finished.id ≡ self.id }
+        ensures count { length result ≡ K.count self.shape }
+        ensures shows { K.shows self.shape result finished.history }
+    {
+        let RingIn { table, .. } = self;
+        let Finished { seat, .. } = finished;
+        close_table(table, seat)
     }
 
     // The words as an end reaches them.
@@ -130,9 +146,9 @@ impl<A: Allocator + Copy> FlickerRing<A> {
 
 impl<A: Allocator> FlickerRing<A> {
     /// Loads the word of a bit: 0 or 1, and 2 while a write of the bit is under way. Any thread may do so at any time,
-    /// whatever the two ends are at, and it is no event of theirs. The word is that of a state which keeps the ring's
-    /// rule ([`FlickerRule`](ring_seats::FlickerRule)): so, at each moment, there is one lawful history whose two sides are the lists of the
-    /// two seats that may step, and this is what its bit shows. The bit is one of the ring's shape.
+    /// whatever the two ends are at, and it is no event of theirs. A convenience for who looks on: the word is that of some
+    /// state which keeps the ring's rule ([`FlickerRule`](ring_seats::FlickerRule)), so that there is a lawful history of which its bit shows
+    /// this. That each step keeps the rule, the type of the ring's table says. The bit is one of the ring's shape.
     pub fn observe(&self, bit: Bit) -> u64
         requires { belongs self.now.shape bit ≡ true }
         ensures { IsWordFound (KeepsFlickerRule self.now.shape) (word_place self.now.shape bit) result }

@@ -15,7 +15,7 @@ use Rattle.ring_core.specs.Takes.{Takes}
 use Rattle.ring_core.specs.Items.{all_put, all_taken}
 use Rattle.ring_seats.specs.Rule.{Stands}
 use Rattle.ring_ends.specs.Ends.{HasPuts, HasPut, HasPutAll, HasTakes, HasTaken}
-pub use Rattle.ring_seats.specs.Laws.{WordsAreTold}
+pub use Rattle.ring_seats.specs.Laws.{PutsAreShown, TakesAreShown, WordsAreTold}
 
 -- A taker knows a history, whose puts are whole, and has made whole takes, those of that history among them. Where the next take
 -- finds the ring empty, each item of these puts was taken before it, and no close stands behind them.

@@ -3,7 +3,7 @@ ghost use Rattle.ring_run.specs.Laws.{EmptyAfterMeeting, FullAfterMeeting, ItemF
 
 use bits_core::laws::made_is_access;
 use ring_core::laws::{calls_are_first, puts_are_read, ring_law, takes_are_read};
-pub use ring_seats::laws::words_are_told;
+pub use ring_seats::laws::{counts_are_shown, words_are_told};
 
 /// No take is answered `Empty` while an item of a put that a meeting showed is not taken, nor once a meeting showed
 /// the close: of a taker that knows a history, and has made takes behind it, the next one finds the ring empty only

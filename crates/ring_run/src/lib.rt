@@ -16,5 +16,5 @@ pub use ring_ends::{
     PutEnd, Putter, RingOf, RunFault, Start, TakeEnd, Taker,
 };
 pub use ring_seats::{
-    CounterRule, Counting, FlickerRule, Flickering, Keeping, Kind, Loads, RuleOf, View,
+    CounterRule, Counting, FlickerRule, Flickering, Keeping, Kind, LastWords, Loads, RuleOf, View,
 };
