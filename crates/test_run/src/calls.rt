@@ -12,7 +12,7 @@ use std::process::Abort;
 
 // A call, and how it is answered.
 #[derive(Clone, Copy)]
-enum Call {
+pub enum Call {
     Put(u64, PutReply),
     PutAll(&'static [u64], BatchReply),
     Close,
@@ -53,6 +53,23 @@ fn expect_answer<P: PutEnd, T: TakeEnd>(rt: &impl Abort, putter: &mut P, taker: 
             assert!(rt; taker.take() == wanted);
         }
         Call::Meet => {}
+    }
+}
+
+/// The calls are answered so. None of them is a meeting.
+pub fn expect_each<P: PutEnd, T: TakeEnd>(
+    rt: &impl Abort,
+    putter: &mut P,
+    taker: &mut T,
+    calls: &[Call],
+)
+    requires idle { P.idle putter.old × T.idle taker.old }
+    ensures idle { P.idle putter.new × T.idle taker.new }
+    ensures putter { (P.end putter.new).ring ≡ (P.end putter.old).ring }
+    ensures taker { (T.end taker.new).ring ≡ (T.end taker.old).ring }
+{
+    for call in calls {
+        expect_answer(rt, putter, taker, call);
     }
 }
 

@@ -1,5 +1,5 @@
 -- What whole calls of a ring's ends store and take, and what came through where both ends are done.
-use Rattle.std.proofs.Common.{◌≡◌, ⊎_elim, ℕ, zero, suc, ◌+◌, ◌≤◌, Bool, true, false, Some, None, Option, List, [], ◌∷◌, ◌++◌, length, take, refl, ap, sym, subst, ◌∙◌, arith, append-nil, append_assoc, true≢false, ◌%◌, ◌<◌, ◌^◌, ◌-◌, drop, Result, Ok, Err}
+use Rattle.std.proofs.Common.{◌≡◌, ⊎_elim, ℕ, zero, suc, ◌+◌, ◌≤◌, Bool, true, false, Some, None, Option, List, [], ◌∷◌, ◌++◌, length, slice_index, take, refl, ap, sym, subst, ◌∙◌, arith, append-nil, append_assoc, true≢false, ◌%◌, ◌<◌, ◌^◌, ◌-◌, drop, Result, Ok, Err}
 use Rattle.std.specs.Prelude.{IfOk}
 use Rattle.std.proofs.lemmas.List.{take-append-drop}
 use Rattle.std.proofs.Math.Seq.{take-add, take-length}
@@ -29,6 +29,8 @@ use Rattle.ring_run.specs.Ring.{Ring, RingEnd}
 use Rattle.ring_run.specs.Steppers.{IsSameEnd}
 use Rattle.ring_run.specs.Meetings.{Meets, TellsAre}
 use Rattle.ring_run.specs.Ends.{HasPuts, HasPut, HasPutAll, PutAdds, HasTakes, HasTaken, TakeAdds}
+use Rattle.ring_run.specs.Counters.{ShowsWords}
+use Rattle.ring_run.specs.Laws.{PutsAreShown, TakesAreShown}
 use Rattle.uses.specs.Passed.{HasStored, HasTook, items_answered}
 
 -- ---- lists
@@ -40,7 +42,7 @@ first (suc n) [] = (refl, omega arith)
 first (suc n) (x ∷ xs) = let r = first n xs in (ap (λ (l : List ℕ). x ∷ l) r.0, omega (arith, r.1))
 
 -- a chunk of the items is a batch
-length_first : (n : ℕ) (xs : List ℕ) → n ≤ length xs → length (take n xs) ≡ n
+pub length_first : (n : ℕ) (xs : List ℕ) → n ≤ length xs → length (take n xs) ≡ n
 length_first zero xs le = refl
 length_first (suc n) [] le = absurd (omega (arith, le))
 length_first (suc n) (x ∷ xs) le = ap suc (length_first n xs (omega (arith, le)))
@@ -316,6 +318,18 @@ module _ (p c : RingEnd) (same : p.ring ≡ c.ring) (h : List Event) (meets : Me
         ) in
         let all = closed shape h ps.calls ts.calls run (length h) (length h) told (omega arith) in
         sym taken_is ∙ all.1 ∙ sym all.0 ∙ put_is
+
+  -- by the words that the ring leaves
+  module _ (words : List ℕ) (shows : ShowsWords p.ring.shape words h) where
+    pub counts_put : PutsAreShown → slice_index words 1 ≡ length put % modulus_of p.ring.shape
+    counts_put law =
+        law shape words h ps.calls shows (subst (λ (l : List Event). HasPuts shape l ps.calls) (sym meets.put) ps.list_is) ∙
+        ap (λ (l : List ℕ). length l % modulus_of shape) ps.items_are
+
+    pub counts_taken : TakesAreShown → slice_index words 2 ≡ length taken % modulus_of p.ring.shape
+    counts_taken law =
+        law shape words h ts.calls shows (subst (λ (l : List Event). HasTakes shape l ts.calls) (sym meets.taken) takes_here) ∙
+        ap (λ (l : List ℕ). length l % modulus_of shape) ts.items_are
 
 -- ---- first calls
 

@@ -1,7 +1,8 @@
-//! Two threads of one's own over the ends of a ring: what the one took is a beginning of what the other stored.
-ghost use Rattle.std.specs.Prelude.{◌≡◌, ◌≤◌, true, [], IfOk, length, take};
+//! Two threads of one's own over the ends of a ring: what the one took is a beginning of what the other stored, and the ring's words
+//! tell how many these were.
+ghost use Rattle.std.specs.Prelude.{◌≡◌, ◌≤◌, ◌%◌, true, [], IfOk, length, take};
 ghost use Rattle.bits_core.specs.Made.{IsBeginning};
-ghost use Rattle.bits_core.specs.Shape.{AllFit};
+ghost use Rattle.bits_core.specs.Shape.{AllFit, modulus_of};
 ghost use Rattle.ring_run.specs.Steppers.{IsSameEnd};
 ghost use Rattle.uses.specs.Passed.{HasStored, HasTook};
 
@@ -9,6 +10,7 @@ use crate::batches::put_batch;
 use bits_core::Shape;
 use ring_core::TakeReply;
 use ring_core::laws::{puts_are_read, ring_law, takes_are_read, whole_calls_count};
+use ring_run::laws::counts_are_shown;
 use ring_run::{CounterRing, PutEnd, RunFault, TakeEnd};
 use std::alloc::Allocator;
 use std::thread::{Threads, join_mut};
@@ -122,10 +124,13 @@ pub struct Passed<A: Allocator> {
     pub taken: Vec<u64, A>,
     /// Whether the taker was told that the ring is closed.
     pub told: bool,
+    /// What the words of the two counts hold at the end, the producer's and the consumer's.
+    pub counts: (u64, u64),
 }
 
 /// A ring of one's own between two threads of one's own: what was taken is a beginning of what was stored, and all of it
-/// once the taker was told that the ring is closed.
+/// once the taker was told that the ring is closed. The ring is closed behind them, and its words read: the count of each side is
+/// how many items it stored, or took, modulo the modulus.
 pub fn pass_through<R: Threads, A: Allocator + Copy>(
     rt: &R,
     alloc: A,
@@ -136,10 +141,12 @@ pub fn pass_through<R: Threads, A: Allocator + Copy>(
     requires { AllFit shape items.now }
     ensures prefix { IfOk result (λ r. IsBeginning r.taken.items (take r.stored items.now)) }
     ensures all { IfOk result (λ r. r.told ≡ true → r.taken.items ≡ take r.stored items.now) }
+    ensures counts { IfOk result (λ r. (r.counts.0 ≡ r.stored % modulus_of shape) × (r.counts.1 ≡ length r.taken.items % modulus_of shape)) }
 {
     ring_law();
     whole_calls_count();
     takes_are_read();
+    counts_are_shown();
     let (ring, start) = CounterRing::new(alloc, shape)?;
     let (mut putter, mut taker) = ring.ends(start);
     let mut taken = Vec::new(alloc);
@@ -147,9 +154,12 @@ pub fn pass_through<R: Threads, A: Allocator + Copy>(
     takes?;
     let finished = CounterRing::finish(putter, taker);
     let told = finished.told();
+    let words = ring.close(finished);
+    let counts = (words.word(1), words.word(2));
     Ok(Passed {
         stored,
         taken,
         told,
+        counts,
     })
 }

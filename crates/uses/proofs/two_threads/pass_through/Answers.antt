@@ -1,8 +1,10 @@
-use Rattle.std.proofs.Common.{◌≡◌, true, take, ap, sym, ◌∙◌, subst, Bool}
-use Rattle.ring_run.specs.Ring.{RingEnd}
+use Rattle.std.proofs.Common.{◌≡◌, ◌%◌, ℕ, List, true, length, take, ap, sym, ◌∙◌, subst, Bool}
+use Rattle.bits_core.specs.Shape.{modulus_of}
+use Rattle.ring_run.specs.Counters.{ShowsWords}
+use Rattle.ring_run.specs.Ring.{Ring, RingEnd}
 use Rattle.ring_run.specs.Meetings.{TellsAre}
 use Rattle.uses.specs.Passed.{HasTook}
-use Rattle.uses.proofs.Passing.{of_ok, passed, passed_all}
+use Rattle.uses.proofs.Passing.{counts_put, counts_taken, length_first, of_ok, passed, passed_all}
 use Rattle.uses.proofs.two_threads.pass_through.Goals as goal
 
 pub returns-clause-prefix : goal.returns-clause-prefix
@@ -25,3 +27,21 @@ returns-clause-all g c told =
     let took : HasTook t w.new.taken.items = of_ok w.result.1 c.in_ok-takes.field-0 (HasTook t w.new.taken.items) c.in_ok-takes.was w.ensures.took in
     passed_all p t same c.finish-finished.result.history c.finish-finished.ensures.meets (take w.result.0 c.args.items.now) w.new.taken.items w.ensures.stored took
     c.whole_calls_count.ensures.puts c.whole_calls_count.ensures.takes c.ring_law.ensures.closed c.takes_are_read.ensures tells
+
+pub returns-clause-counts : goal.returns-clause-counts
+returns-clause-counts g c =
+    let w = c.work_both-stored in
+    let p : RingEnd = w.new.putter in
+    let t : RingEnd = w.new.taker in
+    let words : List ℕ = c.close-words.result in
+    let stored : List ℕ = take w.result.0 c.args.items.now in
+    let at : p.ring ≡ c.in_ok-ring.ring = w.ensures.same.0.ring ∙ ap (λ (e : RingEnd). e.ring) c.ends-putter.ensures.putter in
+    let shape_is = ap (λ (r : Ring). r.shape) at ∙ c.in_ok-ring.ensures.0 in
+    let same : p.ring ≡ t.ring = at ∙ sym (w.ensures.same.1.ring ∙ ap (λ (e : RingEnd). e.ring) c.ends-putter.ensures.taker) in
+    let took : HasTook t w.new.taken.items = of_ok w.result.1 c.in_ok-takes.field-0 (HasTook t w.new.taken.items) c.in_ok-takes.was w.ensures.took in
+    let shows : ShowsWords p.ring.shape words c.finish-finished.result.history = subst (λ (r : Ring). ShowsWords r.shape words c.finish-finished.result.history) (sym at) c.close-words.ensures.shows in (
+      c.word.ensures ∙ counts_put p t same c.finish-finished.result.history c.finish-finished.ensures.meets stored w.new.taken.items w.ensures.stored took words shows c.counts_are_shown.ensures.puts ∙
+          (λ i. length_first w.result.0 c.args.items.now w.ensures.few i % modulus_of (shape_is i)),
+      c.word-2.ensures ∙ counts_taken p t same c.finish-finished.result.history c.finish-finished.ensures.meets stored w.new.taken.items w.ensures.stored took words shows c.counts_are_shown.ensures.takes ∙
+          (λ i. length w.new.taken.items % modulus_of (shape_is i)),
+    )
