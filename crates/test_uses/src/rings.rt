@@ -29,7 +29,19 @@ fn threads_of_ones_own_pass_all(rt: HostRuntime) -> Result<(), Fail> {
     let items = [5, 7, 5, 65_535, 1, 2, 3];
     assert!(rt; shape.fits_all(&items));
     let passed = pass_through(&rt, rt.alloc(), shape, &items, 1_000_000_000)?;
-    assert!(rt; passed.stored == 7 && passed.told);
+    assert!(rt; passed.stored == 7 && passed.told && passed.counts == (7, 7));
+    assert_eq!(rt; passed.taken.as_slice(), items.as_slice());
+    Ok(())
+}
+
+// With modulus 3 the counts of five items are 1, 2, 0, 1, 2.
+#[test]
+fn counts_go_round_at_the_modulus(rt: HostRuntime) -> Result<(), Fail> {
+    let shape = Shape::new(1, 3, 4)?;
+    let items = [9, 8, 7, 6, 5];
+    assert!(rt; shape.fits_all(&items));
+    let passed = pass_through(&rt, rt.alloc(), shape, &items, 1_000_000_000)?;
+    assert_eq!(rt; passed.counts, (2, 2));
     assert_eq!(rt; passed.taken.as_slice(), items.as_slice());
     Ok(())
 }
@@ -41,6 +53,7 @@ fn without_a_take_nothing_is_taken(rt: HostRuntime) -> Result<(), Fail> {
     assert!(rt; shape.fits_all(&items));
     let passed = pass_through(&rt, rt.alloc(), shape, &items, 0)?;
     assert!(rt; passed.stored == 0 && passed.taken.is_empty() && !passed.told);
+    assert!(rt; passed.counts == (0, 0));
     Ok(())
 }
 
