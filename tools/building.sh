@@ -40,7 +40,8 @@ sources_sum() {
             done
         done
         # shellcheck disable=SC2086
-        { grep -E "^(${names#|})[: ]" crates.txt; find $folders -type f -exec sha256sum {} +; } | sort | sha256sum | cut -d ' ' -f 1
+        sum=$({ grep -E "^(${names#|})[: ]" crates.txt; find $folders -type f -exec sha256sum {} +; } | sort | sha256sum)
+        echo "${sum%% *}"
     )
 }
 

@@ -5,10 +5,17 @@
 shipped="$top/dist/lamport_ring"
 
 # built_of WORD: what dist/BUILT says behind the word.
-built_of() { sed -n "s/^$1 //p" "$top/dist/BUILT" 2>/dev/null; }
+built_of() {
+    while read -r word said; do
+        [ "$word" != "$1" ] || echo "$said"
+    done <"$top/dist/BUILT"
+} 2>/dev/null
 
 # sha_of FILE
-sha_of() { sha256sum <"$1" | cut -d ' ' -f 1; }
+sha_of() {
+    sha=$(sha256sum <"$1")
+    echo "${sha%% *}"
+}
 
 # is_of SUM: whether the shipped program says that it was built of the sources with this sum.
 is_of() { [ -e "$shipped" ] && [ "$(built_of sources)" = "$1" ]; }
