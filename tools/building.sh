@@ -27,20 +27,33 @@ crates_below() {
 }
 
 # sources_sum CRATE..: a SHA-256 of what these crates are built from, their files and their lines of crates.txt: the same on each machine.
+# Four parts are summed side by side, as it is asked before each run.
 sources_sum() {
     (
         cd "$top" || exit
         export LC_ALL=C
-        folders=
-        names=
-        for crate in "$@"; do
-            names="$names|$crate"
-            for part in src specs proofs; do
-                [ ! -d "crates/$crate/$part" ] || folders="$folders crates/$crate/$part"
-            done
-        done
-        # shellcheck disable=SC2086
-        sum=$({ grep -E "^(${names#|})[: ]" crates.txt; find $folders -type f -exec sha256sum {} +; } | sort | sha256sum)
+        sum=$(
+            {
+                names=
+                for turn in 0 1 2 3; do
+                    at=0
+                    folders=
+                    for crate in "$@"; do
+                        if [ $((at % 4)) -eq "$turn" ]; then
+                            names="$names|$crate"
+                            for part in src specs proofs; do
+                                [ ! -d "crates/$crate/$part" ] || folders="$folders crates/$crate/$part"
+                            done
+                        fi
+                        at=$((at + 1))
+                    done
+                    # shellcheck disable=SC2086
+                    [ -z "$folders" ] || find $folders -type f -exec sha256sum {} + | sort | sha256sum &
+                done
+                grep -E "^(${names#|})[: ]" crates.txt
+                wait
+            } | sort | sha256sum
+        )
         echo "${sum%% *}"
     )
 }
