@@ -24,6 +24,17 @@ pub enum NearFault {
     OutOfMemory,
 }
 
+impl NearFault {
+    /// The number of the fault: 1 `OutOfMemory`.
+    pub fn number(&self) -> u8
+        ensures { result ≡ 1 }
+    {
+        match self {
+            NearFault::OutOfMemory => 1,
+        }
+    }
+}
+
 impl From<AllocError> for NearFault {
     fn from(_error: AllocError) -> NearFault {
         NearFault::OutOfMemory

@@ -13,6 +13,7 @@ pub mod Laws
 pub mod Lines
 pub mod LineReading
 pub mod Causes
+pub mod Faults
 pub mod Recordings
 pub mod RecordingStates
 pub mod RecordingLaws

@@ -1,4 +1,6 @@
 //! Why an auditor refuses an event.
+ghost use Rattle.std.specs.Prelude.{◌≡◌};
+
 use thiserror::Error;
 
 /// Why an auditor refuses an event.
@@ -15,4 +17,19 @@ pub enum Fault {
     /// Memory for the items inside ran out.
     #[error("out of memory")]
     OutOfMemory,
+}
+
+impl Fault {
+    ghost use Rattle.queue_calls.specs.Faults.{number_of};
+
+    /// The number of the fault: 1 `OutOfTurn`, 2 `NotLinearizable`, 3 `OutOfMemory`.
+    pub fn number(&self) -> u8
+        ensures { result ≡ number_of self.now }
+    {
+        match self {
+            Fault::OutOfTurn => 1,
+            Fault::NotLinearizable => 2,
+            Fault::OutOfMemory => 3,
+        }
+    }
 }

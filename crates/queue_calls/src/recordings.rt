@@ -54,6 +54,21 @@ pub enum RecordingFault {
     OutOfMemory,
 }
 
+impl RecordingFault {
+    ghost use Rattle.queue_calls.specs.Faults.{recording_fault_number};
+
+    /// The number of the fault: 1 `BadLine`, 2 `TooLong`, 3 `OutOfMemory`.
+    pub fn number(&self) -> u8
+        ensures { result ≡ recording_fault_number self.now }
+    {
+        match self {
+            RecordingFault::BadLine(_) => 1,
+            RecordingFault::TooLong => 2,
+            RecordingFault::OutOfMemory => 3,
+        }
+    }
+}
+
 impl From<AllocError> for RecordingFault {
     ghost use Rattle.queue_calls.specs.declared.recordings.RecordingFault.TheVariants.{OutOfMemory};
 

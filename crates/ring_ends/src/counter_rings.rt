@@ -11,7 +11,7 @@ use crate::counter_putters::CounterPutter;
 use crate::counter_takers::CounterTaker;
 use crate::ends::RingOf;
 use crate::meetings::Finished;
-use crate::rings::{Pad, RingIn, RunFault, Start};
+use crate::rings::{Pad, RingIn, RunFault, StartIn};
 use bits_core::Shape;
 use ring_core::laws::ring_is_linearizable;
 use ring_seats::laws::laws_below;
@@ -30,10 +30,10 @@ use std::alloc::{Allocator, Global};
 /// In use: `uses::two_threads::pass_through`.
 pub type CounterRing<A> = RingIn<Counting, A>;
 
-/// The right to make the two ends of one counter ring: to a contract it is which ring it is, as for a flickering ring.
+/// The right to make the two ends of one counter ring.
 ///
 /// In use: `uses::two_threads::pass_through`.
-pub type CounterStart = Start;
+pub type CounterStart = StartIn<Counting>;
 
 /// A counter ring whose run is over: what is left of it is what is left of a flickering ring.
 ///
@@ -47,7 +47,7 @@ impl<A: Allocator + Copy> CounterRing<A> {
         ensures { IfOk result (λ r. (r.0.shape ≡ shape) × (r.1 ≡ r.0.id)) }
     {
         let (table, seat) = counter_table(alloc, shape)?;
-        Ok((RingIn::of(table, shape), Start { seat }))
+        Ok((RingIn::of(table, shape), StartIn::of(seat)))
     }
 }
 

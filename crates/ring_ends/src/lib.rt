@@ -18,5 +18,5 @@ pub use counter_takers::CounterTaker;
 pub use ends::{PutEnd, RingOf, TakeEnd};
 pub use meetings::Finished;
 pub use putters::Putter;
-pub use rings::{FlickerRing, RunFault, Start};
+pub use rings::{FlickerRing, RunFault, Start, StartIn};
 pub use takers::Taker;

@@ -1,7 +1,7 @@
 //! The ring.
-ghost use Rattle.std.specs.Prelude.{◌≡◌, ◌<◌, true, IfOk, length};
+ghost use Rattle.std.specs.Prelude.{◌≡◌, ◌<◌, [], true, IfOk, length};
 ghost use Rattle.bits_core.specs.Shape.{belongs};
-ghost use Rattle.ring_seats.specs.Rule.{KeepsFlickerRule, IsWordFound};
+ghost use Rattle.ring_seats.specs.Rule.{KeepsFlickerRule, IsWordFound, joint};
 ghost use Rattle.ring_seats.specs.Words.{word_place};
 
 use crate::meetings::Finished;
@@ -9,7 +9,7 @@ use atomic_table::{Seat, Shared, Table};
 use bits_core::{Bit, MemoryFault, Shape};
 use ring_seats::{Flickering, Kind, LastWords, RuleOf, View, Words, close_table, flicker_table};
 use std::alloc::Allocator;
-use std::marker::Model;
+use std::marker::{Model, PhantomData};
 
 /// Why a ring was not made, or a relay gave no outcome: `OutOfMemory`, where memory for the words of a ring, or for the items
 /// that a relay took, ran out. Its number is 1.
@@ -110,15 +110,14 @@ impl<K: Kind, A: Allocator> RingIn<K, A> {
 /// In use: `uses::steps::take_amid_put`.
 pub type FlickerRing<A> = RingIn<Flickering, A>;
 
-/// The right to make the two ends of one ring; with no other can they be made. To a contract it is which ring it is.
-///
-/// In use: `uses::steps::take_amid_put`.
+/// The right to make the two ends of one ring of this kind; with no other can they be made. To a contract it is which ring it is.
 #[derive(Drop)]
-pub struct Start {
+pub struct StartIn<K: Kind> {
     pub(crate) seat: Seat<(), View>,
+    kind: PhantomData<K>,
 }
 
-impl Model for Start {
+impl<K: Kind> Model for StartIn<K> {
     ghost use Rattle.std.specs.Prelude.{◌≡◌, []};
     ghost use Rattle.atomic_table.specs.Seated.{TableId, table_id_coded};
     ghost use Rattle.ring_seats.specs.Rule.{joint};
@@ -132,6 +131,24 @@ impl Model for Start {
     ghost invariant = { λ s. s.seat.me ≡ (joint [] [] [] [], []) };
 }
 
+impl<K: Kind> StartIn<K> {
+    // The start of the ring that this seat is of, which nobody else has.
+    pub(crate) fn of(seat: Seat<(), View>) -> StartIn<K>
+        requires { seat.me ≡ (joint [] [] [] [], []) }
+        ensures { result ≡ seat.table_id }
+    {
+        StartIn {
+            seat,
+            kind: PhantomData,
+        }
+    }
+}
+
+/// The right to make the two ends of one flickering ring.
+///
+/// In use: `uses::steps::take_amid_put`.
+pub type Start = StartIn<Flickering>;
+
 impl<A: Allocator + Copy> FlickerRing<A> {
     /// A ring of this shape with nothing put, and the right to make its ends. It takes memory for one word for each
     /// bit, and for 16 words behind the close bit, each count and each cell, which keep these apart. `OutOfMemory` is
@@ -140,7 +157,7 @@ impl<A: Allocator + Copy> FlickerRing<A> {
         ensures { IfOk result (λ r. (r.0.shape ≡ shape) × (r.1 ≡ r.0.id)) }
     {
         let (table, seat) = flicker_table(alloc, shape)?;
-        Ok((RingIn::of(table, shape), Start { seat }))
+        Ok((RingIn::of(table, shape), StartIn::of(seat)))
     }
 }
 

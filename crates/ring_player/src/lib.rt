@@ -1,4 +1,5 @@
-//! The player: the two sides of a script at work on one memory of safe bits.
+//! The player: the two sides of a script at work on one memory of safe bits. It hands up the audit of programs, for the history that a
+//! play gives or that was recorded elsewhere.
 #![tactic(auto)]
 
 mod actors;
@@ -10,6 +11,7 @@ mod tellings;
 mod worlds;
 
 pub use faults::PlayFault;
+pub use ring_audit::{AuditFault, Finding, audit};
 pub use ring_script::{Field, ITEM_LIMIT, LETTER_LIMIT, Script, ScriptFault, ScriptRef};
 pub use tellings::{Told, play_calls};
 pub use worlds::{Report, World, play, play_first};

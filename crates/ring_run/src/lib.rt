@@ -13,7 +13,7 @@ pub use recorders::{RecordedLines, Recorder, Slot};
 pub use relays::{Limits, Outcome, relay, relay_counter, relay_flicker};
 pub use ring_ends::{
     CounterFinished, CounterPutter, CounterRing, CounterStart, CounterTaker, Finished, FlickerRing,
-    PutEnd, Putter, RingOf, RunFault, Start, TakeEnd, Taker,
+    PutEnd, Putter, RingOf, RunFault, Start, StartIn, TakeEnd, Taker,
 };
 pub use ring_seats::{
     CounterRule, Counting, FlickerRule, Flickering, Keeping, Kind, LastWords, Loads, RuleOf, View,

@@ -1,4 +1,4 @@
-use queue_calls::{CallAuditor, Event, Fault, exactly};
+use queue_calls::{CallAuditor, Event, Fault, RecordingFault, exactly};
 use refusing::Refusing;
 use std::alloc::AllocGlobal;
 use std::process::Abort;
@@ -18,4 +18,28 @@ fn a_refused_growth_leaves_the_auditor(rt: HostRuntime) -> Result<(), Fail> {
         assert!(rt; auditor.feed(event) == Ok(()));
     }
     Ok(())
+}
+
+// The number of each fault of an auditor.
+const FAULTS: &[(Fault, u8)] = &[
+    (Fault::OutOfTurn, 1),
+    (Fault::NotLinearizable, 2),
+    (Fault::OutOfMemory, 3),
+];
+
+// The same of a recording.
+const RECORDING_FAULTS: &[(RecordingFault, u8)] = &[
+    (RecordingFault::BadLine(7), 1),
+    (RecordingFault::TooLong, 2),
+    (RecordingFault::OutOfMemory, 3),
+];
+
+#[test]
+fn faults_have_their_numbers(rt: HostRuntime) {
+    for (fault, number) in FAULTS {
+        assert!(rt; fault.number() == *number);
+    }
+    for (fault, number) in RECORDING_FAULTS {
+        assert!(rt; fault.number() == *number);
+    }
 }

@@ -129,7 +129,7 @@ fn is_refused(rt: &(impl Abort + AllocGlobal), allocations: u64) -> bool {
     let script = script_of(rt, &alloc, shape, asked);
     alloc.refuse_after(allocations);
     let (is_right, is_refused) = match play_near(&alloc, *miss, &script) {
-        Err(fault) => (fault == NearFault::OutOfMemory, true),
+        Err(fault) => (fault == NearFault::OutOfMemory && fault.number() == 1, true),
         Ok(played) => (played.told.as_slice() == *wanted, false),
     };
     assert!(rt; is_right && is_refused == alloc.has_refused());
