@@ -3,6 +3,8 @@
 #![tactic(auto)]
 
 #[cfg(test)]
+mod both_sides;
+#[cfg(test)]
 mod calls;
 #[cfg(test)]
 mod expects;

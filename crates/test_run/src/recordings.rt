@@ -31,8 +31,8 @@ static TAKES: [(Word, &[u64]); 4] = [
     (Word::Empty, &[]),
 ];
 
-// So many slots.
-fn slots(rt: &(impl Abort + AllocGlobal), room: usize) -> Vec<Slot> {
+/// So many slots.
+pub fn slots(rt: &(impl Abort + AllocGlobal), room: usize) -> Vec<Slot> {
     let mut slots = Vec::new(rt.alloc());
     for _ in 0..room {
         slots.push(Slot::new()).expect(rt, "memory for the slots");

@@ -1,7 +1,7 @@
 //! What an audit found, read: how many items are still inside, a sentence, and the finding of a text that comes in pieces.
-ghost use Rattle.std.specs.Prelude.{◌≡◌, ◌↔◌, IfOk, IfSome, IsSome, flat_map, string_bytes};
+ghost use Rattle.std.specs.Prelude.{◌≡◌, ◌↔◌, IfErr, IfOk, IfSome, IsSome, flat_map, string_bytes};
 ghost use Rattle.ring_audit.specs.Audit.{IsOfPrograms, statement};
-ghost use Rattle.queue_calls.specs.Recordings.{IsFindingOf};
+ghost use Rattle.queue_calls.specs.Recordings.{IsFindingOf, RefusesText};
 ghost use Rattle.uses.specs.Findings.{HasLeft, fault_words, history_words, sentence};
 ghost use Rattle.uses.specs.Judged.{JudgesLine};
 
@@ -69,7 +69,8 @@ pub fn found_in<A: Allocator + Copy>(
     alloc: A,
     pieces: &[&[u8]],
 ) -> Result<CallsFinding, RecordingFault>
-    ensures { IfOk result (IsFindingOf (flat_map (λ piece. piece.now) pieces.now)) }
+    ensures found { IfOk result (IsFindingOf (flat_map (λ piece. piece.now) pieces.now)) }
+    ensures refused { IfErr result (λ e. RefusesText e (flat_map (λ piece. piece.now) pieces.now)) }
 {
     let mut recording = Recording::new(alloc);
     'pieces: for piece in pieces {
@@ -80,7 +81,8 @@ pub fn found_in<A: Allocator + Copy>(
 
 /// What is found of a text, with no memory but these lists in slots of the caller's.
 pub fn found_in_slots(lists: Lists<Lent<'_>>, text: &[u8]) -> Result<CallsFinding, RecordingFault>
-    ensures { IfOk result (IsFindingOf text.now) }
+    ensures found { IfOk result (IsFindingOf text.now) }
+    ensures refused { IfErr result (λ e. RefusesText e text.now) }
 {
     let mut recording = RecordingIn::within(lists);
     recording.read(text)?;
@@ -92,7 +94,8 @@ pub fn line_at_fault<A: Allocator + Copy>(
     alloc: A,
     pieces: &[&[u8]],
 ) -> Result<Option<u64>, RecordingFault>
-    ensures { IfOk result (JudgesLine (flat_map (λ piece. piece.now) pieces.now)) }
+    ensures judged { IfOk result (JudgesLine (flat_map (λ piece. piece.now) pieces.now)) }
+    ensures refused { IfErr result (λ e. RefusesText e (flat_map (λ piece. piece.now) pieces.now)) }
 {
     match found_in(alloc, pieces)? {
         CallsFinding::Lawful(_) => Ok(None),

@@ -26,7 +26,7 @@ pieces-preserved g c = (
   refl,
 )
 
-pub returns : goal.returns
-returns g c =
+pub returns-found : goal.returns-found
+returns-found g c =
     let all : take c.pieces.piece-index c.args.pieces.now ≡ c.args.pieces.now = take_all c.pieces.piece-index c.args.pieces.now (omega (arith, c.pieces-test.false)) in
     if_ok c.finding.result c.finding.ensures.found (λ finding found. subst (λ t. IsFindingOf (flat_map (λ piece. piece.now) t) finding) all (found _ c.pieces.invariant.0))

@@ -6,5 +6,5 @@ if_ok : {T E : Type 0} {P Q : T → Type 0} (r : Result T E) → IfOk r P → ((
 if_ok (Ok x) p q = q x p
 if_ok (Err e) p q = tt
 
-pub returns : goal.returns
-returns c = if_ok c.finding.result c.finding.ensures.found (λ finding found. found c.args.text.now (c.in_ok-read.ensures.read [] c.within-recording.ensures))
+pub returns-found : goal.returns-found
+returns-found c = if_ok c.finding.result c.finding.ensures.found (λ finding found. found c.args.text.now (c.in_ok-read.ensures.read [] c.within-recording.ensures))
