@@ -1,8 +1,8 @@
-use Rattle.std.proofs.Common.{◌≡◌, ◌<◌, ◌+◌, ◌++◌, ◌∷◌, [], ℕ, List, Bor, Result, Ok, Err, IfOk, length, take, slice_index_or, refl, ap, sym, subst, ◌∙◌, arith}
+use Rattle.std.proofs.Common.{◌≡◌, ◌<◌, ◌+◌, ◌++◌, ◌∷◌, [], ℕ, List, Bor, Result, Ok, Err, IfErr, IfOk, length, take, drop, slice_index_or, refl, ap, sym, rules, subst, ◌∙◌, arith}
 use Rattle.std.specs.Prelude.{flat_map}
 use Rattle.std.proofs.lemmas.Grind.{flat_map-append}
-use Rattle.std.proofs.lemmas.List.{append-nil, take_all, take_more}
-use Rattle.queue_calls.specs.Recordings.{IsFindingOf}
+use Rattle.std.proofs.lemmas.List.{append-nil, append_assoc, take-append-drop, take_all, take_more}
+use Rattle.queue_calls.specs.Recordings.{IsFindingOf, RefusesText}
 use Rattle.queue_calls.specs.RecordingStates.{HasRead}
 use Rattle.uses.proofs.findings.found_in.Goals as goal
 
@@ -26,7 +26,34 @@ pieces-preserved g c = (
   refl,
 )
 
-pub returns-found : goal.returns-found
-returns-found g c =
+-- the pieces before this one, this one, and those behind it
+all_pieces : (pieces : List (Bor (List ℕ))) (index : ℕ) (d : Bor (List ℕ)) → index < length pieces
+    → flat_map (λ piece. piece.now) (take index pieces) ++ ((slice_index_or pieces index d).now ++ flat_map (λ piece. piece.now) (drop (index + 1) pieces))
+        ≡ flat_map (λ piece. piece.now) pieces
+all_pieces pieces index d less =
+    let f : Bor (List ℕ) → List ℕ = λ piece. piece.now in
+    sym (append_assoc (flat_map f (take index pieces)) (slice_index_or pieces index d).now (flat_map f (drop (index + 1) pieces)))
+    ∙ ap (λ t. t ++ flat_map f (drop (index + 1) pieces)) (one_more pieces index d less)
+    ∙ sym (flat_map-append f (take (index + 1) pieces) (drop (index + 1) pieces)) ∙ ap (flat_map f) (take-append-drop (index + 1) pieces)
+
+-- what holds of an error follows from what else holds of it
+if_err : {T E : Type 0} {P Q : E → Type 0} (r : Result T E) → IfErr r P → ((e : E) → P e → Q e) → IfErr r Q
+if_err (Ok x) p q = tt
+if_err (Err e) p q = q e p
+
+pub returns-in_err-read-clause-refused : goal.returns-in_err-read-clause-refused
+returns-in_err-read-clause-refused g c =
+    let refused : RefusesText c.in_err-read.field-0.0 (flat_map (λ piece. piece.now) c.args.pieces.now) =
+        subst (RefusesText c.in_err-read.field-0.0) (all_pieces c.args.pieces.now c.pieces.piece-index _ (omega (arith, c.pieces-test.true)))
+            (c.in_err-read.ensures.refused _ (flat_map (λ piece. piece.now) (drop (c.pieces.piece-index + 1) c.args.pieces.now)) c.pieces.invariant.0) in
+    search (rules, refused)
+
+pub returns-clause-found : goal.returns-clause-found
+returns-clause-found g c =
     let all : take c.pieces.piece-index c.args.pieces.now ≡ c.args.pieces.now = take_all c.pieces.piece-index c.args.pieces.now (omega (arith, c.pieces-test.false)) in
     if_ok c.finding.result c.finding.ensures.found (λ finding found. subst (λ t. IsFindingOf (flat_map (λ piece. piece.now) t) finding) all (found _ c.pieces.invariant.0))
+
+pub returns-clause-refused : goal.returns-clause-refused
+returns-clause-refused g c =
+    let all : take c.pieces.piece-index c.args.pieces.now ≡ c.args.pieces.now = take_all c.pieces.piece-index c.args.pieces.now (omega (arith, c.pieces-test.false)) in
+    if_err c.finding.result c.finding.ensures.refused (λ e refused. subst (λ t. RefusesText e (flat_map (λ piece. piece.now) t)) all (refused _ c.pieces.invariant.0))
