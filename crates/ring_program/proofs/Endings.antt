@@ -2,8 +2,8 @@
 use Rattle.std.proofs.Common.{◌≡◌, ℕ, Bool, List, Option, Some, None, Result, Ok, Err, IfErr, IfOk, IfSome, inl, inr}
 use Rattle.std.specs.Prelude.{OnErr}
 use Rattle.std.specs.Io.KnownBytes.{Appends}
-use Rattle.ring_program.specs.Answers.{AnswersCalls, AnswersLongBits, EndsBy, EndsCalls, EndsLongBits, IsCallsCause, IsLongBitsCause, Refused, RefusedCalls, RefusedLongBits, status_of, told_of}
-use Rattle.ring_program.specs.Faults.{Gains, TellsRefusal, refusal_line}
+use Rattle.ring_program.specs.Answers.{AnswersCalls, AnswersLongBits, EndsBy, EndsCalls, EndsLongBits, IsCallsCause, IsLongBitsCause, Refused, RefusedCalls, RefusedLongBits, status_of, ending_words}
+use Rattle.ring_program.specs.Faults.{Gains, SaysRefusal, refusal_line}
 use Rattle.ring_program.proofs.Gains.{tells_line}
 use Rattle.ring_program.specs.declared.answers.Ending.{Ending}
 use Rattle.ring_program.specs.declared.faults.Refusal.{Refusal}
@@ -15,9 +15,9 @@ IsWritten IsAnswer before after ending = (text : List ℕ) × IsAnswer text endi
 -- how what came of a command was concluded: by this status, and standard error was told of it
 pub record Concluded (Tells : List ℕ → Type 0) (r : Result Ending Refusal) (status : ℕ) : Type 0 where
   pub ok : IfOk r (λ ending. status ≡ status_of ending)
-  pub told : IfOk r (λ ending. Tells (told_of ending))
+  pub told : IfOk r (λ ending. Tells (ending_words ending))
   pub err : OnErr r (status ≡ 1)
-  pub refused : IfErr r (TellsRefusal Tells)
+  pub refused : IfErr r (SaysRefusal Tells)
 
 pub ends_by : (IsAnswer : List ℕ → Ending → Type 0) (IsReason : Refusal → Type 0) (before after : Option (List ℕ)) (Tells : List ℕ → Type 0) (r : Result Ending Refusal) (status : ℕ)
     → IfOk r (IsWritten IsAnswer before after) → IfErr r (Refused IsAnswer IsReason before after) → Concluded Tells r status
@@ -27,12 +27,12 @@ ends_by IsAnswer IsReason before after Tells (Ok ending) status (text, answer, w
 ends_by IsAnswer IsReason before after Tells (Err e) status written refused concluded = inr (concluded.err, e, refused, concluded.refused)
 
 -- of a command that tells a refusal by its line alone
-by_lines : (before after : Option (List ℕ)) (is_told : Bool) (r : Result Ending Refusal) → IfErr r (λ e. Gains before after is_told (refusal_line e)) → IfErr r (TellsRefusal (Gains before after is_told))
+by_lines : (before after : Option (List ℕ)) (is_told : Bool) (r : Result Ending Refusal) → IfErr r (λ e. Gains before after is_told (refusal_line e)) → IfErr r (SaysRefusal (Gains before after is_told))
 by_lines before after is_told (Ok ending) told = tt
 by_lines before after is_told (Err e) told = tells_line before after is_told e told
 
 pub concluded : (before after : Option (List ℕ)) (is_told : Bool) (r : Result Ending Refusal) (status : ℕ)
-    → IfOk r (λ ending. status ≡ status_of ending) → IfOk r (λ ending. Gains before after is_told (told_of ending)) → OnErr r (status ≡ 1)
+    → IfOk r (λ ending. status ≡ status_of ending) → IfOk r (λ ending. Gains before after is_told (ending_words ending)) → OnErr r (status ≡ 1)
     → IfErr r (λ e. Gains before after is_told (refusal_line e)) → Concluded (Gains before after is_told) r status
 concluded before after is_told r status ok told err refused = record { ok = ok; told = told; err = err; refused = by_lines before after is_told r refused }
 

@@ -3,7 +3,7 @@ use Rattle.std.proofs.Common.{◌≡◌, ◌⊎◌, ℕ, ◌+◌, Bool, true, fa
 use Rattle.std.proofs.KnownBytes.{Appends-nil, Appends-trans}
 use Rattle.std.proofs.Math.Seq.{take-append-add}
 use Rattle.std.specs.Io.KnownBytes.{Appends}
-use Rattle.ring_program.specs.Faults.{Gains, IsInText, TellsRefusal, refusal_line}
+use Rattle.ring_program.specs.Faults.{Gains, IsInText, SaysRefusal, refusal_line}
 use Rattle.ring_program.specs.declared.faults.Refusal.{Refusal}
 
 -- nothing was gained yet
@@ -16,7 +16,7 @@ gains_nothing held = Appends-nil held
 
 -- a refusal was told by its line alone
 pub tells_line : (before after : Option (List ℕ)) (is_told : Bool) (e : Refusal) → Gains before after is_told (refusal_line e)
-    → TellsRefusal (Gains before after is_told) e
+    → SaysRefusal (Gains before after is_told) e
 tells_line before after is_told e gains = ([], inl refl, subst (Gains before after is_told) (sym (append-nil (refusal_line e))) gains)
 
 -- a text that was told was gained, all of it
@@ -31,5 +31,5 @@ both before middle after false line more first (count, second) =
     (length line + count, subst (Appends before after) (sym (take-append-add line more count)) (Appends-trans before middle after line (take count more) first second))
 
 pub tells_both : (before middle after : Option (List ℕ)) (is_told : Bool) (e : Refusal) → Appends before middle (refusal_line e)
-    → (more : List ℕ) × ((more ≡ []) ⊎ IsInText e) × Gains middle after is_told more → TellsRefusal (Gains before after is_told) e
+    → (more : List ℕ) × ((more ≡ []) ⊎ IsInText e) × Gains middle after is_told more → SaysRefusal (Gains before after is_told) e
 tells_both before middle after is_told e first (more, why, second) = (more, why, both before middle after is_told (refusal_line e) more first second)

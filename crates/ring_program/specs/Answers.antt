@@ -35,7 +35,7 @@ use Rattle.ring_script.specs.Content.{Content}
 use Rattle.ring_script.specs.Script.{IsScript}
 use Rattle.ring_script.specs.declared.faults.ScriptFault.{ScriptFault}
 use Rattle.ring_script.specs.declared.faults.ScriptFault.TheVariants as script
-use Rattle.ring_program.specs.Faults.{TellsRefusal, refusal_line}
+use Rattle.ring_program.specs.Faults.{SaysRefusal, refusal_line}
 use Rattle.ring_program.specs.Reports.{Reports}
 use Rattle.ring_run.specs.Relays.{IsRelayed}
 use Rattle.bits_core.specs.declared.memory.MemoryFault.TheVariants as run
@@ -64,10 +64,10 @@ status_of LimitReached = 1
 status_of FaultFound = 3
 
 -- what standard error is told of an ending: that a limit was reached
-abbrev pub told_of : Ending → List ℕ
-told_of Done = []
-told_of LimitReached = codes "refused: limit reached\n"
-told_of FaultFound = []
+abbrev pub ending_words : Ending → List ℕ
+ending_words Done = []
+ending_words LimitReached = codes "refused: limit reached\n"
+ending_words FaultFound = []
 
 -- how an audit with this verdict ends
 abbrev pub verdict_ending_of : Verdict → Ending
@@ -325,7 +325,7 @@ pub record WasAnswered (IsAnswer : List ℕ → Ending → Type 0) (before after
   pub answer : IsAnswer text ending
   pub ends : status ≡ status_of ending
   pub written : Appends before after text
-  pub told : Tells (told_of ending)
+  pub told : Tells (ending_words ending)
 
 -- the output gained a front of the text of an answer
 pub record CutShort (IsAnswer : List ℕ → Ending → Type 0) (before after : Option (List ℕ)) : Type 0 where
@@ -343,7 +343,7 @@ Refused IsAnswer IsReason before after e = (IsReason e × Keeps before after)
 -- an answer was given, or there was a refusal, and standard error was told its words, which are those of this very cause
 abbrev pub EndsBy : (List ℕ → Ending → Type 0) → (Refusal → Type 0) → Option (List ℕ) → Option (List ℕ) → (List ℕ → Type 0) → ℕ → Type 0
 EndsBy IsAnswer IsReason before after Tells status = WasAnswered IsAnswer before after Tells status
-    ⊎ ((status ≡ 1) × (e : Refusal) × Refused IsAnswer IsReason before after e × TellsRefusal Tells e)
+    ⊎ ((status ≡ 1) × (e : Refusal) × Refused IsAnswer IsReason before after e × SaysRefusal Tells e)
 
 -- how the program ends on a question of this input
 abbrev pub RefusedOn : Question → List ℕ → Option (List ℕ) → Option (List ℕ) → Refusal → Type 0

@@ -51,5 +51,5 @@ Gains before after true text = Appends before after text
 Gains before after false text = (count : ℕ) × Appends before after (take count text)
 
 -- a refusal was told, by what it is to be told a text: its line, and behind it nothing, or what is wrong in a text
-abbrev pub TellsRefusal : (List ℕ → Type 0) → Refusal → Type 0
-TellsRefusal Tells e = (more : List ℕ) × ((more ≡ []) ⊎ IsInText e) × Tells (refusal_line e ++ more)
+abbrev pub SaysRefusal : (List ℕ → Type 0) → Refusal → Type 0
+SaysRefusal Tells e = (more : List ℕ) × ((more ≡ []) ⊎ IsInText e) × Tells (refusal_line e ++ more)

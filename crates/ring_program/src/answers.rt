@@ -2,7 +2,7 @@
 ghost use Rattle.std.specs.Prelude.{◌≡◌, ◌⊎◌, ℕ, true, IfErr, IfOk, IfSome, OnErr, OnOk, take};
 ghost use Rattle.std.specs.Fmt.InlineText.{inline_text};
 ghost use Rattle.std.specs.Io.KnownBytes.{Appends};
-ghost use Rattle.ring_program.specs.Answers.{status_of, told_of};
+ghost use Rattle.ring_program.specs.Answers.{status_of, ending_words};
 ghost use Rattle.ring_program.specs.Faults.{Gains, refusal_line};
 
 use crate::faults::{AppFault, Refusal};
@@ -141,7 +141,7 @@ pub fn refuse<E: Write>(refusal: Refusal, err: &mut E) -> Exit
 
 // Tells of an ending, on standard error, that a limit was reached, and tells whether that took it.
 fn tell_ending<E: Write>(ending: Ending, err: &mut E) -> bool
-    ensures told { Gains (E.contents err.old) (E.contents err.new) result (told_of ending) }
+    ensures told { Gains (E.contents err.old) (E.contents err.new) result (ending_words ending) }
     ensures quiet { (ending ≡ Ending.LimitReached) ⊎ ((err.new ≡ err.old) × (result ≡ true)) }
 {
     match ending {
@@ -154,7 +154,7 @@ fn tell_ending<E: Write>(ending: Ending, err: &mut E) -> bool
 /// How the program ends on an answer, with what the standard error is told.
 pub fn finish<E: Write>(ending: Ending, err: &mut E) -> Exit
     ensures status { result.status ≡ status_of ending }
-    ensures told { Gains (E.contents err.old) (E.contents err.new) result.is_told (told_of ending) }
+    ensures told { Gains (E.contents err.old) (E.contents err.new) result.is_told (ending_words ending) }
     ensures quiet { (result.status ≡ 1) ⊎ ((err.new ≡ err.old) × (result.is_told ≡ true)) }
 {
     let is_told = tell_ending(ending, err);
@@ -167,7 +167,7 @@ pub fn finish<E: Write>(ending: Ending, err: &mut E) -> Exit
 /// How the program ends on what came of a command, with what the standard error is told.
 pub fn conclude<E: Write>(ended: Result<Ending, Refusal>, err: &mut E) -> Exit
     ensures ok { IfOk ended (λ ending. result.status ≡ status_of ending) }
-    ensures told { IfOk ended (λ ending. Gains (E.contents err.old) (E.contents err.new) result.is_told (told_of ending)) }
+    ensures told { IfOk ended (λ ending. Gains (E.contents err.old) (E.contents err.new) result.is_told (ending_words ending)) }
     ensures err { OnErr ended (result.status ≡ 1) }
     ensures refused { IfErr ended (λ e. Gains (E.contents err.old) (E.contents err.new) result.is_told (refusal_line e)) }
     ensures quiet { (result.status ≡ 1) ⊎ ((err.new ≡ err.old) × (result.is_told ≡ true)) }

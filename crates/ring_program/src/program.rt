@@ -2,8 +2,8 @@
 ghost use Rattle.std.specs.Prelude.{◌≡◌, ◌≢◌, ◌≤◌, ◌⊎◌, [], List, ℕ, None, true, IfOk, IfErr, IfSome, IfNone, OnOk, OnErr, length, map, string_bytes, take};
 ghost use Rattle.std.specs.Io.KnownBytes.{Appends, Keeps};
 ghost use Rattle.clap.specs.Words.{fault_of, kind_of};
-ghost use Rattle.ring_program.specs.Answers.{Answers, AnswersWithin, AsksNoInput, AuditsBits, AuditsBitsWhy, AuditsPrograms, AuditsProgramsWhy, Ends, EndsOn, EndsUnasked, Explains, IsCause, IsOutOfMemory, IsShortage, IsStatus, IsStatusOn, MayEnd, PlaysScript, RecordsScript, RecordsWrong, RefusedOn, Refuses, RefusesScript, RefusesTrace, TracesScript, TracesWrong, WasWritten, finding_ending_of, status_of, told_of, verdict_ending_of};
-ghost use Rattle.ring_program.specs.Faults.{Gains, IsInText, TellsRefusal};
+ghost use Rattle.ring_program.specs.Answers.{Answers, AnswersWithin, AsksNoInput, AuditsBits, AuditsBitsWhy, AuditsPrograms, AuditsProgramsWhy, Ends, EndsOn, EndsUnasked, Explains, IsCause, IsOutOfMemory, IsShortage, IsStatus, IsStatusOn, MayEnd, PlaysScript, RecordsScript, RecordsWrong, RefusedOn, Refuses, RefusesScript, RefusesTrace, TracesScript, TracesWrong, WasWritten, finding_ending_of, status_of, ending_words, verdict_ending_of};
+ghost use Rattle.ring_program.specs.Faults.{Gains, IsInText, SaysRefusal};
 ghost use Rattle.ring_audit.specs.Audit.{statement};
 ghost use Rattle.ring_program.specs.declared.inputs.TheConstants.{INPUT_LIMIT};
 ghost use Rattle.ring_program.specs.CommandLine.{application, request_of};
@@ -282,7 +282,7 @@ fn tell_cause<E: Write>(json: Global, input: &[u8], refusal: Refusal, err: &mut 
 // Says why a question on this input is refused, and what is wrong in its text.
 fn refuse_on<E: Write>(json: Global, input: &[u8], refusal: Refusal, err: &mut E) -> Exit
     ensures status { result.status ≡ 1 }
-    ensures told { TellsRefusal (Gains (E.contents err.old) (E.contents err.new) result.is_told) refusal }
+    ensures told { SaysRefusal (Gains (E.contents err.old) (E.contents err.new) result.is_told) refusal }
 {
     let exit = refuse(refusal, err);
     if !exit.is_told {
@@ -302,9 +302,9 @@ fn conclude_on<E: Write>(
     err: &mut E,
 ) -> Exit
     ensures ok { IfOk ended (λ ending. result.status ≡ status_of ending) }
-    ensures told { IfOk ended (λ ending. Gains (E.contents err.old) (E.contents err.new) result.is_told (told_of ending)) }
+    ensures told { IfOk ended (λ ending. Gains (E.contents err.old) (E.contents err.new) result.is_told (ending_words ending)) }
     ensures err { OnErr ended (result.status ≡ 1) }
-    ensures refused { IfErr ended (TellsRefusal (Gains (E.contents err.old) (E.contents err.new) result.is_told)) }
+    ensures refused { IfErr ended (SaysRefusal (Gains (E.contents err.old) (E.contents err.new) result.is_told)) }
     ensures quiet { (result.status ≡ 1) ⊎ ((err.new ≡ err.old) × (result.is_told ≡ true)) }
 {
     match ended {

@@ -2,7 +2,7 @@ use Rattle.std.proofs.Common.{arith, ◌≡◌, ◌≢◌, ◌<◌, ◌∙◌, �
 use Rattle.std.proofs.KnownBytes.{Keeps-refl}
 use Rattle.std.specs.Io.KnownBytes.{Consumes, IsAtEnd}
 use Rattle.ring_program.specs.Answers.{EndsOn, IsCause, IsOutOfMemory, IsShortage}
-use Rattle.ring_program.specs.Faults.{Gains, TellsRefusal}
+use Rattle.ring_program.specs.Faults.{Gains, SaysRefusal}
 use Rattle.ring_program.specs.declared.command_line.Question.{Question}
 use Rattle.ring_program.specs.declared.faults.AppFault.{AppFault}
 use Rattle.ring_program.specs.declared.faults.AppFault.TheVariants as app
@@ -31,7 +31,7 @@ large_input input (Some rest) came large same = consumed input came rest large s
 -- how the program ends on an input that could not be read
 unread : (question : Question) (before after out : Option (List ℕ)) (Tells : List ℕ → Type 0) (fault : AppFault) (status : ℕ) → status ≡ 1 → fault ≢ app.WriteFailed
     → (fault ≡ app.TooLarge → (came : List ℕ) × (INPUT_LIMIT < length came) × Consumes before after came)
-    → TellsRefusal Tells (refusal.App fault) → IfSome before (λ bytes. EndsOn question bytes out out Tells status)
+    → SaysRefusal Tells (refusal.App fault) → IfSome before (λ bytes. EndsOn question bytes out out Tells status)
 unread question None after out Tells fault status one unwritten large told = tt
 unread question (Some input) after out Tells fault status one unwritten large told =
     inr (one, refusal.App fault, inl (cause question input fault unwritten (λ is. large_input input after (large is).0 (large is).1 (large is).2), Keeps-refl out), told)

@@ -4,7 +4,7 @@ use Rattle.clap.specs.declared.error.Error.{Error}
 use Rattle.clap.specs.declared.error.kind.ErrorKind.{ErrorKind}
 use Rattle.clap.specs.declared.error.kind.ErrorKind.TheVariants as kind
 use Rattle.ring_program.specs.Answers.{Ends, EndsUnasked, Explains, IsCallsCause, IsHelp, IsLongBitsCause, IsOutOfMemory, IsShortage, IsStatus, IsStatusOf, IsStatusOn, NoMemory, WasWritten}
-use Rattle.ring_program.specs.Faults.{Gains, TellsRefusal, refusal_line}
+use Rattle.ring_program.specs.Faults.{Gains, SaysRefusal, refusal_line}
 use Rattle.ring_program.specs.declared.command_line.Question.{Question}
 use Rattle.ring_program.specs.declared.command_line.Question.TheVariants.{Audit, AuditBits, AuditWhy, AuditBitsWhy, Play, PlayTrace, PlayCalls, WrongTrace, WrongCalls}
 use Rattle.ring_program.specs.declared.command_line.Request.{Request}
@@ -24,7 +24,7 @@ only_memory k before after Tells status (inr (inl help)) is = absurd (no_help k 
 only_memory k before after Tells status (inr (inr mistake)) is = absurd (mistake.1 is)
 
 -- standard error was told that memory ran out, in a line
-tells_short : (Tells : List ℕ → Type 0) → Tells (refusal_line (refusal.App app.OutOfMemory)) → TellsRefusal Tells (refusal.App app.OutOfMemory)
+tells_short : (Tells : List ℕ → Type 0) → Tells (refusal_line (refusal.App app.OutOfMemory)) → SaysRefusal Tells (refusal.App app.OutOfMemory)
 tells_short Tells told = ([], inl refl, told)
 
 -- a request is refused for want of memory
