@@ -2,7 +2,7 @@
 ghost use Rattle.std.specs.Prelude.{◌≡◌, ◌⊎◌, ℕ, true, IfErr, IfOk, IfSome, OnErr, OnOk, take};
 ghost use Rattle.std.specs.Fmt.InlineText.{inline_text};
 ghost use Rattle.std.specs.Io.KnownBytes.{Appends};
-ghost use Rattle.ring_program.specs.Answers.{status_of, ending_words};
+ghost use Rattle.ring_program.specs.Answers.{ending_words, status_of};
 ghost use Rattle.ring_program.specs.Faults.{Gains, refusal_line};
 
 use crate::faults::{AppFault, Refusal};

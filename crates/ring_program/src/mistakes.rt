@@ -190,8 +190,8 @@ fn tell_unnamed<E: Write>(words: &[&str], err: &mut E) -> bool {
     )
 }
 
-/// The words were taken, and name no command, no ring, no near miss, or options that do not go together. Tells it, and
-/// gives the exit status.
+/// The words were taken, and name no command, no ring, no near miss, or options that do not go together. Tells it, with
+/// status 2.
 pub fn unnamed<E: Write>(words: &[&str], err: &mut E) -> Exit
     ensures { result.status ≡ 2 }
 {

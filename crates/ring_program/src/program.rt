@@ -2,7 +2,7 @@
 ghost use Rattle.std.specs.Prelude.{◌≡◌, ◌≢◌, ◌≤◌, ◌⊎◌, [], List, ℕ, None, true, IfOk, IfErr, IfSome, IfNone, OnOk, OnErr, length, map, string_bytes, take};
 ghost use Rattle.std.specs.Io.KnownBytes.{Appends, Keeps};
 ghost use Rattle.clap.specs.Words.{fault_of, kind_of};
-ghost use Rattle.ring_program.specs.Answers.{Answers, AnswersWithin, AsksNoInput, AuditsBits, AuditsBitsWhy, AuditsPrograms, AuditsProgramsWhy, Ends, EndsOn, EndsUnasked, Explains, IsCause, IsOutOfMemory, IsShortage, IsStatus, IsStatusOn, MayEnd, PlaysScript, RecordsScript, RecordsWrong, RefusedOn, Refuses, RefusesScript, RefusesTrace, TracesScript, TracesWrong, WasWritten, finding_ending_of, status_of, ending_words, verdict_ending_of};
+ghost use Rattle.ring_program.specs.Answers.{Answers, AnswersWithin, AsksNoInput, AuditsBits, AuditsBitsWhy, AuditsPrograms, AuditsProgramsWhy, Ends, EndsOn, EndsUnasked, Explains, IsOutOfMemory, IsShortage, IsStatus, IsStatusOn, MayEnd, PlaysScript, RecordsScript, RecordsWrong, RefusedOn, Refuses, RefusesScript, RefusesTrace, TracesScript, TracesWrong, WasWritten, ending_words, finding_ending_of, status_of, verdict_ending_of};
 ghost use Rattle.ring_program.specs.Faults.{Gains, IsInText, SaysRefusal};
 ghost use Rattle.ring_audit.specs.Audit.{statement};
 ghost use Rattle.ring_program.specs.declared.inputs.TheConstants.{INPUT_LIMIT};
@@ -388,14 +388,15 @@ fn explain<A: Allocator, O: Write, E: Write>(
     give_help(text.as_bytes(), out, err)
 }
 
-/// The whole program: `words` are its name and its arguments, and the answer is the exit status.
+/// The whole program: `words` are its name and its arguments, and the answer is the exit status, with whether `err` took all
+/// that it was to be told.
 ///
 /// It reads the command line, then the whole input, then works, and writes the answer on `out` once
 /// it is complete; recorded calls and a trace of any length are read in pieces, and not kept; a run has no input, and none is read for it. Status 0 says that it is done, and 3 that
 /// the audit found a fault. With status 1 it refuses and says why on `err`; then nothing was written on
 /// `out`, unless a write failed, or a run reached a limit, whose text is written all the same. With status 2
 /// the command line is wrong. Where the words ask for help or the version, that is written on `out`, and
-/// nothing is read. A fault of `err` itself is ignored.
+/// nothing is read. A fault of `err` itself changes no status: it ends what is told, and the answer says so.
 ///
 /// In use: `main` of `lamport_ring` hands it the words and the streams of the process.
 pub fn execute<
@@ -406,6 +407,7 @@ pub fn execute<
     O: Write,
     E: Write,
 >(rt: &R, alloc: A, words: &'a [&'a str], input: &mut I, out: &mut O, err: &mut E) -> Exit
+    // By `Gains`: the standard error gained the words of the very cause, or, where it did not take them all, a front of them.
     ensures asked { IfSome (request_of (map (λ w. w.now) words.entry.now)) (λ request.
         Ends request (I.remaining input.old) (O.contents out.old) (O.contents out.new) (Gains (E.contents err.old) (E.contents err.new) result.is_told) result.status) }
     ensures unasked { IfNone (request_of (map (λ w. w.now) words.entry.now))
@@ -413,7 +415,7 @@ pub fn execute<
         (Gains (E.contents err.old) (E.contents err.new) result.is_told) result.status) }
     // Where nothing is asked of an input, nothing is read.
     ensures unread { AsksNoInput (request_of (map (λ w. w.now) words.entry.now)) → input.new ≡ input.old }
-    // The standard error gains nothing unless the program refuses, or the command line is wrong.
+    // The standard error gains nothing, and had to gain nothing, unless the program refuses or the command line is wrong.
     ensures quiet { (result.status ≡ 1) ⊎ ((result.status ≡ 2) ⊎ ((err.new ≡ err.old) × (result.is_told ≡ true))) }
     // Whatever the reader and the writers do.
     ensures statuses { IsStatus (request_of (map (λ w. w.now) words.entry.now)) result.status }
