@@ -73,6 +73,7 @@ const RUN_OF_NO_RING: &[&str] = &[
     "--modulus=3",
     "--width=1",
     "--count=3",
+    "--limit=0",
 ];
 
 const HELP: &[&str] = &["lamport_ring", "--help"];
@@ -159,7 +160,7 @@ fn says_that_standard_error_failed(rt: HostRuntime) {
     expect_unheard(&rt, 50, &UNHEARD);
     expect_unheard(&rt, 60, &UNHEARD);
     expect_unheard(&rt, 1000, &UNHEARD);
-    expect_unflushed(&rt, &UNHEARD[1]);
+    expect_unflushed(&rt, &UNHEARD[5]);
     expect_unflushed(&rt, &UNHEARD[6]);
 }
 
