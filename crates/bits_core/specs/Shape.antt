@@ -1,5 +1,5 @@
 -- Which numbers make a shape, and which bits a shape has.
-use Rattle.std.specs.Prelude.{◌≡◌, ℕ, ◌+◌, ◌^◌, ◌<◌, ◌≤◌, Bool, true, ◌&&◌, nat_lt, List, [], ◌∷◌}
+use Rattle.std.specs.Prelude.{◌≡◌, ℕ, ◌+◌, ◌^◌, ◌<◌, ◌≤◌, Bool, true, ◌&&◌, nat_lt, List, [], ◌∷◌, codes}
 use Rattle.bits_core.specs.declared.shapes.Shape.{Shape}
 use Rattle.bits_core.specs.declared.shapes.ShapeFault.{ShapeFault}
 use Rattle.bits_core.specs.declared.shapes.ShapeFault.TheVariants.{Capacity, Modulus, Width, Batch}
@@ -65,6 +65,13 @@ IsRefusedBatch capacity modulus width batch Batch = IsCapacity capacity × ¬ Is
 IsRefusedBatch capacity modulus width batch Modulus = IsCapacity capacity × IsBatchSize capacity batch × ¬ IsModulusFor capacity batch modulus
 IsRefusedBatch capacity modulus width batch Width =
     IsCapacity capacity × IsBatchSize capacity batch × IsModulusFor capacity batch modulus × ¬ IsWidth width
+
+-- the words of each fault
+abbrev pub shape_fault_words : ShapeFault → List ℕ
+shape_fault_words Capacity = codes "capacity must be from 1 to 64"
+shape_fault_words Modulus = codes "modulus must be from capacity + batch + 1 to 256"
+shape_fault_words Width = codes "width must be from 1 to 64"
+shape_fault_words Batch = codes "batch must be from 1 to capacity"
 
 -- the number of each fault
 abbrev pub shape_fault_number : ShapeFault → ℕ

@@ -15,19 +15,33 @@ use crate::oracles::Oracle;
 use crate::shapes::Shape;
 use crate::stores::Store;
 use std::alloc::{AllocError, AllocFailed, Allocator};
+use std::error::Error;
 use std::fmt;
 use std::marker::Model;
-use thiserror::Error;
 
 /// Why a memory made no event.
 ///
 /// In use: `uses::by_hand::step_producer`.
-#[derive(Clone, Copy, PartialEq, Eq, Debug, Error)]
+#[derive(Clone, Copy, PartialEq, Eq, Debug)]
 pub enum MemoryFault {
     /// Memory for the history ran out.
-    #[error("out of memory")]
     OutOfMemory,
 }
+
+impl fmt::Display for MemoryFault {
+    ghost use Rattle.std.specs.Prelude.{Some, codes};
+
+    ghost output = { λ _. Some (codes "out of memory") };
+
+    /// The words of the fault.
+    fn fmt<W: fmt::Write>(&self, f: &mut fmt::Formatter<W>) -> fmt::Result {
+        match self {
+            MemoryFault::OutOfMemory => f.write_str("out of memory"),
+        }
+    }
+}
+
+impl Error for MemoryFault {}
 
 impl MemoryFault {
     /// The number of the fault: 1 `OutOfMemory`.

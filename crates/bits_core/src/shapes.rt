@@ -2,23 +2,39 @@
 ghost use Rattle.std.specs.Prelude.{◌≡◌, ℕ, ◌+◌, ◌^◌, ◌<◌, ◌≤◌, ◌↔◌, All, IsTrue, MatchResult};
 
 use crate::events::Bit;
-use thiserror::Error;
+use std::error::Error;
+use std::fmt;
 
 /// Why numbers are no shape.
 ///
 /// For example, `Shape::new(1, 2, 1)` is refused by `ShapeFault::Modulus`: with one cell a count needs three
 /// values.
-#[derive(Clone, Copy, PartialEq, Eq, Debug, Error)]
+#[derive(Clone, Copy, PartialEq, Eq, Debug)]
 pub enum ShapeFault {
-    #[error("capacity must be from 1 to 64")]
     Capacity,
-    #[error("modulus must be from capacity + batch + 1 to 256")]
     Modulus,
-    #[error("width must be from 1 to 64")]
     Width,
-    #[error("batch must be from 1 to capacity")]
     Batch,
 }
+
+impl fmt::Display for ShapeFault {
+    ghost use Rattle.std.specs.Prelude.{Some};
+    ghost use Rattle.bits_core.specs.Shape.{shape_fault_words};
+
+    ghost output = { λ fault. Some (shape_fault_words fault) };
+
+    /// The words of the fault.
+    fn fmt<W: fmt::Write>(&self, f: &mut fmt::Formatter<W>) -> fmt::Result {
+        f.write_str(match self {
+            ShapeFault::Capacity => "capacity must be from 1 to 64",
+            ShapeFault::Modulus => "modulus must be from capacity + batch + 1 to 256",
+            ShapeFault::Width => "width must be from 1 to 64",
+            ShapeFault::Batch => "batch must be from 1 to capacity",
+        })
+    }
+}
+
+impl Error for ShapeFault {}
 
 impl ShapeFault {
     ghost use Rattle.bits_core.specs.Shape.{shape_fault_number};

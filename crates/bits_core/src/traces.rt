@@ -9,7 +9,8 @@ use crate::reading::{event_at, shape_at};
 use crate::shapes::{Shape, ShapeFault};
 use crate::stores::{Filled, Store};
 use std::alloc::{AllocError, AllocFailed, Allocator};
-use thiserror::Error;
+use std::error::Error;
+use std::fmt;
 
 /// The most events that a trace may have.
 ///
@@ -19,22 +20,37 @@ pub const EVENT_LIMIT: usize = 1_000_000;
 /// Why bytes are no trace.
 ///
 /// For example, it is printed as `trace line 3 is not a line of the format`.
-#[derive(Clone, Copy, PartialEq, Eq, Debug, Error)]
+#[derive(Clone, Copy, PartialEq, Eq, Debug)]
 pub enum TraceFault {
     /// The numbers of line 1 are no shape.
-    #[error(transparent)]
     BadShape(ShapeFault),
     /// This line, counted from 1, is missing or unfinished, or not of the format, or names a bit
     /// that is not in the shape.
-    #[error("trace line {0} is not a line of the format")]
     BadLine(u64),
     /// More events come than a trace may have.
-    #[error("trace has too many events")]
     TooLong,
     /// Memory ran out.
-    #[error("out of memory")]
     OutOfMemory,
 }
+
+impl fmt::Display for TraceFault {
+    ghost use Rattle.std.specs.Prelude.{Some};
+    ghost use Rattle.bits_core.specs.Trace.{trace_fault_words};
+
+    ghost output = { λ fault. Some (trace_fault_words fault) };
+
+    /// The words of the fault.
+    fn fmt<W: fmt::Write>(&self, f: &mut fmt::Formatter<W>) -> fmt::Result {
+        match self {
+            TraceFault::BadShape(fault) => write!(f, "{fault}"),
+            TraceFault::BadLine(line) => write!(f, "trace line {line} is not a line of the format"),
+            TraceFault::TooLong => f.write_str("trace has too many events"),
+            TraceFault::OutOfMemory => f.write_str("out of memory"),
+        }
+    }
+}
+
+impl Error for TraceFault {}
 
 impl TraceFault {
     ghost use Rattle.bits_core.specs.Trace.{trace_fault_number};

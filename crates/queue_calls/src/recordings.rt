@@ -22,7 +22,8 @@ use crate::storage::{Lists, Memory, Storage};
 use memchr::memchr;
 use std::alloc::{AllocError, Allocator};
 use std::collections::VecDeque;
-use thiserror::Error;
+use std::error::Error;
+use std::fmt;
 
 /// What is found of a recording.
 ///
@@ -41,16 +42,13 @@ pub enum CallsFinding {
 /// Why bytes are no recording.
 ///
 /// In use: `uses::findings::found_in`.
-#[derive(Clone, Copy, PartialEq, Eq, Debug, Error)]
+#[derive(Clone, Copy, PartialEq, Eq, Debug)]
 pub enum RecordingFault {
     /// This line, counted from 1, is missing or unfinished, or not of the format.
-    #[error("calls line {0} is not a line of the format")]
     BadLine(u64),
     /// There are more lines than a number of 64 bits counts.
-    #[error("calls have too many lines")]
     TooLong,
     /// Memory ran out.
-    #[error("out of memory")]
     OutOfMemory,
 }
 
@@ -68,6 +66,27 @@ impl RecordingFault {
         }
     }
 }
+
+impl fmt::Display for RecordingFault {
+    ghost use Rattle.std.specs.Prelude.{Some};
+    ghost use Rattle.queue_calls.specs.Recordings.{recording_fault_words};
+
+    ghost output = { λ fault. Some (recording_fault_words fault) };
+
+    /// The words of the fault.
+    fn fmt<W: fmt::Write>(&self, f: &mut fmt::Formatter<W>) -> fmt::Result {
+        match self {
+            RecordingFault::BadLine(line) => write!(
+                f,
+                "calls line {line} is not a line of the format"
+            ),
+            RecordingFault::TooLong => f.write_str("calls have too many lines"),
+            RecordingFault::OutOfMemory => f.write_str("out of memory"),
+        }
+    }
+}
+
+impl Error for RecordingFault {}
 
 impl From<AllocError> for RecordingFault {
     ghost use Rattle.queue_calls.specs.declared.recordings.RecordingFault.TheVariants.{OutOfMemory};

@@ -2,6 +2,8 @@ pub mod CommandLemmas
 mod PlayLemmas
 mod RecordingText
 mod Endings
+mod Gains
+mod InlineLines
 mod RunItems
 mod TellingText
 mod TextLemmas

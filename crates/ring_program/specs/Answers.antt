@@ -1,5 +1,5 @@
 -- What the program answers to a request on an input, and how it ends.
-use Rattle.std.specs.Prelude.{◌≡◌, ◌≢◌, ◌⊎◌, ◌<◌, ◌≤◌, ◌+◌, ◌++◌, ℕ, Bool, true, false, List, [], Option, Some, None, IfSome, length, take}
+use Rattle.std.specs.Prelude.{◌≡◌, ◌≢◌, ◌⊎◌, ◌<◌, ◌≤◌, ◌+◌, ◌++◌, ℕ, Bool, true, false, List, [], Option, Some, None, IfSome, codes, length, take}
 use Rattle.std.specs.Io.KnownBytes.{Appends, Keeps}
 use Rattle.clap.specs.Kinds.{IsAmong, Kinds}
 use Rattle.clap.specs.declared.error.kind.ErrorKind.{ErrorKind}
@@ -35,6 +35,7 @@ use Rattle.ring_script.specs.Content.{Content}
 use Rattle.ring_script.specs.Script.{IsScript}
 use Rattle.ring_script.specs.declared.faults.ScriptFault.{ScriptFault}
 use Rattle.ring_script.specs.declared.faults.ScriptFault.TheVariants as script
+use Rattle.ring_program.specs.Faults.{SaysRefusal, refusal_line}
 use Rattle.ring_program.specs.Reports.{Reports}
 use Rattle.ring_run.specs.Relays.{IsRelayed}
 use Rattle.bits_core.specs.declared.memory.MemoryFault.TheVariants as run
@@ -61,6 +62,12 @@ abbrev pub status_of : Ending → ℕ
 status_of Done = 0
 status_of LimitReached = 1
 status_of FaultFound = 3
+
+-- what standard error is told of an ending: that a limit was reached
+abbrev pub ending_words : Ending → List ℕ
+ending_words Done = []
+ending_words LimitReached = codes "refused: limit reached\n"
+ending_words FaultFound = []
 
 -- how an audit with this verdict ends
 abbrev pub verdict_ending_of : Verdict → Ending
@@ -309,15 +316,16 @@ IsLongBitsCause input e = (e ≡ refusal.App app.OutOfMemory) ⊎ ((e ≡ refusa
 abbrev pub AnswersWithin : Question → List ℕ → List ℕ → Ending → Type 0
 AnswersWithin question input text ending = (length input ≤ INPUT_LIMIT) × Answers question input text ending
 
--- ---- how the program ends, by what may be answered and what is a true cause of a refusal
+-- ---- how the program ends, by what may be answered, what is a true cause of a refusal, and what it is that standard error is told a text
 
--- an answer was given: the output gained the whole text, and the status is the answer's
-pub record WasAnswered (IsAnswer : List ℕ → Ending → Type 0) (before after : Option (List ℕ)) (status : ℕ) : Type 0 where
+-- an answer was given: the output gained the whole text, the status is the answer's, and standard error was told of its ending
+pub record WasAnswered (IsAnswer : List ℕ → Ending → Type 0) (before after : Option (List ℕ)) (Tells : List ℕ → Type 0) (status : ℕ) : Type 0 where
   pub text : List ℕ
   pub ending : Ending
   pub answer : IsAnswer text ending
   pub ends : status ≡ status_of ending
   pub written : Appends before after text
+  pub told : Tells (ending_words ending)
 
 -- the output gained a front of the text of an answer
 pub record CutShort (IsAnswer : List ℕ → Ending → Type 0) (before after : Option (List ℕ)) : Type 0 where
@@ -332,82 +340,83 @@ abbrev pub Refused : (List ℕ → Ending → Type 0) → (Refusal → Type 0) �
 Refused IsAnswer IsReason before after e = (IsReason e × Keeps before after)
     ⊎ ((e ≡ refusal.App app.WriteFailed) × CutShort IsAnswer before after)
 
-abbrev pub EndsBy : (List ℕ → Ending → Type 0) → (Refusal → Type 0) → Option (List ℕ) → Option (List ℕ) → ℕ → Type 0
-EndsBy IsAnswer IsReason before after status = WasAnswered IsAnswer before after status
-    ⊎ ((status ≡ 1) × (e : Refusal) × Refused IsAnswer IsReason before after e)
+-- an answer was given, or there was a refusal, and standard error was told its words, which are those of this very cause
+abbrev pub EndsBy : (List ℕ → Ending → Type 0) → (Refusal → Type 0) → Option (List ℕ) → Option (List ℕ) → (List ℕ → Type 0) → ℕ → Type 0
+EndsBy IsAnswer IsReason before after Tells status = WasAnswered IsAnswer before after Tells status
+    ⊎ ((status ≡ 1) × (e : Refusal) × Refused IsAnswer IsReason before after e × SaysRefusal Tells e)
 
 -- how the program ends on a question of this input
 abbrev pub RefusedOn : Question → List ℕ → Option (List ℕ) → Option (List ℕ) → Refusal → Type 0
 RefusedOn question input = Refused (AnswersWithin question input) (IsCause question input)
 
-abbrev pub EndsOn : Question → List ℕ → Option (List ℕ) → Option (List ℕ) → ℕ → Type 0
+abbrev pub EndsOn : Question → List ℕ → Option (List ℕ) → Option (List ℕ) → (List ℕ → Type 0) → ℕ → Type 0
 EndsOn question input = EndsBy (AnswersWithin question input) (IsCause question input)
 
 -- how it ends on a run, which has no input
 abbrev pub RefusedRun : Run → Option (List ℕ) → Option (List ℕ) → Refusal → Type 0
 RefusedRun run = Refused (AnswersRun run) (IsRunCause run)
 
-abbrev pub EndsRun : Run → Option (List ℕ) → Option (List ℕ) → ℕ → Type 0
+abbrev pub EndsRun : Run → Option (List ℕ) → Option (List ℕ) → (List ℕ → Type 0) → ℕ → Type 0
 EndsRun run = EndsBy (AnswersRun run) (IsRunCause run)
 
 -- how it ends on recorded calls
 abbrev pub RefusedCalls : List ℕ → Option (List ℕ) → Option (List ℕ) → Refusal → Type 0
 RefusedCalls input = Refused (AnswersCalls input) (IsCallsCause input)
 
-abbrev pub EndsCalls : List ℕ → Option (List ℕ) → Option (List ℕ) → ℕ → Type 0
+abbrev pub EndsCalls : List ℕ → Option (List ℕ) → Option (List ℕ) → (List ℕ → Type 0) → ℕ → Type 0
 EndsCalls input = EndsBy (AnswersCalls input) (IsCallsCause input)
 
 -- how it ends on a trace of any length
 abbrev pub RefusedLongBits : List ℕ → Option (List ℕ) → Option (List ℕ) → Refusal → Type 0
 RefusedLongBits input = Refused (AnswersLongBits input) (IsLongBitsCause input)
 
-abbrev pub EndsLongBits : List ℕ → Option (List ℕ) → Option (List ℕ) → ℕ → Type 0
+abbrev pub EndsLongBits : List ℕ → Option (List ℕ) → Option (List ℕ) → (List ℕ → Type 0) → ℕ → Type 0
 EndsLongBits input = EndsBy (AnswersLongBits input) (IsLongBitsCause input)
 
 -- how it ends on a request, where the reader tells that this is its input
-abbrev pub Ends : Request → Option (List ℕ) → Option (List ℕ) → Option (List ℕ) → ℕ → Type 0
-Ends (OnInput question) input before after status = IfSome input (λ bytes. EndsOn question bytes before after status)
-Ends request.Calls input before after status = IfSome input (λ bytes. EndsCalls bytes before after status)
-Ends request.LongBits input before after status = IfSome input (λ bytes. EndsLongBits bytes before after status)
-Ends (request.Run run) input before after status = EndsRun run before after status
+abbrev pub Ends : Request → Option (List ℕ) → Option (List ℕ) → Option (List ℕ) → (List ℕ → Type 0) → ℕ → Type 0
+Ends (OnInput question) input before after Tells status = IfSome input (λ bytes. EndsOn question bytes before after Tells status)
+Ends request.Calls input before after Tells status = IfSome input (λ bytes. EndsCalls bytes before after Tells status)
+Ends request.LongBits input before after Tells status = IfSome input (λ bytes. EndsLongBits bytes before after Tells status)
+Ends (request.Run run) input before after Tells status = EndsRun run before after Tells status
 
 -- help or the version was asked for
 abbrev pub IsHelp : ErrorKind → Type 0
 IsHelp k = (k ≡ kind.DisplayHelp) ⊎ (k ≡ kind.DisplayVersion)
 
--- memory ran out, before anything was written
-abbrev pub NoMemory : Option (List ℕ) → Option (List ℕ) → ℕ → Type 0
-NoMemory before after status = (status ≡ 1) × Keeps before after
+-- memory ran out, before anything was written, and standard error was told so
+abbrev pub NoMemory : Option (List ℕ) → Option (List ℕ) → (List ℕ → Type 0) → ℕ → Type 0
+NoMemory before after Tells status = (status ≡ 1) × Keeps before after × Tells (refusal_line (refusal.App app.OutOfMemory))
 
--- a text was written: all of it, with status 0, or a front of it, with status 1
-abbrev pub WasWritten : Option (List ℕ) → Option (List ℕ) → ℕ → Type 0
-WasWritten before after status = (text : List ℕ) × (((status ≡ 0) × Appends before after text)
-    ⊎ ((status ≡ 1) × (count : ℕ) × Appends before after (take count text)))
+-- a text was written: all of it, with status 0, or a front of it, with status 1, and standard error was told that the output failed
+abbrev pub WasWritten : Option (List ℕ) → Option (List ℕ) → (List ℕ → Type 0) → ℕ → Type 0
+WasWritten before after Tells status = (text : List ℕ) × (((status ≡ 0) × Appends before after text)
+    ⊎ ((status ≡ 1) × Tells (refusal_line (refusal.App app.WriteFailed)) × (count : ℕ) × Appends before after (take count text)))
 
 -- how the program ends where the command line gave an error of this kind
-abbrev pub Explains : ErrorKind → Option (List ℕ) → Option (List ℕ) → ℕ → Type 0
-Explains k before after status =
-    ((k ≡ kind.OutOfMemory) × NoMemory before after status)
-    ⊎ ((IsHelp k × (NoMemory before after status ⊎ WasWritten before after status))
+abbrev pub Explains : ErrorKind → Option (List ℕ) → Option (List ℕ) → (List ℕ → Type 0) → ℕ → Type 0
+Explains k before after Tells status =
+    ((k ≡ kind.OutOfMemory) × NoMemory before after Tells status)
+    ⊎ ((IsHelp k × (NoMemory before after Tells status ⊎ WasWritten before after Tells status))
     ⊎ ((¬ IsHelp k) × (k ≢ kind.OutOfMemory) × (status ≡ 2) × Keeps before after))
 
 -- help or the version was asked for, and written
-pub record HelpGiven (kinds : Kinds) (before after : Option (List ℕ)) (status : ℕ) : Type 0 where
+pub record HelpGiven (kinds : Kinds) (before after : Option (List ℕ)) (Tells : List ℕ → Type 0) (status : ℕ) : Type 0 where
   pub asked : ErrorKind
   pub among : IsAmong asked kinds
   pub is_help : IsHelp asked
-  pub shown : WasWritten before after status
+  pub shown : WasWritten before after Tells status
 
--- the words are wrong, and nothing was written
+-- the words are wrong, and nothing was written; of what standard error was told then nothing is said
 pub record Mistaken (kinds : Kinds) (before after : Option (List ℕ)) (status : ℕ) : Type 0 where
   pub ends : status ≡ 2
   pub kept : Keeps before after
   pub mistake : (kinds ≡ []) ⊎ ((k : ErrorKind) × IsAmong k kinds × ¬ IsHelp k)
 
 -- how the program ends where the words ask for nothing, which have these faults
-abbrev pub EndsUnasked : Kinds → Option (List ℕ) → Option (List ℕ) → ℕ → Type 0
-EndsUnasked kinds before after status = NoMemory before after status
-    ⊎ (HelpGiven kinds before after status ⊎ Mistaken kinds before after status)
+abbrev pub EndsUnasked : Kinds → Option (List ℕ) → Option (List ℕ) → (List ℕ → Type 0) → ℕ → Type 0
+EndsUnasked kinds before after Tells status = NoMemory before after Tells status
+    ⊎ (HelpGiven kinds before after Tells status ⊎ Mistaken kinds before after status)
 
 -- the exit statuses of a question, whatever the reader and the writers do
 abbrev pub IsStatusOn : Question → ℕ → Type 0

@@ -1,10 +1,55 @@
--- The numbers of the program's own faults.
-use Rattle.std.specs.Prelude.{ℕ}
+-- The program's own faults, the words of each refusal, and what standard error is told.
+use Rattle.std.specs.Prelude.{◌≡◌, ◌⊎◌, ℕ, Bool, true, false, List, [], ◌++◌, Option, codes, take}
+use Rattle.std.specs.Io.KnownBytes.{Appends}
+use Rattle.bits_core.specs.Shape.{shape_fault_words}
+use Rattle.bits_core.specs.Trace.{trace_fault_words}
+use Rattle.bits_core.specs.declared.traces.TraceFault.TheVariants as trace
+use Rattle.queue_calls.specs.Recordings.{recording_fault_words}
+use Rattle.ring_script.specs.Faults.{script_fault_words}
+use Rattle.ring_script.specs.declared.faults.ScriptFault.{ScriptFault}
 use Rattle.ring_program.specs.declared.faults.AppFault.{AppFault}
 use Rattle.ring_program.specs.declared.faults.AppFault.TheVariants.{ReadFailed, TooLarge, WriteFailed, OutOfMemory}
+use Rattle.ring_program.specs.declared.faults.Refusal.{Refusal}
+use Rattle.ring_program.specs.declared.faults.Refusal.TheVariants as refusal
 
+-- the number of each fault
 abbrev pub number_of : AppFault → ℕ
 number_of ReadFailed = 1
 number_of TooLarge = 2
 number_of WriteFailed = 3
 number_of OutOfMemory = 4
+
+-- its words
+abbrev pub app_fault_words : AppFault → List ℕ
+app_fault_words ReadFailed = codes "input failed"
+app_fault_words TooLarge = codes "input is too large"
+app_fault_words WriteFailed = codes "output failed"
+app_fault_words OutOfMemory = codes "out of memory"
+
+-- the words of a refusal: those of the fault that it holds
+abbrev pub refusal_words : Refusal → List ℕ
+refusal_words (refusal.App fault) = app_fault_words fault
+refusal_words (refusal.Trace fault) = trace_fault_words fault
+refusal_words (refusal.Calls fault) = recording_fault_words fault
+refusal_words (refusal.Audit fault) = codes "out of memory"
+refusal_words (refusal.Script fault) = script_fault_words fault
+refusal_words (refusal.Play fault) = codes "out of memory"
+refusal_words (refusal.Shape fault) = shape_fault_words fault
+refusal_words (refusal.Run fault) = codes "out of memory"
+
+-- the line that tells it
+abbrev pub refusal_line : Refusal → List ℕ
+refusal_line e = codes "refused: " ++ (refusal_words e ++ codes "\n")
+
+-- it refuses a script, or a line of a trace, of which a second line may say what is wrong there
+abbrev pub IsInText : Refusal → Type 0
+IsInText e = ((line : ℕ) × (e ≡ refusal.Trace (trace.BadLine line))) ⊎ ((fault : ScriptFault) × (e ≡ refusal.Script fault))
+
+-- a writer gained the text, where it was told whole, and else a front of it
+abbrev pub Gains : Option (List ℕ) → Option (List ℕ) → Bool → List ℕ → Type 0
+Gains before after true text = Appends before after text
+Gains before after false text = (count : ℕ) × Appends before after (take count text)
+
+-- a refusal was told, by what it is to be told a text: its line, and behind it nothing, or what is wrong in a text
+abbrev pub SaysRefusal : (List ℕ → Type 0) → Refusal → Type 0
+SaysRefusal Tells e = (more : List ℕ) × ((more ≡ []) ⊎ IsInText e) × Tells (refusal_line e ++ more)

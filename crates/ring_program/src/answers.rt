@@ -1,13 +1,29 @@
 //! Answers, and how they and what is refused are told.
-ghost use Rattle.std.specs.Prelude.{◌≡◌, ◌⊎◌, ℕ, IfErr, IfOk, OnErr, OnOk, take};
+ghost use Rattle.std.specs.Prelude.{◌≡◌, ◌⊎◌, ℕ, true, IfErr, IfOk, IfSome, OnErr, OnOk, take};
+ghost use Rattle.std.specs.Fmt.InlineText.{inline_text};
 ghost use Rattle.std.specs.Io.KnownBytes.{Appends};
-ghost use Rattle.ring_program.specs.Answers.{status_of};
+ghost use Rattle.ring_program.specs.Answers.{ending_words, status_of};
+ghost use Rattle.ring_program.specs.Faults.{Gains, refusal_line};
 
 use crate::faults::{AppFault, Refusal};
 use std::alloc::Allocator;
-use std::fmt::Display;
+use std::fmt::{Display, InlineText, Write as _};
 use std::io;
 use std::io::Write;
+
+/// The most bytes of a line that tells a refusal; none has as many.
+const LINE: usize = 128;
+
+/// How the program ends.
+///
+/// For example, `main` of `lamport_ring` ends its process with the status.
+#[derive(Clone, Copy, Debug, PartialEq, Eq)]
+pub struct Exit {
+    /// The exit status.
+    pub status: u8,
+    /// Whether standard error took all that it was to be told. So it is where that was nothing.
+    pub is_told: bool,
+}
 
 /// How a command that answered ends.
 #[derive(Clone, Copy)]
@@ -79,35 +95,85 @@ impl<W: Write> Write for Unretried<'_, W> {
     }
 }
 
-/// Writes the text on the standard error, and ignores a fault of it.
+/// Writes the text on the standard error, and tells whether that took all of it.
 ///
 /// In use: `lamport_ring`, for words that are no text.
-pub fn complain<E: Write, D: Display + Drop>(err: &mut E, text: D) {
-    let _ = Unretried { inner: err }.write_fmt(text);
+pub fn complain<E: Write, D: Display + Drop>(err: &mut E, text: D) -> bool {
+    Unretried { inner: err }.write_fmt(text).is_ok()
 }
 
-/// Says why the program refuses, and gives its exit status.
+/// Writes the text on the standard error, and tells whether that took all of it.
+pub fn tell<E: Write>(err: &mut E, text: &[u8]) -> bool
+    ensures { Gains (E.contents err.old) (E.contents err.new) result text.now }
+{
+    write_whole(err, text).is_ok()
+}
+
+// The line that tells a refusal.
+fn line_of(refusal: Refusal) -> Option<InlineText<LINE>>
+    ensures { IfSome result (λ line. inline_text line ≡ refusal_line refusal) }
+{
+    let mut line = InlineText::<LINE>::new();
+    match line.write_fmt(format_args!("refused: {refusal}\n")) {
+        Ok(()) => Some(line),
+        Err(_) => None,
+    }
+}
+
+/// Says why the program refuses.
 ///
 /// In use: `lamport_ring`.
-pub fn refuse<E: Write>(refusal: Refusal, err: &mut E) -> u8
-    ensures { result ≡ 1 }
+pub fn refuse<E: Write>(refusal: Refusal, err: &mut E) -> Exit
+    ensures status { result.status ≡ 1 }
+    ensures told { Gains (E.contents err.old) (E.contents err.new) result.is_told (refusal_line refusal) }
 {
-    complain(err, format_args!("refused: {refusal}\n"));
-    1
+    match line_of(refusal) {
+        Some(line) => Exit {
+            status: 1,
+            is_told: tell(err, line.as_str().as_bytes()),
+        },
+        None => Exit {
+            status: 1,
+            is_told: false,
+        },
+    }
 }
 
-/// The exit status of a command that ended, with what the standard error is told.
-pub fn conclude<E: Write>(ended: Result<Ending, Refusal>, err: &mut E) -> u8
-    ensures ok { IfOk ended (λ ending. result ≡ status_of ending) }
-    ensures err { OnErr ended (result ≡ 1) }
-    ensures quiet { (result ≡ 1) ⊎ (err.new ≡ err.old) }
+// Tells of an ending, on standard error, that a limit was reached, and tells whether that took it.
+fn tell_ending<E: Write>(ending: Ending, err: &mut E) -> bool
+    ensures told { Gains (E.contents err.old) (E.contents err.new) result (ending_words ending) }
+    ensures quiet { (ending ≡ Ending.LimitReached) ⊎ ((err.new ≡ err.old) × (result ≡ true)) }
+{
+    match ending {
+        Ending::Done => true,
+        Ending::LimitReached => tell(err, b"refused: limit reached\n"),
+        Ending::FaultFound => true,
+    }
+}
+
+/// How the program ends on an answer, with what the standard error is told.
+pub fn finish<E: Write>(ending: Ending, err: &mut E) -> Exit
+    ensures status { result.status ≡ status_of ending }
+    ensures told { Gains (E.contents err.old) (E.contents err.new) result.is_told (ending_words ending) }
+    ensures quiet { (result.status ≡ 1) ⊎ ((err.new ≡ err.old) × (result.is_told ≡ true)) }
+{
+    let is_told = tell_ending(ending, err);
+    Exit {
+        status: ending.status(),
+        is_told,
+    }
+}
+
+/// How the program ends on what came of a command, with what the standard error is told.
+pub fn conclude<E: Write>(ended: Result<Ending, Refusal>, err: &mut E) -> Exit
+    ensures ok { IfOk ended (λ ending. result.status ≡ status_of ending) }
+    ensures told { IfOk ended (λ ending. Gains (E.contents err.old) (E.contents err.new) result.is_told (ending_words ending)) }
+    ensures err { OnErr ended (result.status ≡ 1) }
+    ensures refused { IfErr ended (λ e. Gains (E.contents err.old) (E.contents err.new) result.is_told (refusal_line e)) }
+    ensures quiet { (result.status ≡ 1) ⊎ ((err.new ≡ err.old) × (result.is_told ≡ true)) }
 {
     match ended {
-        Ok(Ending::LimitReached) => {
-            complain(err, "refused: limit reached\n");
-            1
-        }
-        Ok(ending) => ending.status(),
+        Ok(ending) => finish(ending, err),
         Err(refusal) => refuse(refusal, err),
     }
 }

@@ -1,5 +1,6 @@
 //! What is wrong in a text that was refused, told beside the refusal for somebody who is to mend the text.
-ghost use Rattle.std.specs.Prelude.{◌≡◌, ◌⊎◌, ℕ, IfSome};
+ghost use Rattle.std.specs.Prelude.{IfSome};
+ghost use Rattle.ring_program.specs.Faults.{IsInText};
 
 use crate::faults::Refusal;
 use crate::trace_lines::{LineFault, Shown, fault_of_line, line_at, looks_like_script};
@@ -118,7 +119,7 @@ fn cause_in_script<'a>(json: Global, bytes: &'a [u8], fault: ScriptFault) -> Opt
 /// that was refused, and where memory ran out.
 pub fn cause_of<'a>(json: Global, bytes: &'a [u8], refusal: Refusal) -> Option<Cause<'a>>
     // It is the text that was refused.
-    ensures { IfSome result (λ _. ((line : ℕ) × (refusal ≡ Refusal.Trace (TraceFault.BadLine line))) ⊎ ((fault : ScriptFault) × (refusal ≡ Refusal.Script fault))) }
+    ensures { IfSome result (λ _. IsInText refusal) }
 {
     match refusal {
         Refusal::Trace(TraceFault::BadLine(number)) => Some(cause_in_trace(bytes, number)),

@@ -8,26 +8,42 @@ use ring_audit::AuditFault;
 use ring_player::{PlayFault, ScriptFault};
 use ring_run::RunFault;
 use std::alloc::AllocError;
-use thiserror::Error;
+use std::error::Error;
+use std::fmt;
 
 /// A fault of the program's surroundings.
 ///
 /// For example, it is printed as `input is too large`.
-#[derive(Clone, Copy, Debug, PartialEq, Eq, Error)]
+#[derive(Clone, Copy, Debug, PartialEq, Eq)]
 pub enum AppFault {
     /// A read of the input failed.
-    #[error("input failed")]
     ReadFailed,
     /// More bytes came than an input may have.
-    #[error("input is too large")]
     TooLarge,
     /// A write of the output failed.
-    #[error("output failed")]
     WriteFailed,
     /// Memory ran out.
-    #[error("out of memory")]
     OutOfMemory,
 }
+
+impl fmt::Display for AppFault {
+    ghost use Rattle.std.specs.Prelude.{Some};
+    ghost use Rattle.ring_program.specs.Faults.{app_fault_words};
+
+    ghost output = { λ fault. Some (app_fault_words fault) };
+
+    /// The words of the fault.
+    fn fmt<W: fmt::Write>(&self, f: &mut fmt::Formatter<W>) -> fmt::Result {
+        f.write_str(match self {
+            AppFault::ReadFailed => "input failed",
+            AppFault::TooLarge => "input is too large",
+            AppFault::WriteFailed => "output failed",
+            AppFault::OutOfMemory => "out of memory",
+        })
+    }
+}
+
+impl Error for AppFault {}
 
 impl AppFault {
     ghost use Rattle.ring_program.specs.Faults.{number_of};
@@ -58,33 +74,48 @@ impl From<AllocError> for AppFault {
 /// Why a command gave no answer.
 ///
 /// For example, it is printed as the fault that it holds: `trace line 3 is not a line of the format`.
-#[derive(Clone, Copy, Debug, PartialEq, Eq, Error)]
+#[derive(Clone, Copy, Debug, PartialEq, Eq)]
 pub enum Refusal {
     /// For the program's surroundings.
-    #[error(transparent)]
     App(AppFault),
     /// The input is no trace.
-    #[error(transparent)]
     Trace(TraceFault),
     /// The input is no recording of calls.
-    #[error(transparent)]
     Calls(RecordingFault),
     /// The audit of a trace stopped.
-    #[error(transparent)]
     Audit(AuditFault),
     /// The input is no script.
-    #[error(transparent)]
     Script(ScriptFault),
     /// The play of a script stopped.
-    #[error(transparent)]
     Play(PlayFault),
     /// The numbers of a run are no shape's.
-    #[error(transparent)]
     Shape(ShapeFault),
     /// A run stopped.
-    #[error(transparent)]
     Run(RunFault),
 }
+
+impl fmt::Display for Refusal {
+    ghost use Rattle.std.specs.Prelude.{Some};
+    ghost use Rattle.ring_program.specs.Faults.{refusal_words};
+
+    ghost output = { λ refusal. Some (refusal_words refusal) };
+
+    /// The words of the fault that it holds.
+    fn fmt<W: fmt::Write>(&self, f: &mut fmt::Formatter<W>) -> fmt::Result {
+        match self {
+            Refusal::App(fault) => write!(f, "{fault}"),
+            Refusal::Trace(fault) => write!(f, "{fault}"),
+            Refusal::Calls(fault) => write!(f, "{fault}"),
+            Refusal::Audit(fault) => write!(f, "{fault}"),
+            Refusal::Script(fault) => write!(f, "{fault}"),
+            Refusal::Play(fault) => write!(f, "{fault}"),
+            Refusal::Shape(fault) => write!(f, "{fault}"),
+            Refusal::Run(fault) => write!(f, "{fault}"),
+        }
+    }
+}
+
+impl Error for Refusal {}
 
 impl From<AppFault> for Refusal {
     ghost use Rattle.ring_program.specs.declared.faults.Refusal.TheVariants.{App};

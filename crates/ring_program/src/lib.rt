@@ -21,7 +21,7 @@ mod texts;
 mod trace_lines;
 mod why;
 
-pub use answers::{complain, refuse};
+pub use answers::{Exit, complain, refuse};
 pub use faults::{AppFault, Refusal};
 pub use inputs::{INPUT_LIMIT, load};
 pub use program::execute;

@@ -1,13 +1,14 @@
 //! The audit of the bits of a trace of any length.
-ghost use Rattle.std.specs.Prelude.{◌≡◌, ◌≢◌, ◌⊎◌, List, ℕ, IfOk, IfErr, IfSome, string_bytes};
+ghost use Rattle.std.specs.Prelude.{◌≡◌, ◌≢◌, ◌⊎◌, List, ℕ, IfOk, IfErr, IfSome, string_bytes, true};
 ghost use Rattle.std.specs.Io.KnownBytes.{Appends};
 ghost use Rattle.bits_core.specs.Audit.{IsVerdict};
 ghost use Rattle.bits_core.specs.Trace.{IsTraceText};
 ghost use Rattle.bits_core.specs.declared.events.Event.{Event as AnEvent};
 ghost use Rattle.bits_core.specs.declared.shapes.Shape.{Shape as AShape};
 ghost use Rattle.ring_program.specs.Answers.{AnswersLongBits, EndsLongBits, IsLongBitsCause, RefusedLongBits};
+ghost use Rattle.ring_program.specs.Faults.{Gains};
 
-use crate::answers::{Answer, Ending, conclude, write_whole};
+use crate::answers::{Answer, Ending, Exit, conclude, write_whole};
 use crate::faults::{AppFault, Refusal};
 use crate::program::verdict_ending;
 use crate::texts::verdict_text;
@@ -78,10 +79,11 @@ pub fn answer_long_bits<A: Allocator + Copy, I: Read, O: Write, E: Write>(
     input: &mut I,
     out: &mut O,
     err: &mut E,
-) -> u8
-    ensures asked { IfSome (I.remaining input.old) (λ bytes. EndsLongBits bytes (O.contents out.old) (O.contents out.new) result) }
-    ensures quiet { (result ≡ 1) ⊎ ((result ≡ 2) ⊎ (err.new ≡ err.old)) }
-    ensures statuses { (result ≡ 0) ⊎ ((result ≡ 1) ⊎ (result ≡ 3)) }
+) -> Exit
+    ensures asked { IfSome (I.remaining input.old) (λ bytes. EndsLongBits bytes (O.contents out.old) (O.contents out.new)
+        (Gains (E.contents err.old) (E.contents err.new) result.is_told) result.status) }
+    ensures quiet { (result.status ≡ 1) ⊎ ((result.status ≡ 2) ⊎ ((err.new ≡ err.old) × (result.is_told ≡ true))) }
+    ensures statuses { (result.status ≡ 0) ⊎ ((result.status ≡ 1) ⊎ (result.status ≡ 3)) }
 {
     let ended = long_bits_out(alloc, input, out);
     conclude(ended, err)

@@ -1,7 +1,7 @@
 //! What is told of words that name no ring, or that give a number with a minus sign.
 ghost use Rattle.std.specs.Prelude.{◌≡◌};
 
-use crate::answers::complain;
+use crate::answers::{Exit, complain};
 use clap::Error;
 use std::fmt;
 use std::fmt::{Display, Formatter};
@@ -152,51 +152,53 @@ fn clash(words: &[&str]) -> Option<&'static str> {
 }
 
 // The words name no such near miss.
-fn tell_miss<E: Write>(name: &str, err: &mut E) {
+fn tell_miss<E: Write>(name: &str, err: &mut E) -> bool {
     let name = Told(name);
     complain(
         err,
         format_args!(
             "error: no near miss is called '{name}': there are count-before-cell, no-second-scan, small-modulus, clears-first and clears-upwards\n\nFor more information, try '--help'.\n"
         ),
-    );
+    )
 }
 
-/// The words were taken, and name no command, no ring, no near miss, or options that do not go together. Tells it, and
-/// gives the exit status.
-pub fn unnamed<E: Write>(words: &[&str], err: &mut E) -> u8
-    ensures { result ≡ 2 }
-{
-    match clash(words) {
-        Some(text) => {
-            complain(err, text);
-            return 2;
-        }
-        None => {}
-    }
-    match value_of(words, "--wrong") {
-        Some(name) => {
-            tell_miss(name, err);
-            return 2;
-        }
-        None => {}
-    }
-    match value_of(words, "--ring") {
-        Some(name) => {
-            let name = Told(name);
-            complain(
-                err,
-                format_args!(
-                    "error: no ring is called '{name}': a ring is flicker or counter\n\nFor more information, try '--help'.\n"
-                ),
-            );
-        }
-        None => complain(
-            err,
-            "error: no such command, or no such ring: a ring is flicker or counter\n\nFor more information, try '--help'.\n",
+// The words name no such ring.
+fn tell_ring<E: Write>(name: &str, err: &mut E) -> bool {
+    let name = Told(name);
+    complain(
+        err,
+        format_args!(
+            "error: no ring is called '{name}': a ring is flicker or counter\n\nFor more information, try '--help'.\n"
         ),
+    )
+}
+
+// Tells words that were taken, and name no command, no ring, no near miss, or options that do not go together.
+fn tell_unnamed<E: Write>(words: &[&str], err: &mut E) -> bool {
+    if let Some(text) = clash(words) {
+        return complain(err, text);
     }
-    2
+    if let Some(name) = value_of(words, "--wrong") {
+        return tell_miss(name, err);
+    }
+    if let Some(name) = value_of(words, "--ring") {
+        return tell_ring(name, err);
+    }
+    complain(
+        err,
+        "error: no such command, or no such ring: a ring is flicker or counter\n\nFor more information, try '--help'.\n",
+    )
+}
+
+/// The words were taken, and name no command, no ring, no near miss, or options that do not go together. Tells it, with
+/// status 2.
+pub fn unnamed<E: Write>(words: &[&str], err: &mut E) -> Exit
+    ensures { result.status ≡ 2 }
+{
+    Exit {
+        status: 2,
+        is_told: tell_unnamed(words, err),
+    }
 }
 
 // The help's name of the option of numbers that has this name.
@@ -234,7 +236,7 @@ fn signed_number<'a>(words: &[&'a str]) -> Option<(&'static str, &'a str)> {
 
 /// Tells a fault of the command line. A number with a minus sign is told in words of our own, since the parser takes it for
 /// an option.
-pub fn tell_mistake<E: Write>(words: &[&str], error: &Error, err: &mut E) {
+pub fn tell_mistake<E: Write>(words: &[&str], error: &Error, err: &mut E) -> bool {
     match signed_number(words) {
         Some((option, number)) => {
             let number = Told(number);
@@ -243,7 +245,7 @@ pub fn tell_mistake<E: Write>(words: &[&str], error: &Error, err: &mut E) {
                 format_args!(
                     "error: invalid value '{number}' for '{option}': a number has no minus sign\n\nFor more information, try '--help'.\n"
                 ),
-            );
+            )
         }
         None => complain(err, error),
     }

@@ -1,13 +1,14 @@
 //! The program over a reader and two writers.
-ghost use Rattle.std.specs.Prelude.{◌≡◌, ◌≢◌, ◌≤◌, ◌⊎◌, List, ℕ, None, IfOk, IfErr, IfSome, IfNone, OnOk, OnErr, length, map, string_bytes, take};
+ghost use Rattle.std.specs.Prelude.{◌≡◌, ◌≢◌, ◌≤◌, ◌⊎◌, [], List, ℕ, None, true, IfOk, IfErr, IfSome, IfNone, OnOk, OnErr, length, map, string_bytes, take};
 ghost use Rattle.std.specs.Io.KnownBytes.{Appends, Keeps};
 ghost use Rattle.clap.specs.Words.{fault_of, kind_of};
-ghost use Rattle.ring_program.specs.Answers.{Answers, AnswersWithin, AsksNoInput, AuditsBits, AuditsBitsWhy, AuditsPrograms, AuditsProgramsWhy, Ends, EndsOn, EndsUnasked, Explains, IsCause, IsOutOfMemory, IsShortage, IsStatus, IsStatusOn, MayEnd, PlaysScript, RecordsScript, RecordsWrong, RefusedOn, Refuses, RefusesScript, RefusesTrace, TracesScript, TracesWrong, finding_ending_of, status_of, verdict_ending_of};
+ghost use Rattle.ring_program.specs.Answers.{Answers, AnswersWithin, AsksNoInput, AuditsBits, AuditsBitsWhy, AuditsPrograms, AuditsProgramsWhy, Ends, EndsOn, EndsUnasked, Explains, IsCause, IsOutOfMemory, IsShortage, IsStatus, IsStatusOn, MayEnd, PlaysScript, RecordsScript, RecordsWrong, RefusedOn, Refuses, RefusesScript, RefusesTrace, TracesScript, TracesWrong, WasWritten, ending_words, finding_ending_of, status_of, verdict_ending_of};
+ghost use Rattle.ring_program.specs.Faults.{Gains, IsInText, SaysRefusal};
 ghost use Rattle.ring_audit.specs.Audit.{statement};
 ghost use Rattle.ring_program.specs.declared.inputs.TheConstants.{INPUT_LIMIT};
 ghost use Rattle.ring_program.specs.CommandLine.{application, request_of};
 
-use crate::answers::{Answer, Ending, complain, conclude, refuse, write_whole};
+use crate::answers::{Answer, Ending, Exit, finish, refuse, tell, write_whole};
 use crate::causes::cause_of;
 use crate::command_line::{Question, Request, read_words};
 use crate::faults::{AppFault, Refusal};
@@ -27,9 +28,13 @@ use near_misses::{NearMiss, play_near};
 use ring_audit::{Finding, audit};
 use ring_player::{Script, play, play_calls};
 use std::alloc::{AllocGlobal, Allocator, Global};
+use std::fmt::InlineText;
 use std::io::{Read, Write};
 use std::thread::Threads;
 use std::time::Clock;
+
+/// The most bytes of the line that says what is wrong in a text; none has as many.
+const CAUSE_LINE: usize = 512;
 
 /// How an audit with this verdict ends.
 pub fn verdict_ending(verdict: Verdict) -> Ending
@@ -261,31 +266,51 @@ pub fn respond<A: Allocator + Copy, O: Write>(
     Ok(answer.ending)
 }
 
-// Says what is wrong in a text that was refused, where there is something to say.
-fn tell_cause<E: Write>(json: Global, input: &[u8], refusal: Refusal, err: &mut E) {
+// Says what is wrong in a text that was refused, where there is something to say, and tells whether that was told.
+fn tell_cause<E: Write>(json: Global, input: &[u8], refusal: Refusal, err: &mut E) -> bool
+    ensures { (more : List ℕ) × ((more ≡ []) ⊎ IsInText refusal) × Gains (E.contents err.old) (E.contents err.new) result more }
+{
     match cause_of(json, input, refusal) {
-        Some(cause) => complain(err, format_args!("  {cause}\n")),
-        None => {}
+        Some(cause) => {
+            let line = InlineText::<CAUSE_LINE>::of(format_args!("  {cause}\n"));
+            tell(err, line.as_str().as_bytes())
+        }
+        None => true,
     }
 }
 
-// The exit status of a question on this input, with what the standard error is told.
+// Says why a question on this input is refused, and what is wrong in its text.
+fn refuse_on<E: Write>(json: Global, input: &[u8], refusal: Refusal, err: &mut E) -> Exit
+    ensures status { result.status ≡ 1 }
+    ensures told { SaysRefusal (Gains (E.contents err.old) (E.contents err.new) result.is_told) refusal }
+{
+    let exit = refuse(refusal, err);
+    if !exit.is_told {
+        return exit;
+    }
+    Exit {
+        status: 1,
+        is_told: tell_cause(json, input, refusal, err),
+    }
+}
+
+// How the program ends on what came of a question on this input, with what the standard error is told.
 fn conclude_on<E: Write>(
     json: Global,
     input: &[u8],
     ended: Result<Ending, Refusal>,
     err: &mut E,
-) -> u8
-    ensures ok { IfOk ended (λ ending. result ≡ status_of ending) }
-    ensures err { OnErr ended (result ≡ 1) }
-    ensures quiet { (result ≡ 1) ⊎ (err.new ≡ err.old) }
+) -> Exit
+    ensures ok { IfOk ended (λ ending. result.status ≡ status_of ending) }
+    ensures told { IfOk ended (λ ending. Gains (E.contents err.old) (E.contents err.new) result.is_told (ending_words ending)) }
+    ensures err { OnErr ended (result.status ≡ 1) }
+    ensures refused { IfErr ended (SaysRefusal (Gains (E.contents err.old) (E.contents err.new) result.is_told)) }
+    ensures quiet { (result.status ≡ 1) ⊎ ((err.new ≡ err.old) × (result.is_told ≡ true)) }
 {
-    let status = conclude(ended, err);
     match ended {
-        Ok(_) => {}
-        Err(refusal) => tell_cause(json, input, refusal, err),
+        Ok(ending) => finish(ending, err),
+        Err(refusal) => refuse_on(json, input, refusal, err),
     }
-    status
 }
 
 // The program on a question of the whole input.
@@ -296,11 +321,11 @@ fn answer_input<A: Allocator + Copy, O: Write, E: Write>(
     input: &[u8],
     out: &mut O,
     err: &mut E,
-) -> u8
+) -> Exit
     requires within { length input.now ≤ INPUT_LIMIT }
-    ensures asked { EndsOn question input.now (O.contents out.old) (O.contents out.new) result }
-    ensures quiet { (result ≡ 1) ⊎ ((result ≡ 2) ⊎ (err.new ≡ err.old)) }
-    ensures statuses { IsStatusOn question result }
+    ensures asked { EndsOn question input.now (O.contents out.old) (O.contents out.new) (Gains (E.contents err.old) (E.contents err.new) result.is_told) result.status }
+    ensures quiet { (result.status ≡ 1) ⊎ ((result.status ≡ 2) ⊎ ((err.new ≡ err.old) × (result.is_told ≡ true))) }
+    ensures statuses { IsStatusOn question result.status }
 {
     let ended = respond(alloc, json, question, input, out);
     conclude_on(json, input, ended, err)
@@ -314,13 +339,25 @@ fn answer_question<A: Allocator + Copy, I: Read, O: Write, E: Write>(
     input: &mut I,
     out: &mut O,
     err: &mut E,
-) -> u8
-    ensures asked { IfSome (I.remaining input.old) (λ bytes. EndsOn question bytes (O.contents out.old) (O.contents out.new) result) }
-    ensures quiet { (result ≡ 1) ⊎ ((result ≡ 2) ⊎ (err.new ≡ err.old)) }
-    ensures statuses { IsStatusOn question result }
+) -> Exit
+    ensures asked { IfSome (I.remaining input.old) (λ bytes. EndsOn question bytes (O.contents out.old) (O.contents out.new)
+        (Gains (E.contents err.old) (E.contents err.new) result.is_told) result.status) }
+    ensures quiet { (result.status ≡ 1) ⊎ ((result.status ≡ 2) ⊎ ((err.new ≡ err.old) × (result.is_told ≡ true))) }
+    ensures statuses { IsStatusOn question result.status }
 {
     match load(alloc, input) {
         Ok(bytes) => answer_input(alloc, json, question, bytes.as_slice(), out, err),
+        Err(fault) => refuse(Refusal::App(fault), err),
+    }
+}
+
+// Writes help that was asked for.
+fn give_help<O: Write, E: Write>(text: &[u8], out: &mut O, err: &mut E) -> Exit
+    ensures given { WasWritten (O.contents out.old) (O.contents out.new) (Gains (E.contents err.old) (E.contents err.new) result.is_told) result.status }
+    ensures quiet { (result.status ≡ 1) ⊎ ((err.new ≡ err.old) × (result.is_told ≡ true)) }
+{
+    match write_whole(out, text) {
+        Ok(()) => finish(Ending::Done, err),
         Err(fault) => refuse(Refusal::App(fault), err),
     }
 }
@@ -332,34 +369,34 @@ fn explain<A: Allocator, O: Write, E: Write>(
     error: &Error,
     out: &mut O,
     err: &mut E,
-) -> u8
-    ensures explained { Explains (kind_of error.now) (O.contents out.old) (O.contents out.new) result }
-    ensures quiet { (result ≡ 1) ⊎ ((result ≡ 2) ⊎ (err.new ≡ err.old)) }
+) -> Exit
+    ensures explained { Explains (kind_of error.now) (O.contents out.old) (O.contents out.new) (Gains (E.contents err.old) (E.contents err.new) result.is_told) result.status }
+    ensures quiet { (result.status ≡ 1) ⊎ ((result.status ≡ 2) ⊎ ((err.new ≡ err.old) × (result.is_told ≡ true))) }
 {
     if error.kind() == ErrorKind::OutOfMemory {
         return refuse(Refusal::App(AppFault::OutOfMemory), err);
     }
     if error.use_stderr() {
-        tell_mistake(words, error, err);
-        return 2;
+        return Exit {
+            status: 2,
+            is_told: tell_mistake(words, error, err),
+        };
     }
     let Ok(text) = error.to_string(alloc) else {
         return refuse(Refusal::App(AppFault::OutOfMemory), err);
     };
-    match write_whole(out, text.as_bytes()) {
-        Ok(()) => 0,
-        Err(fault) => refuse(Refusal::App(fault), err),
-    }
+    give_help(text.as_bytes(), out, err)
 }
 
-/// The whole program: `words` are its name and its arguments, and the answer is the exit status.
+/// The whole program: `words` are its name and its arguments, and the answer is the exit status, with whether `err` took all
+/// that it was to be told.
 ///
 /// It reads the command line, then the whole input, then works, and writes the answer on `out` once
 /// it is complete; recorded calls and a trace of any length are read in pieces, and not kept; a run has no input, and none is read for it. Status 0 says that it is done, and 3 that
 /// the audit found a fault. With status 1 it refuses and says why on `err`; then nothing was written on
 /// `out`, unless a write failed, or a run reached a limit, whose text is written all the same. With status 2
 /// the command line is wrong. Where the words ask for help or the version, that is written on `out`, and
-/// nothing is read. A fault of `err` itself is ignored.
+/// nothing is read. A fault of `err` itself changes no status: it ends what is told, and the answer says so.
 ///
 /// In use: `main` of `lamport_ring` hands it the words and the streams of the process.
 pub fn execute<
@@ -369,17 +406,19 @@ pub fn execute<
     I: Read,
     O: Write,
     E: Write,
->(rt: &R, alloc: A, words: &'a [&'a str], input: &mut I, out: &mut O, err: &mut E) -> u8
+>(rt: &R, alloc: A, words: &'a [&'a str], input: &mut I, out: &mut O, err: &mut E) -> Exit
+    // By `Gains`: the standard error gained the words of the very cause, or, where it did not take them all, a front of them.
     ensures asked { IfSome (request_of (map (λ w. w.now) words.entry.now)) (λ request.
-        Ends request (I.remaining input.old) (O.contents out.old) (O.contents out.new) result) }
+        Ends request (I.remaining input.old) (O.contents out.old) (O.contents out.new) (Gains (E.contents err.old) (E.contents err.new) result.is_told) result.status) }
     ensures unasked { IfNone (request_of (map (λ w. w.now) words.entry.now))
-        (EndsUnasked (fault_of application (map (λ w. w.now) words.entry.now)) (O.contents out.old) (O.contents out.new) result) }
+        (EndsUnasked (fault_of application (map (λ w. w.now) words.entry.now)) (O.contents out.old) (O.contents out.new)
+        (Gains (E.contents err.old) (E.contents err.new) result.is_told) result.status) }
     // Where nothing is asked of an input, nothing is read.
     ensures unread { AsksNoInput (request_of (map (λ w. w.now) words.entry.now)) → input.new ≡ input.old }
-    // The standard error gains nothing unless the program refuses, or the command line is wrong.
-    ensures quiet { (result ≡ 1) ⊎ ((result ≡ 2) ⊎ (err.new ≡ err.old)) }
+    // The standard error gains nothing, and had to gain nothing, unless the program refuses or the command line is wrong.
+    ensures quiet { (result.status ≡ 1) ⊎ ((result.status ≡ 2) ⊎ ((err.new ≡ err.old) × (result.is_told ≡ true))) }
     // Whatever the reader and the writers do.
-    ensures statuses { IsStatus (request_of (map (λ w. w.now) words.entry.now)) result }
+    ensures statuses { IsStatus (request_of (map (λ w. w.now) words.entry.now)) result.status }
 {
     let request = match read_words(rt.alloc(), words) {
         Ok(Some(request)) => request,

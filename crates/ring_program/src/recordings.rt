@@ -1,12 +1,13 @@
 //! The audit of recorded calls.
-ghost use Rattle.std.specs.Prelude.{◌≡◌, ◌≢◌, ◌⊎◌, List, ℕ, IfOk, IfErr, IfSome, string_bytes};
+ghost use Rattle.std.specs.Prelude.{◌≡◌, ◌≢◌, ◌⊎◌, List, ℕ, IfOk, IfErr, IfSome, string_bytes, true};
 ghost use Rattle.std.specs.Io.KnownBytes.{Appends};
 ghost use Rattle.queue_calls.specs.Causes.{cause_words};
 ghost use Rattle.queue_calls.specs.Recordings.{IsFindingOf};
 ghost use Rattle.ring_program.specs.Answers.{AnswersCalls, EndsCalls, IsCallsCause, RefusedCalls, calls_ending_of};
+ghost use Rattle.ring_program.specs.Faults.{Gains};
 ghost use Rattle.ring_program.specs.Texts.{calls_report_text_of, calls_text_of};
 
-use crate::answers::{Answer, Ending, conclude, write_whole};
+use crate::answers::{Answer, Ending, Exit, conclude, write_whole};
 use crate::faults::{AppFault, Refusal};
 use crate::lines::{push_count, push_list, told_words};
 use queue_calls::{CallsFinding, Recording, RecordingFault, Report};
@@ -122,10 +123,11 @@ pub fn answer_calls<A: Allocator + Copy, I: Read, O: Write, E: Write>(
     input: &mut I,
     out: &mut O,
     err: &mut E,
-) -> u8
-    ensures asked { IfSome (I.remaining input.old) (λ bytes. EndsCalls bytes (O.contents out.old) (O.contents out.new) result) }
-    ensures quiet { (result ≡ 1) ⊎ ((result ≡ 2) ⊎ (err.new ≡ err.old)) }
-    ensures statuses { (result ≡ 0) ⊎ ((result ≡ 1) ⊎ (result ≡ 3)) }
+) -> Exit
+    ensures asked { IfSome (I.remaining input.old) (λ bytes. EndsCalls bytes (O.contents out.old) (O.contents out.new)
+        (Gains (E.contents err.old) (E.contents err.new) result.is_told) result.status) }
+    ensures quiet { (result.status ≡ 1) ⊎ ((result.status ≡ 2) ⊎ ((err.new ≡ err.old) × (result.is_told ≡ true))) }
+    ensures statuses { (result.status ≡ 0) ⊎ ((result.status ≡ 1) ⊎ (result.status ≡ 3)) }
 {
     let ended = calls_out(alloc, input, out);
     conclude(ended, err)

@@ -9,11 +9,12 @@ ghost use Rattle.queue_calls.specs.Queue.{exactly};
 ghost use Rattle.queue_calls.specs.Recordings.{IsRecording};
 ghost use Rattle.ring_run.specs.Relays.{IsRelayed};
 ghost use Rattle.ring_program.specs.Answers.{AnswersRun, EndsRun, IsOutOfMemory, IsRunCause, RefusedRun, TellsRun, relay_ending_of};
+ghost use Rattle.ring_program.specs.Faults.{Gains};
 ghost use Rattle.ring_program.specs.Runs.{run_item, run_items};
 ghost use Rattle.ring_program.specs.Texts.{closed_line, pace_line, pace_of, relay_report_of, relay_text_of};
 ghost use Rattle.ring_program.specs.declared.run_line.TheConstants.{ITEM_LIMIT};
 
-use crate::answers::{Answer, Ending, conclude, write_whole};
+use crate::answers::{Answer, Ending, Exit, conclude, write_whole};
 use crate::faults::{AppFault, Refusal};
 use crate::lines::{push_count, push_list};
 use crate::run_line::{RingKind, Run, RunText};
@@ -315,10 +316,11 @@ pub fn answer_run<R: Threads + Clock, A: Allocator + Copy, O: Write, E: Write>(
     run: Run,
     out: &mut O,
     err: &mut E,
-) -> u8
-    ensures asked { EndsRun run (O.contents out.old) (O.contents out.new) result }
-    ensures quiet { (result ≡ 1) ⊎ ((result ≡ 2) ⊎ (err.new ≡ err.old)) }
-    ensures statuses { (result ≡ 0) ⊎ (result ≡ 1) }
+) -> Exit
+    ensures asked { EndsRun run (O.contents out.old) (O.contents out.new)
+        (Gains (E.contents err.old) (E.contents err.new) result.is_told) result.status }
+    ensures quiet { (result.status ≡ 1) ⊎ ((result.status ≡ 2) ⊎ ((err.new ≡ err.old) × (result.is_told ≡ true))) }
+    ensures statuses { (result.status ≡ 0) ⊎ (result.status ≡ 1) }
 {
     let ended = run_out(rt, alloc, run, out);
     conclude(ended, err)

@@ -1,10 +1,10 @@
 -- Why bytes are no script: each fault by what it means of the bytes, in the order in which they are told.
-use Rattle.std.specs.Prelude.{◌≡◌, ◌≢◌, ◌≤◌, ◌<◌, ℕ, suc, Bool, true, false, List, length, take, Some, None}
+use Rattle.std.specs.Prelude.{◌≡◌, ◌≢◌, ◌≤◌, ◌<◌, ℕ, suc, Bool, true, false, List, ◌++◌, codes, decimal, length, take, Some, None}
 use Rattle.serde_json.specs.Data.{Data, Members, object}
-use Rattle.bits_core.specs.Shape.{IsRefusedBatch}
+use Rattle.bits_core.specs.Shape.{IsRefusedBatch, shape_fault_words}
 use Rattle.bits_core.specs.declared.events.Side.{Side}
 use Rattle.ring_script.specs.Schedule.{IsSchedule, IsScheduleText}
-use Rattle.ring_script.specs.Fields.{HasKnownNames, IsJson, IsObject, IsOfKind, held_as}
+use Rattle.ring_script.specs.Fields.{HasKnownNames, IsJson, IsObject, IsOfKind, held_as, name_of}
 use Rattle.ring_script.specs.Script.{Fit, HeldFields, HoldsFields, HoldsItems, HoldsLetters, HoldsShape, IsOracleText}
 use Rattle.ring_script.specs.declared.faults.Field.{Field}
 use Rattle.ring_script.specs.declared.faults.Field.TheVariants.{Capacity, Modulus, Width, Items, Takes, Close, Schedule, Oracle, Batch}
@@ -78,6 +78,21 @@ IsScriptFault bytes fault.ScheduleTooLong =
 IsScriptFault bytes (fault.BadOracle place) =
     (held : HeldFields) × (letters : List Side) × HoldsLetters bytes held letters × IsFirstStray IsOracleText held.oracle place
 IsScriptFault bytes fault.OutOfMemory = ⊥
+
+-- the words of each fault
+abbrev pub script_fault_words : ScriptFault → List ℕ
+script_fault_words fault.NotJson = codes "script is not JSON"
+script_fault_words fault.NotObject = codes "script is not an object"
+script_fault_words fault.UnknownField = codes "script has an unknown field"
+script_fault_words (fault.MissingField field) = codes "field " ++ (name_of field ++ codes " is missing")
+script_fault_words (fault.WrongKind field) = codes "field " ++ (name_of field ++ codes " has the wrong kind")
+script_fault_words (fault.Shape refusal) = shape_fault_words refusal
+script_fault_words fault.TooManyItems = codes "script has too many items"
+script_fault_words (fault.ItemTooWide place) = codes "item " ++ (decimal place ++ codes " does not fit the width")
+script_fault_words (fault.BadSchedule place) = codes "schedule is wrong at byte " ++ decimal place
+script_fault_words fault.ScheduleTooLong = codes "schedule is too long"
+script_fault_words (fault.BadOracle place) = codes "oracle is wrong at byte " ++ decimal place
+script_fault_words fault.OutOfMemory = codes "out of memory"
 
 -- the number of each fault
 abbrev pub script_fault_number : ScriptFault → ℕ

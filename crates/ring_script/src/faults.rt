@@ -5,8 +5,8 @@ ghost use Rattle.ring_script.specs.Faults.{script_fault_number};
 
 use bits_core::ShapeFault;
 use std::alloc::{AllocError, AllocFailed};
+use std::error::Error;
 use std::fmt;
-use thiserror::Error;
 
 /// A field of a script. It is printed as its name.
 ///
@@ -53,55 +53,74 @@ impl Field {
 }
 
 impl fmt::Display for Field {
+    ghost use Rattle.std.specs.Prelude.{Some};
+
+    ghost output = { λ field. Some (name_of field) };
+
     fn fmt<W: fmt::Write>(&self, f: &mut fmt::Formatter<W>) -> fmt::Result {
-        write!(f, "{}", self.name())
+        f.write_str(self.name())
     }
 }
 
 /// Why bytes are no script.
 ///
 /// For example, it is printed with the byte that cannot stand in the schedule. In use: `uses::plays::takes_of`.
-#[derive(Clone, Copy, PartialEq, Eq, Debug, Error)]
+#[derive(Clone, Copy, PartialEq, Eq, Debug)]
 pub enum ScriptFault {
     /// The bytes are not UTF-8, or not the text of one JSON value, or arrays and objects stand in one
     /// another more than 127 deep.
-    #[error("script is not JSON")]
     NotJson,
     /// The JSON value is no object.
-    #[error("script is not an object")]
     NotObject,
     /// The object has a name that is none of a script's fields.
-    #[error("script has an unknown field")]
     UnknownField,
     /// The object lacks this field; never told of `Batch`.
-    #[error("field {0} is missing")]
     MissingField(Field),
     /// The value of this field is not of the field's kind. For `Items`, the value may also be an
     /// array in which something is no whole number.
-    #[error("field {0} has the wrong kind")]
     WrongKind(Field),
     /// Capacity, modulus, width and batch are no shape.
-    #[error(transparent)]
     Shape(ShapeFault),
     /// There are more items than a script may have.
-    #[error("script has too many items")]
     TooManyItems,
     /// The item at this place, counted from 0, does not fit the width.
-    #[error("item {0} does not fit the width")]
     ItemTooWide(u64),
     /// The byte of the schedule at this place, counted from 0, cannot stand there.
-    #[error("schedule is wrong at byte {0}")]
     BadSchedule(u64),
     /// The schedule stands for more letters than a script may have.
-    #[error("schedule is too long")]
     ScheduleTooLong,
     /// The byte of the oracle at this place, counted from 0, is neither `0` nor `1`.
-    #[error("oracle is wrong at byte {0}")]
     BadOracle(u64),
     /// Memory ran out.
-    #[error("out of memory")]
     OutOfMemory,
 }
+
+impl fmt::Display for ScriptFault {
+    ghost use Rattle.std.specs.Prelude.{Some};
+    ghost use Rattle.ring_script.specs.Faults.{script_fault_words};
+
+    ghost output = { λ fault. Some (script_fault_words fault) };
+
+    /// The words of the fault.
+    fn fmt<W: fmt::Write>(&self, f: &mut fmt::Formatter<W>) -> fmt::Result {
+        match self {
+            ScriptFault::NotJson => f.write_str("script is not JSON"),
+            ScriptFault::NotObject => f.write_str("script is not an object"),
+            ScriptFault::UnknownField => f.write_str("script has an unknown field"),
+            ScriptFault::MissingField(field) => write!(f, "field {field} is missing"),
+            ScriptFault::WrongKind(field) => write!(f, "field {field} has the wrong kind"),
+            ScriptFault::Shape(fault) => write!(f, "{fault}"),
+            ScriptFault::TooManyItems => f.write_str("script has too many items"),
+            ScriptFault::ItemTooWide(place) => write!(f, "item {place} does not fit the width"),
+            ScriptFault::BadSchedule(place) => write!(f, "schedule is wrong at byte {place}"),
+            ScriptFault::ScheduleTooLong => f.write_str("schedule is too long"),
+            ScriptFault::BadOracle(place) => write!(f, "oracle is wrong at byte {place}"),
+            ScriptFault::OutOfMemory => f.write_str("out of memory"),
+        }
+    }
+}
+
+impl Error for ScriptFault {}
 
 impl ScriptFault {
     /// The number of the fault: 1 `NotJson`, 2 `NotObject`, 3 `UnknownField`, 4 `MissingField`,

@@ -24,20 +24,22 @@ pub const TRACE: &[&str] = &["lamport_ring", "play", "--trace"];
 
 pub const CALLS: &[&str] = &["lamport_ring", "play", "--calls"];
 
-/// What a run has answered: its status, and the texts that it has written.
+/// What a run has answered: its status, whether the standard error took what it was to be told, and the texts that it has
+/// written.
 #[derive(Drop)]
 pub struct Ended {
     pub status: u8,
+    pub is_told: bool,
     pub out: Vec<u8>,
     pub err: Vec<u8>,
 }
 
 impl Ended {
-    /// Whether it is this.
+    /// Whether it is this, and the standard error took all.
     pub fn is(&self, status: u8, out: &str, err: &str) -> bool {
-        let is_told = self.out.as_slice() == out.as_bytes()
+        let is_written = self.out.as_slice() == out.as_bytes()
             && self.err.as_slice() == err.as_bytes();
-        self.status == status && is_told
+        self.status == status && self.is_told && is_written
     }
 }
 
@@ -50,8 +52,13 @@ pub fn run_in<A: Allocator + Copy, R: Read>(
 ) -> Ended {
     let mut out = Vec::new(rt.alloc());
     let mut err = Vec::new(rt.alloc());
-    let status = execute(rt, alloc, words, input, &mut out, &mut err);
-    Ended { status, out, err }
+    let exit = execute(rt, alloc, words, input, &mut out, &mut err);
+    Ended {
+        status: exit.status,
+        is_told: exit.is_told,
+        out,
+        err,
+    }
 }
 
 /// It holds of these words. (A message is dear to prove, so this one is for all.)

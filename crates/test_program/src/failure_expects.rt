@@ -70,16 +70,16 @@ pub fn expect_written(
 ) {
     let mut input = bytes;
     let mut errors = Vec::new(rt.alloc());
-    let ended = execute(rt, rt.alloc(), words, &mut input, &mut output, &mut errors);
+    let exit = execute(rt, rt.alloc(), words, &mut input, &mut output, &mut errors);
     let err = if status == 1 {
         "refused: output failed\n"
     } else {
         ""
     };
-    let is_told = errors.as_slice() == err.as_bytes();
+    let is_told = exit.is_told && errors.as_slice() == err.as_bytes();
     expect_of(
         rt,
-        ended == status && output.taken == taken && is_told,
+        exit.status == status && output.taken == taken && is_told,
         words,
     );
 }
@@ -107,19 +107,37 @@ pub fn expect_failed_writes(
     expect_written(rt, words, bytes, HaltingWriter::unflushed(), 1, length);
 }
 
-/// A standard error that fails after so many writes changes no status.
+/// A command line, an input, the status of a run on them, and what the standard error is to be told.
+pub type Unheard = (&'static [&'static str], &'static str, u8, &'static str);
+
+/// A standard error that fails after so many writes changes no status, has a front of what it was to be told, and is said to
+/// have been told just where that was all.
 pub fn expect_unheard(
     rt: &(impl Abort + AllocGlobal + Threads + Clock),
     writes_before: u64,
-    rows: &[(&'static [&'static str], &'static str, u8)],
+    rows: &[Unheard],
 ) {
-    for (words, input, status) in rows {
+    for (words, input, status, err) in rows {
         let mut bytes = input.as_bytes();
         let mut output = Vec::new(rt.alloc());
         let mut errors = HaltingWriter::after(writes_before);
-        let ended = execute(rt, rt.alloc(), words, &mut bytes, &mut output, &mut errors);
-        expect_of(rt, ended == *status, words);
+        let exit = execute(rt, rt.alloc(), words, &mut bytes, &mut output, &mut errors);
+        let told = err.len() as u64;
+        let is_right = exit.is_told == (told <= writes_before)
+            && errors.taken as u64 == told.min(writes_before);
+        expect_of(rt, exit.status == *status && is_right, words);
     }
+}
+
+/// A standard error that takes every byte and fails at each flush was not told where a refusal was.
+pub fn expect_unflushed(rt: &(impl Abort + AllocGlobal + Threads + Clock), row: &Unheard) {
+    let (words, input, status, err) = row;
+    let mut bytes = input.as_bytes();
+    let mut output = Vec::new(rt.alloc());
+    let mut errors = HaltingWriter::unflushed();
+    let exit = execute(rt, rt.alloc(), words, &mut bytes, &mut output, &mut errors);
+    let is_right = exit.status == *status && !exit.is_told && errors.taken == err.len();
+    expect_of(rt, is_right, words);
 }
 
 /// A command line and an input, the status of a run on them, and how many growths it has at least.

@@ -1,8 +1,9 @@
 use crate::failure_expects::{
-    AUDIT, BITS, CALLS, Growing, PLAY, TRACE, Told, expect_failed_reads, expect_failed_writes,
-    expect_read, expect_refused_finding, expect_refused_growths, expect_refused_load,
-    expect_refused_or_right, expect_refused_report, expect_refused_text, expect_refused_trace,
-    expect_told_at_each_growth, expect_unheard, expect_written,
+    AUDIT, BITS, CALLS, Growing, PLAY, TRACE, Told, Unheard, expect_failed_reads,
+    expect_failed_writes, expect_read, expect_refused_finding, expect_refused_growths,
+    expect_refused_load, expect_refused_or_right, expect_refused_report, expect_refused_text,
+    expect_refused_trace, expect_told_at_each_growth, expect_unflushed, expect_unheard,
+    expect_written,
 };
 use crate::fakes::{HaltingReader, HaltingWriter};
 use bits_core::{Kind, Verdict};
@@ -64,6 +65,17 @@ const RELAY: &[&str] = &[
     "--limit=1000000000",
 ];
 
+// One of numbers that are no shape's.
+const RUN_OF_NO_RING: &[&str] = &[
+    "lamport_ring",
+    "run",
+    "--capacity=0",
+    "--modulus=3",
+    "--width=1",
+    "--count=3",
+    "--limit=0",
+];
+
 const HELP: &[&str] = &["lamport_ring", "--help"];
 
 const VERSION: &[&str] = &["lamport_ring", "--version"];
@@ -109,21 +121,47 @@ fn reads_nothing_where_nothing_is_asked(rt: HostRuntime) {
     expect_read(&rt, RELAY, input, 0, "put 8\ntaken 8\nclosed yes\n", "");
 }
 
-static UNHEARD: [(&[&str], &str, u8); 6] = [
-    (AUDIT, STALE, 3),
-    (AUDIT, "x", 1),
-    (PLAY, PLAIN, 0),
-    (PLAY, "", 1),
-    (&["lamport_ring", "go"], "", 2),
-    (HELD, "", 1),
+static UNHEARD: [Unheard; 7] = [
+    (AUDIT, STALE, 3, ""),
+    (
+        AUDIT,
+        "x",
+        1,
+        "refused: trace line 1 is not a line of the format\n  line 1 has no line feed at its end: \"x\"\n",
+    ),
+    (PLAY, PLAIN, 0, ""),
+    (
+        PLAY,
+        "",
+        1,
+        "refused: script is not JSON\n  there is no text: a script is a JSON object, lamport_ring play --help shows one\n",
+    ),
+    (
+        &["lamport_ring", "audit", "--bits", "--calls"],
+        "",
+        2,
+        "error: an audit is of bits or of calls: --bits and --calls do not go together\n\nFor more information, try '--help'.\n",
+    ),
+    (
+        RUN_OF_NO_RING,
+        "",
+        1,
+        "refused: capacity must be from 1 to 64\n",
+    ),
+    (HELD, "", 1, "refused: limit reached\n"),
 ];
 
 #[test]
-fn ignores_a_failed_standard_error(rt: HostRuntime) {
-    // at the first byte, at the first of the line that tells the cause, and within it
+fn says_that_standard_error_failed(rt: HostRuntime) {
+    // at the first byte, at the last of the shortest line, behind it, at the first of the line that tells the cause, and within it
     expect_unheard(&rt, 0, &UNHEARD);
+    expect_unheard(&rt, 22, &UNHEARD);
+    expect_unheard(&rt, 23, &UNHEARD);
     expect_unheard(&rt, 50, &UNHEARD);
     expect_unheard(&rt, 60, &UNHEARD);
+    expect_unheard(&rt, 1000, &UNHEARD);
+    expect_unflushed(&rt, &UNHEARD[5]);
+    expect_unflushed(&rt, &UNHEARD[6]);
 }
 
 static TOLD: [Told; 3] = [
