@@ -16,7 +16,7 @@ use Rattle.bits_core.specs.declared.traces.TraceFault.TheVariants.{BadShape, Bad
 use Rattle.bits_core.specs.Shape.{IsRefusedBatch, batch_of, belongs, capacity_of, modulus_of, width_of}
 use Rattle.bits_core.specs.TraceText.{event_line, shape_line, trace_text}
 use Rattle.bits_core.specs.TraceReading.{event_at, shape_at}
-use Rattle.bits_core.specs.Trace.{AreOfShape, BeginsWithShape, IsTraceAndMore, HasMore, HasNoEvent, HasBadEventLine, HasBadLine, HasBadShape, HasShapeLine, IsTooLong, IsTrace, IsTraceFault, IsTraceText}
+use Rattle.bits_core.specs.Trace.{AreOfShape, BeginsWithMore, BeginsWithShape, IsTraceAndMore, HasMore, HasNoEvent, HasBadEventLine, HasBadLine, HasBadShape, HasShapeLine, IsTooLong, IsTrace, IsTraceFault, IsTraceText}
 use Rattle.bits_core.specs.Laws.{RefusedIsNoText, TraceIsText}
 use Rattle.bits_core.proofs.TraceLines.{event_at-again, shape_at-again, small_indices}
 use Rattle.bits_core.proofs.TraceLemmas.{line_takes}
@@ -363,3 +363,23 @@ pub short_or_fault : (bytes : List ℕ) (r : Result Shape TraceFault) (slots : L
 short_or_fault bytes (Ok t) slots used refused = refused
 short_or_fault bytes (Err e) slots used (inl short) = inl short.0
 short_or_fault bytes (Err e) slots used (inr fault) = inr fault
+
+-- where the slots are too few the bytes begin with a trace of more events
+begins_with_more : (bytes : List ℕ) (slots : List Event) (used : ℕ) → length slots ≤ used → HasMore bytes (take used slots) → BeginsWithMore bytes (length slots)
+begins_with_more bytes slots used full more =
+    let events : List Event = take used slots ++ more.next ∷ [] in
+    record {
+      first = trace_text more.shape events;
+      rest = more.rest;
+      shape = more.shape;
+      events = events;
+      parts = more.text;
+      is_trace = record { text = refl; of_shape = more.of_shape; within = more.within };
+      more = omega (arith, length-append (take used slots) (more.next ∷ []), ap length (take_all used slots full));
+    }
+
+pub short_begins : (bytes : List ℕ) (r : Result Shape TraceFault) (slots : List Event) (used : ℕ)
+    → IfErr r (λ e. ((e ≡ OutOfMemory) × (length slots ≤ used) × HasMore bytes (take used slots)) ⊎ IsTraceFault bytes e) → IfErr r (λ e. e ≡ OutOfMemory → BeginsWithMore bytes (length slots))
+short_begins bytes (Ok t) slots used refused = refused
+short_begins bytes (Err e) slots used (inl short) = λ is. begins_with_more bytes slots used short.1 short.2
+short_begins bytes (Err e) slots used (inr fault) = λ is. let none : IsTraceFault bytes OutOfMemory = subst (IsTraceFault bytes) is fault in absurd none

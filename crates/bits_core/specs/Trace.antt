@@ -74,13 +74,24 @@ pub record IsTraceAndMore (bytes : List ℕ) (shape : Shape) (events : List Even
   pub of_shape : AreOfShape shape events
   pub more : rest ≢ []
 
--- these events are followed by the line of another one
+-- these events are followed by the line of another one, and with it are no more than a trace may have
 pub record HasMore (bytes : List ℕ) (events : List Event) : Type 0 where
   pub shape : Shape
   pub next : Event
   pub rest : List ℕ
   pub text : bytes ≡ trace_text shape (events ++ next ∷ []) ++ rest
   pub of_shape : AreOfShape shape (events ++ next ∷ [])
+  pub within : length (events ++ next ∷ []) ≤ EVENT_LIMIT
+
+-- the bytes begin with a trace of more events than so many, whatever comes behind it
+pub record BeginsWithMore (bytes : List ℕ) (count : ℕ) : Type 0 where
+  pub first : List ℕ
+  pub rest : List ℕ
+  pub shape : Shape
+  pub events : List Event
+  pub parts : bytes ≡ first ++ rest
+  pub is_trace : IsTrace first shape events
+  pub more : count < length events
 
 -- as many events as a trace may have are followed by something more
 pub record IsTooLong (bytes : List ℕ) : Type 0 where

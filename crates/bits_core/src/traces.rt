@@ -2,7 +2,7 @@
 ghost use Rattle.std.specs.Prelude.{◌≡◌, ◌<◌, ◌≤◌, ◌⊎◌, ℕ, List, [], IfOk, IfErr, MatchOption, MatchResult, length, take};
 ghost use Rattle.bits_core.specs.declared.events.Event.{Event};
 ghost use Rattle.bits_core.specs.declared.shapes.Shape.{Shape};
-ghost use Rattle.bits_core.specs.Trace.{BeginsWithEvent, BeginsWithShape, HasBadShape, HasMore, HasNoEvent, HasShapeLine, IsTrace, IsTraceFault};
+ghost use Rattle.bits_core.specs.Trace.{BeginsWithEvent, BeginsWithMore, BeginsWithShape, HasBadShape, HasMore, HasNoEvent, HasShapeLine, IsTrace, IsTraceFault};
 
 use crate::events::Event;
 use crate::reading::{event_at, shape_at};
@@ -187,6 +187,7 @@ fn read_filled(filled: &mut Filled<'_, Event>, bytes: &[u8]) -> Result<Shape, Tr
     ensures only { (shape : Shape) (all : List Event) → IsTrace bytes.now shape all
         → MatchResult result (λ s. (s ≡ shape) × (take filled.new.used filled.new.slots.now ≡ all)) (λ e. (e ≡ TraceFault.OutOfMemory) × (length filled.new.slots.now < length all)) }
     ensures refused { IfErr result (λ e. (e ≡ TraceFault.OutOfMemory) ⊎ IsTraceFault bytes.now e) }
+    ensures full { IfErr result (λ e. e ≡ TraceFault.OutOfMemory → BeginsWithMore bytes.now (length filled.new.slots.now)) }
     ensures slots { filled.new.slots.ghost_name ≡ filled.old.slots.ghost_name }
 {
     read_lines(filled, bytes)
@@ -195,8 +196,9 @@ fn read_filled(filled: &mut Filled<'_, Event>, bytes: &[u8]) -> Result<Shape, Tr
 /// Reads a trace as [`read_trace`] does, into the first slots of a slice of the caller's, and tells
 /// the shape and how many events there are. It takes no memory.
 ///
-/// `OutOfMemory` tells that the slice has no slot left for an event whose line is right. Whatever
-/// fault is told, the first slots may hold the events of the lines before it.
+/// `OutOfMemory` tells that the slice has no slot left for an event whose line is right, as are all before
+/// it: no fault was found before the slots ended. Whatever fault is told, the first slots may hold the
+/// events of the lines before it.
 ///
 /// In use: the page, which reads into slots of its own.
 pub fn read_trace_into(bytes: &[u8], events: &mut [Event]) -> Result<(Shape, usize), TraceFault>
@@ -209,6 +211,8 @@ pub fn read_trace_into(bytes: &[u8], events: &mut [Event]) -> Result<(Shape, usi
         → MatchResult result (λ trace. (trace.0 ≡ shape) × (take trace.1 events.new ≡ all)) (λ e. (e ≡ TraceFault.OutOfMemory) × (length events.new < length all)) }
     // The fault is the first one.
     ensures refused { IfErr result (λ e. (e ≡ TraceFault.OutOfMemory) ⊎ IsTraceFault bytes.now e) }
+    // The slots are too few only where the text begins with a trace of more events.
+    ensures full { IfErr result (λ e. e ≡ TraceFault.OutOfMemory → BeginsWithMore bytes.now (length events.new)) }
 {
     let mut filled = Filled::new(events);
     let shape = read_filled(&mut filled, bytes)?;

@@ -20,6 +20,7 @@ pub mod NumberReading
 pub mod LineReadings
 pub mod LineLemmas
 pub mod HearingLemmas
+pub mod FullLists
 pub mod HeardLines
 pub mod RecordingLemmas
 pub mod RecordingLaws

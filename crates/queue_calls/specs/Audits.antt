@@ -1,9 +1,9 @@
 -- What an auditor says of a history, event by event.
-use Rattle.std.specs.Prelude.{ℕ, ◌≡◌, List, [], ◌∷◌, ◌++◌, Result, MatchResult}
+use Rattle.std.specs.Prelude.{ℕ, ◌≡◌, ◌<◌, length, List, [], ◌∷◌, ◌++◌, Result, MatchResult}
 use Rattle.queue_calls.specs.Queue.{Capacity}
-use Rattle.queue_calls.specs.Calls.{Event, PutBegin, IsLinearizable}
+use Rattle.queue_calls.specs.Calls.{Event, PutBegin, Producer, Putting, Point, CanLeadTo, IsLinearizable}
 use Rattle.queue_calls.specs.InTurn.{CallsAreInTurn}
-use Rattle.queue_calls.specs.State.{Keeps}
+use Rattle.queue_calls.specs.State.{Keeps, taken_by}
 use Rattle.queue_calls.specs.Told.{meant}
 use Rattle.queue_calls.specs.declared.auditors.CallAuditor.{CallAuditor}
 use Rattle.queue_calls.specs.declared.faults.Fault.{Fault}
@@ -13,17 +13,30 @@ use Rattle.queue_calls.specs.declared.faults.Fault.TheVariants.{OutOfTurn, NotLi
 abbrev pub Audits : {Q : Type 0} → (items : Q → List ℕ) → CallAuditor Q → List Event → Type 0
 Audits items a h = Keeps (meant a.capacity) h (items a.inside) a.put a.take a.shut
 
--- what a refusal says of the history with the event
-abbrev pub RefusesEvent : Fault → Capacity → List Event → Event → Type 0
-RefusesEvent OutOfTurn capacity h event = ¬ CallsAreInTurn (h ++ event ∷ []) × ¬ IsLinearizable capacity (h ++ event ∷ [])
-RefusesEvent NotLinearizable capacity h event = CallsAreInTurn (h ++ event ∷ []) × ¬ IsLinearizable capacity (h ++ event ∷ [])
-RefusesEvent OutOfMemory capacity h event = (items : List ℕ) × (event ≡ PutBegin items)
+-- the items of a point: those that the take under way took, those in the queue, and those that the put under way has left
+abbrev pub left_at : Producer → List ℕ
+left_at (Putting lacked done left) = left
+left_at _ = []
+
+abbrev pub items_at : Point → List ℕ
+items_at s = taken_by s.consumer ++ (s.queue.items ++ left_at s.producer)
+
+-- a linearizable history: at each point to which it can lead there are more items than so many
+abbrev pub HasMoreItems : ℕ → Capacity → List Event → Type 0
+HasMoreItems room capacity h = IsLinearizable capacity h × ((s : Point) → CanLeadTo capacity h s → room < length (items_at s))
+
+-- what a refusal says of the history with the event, where a list has room for so many items
+abbrev pub RefusesEvent : ℕ → Fault → Capacity → List Event → Event → Type 0
+RefusesEvent room OutOfTurn capacity h event = ¬ CallsAreInTurn (h ++ event ∷ []) × ¬ IsLinearizable capacity (h ++ event ∷ [])
+RefusesEvent room NotLinearizable capacity h event = CallsAreInTurn (h ++ event ∷ []) × ¬ IsLinearizable capacity (h ++ event ∷ [])
+RefusesEvent room OutOfMemory capacity h event = ((items : List ℕ) × (event ≡ PutBegin items)) × HasMoreItems room capacity (h ++ event ∷ [])
 
 -- Behind each history that it has read, an auditor reads an event: it accepts where the history with the event is linearizable, and
--- has then read that; it refuses, but for want of memory at a put's begin, where it is not, and has then read what it had.
-abbrev pub Reads : {Q : Type 0} → (items : Q → List ℕ) → CallAuditor Q → Event → Result Unit Fault → CallAuditor Q → Type 0
-Reads items old event result new =
+-- has then read that; it refuses where it is not, and has then read what it had; or at a put's begin for want of room, where more items
+-- are there than its list has room for.
+abbrev pub Reads : {Q : Type 0} → (items : Q → List ℕ) → (room : Q → ℕ) → CallAuditor Q → Event → Result Unit Fault → CallAuditor Q → Type 0
+Reads items room old event result new =
     (new.capacity ≡ old.capacity) ×
     ((h : List Event) → Audits items old h →
     MatchResult result (λ _. Audits items new (h ++ event ∷ []) × IsLinearizable (meant old.capacity) (h ++ event ∷ []))
-    (λ fault. Audits items new h × RefusesEvent fault (meant old.capacity) h event))
+    (λ fault. Audits items new h × RefusesEvent (room old.inside) fault (meant old.capacity) h event))

@@ -1,5 +1,5 @@
 //! The auditor of a history.
-ghost use Rattle.std.specs.Prelude.{◌≡◌, suc, ◌++◌, ◌↔◌, IsTrue, true, List, [], if◌then◌else◌, length, take, drop, ◌-◌};
+ghost use Rattle.std.specs.Prelude.{◌≡◌, ◌<◌, suc, ◌+◌, ◌++◌, ◌↔◌, IsTrue, true, false, List, [], if◌then◌else◌, length, take, drop, ◌-◌};
 
 use crate::capacities::Capacity;
 use crate::events::Event;
@@ -66,6 +66,7 @@ impl<Q: Fifo<u64>> CallAuditor<Q> {
         requires { IsProper (meant capacity) }
         ensures capacity { result.capacity ≡ capacity }
         ensures reads { Audits Q.items result [] }
+        ensures room { Q.room result.inside ≡ Q.room list }
     {
         let mut inside = list;
         inside.truncate(0);
@@ -83,6 +84,7 @@ impl<Q: Fifo<u64>> CallAuditor<Q> {
         requires { IsProper (meant capacity) }
         ensures capacity { self.new.capacity ≡ capacity }
         ensures reads { Audits Q.items self.new [] }
+        ensures room { Q.room self.new.inside ≡ Q.room self.old.inside }
     {
         self.inside.truncate(0);
         self.capacity = capacity;
@@ -101,7 +103,8 @@ impl<Q: Fifo<u64>> CallAuditor<Q> {
     /// where the history with it is not linearizable; and `OutOfMemory` where a put begins and memory for its items ran
     /// out. Of a refused event nothing is kept.
     pub fn feed(&mut self, event: Event<'_>) -> Result<(), Fault>
-        ensures { Reads Q.items self.old (told event.entry) result self.new }
+        ensures reads { Reads Q.items Q.room self.old (told event.entry) result self.new }
+        ensures room { Q.room self.new.inside ≡ Q.room self.old.inside }
     {
         match event {
             Event::PutBegins(items) => self.put_begins(items),
@@ -123,7 +126,8 @@ impl<Q: Fifo<u64>> CallAuditor<Q> {
 
     /// A put of these items begins, of one at least.
     pub fn put_begins(&mut self, items: &[u64]) -> Result<(), Fault>
-        ensures { Reads Q.items self.old (PutBegin items.now) result self.new }
+        ensures reads { Reads Q.items Q.room self.old (PutBegin items.now) result self.new }
+        ensures room { Q.room self.new.inside ≡ Q.room self.old.inside }
     {
         match self.put {
             PutTurn::Free => {}
@@ -156,6 +160,8 @@ impl<Q: Fifo<u64>> CallAuditor<Q> {
 
     // Puts the items behind those inside, or none of them where memory ran out.
     fn holds(&mut self, items: &[u64]) -> bool
+        ensures full { result ≡ false → Q.room self.old.inside < length (Q.items self.old.inside) + length items.now }
+        ensures room { Q.room self.new.inside ≡ Q.room self.old.inside }
         ensures inside { Q.items self.new.inside ≡ (if result then (Q.items self.old.inside) ++ items.now else (Q.items self.old.inside)) }
         ensures capacity { self.new.capacity ≡ self.old.capacity }
         ensures put { self.new.put ≡ self.old.put }
@@ -174,7 +180,8 @@ impl<Q: Fifo<u64>> CallAuditor<Q> {
 
     /// The put ends: so many of its first items were stored, one at least and no more than it offered.
     pub fn put_stored(&mut self, count: usize) -> Result<(), Fault>
-        ensures { Reads Q.items self.old (PutStored count) result self.new }
+        ensures reads { Reads Q.items Q.room self.old (PutStored count) result self.new }
+        ensures room { Q.room self.new.inside ≡ Q.room self.old.inside }
     {
         match self.put {
             PutTurn::Offers { offered, before } => {
@@ -201,7 +208,8 @@ impl<Q: Fifo<u64>> CallAuditor<Q> {
 
     /// The put ends: the queue had no room for one item, and none was stored.
     pub fn put_full(&mut self) -> Result<(), Fault>
-        ensures { Reads Q.items self.old PutFull result self.new }
+        ensures reads { Reads Q.items Q.room self.old PutFull result self.new }
+        ensures room { Q.room self.new.inside ≡ Q.room self.old.inside }
     {
         match self.put {
             PutTurn::Offers { offered, before } => {
@@ -217,7 +225,8 @@ impl<Q: Fifo<u64>> CallAuditor<Q> {
 
     /// The put of several items ends: the queue had no room for all of them, and none was stored.
     pub fn put_short(&mut self) -> Result<(), Fault>
-        ensures { Reads Q.items self.old PutShort result self.new }
+        ensures reads { Reads Q.items Q.room self.old PutShort result self.new }
+        ensures room { Q.room self.new.inside ≡ Q.room self.old.inside }
     {
         match self.put {
             PutTurn::Offers { offered, before } => {
@@ -241,7 +250,8 @@ impl<Q: Fifo<u64>> CallAuditor<Q> {
 
     /// The put ends: none of its items was stored, and no reason is told.
     pub fn put_nothing(&mut self) -> Result<(), Fault>
-        ensures { Reads Q.items self.old PutNothing result self.new }
+        ensures reads { Reads Q.items Q.room self.old PutNothing result self.new }
+        ensures room { Q.room self.new.inside ≡ Q.room self.old.inside }
     {
         match self.put {
             PutTurn::Offers { offered, before: _ } => {
@@ -280,6 +290,7 @@ impl<Q: Fifo<u64>> CallAuditor<Q> {
 
     // Ends the put without so many of its last items, where that can be.
     fn ends_put(&mut self, rest: usize) -> bool
+        ensures room { Q.room self.new.inside ≡ Q.room self.old.inside }
         ensures ends { IsTrue result ↔ CanEndPut (meant self.old.capacity) (length (Q.items self.old.inside)) (asked_by self.old.take) rest }
         ensures inside { Q.items self.new.inside ≡ (if result then take (length (Q.items self.old.inside) - rest) (Q.items self.old.inside) else (Q.items self.old.inside)) }
         ensures put { self.new.put ≡ (if result then Free else self.old.put) }
@@ -301,7 +312,8 @@ impl<Q: Fifo<u64>> CallAuditor<Q> {
 
     /// The put ends: the queue was closed, and none of its items was stored.
     pub fn put_closed(&mut self) -> Result<(), Fault>
-        ensures { Reads Q.items self.old PutClosed result self.new }
+        ensures reads { Reads Q.items Q.room self.old PutClosed result self.new }
+        ensures room { Q.room self.new.inside ≡ Q.room self.old.inside }
     {
         match self.put {
             PutTurn::Late { offered: _ } => {
@@ -318,7 +330,8 @@ impl<Q: Fifo<u64>> CallAuditor<Q> {
 
     /// A close begins.
     pub fn close_begins(&mut self) -> Result<(), Fault>
-        ensures { Reads Q.items self.old CloseBegin result self.new }
+        ensures reads { Reads Q.items Q.room self.old CloseBegin result self.new }
+        ensures room { Q.room self.new.inside ≡ Q.room self.old.inside }
     {
         match self.put {
             PutTurn::Free => {
@@ -336,7 +349,8 @@ impl<Q: Fifo<u64>> CallAuditor<Q> {
 
     /// The close ends.
     pub fn close_ends(&mut self) -> Result<(), Fault>
-        ensures { Reads Q.items self.old CloseEnd result self.new }
+        ensures reads { Reads Q.items Q.room self.old CloseEnd result self.new }
+        ensures room { Q.room self.new.inside ≡ Q.room self.old.inside }
     {
         match self.put {
             PutTurn::Closes { again: _ } => {
@@ -355,7 +369,8 @@ impl<Q: Fifo<u64>> CallAuditor<Q> {
 
     /// A take of up to so many items begins, of one at least.
     pub fn take_begins(&mut self, wanted: usize) -> Result<(), Fault>
-        ensures { Reads Q.items self.old (TakeBegin wanted) result self.new }
+        ensures reads { Reads Q.items Q.room self.old (TakeBegin wanted) result self.new }
+        ensures room { Q.room self.new.inside ≡ Q.room self.old.inside }
     {
         match self.take {
             TakeTurn::Rests => {
@@ -380,7 +395,8 @@ impl<Q: Fifo<u64>> CallAuditor<Q> {
 
     /// The take ends: it took these items, one at least and no more than it wanted.
     pub fn take_items(&mut self, items: &[u64]) -> Result<(), Fault>
-        ensures { Reads Q.items self.old (TakeItems items.now) result self.new }
+        ensures reads { Reads Q.items Q.room self.old (TakeItems items.now) result self.new }
+        ensures room { Q.room self.new.inside ≡ Q.room self.old.inside }
     {
         match self.take {
             TakeTurn::Rests => Err(Fault::OutOfTurn),
@@ -422,6 +438,7 @@ impl<Q: Fifo<u64>> CallAuditor<Q> {
 
     // Ends the take with so many items, the next ones, where that can be.
     fn ends_take(&mut self, count: usize) -> bool
+        ensures room { Q.room self.new.inside ≡ Q.room self.old.inside }
         ensures ends { IsTrue result ↔ CanEndTake (meant self.old.capacity) (length (Q.items self.old.inside)) (offered_by self.old.put) count }
         ensures inside { Q.items self.new.inside ≡ (if result then drop count (Q.items self.old.inside) else (Q.items self.old.inside)) }
         ensures take { self.new.take ≡ (if result then Rests else self.old.take) }
@@ -442,7 +459,8 @@ impl<Q: Fifo<u64>> CallAuditor<Q> {
 
     /// The take ends: the queue had no item, and some may come.
     pub fn take_empty(&mut self) -> Result<(), Fault>
-        ensures { Reads Q.items self.old TakeEmpty result self.new }
+        ensures reads { Reads Q.items Q.room self.old TakeEmpty result self.new }
+        ensures room { Q.room self.new.inside ≡ Q.room self.old.inside }
     {
         match self.take {
             TakeTurn::Rests => Err(Fault::OutOfTurn),
@@ -462,7 +480,8 @@ impl<Q: Fifo<u64>> CallAuditor<Q> {
     /// The take of several items ends: the queue had fewer than it wanted, though it was not empty and closed, and none was
     /// taken.
     pub fn take_short(&mut self) -> Result<(), Fault>
-        ensures { Reads Q.items self.old TakeShort result self.new }
+        ensures reads { Reads Q.items Q.room self.old TakeShort result self.new }
+        ensures room { Q.room self.new.inside ≡ Q.room self.old.inside }
     {
         match self.take {
             TakeTurn::Rests => Err(Fault::OutOfTurn),
@@ -484,7 +503,8 @@ impl<Q: Fifo<u64>> CallAuditor<Q> {
 
     /// The take ends: no item was taken, and no reason is told.
     pub fn take_nothing(&mut self) -> Result<(), Fault>
-        ensures { Reads Q.items self.old TakeNothing result self.new }
+        ensures reads { Reads Q.items Q.room self.old TakeNothing result self.new }
+        ensures room { Q.room self.new.inside ≡ Q.room self.old.inside }
     {
         match self.take {
             TakeTurn::Rests => Err(Fault::OutOfTurn),
@@ -503,7 +523,8 @@ impl<Q: Fifo<u64>> CallAuditor<Q> {
 
     /// The take ends: the queue was empty and closed.
     pub fn take_closed(&mut self) -> Result<(), Fault>
-        ensures { Reads Q.items self.old TakeClosed result self.new }
+        ensures reads { Reads Q.items Q.room self.old TakeClosed result self.new }
+        ensures room { Q.room self.new.inside ≡ Q.room self.old.inside }
     {
         match self.take {
             TakeTurn::Rests => Err(Fault::OutOfTurn),

@@ -6,11 +6,14 @@ use std::collections::VecDeque;
 ///
 /// In use: `uses::calls::first_at_fault_in_slots`.
 pub trait Fifo<T: Copy>: Drop {
-    ghost use Rattle.std.specs.Prelude.{◌≡◌, ◌<◌, ◌==◌, ℕ, List, [], ◌∷◌, ◌++◌, length, take, drop, slice_get, slice_set, is_ok, if◌then◌else◌};
+    ghost use Rattle.std.specs.Prelude.{◌≡◌, ◌<◌, ◌≤◌, ◌==◌, ℕ, List, [], ◌∷◌, ◌++◌, OnErr, length, take, drop, slice_get, slice_set, is_ok, if◌then◌else◌};
     ghost use Rattle.std.specs.Slice.{IsItemAt};
 
     // The list, its front first.
     ghost items: { Self → List T };
+
+    // It has room for so many items in all, or for more.
+    ghost room: { Self → ℕ };
 
     /// How many items it holds.
     fn len(&self) -> usize
@@ -30,30 +33,38 @@ pub trait Fifo<T: Copy>: Drop {
     /// Puts an item in place of that of this place.
     fn set(&mut self, index: usize, item: T)
         requires { index < length (items self.old) }
-        ensures { items self.new ≡ slice_set (items self.old) index item };
+        ensures items { items self.new ≡ slice_set (items self.old) index item }
+        ensures kept { room self.new ≡ room self.old };
 
-    /// Adds an item at the back. Where memory for it is refused the list stays as it was.
+    /// Adds an item at the back. Where room for it is refused the list stays as it was.
     fn push_back(&mut self, item: T) -> Result<(), AllocError>
-        ensures { items self.new ≡ (if is_ok result then items self.old ++ item ∷ [] else items self.old) };
+        ensures items { items self.new ≡ (if is_ok result then items self.old ++ item ∷ [] else items self.old) }
+        ensures full { OnErr result (room self.old ≤ length (items self.old)) }
+        ensures kept { room self.new ≡ room self.old };
 
     /// Takes the item at the front away; none where the list is empty.
     fn pop_front(&mut self) -> Option<T>
         ensures value { result ≡ slice_get (items self.old) 0 }
-        ensures rest { items self.new ≡ drop 1 (items self.old) };
+        ensures rest { items self.new ≡ drop 1 (items self.old) }
+        ensures kept { room self.new ≡ room self.old };
 
     /// Keeps so many items from the front, or all where there are no more.
     fn truncate(&mut self, count: usize)
-        ensures { items self.new ≡ take count (items self.old) };
+        ensures items { items self.new ≡ take count (items self.old) }
+        ensures kept { room self.new ≡ room self.old };
 }
 
 /// A row of items that grows at its end: a `Vec`, or the [`Front`] of a slice of the caller's.
 ///
 /// In use: `uses::findings::found_in_slots`.
 pub trait Row<T: Copy>: Drop {
-    ghost use Rattle.std.specs.Prelude.{◌≡◌, ◌==◌, List, [], ◌∷◌, length, ◌++◌, is_ok, if◌then◌else◌};
+    ghost use Rattle.std.specs.Prelude.{◌≡◌, ◌<◌, ◌≤◌, ◌==◌, ◌+◌, ℕ, List, [], ◌∷◌, length, ◌++◌, OnErr, is_ok, if◌then◌else◌};
 
     // The row.
     ghost items: { Self → List T };
+
+    // It has room for so many items in all, or for more.
+    ghost room: { Self → ℕ };
 
     /// The items, in order.
     fn as_slice(&self) -> &[T]
@@ -66,21 +77,28 @@ pub trait Row<T: Copy>: Drop {
         self.as_slice().is_empty()
     }
 
-    /// Adds an item at the end. Where memory for it is refused the row stays as it was.
+    /// Adds an item at the end. Where room for it is refused the row stays as it was.
     fn push(&mut self, item: T) -> Result<(), AllocError>
-        ensures { items self.new ≡ (if is_ok result then items self.old ++ item ∷ [] else items self.old) };
+        ensures items { items self.new ≡ (if is_ok result then items self.old ++ item ∷ [] else items self.old) }
+        ensures full { OnErr result (room self.old ≤ length (items self.old)) }
+        ensures kept { room self.new ≡ room self.old };
 
-    /// Adds items at the end. Where memory for them is refused the row stays as it was.
+    /// Adds items at the end. Where room for them is refused the row stays as it was.
     fn extend_from_slice(&mut self, more: &[T]) -> Result<(), AllocError>
-        ensures { items self.new ≡ (if is_ok result then items self.old ++ more.now else items self.old) };
+        ensures items { items self.new ≡ (if is_ok result then items self.old ++ more.now else items self.old) }
+        ensures full { OnErr result (room self.old < length (items self.old) + length more.now) }
+        ensures kept { room self.new ≡ room self.old };
 
     /// Takes all items away.
     fn clear(&mut self)
-        ensures { items self.new ≡ [] };
+        ensures items { items self.new ≡ [] }
+        ensures kept { room self.new ≡ room self.old };
 }
 
 impl<T: Copy, A: Allocator> Fifo<T> for VecDeque<T, A> {
     ghost items = { λ q. q.items };
+
+    ghost room = { λ _. 0 };
 
     fn len(&self) -> usize {
         VecDeque::len(self)
@@ -113,6 +131,8 @@ impl<T: Copy, A: Allocator> Fifo<T> for VecDeque<T, A> {
 impl<T: Copy, A: Allocator> Row<T> for Vec<T, A> {
     ghost items = { λ v. v.items };
 
+    ghost room = { λ _. 0 };
+
     fn as_slice(&self) -> &[T] {
         Vec::as_slice(self)
     }
@@ -125,6 +145,9 @@ impl<T: Copy, A: Allocator> Row<T> for Vec<T, A> {
     }
 
     fn extend_from_slice(&mut self, more: &[T]) -> Result<(), AllocError> {
+        if more.is_empty() {
+            return Ok(());
+        }
         Vec::extend_from_slice(self, more)
     }
 

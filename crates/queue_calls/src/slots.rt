@@ -50,10 +50,12 @@ impl<'a, T: Copy> Slots<'a, T> {
 }
 
 impl<'a, T: Copy> Fifo<T> for Slots<'a, T> {
-    ghost use Rattle.std.specs.Prelude.{◌≡◌, ◌↔◌, IsErr, ◌∷◌, ◌++◌, [], length, is_ok, if◌then◌else◌};
+    ghost use Rattle.std.specs.Prelude.{◌≡◌, ◌≤◌, ◌↔◌, IsErr, OnErr, ◌∷◌, ◌++◌, [], length, is_ok, if◌then◌else◌};
     ghost use Rattle.queue_calls.specs.Rings.{ring_items};
 
     ghost items = { ring_items };
+
+    ghost room = { λ s. length s.slots.now };
 
     fn len(&self) -> usize {
         self.used
@@ -76,7 +78,9 @@ impl<'a, T: Copy> Fifo<T> for Slots<'a, T> {
 
     fn push_back(&mut self, item: T) -> Result<(), AllocError>
         ensures items { ring_items self.new ≡ (if is_ok result then ring_items self.old ++ item ∷ [] else ring_items self.old) }
-        ensures full { IsErr result ↔ (length (ring_items self.old) ≡ length self.old.slots.now) }
+        ensures full { OnErr result (length self.old.slots.now ≤ length (ring_items self.old)) }
+        ensures refused { IsErr result ↔ (length (ring_items self.old) ≡ length self.old.slots.now) }
+        ensures kept { length self.new.slots.now ≡ length self.old.slots.now }
     {
         if self.used == self.slots.len() {
             return Err(AllocError);
@@ -129,16 +133,23 @@ impl<'a, T: Copy> Front<'a, T> {
 }
 
 impl<'a, T: Copy> Row<T> for Front<'a, T> {
-    ghost use Rattle.std.specs.Prelude.{take};
+    ghost use Rattle.std.specs.Prelude.{◌≡◌, ◌≤◌, ◌<◌, ◌+◌, ◌↔◌, IsErr, OnErr, ◌∷◌, ◌++◌, [], length, take, is_ok, if◌then◌else◌};
 
     ghost items = { λ f. take f.used f.slots.now };
+
+    ghost room = { λ f. length f.slots.now };
 
     fn as_slice(&self) -> &[T] {
         let slots = &*self.slots;
         &slots[..self.used]
     }
 
-    fn push(&mut self, item: T) -> Result<(), AllocError> {
+    fn push(&mut self, item: T) -> Result<(), AllocError>
+        ensures items { take self.new.used self.new.slots.now ≡ (if is_ok result then take self.old.used self.old.slots.now ++ item ∷ [] else take self.old.used self.old.slots.now) }
+        ensures full { OnErr result (length self.old.slots.now ≤ length (take self.old.used self.old.slots.now)) }
+        ensures refused { IsErr result ↔ (self.old.used ≡ length self.old.slots.now) }
+        ensures kept { length self.new.slots.now ≡ length self.old.slots.now }
+    {
         if self.used == self.slots.len() {
             return Err(AllocError);
         }
@@ -147,7 +158,12 @@ impl<'a, T: Copy> Row<T> for Front<'a, T> {
         Ok(())
     }
 
-    fn extend_from_slice(&mut self, more: &[T]) -> Result<(), AllocError> {
+    fn extend_from_slice(&mut self, more: &[T]) -> Result<(), AllocError>
+        ensures items { take self.new.used self.new.slots.now ≡ (if is_ok result then take self.old.used self.old.slots.now ++ more.now else take self.old.used self.old.slots.now) }
+        ensures full { OnErr result (length self.old.slots.now < length (take self.old.used self.old.slots.now) + length more.now) }
+        ensures refused { IsErr result ↔ (length self.old.slots.now < self.old.used + length more.now) }
+        ensures kept { length self.new.slots.now ≡ length self.old.slots.now }
+    {
         if self.slots.len() - self.used < more.len() {
             return Err(AllocError);
         }

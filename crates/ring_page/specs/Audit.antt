@@ -5,7 +5,7 @@ use Rattle.bits_core.specs.History.{held}
 use Rattle.bits_core.specs.Memory.{EndsOverlappedRead}
 use Rattle.bits_core.specs.Seen.{clashes, sound_count}
 use Rattle.bits_core.specs.Shape.{batch_of, capacity_of, modulus_of, shape_fault_number, width_of}
-use Rattle.bits_core.specs.Trace.{IsTrace, IsTraceFault, trace_fault_number}
+use Rattle.bits_core.specs.Trace.{BeginsWithMore, IsTrace, IsTraceFault, trace_fault_number}
 use Rattle.bits_core.specs.declared.audits.Seen.{Seen}
 use Rattle.bits_core.specs.declared.audits.Verdict.{Verdict}
 use Rattle.bits_core.specs.declared.audits.Verdict.TheVariants.{Lawful, Fault}
@@ -113,10 +113,16 @@ pub record TellsFault (fault : TraceFault) (told : Told) : Type 0 where
   pub place : TellsPlace fault told
   pub nothing : TellsNoTrace told
 
--- the text is no trace, for this fault; or no trace of so few events as the page has room for
+-- The text begins with a trace of more events than the page has room for, so no fault was found before the room ended; it is no trace
+-- of fewer.
+pub record HasTooManyEvents (text : List ℕ) : Type 0 where
+  pub begins : BeginsWithMore text EVENT_ROOM
+  pub only : (shape : Shape) (events : List Event) → IsTrace text shape events → EVENT_ROOM < length events
+
+-- the text is no trace, for this fault; or the page has no room for its events
 pub record TellsRefusal (text : List ℕ) (told : Told) : Type 0 where
   pub fault : TraceFault
-  pub cause : IsTraceFault text fault ⊎ ((fault ≡ OutOfMemory) × ((shape : Shape) (events : List Event) → IsTrace text shape events → EVENT_ROOM < length events))
+  pub cause : IsTraceFault text fault ⊎ ((fault ≡ OutOfMemory) × HasTooManyEvents text)
   pub tells : TellsFault fault told
 
 -- what is told of a text

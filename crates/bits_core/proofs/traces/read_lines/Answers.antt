@@ -84,6 +84,7 @@ returns-in_err-reserve-clause-refused g c =
       rest = c.in-Some.others.now;
       text = text_more shape before e c.args.bytes.now c.loop-rest.rest.now c.in-Some.others.now l.text c.in-Some.ensures.1;
       of_shape = AreOfShape-push shape before e l.of_shape c.in-Some.ensures.0;
+      within = omega (arith, l.within, length-push before e, ap length c.as_slice-count.ensures, c.if-count-eq-EVENT_LIMIT.false);
     }) in
     let refuses = c.in_err-reserve.ensures.refused in
     search rules

@@ -16,8 +16,8 @@ pub loop-left-preserved : goal.loop-left-preserved
 loop-left-preserved g c =
     let some : length c.loop-left.left.now ≢ 0 = λ same. false≢true (sym c.loop-left-test.true ∙ c.is_empty.ensures ∙ eq-eqb (length c.loop-left.left.now) 0 same) in
     record {
-      text = one_more c.args.bytes.now c.loop-left.left.now c.in-Some.rest.now (g.R.Row.items c.loop-left.numbers) (g.R.Row.items c.push.new.self) c.in-Some.number c.loop-left.invariant.text c.in-Some.ensures c.in_ok-push.ensures;
-      small = small_more (g.R.Row.items c.loop-left.numbers) (g.R.Row.items c.push.new.self) c.loop-left.left.now c.in-Some.rest.now c.in-Some.number c.loop-left.invariant.small c.in-Some.ensures c.in_ok-push.ensures;
+      text = one_more c.args.bytes.now c.loop-left.left.now c.in-Some.rest.now (g.R.Row.items c.loop-left.numbers) (g.R.Row.items c.push.new.self) c.in-Some.number c.loop-left.invariant.text c.in-Some.ensures c.in_ok-push.ensures.items;
+      small = small_more (g.R.Row.items c.loop-left.numbers) (g.R.Row.items c.push.new.self) c.loop-left.left.now c.in-Some.rest.now c.in-Some.number c.loop-left.invariant.small c.in-Some.ensures c.in_ok-push.ensures.items;
       more = λ told all text.
           let more = c.loop-left.invariant.more told all text in
           left_more c.loop-left.left.now c.in-Some.rest.now more.0 c.in-Some.number some c.in-Some.ensures more.1 more.2;

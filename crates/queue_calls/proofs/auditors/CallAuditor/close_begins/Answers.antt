@@ -9,16 +9,16 @@ use Rattle.queue_calls.proofs.Closing.{close_begin}
 use Rattle.queue_calls.proofs.OutOfTurn.{away_close, busy}
 use Rattle.queue_calls.proofs.auditors.CallAuditor.close_begins.Goals as goal
 
-pub returns-in-Offers : goal.returns-in-Offers
-returns-in-Offers g c = (
+pub returns-in-Offers-clause-reads : goal.returns-in-Offers-clause-reads
+returns-in-Offers-clause-reads g c = (
   refl,
   λ h k.
       let s = c.args.self.now in
       away_close (meant s.capacity) h (g.Q.Fifo.items s.inside) s.put s.take s.shut k (busy s.put c.in-Offers.is),
 )
 
-pub returns-in-Free : goal.returns-in-Free
-returns-in-Free g c = (
+pub returns-in-Free-clause-reads : goal.returns-in-Free-clause-reads
+returns-in-Free-clause-reads g c = (
   refl,
   λ h k.
       let s = c.args.self.now in

@@ -9,16 +9,16 @@ use Rattle.queue_calls.proofs.Closing.{close_end}
 use Rattle.queue_calls.proofs.OutOfTurn.{away_close_end, no_close}
 use Rattle.queue_calls.proofs.auditors.CallAuditor.close_ends.Goals as goal
 
-pub returns-in-Free : goal.returns-in-Free
-returns-in-Free g c = (
+pub returns-in-Free-clause-reads : goal.returns-in-Free-clause-reads
+returns-in-Free-clause-reads g c = (
   refl,
   λ h k.
       let s = c.args.self.now in
       away_close_end (meant s.capacity) h (g.Q.Fifo.items s.inside) s.put s.take s.shut k (no_close s.put c.in-Free.is),
 )
 
-pub returns-in-Closes : goal.returns-in-Closes
-returns-in-Closes g c = (
+pub returns-in-Closes-clause-reads : goal.returns-in-Closes-clause-reads
+returns-in-Closes-clause-reads g c = (
   refl,
   λ h k.
       let s = c.args.self.now in

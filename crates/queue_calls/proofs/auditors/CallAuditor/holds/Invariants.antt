@@ -4,6 +4,7 @@ use Rattle.queue_calls.proofs.auditors.CallAuditor.holds.Given as goal
 abbrev pub invariant-loop-item : goal.invariant-loop-item
 invariant-loop-item g l = record {
   inside : (g.Q.Fifo.items l.self.inside) ≡ (g.Q.Fifo.items l.fn.self.inside) ++ take l.item-index l.items;
+  room : g.Q.Fifo.room l.self.inside ≡ g.Q.Fifo.room l.fn.self.inside;
   capacity : l.self.capacity ≡ l.fn.self.capacity;
   put : l.self.put ≡ l.fn.self.put;
   take : l.self.take ≡ l.fn.self.take;

@@ -1,4 +1,4 @@
-use Rattle.std.proofs.Common.{refl, inl, inr, sym, subst, ◌∙◌, ◌++◌, [], ℕ, length, Bool, true, false, List, ◌∷◌, arith, ◌≡◌, ◌≢◌, true-eqb, false-eqb}
+use Rattle.std.proofs.Common.{refl, inl, inr, sym, ap, subst, ◌∙◌, ◌++◌, [], ℕ, length, Bool, true, false, List, ◌∷◌, arith, ◌≡◌, ◌≢◌, true-eqb, false-eqb}
 use Rattle.queue_calls.specs.Calls.{PutBegin}
 use Rattle.queue_calls.specs.declared.capacities.Capacity.{Capacity}
 use Rattle.queue_calls.specs.declared.turns.PutTurn.{PutTurn}
@@ -6,29 +6,30 @@ use Rattle.queue_calls.specs.declared.turns.PutTurn.TheVariants.{Free, Offers, L
 use Rattle.queue_calls.specs.declared.turns.TakeTurn.{TakeTurn}
 use Rattle.queue_calls.specs.State.{Keeps}
 use Rattle.queue_calls.specs.Told.{meant}
-use Rattle.queue_calls.proofs.Keeping.{Accepts}
+use Rattle.queue_calls.proofs.Keeping.{Accepts, kept_as}
 use Rattle.queue_calls.proofs.PutBegins.{put_begin, late_begin}
+use Rattle.queue_calls.proofs.FullLists.{more_items}
 use Rattle.queue_calls.proofs.OutOfTurn.{away_begin, busy}
 use Rattle.queue_calls.proofs.auditors.CallAuditor.put_begins.Goals as goal
 
-pub returns-in-Offers : goal.returns-in-Offers
-returns-in-Offers g c = (
+pub returns-in-Offers-clause-reads : goal.returns-in-Offers-clause-reads
+returns-in-Offers-clause-reads g c = (
   refl,
   λ h k.
       let s = c.args.self.now in
       away_begin (meant s.capacity) h (g.Q.Fifo.items s.inside) s.put s.take s.shut k c.args.items.now (inl (busy s.put c.in-Offers.is)),
 )
 
-pub returns-then-is_empty : goal.returns-then-is_empty
-returns-then-is_empty g c = (
+pub returns-then-is_empty-clause-reads : goal.returns-then-is_empty-clause-reads
+returns-then-is_empty-clause-reads g c = (
   refl,
   λ h k.
       let s = c.args.self.now in
       away_begin (meant s.capacity) h (g.Q.Fifo.items s.inside) s.put s.take s.shut k c.args.items.now (inr (true-eqb (length c.args.items.now) 0 c.if-is_empty.ensures)),
 )
 
-pub returns-then-self : goal.returns-then-self
-returns-then-self g c = (
+pub returns-then-self-clause-reads : goal.returns-then-self-clause-reads
+returns-then-self-clause-reads g c = (
   refl,
   λ h k.
       let s = c.args.self.now in
@@ -40,8 +41,24 @@ returns-then-self g c = (
       subst R (sym c.if-self.true) (late_begin (meant s.capacity) h (g.Q.Fifo.items s.inside) items s.take j (omega (arith, some))),
 )
 
-pub returns : goal.returns
-returns g c = (
+pub returns-then-not-holds-clause-reads : goal.returns-then-not-holds-clause-reads
+returns-then-not-holds-clause-reads g c = (
+  c.if-not-holds.ensures.capacity,
+  λ h k.
+      let s = c.args.self.now in
+      let n = c.holds.new.self in
+      let items : List ℕ = c.args.items.now in
+      let e = c.if-not-holds.ensures in
+      let some : length items ≢ 0 = false-eqb (length items) 0 c.if-is_empty.ensures in
+      let G : PutTurn → Bool → Type 0 = λ z b. Keeps (meant s.capacity) h (g.Q.Fifo.items s.inside) z s.take b in
+      let j : G Free false = subst (λ b. G Free b) c.if-self.false (subst (λ z. G z s.shut) c.in-Free.is k) in (
+        kept_as (meant s.capacity) (meant n.capacity) h (g.Q.Fifo.items s.inside) (g.Q.Fifo.items n.inside) s.put n.put s.take n.take s.shut n.shut (ap meant e.capacity) e.inside e.put e.take e.shut k,
+        ((items, refl), more_items (meant s.capacity) h (g.Q.Fifo.items s.inside) items s.take j (omega (arith, some)) (g.Q.Fifo.room s.inside) (e.full refl)),
+      ),
+)
+
+pub returns-clause-reads : goal.returns-clause-reads
+returns-clause-reads g c = (
   c.if-not-holds.ensures.capacity,
   λ h k.
       let s = c.args.self.now in

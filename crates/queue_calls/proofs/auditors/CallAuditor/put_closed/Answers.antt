@@ -9,16 +9,16 @@ use Rattle.queue_calls.proofs.PutEnds.{put_closed, not_closed}
 use Rattle.queue_calls.proofs.OutOfTurn.{away_closed, no_put}
 use Rattle.queue_calls.proofs.auditors.CallAuditor.put_closed.Goals as goal
 
-pub returns-in-Free : goal.returns-in-Free
-returns-in-Free g c = (
+pub returns-in-Free-clause-reads : goal.returns-in-Free-clause-reads
+returns-in-Free-clause-reads g c = (
   refl,
   λ h k.
       let s = c.args.self.now in
       away_closed (meant s.capacity) h (g.Q.Fifo.items s.inside) s.put s.take s.shut k (λ n. no_put s.put n c.in-Free.is),
 )
 
-pub returns-in-Late : goal.returns-in-Late
-returns-in-Late g c = (
+pub returns-in-Late-clause-reads : goal.returns-in-Late-clause-reads
+returns-in-Late-clause-reads g c = (
   refl,
   λ h k.
       let s = c.args.self.now in
@@ -26,8 +26,8 @@ returns-in-Late g c = (
       subst F (sym c.in-Late.is) (λ j. put_closed (meant s.capacity) h (g.Q.Fifo.items s.inside) s.take s.shut c.in-Late.offered j) k,
 )
 
-pub returns-in-Offers : goal.returns-in-Offers
-returns-in-Offers g c = (
+pub returns-in-Offers-clause-reads : goal.returns-in-Offers-clause-reads
+returns-in-Offers-clause-reads g c = (
   refl,
   λ h k.
       let s = c.args.self.now in

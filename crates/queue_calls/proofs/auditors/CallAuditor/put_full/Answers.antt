@@ -10,16 +10,16 @@ use Rattle.queue_calls.proofs.OutOfTurn.{away_full, no_put}
 use Rattle.queue_calls.proofs.auditors.CallAuditor.put_full.Goals as goal
 use Rattle.queue_calls.proofs.auditors.CallAuditor.put_full.Goals.{then-not-may_lack-via-then-not-may_lack, then-not-may_lack-via-else-not-may_lack+then-not-ends_put}
 
-pub returns-in-Free : goal.returns-in-Free
-returns-in-Free g c = (
+pub returns-in-Free-clause-reads : goal.returns-in-Free-clause-reads
+returns-in-Free-clause-reads g c = (
   refl,
   λ h k.
       let s = c.args.self.now in
       away_full (meant s.capacity) h (g.Q.Fifo.items s.inside) s.put s.take s.shut k (λ n. no_put s.put n c.in-Free.is),
 )
 
-pub returns-in-Late : goal.returns-in-Late
-returns-in-Late g c = (
+pub returns-in-Late-clause-reads : goal.returns-in-Late-clause-reads
+returns-in-Late-clause-reads g c = (
   refl,
   λ h k.
       let s = c.args.self.now in
@@ -27,8 +27,8 @@ returns-in-Late g c = (
       subst F (sym c.in-Late.is) (λ j. late_not_full (meant s.capacity) h (g.Q.Fifo.items s.inside) s.take s.shut c.in-Late.offered j) k,
 )
 
-pub returns-then-not-may_lack : goal.returns-then-not-may_lack
-returns-then-not-may_lack g c = elim c.then-not-may_lack.branch [
+pub returns-then-not-may_lack-clause-reads : goal.returns-then-not-may_lack-clause-reads
+returns-then-not-may_lack-clause-reads g c = elim c.then-not-may_lack.branch [
   | then-not-may_lack-via-then-not-may_lack w ↦ (
     ap (λ z. z.capacity) w.self-is,
     λ h k.
@@ -59,8 +59,8 @@ returns-then-not-may_lack g c = elim c.then-not-may_lack.branch [
   )
 ]
 
-pub returns-else-not-ends_put : goal.returns-else-not-ends_put
-returns-else-not-ends_put g c = (
+pub returns-else-not-ends_put-clause-reads : goal.returns-else-not-ends_put-clause-reads
+returns-else-not-ends_put-clause-reads g c = (
   c.if-not-ends_put.ensures.capacity,
   λ h k.
       let s = c.args.self.now in

@@ -9,16 +9,16 @@ use Rattle.queue_calls.proofs.PutEnds.{put_nothing, not_nothing, late_nothing}
 use Rattle.queue_calls.proofs.OutOfTurn.{away_nothing, no_put}
 use Rattle.queue_calls.proofs.auditors.CallAuditor.put_nothing.Goals as goal
 
-pub returns-in-Free : goal.returns-in-Free
-returns-in-Free g c = (
+pub returns-in-Free-clause-reads : goal.returns-in-Free-clause-reads
+returns-in-Free-clause-reads g c = (
   refl,
   λ h k.
       let s = c.args.self.now in
       away_nothing (meant s.capacity) h (g.Q.Fifo.items s.inside) s.put s.take s.shut k (λ n. no_put s.put n c.in-Free.is),
 )
 
-pub returns-in-Late : goal.returns-in-Late
-returns-in-Late g c = (
+pub returns-in-Late-clause-reads : goal.returns-in-Late-clause-reads
+returns-in-Late-clause-reads g c = (
   refl,
   λ h k.
       let s = c.args.self.now in
@@ -26,8 +26,8 @@ returns-in-Late g c = (
       subst F (sym c.in-Late.is) (λ j. late_nothing (meant s.capacity) h (g.Q.Fifo.items s.inside) s.take s.shut c.in-Late.offered j) k,
 )
 
-pub returns-then-not-ends_put : goal.returns-then-not-ends_put
-returns-then-not-ends_put g c = (
+pub returns-then-not-ends_put-clause-reads : goal.returns-then-not-ends_put-clause-reads
+returns-then-not-ends_put-clause-reads g c = (
   c.if-not-ends_put.ensures.capacity,
   λ h k.
       let s = c.args.self.now in
@@ -38,8 +38,8 @@ returns-then-not-ends_put g c = (
       (kept_as (meant s.capacity) (meant n.capacity) h (g.Q.Fifo.items s.inside) (g.Q.Fifo.items n.inside) s.put n.put s.take n.take s.shut n.shut (ap meant e.capacity) e.inside e.put e.take e.shut k, b),
 )
 
-pub returns-else-not-ends_put : goal.returns-else-not-ends_put
-returns-else-not-ends_put g c = (
+pub returns-else-not-ends_put-clause-reads : goal.returns-else-not-ends_put-clause-reads
+returns-else-not-ends_put-clause-reads g c = (
   c.if-not-ends_put.ensures.capacity,
   λ h k.
       let s = c.args.self.now in

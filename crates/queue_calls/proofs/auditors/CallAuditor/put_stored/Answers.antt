@@ -11,16 +11,16 @@ use Rattle.queue_calls.proofs.OutOfTurn.{away_stored, away_range, no_put}
 use Rattle.queue_calls.proofs.auditors.CallAuditor.put_stored.Goals as goal
 use Rattle.queue_calls.proofs.auditors.CallAuditor.put_stored.Goals.{else-count-offered-via-then-count-offered+else-not-may_lack, else-count-offered-via-else-count-offered}
 
-pub returns-in-Free : goal.returns-in-Free
-returns-in-Free g c = (
+pub returns-in-Free-clause-reads : goal.returns-in-Free-clause-reads
+returns-in-Free-clause-reads g c = (
   refl,
   λ h k.
       let s = c.args.self.now in
       away_stored (meant s.capacity) h (g.Q.Fifo.items s.inside) s.put s.take s.shut k c.args.count (λ n. no_put s.put n c.in-Free.is),
 )
 
-pub returns-then-count-eq0 : goal.returns-then-count-eq0
-returns-then-count-eq0 g c = (
+pub returns-then-count-eq0-clause-reads : goal.returns-then-count-eq0-clause-reads
+returns-then-count-eq0-clause-reads g c = (
   refl,
   λ h k.
       let s = c.args.self.now in
@@ -28,8 +28,8 @@ returns-then-count-eq0 g c = (
       (elim c.then-count-eq0.either [ inl e ↦ inl (omega (arith, e)) | inr e ↦ inr (omega (arith, e.1)) ]),
 )
 
-pub returns-then-count-eq0-2 : goal.returns-then-count-eq0-2
-returns-then-count-eq0-2 g c = (
+pub returns-then-count-eq0-2-clause-reads : goal.returns-then-count-eq0-2-clause-reads
+returns-then-count-eq0-2-clause-reads g c = (
   refl,
   λ h k.
       let s = c.args.self.now in
@@ -37,8 +37,8 @@ returns-then-count-eq0-2 g c = (
       (elim c.then-count-eq0-2.either [ inl e ↦ inl (omega (arith, e)) | inr e ↦ inr (omega (arith, e.1)) ]),
 )
 
-pub returns-else-offered-count-2 : goal.returns-else-offered-count-2
-returns-else-offered-count-2 g c = (
+pub returns-else-offered-count-2-clause-reads : goal.returns-else-offered-count-2-clause-reads
+returns-else-offered-count-2-clause-reads g c = (
   refl,
   λ h k.
       let s = c.args.self.now in
@@ -50,8 +50,8 @@ returns-else-offered-count-2 g c = (
       k,
 )
 
-pub returns-then-not-may_lack : goal.returns-then-not-may_lack
-returns-then-not-may_lack g c = (
+pub returns-then-not-may_lack-clause-reads : goal.returns-then-not-may_lack-clause-reads
+returns-then-not-may_lack-clause-reads g c = (
   refl,
   λ h k.
       let s = c.args.self.now in
@@ -71,8 +71,8 @@ returns-then-not-may_lack g c = (
       k,
 )
 
-pub returns-then-not-ends_put : goal.returns-then-not-ends_put
-returns-then-not-ends_put g c = (
+pub returns-then-not-ends_put-clause-reads : goal.returns-then-not-ends_put-clause-reads
+returns-then-not-ends_put-clause-reads g c = (
   c.if-not-ends_put.ensures.capacity,
   λ h k.
       let s = c.args.self.now in
@@ -84,8 +84,8 @@ returns-then-not-ends_put g c = (
       (kept_as (meant s.capacity) (meant n.capacity) h (g.Q.Fifo.items s.inside) (g.Q.Fifo.items n.inside) s.put n.put s.take n.take s.shut n.shut (ap meant e.capacity) e.inside e.put e.take e.shut k, b),
 )
 
-pub returns-else-not-ends_put : goal.returns-else-not-ends_put
-returns-else-not-ends_put g c = (
+pub returns-else-not-ends_put-clause-reads : goal.returns-else-not-ends_put-clause-reads
+returns-else-not-ends_put-clause-reads g c = (
   c.if-not-ends_put.ensures.capacity,
   λ h k.
       let s = c.args.self.now in

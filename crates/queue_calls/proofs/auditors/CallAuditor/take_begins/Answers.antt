@@ -9,24 +9,24 @@ use Rattle.queue_calls.proofs.TakeBegins.{take_begin}
 use Rattle.queue_calls.proofs.OutOfTurn.{away_take, takes_now}
 use Rattle.queue_calls.proofs.auditors.CallAuditor.take_begins.Goals as goal
 
-pub returns-in-Waits : goal.returns-in-Waits
-returns-in-Waits g c = (
+pub returns-in-Waits-clause-reads : goal.returns-in-Waits-clause-reads
+returns-in-Waits-clause-reads g c = (
   refl,
   λ h k.
       let s = c.args.self.now in
       away_take (meant s.capacity) h (g.Q.Fifo.items s.inside) s.put s.take s.shut k c.args.wanted (inl (takes_now s.take c.in-Waits.wanted c.in-Waits.before c.in-Waits.ended c.in-Waits.is)),
 )
 
-pub returns-then-wanted-eq0 : goal.returns-then-wanted-eq0
-returns-then-wanted-eq0 g c = (
+pub returns-then-wanted-eq0-clause-reads : goal.returns-then-wanted-eq0-clause-reads
+returns-then-wanted-eq0-clause-reads g c = (
   refl,
   λ h k.
       let s = c.args.self.now in
       away_take (meant s.capacity) h (g.Q.Fifo.items s.inside) s.put s.take s.shut k c.args.wanted (inr c.if-wanted-eq0.true),
 )
 
-pub returns-else-wanted-eq0 : goal.returns-else-wanted-eq0
-returns-else-wanted-eq0 g c = (
+pub returns-else-wanted-eq0-clause-reads : goal.returns-else-wanted-eq0-clause-reads
+returns-else-wanted-eq0-clause-reads g c = (
   refl,
   λ h k.
       let s = c.args.self.now in

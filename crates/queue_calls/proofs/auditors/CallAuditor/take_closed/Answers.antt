@@ -8,13 +8,13 @@ use Rattle.queue_calls.proofs.OutOfTurn.{away_told, no_take}
 use Rattle.queue_calls.proofs.auditors.CallAuditor.take_closed.Goals as goal
 use Rattle.queue_calls.proofs.auditors.CallAuditor.take_closed.Goals.{then-not-is_empty-via-then-not-is_empty, then-not-is_empty-via-else-not-is_empty+then-not-is_closed}
 
-pub returns-in-Rests : goal.returns-in-Rests
-returns-in-Rests g c =
+pub returns-in-Rests-clause-reads : goal.returns-in-Rests-clause-reads
+returns-in-Rests-clause-reads g c =
     let s = c.args.self.now in
     (refl, λ h k. away_told (meant s.capacity) h (g.Q.Fifo.items s.inside) s.put s.take s.shut k (λ n. no_take s.take n c.in-Rests.is))
 
-pub returns-then-not-is_empty : goal.returns-then-not-is_empty
-returns-then-not-is_empty g c =
+pub returns-then-not-is_empty-clause-reads : goal.returns-then-not-is_empty-clause-reads
+returns-then-not-is_empty-clause-reads g c =
     let s = c.args.self.now in
     let w = c.in-Waits in
     refuses g.Q.Fifo.items s s TakeClosed s.capacity (g.Q.Fifo.items s.inside) s.put (Waits w.wanted w.before w.ended) s.shut (refl, refl, refl, w.is, refl) (refl, refl, refl, w.is, refl)
@@ -25,8 +25,8 @@ returns-then-not-is_empty g c =
       | then-not-is_empty-via-else-not-is_empty+then-not-is_closed b ↦ inr (sym b.if-not-is_closed.ensures)
     ]))
 
-pub returns-else-not-is_closed : goal.returns-else-not-is_closed
-returns-else-not-is_closed g c =
+pub returns-else-not-is_closed-clause-reads : goal.returns-else-not-is_closed-clause-reads
+returns-else-not-is_closed-clause-reads g c =
     let s = c.args.self.now in
     let w = c.in-Waits in
     let none : length (g.Q.Fifo.items s.inside) ≡ 0 = true-eqb (length (g.Q.Fifo.items s.inside)) 0 c.if-not-is_empty.ensures in

@@ -8,13 +8,13 @@ use Rattle.queue_calls.proofs.OutOfTurn.{away_empty, no_take}
 use Rattle.queue_calls.proofs.auditors.CallAuditor.take_empty.Goals as goal
 use Rattle.queue_calls.proofs.auditors.CallAuditor.take_empty.Goals.{then-ended-via-then-ended, then-ended-via-else-ended+then-before-gt0, then-ended-via-else-ended+else-before-gt0+then-not-ends_take}
 
-pub returns-in-Rests : goal.returns-in-Rests
-returns-in-Rests g c =
+pub returns-in-Rests-clause-reads : goal.returns-in-Rests-clause-reads
+returns-in-Rests-clause-reads g c =
     let s = c.args.self.now in
     (refl, λ h k. away_empty (meant s.capacity) h (g.Q.Fifo.items s.inside) s.put s.take s.shut k (λ n. no_take s.take n c.in-Rests.is))
 
-pub returns-then-ended : goal.returns-then-ended
-returns-then-ended g c =
+pub returns-then-ended-clause-reads : goal.returns-then-ended-clause-reads
+returns-then-ended-clause-reads g c =
     let s = c.args.self.now in
     let w = c.in-Waits in
     elim c.then-ended.branch [
@@ -33,8 +33,8 @@ returns-then-ended g c =
           (λ h k. not_empty (meant s.capacity) h s.put s.shut (g.Q.Fifo.items s.inside) w.wanted w.before w.ended k (inr (inr (λ f. let z : false ≡ true = e.ends.1 f in cc)))))
     ]
 
-pub returns-else-not-ends_take : goal.returns-else-not-ends_take
-returns-else-not-ends_take g c =
+pub returns-else-not-ends_take-clause-reads : goal.returns-else-not-ends_take-clause-reads
+returns-else-not-ends_take-clause-reads g c =
     let s = c.args.self.now in
     let w = c.in-Waits in
     let e = c.if-not-ends_take.ensures in

@@ -8,13 +8,13 @@ use Rattle.queue_calls.proofs.OutOfTurn.{away_items, away_many, no_take}
 use Rattle.queue_calls.proofs.auditors.CallAuditor.take_items.Goals as goal
 use Rattle.queue_calls.proofs.auditors.CallAuditor.take_items.Goals.{then-is_empty-via-then-is_empty, then-is_empty-via-else-is_empty+then-wanted-items, then-not-are_next-via-then-not-are_next, then-not-are_next-via-else-not-are_next+then-not-ends_take}
 
-pub returns-in-Rests : goal.returns-in-Rests
-returns-in-Rests g c =
+pub returns-in-Rests-clause-reads : goal.returns-in-Rests-clause-reads
+returns-in-Rests-clause-reads g c =
     let s = c.args.self.now in
     (refl, λ h k. away_items (meant s.capacity) h (g.Q.Fifo.items s.inside) s.put s.take s.shut k c.args.items.now (λ n. no_take s.take n c.in-Rests.is))
 
-pub returns-then-is_empty : goal.returns-then-is_empty
-returns-then-is_empty g c =
+pub returns-then-is_empty-clause-reads : goal.returns-then-is_empty-clause-reads
+returns-then-is_empty-clause-reads g c =
     let s = c.args.self.now in
     let w = c.in-Waits in
     let items = c.args.items.now in
@@ -23,8 +23,8 @@ returns-then-is_empty g c =
     away_many (meant s.capacity) h (g.Q.Fifo.items s.inside) s.put (Waits w.wanted w.before w.ended) s.shut k items w.wanted refl
     (elim c.then-is_empty.either [ inl e ↦ inl (true-eqb (length items) 0 (sym e ∙ c.is_empty.ensures)) | inr l ↦ inr l.1 ]))
 
-pub returns-then-items-before : goal.returns-then-items-before
-returns-then-items-before g c =
+pub returns-then-items-before-clause-reads : goal.returns-then-items-before-clause-reads
+returns-then-items-before-clause-reads g c =
     let s = c.args.self.now in
     let w = c.in-Waits in
     let items = c.args.items.now in
@@ -34,8 +34,8 @@ returns-then-items-before g c =
     not_items (meant s.capacity) h s.put s.shut (g.Q.Fifo.items s.inside) w.wanted w.before w.ended k items (omega (arith, some)) c.if-wanted-items.false
     (inl (c.if-items-wanted.true, c.if-items-before.true)))
 
-pub returns-then-not-are_next : goal.returns-then-not-are_next
-returns-then-not-are_next g c =
+pub returns-then-not-are_next-clause-reads : goal.returns-then-not-are_next-clause-reads
+returns-then-not-are_next-clause-reads g c =
     let s = c.args.self.now in
     let w = c.in-Waits in
     let items = c.args.items.now in
@@ -57,8 +57,8 @@ returns-then-not-are_next g c =
           (inr (inr (λ f. let z : false ≡ true = e.ends.1 f in cc)))))
     ]
 
-pub returns-else-not-ends_take : goal.returns-else-not-ends_take
-returns-else-not-ends_take g c =
+pub returns-else-not-ends_take-clause-reads : goal.returns-else-not-ends_take-clause-reads
+returns-else-not-ends_take-clause-reads g c =
     let s = c.args.self.now in
     let w = c.in-Waits in
     let items = c.args.items.now in

@@ -8,20 +8,20 @@ use Rattle.queue_calls.proofs.OutOfTurn.{away_take_short, away_wants_one, no_tak
 use Rattle.queue_calls.proofs.auditors.CallAuditor.take_short.Goals as goal
 use Rattle.queue_calls.proofs.auditors.CallAuditor.take_short.Goals.{then-wanted-before-via-then-wanted-before, then-wanted-before-via-else-wanted-before+then-before-eq0, then-wanted-before-via-else-wanted-before+else-before-eq0+then-not-ends_take, then-ended, else-ended}
 
-pub returns-in-Rests : goal.returns-in-Rests
-returns-in-Rests g c =
+pub returns-in-Rests-clause-reads : goal.returns-in-Rests-clause-reads
+returns-in-Rests-clause-reads g c =
     let s = c.args.self.now in
     (refl, λ h k. away_take_short (meant s.capacity) h (g.Q.Fifo.items s.inside) s.put s.take s.shut k (λ n. no_take s.take n c.in-Rests.is))
 
-pub returns-then-wanted-le1 : goal.returns-then-wanted-le1
-returns-then-wanted-le1 g c =
+pub returns-then-wanted-le1-clause-reads : goal.returns-then-wanted-le1-clause-reads
+returns-then-wanted-le1-clause-reads g c =
     let s = c.args.self.now in
     let w = c.in-Waits in
     turns_away g.Q.Fifo.items s s TakeShort s.capacity (g.Q.Fifo.items s.inside) s.put (Waits w.wanted w.before w.ended) s.shut (refl, refl, refl, w.is, refl) (refl, refl, refl, w.is, refl)
     (λ h k. away_wants_one (meant s.capacity) h (g.Q.Fifo.items s.inside) s.put (Waits w.wanted w.before w.ended) s.shut k w.wanted refl c.if-wanted-le1.true)
 
-pub returns-then-wanted-before : goal.returns-then-wanted-before
-returns-then-wanted-before g c =
+pub returns-then-wanted-before-clause-reads : goal.returns-then-wanted-before-clause-reads
+returns-then-wanted-before-clause-reads g c =
     let s = c.args.self.now in
     let w = c.in-Waits in
     elim c.then-wanted-before.branch [
@@ -43,8 +43,8 @@ returns-then-wanted-before g c =
           (inr (inr (λ f. let z : false ≡ true = e.ends.1 f in cc)))))
     ]
 
-pub returns-else-not-ends_take : goal.returns-else-not-ends_take
-returns-else-not-ends_take g c =
+pub returns-else-not-ends_take-clause-reads : goal.returns-else-not-ends_take-clause-reads
+returns-else-not-ends_take-clause-reads g c =
     let s = c.args.self.now in
     let w = c.in-Waits in
     let e = c.if-not-ends_take.ensures in

@@ -42,7 +42,7 @@ pub returns-clause-read : goal.returns-clause-read
 returns-clause-read g c bytes has =
     let read = c.loop-end.invariant in
     let so_far = read.2 bytes has in
-    let cut : g.S.Bytes.Row.items c.extend_from_slice.new.self ≡ g.S.Bytes.Row.items c.loop-end.self.cut ++ c.loop-end.rest.now = c.in_ok-extend_from_slice.ensures in
+    let cut : g.S.Bytes.Row.items c.extend_from_slice.new.self ≡ g.S.Bytes.Row.items c.loop-end.self.cut ++ c.loop-end.rest.now = c.in_ok-extend_from_slice.ensures.items in
     record {
       ended = so_far.ended;
       text = ap (λ (t : List ℕ). bytes ++ t) read.1 ∙ sym (append_assoc bytes read.0 c.loop-end.rest.now) ∙ ap (λ (t : List ℕ). t ++ c.loop-end.rest.now) so_far.text

@@ -26,7 +26,7 @@ returns-then-is_empty-clause-read g c = then_ok c.read.result c.read.ensures.rea
 pub returns-clause-read : goal.returns-clause-read
 returns-clause-read g c bytes has =
     let (l, on, lines) = c.in_ok-read.ensures.read has.ended has.lines in
-    line_ended g.S.Items.Fifo.items g.S.Bytes.Row.items c.args.self.now _ bytes c.args.end.now has l (sym (c.as_slice.ensures ∙ c.in_ok-extend_from_slice.ensures) ∙ on.1) c.clear.ensures lines
+    line_ended g.S.Items.Fifo.items g.S.Bytes.Row.items c.args.self.now _ bytes c.args.end.now has l (sym (c.as_slice.ensures ∙ c.in_ok-extend_from_slice.ensures.items) ∙ on.1) c.clear.ensures.items lines
 
 pub returns-then-is_empty-clause-refused : goal.returns-then-is_empty-clause-refused
 returns-then-is_empty-clause-refused g c = then_err c.read.result c.read.ensures.refused (λ e h bytes more has.
@@ -40,5 +40,5 @@ returns-in_err-read-clause-refused g c =
     let refused : (bytes more : List ℕ) → HasRead g.S.Items.Fifo.items g.S.Bytes.Row.items c.args.self.now bytes → RefusesText c.in_err-read.field-0.0 (bytes ++ (c.args.end.now ++ 10 ∷ more)) =
     λ bytes more has.
     end_refused c.in_err-read.field-0.0 has.ended bytes (g.S.Bytes.Row.items c.args.self.now.cut) c.args.end.now more has.text has.lines.are has.no_feed c.requires
-    (subst (λ t. RefusesLine c.in_err-read.field-0.0 has.ended t) (c.as_slice.ensures ∙ c.in_ok-extend_from_slice.ensures) (c.in_err-read.ensures.refused has.ended has.lines)) in
+    (subst (λ t. RefusesLine c.in_err-read.field-0.0 has.ended t) (c.as_slice.ensures ∙ c.in_ok-extend_from_slice.ensures.items) (c.in_err-read.ensures.refused has.ended has.lines)) in
     search (rules, refused)

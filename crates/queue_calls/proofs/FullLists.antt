@@ -1,0 +1,29 @@
+-- What a list that is full says of the history.
+use Rattle.std.proofs.Common.{◌≡◌, ℕ, ◌+◌, ◌<◌, false, List, [], ◌∷◌, ◌++◌, length, refl, sym, ap, subst, ◌∙◌, arith, length-append}
+use Rattle.queue_calls.specs.Queue.{Capacity}
+use Rattle.queue_calls.specs.Calls.{Event, PutBegin, Producer, Idle, Putting, FoundShut, Closing, Point, CanLeadTo}
+use Rattle.queue_calls.specs.declared.turns.PutTurn.TheVariants.{Free, Offers}
+use Rattle.queue_calls.specs.declared.turns.TakeTurn.{TakeTurn}
+use Rattle.queue_calls.specs.State.{taken_by, left_by, Keeps}
+use Rattle.queue_calls.specs.Audits.{HasMoreItems, items_at, left_at}
+use Rattle.queue_calls.proofs.PutBegins.{put_begin}
+
+left_same : (offered before : ℕ) (p : Producer) → left_by (Offers offered before) p ≡ left_at p
+left_same offered before Idle = refl
+left_same offered before (Putting lacked done left) = refl
+left_same offered before FoundShut = refl
+left_same offered before (Closing done) = refl
+
+-- a put begins whose items do not fit behind those inside
+pub more_items :
+    (capacity : Capacity) (h : List Event) (inside items : List ℕ) (take' : TakeTurn) → Keeps capacity h inside Free take' false → 0 < length items → (room : ℕ) →
+    room < length inside + length items → HasMoreItems room capacity (h ++ PutBegin items ∷ [])
+more_items capacity h inside items take' k some room full =
+    let (kept, is) = put_begin capacity h inside items take' k some in (
+      is,
+      λ s leads.
+          let d = kept.complete s leads in
+          let are : inside ++ items ≡ items_at s =
+          d.items ∙ ap (λ z. taken_by s.consumer ++ (s.queue.items ++ z)) (left_same (length items) (length inside) s.producer) in
+          omega (arith, full, ap length are, length-append inside items),
+    )
