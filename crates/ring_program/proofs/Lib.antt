@@ -1,8 +1,10 @@
 pub mod CommandLemmas
 mod PlayLemmas
-mod RecordingText
 mod Endings
+mod RecordingText
 mod RunItems
+mod RunTelling
+mod RunText
 mod TellingText
 mod TextLemmas
 pub mod WhyLemmas

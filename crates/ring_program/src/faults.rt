@@ -27,12 +27,15 @@ pub enum AppFault {
     /// Memory ran out.
     #[error("out of memory")]
     OutOfMemory,
+    /// What was recorded of a run are not its calls.
+    #[error("recording is not of the run")]
+    NotOfRun,
 }
 
 impl AppFault {
     ghost use Rattle.ring_program.specs.Faults.{number_of};
 
-    /// The number of the fault: 1 `ReadFailed`, 2 `TooLarge`, 3 `WriteFailed`, 4 `OutOfMemory`.
+    /// The number of the fault: 1 `ReadFailed`, 2 `TooLarge`, 3 `WriteFailed`, 4 `OutOfMemory`, 5 `NotOfRun`.
     pub fn number(&self) -> u8
         ensures { result ≡ number_of self.now }
     {
@@ -41,6 +44,7 @@ impl AppFault {
             AppFault::TooLarge => 2,
             AppFault::WriteFailed => 3,
             AppFault::OutOfMemory => 4,
+            AppFault::NotOfRun => 5,
         }
     }
 }
