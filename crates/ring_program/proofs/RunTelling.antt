@@ -7,7 +7,7 @@ use Rattle.std.proofs.lemmas.Grind.{flat_map-append}
 use Rattle.std.specs.List.{flat_map, sum_by}
 use Rattle.std.specs.Str.{bytes_eq}
 use Rattle.queue_calls.specs.Calls.{Event, PutBegin, TakeItems}
-use Rattle.ring_program.specs.RunRecordings.{AreOfRun, IsOfRun, RunCounts, TellAllBut, stored_with, taken_with, tells_close, tells_closed, tells_empty, tells_full, tells_put, tells_take}
+use Rattle.ring_program.specs.RunRecordings.{AreOfRun, IsOfRun, RunCounts, TellAllBut, stored_with, taken_with, tells_close, tells_shut, tells_empty, tells_full, tells_put, tells_take}
 use Rattle.ring_program.specs.Untold.{TakesOff}
 use Rattle.ring_program.specs.declared.run_recordings.Untold.{Untold}
 
@@ -75,7 +75,7 @@ tell_more left mid all events event before now = record {
   closes = tells_more tells_close events event _ _ _ before.closes now.closes;
   takes = tells_more tells_take events event _ _ _ before.takes now.takes;
   empty = tells_more tells_empty events event _ _ _ before.empty now.empty;
-  told = tells_more tells_closed events event _ _ _ before.told now.told;
+  told = tells_more tells_shut events event _ _ _ before.told now.told;
   taken = ap (λ (xs : List ℕ). xs ++ left.taken) (flat_map-append taken_with events (event ∷ []))
       ∙ append_assoc (flat_map taken_with events) (flat_map taken_with (event ∷ [])) left.taken
       ∙ ap (λ (xs : List ℕ). flat_map taken_with events ++ xs) now.taken ∙ before.taken;

@@ -43,9 +43,9 @@ abbrev pub tells_empty : Event → ℕ
 tells_empty TakeEmpty = 1
 tells_empty _ = 0
 
-abbrev pub tells_closed : Event → ℕ
-tells_closed TakeClosed = 1
-tells_closed _ = 0
+abbrev pub tells_shut : Event → ℕ
+tells_shut TakeClosed = 1
+tells_shut _ = 0
 
 -- the room that its line takes in the log of a side: a put that begins, as much as it has items
 abbrev pub room_with : Side → Event → ℕ
@@ -110,7 +110,7 @@ pub record TellAllBut (left all : RunCounts) (events : List Event) : Type 0 wher
   pub closes : sum_by tells_close events + left.closes ≡ all.closes
   pub takes : sum_by tells_take events + left.takes ≡ all.takes
   pub empty : sum_by tells_empty events + left.empty ≡ all.empty
-  pub told : sum_by tells_closed events + left.told ≡ all.told
+  pub told : sum_by tells_shut events + left.told ≡ all.told
   pub taken : flat_map taken_with events ++ left.taken ≡ all.taken
 
 -- the log of each side had room for one more line

@@ -1,7 +1,6 @@
-use Rattle.std.proofs.Common.{◌∙◌, ℕ, ◌≤◌, ap, subst, sym, string_bytes}
+use Rattle.std.proofs.Common.{◌∙◌, ℕ, ◌≤◌, subst, sym, string_bytes}
 use Rattle.bits_core.specs.Shape.{batch_of, capacity_of}
-use Rattle.queue_calls.specs.Told.{meant, told}
-use Rattle.queue_calls.specs.Queue.{exactly}
+use Rattle.queue_calls.specs.Told.{told}
 use Rattle.ring_program.specs.RunRecordings.{IsOfRun, run_counts}
 use Rattle.ring_program.proofs.RunText.{audits_more, begins_run, leaves_less, meant_exactly, records_run, writes_more}
 use Rattle.ring_program.proofs.run_recordings.recording_text.Goals as goal
