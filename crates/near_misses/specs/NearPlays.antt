@@ -1,6 +1,6 @@
 -- What a play by a near miss is: a lawful history, which the letters of its script make, and the calls that are told of it. Each side is
 -- in one call after the other; an event of it begins a call, or goes on with it, or ends it, and what begins or ends is told.
-use Rattle.std.specs.Prelude.{◌≡◌, ◌⊎◌, ℕ, suc, ◌+◌, ◌^◌, ◌<◌, ◌≤◌, Bool, true, false, nat_lt, if◌then◌else◌, Option, Some, None, List, [], ◌∷◌, ◌++◌, length, bit_or}
+use Rattle.std.specs.Prelude.{◌≡◌, ◌⊎◌, ℕ, suc, ◌+◌, ◌^◌, ◌<◌, ◌≤◌, Bool, true, false, ◌||◌, nat_lt, if◌then◌else◌, Option, Some, None, List, [], ◌∷◌, ◌++◌, length, bit_or}
 use Rattle.bits_core.specs.declared.events.Act.{Act}
 use Rattle.bits_core.specs.declared.events.Act.TheVariants.{ReadBegin, ReadEnd, WriteBegin, WriteEnd}
 use Rattle.bits_core.specs.declared.events.Bit.{Bit}
@@ -72,13 +72,13 @@ NearStep asked s before (WriteBegin v) b told after = NearBegins asked s before 
 NearStep asked s before (ReadEnd v) b told after = NearEnds asked s before (with_digit v b before.item) told after
 NearStep asked s before WriteEnd b told after = NearEnds asked s before before.item told after
 
--- a side may stop: in a call, for good, as it finds no count; else where nothing more is asked of it
+-- a side has stopped, or may stop: in a call, for good, as it finds no count; else where nothing more is asked of it
 abbrev pub NearStops : NearAsked → Side → NearStand → Type 0
-NearStops asked P before = (before.in_call ≡ true) ⊎ ((before.over ≡ true) ⊎ ((asked.items ≤ before.count) × (asked.closes ≡ false)))
-NearStops asked C before = (before.in_call ≡ true) ⊎ ((before.over ≡ true) ⊎ (asked.takes ≤ before.count))
+NearStops asked P before = (before.stopped ≡ true) ⊎ ((before.in_call ≡ true) ⊎ ((before.over ≡ true) ⊎ ((asked.items ≤ before.count) × (asked.closes ≡ false))))
+NearStops asked C before = (before.stopped ≡ true) ⊎ ((before.in_call ≡ true) ⊎ ((before.over ≡ true) ⊎ (asked.takes ≤ before.count)))
 
 abbrev pub near_stopped : NearStand → NearStand
-near_stopped n = record n { stopped = n.in_call }
+near_stopped n = record n { stopped = n.stopped || n.in_call }
 
 -- both sides
 pub record NearStands : Type 0 where

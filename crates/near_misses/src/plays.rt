@@ -6,9 +6,11 @@ ghost use Rattle.bits_core.specs.Made.{opening_event};
 ghost use Rattle.bits_core.specs.Open.{IsOpenRight};
 ghost use Rattle.bits_core.specs.Trace.{AreOfShape};
 ghost use Rattle.bits_core.specs.declared.events.Side.{Side as ASide};
+ghost use Rattle.bits_core.specs.declared.events.Side.TheVariants.{P, C};
 ghost use Rattle.near_misses.specs.NearPlays.{IsNearPlay, NearAsked};
 ghost use Rattle.near_misses.specs.NearSides.{IsInOpenCall, IsNearReady, NearHas, NearMoves, ended_event};
 ghost use Rattle.ring_player.specs.Actors.{IsAtTurn};
+ghost use Rattle.ring_player.specs.Tellings.{listed};
 
 use crate::misses::NearMiss;
 use crate::putting::NearPutter;
@@ -247,6 +249,16 @@ fn step<A: Allocator, S: NearSide, O: Oracle>(
     Ok(machine.end(access, answer))
 }
 
+// Tells what an event tells, if anything.
+fn tell<A: Allocator>(told: &mut Vec<Told, A>, event: Option<Told>) -> Result<(), NearFault>
+    ensures { OnOk result (told.new.items ≡ told.old.items ++ listed event) }
+{
+    match event {
+        Some(event) => Ok(told.push(event)?),
+        None => Ok(()),
+    }
+}
+
 // Both sides at work on one memory.
 #[derive(Drop)]
 struct NearWorld<'a, A: Allocator> {
@@ -265,15 +277,32 @@ impl<A: Allocator> NearWorld<'_, A> {
         ensures shape { self.new.memory.shape ≡ self.old.memory.shape }
         ensures has { OnOk result ((a : NearAsked) (letters : List ASide) (oracle : List Bool) → NearHas a letters oracle self.old → NearHas a (letters ++ side ∷ []) oracle self.new) }
     {
-        open_changes();
-        let told = match side {
-            Side::P => step(&mut self.memory, &mut self.putter, &mut self.oracle, side)?,
-            Side::C => step(&mut self.memory, &mut self.taker, &mut self.oracle, side)?,
-        };
-        match told {
-            Some(told) => Ok(self.told.push(told)?),
-            None => Ok(()),
+        match side {
+            Side::P => self.step_putter(),
+            Side::C => self.step_taker(),
         }
+    }
+
+    fn step_putter(&mut self) -> Result<(), NearFault>
+        requires { IsNearReady self.old }
+        ensures ready { OnOk result (IsNearReady self.new) }
+        ensures shape { self.new.memory.shape ≡ self.old.memory.shape }
+        ensures has { OnOk result ((a : NearAsked) (letters : List ASide) (oracle : List Bool) → NearHas a letters oracle self.old → NearHas a (letters ++ P ∷ []) oracle self.new) }
+    {
+        open_changes();
+        let event = step(&mut self.memory, &mut self.putter, &mut self.oracle, Side::P)?;
+        tell(&mut self.told, event)
+    }
+
+    fn step_taker(&mut self) -> Result<(), NearFault>
+        requires { IsNearReady self.old }
+        ensures ready { OnOk result (IsNearReady self.new) }
+        ensures shape { self.new.memory.shape ≡ self.old.memory.shape }
+        ensures has { OnOk result ((a : NearAsked) (letters : List ASide) (oracle : List Bool) → NearHas a letters oracle self.old → NearHas a (letters ++ C ∷ []) oracle self.new) }
+    {
+        open_changes();
+        let event = step(&mut self.memory, &mut self.taker, &mut self.oracle, Side::C)?;
+        tell(&mut self.told, event)
     }
 
     // Makes so many steps of one side.

@@ -1,9 +1,5 @@
 //! The producer of a near miss.
-ghost use Rattle.std.specs.Prelude.{◌≡◌, ◌+◌, ◌-◌, ◌≤◌, None, IfSome, IsSome, false, length};
-ghost use Rattle.bits_core.specs.Open.{IsOpenRight};
-ghost use Rattle.bits_core.specs.declared.events.Side.TheVariants.{P};
-ghost use Rattle.near_misses.specs.NearPlays.{NearAsked, NearBegins, NearEnds, NearStops, near_start, near_stopped};
-ghost use Rattle.near_misses.specs.NearSides.{IsAskedToPut, is_in_put, put_stand};
+ghost use Rattle.std.specs.Prelude.{◌≡◌, ◌+◌, ◌-◌, ◌≤◌, None, IfSome, IsSome, true, false, length};
 
 use crate::misses::NearMiss;
 use crate::rows::{Order, Row, read_bit};
@@ -45,6 +41,12 @@ pub struct NearPutter<'a> {
 }
 
 impl<'a> NearPutter<'a> {
+    ghost use Rattle.bits_core.specs.Open.{IsOpenRight};
+    ghost use Rattle.near_misses.specs.declared.putting.Stage.TheVariants.{Between};
+    ghost use Rattle.bits_core.specs.declared.events.Side.TheVariants.{P};
+    ghost use Rattle.near_misses.specs.NearPlays.{NearAsked, NearBegins, NearEnds, NearStops, near_start, near_stopped};
+    ghost use Rattle.near_misses.specs.NearSides.{IsAskedToPut, is_in_put, put_stand};
+
     pub fn new(miss: NearMiss, shape: Shape, items: &'a [u64], closes: bool) -> Self
         ensures starts { put_stand result ≡ near_start }
         ensures asked { (asked : NearAsked) → asked.items ≡ length items.entry.now → asked.closes ≡ closes → IsAskedToPut result asked }
@@ -65,10 +67,18 @@ impl<'a> NearPutter<'a> {
     }
 
     // Begins the next call. Tells it, with its first access.
-    fn begin(&mut self) -> Option<(Access, Option<Told>)> {
+    fn begin(&mut self) -> Option<(Access, Option<Told>)>
+        requires { (self.old.stage ≡ Between) × (self.old.stopped ≡ false) }
+        ensures asked { (asked : NearAsked) → IsAskedToPut self.old asked → IsAskedToPut self.new asked }
+        ensures shape { self.new.shape ≡ self.old.shape }
+        ensures begins { IfSome result (λ r. (asked : NearAsked) → IsAskedToPut self.old asked → NearBegins asked P (put_stand self.old) r.1 (put_stand self.new)) }
+        ensures right { IfSome result (λ r. IsOpenRight self.old.shape P r.0) }
+        ensures stops { result ≡ None → (asked : NearAsked) → IsAskedToPut self.old asked → NearStops asked P (put_stand self.old) × (put_stand self.new ≡ put_stand self.old) }
+    {
         if self.stored < self.items.len() {
             self.stage = Stage::Scanning(0);
-            let access = Access::Read(read_bit(Side::P, 0));
+            let _modulus = self.shape.modulus();
+            let access = Access::Read(Bit::R(0));
             Some((access, Some(Told::PutBegins(self.stored))))
         } else if self.closes {
             self.stage = Stage::Closing;
@@ -81,6 +91,7 @@ impl<'a> NearPutter<'a> {
 
     /// The access that is due, and what it tells where a call begins with it; none where the side stops.
     pub fn next(&mut self) -> Option<(Access, Option<Told>)>
+        ensures shape { self.new.shape ≡ self.old.shape }
         ensures asked { (asked : NearAsked) → IsAskedToPut self.old asked → IsAskedToPut self.new asked }
         ensures begins { IfSome result (λ r. (asked : NearAsked) → IsAskedToPut self.old asked → NearBegins asked P (put_stand self.old) r.1 (put_stand self.new)) }
         ensures goes { IsSome result → self.old.stopped ≡ false }
@@ -103,10 +114,11 @@ impl<'a> NearPutter<'a> {
 
     /// The side stops: in a call for good.
     pub fn stop(&mut self)
+        ensures shape { self.new.shape ≡ self.old.shape }
         ensures asked { (asked : NearAsked) → IsAskedToPut self.old asked → IsAskedToPut self.new asked }
         ensures stopped { put_stand self.new ≡ near_stopped (put_stand self.old) }
     {
-        self.stopped = !matches!(self.stage, Stage::Between | Stage::Over);
+        self.stopped = self.stopped || !matches!(self.stage, Stage::Between | Stage::Over);
     }
 
     // The write of a digit of an item to its cell, behind so many of the put.
@@ -121,6 +133,7 @@ impl<'a> NearPutter<'a> {
     /// This access, which was due, has ended with this answer. Tells the end of a call, where it is one.
     pub fn end(&mut self, _access: Access, answer: bool) -> Option<Told>
         requires { is_in_put self.old.stage ≡ true }
+        ensures shape { self.new.shape ≡ self.old.shape }
         ensures asked { (asked : NearAsked) → IsAskedToPut self.old asked → IsAskedToPut self.new asked }
         ensures ends { (asked : NearAsked) → IsAskedToPut self.old asked → NearEnds asked P (put_stand self.old) 0 result (put_stand self.new) }
     {
@@ -145,6 +158,7 @@ impl<'a> NearPutter<'a> {
     // A bit of the consumer's count answered 0: the next one is read. (One that answers 0 to the last gives no count, and the side stops.)
     fn scan_on(&mut self, zeros: u8) -> Option<Told>
         requires { is_in_put self.old.stage ≡ true }
+        ensures shape { self.new.shape ≡ self.old.shape }
         ensures asked { (asked : NearAsked) → IsAskedToPut self.old asked → IsAskedToPut self.new asked }
         ensures ends { (asked : NearAsked) → IsAskedToPut self.old asked → NearEnds asked P (put_stand self.old) 0 result (put_stand self.new) }
     {
@@ -176,6 +190,7 @@ impl<'a> NearPutter<'a> {
     // The scan gave this count: a put that finds room goes on, with its items or with its count.
     fn scanned(&mut self, seen: u64) -> Option<Told>
         requires { is_in_put self.old.stage ≡ true }
+        ensures shape { self.new.shape ≡ self.old.shape }
         ensures asked { (asked : NearAsked) → IsAskedToPut self.old asked → IsAskedToPut self.new asked }
         ensures ends { (asked : NearAsked) → IsAskedToPut self.old asked → NearEnds asked P (put_stand self.old) 0 result (put_stand self.new) }
     {
@@ -198,6 +213,7 @@ impl<'a> NearPutter<'a> {
     // A digit was written.
     fn stored_digit(&mut self, done: usize, digit: u8) -> Option<Told>
         requires { is_in_put self.old.stage ≡ true }
+        ensures shape { self.new.shape ≡ self.old.shape }
         ensures asked { (asked : NearAsked) → IsAskedToPut self.old asked → IsAskedToPut self.new asked }
         ensures ends { (asked : NearAsked) → IsAskedToPut self.old asked → NearEnds asked P (put_stand self.old) 0 result (put_stand self.new) }
     {
@@ -218,6 +234,7 @@ impl<'a> NearPutter<'a> {
     // A bit of the count was written.
     fn counted(&mut self) -> Option<Told>
         requires { is_in_put self.old.stage ≡ true }
+        ensures shape { self.new.shape ≡ self.old.shape }
         ensures asked { (asked : NearAsked) → IsAskedToPut self.old asked → IsAskedToPut self.new asked }
         ensures ends { (asked : NearAsked) → IsAskedToPut self.old asked → NearEnds asked P (put_stand self.old) 0 result (put_stand self.new) }
     {
@@ -234,6 +251,7 @@ impl<'a> NearPutter<'a> {
 
     fn put_is_over(&mut self) -> Option<Told>
         requires { is_in_put self.old.stage ≡ true }
+        ensures shape { self.new.shape ≡ self.old.shape }
         ensures asked { (asked : NearAsked) → IsAskedToPut self.old asked → IsAskedToPut self.new asked }
         ensures ends { (asked : NearAsked) → IsAskedToPut self.old asked → NearEnds asked P (put_stand self.old) 0 result (put_stand self.new) }
     {

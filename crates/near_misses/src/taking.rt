@@ -1,6 +1,7 @@
 //! The consumer of a near miss.
-ghost use Rattle.std.specs.Prelude.{◌≡◌, None, IfSome, IsSome, false};
+ghost use Rattle.std.specs.Prelude.{◌≡◌, None, IfSome, IsSome, true, false};
 ghost use Rattle.bits_core.specs.Open.{IsOpenRight};
+ghost use Rattle.near_misses.specs.declared.taking.Stage.TheVariants.{Between};
 ghost use Rattle.bits_core.specs.declared.events.Side.TheVariants.{C};
 ghost use Rattle.near_misses.specs.NearPlays.{NearAsked, NearBegins, NearEnds, NearStops, near_start, near_stopped};
 ghost use Rattle.near_misses.specs.NearSides.{IsAskedToTake, is_in_take, item_ended, take_stand};
@@ -66,12 +67,20 @@ impl NearTaker {
     }
 
     // Begins the next take. Tells it, with its first access.
-    fn begin(&mut self) -> Option<(Access, Option<Told>)> {
+    fn begin(&mut self) -> Option<(Access, Option<Told>)>
+        requires { (self.old.stage ≡ Between) × (self.old.stopped ≡ false) }
+        ensures asked { (asked : NearAsked) → IsAskedToTake self.old asked → IsAskedToTake self.new asked }
+        ensures shape { self.new.shape ≡ self.old.shape }
+        ensures begins { IfSome result (λ r. (asked : NearAsked) → IsAskedToTake self.old asked → NearBegins asked C (take_stand self.old) r.1 (take_stand self.new)) }
+        ensures right { IfSome result (λ r. IsOpenRight self.old.shape C r.0) }
+        ensures stops { result ≡ None → (asked : NearAsked) → IsAskedToTake self.old asked → NearStops asked C (take_stand self.old) × (take_stand self.new ≡ take_stand self.old) }
+    {
         if self.begun < self.takes {
             self.begun += 1;
             self.item = 0;
             self.stage = Stage::Scanning(0);
-            let access = Access::Read(read_bit(Side::C, 0));
+            let _modulus = self.shape.modulus();
+            let access = Access::Read(Bit::S(0));
             Some((access, Some(Told::TakeBegins)))
         } else {
             None
@@ -80,6 +89,7 @@ impl NearTaker {
 
     /// The access that is due, and what it tells where a take begins with it; none where the side stops.
     pub fn next(&mut self) -> Option<(Access, Option<Told>)>
+        ensures shape { self.new.shape ≡ self.old.shape }
         ensures asked { (asked : NearAsked) → IsAskedToTake self.old asked → IsAskedToTake self.new asked }
         ensures begins { IfSome result (λ r. (asked : NearAsked) → IsAskedToTake self.old asked → NearBegins asked C (take_stand self.old) r.1 (take_stand self.new)) }
         ensures goes { IsSome result → self.old.stopped ≡ false }
@@ -107,14 +117,16 @@ impl NearTaker {
 
     /// The side stops: in a take for good.
     pub fn stop(&mut self)
+        ensures shape { self.new.shape ≡ self.old.shape }
         ensures asked { (asked : NearAsked) → IsAskedToTake self.old asked → IsAskedToTake self.new asked }
         ensures stopped { take_stand self.new ≡ near_stopped (take_stand self.old) }
     {
-        self.stopped = !matches!(self.stage, Stage::Between | Stage::Over);
+        self.stopped = self.stopped || !matches!(self.stage, Stage::Between | Stage::Over);
     }
 
     // The item that is read, with a digit more where that was read as 1.
     fn read(&mut self, access: Access, answer: bool)
+        ensures shape { self.new.shape ≡ self.old.shape }
         ensures asked { (asked : NearAsked) → IsAskedToTake self.old asked → IsAskedToTake self.new asked }
         ensures read { take_stand self.new ≡ record (take_stand self.old) { item = item_ended access answer self.old.item } }
         ensures stage { self.new.stage ≡ self.old.stage }
@@ -130,6 +142,7 @@ impl NearTaker {
     /// This access, which was due, has ended with this answer. Tells the end of a take, where it is one.
     pub fn end(&mut self, access: Access, answer: bool) -> Option<Told>
         requires { is_in_take self.old.stage ≡ true }
+        ensures shape { self.new.shape ≡ self.old.shape }
         ensures asked { (asked : NearAsked) → IsAskedToTake self.old asked → IsAskedToTake self.new asked }
         ensures ends { (asked : NearAsked) → IsAskedToTake self.old asked → NearEnds asked C (take_stand self.old) (item_ended access answer self.old.item) result (take_stand self.new) }
     {
@@ -150,6 +163,7 @@ impl NearTaker {
     // A bit of the producer's count was read. (A scan that reads 0 to the last bit gives no count, and the side stops.)
     fn scan_ends(&mut self, zeros: u8, answer: bool, again: bool) -> Option<Told>
         requires { is_in_take self.old.stage ≡ true }
+        ensures shape { self.new.shape ≡ self.old.shape }
         ensures asked { (asked : NearAsked) → IsAskedToTake self.old asked → IsAskedToTake self.new asked }
         ensures ends { (asked : NearAsked) → IsAskedToTake self.old asked → NearEnds asked C (take_stand self.old) self.old.item result (take_stand self.new) }
     {
@@ -169,6 +183,7 @@ impl NearTaker {
     // A scan gave this count.
     fn scanned(&mut self, seen: u64, again: bool) -> Option<Told>
         requires { is_in_take self.old.stage ≡ true }
+        ensures shape { self.new.shape ≡ self.old.shape }
         ensures asked { (asked : NearAsked) → IsAskedToTake self.old asked → IsAskedToTake self.new asked }
         ensures ends { (asked : NearAsked) → IsAskedToTake self.old asked → NearEnds asked C (take_stand self.old) self.old.item result (take_stand self.new) }
     {
@@ -195,6 +210,7 @@ impl NearTaker {
     // The close bit was read.
     fn looked(&mut self, closed: bool) -> Option<Told>
         requires { is_in_take self.old.stage ≡ true }
+        ensures shape { self.new.shape ≡ self.old.shape }
         ensures asked { (asked : NearAsked) → IsAskedToTake self.old asked → IsAskedToTake self.new asked }
         ensures ends { (asked : NearAsked) → IsAskedToTake self.old asked → NearEnds asked C (take_stand self.old) self.old.item result (take_stand self.new) }
     {
@@ -213,6 +229,7 @@ impl NearTaker {
     // A digit of the item was read.
     fn read_digit(&mut self, digit: u8)
         requires { is_in_take self.old.stage ≡ true }
+        ensures shape { self.new.shape ≡ self.old.shape }
         ensures asked { (asked : NearAsked) → IsAskedToTake self.old asked → IsAskedToTake self.new asked }
         ensures same { take_stand self.new ≡ take_stand self.old }
     {
@@ -226,6 +243,7 @@ impl NearTaker {
     // A bit of the count was written.
     fn counted(&mut self) -> Option<Told>
         requires { is_in_take self.old.stage ≡ true }
+        ensures shape { self.new.shape ≡ self.old.shape }
         ensures asked { (asked : NearAsked) → IsAskedToTake self.old asked → IsAskedToTake self.new asked }
         ensures ends { (asked : NearAsked) → IsAskedToTake self.old asked → NearEnds asked C (take_stand self.old) self.old.item result (take_stand self.new) }
     {
