@@ -1,1 +1,3 @@
 pub mod Misses
+pub mod NearPlays
+pub mod NearSides

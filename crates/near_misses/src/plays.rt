@@ -1,15 +1,24 @@
 //! A script, played by a near miss.
-ghost use Rattle.std.specs.Prelude.{◌≡◌, None, IfOk};
+ghost use Rattle.std.specs.Prelude.{◌≡◌, ℕ, Bool, true, false, Some, None, List, [], ◌∷◌, ◌++◌, IfOk, OnOk, replicate};
 ghost use Rattle.bits_core.specs.History.{open_access};
 ghost use Rattle.bits_core.specs.Lawful.{IsLawful};
-ghost use Rattle.bits_core.specs.Open.{IsOpenRight, IsReading, IsWriting};
+ghost use Rattle.bits_core.specs.Made.{opening_event};
+ghost use Rattle.bits_core.specs.Open.{IsOpenRight};
 ghost use Rattle.bits_core.specs.Trace.{AreOfShape};
+ghost use Rattle.bits_core.specs.declared.events.Side.{Side as ASide};
+ghost use Rattle.bits_core.specs.declared.events.Side.TheVariants.{P, C};
+ghost use Rattle.near_misses.specs.NearPlays.{IsNearPlay, NearAsked};
+ghost use Rattle.near_misses.specs.NearSides.{IsInOpenCall, IsNearReady, NearHas, NearMoves, ended_event};
+ghost use Rattle.ring_player.specs.Actors.{IsAtTurn};
+ghost use Rattle.ring_player.specs.Tellings.{listed};
 
 use crate::misses::NearMiss;
 use crate::putting::NearPutter;
 use crate::taking::NearTaker;
+use bits_core::laws::open_changes;
 use bits_core::{Access, Event, Memory, MemoryFault, Oracle, Side, Tape};
 use ring_player::Told;
+use ring_player::laws::{turns_are_by_interval, turns_go_on};
 use ring_script::Script;
 use std::alloc::{AllocError, AllocFailed, Allocator};
 use thiserror::Error;
@@ -62,40 +71,93 @@ pub struct NearPlay<A: Allocator> {
     pub told: Vec<Told, A>,
 }
 
-// One side at work: what a call tells where it begins, the access that is due, and what its end tells.
+// One side at work.
 trait NearSide {
-    fn begins(&self) -> Option<Told>;
+    ghost use Rattle.std.specs.Prelude.{◌≡◌, true, false, Option, None, IfSome, IsSome};
+    ghost use Rattle.bits_core.specs.declared.events.Side.{Side};
+    ghost use Rattle.bits_core.specs.declared.shapes.Shape.{Shape};
+    ghost use Rattle.bits_core.specs.Open.{IsOpenRight};
+    ghost use Rattle.near_misses.specs.NearPlays.{NearAsked, NearBegins, NearEnds, NearStand, NearStops, near_stopped};
+    ghost use Rattle.near_misses.specs.NearSides.{item_ended};
 
-    fn next(&mut self) -> Option<Access>;
+    ghost side: { Self → Side };
 
-    fn end(&mut self, answer: bool) -> Option<Told>;
+    ghost shape: { Self → Shape };
+
+    ghost stand: { Self → NearStand };
+
+    ghost asked: { Self → NearAsked → Type 0 };
+
+    // The access that is due, and what it tells where a call begins with it; none where the side stops.
+    fn next(&mut self) -> Option<(Access, Option<Told>)>
+        ensures side { (side self.new ≡ side self.old) × (shape self.new ≡ shape self.old) }
+        ensures asked { (a : NearAsked) → asked self.old a → asked self.new a }
+        ensures begins { IfSome result (λ r. (a : NearAsked) → asked self.old a → NearBegins a (side self.old) (stand self.old) r.1 (stand self.new)) }
+        ensures goes { IsSome result → (stand self.old).stopped ≡ false }
+        ensures right { IfSome result (λ r. IsSome r.1 → IsOpenRight (shape self.old) (side self.old) r.0) }
+        ensures stops { result ≡ None → (a : NearAsked) → asked self.old a → NearStops a (side self.old) (stand self.old) × (stand self.new ≡ stand self.old) };
+
+    // The side stops: in a call for good.
+    fn stop(&mut self)
+        ensures side { (side self.new ≡ side self.old) × (shape self.new ≡ shape self.old) }
+        ensures asked { (a : NearAsked) → asked self.old a → asked self.new a }
+        ensures stopped { stand self.new ≡ near_stopped (stand self.old) };
+
+    // This access, which was due, has ended with this answer. Tells the end of a call, where it is one.
+    fn end(&mut self, access: Access, answer: bool) -> Option<Told>
+        requires { (stand self.old).in_call ≡ true }
+        ensures side { (side self.new ≡ side self.old) × (shape self.new ≡ shape self.old) }
+        ensures asked { (a : NearAsked) → asked self.old a → asked self.new a }
+        ensures ends { (a : NearAsked) → asked self.old a → NearEnds a (side self.old) (stand self.old) (item_ended access answer (stand self.old).item) result (stand self.new) };
 }
 
 impl NearSide for NearPutter<'_> {
-    fn begins(&self) -> Option<Told> {
-        NearPutter::begins(self)
-    }
+    ghost use Rattle.bits_core.specs.declared.events.Side.TheVariants.{P};
+    ghost use Rattle.near_misses.specs.NearSides.{IsAskedToPut, put_stand};
 
-    fn next(&mut self) -> Option<Access> {
+    ghost side = { λ _. P };
+
+    ghost shape = { λ p. p.shape };
+
+    ghost stand = { put_stand };
+
+    ghost asked = { IsAskedToPut };
+
+    fn next(&mut self) -> Option<(Access, Option<Told>)> {
         NearPutter::next(self)
     }
 
-    fn end(&mut self, answer: bool) -> Option<Told> {
-        NearPutter::end(self, answer)
+    fn stop(&mut self) {
+        NearPutter::stop(self)
+    }
+
+    fn end(&mut self, access: Access, answer: bool) -> Option<Told> {
+        NearPutter::end(self, access, answer)
     }
 }
 
 impl NearSide for NearTaker {
-    fn begins(&self) -> Option<Told> {
-        NearTaker::begins(self)
-    }
+    ghost use Rattle.bits_core.specs.declared.events.Side.TheVariants.{C};
+    ghost use Rattle.near_misses.specs.NearSides.{IsAskedToTake, take_stand};
 
-    fn next(&mut self) -> Option<Access> {
+    ghost side = { λ _. C };
+
+    ghost shape = { λ t. t.shape };
+
+    ghost stand = { take_stand };
+
+    ghost asked = { IsAskedToTake };
+
+    fn next(&mut self) -> Option<(Access, Option<Told>)> {
         NearTaker::next(self)
     }
 
-    fn end(&mut self, answer: bool) -> Option<Told> {
-        NearTaker::end(self, answer)
+    fn stop(&mut self) {
+        NearTaker::stop(self)
+    }
+
+    fn end(&mut self, access: Access, answer: bool) -> Option<Told> {
+        NearTaker::end(self, access, answer)
     }
 }
 
@@ -107,7 +169,9 @@ fn begin<A: Allocator>(
     access: Access,
 ) -> Result<bool, NearFault>
     requires { open_access side memory.old.events ≡ None }
-    ensures { memory.new.shape ≡ memory.old.shape }
+    ensures shape { memory.new.shape ≡ memory.old.shape }
+    ensures began { IfOk result (λ began. began ≡ true → memory.new.events ≡ memory.old.events ++ opening_event side access ∷ []) }
+    ensures refused { IfOk result (λ began. began ≡ false → (memory.new ≡ memory.old) × ¬ IsOpenRight memory.old.shape side access) }
 {
     match access {
         Access::Read(bit) => {
@@ -126,22 +190,52 @@ fn begin<A: Allocator>(
     Ok(true)
 }
 
-// Ends the access that the side has open. A write answers nothing, told as 0.
+// Ends this access, which the side has open. A write answers nothing, told as 0.
 fn end<A: Allocator, O: Oracle>(
     memory: &mut Memory<Vec<Event, A>>,
     side: Side,
+    access: Access,
     oracle: &mut O,
 ) -> Result<bool, NearFault>
-    ensures { memory.new.shape ≡ memory.old.shape }
+    requires { open_access side memory.old.events ≡ Some access }
+    ensures shape { memory.new.shape ≡ memory.old.shape }
+    ensures ended { IfOk result (λ answer. memory.new.events ≡ memory.old.events ++ ended_event side access answer ∷ []) }
+    ensures turns { OnOk result ((turns : ℕ → Bool) → IsAtTurn turns memory.old.events (O.answers oracle.old) → IsAtTurn turns memory.new.events (O.answers oracle.new)) }
 {
-    match memory.pending(side) {
-        Some(Access::Read(_)) => Ok(memory.end_read(side, oracle)?),
-        Some(Access::Write(_, _)) => {
+    turns_go_on();
+    match access {
+        Access::Read(_) => Ok(memory.end_read(side, oracle)?),
+        Access::Write(_, _) => {
             memory.end_write(side)?;
             Ok(false)
         }
-        None => Ok(false),
     }
+}
+
+// Begins the next access of a side, or has it stop.
+fn go_on<A: Allocator, S: NearSide>(
+    memory: &mut Memory<Vec<Event, A>>,
+    machine: &mut S,
+    side: Side,
+) -> Result<Option<Told>, NearFault>
+    requires none_open { open_access side memory.old.events ≡ None }
+    requires side { (S.side machine.old ≡ side) × (S.shape machine.old ≡ memory.old.shape) }
+    ensures shape { memory.new.shape ≡ memory.old.shape }
+    ensures side { (S.side machine.new ≡ side) × (S.shape machine.new ≡ memory.new.shape) }
+    ensures asked { (a : NearAsked) → S.asked machine.old a → S.asked machine.new a }
+    ensures moves { IfOk result (λ told. (a : NearAsked) → S.asked machine.old a → NearMoves a side memory.old.events (S.stand machine.old) told memory.new.events (S.stand machine.new)) }
+    ensures turns { OnOk result ((turns answers : ℕ → Bool) → IsAtTurn turns memory.old.events answers → IsAtTurn turns memory.new.events answers) }
+{
+    turns_go_on();
+    let Some((access, told)) = machine.next() else {
+        machine.stop();
+        return Ok(None);
+    };
+    if begin(memory, side, access)? {
+        return Ok(told);
+    }
+    machine.stop();
+    Ok(None)
 }
 
 // One step of a side, and what its event tells, if any.
@@ -151,20 +245,28 @@ fn step<A: Allocator, S: NearSide, O: Oracle>(
     oracle: &mut O,
     side: Side,
 ) -> Result<Option<Told>, NearFault>
-    ensures { memory.new.shape ≡ memory.old.shape }
+    requires side { (S.side machine.old ≡ side) × (S.shape machine.old ≡ memory.old.shape) }
+    requires open { IsInOpenCall side memory.old.events (S.stand machine.old) }
+    ensures shape { memory.new.shape ≡ memory.old.shape }
+    ensures side { (S.side machine.new ≡ side) × (S.shape machine.new ≡ memory.new.shape) }
+    ensures asked { (a : NearAsked) → S.asked machine.old a → S.asked machine.new a }
+    ensures moves { IfOk result (λ told. (a : NearAsked) → S.asked machine.old a → NearMoves a side memory.old.events (S.stand machine.old) told memory.new.events (S.stand machine.new)) }
+    ensures turns { OnOk result ((turns : ℕ → Bool) → IsAtTurn turns memory.old.events (O.answers oracle.old) → IsAtTurn turns memory.new.events (O.answers oracle.new)) }
 {
-    if memory.pending(side).is_some() {
-        let answer = end(memory, side, oracle)?;
-        return Ok(machine.end(answer));
-    }
-    let begins = machine.begins();
-    let Some(access) = machine.next() else {
-        return Ok(None);
+    let Some(access) = memory.pending(side) else {
+        return go_on(memory, machine, side);
     };
-    if begin(memory, side, access)? {
-        Ok(begins)
-    } else {
-        Ok(None)
+    let answer = end(memory, side, access, oracle)?;
+    Ok(machine.end(access, answer))
+}
+
+// Tells what an event tells, if anything.
+fn tell<A: Allocator>(told: &mut Vec<Told, A>, event: Option<Told>) -> Result<(), NearFault>
+    ensures { OnOk result (told.new.items ≡ told.old.items ++ listed event) }
+{
+    match event {
+        Some(event) => Ok(told.push(event)?),
+        None => Ok(()),
     }
 }
 
@@ -179,26 +281,59 @@ struct NearWorld<'a, A: Allocator> {
 }
 
 impl<A: Allocator> NearWorld<'_, A> {
+    // Makes one step of a side.
+    fn step(&mut self, side: Side) -> Result<(), NearFault>
+        requires { IsNearReady self.old }
+        ensures ready { OnOk result (IsNearReady self.new) }
+        ensures shape { self.new.memory.shape ≡ self.old.memory.shape }
+        ensures has { OnOk result ((a : NearAsked) (letters : List ASide) (oracle : List Bool) → NearHas a letters oracle self.old → NearHas a (letters ++ side ∷ []) oracle self.new) }
+    {
+        match side {
+            Side::P => self.step_putter(),
+            Side::C => self.step_taker(),
+        }
+    }
+
+    fn step_putter(&mut self) -> Result<(), NearFault>
+        requires { IsNearReady self.old }
+        ensures ready { OnOk result (IsNearReady self.new) }
+        ensures shape { self.new.memory.shape ≡ self.old.memory.shape }
+        ensures has { OnOk result ((a : NearAsked) (letters : List ASide) (oracle : List Bool) → NearHas a letters oracle self.old → NearHas a (letters ++ P ∷ []) oracle self.new) }
+    {
+        open_changes();
+        let event = step(&mut self.memory, &mut self.putter, &mut self.oracle, Side::P)?;
+        tell(&mut self.told, event)
+    }
+
+    fn step_taker(&mut self) -> Result<(), NearFault>
+        requires { IsNearReady self.old }
+        ensures ready { OnOk result (IsNearReady self.new) }
+        ensures shape { self.new.memory.shape ≡ self.old.memory.shape }
+        ensures has { OnOk result ((a : NearAsked) (letters : List ASide) (oracle : List Bool) → NearHas a letters oracle self.old → NearHas a (letters ++ C ∷ []) oracle self.new) }
+    {
+        open_changes();
+        let event = step(&mut self.memory, &mut self.taker, &mut self.oracle, Side::C)?;
+        tell(&mut self.told, event)
+    }
+
     // Makes so many steps of one side.
     fn repeat(&mut self, side: Side, count: u64) -> Result<(), NearFault>
-        ensures { self.new.memory.shape ≡ self.old.memory.shape }
+        requires { IsNearReady self.old }
+        ensures ready { OnOk result (IsNearReady self.new) }
+        ensures shape { self.new.memory.shape ≡ self.old.memory.shape }
+        ensures has { OnOk result ((a : NearAsked) (letters : List ASide) (oracle : List Bool) → NearHas a letters oracle self.old → NearHas a (letters ++ replicate count side) oracle self.new) }
     {
         for _ in 0..count {
-            let told = match side {
-                Side::P => step(&mut self.memory, &mut self.putter, &mut self.oracle, side)?,
-                Side::C => step(&mut self.memory, &mut self.taker, &mut self.oracle, side)?,
-            };
-            match told {
-                Some(told) => self.told.push(told)?,
-                None => {}
-            }
+            self.step(side)?;
         }
         Ok(())
     }
 }
 
-/// Plays a script by a near miss: one step for each letter of its schedule. The history of the bits is lawful, as a memory of safe
-/// bits makes it; of the items put and taken nothing is promised.
+/// Plays a script by a near miss: one step for each letter of its schedule, of a side that has not stopped. The history of the bits is
+/// lawful, as a memory of safe bits makes it, and each read that a write overlaps has the oracle's next answer. Each begin and end of a
+/// call is told at the event that is its first or its last, and the item of a take is that of the digits which it read; of the items put
+/// and taken nothing more is promised.
 ///
 /// `OutOfMemory` tells that memory ran out.
 ///
@@ -208,9 +343,10 @@ pub fn play_near<A: Allocator + Copy, B: Allocator>(
     miss: NearMiss,
     script: &Script<B>,
 ) -> Result<NearPlay<A>, NearFault>
-    ensures lawful { IfOk result (λ play. IsLawful script.now.shape play.history.items) }
+    ensures plays { IfOk result (λ play. IsNearPlay script.now play.history.items play.told.items) }
     ensures of_shape { IfOk result (λ play. AreOfShape script.now.shape play.history.items) }
 {
+    turns_are_by_interval();
     let script = script.as_ref();
     let shape = script.shape();
     let mut world = NearWorld {

@@ -1,5 +1,5 @@
 //! The producer of a near miss.
-ghost use Rattle.std.specs.Prelude.{◌≡◌};
+ghost use Rattle.std.specs.Prelude.{◌≡◌, ◌+◌, ◌-◌, ◌≤◌, None, IfSome, IsSome, true, false, length};
 
 use crate::misses::NearMiss;
 use crate::rows::{Order, Row, read_bit};
@@ -17,7 +17,10 @@ enum Stage {
     Storing(usize, u8),
     Counting,
     Closing,
+    // behind the close
     Over,
+    // a scan gave no count
+    Stuck,
 }
 
 /// The producer of a script: it puts the items, as many at a time as a batch may have, and then perhaps closes.
@@ -32,11 +35,23 @@ pub struct NearPutter<'a> {
     storing: usize,
     count: u8,
     stage: Stage,
+    stopped: bool,
     row: Row,
+    ghost within: { stored + storing ≤ length items.now },
 }
 
 impl<'a> NearPutter<'a> {
-    pub fn new(miss: NearMiss, shape: Shape, items: &'a [u64], closes: bool) -> Self {
+    ghost use Rattle.bits_core.specs.Open.{IsOpenRight};
+    ghost use Rattle.near_misses.specs.declared.putting.Stage.TheVariants.{Between};
+    ghost use Rattle.bits_core.specs.declared.events.Side.TheVariants.{P};
+    ghost use Rattle.near_misses.specs.NearPlays.{NearAsked, NearBegins, NearEnds, NearStops, near_start, near_stopped};
+    ghost use Rattle.near_misses.specs.NearSides.{IsAskedToPut, is_in_put, put_stand};
+
+    pub fn new(miss: NearMiss, shape: Shape, items: &'a [u64], closes: bool) -> Self
+        ensures starts { put_stand result ≡ near_start }
+        ensures asked { (asked : NearAsked) → asked.items ≡ length items.entry.now → asked.closes ≡ closes → IsAskedToPut result asked }
+        ensures shape { result.shape ≡ shape }
+    {
         NearPutter {
             miss,
             shape,
@@ -46,40 +61,64 @@ impl<'a> NearPutter<'a> {
             storing: 0,
             count: 0,
             stage: Stage::Between,
+            stopped: false,
             row: Row::new(Side::P, Order::of(miss)),
         }
     }
 
-    /// What the next access tells where a call begins with it.
-    pub fn begins(&self) -> Option<Told> {
-        match self.stage {
-            Stage::Between => {
-                if self.stored < self.items.len() {
-                    Some(Told::PutBegins(self.stored))
-                } else if self.closes {
-                    Some(Told::CloseBegins)
-                } else {
-                    None
-                }
-            }
-            _ => None,
+    // Begins the next call. Tells it, with its first access.
+    fn begin(&mut self) -> Option<(Access, Option<Told>)>
+        requires { (self.old.stage ≡ Between) × (self.old.stopped ≡ false) }
+        ensures asked { (asked : NearAsked) → IsAskedToPut self.old asked → IsAskedToPut self.new asked }
+        ensures shape { self.new.shape ≡ self.old.shape }
+        ensures begins { IfSome result (λ r. (asked : NearAsked) → IsAskedToPut self.old asked → NearBegins asked P (put_stand self.old) r.1 (put_stand self.new)) }
+        ensures right { IfSome result (λ r. IsOpenRight self.old.shape P r.0) }
+        ensures stops { result ≡ None → (asked : NearAsked) → IsAskedToPut self.old asked → NearStops asked P (put_stand self.old) × (put_stand self.new ≡ put_stand self.old) }
+    {
+        if self.stored < self.items.len() {
+            self.stage = Stage::Scanning(0);
+            let _modulus = self.shape.modulus();
+            let access = Access::Read(Bit::R(0));
+            Some((access, Some(Told::PutBegins(self.stored))))
+        } else if self.closes {
+            self.stage = Stage::Closing;
+            let access = Access::Write(Bit::X, true);
+            Some((access, Some(Told::CloseBegins)))
+        } else {
+            None
         }
     }
 
-    /// The access that is due. A call begins with it where none is under way.
-    pub fn next(&mut self) -> Option<Access> {
-        match self.begins() {
-            Some(Told::PutBegins(_)) => self.stage = Stage::Scanning(0),
-            Some(_) => self.stage = Stage::Closing,
-            None => {}
+    /// The access that is due, and what it tells where a call begins with it; none where the side stops.
+    pub fn next(&mut self) -> Option<(Access, Option<Told>)>
+        ensures shape { self.new.shape ≡ self.old.shape }
+        ensures asked { (asked : NearAsked) → IsAskedToPut self.old asked → IsAskedToPut self.new asked }
+        ensures begins { IfSome result (λ r. (asked : NearAsked) → IsAskedToPut self.old asked → NearBegins asked P (put_stand self.old) r.1 (put_stand self.new)) }
+        ensures goes { IsSome result → self.old.stopped ≡ false }
+        ensures right { IfSome result (λ r. IsSome r.1 → IsOpenRight self.old.shape P r.0) }
+        ensures stops { result ≡ None → (asked : NearAsked) → IsAskedToPut self.old asked → NearStops asked P (put_stand self.old) × (put_stand self.new ≡ put_stand self.old) }
+    {
+        if self.stopped {
+            return None;
         }
-        match self.stage {
-            Stage::Between | Stage::Over => None,
-            Stage::Scanning(zeros) => Some(Access::Read(read_bit(Side::P, zeros))),
-            Stage::Storing(done, digit) => Some(self.digit_write(done, digit)),
-            Stage::Counting => self.row.next(),
-            Stage::Closing => Some(Access::Write(Bit::X, true)),
-        }
+        let access = match self.stage {
+            Stage::Between => return self.begin(),
+            Stage::Over | Stage::Stuck => return None,
+            Stage::Scanning(zeros) => Access::Read(read_bit(Side::P, zeros)),
+            Stage::Storing(done, digit) => self.digit_write(done, digit),
+            Stage::Counting => self.row.next()?,
+            Stage::Closing => Access::Write(Bit::X, true),
+        };
+        Some((access, None))
+    }
+
+    /// The side stops: in a call for good.
+    pub fn stop(&mut self)
+        ensures shape { self.new.shape ≡ self.old.shape }
+        ensures asked { (asked : NearAsked) → IsAskedToPut self.old asked → IsAskedToPut self.new asked }
+        ensures stopped { put_stand self.new ≡ near_stopped (put_stand self.old) }
+    {
+        self.stopped = self.stopped || !matches!(self.stage, Stage::Between | Stage::Over);
     }
 
     // The write of a digit of an item to its cell, behind so many of the put.
@@ -91,10 +130,15 @@ impl<'a> NearPutter<'a> {
         Access::Write(Bit::Cell(cell as u8, digit), value)
     }
 
-    /// The access that was due has ended with this answer. Tells the end of a call, where it is one.
-    pub fn end(&mut self, answer: bool) -> Option<Told> {
+    /// This access, which was due, has ended with this answer. Tells the end of a call, where it is one.
+    pub fn end(&mut self, _access: Access, answer: bool) -> Option<Told>
+        requires { is_in_put self.old.stage ≡ true }
+        ensures shape { self.new.shape ≡ self.old.shape }
+        ensures asked { (asked : NearAsked) → IsAskedToPut self.old asked → IsAskedToPut self.new asked }
+        ensures ends { (asked : NearAsked) → IsAskedToPut self.old asked → NearEnds asked P (put_stand self.old) 0 result (put_stand self.new) }
+    {
         match self.stage {
-            Stage::Between | Stage::Over => None,
+            Stage::Between | Stage::Over | Stage::Stuck => None,
             Stage::Scanning(zeros) => {
                 if answer {
                     self.scanned(u64::from(zeros))
@@ -112,17 +156,24 @@ impl<'a> NearPutter<'a> {
     }
 
     // A bit of the consumer's count answered 0: the next one is read. (One that answers 0 to the last gives no count, and the side stops.)
-    fn scan_on(&mut self, zeros: u8) -> Option<Told> {
+    fn scan_on(&mut self, zeros: u8) -> Option<Told>
+        requires { is_in_put self.old.stage ≡ true }
+        ensures shape { self.new.shape ≡ self.old.shape }
+        ensures asked { (asked : NearAsked) → IsAskedToPut self.old asked → IsAskedToPut self.new asked }
+        ensures ends { (asked : NearAsked) → IsAskedToPut self.old asked → NearEnds asked P (put_stand self.old) 0 result (put_stand self.new) }
+    {
         self.stage = if u64::from(zeros) + 1 < self.shape.modulus() {
             Stage::Scanning(zeros + 1)
         } else {
-            Stage::Over
+            Stage::Stuck
         };
         None
     }
 
     // How many items a put stores that sees this count: as many as there is room for, of those that are left, and no more than a batch.
-    fn room_behind(&self, seen: u64) -> u64 {
+    fn room_behind(&self, seen: u64) -> u64
+        ensures { result ≤ length self.now.items.now - self.now.stored }
+    {
         let modulus = self.miss.modulus(&self.shape);
         let count = u64::from(self.count);
         let capacity = self.shape.capacity();
@@ -137,7 +188,12 @@ impl<'a> NearPutter<'a> {
     }
 
     // The scan gave this count: a put that finds room goes on, with its items or with its count.
-    fn scanned(&mut self, seen: u64) -> Option<Told> {
+    fn scanned(&mut self, seen: u64) -> Option<Told>
+        requires { is_in_put self.old.stage ≡ true }
+        ensures shape { self.new.shape ≡ self.old.shape }
+        ensures asked { (asked : NearAsked) → IsAskedToPut self.old asked → IsAskedToPut self.new asked }
+        ensures ends { (asked : NearAsked) → IsAskedToPut self.old asked → NearEnds asked P (put_stand self.old) 0 result (put_stand self.new) }
+    {
         let most = self.room_behind(seen);
         if most == 0 {
             self.stage = Stage::Between;
@@ -155,7 +211,12 @@ impl<'a> NearPutter<'a> {
     }
 
     // A digit was written.
-    fn stored_digit(&mut self, done: usize, digit: u8) -> Option<Told> {
+    fn stored_digit(&mut self, done: usize, digit: u8) -> Option<Told>
+        requires { is_in_put self.old.stage ≡ true }
+        ensures shape { self.new.shape ≡ self.old.shape }
+        ensures asked { (asked : NearAsked) → IsAskedToPut self.old asked → IsAskedToPut self.new asked }
+        ensures ends { (asked : NearAsked) → IsAskedToPut self.old asked → NearEnds asked P (put_stand self.old) 0 result (put_stand self.new) }
+    {
         if u64::from(digit) + 1 < self.shape.width() {
             self.stage = Stage::Storing(done, digit + 1);
             None
@@ -163,7 +224,7 @@ impl<'a> NearPutter<'a> {
             self.stage = Stage::Storing(done + 1, 0);
             None
         } else if self.miss == NearMiss::CountBeforeCell {
-            Some(self.put_is_over())
+            self.put_is_over()
         } else {
             self.stage = Stage::Counting;
             None
@@ -171,7 +232,12 @@ impl<'a> NearPutter<'a> {
     }
 
     // A bit of the count was written.
-    fn counted(&mut self) -> Option<Told> {
+    fn counted(&mut self) -> Option<Told>
+        requires { is_in_put self.old.stage ≡ true }
+        ensures shape { self.new.shape ≡ self.old.shape }
+        ensures asked { (asked : NearAsked) → IsAskedToPut self.old asked → IsAskedToPut self.new asked }
+        ensures ends { (asked : NearAsked) → IsAskedToPut self.old asked → NearEnds asked P (put_stand self.old) 0 result (put_stand self.new) }
+    {
         self.row.feed();
         if self.row.next().is_some() {
             None
@@ -179,14 +245,21 @@ impl<'a> NearPutter<'a> {
             self.stage = Stage::Storing(0, 0);
             None
         } else {
-            Some(self.put_is_over())
+            self.put_is_over()
         }
     }
 
-    fn put_is_over(&mut self) -> Told {
+    fn put_is_over(&mut self) -> Option<Told>
+        requires { is_in_put self.old.stage ≡ true }
+        ensures shape { self.new.shape ≡ self.old.shape }
+        ensures asked { (asked : NearAsked) → IsAskedToPut self.old asked → IsAskedToPut self.new asked }
+        ensures ends { (asked : NearAsked) → IsAskedToPut self.old asked → NearEnds asked P (put_stand self.old) 0 result (put_stand self.new) }
+    {
+        let stored = self.storing;
         self.count = self.row.value();
-        self.stored = self.stored.saturating_add(self.storing);
+        self.stored += stored;
+        self.storing = 0;
         self.stage = Stage::Between;
-        Told::PutStored(self.storing)
+        Some(Told::PutStored(stored))
     }
 }

@@ -64,7 +64,7 @@ abbrev by_flag : Bool → ℕ
 by_flag b = (if b then 1 else 0)
 
 -- one event more
-more :
+pub more :
     (turns before after : ℕ → Bool) (h : List Event) (e : Event) → IsAtTurn turns h before → (is_flicker h e ≡ false → (i : ℕ) → after i ≡ before i) →
     (is_flicker h e ≡ true → ((v : Bool) → e.act ≡ ReadEnd v → v ≡ before 0) × ((i : ℕ) → after i ≡ before (i + 1))) → IsAtTurn turns (h ++ e ∷ []) after
 more turns before after h e t quiet asked = record {

@@ -1,7 +1,7 @@
 //! What holds of every play of a script. Each law is the contract of a function that does nothing: a body that calls it has the
 //! statement at hand in its proof. For who has the history of a play, and no report of it.
 ghost use Rattle.ring_player.specs.Headline.{EveryPlayFills, EveryPlayHolds};
-ghost use Rattle.ring_player.specs.Laws.{FlickersAreCounted};
+ghost use Rattle.ring_player.specs.Laws.{FlickersAreCounted, TurnsAreByInterval, TurnsGoOn};
 
 use bits_core::laws::flicker_is_by_interval;
 use ring_core::laws::{closed_stays, items_put_are_read, items_taken_are_read, ring_law};
@@ -27,6 +27,19 @@ pub fn every_play_fills()
 /// In a lawful history as many reads have ended that a write overlaps, by intervals, as a memory counts flickers.
 pub fn flickers_are_counted()
     ensures { FlickersAreCounted }
+{
+    flicker_is_by_interval();
+}
+
+/// Of a history whose overlapped reads an oracle answered in turn: so they are with one event more, where that ends such a read with the
+/// oracle's next answer.
+pub fn turns_go_on()
+    ensures { TurnsGoOn }
+{}
+
+/// In a lawful history answers that are in turn by the marks which a memory keeps are so by intervals.
+pub fn turns_are_by_interval()
+    ensures { TurnsAreByInterval }
 {
     flicker_is_by_interval();
 }

@@ -1,10 +1,11 @@
 pub mod CommandLemmas
 mod PlayLemmas
-mod RecordingText
 mod Endings
 mod Gains
 mod InlineLines
 mod RunItems
+mod RunTelling
+mod RunText
 mod TellingText
 mod TextLemmas
 pub mod WhyLemmas

@@ -17,7 +17,6 @@ use Rattle.bits_core.specs.Made.{IsBeginning}
 use Rattle.bits_core.specs.declared.traces.TraceFault.{TraceFault}
 use Rattle.bits_core.specs.declared.traces.TraceFault.TheVariants as trace
 use Rattle.queue_calls.specs.Queue.{exactly}
-use Rattle.queue_calls.specs.Calls as queue_event
 use Rattle.queue_calls.specs.Recordings.{IsFindingOf, IsRecording, RefusesText}
 use Rattle.queue_calls.specs.declared.recordings.CallsFinding.{CallsFinding}
 use Rattle.queue_calls.specs.declared.recordings.CallsFinding.TheVariants as calls
@@ -39,6 +38,7 @@ use Rattle.ring_program.specs.Faults.{SaysRefusal, refusal_line}
 use Rattle.ring_program.specs.Reports.{Reports}
 use Rattle.ring_run.specs.Relays.{IsRelayed}
 use Rattle.bits_core.specs.declared.memory.MemoryFault.TheVariants as run
+use Rattle.ring_program.specs.RunRecordings.{RecordsRun, run_counts}
 use Rattle.ring_program.specs.Runs.{run_items}
 use Rattle.ring_program.specs.Texts.{Summary, audit_text_of, calls_text_of, relay_report_of, relay_text_of, report_text_of, told_text_of, verdict_text_of}
 use Rattle.ring_program.specs.Why.{TellsWhy, verdict_in}
@@ -207,17 +207,15 @@ pub record RecordsWrong (input text : List ℕ) (ending : Ending) : Type 0 where
   pub words : text ≡ told_text_of content told
   pub ends : ending ≡ Done
 
--- the text of a run: how many items were put and taken, or that and what was counted and timed; or a recording of some calls of a
--- queue of the ring's capacity
-abbrev pub TellsRun : RunText → Shape → ℕ → ℕ → ℕ → ℕ → ℕ → Bool → Option ℕ → List ℕ → Type 0
-TellsRun Totals shape put calls full taken empty closed time text = text ≡ relay_text_of put taken closed
-TellsRun Report shape put calls full taken empty closed time text = text ≡ relay_report_of put calls full taken empty closed time
-TellsRun Recording shape put calls full taken empty closed time text =
-    (events : List queue_event.Event) × IsRecording text (exactly (capacity_of shape)) events
+-- the text of a run of these items: how many were put and taken, or that and what was counted and timed; or a recording of its calls
+abbrev pub TellsRun : RunText → Shape → List ℕ → ℕ → ℕ → ℕ → List ℕ → ℕ → Bool → Option ℕ → List ℕ → Type 0
+TellsRun Totals shape items put calls full taken empty closed time text = text ≡ relay_text_of put (length taken) closed
+TellsRun Report shape items put calls full taken empty closed time text = text ≡ relay_report_of put calls full (length taken) empty closed time
+TellsRun Recording shape items put calls full taken empty closed time text = RecordsRun shape items (run_counts items put calls full taken empty closed) text
 
 -- what came of a run, in a ring of the shape of its numbers: it is counted in one lawful history whose two sides follow their
 -- programs; the items taken are the first ones, in order, and all of them once the taker was told that the ring is closed.
--- The text has what the history counts, and some time that a clock told, or none; or it is a recording
+-- The text has what the history counts, and some time that a clock told, or none; or it is a recording of the calls
 pub record AnswersRun (run : Run) (text : List ℕ) (ending : Ending) : Type 0 where
   pub shape : Shape
   pub put : ℕ
@@ -232,7 +230,7 @@ pub record AnswersRun (run : Run) (text : List ℕ) (ending : Ending) : Type 0 w
   pub prefix : IsBeginning taken (take put (run_items run))
   pub all : closed ≡ true → taken ≡ run_items run
   pub within : put ≤ length taken + run.capacity
-  pub words : TellsRun run.text shape put calls full (length taken) empty closed time text
+  pub words : TellsRun run.text shape (run_items run) put calls full taken empty closed time text
   pub ends : ending ≡ relay_ending_of closed
 
 -- memory ran out, in the program, the trace, the audit, the script, the play or the run
@@ -241,10 +239,10 @@ IsOutOfMemory e = (e ≡ refusal.App app.OutOfMemory)
     ⊎ ((e ≡ refusal.Trace trace.OutOfMemory) ⊎ ((e ≡ refusal.Audit finding.OutOfMemory)
     ⊎ ((e ≡ refusal.Script script.OutOfMemory) ⊎ ((e ≡ refusal.Play play.OutOfMemory) ⊎ (e ≡ refusal.Run run.OutOfMemory)))))
 
--- a true cause of a refusal of a run: its numbers are no shape's, or memory ran out
+-- a true cause of a refusal of a run: its numbers are no shape's, or memory ran out, or calls that it was to record were not recorded
 abbrev pub IsRunCause : Run → Refusal → Type 0
-IsRunCause run e = IsOutOfMemory e
-    ⊎ ((fault : ShapeFault) × (e ≡ refusal.Shape fault) × IsRefusedBatch run.capacity run.modulus run.width run.batch fault)
+IsRunCause run e = IsOutOfMemory e ⊎ (((e ≡ refusal.App app.NotOfRun) × (run.text ≡ Recording))
+    ⊎ ((fault : ShapeFault) × (e ≡ refusal.Shape fault) × IsRefusedBatch run.capacity run.modulus run.width run.batch fault))
 
 -- the question, on this input, is answered by this text and this ending
 abbrev pub Answers : Question → List ℕ → List ℕ → Ending → Type 0

@@ -8,7 +8,7 @@ use Rattle.queue_calls.specs.Recordings.{recording_fault_words}
 use Rattle.ring_script.specs.Faults.{script_fault_words}
 use Rattle.ring_script.specs.declared.faults.ScriptFault.{ScriptFault}
 use Rattle.ring_program.specs.declared.faults.AppFault.{AppFault}
-use Rattle.ring_program.specs.declared.faults.AppFault.TheVariants.{ReadFailed, TooLarge, WriteFailed, OutOfMemory}
+use Rattle.ring_program.specs.declared.faults.AppFault.TheVariants.{ReadFailed, TooLarge, WriteFailed, OutOfMemory, NotOfRun}
 use Rattle.ring_program.specs.declared.faults.Refusal.{Refusal}
 use Rattle.ring_program.specs.declared.faults.Refusal.TheVariants as refusal
 
@@ -18,6 +18,7 @@ number_of ReadFailed = 1
 number_of TooLarge = 2
 number_of WriteFailed = 3
 number_of OutOfMemory = 4
+number_of NotOfRun = 5
 
 -- its words
 abbrev pub app_fault_words : AppFault → List ℕ
@@ -25,6 +26,7 @@ app_fault_words ReadFailed = codes "input failed"
 app_fault_words TooLarge = codes "input is too large"
 app_fault_words WriteFailed = codes "output failed"
 app_fault_words OutOfMemory = codes "out of memory"
+app_fault_words NotOfRun = codes "recording is not of the run"
 
 -- the words of a refusal: those of the fault that it holds
 abbrev pub refusal_words : Refusal → List ℕ

@@ -2,6 +2,8 @@ pub mod Answers
 pub mod CommandLine
 pub mod Faults
 pub mod Reports
+pub mod RunRecordings
 pub mod Runs
 pub mod Texts
+pub mod Untold
 pub mod Why

@@ -24,6 +24,8 @@ pub enum AppFault {
     WriteFailed,
     /// Memory ran out.
     OutOfMemory,
+    /// What was recorded of a run are not its calls.
+    NotOfRun,
 }
 
 impl fmt::Display for AppFault {
@@ -39,6 +41,7 @@ impl fmt::Display for AppFault {
             AppFault::TooLarge => "input is too large",
             AppFault::WriteFailed => "output failed",
             AppFault::OutOfMemory => "out of memory",
+            AppFault::NotOfRun => "recording is not of the run",
         })
     }
 }
@@ -48,7 +51,7 @@ impl Error for AppFault {}
 impl AppFault {
     ghost use Rattle.ring_program.specs.Faults.{number_of};
 
-    /// The number of the fault: 1 `ReadFailed`, 2 `TooLarge`, 3 `WriteFailed`, 4 `OutOfMemory`.
+    /// The number of the fault: 1 `ReadFailed`, 2 `TooLarge`, 3 `WriteFailed`, 4 `OutOfMemory`, 5 `NotOfRun`.
     pub fn number(&self) -> u8
         ensures { result ≡ number_of self.now }
     {
@@ -57,6 +60,7 @@ impl AppFault {
             AppFault::TooLarge => 2,
             AppFault::WriteFailed => 3,
             AppFault::OutOfMemory => 4,
+            AppFault::NotOfRun => 5,
         }
     }
 }

@@ -15,6 +15,7 @@ mod program;
 mod recordings;
 mod reports;
 mod run_line;
+mod run_recordings;
 mod runs;
 mod tellings;
 mod texts;

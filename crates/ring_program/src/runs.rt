@@ -1,25 +1,22 @@
 //! The answer of `run`: items relayed through a ring by two threads.
-ghost use Rattle.std.specs.Prelude.{◌≡◌, ◌≢◌, ◌⊎◌, ◌+◌, ◌++◌, ◌≤◌, IfErr, IfOk, OnOk, List, ℕ, length, option_and_then, option_map, string_bytes, take, true};
+ghost use Rattle.std.specs.Prelude.{◌≡◌, ◌≢◌, ◌⊎◌, ◌+◌, ◌++◌, ◌≤◌, ◌<◌, ◌^◌, IfErr, IfOk, OnOk, List, ℕ, if◌then◌else◌, length, option_and_then, option_map, string_bytes, take, true};
 ghost use Rattle.std.specs.Duration.{as_nanos};
 ghost use Rattle.std.specs.Io.KnownBytes.{Appends};
 ghost use Rattle.bits_core.specs.Made.{IsBeginning};
 ghost use Rattle.bits_core.specs.Shape.{AllFit, capacity_of};
-ghost use Rattle.queue_calls.specs.Calls.{Event};
-ghost use Rattle.queue_calls.specs.Queue.{exactly};
-ghost use Rattle.queue_calls.specs.Recordings.{IsRecording};
 ghost use Rattle.ring_run.specs.Relays.{IsRelayed};
 ghost use Rattle.ring_program.specs.Answers.{AnswersRun, EndsRun, IsOutOfMemory, IsRunCause, RefusedRun, TellsRun, relay_ending_of};
 ghost use Rattle.ring_program.specs.Faults.{Gains};
-ghost use Rattle.ring_program.specs.Runs.{run_item, run_items};
+ghost use Rattle.ring_program.specs.Runs.{run_item, run_items, slots_of};
 ghost use Rattle.ring_program.specs.Texts.{closed_line, pace_line, pace_of, relay_report_of, relay_text_of};
 ghost use Rattle.ring_program.specs.declared.run_line.TheConstants.{ITEM_LIMIT};
 
 use crate::answers::{Answer, Ending, Exit, conclude, write_whole};
 use crate::faults::{AppFault, Refusal};
-use crate::lines::{push_count, push_list};
+use crate::lines::push_count;
 use crate::run_line::{RingKind, Run, RunText};
+use crate::run_recordings::{RECORDED, recording_text};
 use bits_core::{Flip, Shape};
-use queue_calls::Word;
 use ring_run::{
     Gate, Limits, Outcome, Recorder, RestGate, RunFault, Slot, relay_counter, relay_flicker,
 };
@@ -28,9 +25,6 @@ use std::io;
 use std::io::Write;
 use std::thread::Threads;
 use std::time::{Clock, Duration, Instant};
-
-/// How many lines of either side a recording has room for at most.
-const RECORDED: usize = 1 << 21;
 
 // An item of so many binary digits.
 fn run_item(width: u64, number: u64) -> u64
@@ -133,56 +127,44 @@ pub fn relay_report<A: Allocator, B: Allocator>(
     Ok(text)
 }
 
-// What was recorded, as a recording of a queue of the ring's capacity.
-fn recording_text<A: Allocator + Copy>(
-    alloc: A,
-    shape: &Shape,
-    recorder: &Recorder<'_>,
-) -> Result<String<A>, AppFault>
-    ensures text { IfOk result (λ text. (events : List Event) × IsRecording (string_bytes text) (exactly (capacity_of shape.now)) events) }
-    ensures memory { IfErr result (λ e. e ≡ AppFault.OutOfMemory) }
-{
-    let mut text = String::new(alloc);
-    push_list(&mut text, Word::Queue.text(), &[shape.capacity()])?;
-    let mut numbers = Vec::new(alloc);
-    let mut lines = recorder.lines();
-    'lines: for _ in 0..u64::MAX {
-        let Some(word) = lines.next(&mut numbers)? else {
-            return Ok(text);
-        };
-        push_list(&mut text, word.text(), numbers.as_slice())?;
-    }
-    Ok(text)
-}
-
 // The text of a run.
 fn run_text<A: Allocator + Copy, B: Allocator>(
     alloc: A,
     text: RunText,
     shape: &Shape,
+    items: &[u64],
     recorder: &Recorder<'_>,
     outcome: &Outcome<B>,
     time: Option<Duration>,
 ) -> Result<String<A>, AppFault>
-    ensures text { IfOk result (λ told. TellsRun text shape.now outcome.now.put outcome.now.calls outcome.now.full
-        (length outcome.now.taken.items) outcome.now.empty outcome.now.closed (option_map as_nanos time) (string_bytes told)) }
-    ensures memory { IfErr result (λ e. e ≡ AppFault.OutOfMemory) }
+    requires few { length outcome.now.taken.items + outcome.now.empty + (if outcome.now.closed then 1 else 0) < 2 ^ 64 }
+    ensures text { IfOk result (λ told. TellsRun text shape.now items.now outcome.now.put outcome.now.calls outcome.now.full
+        outcome.now.taken.items outcome.now.empty outcome.now.closed (option_map as_nanos time) (string_bytes told)) }
+    ensures refused { IfErr result (λ e. (e ≡ AppFault.OutOfMemory) ⊎ ((e ≡ AppFault.NotOfRun) × (text ≡ RunText.Recording))) }
 {
     match text {
         RunText::Totals => relay_text(alloc, outcome),
         RunText::Report => relay_report(alloc, outcome, time),
-        RunText::Recording => recording_text(alloc, shape, recorder),
+        RunText::Recording => recording_text(alloc, shape, items, recorder, outcome),
     }
 }
 
-// Room for a recording of so many lines of one side.
-fn slots_for<A: Allocator>(alloc: A, text: RunText) -> Result<Vec<Slot, A>, AppFault>
-    ensures memory { IfErr result (λ e. e ≡ AppFault.OutOfMemory) }
+// How many lines of one side are recorded at most.
+fn slots_of(text: RunText) -> usize
+    ensures { result ≡ slots_of text }
 {
-    let count = match text {
+    match text {
         RunText::Totals | RunText::Report => 0,
         RunText::Recording => RECORDED,
-    };
+    }
+}
+
+// Room for the lines of one side.
+fn slots_for<A: Allocator>(alloc: A, text: RunText) -> Result<Vec<Slot, A>, AppFault>
+    ensures room { IfOk result (λ slots. length slots.items ≡ slots_of text) }
+    ensures memory { IfErr result (λ e. e ≡ AppFault.OutOfMemory) }
+{
+    let count = slots_of(text);
     let mut slots = Vec::with_capacity(alloc, count)?;
     for _ in 0..count {
         if slots.push(Slot::new()).is_err() {
@@ -289,7 +271,7 @@ fn run_answer<R: Threads + Clock, A: Allocator + Copy>(
     let offered = items.as_slice();
     let outcome = relay_run(rt, alloc, &run, shape, offered, &recorder)?;
     let time = time_since(rt, start);
-    let text = run_text(alloc, run.text, &shape, &recorder, &outcome, time)?;
+    let text = run_text(alloc, run.text, &shape, offered, &recorder, &outcome, time)?;
     let ending = relay_ending(outcome.closed);
     Ok(Answer { text, ending })
 }

@@ -12,13 +12,14 @@ use Rattle.ring_program.proofs.Gains.{tells_line}
 use Rattle.ring_program.proofs.program.answer_question.Goals as goal
 
 -- a fault of the reading of an input is a true cause, of any question
-cause : (question : Question) (input : List ℕ) (fault : AppFault) → fault ≢ app.WriteFailed → (fault ≡ app.TooLarge → INPUT_LIMIT < length input)
+cause : (question : Question) (input : List ℕ) (fault : AppFault) → fault ≢ app.WriteFailed → fault ≢ app.NotOfRun → (fault ≡ app.TooLarge → INPUT_LIMIT < length input)
     → IsCause question input (refusal.App fault)
 unfolding IsOutOfMemory IsShortage
-cause question input app.ReadFailed unwritten large = inl (inr refl)
-cause question input app.TooLarge unwritten large = inr (inl (refl, large refl))
-cause question input app.WriteFailed unwritten large = absurd (unwritten refl)
-cause question input app.OutOfMemory unwritten large = inl (inl (inl refl))
+cause question input app.ReadFailed unwritten unrun large = inl (inr refl)
+cause question input app.TooLarge unwritten unrun large = inr (inl (refl, large refl))
+cause question input app.WriteFailed unwritten unrun large = absurd (unwritten refl)
+cause question input app.OutOfMemory unwritten unrun large = inl (inl (inl refl))
+cause question input app.NotOfRun unwritten unrun large = absurd (unrun refl)
 
 -- what was consumed of an input is no longer than the input
 consumed : (input came rest : List ℕ) → INPUT_LIMIT < length came → Consumes (Some input) (Some rest) came → INPUT_LIMIT < length input
@@ -29,12 +30,12 @@ large_input input None came large same = absurd same
 large_input input (Some rest) came large same = consumed input came rest large same
 
 -- how the program ends on an input that could not be read
-unread : (question : Question) (before after out : Option (List ℕ)) (Tells : List ℕ → Type 0) (fault : AppFault) (status : ℕ) → status ≡ 1 → fault ≢ app.WriteFailed
+unread : (question : Question) (before after out : Option (List ℕ)) (Tells : List ℕ → Type 0) (fault : AppFault) (status : ℕ) → status ≡ 1 → fault ≢ app.WriteFailed → fault ≢ app.NotOfRun
     → (fault ≡ app.TooLarge → (came : List ℕ) × (INPUT_LIMIT < length came) × Consumes before after came)
     → SaysRefusal Tells (refusal.App fault) → IfSome before (λ bytes. EndsOn question bytes out out Tells status)
-unread question None after out Tells fault status one unwritten large told = tt
-unread question (Some input) after out Tells fault status one unwritten large told =
-    inr (one, refusal.App fault, inl (cause question input fault unwritten (λ is. large_input input after (large is).0 (large is).1 (large is).2), Keeps-refl out), told)
+unread question None after out Tells fault status one unwritten unrun large told = tt
+unread question (Some input) after out Tells fault status one unwritten unrun large told =
+    inr (one, refusal.App fault, inl (cause question input fault unwritten unrun (λ is. large_input input after (large is).0 (large is).1 (large is).2), Keeps-refl out), told)
 
 -- how the program ends on an input that was read to its end
 read : (question : Question) (input after before out : Option (List ℕ)) (Tells : List ℕ → Type 0) (bytes : List ℕ) (status : ℕ) → Consumes input after bytes → IsAtEnd after
@@ -54,5 +55,5 @@ returns-in-Ok-clause-asked g c =
 
 pub returns-in-Err-clause-asked : goal.returns-in-Err-clause-asked
 returns-in-Err-clause-asked g c =
-    unread c.args.question _ _ _ _ c.in-Err.fault c.refuse.result.status c.refuse.ensures.status c.in-Err.ensures.no_write (λ is. c.in-Err.ensures.too_large (ap Err is))
+    unread c.args.question _ _ _ _ c.in-Err.fault c.refuse.result.status c.refuse.ensures.status c.in-Err.ensures.no_write c.in-Err.ensures.no_run (λ is. c.in-Err.ensures.too_large (ap Err is))
     (tells_line _ _ c.refuse.result.is_told (refusal.App c.in-Err.fault) c.refuse.ensures.told)

@@ -1,9 +1,10 @@
-use Rattle.std.proofs.Common.{◌≡◌, ◌∙◌, ℕ, List, take, sym, subst, arith}
+use Rattle.std.proofs.Common.{◌≡◌, ◌∙◌, ℕ, List, string_bytes, take, sym, subst, arith}
 use Rattle.std.specs.Prelude.{option_map}
 use Rattle.std.specs.Duration.{as_nanos}
 use Rattle.bits_core.specs.Made.{IsBeginning}
 use Rattle.bits_core.specs.Shape.{AllFit}
 use Rattle.ring_run.specs.Relays.{IsRelayed}
+use Rattle.ring_program.specs.Answers.{TellsRun}
 use Rattle.ring_program.specs.Runs.{run_items}
 use Rattle.ring_program.proofs.RunItems.{run_items_fit}
 use Rattle.ring_program.proofs.runs.run_answer.Goals as goal
@@ -33,6 +34,12 @@ returns-clause-answered g c =
       prefix = subst (λ (items : List ℕ). IsBeginning o.taken.items (take o.put items)) is told.prefix;
       all = λ e. (told.all e).1 ∙ is;
       within = omega (arith, told.within, c.in_ok-shape.ensures.capacity_is);
-      words = c.in_ok-text.ensures.text;
+      words = subst (λ (items : List ℕ). TellsRun run.text c.in_ok-shape.shape items o.put o.calls o.full o.taken.items o.empty o.closed (option_map as_nanos c.time_since-time.result)
+          (string_bytes c.in_ok-text.text)) is c.in_ok-text.ensures.text;
       ends = c.relay_ending-ending.ensures;
     }
+
+pub run_text-requires : goal.run_text-requires
+run_text-requires g c =
+    let counted = c.in_ok-outcome.ensures.counted in
+    omega (arith, counted.takes.most)

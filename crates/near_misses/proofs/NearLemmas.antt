@@ -1,0 +1,151 @@
+-- A play by a near miss, with one letter more.
+use Rattle.std.proofs.Common.{◌≡◌, ◌∙◌, ◌⊎◌, inl, inr, ℕ, Bool, true, false, Option, Some, None, List, [], ◌∷◌, ◌++◌, refl, ap, sym, subst, append_assoc, append-nil}
+use Rattle.std.specs.Prelude.{if◌then◌else◌}
+use Rattle.bits_core.specs.declared.events.Access.{Access}
+use Rattle.bits_core.specs.declared.events.Act.{Act}
+use Rattle.bits_core.specs.declared.events.Act.TheVariants.{ReadBegin, ReadEnd, WriteBegin, WriteEnd}
+use Rattle.bits_core.specs.declared.events.Bit.{Bit}
+use Rattle.bits_core.specs.declared.events.Event.{Event}
+use Rattle.bits_core.specs.declared.events.Side.{Side}
+use Rattle.bits_core.specs.declared.events.Side.TheVariants.{P, C}
+use Rattle.bits_core.specs.Bits.{begun_access, begun_by, is_by, other}
+use Rattle.bits_core.specs.History.{open_access}
+use Rattle.bits_core.specs.Laws.{OpenChanges}
+use Rattle.near_misses.specs.NearPlays.{NearAsked, NearBegins, NearEnds, NearMakes, NearStand, NearStands, NearStep, NearStops, near_stand_of, near_stopped, with_near_stand}
+use Rattle.near_misses.specs.NearSides.{IsInOpenCall, NearMoves}
+use Rattle.ring_player.specs.Tellings.{listed}
+use Rattle.ring_player.specs.declared.tellings.Told.{Told}
+use Rattle.ring_player.specs.declared.tellings.Told.TheVariants.{PutBegins, PutStored, PutFull, CloseBegins, CloseEnds, TakeBegins, TakeItem, TakeEmpty, TakeClosed}
+
+-- ---- the letters
+
+makes_event : (asked : NearAsked) (n : NearStands) (letters : List Side) (s : Side) (h : List Event) (told : List Told) (mid : NearStands) (e : Event) (t : Option Told) (after : NearStand)
+    → e.side ≡ s → (near_stand_of s mid).stopped ≡ false → NearStep asked s (near_stand_of s mid) e.act e.bit t after → NearMakes asked n letters h told mid
+    → NearMakes asked n (letters ++ s ∷ []) (h ++ e ∷ []) (told ++ listed t) (with_near_stand s after mid)
+makes_event asked n [] s h told mid e t after side goes step (none, untold, same) = inl (
+  e,
+  [],
+  t,
+  [],
+  after,
+  ap (λ (x : List Event). x ++ e ∷ []) none,
+  ap (λ (x : List Told). x ++ listed t) untold ∙ sym (append-nil (listed t)),
+  side,
+  subst (λ (m : NearStands). (near_stand_of s m).stopped ≡ false) same goes,
+  subst (λ (m : NearStands). NearStep asked s (near_stand_of s m) e.act e.bit t after) same step,
+  (refl, refl, ap (λ (m : NearStands). with_near_stand s after m) same),
+)
+makes_event asked n (l ∷ letters) s h told mid e t after side goes step (inl (e0, later, t0, others, next, h_is, told_is, side0, goes0, step0, more)) = inl (
+  e0,
+  later ++ e ∷ [],
+  t0,
+  others ++ listed t,
+  next,
+  ap (λ (x : List Event). x ++ e ∷ []) h_is,
+  ap (λ (x : List Told). x ++ listed t) told_is ∙ append_assoc (listed t0) others (listed t),
+  side0,
+  goes0,
+  step0,
+  makes_event asked (with_near_stand l next n) letters s later others mid e t after side goes step more,
+)
+makes_event asked n (l ∷ letters) s h told mid e t after side goes step (inr (stops, more)) =
+    inr (stops, makes_event asked (with_near_stand l (near_stopped (near_stand_of l n)) n) letters s h told mid e t after side goes step more)
+
+makes_stop : (asked : NearAsked) (n : NearStands) (letters : List Side) (s : Side) (h : List Event) (told : List Told) (mid : NearStands) → NearStops asked s (near_stand_of s mid)
+    → NearMakes asked n letters h told mid → NearMakes asked n (letters ++ s ∷ []) h told (with_near_stand s (near_stopped (near_stand_of s mid)) mid)
+makes_stop asked n [] s h told mid stops (none, untold, same) = inr (
+  subst (λ (m : NearStands). NearStops asked s (near_stand_of s m)) same stops,
+  (none, untold, ap (λ (m : NearStands). with_near_stand s (near_stopped (near_stand_of s m)) m) same),
+)
+makes_stop asked n (l ∷ letters) s h told mid stops (inl (e0, later, t0, others, next, h_is, told_is, side0, goes0, step0, more)) =
+    inl (e0, later, t0, others, next, h_is, told_is, side0, goes0, step0, makes_stop asked (with_near_stand l next n) letters s later others mid stops more)
+makes_stop asked n (l ∷ letters) s h told mid stops (inr (stopped, more)) =
+    inr (stopped, makes_stop asked (with_near_stand l (near_stopped (near_stand_of l n)) n) letters s h told mid stops more)
+
+pub makes_more : (asked : NearAsked) (n : NearStands) (letters : List Side) (s : Side) (h after : List Event) (told told_after : List Told) (t : Option Told) (mid : NearStands)
+    (next : NearStand) → told_after ≡ told ++ listed t → NearMoves asked s h (near_stand_of s mid) t after next → NearMakes asked n letters h told mid
+    → NearMakes asked n (letters ++ s ∷ []) after told_after (with_near_stand s next mid)
+makes_more asked n letters s h after told told_after t mid next told_is (inl (e, is, side, goes, step)) made =
+    subst (λ (x : List Event). NearMakes asked n (letters ++ s ∷ []) x told_after (with_near_stand s next mid)) (sym is)
+    (subst (λ (x : List Told). NearMakes asked n (letters ++ s ∷ []) (h ++ e ∷ []) x (with_near_stand s next mid)) (sym told_is)
+    (makes_event asked n letters s h told mid e t next side goes step made))
+makes_more asked n letters s h after told told_after t mid next told_is (inr (is, untold, none, stops, next_is)) made =
+    let told_same : told_after ≡ told = told_is ∙ ap (λ (o : Option Told). told ++ listed o) untold ∙ append-nil told in
+    subst (λ (x : List Event). NearMakes asked n (letters ++ s ∷ []) x told_after (with_near_stand s next mid)) (sym is)
+    (subst (λ (x : List Told). NearMakes asked n (letters ++ s ∷ []) h x (with_near_stand s next mid)) (sym told_same)
+    (subst (λ (x : NearStand). NearMakes asked n (letters ++ s ∷ []) h told (with_near_stand s x mid)) (sym next_is) (makes_stop asked n letters s h told mid stops made)))
+
+-- ---- what a side has open
+
+begins_in_call : (asked : NearAsked) (s : Side) (before : NearStand) (t : Option Told) (after : NearStand) → before.stopped ≡ false → NearBegins asked s before t after
+    → (after.in_call ≡ true) × (after.stopped ≡ false)
+begins_in_call asked P before None after goes (in_call, is) = (ap (λ (x : NearStand). x.in_call) is ∙ in_call, ap (λ (x : NearStand). x.stopped) is ∙ goes)
+begins_in_call asked C before None after goes (in_call, is) = (ap (λ (x : NearStand). x.in_call) is ∙ in_call, ap (λ (x : NearStand). x.stopped) is ∙ goes)
+begins_in_call asked P before (Some (PutBegins k)) after goes (a, b, c, d, is) = (ap (λ (x : NearStand). x.in_call) is, ap (λ (x : NearStand). x.stopped) is ∙ goes)
+begins_in_call asked P before (Some CloseBegins) after goes (a, b, c, d, is) = (ap (λ (x : NearStand). x.in_call) is, ap (λ (x : NearStand). x.stopped) is ∙ goes)
+begins_in_call asked C before (Some TakeBegins) after goes (a, b, c, is) = (ap (λ (x : NearStand). x.in_call) is, ap (λ (x : NearStand). x.stopped) is ∙ goes)
+begins_in_call asked P before (Some (PutStored k)) after goes x = absurd x
+begins_in_call asked P before (Some PutFull) after goes x = absurd x
+begins_in_call asked P before (Some CloseEnds) after goes x = absurd x
+begins_in_call asked P before (Some TakeBegins) after goes x = absurd x
+begins_in_call asked P before (Some (TakeItem k)) after goes x = absurd x
+begins_in_call asked P before (Some TakeEmpty) after goes x = absurd x
+begins_in_call asked P before (Some TakeClosed) after goes x = absurd x
+begins_in_call asked C before (Some (PutBegins k)) after goes x = absurd x
+begins_in_call asked C before (Some (PutStored k)) after goes x = absurd x
+begins_in_call asked C before (Some PutFull) after goes x = absurd x
+begins_in_call asked C before (Some CloseBegins) after goes x = absurd x
+begins_in_call asked C before (Some CloseEnds) after goes x = absurd x
+begins_in_call asked C before (Some (TakeItem k)) after goes x = absurd x
+begins_in_call asked C before (Some TakeEmpty) after goes x = absurd x
+begins_in_call asked C before (Some TakeClosed) after goes x = absurd x
+
+step_in_call : (asked : NearAsked) (s : Side) (before : NearStand) (act : Act) (b : Bit) (t : Option Told) (after : NearStand) (access : Access) → before.stopped ≡ false
+    → begun_access b act ≡ Some access → NearStep asked s before act b t after → (after.in_call ≡ true) × (after.stopped ≡ false)
+step_in_call asked s before ReadBegin b t after access goes begun step = begins_in_call asked s before t after goes step
+step_in_call asked s before (WriteBegin v) b t after access goes begun step = begins_in_call asked s before t after goes step
+step_in_call asked s before (ReadEnd v) b t after access goes begun step = absurd (cc)
+step_in_call asked s before WriteEnd b t after access goes begun step = absurd (cc)
+
+same_is_by : (s : Side) (e : Event) → e.side ≡ s → is_by s e ≡ true
+same_is_by P e is = ap (λ (x : Side). is_by P (record e { side = x })) is
+same_is_by C e is = ap (λ (x : Side). is_by C (record e { side = x })) is
+
+other_is_by : (s : Side) (e : Event) → e.side ≡ s → is_by (other s) e ≡ false
+other_is_by P e is = ap (λ (x : Side). is_by C (record e { side = x })) is
+other_is_by C e is = ap (λ (x : Side). is_by P (record e { side = x })) is
+
+pub moves_open : OpenChanges → (asked : NearAsked) (s : Side) (h : List Event) (before : NearStand) (t : Option Told) (after : List Event) (next : NearStand)
+    → NearMoves asked s h before t after next → IsInOpenCall s after next
+moves_open changes asked s h before t after next (inl (e, is, side, goes, step)) access open =
+    let begun : begun_by e ≡ Some access =
+    sym (changes s h e ∙ ap (λ (b : Bool). if b then begun_by e else open_access s h) (same_is_by s e side)) ∙ ap (open_access s) (sym is) ∙ open in
+    step_in_call asked s before e.act e.bit t next access goes begun step
+moves_open changes asked s h before t after next (inr (is, untold, none, stops, next_is)) access open = absurd (none_some access (sym none ∙ ap (open_access s) (sym is) ∙ open))
+  where
+    none_some : (a : Access) → None ≡ Some a → ⊥
+    none_some a e = absurd (cc)
+
+pub moves_other : OpenChanges → (asked : NearAsked) (s : Side) (h : List Event) (before : NearStand) (t : Option Told) (after : List Event) (next stand : NearStand)
+    → NearMoves asked s h before t after next → IsInOpenCall (other s) h stand → IsInOpenCall (other s) after stand
+moves_other changes asked s h before t after next stand (inl (e, is, side, goes, step)) was access open =
+    was access (sym (changes (other s) h e ∙ ap (λ (b : Bool). if b then begun_by e else open_access (other s) h) (other_is_by s e side)) ∙ ap (open_access (other s)) (sym is) ∙ open)
+moves_other changes asked s h before t after next stand (inr (is, untold, none, stops, next_is)) was access open = was access (ap (open_access (other s)) (sym is) ∙ open)
+
+-- the digits read count with the event
+pub ends_with_item : (asked : NearAsked) (before mid after : NearStand) (item : ℕ) (t : Option Told) → mid ≡ record before { item = item } → NearEnds asked C mid mid.item t after
+    → NearEnds asked C before item t after
+ends_with_item asked before mid after item t same ends =
+    by_told t (subst (λ (m : NearStand). NearEnds asked C m m.item t after) same ends)
+  where
+    by_told : (o : Option Told) → NearEnds asked C (record before { item = item }) item o after → NearEnds asked C before item o after
+    by_told None x = x
+    by_told (Some (PutBegins k)) x = x
+    by_told (Some (PutStored k)) x = x
+    by_told (Some PutFull) x = x
+    by_told (Some CloseBegins) x = x
+    by_told (Some CloseEnds) x = x
+    by_told (Some TakeBegins) x = x
+    by_told (Some (TakeItem k)) x = x
+    by_told (Some TakeEmpty) x = x
+    by_told (Some TakeClosed) x = x

@@ -1,0 +1,112 @@
+-- What a play by a near miss is: a lawful history, which the letters of its script make, and the calls that are told of it. Each side is
+-- in one call after the other; an event of it begins a call, or goes on with it, or ends it, and what begins or ends is told.
+use Rattle.std.specs.Prelude.{◌≡◌, ◌⊎◌, ℕ, suc, ◌+◌, ◌^◌, ◌<◌, ◌≤◌, Bool, true, false, ◌||◌, nat_lt, if◌then◌else◌, Option, Some, None, List, [], ◌∷◌, ◌++◌, length, bit_or}
+use Rattle.bits_core.specs.declared.events.Act.{Act}
+use Rattle.bits_core.specs.declared.events.Act.TheVariants.{ReadBegin, ReadEnd, WriteBegin, WriteEnd}
+use Rattle.bits_core.specs.declared.events.Bit.{Bit}
+use Rattle.bits_core.specs.declared.events.Bit.TheVariants.{S, R, X, Cell}
+use Rattle.bits_core.specs.declared.events.Event.{Event}
+use Rattle.bits_core.specs.declared.events.Side.{Side}
+use Rattle.bits_core.specs.declared.events.Side.TheVariants.{P, C}
+use Rattle.bits_core.specs.Lawful.{IsLawful}
+use Rattle.ring_player.specs.Plays.{AreInTurn}
+use Rattle.ring_player.specs.Tellings.{listed}
+use Rattle.ring_player.specs.declared.tellings.Told.{Told}
+use Rattle.ring_player.specs.declared.tellings.Told.TheVariants.{PutBegins, PutStored, PutFull, CloseBegins, CloseEnds, TakeBegins, TakeItem, TakeEmpty, TakeClosed}
+use Rattle.ring_script.specs.Content.{Content}
+
+-- what a script asks for: so many items, so many takes, and a close
+pub record NearAsked : Type 0 where
+  pub items : ℕ
+  pub takes : ℕ
+  pub closes : Bool
+
+abbrev pub asked_by_script : Content → NearAsked
+asked_by_script script = record { items = length script.items; takes = script.takes; closes = script.closes }
+
+-- Where a side is: whether it is in a call, and has stopped in it; how many items its puts have stored, or how many takes it has begun;
+-- the item of the digits that the take has read; and whether its close has ended, or a take was told that the ring is closed
+pub record NearStand : Type 0 where
+  pub in_call : Bool
+  pub stopped : Bool
+  pub count : ℕ
+  pub item : ℕ
+  pub over : Bool
+
+abbrev pub near_start : NearStand
+near_start = record { in_call = false; stopped = false; count = 0; item = 0; over = false }
+
+-- an event that begins an access: one of the call under way, or the first of a call, which is told
+abbrev pub NearBegins : NearAsked → Side → NearStand → Option Told → NearStand → Type 0
+NearBegins asked s before None after = (before.in_call ≡ true) × (after ≡ before)
+NearBegins asked P before (Some (PutBegins stored)) after =
+    (before.in_call ≡ false) × (before.over ≡ false) × (stored ≡ before.count) × (stored < asked.items) × (after ≡ record before { in_call = true })
+NearBegins asked P before (Some CloseBegins) after =
+    (before.in_call ≡ false) × (before.over ≡ false) × (asked.items ≤ before.count) × (asked.closes ≡ true) × (after ≡ record before { in_call = true })
+NearBegins asked C before (Some TakeBegins) after =
+    (before.in_call ≡ false) × (before.over ≡ false) × (before.count < asked.takes) ×
+    (after ≡ record before { in_call = true; count = suc before.count; item = 0 })
+NearBegins _ _ _ _ _ = ⊥
+
+-- an event that ends an access, with which the digits read make this item: one of the call under way, or its last, which is told
+abbrev pub NearEnds : NearAsked → Side → NearStand → ℕ → Option Told → NearStand → Type 0
+NearEnds asked s before item None after = (before.in_call ≡ true) × (after ≡ record before { item = item })
+NearEnds asked P before item (Some (PutStored count)) after =
+    (before.in_call ≡ true) × (before.count + count ≤ asked.items) × (after ≡ record before { in_call = false; item = item; count = before.count + count })
+NearEnds asked P before item (Some PutFull) after = (before.in_call ≡ true) × (after ≡ record before { in_call = false; item = item })
+NearEnds asked P before item (Some CloseEnds) after = (before.in_call ≡ true) × (after ≡ record before { in_call = false; item = item; over = true })
+NearEnds asked C before item (Some (TakeItem taken)) after = (before.in_call ≡ true) × (taken ≡ item) × (after ≡ record before { in_call = false; item = item })
+NearEnds asked C before item (Some TakeEmpty) after = (before.in_call ≡ true) × (after ≡ record before { in_call = false; item = item })
+NearEnds asked C before item (Some TakeClosed) after = (before.in_call ≡ true) × (after ≡ record before { in_call = false; item = item; over = true })
+NearEnds _ _ _ _ _ _ = ⊥
+
+-- an item with a digit more, where a read of a cell's bit answered 1
+abbrev pub with_digit : Bool → Bit → ℕ → ℕ
+with_digit true (Cell j i) item = (if nat_lt i 64 then bit_or item (2 ^ i) else item)
+with_digit _ _ item = item
+
+-- an event of a side, and what is told of it
+abbrev pub NearStep : NearAsked → Side → NearStand → Act → Bit → Option Told → NearStand → Type 0
+NearStep asked s before ReadBegin b told after = NearBegins asked s before told after
+NearStep asked s before (WriteBegin v) b told after = NearBegins asked s before told after
+NearStep asked s before (ReadEnd v) b told after = NearEnds asked s before (with_digit v b before.item) told after
+NearStep asked s before WriteEnd b told after = NearEnds asked s before before.item told after
+
+-- a side has stopped, or may stop: in a call, for good, as it finds no count; else where nothing more is asked of it
+abbrev pub NearStops : NearAsked → Side → NearStand → Type 0
+NearStops asked P before = (before.stopped ≡ true) ⊎ ((before.in_call ≡ true) ⊎ ((before.over ≡ true) ⊎ ((asked.items ≤ before.count) × (asked.closes ≡ false))))
+NearStops asked C before = (before.stopped ≡ true) ⊎ ((before.in_call ≡ true) ⊎ ((before.over ≡ true) ⊎ (asked.takes ≤ before.count)))
+
+abbrev pub near_stopped : NearStand → NearStand
+near_stopped n = record n { stopped = n.stopped || n.in_call }
+
+-- both sides
+pub record NearStands : Type 0 where
+  pub putting : NearStand
+  pub taking : NearStand
+
+abbrev pub near_starts : NearStands
+near_starts = record { putting = near_start; taking = near_start }
+
+abbrev pub near_stand_of : Side → NearStands → NearStand
+near_stand_of P n = n.putting
+near_stand_of C n = n.taking
+
+abbrev pub with_near_stand : Side → NearStand → NearStands → NearStands
+with_near_stand P stand n = record n { putting = stand }
+with_near_stand C stand n = record n { taking = stand }
+
+-- letters make a history, and so much is told of it: at each letter its side makes an event, or it stops or has stopped
+abbrev pub NearMakes : NearAsked → NearStands → List Side → List Event → List Told → NearStands → Type 0
+NearMakes asked n [] h told after = (h ≡ []) × (told ≡ []) × (after ≡ n)
+NearMakes asked n (s ∷ letters) h told after =
+    ((e : Event) × (later : List Event) × (t : Option Told) × (others : List Told) × (next : NearStand) × (h ≡ e ∷ later) × (told ≡ listed t ++ others) × (e.side ≡ s)
+    × ((near_stand_of s n).stopped ≡ false) × NearStep asked s (near_stand_of s n) e.act e.bit t next × NearMakes asked (with_near_stand s next n) letters later others after)
+    ⊎ (NearStops asked s (near_stand_of s n) × NearMakes asked (with_near_stand s (near_stopped (near_stand_of s n)) n) letters h told after)
+
+-- a play by a near miss
+pub record IsNearPlay (script : Content) (h : List Event) (told : List Told) : Type 0 where
+  pub lawful : IsLawful script.shape h
+  pub stands : NearStands
+  pub made : NearMakes (asked_by_script script) near_starts script.letters h told stands
+  pub answers : AreInTurn script.oracle h

@@ -1,0 +1,180 @@
+-- The recording of a run, as far as it is written.
+use Rattle.std.proofs.Common.{◌≡◌, ◌∙◌, ℕ, ◌-◌, ◌<◌, ◌≤◌, List, [], ◌∷◌, ◌++◌, drop, refl, ap, ap₂, sym, subst, arith}
+use Rattle.std.proofs.lemmas.List.{append-nil, drop-drop}
+use Rattle.std.proofs.lemmas.List.Sums.{sum_by_push}
+use Rattle.std.proofs.lemmas.Grind.{flat_map-append}
+use Rattle.std.specs.List.{sum_by}
+use Rattle.bits_core.specs.Shape.{batch_of, capacity_of}
+use Rattle.bits_core.specs.declared.shapes.Shape.{Shape}
+use Rattle.queue_calls.specs.Audits.{Audits}
+use Rattle.queue_calls.specs.Calls.{Event, IsLinearizable}
+use Rattle.queue_calls.specs.Lines.{AreSmall, word_text}
+use Rattle.queue_calls.specs.Order.{P, C}
+use Rattle.queue_calls.specs.Queue.{exactly}
+use Rattle.queue_calls.specs.Recordings.{Line, begun_after, begun_behind, line, lines_text, text_of}
+use Rattle.queue_calls.specs.Tellings.{HistoryHasARecording, LinearizableIsInTurn, TellsSmall, line_of, lines_of, numbers_in, offered_last}
+use Rattle.queue_calls.specs.Told.{meant}
+use Rattle.queue_calls.specs.declared.auditors.CallAuditor.{CallAuditor}
+use Rattle.queue_calls.specs.declared.capacities.Capacity.{Capacity}
+use Rattle.queue_calls.specs.declared.capacities.Capacity.TheVariants.{Between}
+use Rattle.queue_calls.specs.declared.lines.Word.TheVariants.{Queue}
+use Rattle.queue_calls.specs.declared.recordings.Begun.{Begun}
+use Rattle.queue_calls.specs.declared.recordings.Begun.TheVariants as begun
+use Rattle.ring_program.specs.RunRecordings.{AreOfRun, IsOfRun, RecordsRun, RunCounts, TellAllBut, nothing_left, room_with, stored_with}
+use Rattle.ring_program.specs.Texts.{list_line}
+use Rattle.ring_program.specs.Untold.{TakesOff, left_of}
+use Rattle.ring_program.specs.declared.run_recordings.Room.{Room}
+use Rattle.ring_program.specs.declared.run_recordings.Untold.{Untold}
+use Rattle.ring_program.specs.declared.run_recordings.TheConstants.{RECORDED}
+use Rattle.ring_program.proofs.RecordingText.{line_is}
+use Rattle.ring_program.proofs.RunTelling.{are_more, tell_more}
+use Rattle.ring_program.proofs.TellingText.{told_is_recording}
+
+tells_nothing : (all : RunCounts) → TellAllBut all all []
+tells_nothing all = record {
+  put = omega arith;
+  calls = omega arith;
+  full = omega arith;
+  closes = omega arith;
+  takes = omega arith;
+  empty = omega arith;
+  told = omega arith;
+  taken = refl;
+}
+
+-- ---- one event more
+
+lines_more : (b : Begun) (h : List Event) (event : Event) → lines_of b (h ++ event ∷ []) ≡ lines_of b h ++ line_of (begun_behind b (lines_of b h)) event ∷ []
+lines_more b [] event = refl
+lines_more b (e ∷ h) event = ap (λ (ls : List Line). line_of b e ∷ ls) (lines_more (begun_after b (line_of b e).word (line_of b e).numbers) h event)
+
+begun_more : (b : Begun) (lines : List Line) (l : Line) → begun_behind b (lines ++ l ∷ []) ≡ begun_after (begun_behind b lines) l.word l.numbers
+begun_more b [] l = refl
+begun_more b (x ∷ lines) l = begun_more (begun_after b x.word x.numbers) lines l
+
+small_more : (h : List Event) (event : Event) → TellsSmall h → AreSmall (numbers_in event) → TellsSmall (h ++ event ∷ [])
+small_more [] event all small = (small, tt)
+small_more (e ∷ h) event all small = (all.0, small_more h event all.1 small)
+
+text_more : (lines : List Line) (l : Line) → lines_text (lines ++ l ∷ []) ≡ lines_text lines ++ text_of l
+text_more lines l = flat_map-append text_of lines (l ∷ []) ∙ ap (λ (t : List ℕ). lines_text lines ++ t) (append-nil (text_of l))
+
+-- ---- what is told so far
+
+-- the text has a first line that tells the capacity, and the lines of these events
+pub record IsWritten (capacity offers : ℕ) (text : List ℕ) (events : List Event) : Type 0 where
+  pub text_is : text ≡ lines_text (line Queue (capacity ∷ []) ∷ lines_of begun.Nothing events)
+  pub offers_is : offers ≡ offered_last (begun_behind begun.Nothing (lines_of begun.Nothing events))
+  pub small : TellsSmall events
+
+-- the events are of the run, and this is left of it and of the room of the logs
+pub record IsLeft (batch : ℕ) (items : List ℕ) (all : RunCounts) (untold : Untold) (room : Room) (events : List Event) : Type 0 where
+  pub in_order : AreOfRun batch items events
+  pub items_are : untold.items.now ≡ drop (sum_by stored_with events) items
+  pub tells : TellAllBut (left_of untold) all events
+  pub puts : room.puts ≡ RECORDED - sum_by (room_with P) events
+  pub takes : room.takes ≡ RECORDED - sum_by (room_with C) events
+
+-- the events are read
+pub record IsAudited {Q : Type 0} (items_of : Q → List ℕ) (capacity : ℕ) (auditor : CallAuditor Q) (events : List Event) : Type 0 where
+  pub audits : Audits items_of auditor events
+  pub capacity_is : meant auditor.capacity ≡ exactly capacity
+  pub linearizable : IsLinearizable (exactly capacity) events
+
+pub record HasTold {Q : Type 0} (items_of : Q → List ℕ) (capacity batch : ℕ) (items : List ℕ) (all : RunCounts) (text : List ℕ) (auditor : CallAuditor Q) (untold : Untold)
+    (room : Room) (offers : ℕ) : Type 0 where
+  pub events : List Event
+  pub is_written : IsWritten capacity offers text events
+  pub is_audited : IsAudited items_of capacity auditor events
+  pub is_left : IsLeft batch items all untold room events
+
+pub writes_more : (capacity offers after_offers : ℕ) (text after : List ℕ) (events : List Event) (event : Event)
+    → ((b : Begun) → offers ≡ offered_last b → after ≡ text ++ text_of (line_of b event))
+    → ((b : Begun) → offers ≡ offered_last b → after_offers ≡ offered_last (begun_after b (line_of b event).word (line_of b event).numbers))
+    → AreSmall (numbers_in event) → IsWritten capacity offers text events → IsWritten capacity after_offers after (events ++ event ∷ [])
+writes_more capacity offers after_offers text after events event pushed offers_are small w =
+    let lines = lines_of begun.Nothing events in
+    let b = begun_behind begun.Nothing lines in
+    let l = line_of b event in
+    let more = lines_more begun.Nothing events event in
+    record {
+      text_is = pushed b w.offers_is ∙ ap (λ (t : List ℕ). t ++ text_of l) w.text_is ∙ sym (text_more (line Queue (capacity ∷ []) ∷ lines) l)
+          ∙ ap (λ (ls : List Line). lines_text (line Queue (capacity ∷ []) ∷ ls)) (sym more);
+      offers_is = offers_are b w.offers_is ∙ ap offered_last (sym (begun_more begun.Nothing lines l) ∙ ap (λ (ls : List Line). begun_behind begun.Nothing ls) (sym more));
+      small = small_more events event w.small small;
+    }
+
+room_less : (f : Event → ℕ) (events : List Event) (event : Event) (room left : ℕ) → room ≡ RECORDED - sum_by f events → left ≡ room - f event
+    → left ≡ RECORDED - sum_by f (events ++ event ∷ [])
+room_less f events event room left is now = omega (arith, sum_by_push f events event)
+
+pub leaves_less : (batch : ℕ) (items : List ℕ) (all : RunCounts) (untold after : Untold) (room less : Room) (events : List Event) (event : Event)
+    → IsOfRun batch untold.items.now event → TakesOff untold event after → less.puts ≡ room.puts - room_with P event → less.takes ≡ room.takes - room_with C event
+    → IsLeft batch items all untold room events → IsLeft batch items all after less (events ++ event ∷ [])
+leaves_less batch items all untold after room less events event is off puts takes l = record {
+  in_order = are_more batch items events event l.in_order (subst (λ (xs : List ℕ). IsOfRun batch xs event) l.items_are is);
+  items_are = off.items ∙ ap (λ (xs : List ℕ). drop (stored_with event) xs) l.items_are ∙ drop-drop (stored_with event) (sum_by stored_with events) items
+      ∙ ap (λ (n : ℕ). drop n items) (sym (sum_by_push stored_with events event));
+  tells = tell_more (left_of after) (left_of untold) all events event l.tells off.tells;
+  puts = room_less (room_with P) events event room.puts less.puts l.puts puts;
+  takes = room_less (room_with C) events event room.takes less.takes l.takes takes;
+}
+
+pub audits_more : {Q : Type 0} (items_of : Q → List ℕ) (capacity : ℕ) (auditor after : CallAuditor Q) (events : List Event) (event : Event)
+    → after.capacity ≡ auditor.capacity
+    → ((h : List Event) → Audits items_of auditor h → Audits items_of after (h ++ event ∷ []) × IsLinearizable (meant auditor.capacity) (h ++ event ∷ []))
+    → IsAudited items_of capacity auditor events → IsAudited items_of capacity after (events ++ event ∷ [])
+audits_more {Q} items_of capacity auditor after events event same reads a =
+    let read = reads events a.audits in
+    record {
+      audits = read.0;
+      capacity_is = ap meant same ∙ a.capacity_is;
+      linearizable = subst (λ k. IsLinearizable k (events ++ event ∷ [])) a.capacity_is read.1;
+    }
+
+-- ---- at the begin and at the end
+
+pub meant_exactly : (told : Capacity) (n capacity : ℕ) → told ≡ Between n n → n ≡ capacity → meant told ≡ exactly capacity
+meant_exactly told n capacity is same = ap meant is ∙ ap exactly same
+
+pub begins_run : {Q : Type 0} (items_of : Q → List ℕ) (capacity batch : ℕ) (items : List ℕ) (all : RunCounts) (text before word : List ℕ) (n : ℕ) (auditor : CallAuditor Q)
+    (untold : Untold) → before ≡ [] → word ≡ word_text Queue → n ≡ capacity → text ≡ before ++ list_line word (n ∷ []) → Audits items_of auditor []
+    → meant auditor.capacity ≡ exactly capacity → IsLinearizable (meant auditor.capacity) [] → untold.items.now ≡ items → left_of untold ≡ all
+    → HasTold items_of capacity batch items all text auditor untold (record { puts = RECORDED; takes = RECORDED }) 0
+begins_run {Q} items_of capacity batch items all text before word n auditor untold none word_is same is audits capacity_is linearizable items_are left_is = record {
+  events = [];
+  is_written = record {
+    text_is = is ∙ ap₂ (λ (a : List ℕ) (b : List ℕ). a ++ b) none (ap₂ list_line word_is (ap (λ (k : ℕ). k ∷ []) same) ∙ line_is Queue (capacity ∷ []))
+        ∙ sym (append-nil (text_of (line Queue (capacity ∷ []))));
+    offers_is = refl;
+    small = tt;
+  };
+  is_audited = record {
+    audits = audits;
+    capacity_is = capacity_is;
+    linearizable = subst (λ k. IsLinearizable k []) capacity_is linearizable;
+  };
+  is_left = record {
+    in_order = tt;
+    items_are = items_are;
+    tells = subst (λ (a : RunCounts). TellAllBut (left_of untold) a []) left_is (tells_nothing (left_of untold));
+    puts = refl;
+    takes = refl;
+  };
+}
+
+pub records_run : {Q : Type 0} (items_of : Q → List ℕ) (shape : Shape) (n : ℕ) (items : List ℕ) (all : RunCounts) (text : List ℕ) (auditor : CallAuditor Q) (untold : Untold)
+    (room : Room) (offers : ℕ) → HistoryHasARecording → LinearizableIsInTurn → n ≡ capacity_of shape → 0 < n → n ≤ 64
+    → (batch_of shape ≤ room.puts → 0 < room.takes → left_of untold ≡ nothing_left)
+    → HasTold items_of (capacity_of shape) (batch_of shape) items all text auditor untold room offers → RecordsRun shape items all text
+records_run {Q} items_of shape n items all text auditor untold room offers law in_turn same some few whole t =
+    let linearizable : IsLinearizable (exactly (capacity_of shape)) t.events = t.is_audited.linearizable in
+    record {
+      events = t.events;
+      is_recording = told_is_recording (capacity_of shape) n t.events text same some few law (in_turn (exactly (capacity_of shape)) t.events linearizable) t.is_written.small t.is_written.text_is;
+      linearizable = linearizable;
+      in_order = t.is_left.in_order;
+      left = left_of untold;
+      tells = t.is_left.tells;
+      whole = λ room_left. whole (omega (arith, t.is_left.puts, room_left.0)) (omega (arith, t.is_left.takes, room_left.1));
+    }

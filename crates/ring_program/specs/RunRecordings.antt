@@ -1,0 +1,129 @@
+-- What the recording of a run tells of the run: calls as the run makes them, linearizable, and all of them where its logs had room.
+use Rattle.std.specs.Prelude.{◌≡◌, ℕ, ◌+◌, ◌<◌, ◌≤◌, ◌==◌, Bool, List, [], ◌∷◌, ◌++◌, length, take, drop, if◌then◌else◌}
+use Rattle.std.specs.List.{flat_map, sum_by}
+use Rattle.bits_core.specs.Shape.{batch_of, capacity_of}
+use Rattle.bits_core.specs.declared.shapes.Shape.{Shape}
+use Rattle.queue_calls.specs.Calls.{Event, PutBegin, PutStored, PutFull, PutShort, PutNothing, PutClosed, CloseBegin, CloseEnd, TakeBegin, TakeItems, TakeEmpty, TakeShort, TakeNothing, TakeClosed, IsLinearizable}
+use Rattle.queue_calls.specs.Order.{Side, P, C, pick, side_of}
+use Rattle.queue_calls.specs.Queue.{exactly}
+use Rattle.queue_calls.specs.Recordings.{IsRecording}
+use Rattle.ring_program.specs.declared.run_recordings.TheConstants.{RECORDED}
+
+-- ---- what an event tells
+
+-- the items that a take ends with
+abbrev pub taken_with : Event → List ℕ
+taken_with (TakeItems items) = items
+taken_with _ = []
+
+-- how many items a put ends with as stored
+abbrev pub stored_with : Event → ℕ
+stored_with (PutStored count) = count
+stored_with _ = 0
+
+-- 1 for a put that begins, one that ends as the ring is full, a close that ends, a take that begins, one that ends as the ring is
+-- empty, one that ends as it is empty and closed; 0 for any other event
+abbrev pub tells_put : Event → ℕ
+tells_put (PutBegin items) = 1
+tells_put _ = 0
+
+abbrev pub tells_full : Event → ℕ
+tells_full PutFull = 1
+tells_full _ = 0
+
+abbrev pub tells_close : Event → ℕ
+tells_close CloseEnd = 1
+tells_close _ = 0
+
+abbrev pub tells_take : Event → ℕ
+tells_take (TakeBegin wanted) = 1
+tells_take _ = 0
+
+abbrev pub tells_empty : Event → ℕ
+tells_empty TakeEmpty = 1
+tells_empty _ = 0
+
+abbrev pub tells_shut : Event → ℕ
+tells_shut TakeClosed = 1
+tells_shut _ = 0
+
+-- the room that its line takes in the log of a side: a put that begins, as much as it has items
+abbrev pub room_with : Side → Event → ℕ
+room_with s (PutBegin items) = pick s P (length items) 0
+room_with s event = pick s (side_of event) 1 0
+
+-- ---- calls as a run makes them
+
+-- Behind puts that left these items: a put offers as many of them as a batch has, or all where fewer are left, and a close comes
+-- where none is left; a take is of one item
+abbrev pub IsOfRun : (batch : ℕ) → (left : List ℕ) → Event → Type 0
+IsOfRun batch left (PutBegin items) = items ≡ take batch left
+IsOfRun batch left CloseBegin = left ≡ []
+IsOfRun batch left (TakeBegin wanted) = wanted ≡ 1
+IsOfRun batch left PutShort = ⊥
+IsOfRun batch left PutNothing = ⊥
+IsOfRun batch left PutClosed = ⊥
+IsOfRun batch left TakeShort = ⊥
+IsOfRun batch left TakeNothing = ⊥
+IsOfRun batch left _ = Unit {0}
+
+-- events one after the other
+abbrev pub AreOfRun : (batch : ℕ) → (left : List ℕ) → List Event → Type 0
+AreOfRun batch left [] = Unit {0}
+AreOfRun batch left (event ∷ events) = IsOfRun batch left event × AreOfRun batch (drop (stored_with event) left) events
+
+-- ---- how much of a run is told
+
+-- what a run counts: the items stored, the puts, those that found the ring full, the closes, the takes, those that found it empty, those
+-- that were told that it is closed; and the items taken
+pub record RunCounts : Type 0 where
+  pub put : ℕ
+  pub calls : ℕ
+  pub full : ℕ
+  pub closes : ℕ
+  pub takes : ℕ
+  pub empty : ℕ
+  pub told : ℕ
+  pub taken : List ℕ
+
+-- by what came of it: a close was made where all items were stored
+abbrev pub run_counts : (items : List ℕ) → (put calls full : ℕ) → (taken : List ℕ) → (empty : ℕ) → (closed : Bool) → RunCounts
+run_counts items put calls full taken empty closed = record {
+  put = put;
+  calls = calls;
+  full = full;
+  closes = (if put == length items then 1 else 0);
+  takes = length taken + empty + (if closed then 1 else 0);
+  empty = empty;
+  told = (if closed then 1 else 0);
+  taken = taken;
+}
+
+abbrev pub nothing_left : RunCounts
+nothing_left = record { put = 0; calls = 0; full = 0; closes = 0; takes = 0; empty = 0; told = 0; taken = [] }
+
+-- the events tell all of what a run counts but this; the items, from the first on
+pub record TellAllBut (left all : RunCounts) (events : List Event) : Type 0 where
+  pub put : sum_by stored_with events + left.put ≡ all.put
+  pub calls : sum_by tells_put events + left.calls ≡ all.calls
+  pub full : sum_by tells_full events + left.full ≡ all.full
+  pub closes : sum_by tells_close events + left.closes ≡ all.closes
+  pub takes : sum_by tells_take events + left.takes ≡ all.takes
+  pub empty : sum_by tells_empty events + left.empty ≡ all.empty
+  pub told : sum_by tells_shut events + left.told ≡ all.told
+  pub taken : flat_map taken_with events ++ left.taken ≡ all.taken
+
+-- the log of each side had room for one more line
+abbrev pub HasRoomLeft : (batch : ℕ) → List Event → Type 0
+HasRoomLeft batch events = (sum_by (room_with P) events + batch ≤ RECORDED) × (sum_by (room_with C) events < RECORDED)
+
+-- The text is a recording of calls of a queue of the ring's capacity, which are linearizable: puts of the run's items in order, and takes
+-- of those that were taken, from the first on; none but those of the run, and all of them where the logs had room
+pub record RecordsRun (shape : Shape) (items : List ℕ) (all : RunCounts) (text : List ℕ) : Type 0 where
+  pub events : List Event
+  pub is_recording : IsRecording text (exactly (capacity_of shape)) events
+  pub linearizable : IsLinearizable (exactly (capacity_of shape)) events
+  pub in_order : AreOfRun (batch_of shape) items events
+  pub left : RunCounts
+  pub tells : TellAllBut left all events
+  pub whole : HasRoomLeft (batch_of shape) events → left ≡ nothing_left

@@ -1,0 +1,347 @@
+//! The recording of a run: each line of its recorder is audited, and compared with what the run came to, before it is written.
+ghost use Rattle.std.specs.Prelude.{◌≡◌, ◌⊎◌, false, ◌+◌, ◌-◌, ◌<◌, ◌≤◌, ◌^◌, ◌∷◌, ◌++◌, IfErr, IfOk, IfSome, IsTrue, List, OnOk, [], if◌then◌else◌, length, string_bytes, take};
+ghost use Rattle.bits_core.specs.Shape.{capacity_of};
+ghost use Rattle.queue_calls.specs.Audits.{Audits};
+ghost use Rattle.queue_calls.specs.Calls.{Event as ACall, IsLinearizable, PutBegin};
+ghost use Rattle.queue_calls.specs.Lines.{AreSmall};
+ghost use Rattle.queue_calls.specs.Order.{C, P};
+ghost use Rattle.queue_calls.specs.Recordings.{begun_after, text_of};
+ghost use Rattle.queue_calls.specs.Tellings.{line_of, numbers_in, offered_last};
+ghost use Rattle.queue_calls.specs.Told.{meant, told};
+ghost use Rattle.queue_calls.specs.declared.recordings.Begun.{Begun};
+ghost use Rattle.ring_program.specs.RunRecordings.{IsOfRun, RecordsRun, nothing_left, room_with, run_counts};
+ghost use Rattle.ring_program.specs.Texts.{list_line};
+ghost use Rattle.ring_program.specs.Untold.{TakesOff, left_of};
+
+use crate::faults::AppFault;
+use crate::lines::push_list;
+use bits_core::Shape;
+use queue_calls::laws::{history_has_a_recording, linearizable_is_in_turn};
+use queue_calls::{CallAuditor, Event, Fault, Word, exactly};
+use ring_run::{Outcome, Recorder};
+use std::alloc::Allocator;
+use std::collections::VecDeque;
+
+/// How many lines of either side a recording has room for at most.
+pub const RECORDED: usize = 1 << 21;
+
+// What of a run was not told so far.
+#[derive(Clone, Copy)]
+struct Untold<'r> {
+    // the items not stored, and those taken
+    items: &'r [u64],
+    taken: &'r [u64],
+    // how many items were stored, how many puts were made, and how many of them found the ring full
+    put: u64,
+    calls: u64,
+    full: u64,
+    // how many closes, and how many takes were made; how many of these found it empty, and how many were told that it is closed
+    closes: u64,
+    takes: u64,
+    empty: u64,
+    told: u64,
+}
+
+impl<'r> Untold<'r> {
+    // All of it.
+    fn all<A: Allocator>(items: &'r [u64], outcome: &'r Outcome<A>) -> Untold<'r>
+        requires { length outcome.now.taken.items + outcome.now.empty + (if outcome.now.closed then 1 else 0) < 2 ^ 64 }
+        ensures items { result.items.now ≡ items.now }
+        ensures left { left_of result ≡ run_counts items.now outcome.now.put outcome.now.calls outcome.now.full outcome.now.taken.items outcome.now.empty outcome.now.closed }
+    {
+        let told = if outcome.closed { 1 } else { 0 };
+        let closes = if outcome.put == items.len() as u64 {
+            1
+        } else {
+            0
+        };
+        Untold {
+            items,
+            taken: outcome.taken.as_slice(),
+            put: outcome.put,
+            calls: outcome.calls,
+            full: outcome.full,
+            closes,
+            takes: outcome.taken.len() as u64 + outcome.empty + told,
+            empty: outcome.empty,
+            told,
+        }
+    }
+
+    // What is left behind a put of these items that begins, where they are the next ones.
+    fn behind_offer(self, batch: usize, offered: &[u64]) -> Option<Untold<'r>>
+        ensures { IfSome result (λ after. (offered.now ≡ take batch self.entry.items.now) × TakesOff self.entry (PutBegin offered.now) after) }
+    {
+        let next = &self.items[..batch.min(self.items.len())];
+        if offered != next {
+            return None;
+        }
+        let calls = self.calls.checked_sub(1)?;
+        Some(Untold { calls, ..self })
+    }
+
+    // What is left behind an event, where it is one of the run.
+    fn behind(self, batch: usize, event: Event<'_>) -> Option<Untold<'r>>
+        ensures { IfSome result (λ after. IsOfRun batch self.entry.items.now (told event.entry) × TakesOff self.entry (told event.entry) after) }
+    {
+        match event {
+            Event::PutBegins(offered) => self.behind_offer(batch, offered),
+            Event::PutStored(count) => {
+                let items = self.items.get(count..)?;
+                let put = self.put.checked_sub(count as u64)?;
+                Some(Untold { items, put, ..self })
+            }
+            Event::PutFull => {
+                let full = self.full.checked_sub(1)?;
+                Some(Untold { full, ..self })
+            }
+            Event::CloseBegins => {
+                if !self.items.is_empty() {
+                    return None;
+                }
+                Some(self)
+            }
+            Event::CloseEnds => {
+                let closes = self.closes.checked_sub(1)?;
+                Some(Untold { closes, ..self })
+            }
+            Event::TakeBegins(wanted) => {
+                if wanted != 1 {
+                    return None;
+                }
+                let takes = self.takes.checked_sub(1)?;
+                Some(Untold { takes, ..self })
+            }
+            Event::TakeItems(items) => {
+                let taken = self.taken.strip_prefix(items)?;
+                Some(Untold { taken, ..self })
+            }
+            Event::TakeEmpty => {
+                let empty = self.empty.checked_sub(1)?;
+                Some(Untold { empty, ..self })
+            }
+            Event::TakeClosed => {
+                let told = self.told.checked_sub(1)?;
+                Some(Untold { told, ..self })
+            }
+            Event::PutShort
+            | Event::PutNothing
+            | Event::PutClosed
+            | Event::TakeShort
+            | Event::TakeNothing => None,
+        }
+    }
+
+    // Whether nothing is left.
+    fn is_nothing(&self) -> bool
+        ensures { IsTrue result → left_of self.now ≡ nothing_left }
+    {
+        self.put == 0
+            && self.calls == 0
+            && self.full == 0
+            && self.closes == 0
+            && self.takes == 0
+            && self.empty == 0
+            && self.told == 0
+            && self.taken.is_empty()
+    }
+
+    // Whether something is left, though the logs had room for one more line.
+    fn lacks_lines(&self, batch: usize, room: Room) -> bool
+        ensures { result ≡ false → batch ≤ room.puts → 0 < room.takes → left_of self.now ≡ nothing_left }
+    {
+        batch <= room.puts && 0 < room.takes && !self.is_nothing()
+    }
+}
+
+// The room that is left in the logs of both sides.
+#[derive(Clone, Copy)]
+struct Room {
+    puts: usize,
+    takes: usize,
+}
+
+impl Room {
+    // So much less of it.
+    fn less(self, puts: usize, takes: usize) -> Room
+        ensures { (result.puts ≡ self.puts - puts) × (result.takes ≡ self.takes - takes) }
+    {
+        Room {
+            puts: self.puts.saturating_sub(puts),
+            takes: self.takes.saturating_sub(takes),
+        }
+    }
+
+    // What is left behind the line of an event.
+    fn behind(self, event: Event<'_>) -> Room
+        ensures { (result.puts ≡ self.puts - room_with P (told event.entry)) × (result.takes ≡ self.takes - room_with C (told event.entry)) }
+    {
+        match event {
+            Event::PutBegins(items) => self.less(items.len(), 0),
+            Event::PutStored(_)
+            | Event::PutFull
+            | Event::PutShort
+            | Event::PutNothing
+            | Event::PutClosed
+            | Event::CloseBegins
+            | Event::CloseEnds => self.less(1, 0),
+            Event::TakeBegins(_)
+            | Event::TakeItems(_)
+            | Event::TakeEmpty
+            | Event::TakeShort
+            | Event::TakeNothing
+            | Event::TakeClosed => self.less(0, 1),
+        }
+    }
+}
+
+// The event that a recorder's line tells, where the put that began last offered so many items.
+fn event_of(word: Word, offers: usize, numbers: &[u64]) -> Option<Event<'_>> {
+    Some(match word {
+        Word::Put => Event::PutBegins(numbers),
+        Word::Stored => Event::PutStored(numbers.first().map_or(offers, |count| *count as usize)),
+        Word::Full => Event::PutFull,
+        Word::Close => Event::CloseBegins,
+        Word::PutClosed => Event::CloseEnds,
+        Word::Take => Event::TakeBegins(1),
+        Word::Item => Event::TakeItems(numbers),
+        Word::Empty => Event::TakeEmpty,
+        Word::TakeClosed => Event::TakeClosed,
+        Word::Queue | Word::Short | Word::PutNothing | Word::TakeShort | Word::TakeNothing => {
+            return None;
+        }
+    })
+}
+
+// The word of the line that tells an event.
+fn word_of(event: Event<'_>) -> Word
+    ensures { (b : Begun) → result ≡ (line_of b (told event.entry)).word }
+{
+    match event {
+        Event::PutBegins(_) => Word::Put,
+        Event::PutStored(_) => Word::Stored,
+        Event::PutFull => Word::Full,
+        Event::PutShort => Word::Short,
+        Event::PutNothing => Word::PutNothing,
+        Event::PutClosed | Event::CloseEnds => Word::PutClosed,
+        Event::CloseBegins => Word::Close,
+        Event::TakeBegins(_) => Word::Take,
+        Event::TakeItems(_) => Word::Item,
+        Event::TakeEmpty => Word::Empty,
+        Event::TakeShort => Word::TakeShort,
+        Event::TakeNothing => Word::TakeNothing,
+        Event::TakeClosed => Word::TakeClosed,
+    }
+}
+
+// How many items the put offered that begins with this event, or began last before it; none, where a close did.
+fn offers_behind(offers: usize, event: Event<'_>) -> usize
+    ensures { (b : Begun) → offers ≡ offered_last b →
+        let line = line_of b (told event.entry) in result ≡ offered_last (begun_after b line.word line.numbers) }
+{
+    match event {
+        Event::PutBegins(items) => items.len(),
+        Event::CloseBegins => 0,
+        _ => offers,
+    }
+}
+
+// A line of a word and items.
+fn push_items<A: Allocator>(text: &mut String<A>, word: &str, items: &[u64]) -> Result<(), AppFault>
+    ensures line { OnOk result (string_bytes text.new ≡ string_bytes text.old ++ list_line word.now items.now) }
+    ensures small { AreSmall items.now }
+    ensures err { IfErr result (λ e. e ≡ AppFault.OutOfMemory) }
+{
+    push_list(text, word, items)
+}
+
+// The line that tells an event, where the put that began last offered so many items.
+fn push_event<A: Allocator>(
+    text: &mut String<A>,
+    offers: usize,
+    event: Event<'_>,
+) -> Result<(), AppFault>
+    ensures line { OnOk result ((b : Begun) → offers ≡ offered_last b →
+        string_bytes text.new ≡ string_bytes text.old ++ text_of (line_of b (told event.entry))) }
+    ensures small { AreSmall (numbers_in (told event.entry)) }
+    ensures err { IfErr result (λ e. e ≡ AppFault.OutOfMemory) }
+{
+    let word = word_of(event).text();
+    match event {
+        Event::PutBegins(items) => push_items(text, word, items),
+        Event::TakeItems(items) => push_items(text, word, items),
+        Event::PutStored(count) if count < offers => push_list(text, word, &[count as u64]),
+        Event::TakeBegins(wanted) if 1 < wanted => push_list(text, word, &[wanted as u64]),
+        _ => push_list(text, word, &[]),
+    }
+}
+
+// Audits an event.
+fn audit<A: Allocator>(
+    auditor: &mut CallAuditor<VecDeque<u64, A>>,
+    event: Event<'_>,
+) -> Result<(), AppFault>
+    ensures capacity { auditor.new.capacity ≡ auditor.old.capacity }
+    ensures read { OnOk result ((h : List ACall) → Audits (λ q. q.items) auditor.old h → Audits (λ q. q.items) auditor.new (h ++ told event.entry ∷ [])
+        × IsLinearizable (meant auditor.old.capacity) (h ++ told event.entry ∷ [])) }
+    ensures refused { IfErr result (λ e. (e ≡ AppFault.OutOfMemory) ⊎ (e ≡ AppFault.NotOfRun)) }
+{
+    match auditor.feed(event) {
+        Ok(()) => Ok(()),
+        Err(Fault::OutOfMemory) => Err(AppFault::OutOfMemory),
+        Err(Fault::OutOfTurn | Fault::NotLinearizable) => Err(AppFault::NotOfRun),
+    }
+}
+
+/// The recording of a run, as one of a queue of the ring's capacity: the lines of its recorder, where these tell calls of the run.
+///
+/// `NotOfRun` where they do not, or tell too few, which does not occur by the argument of [`Recorder`].
+pub fn recording_text<A: Allocator + Copy, B: Allocator>(
+    alloc: A,
+    shape: &Shape,
+    items: &[u64],
+    recorder: &Recorder<'_>,
+    outcome: &Outcome<B>,
+) -> Result<String<A>, AppFault>
+    requires { length outcome.now.taken.items + outcome.now.empty + (if outcome.now.closed then 1 else 0) < 2 ^ 64 }
+    ensures text { IfOk result (λ text. RecordsRun shape.now items.now (run_counts items.now outcome.now.put outcome.now.calls outcome.now.full outcome.now.taken.items
+        outcome.now.empty outcome.now.closed) (string_bytes text)) }
+    ensures refused { IfErr result (λ e. (e ≡ AppFault.OutOfMemory) ⊎ (e ≡ AppFault.NotOfRun)) }
+{
+    linearizable_is_in_turn();
+    history_has_a_recording();
+    let capacity = shape.capacity();
+    let batch = shape.batch() as usize;
+    let mut text = String::new(alloc);
+    push_list(&mut text, Word::Queue.text(), &[capacity])?;
+    let mut auditor = CallAuditor::new(alloc, exactly(capacity as usize));
+    auditor.has_read();
+    let mut untold = Untold::all(items, outcome);
+    let mut room = Room {
+        puts: RECORDED,
+        takes: RECORDED,
+    };
+    let mut offers = 0;
+    let mut numbers = Vec::new(alloc);
+    let mut lines = recorder.lines();
+    'lines: for _ in 0..u64::MAX {
+        let Some(word) = lines.next(&mut numbers)? else {
+            break;
+        };
+        let Some(event) = event_of(word, offers, numbers.as_slice()) else {
+            return Err(AppFault::NotOfRun);
+        };
+        let Some(left) = untold.behind(batch, event) else {
+            return Err(AppFault::NotOfRun);
+        };
+        audit(&mut auditor, event)?;
+        push_event(&mut text, offers, event)?;
+        untold = left;
+        room = room.behind(event);
+        offers = offers_behind(offers, event);
+    }
+    if untold.lacks_lines(batch, room) {
+        return Err(AppFault::NotOfRun);
+    }
+    Ok(text)
+}
