@@ -1,6 +1,17 @@
 -- A play by a near miss, with one letter more.
-use Rattle.std.proofs.Common.{◌≡◌, ◌∙◌, ◌⊎◌, inl, inr, ℕ, Bool, true, false, Option, Some, None, List, [], ◌∷◌, ◌++◌, refl, ap, sym, subst, append_assoc, append-nil}
-use Rattle.std.specs.Prelude.{if◌then◌else◌}
+use Rattle.std.proofs.Common.{◌≡◌, ◌∙◌, inl, inr, ℕ, ◌+◌, ◌<◌, length, replicate, take, Bool, true, false, Option, Some, None, List, [], ◌∷◌, ◌++◌, refl, ap, sym, subst, append_assoc, append-nil, ap₂, zero-add}
+use Rattle.std.specs.Prelude.{if◌then◌else◌, slice_get, slice_index_or}
+use Rattle.bits_core.specs.Lawful.{IsLawful}
+use Rattle.bits_core.specs.Memory.{MemoryState, unused}
+use Rattle.bits_core.specs.Oracle.{tape_answer, turn}
+use Rattle.bits_core.specs.declared.shapes.Shape.{Shape}
+use Rattle.ring_player.specs.Actors.{IsAtTurn}
+use Rattle.ring_player.specs.Laws.{TurnsAreByInterval}
+use Rattle.ring_script.specs.Content.{Content}
+use Rattle.near_misses.specs.declared.plays.NearWorld.{NearWorld}
+use Rattle.std.proofs.lemmas.List.{take_more}
+use Rattle.ring_script.specs.Schedule.{spelled}
+use Rattle.ring_script.specs.declared.schedules.Run.{Run}
 use Rattle.bits_core.specs.declared.events.Access.{Access}
 use Rattle.bits_core.specs.declared.events.Act.{Act}
 use Rattle.bits_core.specs.declared.events.Act.TheVariants.{ReadBegin, ReadEnd, WriteBegin, WriteEnd}
@@ -11,8 +22,8 @@ use Rattle.bits_core.specs.declared.events.Side.TheVariants.{P, C}
 use Rattle.bits_core.specs.Bits.{begun_access, begun_by, is_by, other}
 use Rattle.bits_core.specs.History.{open_access}
 use Rattle.bits_core.specs.Laws.{OpenChanges}
-use Rattle.near_misses.specs.NearPlays.{NearAsked, NearBegins, NearEnds, NearMakes, NearStand, NearStands, NearStep, NearStops, near_stand_of, near_stopped, with_near_stand}
-use Rattle.near_misses.specs.NearSides.{IsInOpenCall, NearMoves}
+use Rattle.near_misses.specs.NearPlays.{IsNearPlay, NearAsked, NearBegins, NearEnds, NearMakes, NearStand, NearStands, NearStep, NearStops, asked_by_script, near_stand_of, near_start, near_starts, near_stopped, with_near_stand}
+use Rattle.near_misses.specs.NearSides.{IsAskedToPut, IsAskedToTake, IsInOpenCall, IsNearReady, NearHas, NearMoves, put_stand, take_stand}
 use Rattle.ring_player.specs.Tellings.{listed}
 use Rattle.ring_player.specs.declared.tellings.Told.{Told}
 use Rattle.ring_player.specs.declared.tellings.Told.TheVariants.{PutBegins, PutStored, PutFull, CloseBegins, CloseEnds, TakeBegins, TakeItem, TakeEmpty, TakeClosed}
@@ -117,20 +128,20 @@ other_is_by C e is = ap (λ (x : Side). is_by P (record e { side = x })) is
 
 pub moves_open : OpenChanges → (asked : NearAsked) (s : Side) (h : List Event) (before : NearStand) (t : Option Told) (after : List Event) (next : NearStand)
     → NearMoves asked s h before t after next → IsInOpenCall s after next
-moves_open changes asked s h before t after next (inl (e, is, side, goes, step)) access open =
+moves_open changes asked s h before t after next (inl (e, is, side, goes, step)) access opened =
     let begun : begun_by e ≡ Some access =
-    sym (changes s h e ∙ ap (λ (b : Bool). if b then begun_by e else open_access s h) (same_is_by s e side)) ∙ ap (open_access s) (sym is) ∙ open in
+    sym (changes s h e ∙ ap (λ (b : Bool). if b then begun_by e else open_access s h) (same_is_by s e side)) ∙ ap (open_access s) (sym is) ∙ opened in
     step_in_call asked s before e.act e.bit t next access goes begun step
-moves_open changes asked s h before t after next (inr (is, untold, none, stops, next_is)) access open = absurd (none_some access (sym none ∙ ap (open_access s) (sym is) ∙ open))
+moves_open changes asked s h before t after next (inr (is, untold, none, stops, next_is)) access opened = absurd (none_some access (sym none ∙ ap (open_access s) (sym is) ∙ opened))
   where
     none_some : (a : Access) → None ≡ Some a → ⊥
     none_some a e = absurd (cc)
 
 pub moves_other : OpenChanges → (asked : NearAsked) (s : Side) (h : List Event) (before : NearStand) (t : Option Told) (after : List Event) (next stand : NearStand)
     → NearMoves asked s h before t after next → IsInOpenCall (other s) h stand → IsInOpenCall (other s) after stand
-moves_other changes asked s h before t after next stand (inl (e, is, side, goes, step)) was access open =
-    was access (sym (changes (other s) h e ∙ ap (λ (b : Bool). if b then begun_by e else open_access (other s) h) (other_is_by s e side)) ∙ ap (open_access (other s)) (sym is) ∙ open)
-moves_other changes asked s h before t after next stand (inr (is, untold, none, stops, next_is)) was access open = was access (ap (open_access (other s)) (sym is) ∙ open)
+moves_other changes asked s h before t after next stand (inl (e, is, side, goes, step)) was access opened =
+    was access (sym (changes (other s) h e ∙ ap (λ (b : Bool). if b then begun_by e else open_access (other s) h) (other_is_by s e side)) ∙ ap (open_access (other s)) (sym is) ∙ opened)
+moves_other changes asked s h before t after next stand (inr (is, untold, none, stops, next_is)) was access opened = was access (ap (open_access (other s)) (sym is) ∙ opened)
 
 -- the digits read count with the event
 pub ends_with_item : (asked : NearAsked) (before mid after : NearStand) (item : ℕ) (t : Option Told) → mid ≡ record before { item = item } → NearEnds asked C mid mid.item t after
@@ -149,3 +160,75 @@ ends_with_item asked before mid after item t same ends =
     by_told (Some (TakeItem k)) x = x
     by_told (Some TakeEmpty) x = x
     by_told (Some TakeClosed) x = x
+
+-- ---- the letters of the first runs, and of one more
+
+spelled-append : (xs ys : List Run) → spelled (xs ++ ys) ≡ spelled xs ++ spelled ys
+unfolding spelled
+spelled-append [] ys = refl
+spelled-append (x ∷ xs) ys = ap (λ l. replicate x.count x.side ++ l) (spelled-append xs ys) ∙ sym (append_assoc (replicate x.count x.side) (spelled xs) (spelled ys))
+
+spelled-one : (x : Run) → spelled (x ∷ []) ≡ replicate x.count x.side
+unfolding spelled
+spelled-one x = append-nil (replicate x.count x.side)
+
+pub spelled-more :
+    (xs : List Run) (i : ℕ) (d : Run) → i < length xs → spelled (take (i + 1) xs) ≡ spelled (take i xs) ++ replicate (slice_index_or xs i d).count (slice_index_or xs i d).side
+spelled-more xs i d l =
+    ap spelled (take_more xs i d l) ∙ spelled-append (take i xs) (slice_index_or xs i d ∷ []) ∙ ap (λ t. spelled (take i xs) ++ t) (spelled-one (slice_index_or xs i d))
+
+pub spelled-none : spelled [] ≡ []
+unfolding spelled
+spelled-none = refl
+
+-- ---- at the begin and at the end
+
+none_opens : (s : Side) (h : List Event) (stand : NearStand) → h ≡ [] → IsInOpenCall s h stand
+none_opens s h stand none access opened = absurd (none_some s access (ap (open_access s) (sym none) ∙ opened))
+  where
+    none_some : (t : Side) (a : Access) → open_access t [] ≡ Some a → ⊥
+    none_some P a e = absurd (cc)
+    none_some C a e = absurd (cc)
+
+turns_begin : (turns answers : ℕ → Bool) (h : List Event) → h ≡ [] → ((i : ℕ) → answers i ≡ turns i) → IsAtTurn turns h answers
+turns_begin turns answers h none same = subst (λ (x : List Event). IsAtTurn turns x answers) (sym none) (record {
+  answered = λ place e v at ends flickers. absurd (no_place place e at);
+  left = λ i. same i ∙ ap turns (sym (zero-add i));
+})
+  where
+    no_place : (place : ℕ) (e : Event) → slice_get [] place ≡ Some e → ⊥
+    no_place place e at = absurd (cc)
+
+pub ready_at_first : {A : Type 0} (w : NearWorld A) (shape : Shape) → w.memory ≡ unused shape 0 → w.putter.shape ≡ shape → w.taker.shape ≡ shape → IsNearReady w
+ready_at_first w shape fresh put_is take_is =
+    let none : w.memory.events ≡ [] = ap (λ (m : MemoryState). m.events) fresh in
+    let shape_is : w.memory.shape ≡ shape = ap (λ (m : MemoryState). m.shape) fresh in
+    record {
+      put_shape = put_is ∙ sym shape_is;
+      take_shape = take_is ∙ sym shape_is;
+      put_open = none_opens P w.memory.events (put_stand w.putter) none;
+      take_open = none_opens C w.memory.events (take_stand w.taker) none;
+    }
+
+pub has_at_first : {A : Type 0} (w : NearWorld A) (shape : Shape) (asked : NearAsked) (oracle : List Bool) → w.memory ≡ unused shape 0 → w.told.items ≡ []
+    → put_stand w.putter ≡ near_start → take_stand w.taker ≡ near_start → IsAskedToPut w.putter asked → IsAskedToTake w.taker asked
+    → ((i : ℕ) → tape_answer w.oracle i ≡ turn oracle i) → NearHas asked (spelled []) oracle w
+has_at_first w shape asked oracle fresh untold put_is take_is to_put to_take same =
+    let none : w.memory.events ≡ [] = ap (λ (m : MemoryState). m.events) fresh in
+    subst (λ (letters : List Side). NearHas asked letters oracle w) (sym spelled-none) (record {
+      asked_put = to_put;
+      asked_take = to_take;
+      made = (none, untold, ap₂ (λ (p : NearStand) (t : NearStand). record { putting = p; taking = t }) put_is take_is);
+      turns = turns_begin (turn oracle) (tape_answer w.oracle) w.memory.events none same;
+    })
+
+pub near_play : {A : Type 0} (w : NearWorld A) (script : Content) (letters : List Side) (h : List Event) → TurnsAreByInterval → w.memory.shape ≡ script.shape → h ≡ w.memory.events
+    → IsLawful w.memory.shape w.memory.events → letters ≡ script.letters → NearHas (asked_by_script script) letters script.oracle w → IsNearPlay script h w.told.items
+near_play w script letters h law shape_is h_is lawful all has =
+    let lawful_here : IsLawful script.shape w.memory.events = subst (λ (s : Shape). IsLawful s w.memory.events) shape_is lawful in
+    subst (λ (x : List Event). IsNearPlay script x w.told.items) (sym h_is) (record {
+      lawful = lawful_here;
+      stands = _;
+      made = subst (λ (x : List Side). NearMakes (asked_by_script script) near_starts x w.memory.events w.told.items (record { putting = put_stand w.putter; taking = take_stand w.taker })) all has.made;
+      answers = law script.shape w.memory.events script.oracle (tape_answer w.oracle) lawful_here has.turns;
+    })

@@ -4,7 +4,7 @@ use Rattle.std.specs.Prelude.{◌≡◌, ◌⊎◌, ℕ, suc, ◌+◌, ◌^◌, 
 use Rattle.bits_core.specs.declared.events.Act.{Act}
 use Rattle.bits_core.specs.declared.events.Act.TheVariants.{ReadBegin, ReadEnd, WriteBegin, WriteEnd}
 use Rattle.bits_core.specs.declared.events.Bit.{Bit}
-use Rattle.bits_core.specs.declared.events.Bit.TheVariants.{S, R, X, Cell}
+use Rattle.bits_core.specs.declared.events.Bit.TheVariants.{Cell}
 use Rattle.bits_core.specs.declared.events.Event.{Event}
 use Rattle.bits_core.specs.declared.events.Side.{Side}
 use Rattle.bits_core.specs.declared.events.Side.TheVariants.{P, C}
@@ -50,11 +50,12 @@ NearBegins _ _ _ _ _ = ⊥
 
 -- an event that ends an access, with which the digits read make this item: one of the call under way, or its last, which is told
 abbrev pub NearEnds : NearAsked → Side → NearStand → ℕ → Option Told → NearStand → Type 0
-NearEnds asked s before item None after = (before.in_call ≡ true) × (after ≡ record before { item = item })
+NearEnds asked P before item None after = (before.in_call ≡ true) × (after ≡ before)
+NearEnds asked C before item None after = (before.in_call ≡ true) × (after ≡ record before { item = item })
 NearEnds asked P before item (Some (PutStored count)) after =
-    (before.in_call ≡ true) × (before.count + count ≤ asked.items) × (after ≡ record before { in_call = false; item = item; count = before.count + count })
-NearEnds asked P before item (Some PutFull) after = (before.in_call ≡ true) × (after ≡ record before { in_call = false; item = item })
-NearEnds asked P before item (Some CloseEnds) after = (before.in_call ≡ true) × (after ≡ record before { in_call = false; item = item; over = true })
+    (before.in_call ≡ true) × (before.count + count ≤ asked.items) × (after ≡ record before { in_call = false; count = before.count + count })
+NearEnds asked P before item (Some PutFull) after = (before.in_call ≡ true) × (after ≡ record before { in_call = false })
+NearEnds asked P before item (Some CloseEnds) after = (before.in_call ≡ true) × (after ≡ record before { in_call = false; over = true })
 NearEnds asked C before item (Some (TakeItem taken)) after = (before.in_call ≡ true) × (taken ≡ item) × (after ≡ record before { in_call = false; item = item })
 NearEnds asked C before item (Some TakeEmpty) after = (before.in_call ≡ true) × (after ≡ record before { in_call = false; item = item })
 NearEnds asked C before item (Some TakeClosed) after = (before.in_call ≡ true) × (after ≡ record before { in_call = false; item = item; over = true })

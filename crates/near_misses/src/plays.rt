@@ -301,8 +301,14 @@ impl<A: Allocator> NearWorld<'_, A> {
         ensures has { OnOk result ((a : NearAsked) (letters : List ASide) (oracle : List Bool) → NearHas a letters oracle self.old → NearHas a (letters ++ P ∷ []) oracle self.new) }
     {
         open_changes();
-        let event = step(&mut self.memory, &mut self.putter, &mut self.oracle, Side::P)?;
-        tell(&mut self.told, event)
+        let event = step(
+            &mut self.memory,
+            &mut self.putter,
+            &mut self.oracle,
+            Side::P,
+        )?;
+        tell(&mut self.told, event)?;
+        Ok(())
     }
 
     fn step_taker(&mut self) -> Result<(), NearFault>
@@ -313,7 +319,8 @@ impl<A: Allocator> NearWorld<'_, A> {
     {
         open_changes();
         let event = step(&mut self.memory, &mut self.taker, &mut self.oracle, Side::C)?;
-        tell(&mut self.told, event)
+        tell(&mut self.told, event)?;
+        Ok(())
     }
 
     // Makes so many steps of one side.

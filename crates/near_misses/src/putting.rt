@@ -1,5 +1,5 @@
 //! The producer of a near miss.
-ghost use Rattle.std.specs.Prelude.{◌≡◌, ◌+◌, ◌-◌, ◌≤◌, None, IfSome, IsSome, true, false, length};
+ghost use Rattle.std.specs.Prelude.{◌≡◌, ℕ, ◌+◌, ◌-◌, ◌≤◌, None, IfSome, IsSome, true, false, length};
 
 use crate::misses::NearMiss;
 use crate::rows::{Order, Row, read_bit};
@@ -135,7 +135,7 @@ impl<'a> NearPutter<'a> {
         requires { is_in_put self.old.stage ≡ true }
         ensures shape { self.new.shape ≡ self.old.shape }
         ensures asked { (asked : NearAsked) → IsAskedToPut self.old asked → IsAskedToPut self.new asked }
-        ensures ends { (asked : NearAsked) → IsAskedToPut self.old asked → NearEnds asked P (put_stand self.old) 0 result (put_stand self.new) }
+        ensures ends { (asked : NearAsked) (item : ℕ) → IsAskedToPut self.old asked → NearEnds asked P (put_stand self.old) item result (put_stand self.new) }
     {
         match self.stage {
             Stage::Between | Stage::Over | Stage::Stuck => None,
@@ -160,7 +160,7 @@ impl<'a> NearPutter<'a> {
         requires { is_in_put self.old.stage ≡ true }
         ensures shape { self.new.shape ≡ self.old.shape }
         ensures asked { (asked : NearAsked) → IsAskedToPut self.old asked → IsAskedToPut self.new asked }
-        ensures ends { (asked : NearAsked) → IsAskedToPut self.old asked → NearEnds asked P (put_stand self.old) 0 result (put_stand self.new) }
+        ensures ends { (asked : NearAsked) (item : ℕ) → IsAskedToPut self.old asked → NearEnds asked P (put_stand self.old) item result (put_stand self.new) }
     {
         self.stage = if u64::from(zeros) + 1 < self.shape.modulus() {
             Stage::Scanning(zeros + 1)
@@ -192,7 +192,7 @@ impl<'a> NearPutter<'a> {
         requires { is_in_put self.old.stage ≡ true }
         ensures shape { self.new.shape ≡ self.old.shape }
         ensures asked { (asked : NearAsked) → IsAskedToPut self.old asked → IsAskedToPut self.new asked }
-        ensures ends { (asked : NearAsked) → IsAskedToPut self.old asked → NearEnds asked P (put_stand self.old) 0 result (put_stand self.new) }
+        ensures ends { (asked : NearAsked) (item : ℕ) → IsAskedToPut self.old asked → NearEnds asked P (put_stand self.old) item result (put_stand self.new) }
     {
         let most = self.room_behind(seen);
         if most == 0 {
@@ -215,7 +215,7 @@ impl<'a> NearPutter<'a> {
         requires { is_in_put self.old.stage ≡ true }
         ensures shape { self.new.shape ≡ self.old.shape }
         ensures asked { (asked : NearAsked) → IsAskedToPut self.old asked → IsAskedToPut self.new asked }
-        ensures ends { (asked : NearAsked) → IsAskedToPut self.old asked → NearEnds asked P (put_stand self.old) 0 result (put_stand self.new) }
+        ensures ends { (asked : NearAsked) (item : ℕ) → IsAskedToPut self.old asked → NearEnds asked P (put_stand self.old) item result (put_stand self.new) }
     {
         if u64::from(digit) + 1 < self.shape.width() {
             self.stage = Stage::Storing(done, digit + 1);
@@ -236,7 +236,7 @@ impl<'a> NearPutter<'a> {
         requires { is_in_put self.old.stage ≡ true }
         ensures shape { self.new.shape ≡ self.old.shape }
         ensures asked { (asked : NearAsked) → IsAskedToPut self.old asked → IsAskedToPut self.new asked }
-        ensures ends { (asked : NearAsked) → IsAskedToPut self.old asked → NearEnds asked P (put_stand self.old) 0 result (put_stand self.new) }
+        ensures ends { (asked : NearAsked) (item : ℕ) → IsAskedToPut self.old asked → NearEnds asked P (put_stand self.old) item result (put_stand self.new) }
     {
         self.row.feed();
         if self.row.next().is_some() {
@@ -253,7 +253,7 @@ impl<'a> NearPutter<'a> {
         requires { is_in_put self.old.stage ≡ true }
         ensures shape { self.new.shape ≡ self.old.shape }
         ensures asked { (asked : NearAsked) → IsAskedToPut self.old asked → IsAskedToPut self.new asked }
-        ensures ends { (asked : NearAsked) → IsAskedToPut self.old asked → NearEnds asked P (put_stand self.old) 0 result (put_stand self.new) }
+        ensures ends { (asked : NearAsked) (item : ℕ) → IsAskedToPut self.old asked → NearEnds asked P (put_stand self.old) item result (put_stand self.new) }
     {
         let stored = self.storing;
         self.count = self.row.value();

@@ -1,5 +1,5 @@
 use Rattle.near_misses.proofs.NearLemmas.{ends_with_item}
-use Rattle.near_misses.specs.NearSides.{item_ended, take_stand}
+use Rattle.near_misses.specs.NearSides.{take_stand}
 use Rattle.near_misses.proofs.taking.NearTaker.end.Goals as goal
 
 pub returns-in-Scanning-clause-ends : goal.returns-in-Scanning-clause-ends

@@ -1,0 +1,33 @@
+use Rattle.std.proofs.Common.{◌≡◌, ◌∙◌, ℕ, ◌+◌, List, [], ◌∷◌, ◌++◌, replicate, refl, sym, ap, subst, append_assoc, append-nil, arith}
+use Rattle.std.proofs.lemmas.List.{replicate_more}
+use Rattle.bits_core.specs.declared.events.Side.{Side}
+use Rattle.near_misses.specs.NearSides.{NearHas}
+use Rattle.near_misses.proofs.plays.NearWorld.repeat.Goals as goal
+
+pub loop-init : goal.loop-init
+loop-init g c = record {
+  ready = c.requires;
+  shape = refl;
+  has = λ a letters oracle has. subst (λ (t : List Side). NearHas a t oracle c.args.self.now) (sym (append-nil letters)) has;
+}
+
+pub step-requires : goal.step-requires
+step-requires g c = c.loop.invariant.ready
+
+pub loop-preserved : goal.loop-preserved
+loop-preserved g c =
+    let side : Side = c.args.side in
+    let n : ℕ = c.loop.counter in
+    record {
+      ready = c.in_ok-step.ensures.ready;
+      shape = c.in_ok-step.ensures.shape ∙ c.loop.invariant.shape;
+      has = λ a letters oracle has.
+          let more : (letters ++ replicate n side) ++ side ∷ [] ≡ letters ++ replicate (n + 1) side =
+          append_assoc letters (replicate n side) (side ∷ []) ∙ ap (λ (t : List Side). letters ++ t) (replicate_more n side) in
+          subst (λ (t : List Side). NearHas a t oracle c.step.new.self) more (c.in_ok-step.ensures.has a (letters ++ replicate n side) oracle (c.loop.invariant.has a letters oracle has));
+    }
+
+pub returns-clause-has : goal.returns-clause-has
+returns-clause-has g c a letters oracle has =
+    let over : c.loop.counter ≡ c.args.count = omega (arith, c.loop.auto.counter-end, c.loop-test.false) in
+    subst (λ (n : ℕ). NearHas a (letters ++ replicate n c.args.side) oracle c.loop.self) over (c.loop.invariant.has a letters oracle has)

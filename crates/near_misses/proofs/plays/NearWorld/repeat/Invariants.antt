@@ -1,0 +1,13 @@
+use Rattle.std.proofs.Common.{◌≡◌, List, Bool, ◌++◌, replicate}
+use Rattle.bits_core.specs.declared.events.Side.{Side}
+use Rattle.near_misses.specs.NearPlays.{NearAsked}
+use Rattle.near_misses.specs.NearSides.{IsNearReady, NearHas}
+use Rattle.near_misses.proofs.plays.NearWorld.repeat.Given as goal
+
+-- both sides can go on; and the letters so far have made what both sides have done
+abbrev pub invariant-loop : goal.invariant-loop
+invariant-loop g l = record {
+  ready : IsNearReady l.self;
+  shape : l.self.memory.shape ≡ l.initial.self.memory.shape;
+  has : (a : NearAsked) (letters : List Side) (oracle : List Bool) → NearHas a letters oracle l.initial.self → NearHas a (letters ++ replicate l.counter l.side) oracle l.self;
+}

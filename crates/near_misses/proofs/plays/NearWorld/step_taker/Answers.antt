@@ -1,0 +1,29 @@
+use Rattle.std.proofs.Common.{◌∙◌, false, refl, sym}
+use Rattle.bits_core.specs.declared.events.Side.TheVariants.{C}
+use Rattle.near_misses.specs.NearPlays.{NearAsked, NearStands, near_starts}
+use Rattle.near_misses.specs.NearSides.{put_stand, take_stand}
+use Rattle.near_misses.proofs.NearLemmas.{makes_more, moves_open, moves_other}
+use Rattle.near_misses.proofs.plays.NearWorld.step_taker.Goals as goal
+
+pub returns-clause-ready : goal.returns-clause-ready
+returns-clause-ready g c =
+    let w = c.args.self.now in
+    let asked : NearAsked = record { items = 0; takes = w.taker.takes; closes = false } in
+    let moves = c.in_ok-event.ensures.moves asked refl in
+    record {
+      take_shape = c.in_ok-event.ensures.side.1;
+      put_shape = c.requires.put_shape ∙ sym c.in_ok-event.ensures.shape;
+      take_open = moves_open c.open_changes.ensures asked C w.memory.events (take_stand w.taker) _ _ _ moves;
+      put_open = moves_other c.open_changes.ensures asked C w.memory.events (take_stand w.taker) _ _ _ (put_stand w.putter) moves c.requires.put_open;
+    }
+
+pub returns-clause-has : goal.returns-clause-has
+returns-clause-has g c asked letters oracle has =
+    let w = c.args.self.now in
+    let before : NearStands = record { putting = put_stand w.putter; taking = take_stand w.taker } in
+    record {
+      asked_take = c.in_ok-event.ensures.asked asked has.asked_take;
+      asked_put = has.asked_put;
+      made = makes_more asked near_starts letters C w.memory.events _ w.told.items _ _ before _ c.in_ok-tell.ensures (c.in_ok-event.ensures.moves asked has.asked_take) has.made;
+      turns = c.in_ok-event.ensures.turns _ has.turns;
+    }
