@@ -1,5 +1,5 @@
 //! The auditor of a history.
-ghost use Rattle.std.specs.Prelude.{◌≡◌, ◌<◌, suc, ◌+◌, ◌++◌, ◌↔◌, IsTrue, true, false, List, [], if◌then◌else◌, length, take, drop, ◌-◌};
+ghost use Rattle.std.specs.Prelude.{◌≡◌, ◌<◌, suc, ◌+◌, ◌++◌, ◌↔◌, IsTrue, true, false, List, [], IfSome, if◌then◌else◌, length, take, drop, ◌-◌};
 
 use crate::capacities::Capacity;
 use crate::events::Event;
@@ -565,6 +565,17 @@ impl<Q: Fifo<u64>> CallAuditor<Q> {
         match self.put {
             PutTurn::Offers { offered, before: _ } => offered,
             PutTurn::Free | PutTurn::Late { offered: _ } | PutTurn::Closes { again: _ } => 0,
+        }
+    }
+
+    /// How many items are inside before those that the put under way offers; none where there is no put, or it began after a
+    /// close had ended.
+    pub(crate) fn before_put(&self) -> Option<usize>
+        ensures { IfSome result (λ before. before + offered_by self.now.put ≡ length (Q.items self.now.inside)) }
+    {
+        match self.put {
+            PutTurn::Offers { offered, before: _ } => self.inside.len().checked_sub(offered),
+            PutTurn::Free | PutTurn::Late { offered: _ } | PutTurn::Closes { again: _ } => None,
         }
     }
 

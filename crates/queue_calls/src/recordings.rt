@@ -196,7 +196,7 @@ impl<S: Storage> Hearing<S> {
             return Ok(());
         }
         match self.auditor.feed(event) {
-            Ok(()) => Ok(self.notes.note(line, event)?),
+            Ok(()) => Ok(self.notes.note(line, event, self.auditor.before_put())?),
             Err(Fault::OutOfTurn) => {
                 self.fault = Some(CallsFinding::OutOfTurn { line });
                 Ok(())
