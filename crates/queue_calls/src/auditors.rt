@@ -1,5 +1,5 @@
 //! The auditor of a history.
-ghost use Rattle.std.specs.Prelude.{◌≡◌, ◌<◌, suc, ◌+◌, ◌++◌, ◌↔◌, IsTrue, true, false, List, [], IfSome, if◌then◌else◌, length, take, drop, ◌-◌};
+ghost use Rattle.std.specs.Prelude.{◌≡◌, ◌<◌, suc, ◌+◌, ◌++◌, ◌↔◌, IsTrue, true, false, ℕ, List, [], IfSome, if◌then◌else◌, length, take, drop, ◌-◌};
 
 use crate::capacities::Capacity;
 use crate::events::Event;
@@ -57,7 +57,7 @@ impl<Q: Fifo<u64>> CallAuditor<Q> {
     ghost use Rattle.queue_calls.specs.State.{IsProper, MayHold, offered_by, asked_by, has_closed, AreNext, CanEndPut, CanEndTake};
     ghost use Rattle.queue_calls.specs.Audits.{Audits, Reads};
     ghost use Rattle.queue_calls.specs.Told.{meant, told};
-    ghost use Rattle.queue_calls.specs.declared.turns.PutTurn.TheVariants.{Free};
+    ghost use Rattle.queue_calls.specs.declared.turns.PutTurn.TheVariants.{Free, Offers};
     ghost use Rattle.queue_calls.specs.declared.turns.TakeTurn.TheVariants.{Rests};
 
     /// As [`new`](CallAuditor::new), with a list of the caller's to keep the items in, which may be in slots. What it holds is
@@ -571,7 +571,7 @@ impl<Q: Fifo<u64>> CallAuditor<Q> {
     /// How many items are inside before those that the put under way offers; none where there is no put, or it began after a
     /// close had ended.
     pub(crate) fn before_put(&self) -> Option<usize>
-        ensures { IfSome result (λ before. before + offered_by self.now.put ≡ length (Q.items self.now.inside)) }
+        ensures { IfSome result (λ before. (offered inside : ℕ) × (self.now.put ≡ Offers offered inside) × (before + offered ≡ length (Q.items self.now.inside))) }
     {
         match self.put {
             PutTurn::Offers { offered, before: _ } => self.inside.len().checked_sub(offered),

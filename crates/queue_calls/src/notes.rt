@@ -80,8 +80,6 @@ pub struct Notes<S: Storage> {
     has_close: bool,
     // the line that ended the first close
     closed_at: Option<u64>,
-    ghost few: { length (S.Taken.items taken) ≤ TAKEN_LIMIT },
-    ghost counted: { length (S.Taken.items taken) ≤ report.taken },
 }
 
 // The report on no line.
@@ -144,8 +142,6 @@ impl<S: Storage> Notes<S> {
     pub fn new(offered: S::Offered, offers: S::Numbers, taken: S::Taken) -> Notes<S>
         ensures rooms { (S.Offered.room result.inside ≡ S.Offered.room offered) × (S.Numbers.room result.offers ≡ S.Numbers.room offers) × (S.Taken.room result.taken ≡ S.Taken.room taken) }
     {
-        let mut taken = taken;
-        taken.truncate(0);
         Notes {
             most: usize::MAX,
             report: no_report(),
@@ -164,7 +160,6 @@ impl<S: Storage> Notes<S> {
         ensures rooms { (S.Offered.room self.new.inside ≡ S.Offered.room self.old.inside) × (S.Numbers.room self.new.offers ≡ S.Numbers.room self.old.offers) × (S.Taken.room self.new.taken ≡ S.Taken.room self.old.taken) }
         ensures none { self.new.report.taken ≡ 0 }
     {
-        self.taken.truncate(0);
         self.most = match capacity {
             Capacity::Unbounded => usize::MAX,
             Capacity::Between { full: _, most } => most,
@@ -172,6 +167,7 @@ impl<S: Storage> Notes<S> {
         self.report = no_report();
         self.inside.truncate(0);
         self.offers.clear();
+        self.taken.truncate(0);
         self.producer = None;
         self.consumer = None;
         self.has_close = false;
@@ -347,10 +343,13 @@ impl<S: Storage> Notes<S> {
         ensures full { OnErr result ((S.Taken.room self.old.taken < TAKEN_LIMIT) × (S.Taken.room self.old.taken ≤ self.old.report.taken)) }
     {
         let _ = self.inside.pop_front();
-        self.report.taken = self.report.taken.saturating_add(1);
-        if TAKEN_LIMIT <= self.taken.len() {
+        // So many of those taken before are kept.
+        let kept = self.report.taken.min(TAKEN_LIMIT - 1);
+        if kept < self.taken.len() {
             let _ = self.taken.pop_front();
         }
+        self.taken.truncate(kept);
+        self.report.taken = self.report.taken.saturating_add(1);
         self.taken.push_back(Taken {
             item,
             taken_at: line,

@@ -7,6 +7,7 @@ ghost use Rattle.queue_calls.specs.State.{IsProper};
 ghost use Rattle.queue_calls.specs.Lines.{Allows};
 ghost use Rattle.queue_calls.specs.Recordings.{IsFindingOf, IsFoundOf, Line, RefusesText, begun_after, capacity_told, event_told, stored_told, wanted_told};
 ghost use Rattle.queue_calls.specs.RecordingStates.{ContinuesLines, HasHeard, HasLines, HasNoFeed, HasRead, RefusesLine};
+ghost use Rattle.queue_calls.specs.Rooms.{AreTooShort, NeedsRoom, rooms_in, rooms_of};
 ghost use Rattle.queue_calls.specs.declared.lines.Word.TheVariants as word;
 
 use crate::auditors::CallAuditor;
@@ -163,7 +164,10 @@ impl<S: Storage> Hearing<S> {
     ghost use Rattle.queue_calls.specs.declared.recordings.RecordingFault.TheVariants.{OutOfMemory};
 
     // Nothing was heard, and of what queue is not told.
-    fn new(items: S::Items, notes: Notes<S>) -> Hearing<S> {
+    fn new(items: S::Items, notes: Notes<S>) -> Hearing<S>
+        ensures items { S.Items.room result.auditor.inside ≡ S.Items.room items }
+        ensures notes { result.notes ≡ notes }
+    {
         Hearing {
             auditor: CallAuditor::with(items, Capacity::Unbounded),
             notes,
@@ -177,6 +181,7 @@ impl<S: Storage> Hearing<S> {
         requires { Allows word.Queue numbers.now }
         ensures heard { HasHeard S.Items.items self.new (capacity_told numbers.now) [] }
         ensures begun { self.new.begun ≡ Nothing }
+        ensures rooms { (S.Items.room self.new.auditor.inside ≡ S.Items.room self.old.auditor.inside) × (S.Offered.room self.new.notes.inside ≡ S.Offered.room self.old.notes.inside) × (S.Taken.room self.new.notes.taken ≡ S.Taken.room self.old.notes.taken) × (S.Numbers.room self.new.notes.offers ≡ S.Numbers.room self.old.notes.offers) }
     {
         let capacity = capacity_told(numbers);
         self.auditor.restart(capacity);
@@ -191,6 +196,9 @@ impl<S: Storage> Hearing<S> {
             → HasHeard S.Items.items self.new capacity (events ++ told event.entry ∷ [])) }
         ensures refused { IfErr result (λ e. e ≡ OutOfMemory) }
         ensures begun { self.new.begun ≡ self.old.begun }
+        ensures full { IfErr result (λ e. (capacity : ACapacity) (events : List AnEvent) → HasHeard S.Items.items self.old capacity events
+            → NeedsRoom (S.Items.room self.old.auditor.inside) (S.Offered.room self.old.notes.inside) (S.Taken.room self.old.notes.taken) (S.Numbers.room self.old.notes.offers) capacity (events ++ told event.entry ∷ [])) }
+        ensures rooms { (S.Items.room self.new.auditor.inside ≡ S.Items.room self.old.auditor.inside) × (S.Offered.room self.new.notes.inside ≡ S.Offered.room self.old.notes.inside) × (S.Taken.room self.new.notes.taken ≡ S.Taken.room self.old.notes.taken) × (S.Numbers.room self.new.notes.offers ≡ S.Numbers.room self.old.notes.offers) }
     {
         if self.fault.is_some() {
             return Ok(());
