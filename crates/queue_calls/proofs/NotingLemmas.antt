@@ -1,5 +1,5 @@
 -- Where a list of a recording is too short: for an event, for a line, and for the text.
-use Rattle.std.proofs.Common.{◌≡◌, inl, inr, ℕ, ◌+◌, ◌<◌, ◌≤◌, Option, Some, None, List, [], ◌∷◌, ◌++◌, length, refl, sym, ap, subst, ◌∙◌, append_assoc, arith, length-append}
+use Rattle.std.proofs.Common.{◌≡◌, ◌⊎◌, inl, inr, ℕ, ◌+◌, ◌<◌, ◌≤◌, Option, Some, None, List, [], ◌∷◌, ◌++◌, length, refl, sym, ap, subst, ◌∙◌, append_assoc, arith, length-append}
 use Rattle.std.specs.Prelude.{IfSome}
 use Rattle.std.proofs.lemmas.Grind.{flat_map-append}
 use Rattle.std.proofs.lemmas.List.{append-nil}
@@ -9,9 +9,11 @@ use Rattle.queue_calls.specs.InTurn.{UnderWay, NoCall, APut, AClose, ATake, Side
 use Rattle.queue_calls.specs.State.{taken_by, Keeps, sides_of}
 use Rattle.queue_calls.specs.Audits.{HasMoreItems, items_at}
 use Rattle.queue_calls.specs.Noting.{CannotNote, IsMoreThan, all_got, items_got}
-use Rattle.queue_calls.specs.Recordings.{Line, line, lines_text, text_of, AreLines, IsRecording, capacity_told, events_told}
+use Rattle.queue_calls.specs.Lines.{line_text}
+use Rattle.queue_calls.specs.Recordings.{Line, line, lines_text, AreLines, IsRecording, and_then, begun_behind, capacity_told, event_told, events_told}
 use Rattle.queue_calls.specs.RecordingStates.{HasNoFeed}
 use Rattle.queue_calls.specs.Rooms.{AreTooShort, BeginsWithNumbers, HasLongHistory, HasLongLine, HasManyNumbers, NeedsRoom, Rooms}
+use Rattle.queue_calls.specs.declared.lines.Word.{Word}
 use Rattle.queue_calls.specs.declared.lines.Word.TheVariants.{Queue}
 use Rattle.queue_calls.specs.declared.recordings.Begun.TheVariants as begun
 use Rattle.queue_calls.specs.declared.turns.PutTurn.{PutTurn}
@@ -19,6 +21,8 @@ use Rattle.queue_calls.specs.declared.turns.PutTurn.TheVariants.{Offers}
 use Rattle.queue_calls.specs.declared.turns.TakeTurn.{TakeTurn}
 use Rattle.queue_calls.proofs.FullLists.{left_same}
 use Rattle.queue_calls.proofs.TurnLemmas.{last_turn}
+use Rattle.queue_calls.proofs.HeardLines.{events_more}
+use Rattle.queue_calls.proofs.RecordingLemmas.{lines_more}
 
 -- ---- an event
 
@@ -124,3 +128,40 @@ pub too_short_on : (rooms : Rooms) (text more : List ℕ) → AreTooShort rooms 
 too_short_on rooms text more (inl has) = inl (long_on rooms.items rooms.offered rooms.taken rooms.offers text more has)
 too_short_on rooms text more (inr (inl has)) = inr (inl (many_on rooms.numbers text more has))
 too_short_on rooms text more (inr (inr has)) = inr (inr (long_line_on rooms.bytes text more has))
+
+-- ---- a line
+
+-- a line that tells the event for which a list is too short
+pub line_long :
+    (items offered taken offers : ℕ) (before : List Line) (bytes first : List ℕ) (further : List Line) (w : Word) (numbers : List ℕ) (event : Event) → before ≡ line Queue first ∷ further →
+    AreLines (before ++ line w numbers ∷ []) → bytes ≡ line_text w numbers → event_told (begun_behind begun.Nothing further) w numbers ≡ Some event →
+    NeedsRoom items offered taken offers (capacity_told first) (events_told begun.Nothing further ++ event ∷ []) →
+    HasLongHistory items offered taken offers (lines_text before ++ (bytes ++ 10 ∷ []))
+line_long items offered taken offers before bytes first further w numbers event parts are text tells needs =
+    let l : Line = line w numbers in record {
+      first = lines_text (before ++ l ∷ []);
+      rest = [];
+      capacity = capacity_told first;
+      events = events_told begun.Nothing further ++ event ∷ [];
+      parts = ap (λ (t : List ℕ). lines_text before ++ (t ++ 10 ∷ [])) text ∙ sym (lines_more before l) ∙ sym (append-nil (lines_text (before ++ l ∷ [])));
+      recording = record {
+        first = first;
+        further = further ++ l ∷ [];
+        text = ap (λ (lines : List Line). lines_text (lines ++ l ∷ [])) parts;
+        are = subst (λ (lines : List Line). AreLines (lines ++ l ∷ [])) parts are;
+        tells_capacity = refl;
+        tells_events = sym (events_more begun.Nothing further l ∙ ap (λ (o : Option Event). events_told begun.Nothing further ++ and_then o []) tells);
+      };
+      needs = needs;
+    }
+
+pub line_short :
+    (rooms : Rooms) (before : List Line) (bytes text : List ℕ) → text ≡ lines_text before ++ (bytes ++ 10 ∷ []) →
+    HasLongHistory rooms.items rooms.offered rooms.taken rooms.offers (lines_text before ++ (bytes ++ 10 ∷ [])) ⊎ BeginsWithNumbers rooms.numbers bytes → AreTooShort rooms text
+line_short rooms before bytes text parts (inl long) = inl (subst (HasLongHistory rooms.items rooms.offered rooms.taken rooms.offers) (sym parts) long)
+line_short rooms before bytes text parts (inr many) = inr (inl (before, bytes ++ 10 ∷ [], parts, numbers_on rooms.numbers bytes (10 ∷ []) many))
+
+pub rooms_same :
+    (i i' o o' t t' f f' n n' b b' : ℕ) → i ≡ i' → o ≡ o' → t ≡ t' → f ≡ f' → n ≡ n' → b ≡ b' →
+    ◌≡◌ {A = Rooms} (record { items = i; offered = o; taken = t; offers = f; numbers = n; bytes = b }) (record { items = i'; offered = o'; taken = t'; offers = f'; numbers = n'; bytes = b' })
+rooms_same i i' o o' t t' f f' n n' b b' pi po pt pf pn pb = λ j. record { items = pi j; offered = po j; taken = pt j; offers = pf j; numbers = pn j; bytes = pb j }

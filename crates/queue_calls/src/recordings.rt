@@ -1,13 +1,13 @@
 //! The text of recorded calls, read in pieces, and what is found.
-ghost use Rattle.std.specs.Prelude.{◌≡◌, ◌≢◌, ◌+◌, List, [], ◌∷◌, ℕ, ◌++◌, IfErr, IfOk, OnOk, MatchOption, length, option_map};
+ghost use Rattle.std.specs.Prelude.{◌≡◌, ◌≢◌, ◌+◌, ◌⊎◌, List, [], ◌∷◌, ℕ, ◌++◌, IfErr, IfOk, OnOk, MatchOption, length, option_map};
 ghost use Rattle.queue_calls.specs.Calls.{Event as AnEvent};
 ghost use Rattle.queue_calls.specs.Queue.{Capacity as ACapacity};
 ghost use Rattle.queue_calls.specs.Told.{meant, told};
 ghost use Rattle.queue_calls.specs.State.{IsProper};
 ghost use Rattle.queue_calls.specs.Lines.{Allows};
-ghost use Rattle.queue_calls.specs.Recordings.{IsFindingOf, IsFoundOf, Line, RefusesText, begun_after, capacity_told, event_told, stored_told, wanted_told};
+ghost use Rattle.queue_calls.specs.Recordings.{IsFindingOf, IsFoundOf, Line, RefusesText, lines_text, begun_after, capacity_told, event_told, stored_told, wanted_told};
 ghost use Rattle.queue_calls.specs.RecordingStates.{ContinuesLines, HasHeard, HasLines, HasNoFeed, HasRead, RefusesLine};
-ghost use Rattle.queue_calls.specs.Rooms.{AreTooShort, NeedsRoom, rooms_in, rooms_of};
+ghost use Rattle.queue_calls.specs.Rooms.{AreTooShort, BeginsWithNumbers, HasLongHistory, NeedsRoom, rooms_in, rooms_of};
 ghost use Rattle.queue_calls.specs.declared.lines.Word.TheVariants as word;
 
 use crate::auditors::CallAuditor;
@@ -241,10 +241,15 @@ struct Lines<S: Storage> {
 }
 
 impl<S: Storage> Lines<S> {
+    ghost use Rattle.queue_calls.specs.declared.recordings.RecordingFault.TheVariants.{OutOfMemory};
+
     // Reads one more line, without its line feed.
     fn read(&mut self, line: &[u8]) -> Result<(), RecordingFault>
         ensures read { OnOk result ((before : List Line) → HasLines S.Items.items self.old before → (l : Line) × ContinuesLines before line.now l × HasLines S.Items.items self.new (before ++ l ∷ [])) }
         ensures refused { IfErr result (λ e. (before : List Line) → HasLines S.Items.items self.old before → RefusesLine e before line.now) }
+        ensures full { IfErr result (λ e. e ≡ OutOfMemory → (before : List Line) → HasLines S.Items.items self.old before
+            → HasLongHistory (S.Items.room self.old.hearing.auditor.inside) (S.Offered.room self.old.hearing.notes.inside) (S.Taken.room self.old.hearing.notes.taken) (S.Numbers.room self.old.hearing.notes.offers) (lines_text before ++ (line.now ++ 10 ∷ [])) ⊎ BeginsWithNumbers (S.Numbers.room self.old.numbers) line.now) }
+        ensures rooms { (S.Items.room self.new.hearing.auditor.inside ≡ S.Items.room self.old.hearing.auditor.inside) × (S.Offered.room self.new.hearing.notes.inside ≡ S.Offered.room self.old.hearing.notes.inside) × (S.Taken.room self.new.hearing.notes.taken ≡ S.Taken.room self.old.hearing.notes.taken) × (S.Numbers.room self.new.hearing.notes.offers ≡ S.Numbers.room self.old.hearing.notes.offers) × (S.Numbers.room self.new.numbers ≡ S.Numbers.room self.old.numbers) }
     {
         let Some(count) = self.count.checked_add(1) else {
             return Err(RecordingFault::TooLong);
@@ -319,7 +324,8 @@ impl<S: Storage> RecordingIn<S> {
 
     /// A recording of which nothing was read, with these lists to read it in. What they hold is taken away.
     pub fn within(lists: Lists<S>) -> RecordingIn<S>
-        ensures { HasRead S.Items.items S.Bytes.items result [] }
+        ensures read { HasRead S.Items.items S.Bytes.items result [] }
+        ensures rooms { rooms_in S.Items.room S.Offered.room S.Taken.room S.Numbers.room S.Bytes.room result ≡ rooms_of S.Items.room S.Offered.room S.Taken.room S.Numbers.room S.Bytes.room lists.items lists.offered lists.taken lists.offers lists.numbers lists.bytes }
     {
         let Lists {
             items,
@@ -349,6 +355,8 @@ impl<S: Storage> RecordingIn<S> {
     pub fn read(&mut self, piece: &[u8]) -> Result<(), RecordingFault>
         ensures read { OnOk result ((bytes : List ℕ) → HasRead S.Items.items S.Bytes.items self.old bytes → HasRead S.Items.items S.Bytes.items self.new (bytes ++ piece.now)) }
         ensures refused { IfErr result (λ e. (bytes more : List ℕ) → HasRead S.Items.items S.Bytes.items self.old bytes → RefusesText e (bytes ++ (piece.now ++ more))) }
+        ensures full { IfErr result (λ e. e ≡ OutOfMemory → (bytes : List ℕ) → HasRead S.Items.items S.Bytes.items self.old bytes → AreTooShort (rooms_in S.Items.room S.Offered.room S.Taken.room S.Numbers.room S.Bytes.room self.old) (bytes ++ piece.now)) }
+        ensures rooms { rooms_in S.Items.room S.Offered.room S.Taken.room S.Numbers.room S.Bytes.room self.new ≡ rooms_in S.Items.room S.Offered.room S.Taken.room S.Numbers.room S.Bytes.room self.old }
     {
         let mut rest = piece;
         while let Some((end, more)) = split_line(rest) {
@@ -364,6 +372,8 @@ impl<S: Storage> RecordingIn<S> {
         requires { HasNoFeed end.now }
         ensures read { OnOk result ((bytes : List ℕ) → HasRead S.Items.items S.Bytes.items self.old bytes → HasRead S.Items.items S.Bytes.items self.new (bytes ++ end.now ++ 10 ∷ [])) }
         ensures refused { IfErr result (λ e. (bytes more : List ℕ) → HasRead S.Items.items S.Bytes.items self.old bytes → RefusesText e (bytes ++ (end.now ++ 10 ∷ more))) }
+        ensures full { IfErr result (λ e. e ≡ OutOfMemory → (bytes : List ℕ) → HasRead S.Items.items S.Bytes.items self.old bytes → AreTooShort (rooms_in S.Items.room S.Offered.room S.Taken.room S.Numbers.room S.Bytes.room self.old) (bytes ++ (end.now ++ 10 ∷ []))) }
+        ensures rooms { (S.Items.room self.new.lines.hearing.auditor.inside ≡ S.Items.room self.old.lines.hearing.auditor.inside) × (S.Offered.room self.new.lines.hearing.notes.inside ≡ S.Offered.room self.old.lines.hearing.notes.inside) × (S.Taken.room self.new.lines.hearing.notes.taken ≡ S.Taken.room self.old.lines.hearing.notes.taken) × (S.Numbers.room self.new.lines.hearing.notes.offers ≡ S.Numbers.room self.old.lines.hearing.notes.offers) × (S.Numbers.room self.new.lines.numbers ≡ S.Numbers.room self.old.lines.numbers) × (S.Bytes.room self.new.cut ≡ S.Bytes.room self.old.cut) }
     {
         if self.cut.is_empty() {
             return self.lines.read(end);
