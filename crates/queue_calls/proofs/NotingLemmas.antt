@@ -1,5 +1,5 @@
 -- Where a list of a recording is too short: for an event, for a line, and for the text.
-use Rattle.std.proofs.Common.{◌≡◌, ◌⊎◌, inl, inr, ℕ, ◌+◌, ◌<◌, ◌≤◌, Option, Some, None, List, [], ◌∷◌, ◌++◌, length, refl, sym, ap, subst, ◌∙◌, append_assoc, arith, length-append}
+use Rattle.std.proofs.Common.{◌≡◌, ◌⊎◌, inl, inr, ℕ, ◌+◌, ◌≤◌, Option, Some, None, List, [], ◌∷◌, ◌++◌, length, refl, sym, ap, subst, ◌∙◌, append_assoc, arith, length-append}
 use Rattle.std.specs.Prelude.{IfSome}
 use Rattle.std.proofs.lemmas.Grind.{flat_map-append}
 use Rattle.std.proofs.lemmas.List.{append-nil}
@@ -10,8 +10,7 @@ use Rattle.queue_calls.specs.State.{taken_by, Keeps, sides_of}
 use Rattle.queue_calls.specs.Audits.{HasMoreItems, items_at}
 use Rattle.queue_calls.specs.Noting.{CannotNote, IsMoreThan, all_got, items_got}
 use Rattle.queue_calls.specs.Lines.{line_text}
-use Rattle.queue_calls.specs.Recordings.{Line, line, lines_text, AreLines, IsRecording, and_then, begun_behind, capacity_told, event_told, events_told}
-use Rattle.queue_calls.specs.RecordingStates.{HasNoFeed}
+use Rattle.queue_calls.specs.Recordings.{Line, line, lines_text, AreLines, and_then, begun_behind, capacity_told, event_told, events_told}
 use Rattle.queue_calls.specs.Rooms.{AreTooShort, BeginsWithNumbers, HasLongHistory, HasLongLine, HasManyNumbers, NeedsRoom, Rooms}
 use Rattle.queue_calls.specs.declared.lines.Word.{Word}
 use Rattle.queue_calls.specs.declared.lines.Word.TheVariants.{Queue}

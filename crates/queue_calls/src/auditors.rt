@@ -100,8 +100,9 @@ impl<Q: Fifo<u64>> CallAuditor<Q> {
 
     /// Reads the next event of the history. It tells `OutOfTurn` where the event begins a call while one of
     /// its side is under way, answers a call that is not, or tells a number out of its range; else `NotLinearizable`
-    /// where the history with it is not linearizable; and `OutOfMemory` where a put begins and memory for its items ran
-    /// out. Of a refused event nothing is kept.
+    /// where the history with it is not linearizable; and `OutOfMemory` where a put begins and its items do not fit behind those
+    /// inside: the history with it is linearizable, and at each point to which it can lead there are more items than the list has
+    /// room for. Of a refused event nothing is kept.
     pub fn feed(&mut self, event: Event<'_>) -> Result<(), Fault>
         ensures reads { Reads Q.items Q.room self.old (told event.entry) result self.new }
         ensures room { Q.room self.new.inside ≡ Q.room self.old.inside }

@@ -350,8 +350,9 @@ impl<S: Storage> RecordingIn<S> {
     /// Reads the next piece of the text.
     ///
     /// `BadLine` at the first line that is not of the format, whatever comes behind it, and though the history has a
-    /// fault before it; `TooLong` past 2^64 - 1 lines; `OutOfMemory` where a growth was refused. A recording that gave one of these
-    /// is of no further use.
+    /// fault before it; `TooLong` past 2^64 - 1 lines; `OutOfMemory` where a growth was refused, or a list in slots is too short: for
+    /// the items that are inside or offered, for those of a put, for the last [`TAKEN_LIMIT`](crate::TAKEN_LIMIT) taken, for the
+    /// numbers of a line, or for its bytes. A recording that gave one of these is of no further use.
     pub fn read(&mut self, piece: &[u8]) -> Result<(), RecordingFault>
         ensures read { OnOk result ((bytes : List ℕ) → HasRead S.Items.items S.Bytes.items self.old bytes → HasRead S.Items.items S.Bytes.items self.new (bytes ++ piece.now)) }
         ensures refused { IfErr result (λ e. (bytes more : List ℕ) → HasRead S.Items.items S.Bytes.items self.old bytes → RefusesText e (bytes ++ (piece.now ++ more))) }

@@ -1,4 +1,4 @@
-use Rattle.std.proofs.Common.{◌≡◌, ◌≤◌, ◌+◌, length}
+use Rattle.std.proofs.Common.{◌≡◌}
 use Rattle.queue_calls.proofs.notes.Notes.put_ends.Given as goal
 
 abbrev pub invariant-loop-index : goal.invariant-loop-index

@@ -1,4 +1,4 @@
-use Rattle.std.proofs.Common.{◌≡◌, ◌≤◌, ◌+◌, length}
+use Rattle.std.proofs.Common.{◌≡◌, ◌≤◌, ◌+◌}
 use Rattle.queue_calls.proofs.notes.Notes.take_items.Given as goal
 
 abbrev pub invariant-loop-item : goal.invariant-loop-item

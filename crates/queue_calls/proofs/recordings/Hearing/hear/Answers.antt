@@ -1,4 +1,4 @@
-use Rattle.std.proofs.Common.{◌≡◌, inl, Result, Ok, Err, ◌∙◌, ap, sym, subst, refl, arith, [], ◌∷◌, ◌++◌}
+use Rattle.std.proofs.Common.{inl, Result, Ok, Err, ◌∙◌, ap, sym, subst, arith, [], ◌∷◌, ◌++◌}
 use Rattle.std.specs.Prelude.{IfErr}
 use Rattle.queue_calls.specs.Audits.{HasMoreItems, RefusesEvent}
 use Rattle.queue_calls.specs.Queue.{Capacity}

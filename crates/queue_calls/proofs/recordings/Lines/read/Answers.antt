@@ -68,9 +68,9 @@ returns-in_default-2-clause-refused g c before has =
 
 pub returns-in_default-word-clause-refused : goal.returns-in_default-word-clause-refused
 returns-in_default-word-clause-refused g c before has =
-      let none : before ≡ [] = nil_from_length before (omega (arith, has.count, c.in-Some.ensures.1, c.if-count-eq1.true)) in
-      let is = read_is _ _ _ _ c.in-Some-2.is c.in_ok-word.ensures.line in
-      (omega (arith, has.count, c.in-Some.ensures.1), λ l. not_the_first before c.args.line.now _ c.in-Some-2.word l none c.in_default-word.not-Queue is)
+    let none : before ≡ [] = nil_from_length before (omega (arith, has.count, c.in-Some.ensures.1, c.if-count-eq1.true)) in
+    let is = read_is _ _ _ _ c.in-Some-2.is c.in_ok-word.ensures.line in
+    (omega (arith, has.count, c.in-Some.ensures.1), λ l. not_the_first before c.args.line.now _ c.in-Some-2.word l none c.in_default-word.not-Queue is)
 
 pub returns-in_default-event_told-clause-refused : goal.returns-in_default-event_told-clause-refused
 returns-in_default-event_told-clause-refused g c before has =
