@@ -10,7 +10,7 @@ pub returns-in-Err-OutOfTurn-clause-judged : goal.returns-in-Err-OutOfTurn-claus
 returns-in-Err-OutOfTurn-clause-judged g c fresh =
     let inv = c.loop-number.invariant in
     let was = inv.1 fresh in
-    let refused = rw c.in-Err-OutOfTurn.field-0-is at c.in-Err-OutOfTurn.ensures in
+    let refused = rw c.in-Err-OutOfTurn.field-0-is at c.in-Err-OutOfTurn.ensures.reads in
     let stops = ((refused.1 (map told (take c.loop-number.number c.args.events.now)) was.0).1).1 in
     stops_there c.loop-number.auditor.capacity c.args.auditor.now.capacity c.args.events.now c.loop-number.number _ inv.0 c.loop-number-test.true was.1 stops
 
@@ -18,14 +18,14 @@ pub returns-in-Err-NotLinearizable-clause-judged : goal.returns-in-Err-NotLinear
 returns-in-Err-NotLinearizable-clause-judged g c fresh =
     let inv = c.loop-number.invariant in
     let was = inv.1 fresh in
-    let refused = rw c.in-Err-NotLinearizable.field-0-is at c.in-Err-NotLinearizable.ensures in
+    let refused = rw c.in-Err-NotLinearizable.field-0-is at c.in-Err-NotLinearizable.ensures.reads in
     let stops = ((refused.1 (map told (take c.loop-number.number c.args.events.now)) was.0).1).1 in
     stops_there c.loop-number.auditor.capacity c.args.auditor.now.capacity c.args.events.now c.loop-number.number _ inv.0 c.loop-number-test.true was.1 stops
 
 pub loop-number-preserved : goal.loop-number-preserved
 loop-number-preserved g c =
     let inv = c.loop-number.invariant in
-    let now = c.in-Ok.ensures in (
+    let now = c.in-Ok.ensures.reads in (
       now.0 ∙ inv.0,
       λ fresh.
           (let was = inv.1 fresh in

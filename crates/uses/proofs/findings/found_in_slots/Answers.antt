@@ -7,4 +7,4 @@ if_ok (Ok x) p q = q x p
 if_ok (Err e) p q = tt
 
 pub returns : goal.returns
-returns c = if_ok c.finding.result c.finding.ensures.found (λ finding found. found c.args.text.now (c.in_ok-read.ensures.read [] c.within-recording.ensures))
+returns c = if_ok c.finding.result c.finding.ensures.found (λ finding found. found c.args.text.now (c.in_ok-read.ensures.read [] c.within-recording.ensures.read))
