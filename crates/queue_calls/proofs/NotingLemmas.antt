@@ -11,7 +11,7 @@ use Rattle.queue_calls.specs.Audits.{HasMoreItems, items_at}
 use Rattle.queue_calls.specs.Noting.{CannotNote, IsMoreThan, all_got, items_got}
 use Rattle.queue_calls.specs.Lines.{line_text}
 use Rattle.queue_calls.specs.Recordings.{Line, line, lines_text, AreLines, and_then, begun_behind, capacity_told, event_told, events_told}
-use Rattle.queue_calls.specs.Rooms.{AreTooShort, BeginsWithNumbers, HasLongHistory, HasLongLine, HasManyNumbers, NeedsRoom, Rooms}
+use Rattle.queue_calls.specs.Rooms.{AreTooShort, BeginsWithNumbers, HasLongHistory, HasLongLine, HasManyNumbers, OutgrowsLists, Rooms}
 use Rattle.queue_calls.specs.declared.lines.Word.{Word}
 use Rattle.queue_calls.specs.declared.lines.Word.TheVariants.{Queue}
 use Rattle.queue_calls.specs.declared.recordings.Begun.TheVariants as begun
@@ -63,7 +63,7 @@ put_needs capacity h items inside put take' shut room (Some b) k is there more =
 
 module _ (items offered taken offers : ℕ) (capacity : Capacity) (h : List Event) where
   abbrev Needs : Event → Type 0
-  Needs e = NeedsRoom items offered taken offers capacity (h ++ e ∷ [])
+  Needs e = OutgrowsLists items offered taken offers capacity (h ++ e ∷ [])
 
   pub cannot_note :
       (inside : List ℕ) (put : PutTurn) (take' : TakeTurn) (shut : _) (before : Option ℕ) (got : ℕ) (e : Event) → Keeps capacity (h ++ e ∷ []) inside put take' shut →
@@ -134,7 +134,7 @@ too_short_on rooms text more (inr (inr has)) = inr (inr (long_line_on rooms.byte
 pub line_long :
     (items offered taken offers : ℕ) (before : List Line) (bytes first : List ℕ) (further : List Line) (w : Word) (numbers : List ℕ) (event : Event) → before ≡ line Queue first ∷ further →
     AreLines (before ++ line w numbers ∷ []) → bytes ≡ line_text w numbers → event_told (begun_behind begun.Nothing further) w numbers ≡ Some event →
-    NeedsRoom items offered taken offers (capacity_told first) (events_told begun.Nothing further ++ event ∷ []) →
+    OutgrowsLists items offered taken offers (capacity_told first) (events_told begun.Nothing further ++ event ∷ []) →
     HasLongHistory items offered taken offers (lines_text before ++ (bytes ++ 10 ∷ []))
 line_long items offered taken offers before bytes first further w numbers event parts are text tells needs =
     let l : Line = line w numbers in record {

@@ -20,8 +20,8 @@ pub record OffersMore (room : ℕ) (h : List Event) : Type 0 where
 
 -- a history for which a list is too short: that of the items; that of the items offered; that of the items taken last; or that of the
 -- items of the last put
-abbrev pub NeedsRoom : (items offered taken offers : ℕ) → Capacity → List Event → Type 0
-NeedsRoom items offered taken offers capacity h =
+abbrev pub OutgrowsLists : (items offered taken offers : ℕ) → Capacity → List Event → Type 0
+OutgrowsLists items offered taken offers capacity h =
     HasMoreItems items capacity h ⊎ (HasMoreItems offered capacity h ⊎ (((taken < TAKEN_LIMIT) × (taken < length (all_got h))) ⊎ OffersMore offers h))
 
 -- the text begins with the recording of such a history
@@ -32,7 +32,7 @@ pub record HasLongHistory (items offered taken offers : ℕ) (text : List ℕ) :
   pub events : List Event
   pub parts : text ≡ first ++ rest
   pub recording : IsRecording first capacity events
-  pub needs : NeedsRoom items offered taken offers capacity events
+  pub needs : OutgrowsLists items offered taken offers capacity events
 
 -- bytes begin with a word and more numbers than there is room for
 pub record BeginsWithNumbers (room : ℕ) (bytes : List ℕ) : Type 0 where

@@ -7,7 +7,7 @@ ghost use Rattle.queue_calls.specs.State.{IsProper};
 ghost use Rattle.queue_calls.specs.Lines.{Allows};
 ghost use Rattle.queue_calls.specs.Recordings.{IsFindingOf, IsFoundOf, Line, RefusesText, lines_text, begun_after, capacity_told, event_told, stored_told, wanted_told};
 ghost use Rattle.queue_calls.specs.RecordingStates.{ContinuesLines, HasHeard, HasLines, HasNoFeed, HasRead, RefusesLine};
-ghost use Rattle.queue_calls.specs.Rooms.{AreTooShort, BeginsWithNumbers, HasLongHistory, NeedsRoom, rooms_in, rooms_of};
+ghost use Rattle.queue_calls.specs.Rooms.{AreTooShort, BeginsWithNumbers, HasLongHistory, OutgrowsLists, rooms_in, rooms_of};
 ghost use Rattle.queue_calls.specs.declared.lines.Word.TheVariants as word;
 
 use crate::auditors::CallAuditor;
@@ -197,7 +197,7 @@ impl<S: Storage> Hearing<S> {
         ensures refused { IfErr result (λ e. e ≡ OutOfMemory) }
         ensures begun { self.new.begun ≡ self.old.begun }
         ensures full { IfErr result (λ e. (capacity : ACapacity) (events : List AnEvent) → HasHeard S.Items.items self.old capacity events
-            → NeedsRoom (S.Items.room self.old.auditor.inside) (S.Offered.room self.old.notes.inside) (S.Taken.room self.old.notes.taken) (S.Numbers.room self.old.notes.offers) capacity (events ++ told event.entry ∷ [])) }
+            → OutgrowsLists (S.Items.room self.old.auditor.inside) (S.Offered.room self.old.notes.inside) (S.Taken.room self.old.notes.taken) (S.Numbers.room self.old.notes.offers) capacity (events ++ told event.entry ∷ [])) }
         ensures rooms { (S.Items.room self.new.auditor.inside ≡ S.Items.room self.old.auditor.inside) × (S.Offered.room self.new.notes.inside ≡ S.Offered.room self.old.notes.inside) × (S.Taken.room self.new.notes.taken ≡ S.Taken.room self.old.notes.taken) × (S.Numbers.room self.new.notes.offers ≡ S.Numbers.room self.old.notes.offers) }
     {
         if self.fault.is_some() {
