@@ -192,7 +192,7 @@ fn told_refusal(fault: RecordingFault) -> CallsTold
 fn found_in(text: &[u8], lists: Lists<Lent<'_>>) -> Result<CallsFinding, RecordingFault>
     ensures found { IfOk result (IsFindingOf text.now) }
     ensures refused { IfErr result (λ e. RefusesText e text.now) }
-    ensures full { IfErr result (λ e. e ≡ OutOfMemory → AreTooShort (slots_for (length lists.items.slots.now) (length lists.offered.slots.now) (length lists.taken.slots.now) (length lists.offers.slots.now) (length lists.numbers.slots.now) (length lists.bytes.slots.now)) text.now) }
+    ensures full { IfErr result (λ e. e ≡ OutOfMemory → AreTooShort (slots_for (length lists.entry.items.slots.now) (length lists.entry.offered.slots.now) (length lists.entry.taken.slots.now) (length lists.entry.offers.slots.now) (length lists.entry.numbers.slots.now) (length lists.entry.bytes.slots.now)) text.now) }
 {
     let mut recording = RecordingIn::within(lists);
     recording.read(text)?;

@@ -307,7 +307,8 @@ fn a_fault_is_told_where_it_comes_before_the_room_ends(rt: HostRuntime) {
     let mut marks = [NO_MARK; 1];
     for (begun, number, place) in [(EVENT_ROOM, 2, 10_002), (EVENT_ROOM + 1, 4, 0)] {
         let mut text = reads(&rt, begun);
-        text.push_str("no event\n").expect(&rt, "memory for the text");
+        text.push_str("no event\n")
+            .expect(&rt, "memory for the text");
         let told = audit(text.as_str(), &mut marks);
         assert_eq!(rt; (told.outcome, told.number, told.place), (2, number, place));
     }

@@ -40,10 +40,13 @@ returns-in-Err c =
     inr (record {
       fault = c.in-Err.fault;
       cause = elim c.in-Err.ensures.refused [
-        | inl is ↦ inr (is, record {
-          begins = subst (BeginsWithMore c.args.text.now) room (c.in-Err.ensures.full is);
-          only = λ shape events trace. subst (λ (n : ℕ). n < length events) room (c.in-Err.ensures.only shape events trace).1;
-        })
+        | inl is ↦ inr (
+          is,
+          record {
+            begins = subst (BeginsWithMore c.args.text.now) room (c.in-Err.ensures.full is);
+            only = λ shape events trace. subst (λ (n : ℕ). n < length events) room (c.in-Err.ensures.only shape events trace).1;
+          },
+        )
         | inr fault ↦ inl fault
       ];
       tells = c.told_fault.ensures;
