@@ -1,14 +1,14 @@
 -- What a list that is full says of the history.
-use Rattle.std.proofs.Common.{◌≡◌, ℕ, ◌+◌, ◌<◌, false, List, [], ◌∷◌, ◌++◌, length, refl, sym, ap, subst, ◌∙◌, arith, length-append}
+use Rattle.std.proofs.Common.{◌≡◌, ℕ, ◌+◌, ◌<◌, false, List, [], ◌∷◌, ◌++◌, length, refl, ap, ◌∙◌, arith, length-append}
 use Rattle.queue_calls.specs.Queue.{Capacity}
-use Rattle.queue_calls.specs.Calls.{Event, PutBegin, Producer, Idle, Putting, FoundShut, Closing, Point, CanLeadTo}
+use Rattle.queue_calls.specs.Calls.{Event, PutBegin, Producer, Idle, Putting, FoundShut, Closing}
 use Rattle.queue_calls.specs.declared.turns.PutTurn.TheVariants.{Free, Offers}
 use Rattle.queue_calls.specs.declared.turns.TakeTurn.{TakeTurn}
 use Rattle.queue_calls.specs.State.{taken_by, left_by, Keeps}
 use Rattle.queue_calls.specs.Audits.{HasMoreItems, items_at, left_at}
 use Rattle.queue_calls.proofs.PutBegins.{put_begin}
 
-left_same : (offered before : ℕ) (p : Producer) → left_by (Offers offered before) p ≡ left_at p
+pub left_same : (offered before : ℕ) (p : Producer) → left_by (Offers offered before) p ≡ left_at p
 left_same offered before Idle = refl
 left_same offered before (Putting lacked done left) = refl
 left_same offered before FoundShut = refl

@@ -57,7 +57,7 @@ begun_more : (b : Begun) (lines : List Line) (l : Line) → begun_behind b (line
 begun_more b [] l = refl
 begun_more b (x ∷ lines) l = begun_more (begun_after b x.word x.numbers) lines l
 
-events_more : (b : Begun) (lines : List Line) (l : Line) → events_told b (lines ++ l ∷ []) ≡ events_told b lines ++ and_then (event_told (begun_behind b lines) l.word l.numbers) []
+pub events_more : (b : Begun) (lines : List Line) (l : Line) → events_told b (lines ++ l ∷ []) ≡ events_told b lines ++ and_then (event_told (begun_behind b lines) l.word l.numbers) []
 events_more b [] l = refl
 events_more b (x ∷ lines) l =
     let after : Begun = begun_after b x.word x.numbers in

@@ -21,6 +21,7 @@ pub mod LineReadings
 pub mod LineLemmas
 pub mod HearingLemmas
 pub mod FullLists
+pub mod NotingLemmas
 pub mod HeardLines
 pub mod RecordingLemmas
 pub mod RecordingLaws

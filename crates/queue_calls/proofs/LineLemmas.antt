@@ -9,6 +9,7 @@ use Rattle.std.proofs.lemmas.Option.{none-some, same_Some}
 use Rattle.queue_calls.specs.declared.lines.Word.{Word}
 use Rattle.queue_calls.specs.declared.lines.Word.TheVariants.{Queue, Put, Stored, Full, Short, PutNothing, PutClosed, Close, Take, Item, Empty, TakeShort, TakeNothing, TakeClosed}
 use Rattle.queue_calls.specs.Lines.{word_text, numbers_text, line_text, Allows, AreSmall, IsLine}
+use Rattle.queue_calls.specs.Rooms.{BeginsWithNumbers}
 use Rattle.queue_calls.specs.LineReading.{bytes_behind, then_or_else, word_or, put_word_at, take_word_at, line_word_at, spaced_number}
 use Rattle.queue_calls.proofs.LineReadings.{after-text, then_or_else-some, number_at-again}
 
@@ -172,3 +173,15 @@ no_feed_word TakeClosed = no_feed_text (word_text TakeClosed) refl
 -- in a line there is no line feed
 pub line_no_feed : (bytes : List ℕ) (w : Word) (numbers : List ℕ) → IsLine bytes w numbers → All IsOther bytes
 line_no_feed bytes w numbers is = subst (All IsOther) (sym is.text) (All-append IsOther (word_text w) (numbers_text numbers) (no_feed_word w) (no_feed_numbers numbers is.small))
+
+-- a word, and behind it more numbers than there is room for
+pub begins_with_numbers : (bytes rest : List ℕ) (w : Word) (numbers more : List ℕ) (room : ℕ) → Some (w, rest) ≡ line_word_at bytes → rest ≡ numbers_text numbers ++ more → AreSmall numbers
+    → room < length numbers → BeginsWithNumbers room bytes
+begins_with_numbers bytes rest w numbers more room read are small many = record {
+  word = w;
+  numbers = numbers;
+  rest = more;
+  parts = word_at-text bytes (w, rest) (sym read) ∙ ap (λ (t : List ℕ). word_text w ++ t) are ∙ sym (append_assoc (word_text w) (numbers_text numbers) more);
+  small = small;
+  more = many;
+}

@@ -57,7 +57,7 @@ too_long before bytes more text long =
 -- ---- a line that ends
 
 -- the bytes of a line that ends, behind lines
-ended_text : (before : List Line) (bytes cut end more : List ℕ) → bytes ≡ lines_text before ++ cut → bytes ++ (end ++ 10 ∷ more) ≡ lines_text before ++ ((cut ++ end) ++ 10 ∷ more)
+pub ended_text : (before : List Line) (bytes cut end more : List ℕ) → bytes ≡ lines_text before ++ cut → bytes ++ (end ++ 10 ∷ more) ≡ lines_text before ++ ((cut ++ end) ++ 10 ∷ more)
 ended_text before bytes cut end more text =
     ap (λ (t : List ℕ). t ++ (end ++ 10 ∷ more)) text ∙ append_assoc (lines_text before) cut (end ++ 10 ∷ more)
     ∙ ap (λ (t : List ℕ). lines_text before ++ t) (sym (append_assoc cut end (10 ∷ more)))

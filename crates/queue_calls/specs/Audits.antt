@@ -13,11 +13,12 @@ use Rattle.queue_calls.specs.declared.faults.Fault.TheVariants.{OutOfTurn, NotLi
 abbrev pub Audits : {Q : Type 0} → (items : Q → List ℕ) → CallAuditor Q → List Event → Type 0
 Audits items a h = Keeps (meant a.capacity) h (items a.inside) a.put a.take a.shut
 
--- the items of a point: those that the take under way took, those in the queue, and those that the put under way has left
+-- the items that a put under way has left
 abbrev pub left_at : Producer → List ℕ
 left_at (Putting lacked done left) = left
 left_at _ = []
 
+-- the items of a point: those that the take under way took, those in the queue, and those that the put under way has left
 abbrev pub items_at : Point → List ℕ
 items_at s = taken_by s.consumer ++ (s.queue.items ++ left_at s.producer)
 

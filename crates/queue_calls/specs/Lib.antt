@@ -3,6 +3,8 @@ pub mod Calls
 pub mod InTurn
 pub mod State
 pub mod Rings
+pub mod Noting
+pub mod Rooms
 pub mod Audits
 pub mod Told
 pub mod Steps

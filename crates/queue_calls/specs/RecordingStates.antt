@@ -1,8 +1,9 @@
 -- What is kept of a recording that is being read.
-use Rattle.std.specs.Prelude.{◌≡◌, ◌≢◌, ℕ, ◌+◌, ◌-◌, ◌^◌, List, [], ◌∷◌, ◌++◌, Option, Some, None, length, All}
+use Rattle.std.specs.Prelude.{◌≡◌, ◌≢◌, ℕ, ◌+◌, ◌-◌, ◌^◌, ◌≤◌, List, [], ◌∷◌, ◌++◌, Option, Some, None, length, All}
 use Rattle.queue_calls.specs.Queue.{Capacity}
 use Rattle.queue_calls.specs.Calls.{Event, IsLinearizable}
 use Rattle.queue_calls.specs.Audits.{Audits}
+use Rattle.queue_calls.specs.Noting.{all_got}
 use Rattle.queue_calls.specs.Told.{meant}
 use Rattle.queue_calls.specs.Lines.{line_text}
 use Rattle.queue_calls.specs.Recordings.{Line, line, lines_text, AreLines, capacity_told, events_told, begun_behind, IsFoundOf}
@@ -27,9 +28,10 @@ IsFaultSoFar items None auditor capacity events = Audits items auditor events ×
 IsFaultSoFar items (Some (Lawful report)) auditor capacity events = ⊥
 IsFaultSoFar items (Some fault) auditor capacity events = IsFoundOf capacity events fault
 
--- these events were heard, of a queue of this capacity
+-- these events were heard, of a queue of this capacity; no more items were counted as taken than were
 abbrev pub HasHeard : {S Q O T N B : Type 0} → (items : Q → List ℕ) → Hearing S Q O T N B → Capacity → List Event → Type 0
 HasHeard items hearing capacity events = (meant hearing.auditor.capacity ≡ capacity) × IsFaultSoFar items hearing.fault hearing.auditor capacity events
+    × (hearing.notes.report.taken ≤ length (all_got events))
 
 -- lines were heard, a first one and others
 abbrev pub HeardLines : {S Q O T N B : Type 0} → (items : Q → List ℕ) → Hearing S Q O T N B → List Line → Type 0

@@ -1,5 +1,5 @@
 //! The auditor of a history.
-ghost use Rattle.std.specs.Prelude.{◌≡◌, ◌<◌, suc, ◌+◌, ◌++◌, ◌↔◌, IsTrue, true, false, List, [], if◌then◌else◌, length, take, drop, ◌-◌};
+ghost use Rattle.std.specs.Prelude.{◌≡◌, ◌<◌, suc, ◌+◌, ◌++◌, ◌↔◌, IsTrue, true, false, ℕ, List, [], IfSome, if◌then◌else◌, length, take, drop, ◌-◌};
 
 use crate::capacities::Capacity;
 use crate::events::Event;
@@ -57,7 +57,7 @@ impl<Q: Fifo<u64>> CallAuditor<Q> {
     ghost use Rattle.queue_calls.specs.State.{IsProper, MayHold, offered_by, asked_by, has_closed, AreNext, CanEndPut, CanEndTake};
     ghost use Rattle.queue_calls.specs.Audits.{Audits, Reads};
     ghost use Rattle.queue_calls.specs.Told.{meant, told};
-    ghost use Rattle.queue_calls.specs.declared.turns.PutTurn.TheVariants.{Free};
+    ghost use Rattle.queue_calls.specs.declared.turns.PutTurn.TheVariants.{Free, Offers};
     ghost use Rattle.queue_calls.specs.declared.turns.TakeTurn.TheVariants.{Rests};
 
     /// As [`new`](CallAuditor::new), with a list of the caller's to keep the items in, which may be in slots. What it holds is
@@ -100,8 +100,9 @@ impl<Q: Fifo<u64>> CallAuditor<Q> {
 
     /// Reads the next event of the history. It tells `OutOfTurn` where the event begins a call while one of
     /// its side is under way, answers a call that is not, or tells a number out of its range; else `NotLinearizable`
-    /// where the history with it is not linearizable; and `OutOfMemory` where a put begins and memory for its items ran
-    /// out. Of a refused event nothing is kept.
+    /// where the history with it is not linearizable; and `OutOfMemory` where a put begins and its items do not fit behind those
+    /// inside: the history with it is linearizable, and at each point to which it can lead there are more items than the list has
+    /// room for. Of a refused event nothing is kept.
     pub fn feed(&mut self, event: Event<'_>) -> Result<(), Fault>
         ensures reads { Reads Q.items Q.room self.old (told event.entry) result self.new }
         ensures room { Q.room self.new.inside ≡ Q.room self.old.inside }
@@ -565,6 +566,17 @@ impl<Q: Fifo<u64>> CallAuditor<Q> {
         match self.put {
             PutTurn::Offers { offered, before: _ } => offered,
             PutTurn::Free | PutTurn::Late { offered: _ } | PutTurn::Closes { again: _ } => 0,
+        }
+    }
+
+    /// How many items are inside before those that the put under way offers; none where there is no put, or it began after a
+    /// close had ended.
+    pub(crate) fn before_put(&self) -> Option<usize>
+        ensures { IfSome result (λ before. (offered inside : ℕ) × (self.now.put ≡ Offers offered inside) × (before + offered ≡ length (Q.items self.now.inside))) }
+    {
+        match self.put {
+            PutTurn::Offers { offered, before: _ } => self.inside.len().checked_sub(offered),
+            PutTurn::Free | PutTurn::Late { offered: _ } | PutTurn::Closes { again: _ } => None,
         }
     }
 

@@ -12,7 +12,7 @@ pub trait Fifo<T: Copy>: Drop {
     // The list, its front first.
     ghost items: { Self → List T };
 
-    // It has room for so many items in all, or for more.
+    // It has room for so many items in all, or for more. Of memory of an allocator nothing is known: 0.
     ghost room: { Self → ℕ };
 
     /// How many items it holds.
@@ -63,7 +63,7 @@ pub trait Row<T: Copy>: Drop {
     // The row.
     ghost items: { Self → List T };
 
-    // It has room for so many items in all, or for more.
+    // It has room for so many items in all, or for more. Of memory of an allocator nothing is known: 0.
     ghost room: { Self → ℕ };
 
     /// The items, in order.

@@ -1,6 +1,7 @@
 //! The lines of a recording's text.
-ghost use Rattle.std.specs.Prelude.{◌≡◌, ◌↔◌, IsTrue, None, IfOk, IfSome, ℕ, List, option_map};
-ghost use Rattle.queue_calls.specs.Lines.{Allows, IsLine, word_text};
+ghost use Rattle.std.specs.Prelude.{◌≡◌, ◌↔◌, ◌<◌, ◌++◌, IsTrue, None, IfOk, OnErr, IfSome, ℕ, List, length, option_map};
+ghost use Rattle.queue_calls.specs.Lines.{Allows, AreSmall, IsLine, numbers_text, word_text};
+ghost use Rattle.queue_calls.specs.Rooms.{BeginsWithNumbers};
 ghost use Rattle.queue_calls.specs.LineReading.{ReadsNumbers, bytes_behind, digits_behind, spaced_number, put_word_at, take_word_at, line_word_at};
 
 use crate::fifos::Row;
@@ -66,11 +67,13 @@ impl Word {
 }
 
 /// Reads one line, without its line feed: its word, and in `numbers` its numbers in place of what was there. It is
-/// `None` where the bytes are no line of the format, and an error only where memory for the numbers ran out; `numbers`
+/// `None` where the bytes are no line of the format, and an error only where there was no room for the numbers; `numbers`
 /// may then hold anything.
 pub fn read_line<R: Row<u64>>(bytes: &[u8], numbers: &mut R) -> Result<Option<Word>, AllocError>
     ensures line { IfOk result (λ read. IfSome read (λ word. IsLine bytes.now word (R.items numbers.new))) }
     ensures none { IfOk result (λ read. read ≡ None → (word : Word) (told : List ℕ) → ¬ IsLine bytes.now word told) }
+    ensures full { OnErr result (BeginsWithNumbers (R.room numbers.old) bytes.now) }
+    ensures kept { R.room numbers.new ≡ R.room numbers.old }
 {
     let Some((word, rest)) = word_at(bytes) else {
         return Ok(None);
@@ -152,7 +155,9 @@ fn after<'a>(bytes: &'a [u8], text: &str) -> Option<&'a [u8]>
 
 // Reads numbers with a space before each of them, and tells whether the bytes are such.
 fn read_numbers<R: Row<u64>>(bytes: &[u8], numbers: &mut R) -> Result<bool, AllocError>
-    ensures { IfOk result (λ read. ReadsNumbers bytes.now read (R.items numbers.new)) }
+    ensures read { IfOk result (λ read. ReadsNumbers bytes.now read (R.items numbers.new)) }
+    ensures full { OnErr result ((told : List ℕ) × (rest : List ℕ) × (bytes.now ≡ numbers_text told ++ rest) × AreSmall told × (R.room numbers.old < length told)) }
+    ensures kept { R.room numbers.new ≡ R.room numbers.old }
 {
     numbers.clear();
     let mut left = bytes;

@@ -1,6 +1,11 @@
 //! What the lines of a recording have told, beside what its auditor keeps: the numbers of the report, and what it takes to say
 //! what speaks against a line.
 
+ghost use Rattle.std.specs.Prelude.{◌≡◌, ◌≤◌, ◌<◌, ◌+◌, ◌⊎◌, OnErr, length};
+ghost use Rattle.queue_calls.specs.Told.{told};
+ghost use Rattle.queue_calls.specs.Noting.{CannotNote, IsMoreThan, items_got};
+ghost use Rattle.queue_calls.specs.declared.notes.TheConstants.{TAKEN_LIMIT};
+
 use crate::capacities::Capacity;
 use crate::causes::Cause;
 use crate::events::Event;
@@ -78,7 +83,9 @@ pub struct Notes<S: Storage> {
 }
 
 // The report on no line.
-fn no_report() -> Report {
+fn no_report() -> Report
+    ensures { result.taken ≡ 0 }
+{
     Report {
         calls: 0,
         stored: 0,
@@ -95,7 +102,9 @@ fn no_report() -> Report {
 }
 
 // Counts a call that begins; tells whether one of the other side is under way, each of which overlaps from now on.
-fn count_begin<T>(report: &mut Report, other: &mut Option<Call<T>>) -> bool {
+fn count_begin<T>(report: &mut Report, other: &mut Option<Call<T>>) -> bool
+    ensures { report.new.taken ≡ report.old.taken }
+{
     report.calls = report.calls.saturating_add(1);
     match other {
         Some(call) => {
@@ -109,7 +118,9 @@ fn count_begin<T>(report: &mut Report, other: &mut Option<Call<T>>) -> bool {
 }
 
 // Counts how a call ends; where it is a put, one that offered so many items.
-fn count_end(report: &mut Report, offered: usize, event: Event<'_>) {
+fn count_end(report: &mut Report, offered: usize, event: Event<'_>)
+    ensures { report.new.taken ≡ report.old.taken }
+{
     match event {
         Event::PutStored(count) => {
             if count < offered {
@@ -128,7 +139,9 @@ fn count_end(report: &mut Report, offered: usize, event: Event<'_>) {
 
 impl<S: Storage> Notes<S> {
     /// Nothing of a queue with no bound, with these lists to keep notes in.
-    pub fn new(offered: S::Offered, offers: S::Numbers, taken: S::Taken) -> Notes<S> {
+    pub fn new(offered: S::Offered, offers: S::Numbers, taken: S::Taken) -> Notes<S>
+        ensures rooms { (S.Offered.room result.inside ≡ S.Offered.room offered) × (S.Numbers.room result.offers ≡ S.Numbers.room offers) × (S.Taken.room result.taken ≡ S.Taken.room taken) }
+    {
         Notes {
             most: usize::MAX,
             report: no_report(),
@@ -143,7 +156,10 @@ impl<S: Storage> Notes<S> {
     }
 
     /// Forgets all, and has nothing of a queue of this capacity.
-    pub fn restart(&mut self, capacity: Capacity) {
+    pub fn restart(&mut self, capacity: Capacity)
+        ensures rooms { (S.Offered.room self.new.inside ≡ S.Offered.room self.old.inside) × (S.Numbers.room self.new.offers ≡ S.Numbers.room self.old.offers) × (S.Taken.room self.new.taken ≡ S.Taken.room self.old.taken) }
+        ensures none { self.new.report.taken ≡ 0 }
+    {
         self.most = match capacity {
             Capacity::Unbounded => usize::MAX,
             Capacity::Between { full: _, most } => most,
@@ -166,11 +182,21 @@ impl<S: Storage> Notes<S> {
         report
     }
 
-    /// Notes an event, of this line, with which the history is linearizable.
-    pub fn note(&mut self, line: u64, event: Event<'_>) -> Result<(), AllocError> {
+    /// Notes an event, of this line, with which the history is linearizable. Before the items that the put under way offers so
+    /// many are inside; it is none where no put is that began before a close had ended.
+    pub fn note(
+        &mut self,
+        line: u64,
+        event: Event<'_>,
+        before: Option<usize>,
+    ) -> Result<(), AllocError>
+        ensures rooms { (S.Offered.room self.new.inside ≡ S.Offered.room self.old.inside) × (S.Numbers.room self.new.offers ≡ S.Numbers.room self.old.offers) × (S.Taken.room self.new.taken ≡ S.Taken.room self.old.taken) }
+        ensures count { self.new.report.taken ≤ self.old.report.taken + length (items_got (told event.entry)) }
+        ensures full { OnErr result (CannotNote (S.Numbers.room self.old.offers) (S.Offered.room self.old.inside) (S.Taken.room self.old.taken) before self.old.report.taken (told event.entry)) }
+    {
         count_end(&mut self.report, self.offers.as_slice().len(), event);
         match event {
-            Event::PutBegins(items) => self.put_begins(line, items)?,
+            Event::PutBegins(items) => self.put_begins(line, items, before)?,
             Event::PutStored(count) => self.put_ends(line, count),
             Event::PutFull | Event::PutShort | Event::PutNothing => self.put_ends(line, 0),
             Event::PutClosed => self.producer = None,
@@ -183,12 +209,7 @@ impl<S: Storage> Notes<S> {
                 self.producer = None;
             }
             Event::TakeBegins(wanted) => self.take_begins(wanted),
-            Event::TakeItems(items) => {
-                for item in items {
-                    self.take(line, *item)?;
-                }
-                self.consumer = None;
-            }
+            Event::TakeItems(items) => self.take_items(line, items)?,
             Event::TakeEmpty | Event::TakeShort | Event::TakeNothing | Event::TakeClosed => {
                 self.consumer = None;
             }
@@ -213,20 +234,23 @@ impl<S: Storage> Notes<S> {
         }
     }
 
-    fn put_begins(&mut self, line: u64, items: &[u64]) -> Result<(), AllocError> {
-        let late = self.closed_at.is_some();
+    // Before the items that it offers so many are inside; none of them can go in where the put began after a close had ended.
+    fn put_begins(
+        &mut self,
+        line: u64,
+        items: &[u64],
+        before: Option<usize>,
+    ) -> Result<(), AllocError>
+        ensures rooms { (S.Offered.room self.new.inside ≡ S.Offered.room self.old.inside) × (S.Numbers.room self.new.offers ≡ S.Numbers.room self.old.offers) × (S.Taken.room self.new.taken ≡ S.Taken.room self.old.taken) }
+        ensures count { self.new.report.taken ≡ self.old.report.taken }
+        ensures full { OnErr result ((S.Numbers.room self.old.offers < length items.now) ⊎ IsMoreThan (S.Offered.room self.old.inside) before (length items.now)) }
+    {
         self.offers.clear();
         self.offers.extend_from_slice(items)?;
-        // What a put offers that began after a close had ended cannot go in.
-        if !late {
-            for item in items {
-                self.inside.push_back(Offered {
-                    item: *item,
-                    offered_at: line,
-                    stored_at: 0,
-                })?;
-            }
+        if let Some(before) = before {
+            self.offer_items(line, items, before)?;
         }
+        let late = self.closed_at.is_some();
         self.producer_begins(Some(Putting {
             late,
             taken: self.report.taken,
@@ -236,12 +260,35 @@ impl<S: Storage> Notes<S> {
         Ok(())
     }
 
-    fn producer_begins(&mut self, of: Option<Putting>) {
+    // These items are offered, behind so many.
+    fn offer_items(&mut self, line: u64, items: &[u64], before: usize) -> Result<(), AllocError>
+        ensures rooms { (S.Offered.room self.new.inside ≡ S.Offered.room self.old.inside) × (self.new.offers ≡ self.old.offers) × (self.new.taken ≡ self.old.taken) }
+        ensures count { self.new.report.taken ≡ self.old.report.taken }
+        ensures full { OnErr result (S.Offered.room self.old.inside < before + length items.now) }
+    {
+        self.inside.truncate(before);
+        for item in items {
+            self.inside.push_back(Offered {
+                item: *item,
+                offered_at: line,
+                stored_at: 0,
+            })?;
+        }
+        Ok(())
+    }
+
+    fn producer_begins(&mut self, of: Option<Putting>)
+        ensures lists { (self.new.inside ≡ self.old.inside) × (self.new.offers ≡ self.old.offers) × (self.new.taken ≡ self.old.taken) }
+        ensures count { self.new.report.taken ≡ self.old.report.taken }
+    {
         let overlapped = count_begin(&mut self.report, &mut self.consumer);
         self.producer = Some(Call { of, overlapped });
     }
 
-    fn take_begins(&mut self, wanted: usize) {
+    fn take_begins(&mut self, wanted: usize)
+        ensures lists { (self.new.inside ≡ self.old.inside) × (self.new.offers ≡ self.old.offers) × (self.new.taken ≡ self.old.taken) }
+        ensures count { self.new.report.taken ≡ self.old.report.taken }
+    {
         let overlapped = count_begin(&mut self.report, &mut self.producer);
         self.consumer = Some(Call {
             of: Taking {
@@ -254,7 +301,10 @@ impl<S: Storage> Notes<S> {
     }
 
     // The put ends; so many of its items were stored.
-    fn put_ends(&mut self, line: u64, count: usize) {
+    fn put_ends(&mut self, line: u64, count: usize)
+        ensures rooms { (S.Offered.room self.new.inside ≡ S.Offered.room self.old.inside) × (S.Numbers.room self.new.offers ≡ S.Numbers.room self.old.offers) × (S.Taken.room self.new.taken ≡ S.Taken.room self.old.taken) }
+        ensures count { self.new.report.taken ≡ self.old.report.taken }
+    {
         let before = self.report.stored.saturating_sub(self.report.taken);
         self.report.stored = self.report.stored.saturating_add(count);
         let after = self.report.stored.saturating_sub(self.report.taken);
@@ -275,12 +325,31 @@ impl<S: Storage> Notes<S> {
         self.producer = None;
     }
 
-    fn take(&mut self, line: u64, item: u64) -> Result<(), AllocError> {
+    fn take_items(&mut self, line: u64, items: &[u64]) -> Result<(), AllocError>
+        ensures rooms { (S.Offered.room self.new.inside ≡ S.Offered.room self.old.inside) × (S.Numbers.room self.new.offers ≡ S.Numbers.room self.old.offers) × (S.Taken.room self.new.taken ≡ S.Taken.room self.old.taken) }
+        ensures count { self.new.report.taken ≤ self.old.report.taken + length items.now }
+        ensures full { OnErr result ((S.Taken.room self.old.taken < TAKEN_LIMIT) × (S.Taken.room self.old.taken < self.old.report.taken + length items.now)) }
+    {
+        for item in items {
+            self.take(line, *item)?;
+        }
+        self.consumer = None;
+        Ok(())
+    }
+
+    fn take(&mut self, line: u64, item: u64) -> Result<(), AllocError>
+        ensures rooms { (S.Offered.room self.new.inside ≡ S.Offered.room self.old.inside) × (S.Numbers.room self.new.offers ≡ S.Numbers.room self.old.offers) × (S.Taken.room self.new.taken ≡ S.Taken.room self.old.taken) }
+        ensures count { self.new.report.taken ≤ self.old.report.taken + 1 }
+        ensures full { OnErr result ((S.Taken.room self.old.taken < TAKEN_LIMIT) × (S.Taken.room self.old.taken ≤ self.old.report.taken)) }
+    {
         let _ = self.inside.pop_front();
-        self.report.taken = self.report.taken.saturating_add(1);
-        if TAKEN_LIMIT <= self.taken.len() {
+        // So many of those taken before are kept.
+        let kept = self.report.taken.min(TAKEN_LIMIT - 1);
+        if kept < self.taken.len() {
             let _ = self.taken.pop_front();
         }
+        self.taken.truncate(kept);
+        self.report.taken = self.report.taken.saturating_add(1);
         self.taken.push_back(Taken {
             item,
             taken_at: line,

@@ -1,12 +1,13 @@
 //! The text of recorded calls, read in pieces, and what is found.
-ghost use Rattle.std.specs.Prelude.{◌≡◌, ◌≢◌, ◌+◌, List, [], ◌∷◌, ℕ, ◌++◌, IfErr, IfOk, OnOk, MatchOption, length, option_map};
+ghost use Rattle.std.specs.Prelude.{◌≡◌, ◌≢◌, ◌+◌, ◌⊎◌, List, [], ◌∷◌, ℕ, ◌++◌, IfErr, IfOk, OnOk, MatchOption, length, option_map};
 ghost use Rattle.queue_calls.specs.Calls.{Event as AnEvent};
 ghost use Rattle.queue_calls.specs.Queue.{Capacity as ACapacity};
 ghost use Rattle.queue_calls.specs.Told.{meant, told};
 ghost use Rattle.queue_calls.specs.State.{IsProper};
 ghost use Rattle.queue_calls.specs.Lines.{Allows};
-ghost use Rattle.queue_calls.specs.Recordings.{IsFindingOf, IsFoundOf, Line, RefusesText, begun_after, capacity_told, event_told, stored_told, wanted_told};
+ghost use Rattle.queue_calls.specs.Recordings.{IsFindingOf, IsFoundOf, Line, RefusesText, lines_text, begun_after, capacity_told, event_told, stored_told, wanted_told};
 ghost use Rattle.queue_calls.specs.RecordingStates.{ContinuesLines, HasHeard, HasLines, HasNoFeed, HasRead, RefusesLine};
+ghost use Rattle.queue_calls.specs.Rooms.{AreTooShort, BeginsWithNumbers, HasLongHistory, OutgrowsLists, rooms_in, rooms_of};
 ghost use Rattle.queue_calls.specs.declared.lines.Word.TheVariants as word;
 
 use crate::auditors::CallAuditor;
@@ -197,7 +198,10 @@ impl<S: Storage> Hearing<S> {
     ghost use Rattle.queue_calls.specs.declared.recordings.RecordingFault.TheVariants.{OutOfMemory};
 
     // Nothing was heard, and of what queue is not told.
-    fn new(items: S::Items, notes: Notes<S>) -> Hearing<S> {
+    fn new(items: S::Items, notes: Notes<S>) -> Hearing<S>
+        ensures items { S.Items.room result.auditor.inside ≡ S.Items.room items }
+        ensures notes { result.notes ≡ notes }
+    {
         Hearing {
             auditor: CallAuditor::with(items, Capacity::Unbounded),
             notes,
@@ -211,6 +215,7 @@ impl<S: Storage> Hearing<S> {
         requires { Allows word.Queue numbers.now }
         ensures heard { HasHeard S.Items.items self.new (capacity_told numbers.now) [] }
         ensures begun { self.new.begun ≡ Nothing }
+        ensures rooms { (S.Items.room self.new.auditor.inside ≡ S.Items.room self.old.auditor.inside) × (S.Offered.room self.new.notes.inside ≡ S.Offered.room self.old.notes.inside) × (S.Taken.room self.new.notes.taken ≡ S.Taken.room self.old.notes.taken) × (S.Numbers.room self.new.notes.offers ≡ S.Numbers.room self.old.notes.offers) }
     {
         let capacity = capacity_told(numbers);
         self.auditor.restart(capacity);
@@ -225,12 +230,15 @@ impl<S: Storage> Hearing<S> {
             → HasHeard S.Items.items self.new capacity (events ++ told event.entry ∷ [])) }
         ensures refused { IfErr result (λ e. e ≡ OutOfMemory) }
         ensures begun { self.new.begun ≡ self.old.begun }
+        ensures full { IfErr result (λ e. (capacity : ACapacity) (events : List AnEvent) → HasHeard S.Items.items self.old capacity events
+            → OutgrowsLists (S.Items.room self.old.auditor.inside) (S.Offered.room self.old.notes.inside) (S.Taken.room self.old.notes.taken) (S.Numbers.room self.old.notes.offers) capacity (events ++ told event.entry ∷ [])) }
+        ensures rooms { (S.Items.room self.new.auditor.inside ≡ S.Items.room self.old.auditor.inside) × (S.Offered.room self.new.notes.inside ≡ S.Offered.room self.old.notes.inside) × (S.Taken.room self.new.notes.taken ≡ S.Taken.room self.old.notes.taken) × (S.Numbers.room self.new.notes.offers ≡ S.Numbers.room self.old.notes.offers) }
     {
         if self.fault.is_some() {
             return Ok(());
         }
         match self.auditor.feed(event) {
-            Ok(()) => Ok(self.notes.note(line, event)?),
+            Ok(()) => Ok(self.notes.note(line, event, self.auditor.before_put())?),
             Err(Fault::OutOfTurn) => {
                 self.fault = Some(CallsFinding::OutOfTurn { line });
                 Ok(())
@@ -267,10 +275,15 @@ struct Lines<S: Storage> {
 }
 
 impl<S: Storage> Lines<S> {
+    ghost use Rattle.queue_calls.specs.declared.recordings.RecordingFault.TheVariants.{OutOfMemory};
+
     // Reads one more line, without its line feed.
     fn read(&mut self, line: &[u8]) -> Result<(), RecordingFault>
         ensures read { OnOk result ((before : List Line) → HasLines S.Items.items self.old before → (l : Line) × ContinuesLines before line.now l × HasLines S.Items.items self.new (before ++ l ∷ [])) }
         ensures refused { IfErr result (λ e. (before : List Line) → HasLines S.Items.items self.old before → RefusesLine e before line.now) }
+        ensures full { IfErr result (λ e. e ≡ OutOfMemory → (before : List Line) → HasLines S.Items.items self.old before
+            → HasLongHistory (S.Items.room self.old.hearing.auditor.inside) (S.Offered.room self.old.hearing.notes.inside) (S.Taken.room self.old.hearing.notes.taken) (S.Numbers.room self.old.hearing.notes.offers) (lines_text before ++ (line.now ++ 10 ∷ [])) ⊎ BeginsWithNumbers (S.Numbers.room self.old.numbers) line.now) }
+        ensures rooms { (S.Items.room self.new.hearing.auditor.inside ≡ S.Items.room self.old.hearing.auditor.inside) × (S.Offered.room self.new.hearing.notes.inside ≡ S.Offered.room self.old.hearing.notes.inside) × (S.Taken.room self.new.hearing.notes.taken ≡ S.Taken.room self.old.hearing.notes.taken) × (S.Numbers.room self.new.hearing.notes.offers ≡ S.Numbers.room self.old.hearing.notes.offers) × (S.Numbers.room self.new.numbers ≡ S.Numbers.room self.old.numbers) }
     {
         let Some(count) = self.count.checked_add(1) else {
             return Err(RecordingFault::TooLong);
@@ -345,7 +358,8 @@ impl<S: Storage> RecordingIn<S> {
 
     /// A recording of which nothing was read, with these lists to read it in. What they hold is taken away.
     pub fn within(lists: Lists<S>) -> RecordingIn<S>
-        ensures { HasRead S.Items.items S.Bytes.items result [] }
+        ensures read { HasRead S.Items.items S.Bytes.items result [] }
+        ensures rooms { rooms_in S.Items.room S.Offered.room S.Taken.room S.Numbers.room S.Bytes.room result ≡ rooms_of S.Items.room S.Offered.room S.Taken.room S.Numbers.room S.Bytes.room lists.items lists.offered lists.taken lists.offers lists.numbers lists.bytes }
     {
         let Lists {
             items,
@@ -370,11 +384,14 @@ impl<S: Storage> RecordingIn<S> {
     /// Reads the next piece of the text.
     ///
     /// `BadLine` at the first line that is not of the format, whatever comes behind it, and though the history has a
-    /// fault before it; `TooLong` past 2^64 - 1 lines; `OutOfMemory` where a growth was refused. A recording that gave one of these
-    /// is of no further use.
+    /// fault before it; `TooLong` past 2^64 - 1 lines; `OutOfMemory` where a growth was refused, or a list in slots is too short: for
+    /// the items that are inside or offered, for those of a put, for the last [`TAKEN_LIMIT`](crate::TAKEN_LIMIT) taken, for the
+    /// numbers of a line, or for its bytes. A recording that gave one of these is of no further use.
     pub fn read(&mut self, piece: &[u8]) -> Result<(), RecordingFault>
         ensures read { OnOk result ((bytes : List ℕ) → HasRead S.Items.items S.Bytes.items self.old bytes → HasRead S.Items.items S.Bytes.items self.new (bytes ++ piece.now)) }
         ensures refused { IfErr result (λ e. (bytes more : List ℕ) → HasRead S.Items.items S.Bytes.items self.old bytes → RefusesText e (bytes ++ (piece.now ++ more))) }
+        ensures full { IfErr result (λ e. e ≡ OutOfMemory → (bytes : List ℕ) → HasRead S.Items.items S.Bytes.items self.old bytes → AreTooShort (rooms_in S.Items.room S.Offered.room S.Taken.room S.Numbers.room S.Bytes.room self.old) (bytes ++ piece.now)) }
+        ensures rooms { rooms_in S.Items.room S.Offered.room S.Taken.room S.Numbers.room S.Bytes.room self.new ≡ rooms_in S.Items.room S.Offered.room S.Taken.room S.Numbers.room S.Bytes.room self.old }
     {
         let mut rest = piece;
         while let Some((end, more)) = split_line(rest) {
@@ -390,6 +407,8 @@ impl<S: Storage> RecordingIn<S> {
         requires { HasNoFeed end.now }
         ensures read { OnOk result ((bytes : List ℕ) → HasRead S.Items.items S.Bytes.items self.old bytes → HasRead S.Items.items S.Bytes.items self.new (bytes ++ end.now ++ 10 ∷ [])) }
         ensures refused { IfErr result (λ e. (bytes more : List ℕ) → HasRead S.Items.items S.Bytes.items self.old bytes → RefusesText e (bytes ++ (end.now ++ 10 ∷ more))) }
+        ensures full { IfErr result (λ e. e ≡ OutOfMemory → (bytes : List ℕ) → HasRead S.Items.items S.Bytes.items self.old bytes → AreTooShort (rooms_in S.Items.room S.Offered.room S.Taken.room S.Numbers.room S.Bytes.room self.old) (bytes ++ (end.now ++ 10 ∷ []))) }
+        ensures rooms { (S.Items.room self.new.lines.hearing.auditor.inside ≡ S.Items.room self.old.lines.hearing.auditor.inside) × (S.Offered.room self.new.lines.hearing.notes.inside ≡ S.Offered.room self.old.lines.hearing.notes.inside) × (S.Taken.room self.new.lines.hearing.notes.taken ≡ S.Taken.room self.old.lines.hearing.notes.taken) × (S.Numbers.room self.new.lines.hearing.notes.offers ≡ S.Numbers.room self.old.lines.hearing.notes.offers) × (S.Numbers.room self.new.lines.numbers ≡ S.Numbers.room self.old.lines.numbers) × (S.Bytes.room self.new.cut ≡ S.Bytes.room self.old.cut) }
     {
         if self.cut.is_empty() {
             return self.lines.read(end);

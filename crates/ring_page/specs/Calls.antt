@@ -1,5 +1,6 @@
 -- What the page is told of recorded calls.
 use Rattle.std.specs.Prelude.{◌≡◌, ◌⊎◌, ℕ, List}
+use Rattle.queue_calls.specs.Rooms.{AreTooShort, Rooms}
 use Rattle.queue_calls.specs.Recordings.{IsFindingOf, RefusesText}
 use Rattle.queue_calls.specs.declared.causes.Cause.{Cause}
 use Rattle.queue_calls.specs.declared.causes.Cause.TheVariants.{StoredAfterClose, OnlySomeStored, StoredTooMany, FullWithRoom, FullAfterClose, NotStoredButTaken, ClosedWithoutClose, ItemAfterTold, NotNext, ComesAgain, NotPut, NoMoreWhileInside, NotTaken, EmptyAfterTold, EmptyWhileInside, EmptyAfterClose, ShortAfterTold, ShortWhileInside, ShortAfterClose, ClosedBeforeClose, ClosedWhileInside}
@@ -89,8 +90,12 @@ told_of_refusal (BadLine line) = told_as 2 1 line nothing_against no_counts
 told_of_refusal TooLong = told_as 2 2 0 nothing_against no_counts
 told_of_refusal OutOfMemory = told_as 2 3 0 nothing_against no_counts
 
--- what is told of a text: what is found of it, or why it is refused
-abbrev pub TellsRecording : List ℕ → CallsTold → Type 0
-TellsRecording text told =
+-- lists in so many slots
+abbrev pub slots_for : (items offered taken offers numbers bytes : ℕ) → Rooms
+slots_for items offered taken offers numbers bytes = record { items = items; offered = offered; taken = taken; offers = offers; numbers = numbers; bytes = bytes }
+
+-- what is told of a text: what is found of it, or why it is refused; that a list has too few slots only where one is too short for it
+abbrev pub TellsRecording : Rooms → List ℕ → CallsTold → Type 0
+TellsRecording slots text told =
     ((finding : CallsFinding) × IsFindingOf text finding × (told ≡ told_of_finding finding)) ⊎
-    ((fault : RecordingFault) × RefusesText fault text × (told ≡ told_of_refusal fault))
+    ((fault : RecordingFault) × RefusesText fault text × (fault ≡ OutOfMemory → AreTooShort slots text) × (told ≡ told_of_refusal fault))

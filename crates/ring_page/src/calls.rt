@@ -1,7 +1,9 @@
 //! The audit of recorded calls.
-ghost use Rattle.std.specs.Prelude.{◌≡◌, IfErr, IfOk};
+ghost use Rattle.std.specs.Prelude.{◌≡◌, IfErr, IfOk, length};
 ghost use Rattle.queue_calls.specs.Recordings.{IsFindingOf, RefusesText};
-ghost use Rattle.ring_page.specs.Calls.{TellsRecording, against_of, counts_of, no_counts, nothing_against, told_of_finding, told_of_refusal};
+ghost use Rattle.queue_calls.specs.Rooms.{AreTooShort};
+ghost use Rattle.queue_calls.specs.declared.recordings.RecordingFault.TheVariants.{OutOfMemory};
+ghost use Rattle.ring_page.specs.Calls.{TellsRecording, slots_for, against_of, counts_of, no_counts, nothing_against, told_of_finding, told_of_refusal};
 
 use crate::marks::bit_number;
 use queue_calls::{
@@ -190,6 +192,7 @@ fn told_refusal(fault: RecordingFault) -> CallsTold
 fn found_in(text: &[u8], lists: Lists<Lent<'_>>) -> Result<CallsFinding, RecordingFault>
     ensures found { IfOk result (IsFindingOf text.now) }
     ensures refused { IfErr result (λ e. RefusesText e text.now) }
+    ensures full { IfErr result (λ e. e ≡ OutOfMemory → AreTooShort (slots_for (length lists.entry.items.slots.now) (length lists.entry.offered.slots.now) (length lists.entry.taken.slots.now) (length lists.entry.offers.slots.now) (length lists.entry.numbers.slots.now) (length lists.entry.bytes.slots.now)) text.now) }
 {
     let mut recording = RecordingIn::within(lists);
     recording.read(text)?;
@@ -214,7 +217,7 @@ pub extern "C" fn page_calls(
     bytes: &mut [u8],
     told: &mut CallsTold,
 )
-    ensures { TellsRecording text.now told.new }
+    ensures { TellsRecording (slots_for (length items.old) (length offered.old) (length taken.old) (length offers.old) (length numbers.old) (length bytes.old)) text.now told.new }
 {
     let lists = Lists {
         items: Slots::new(items),

@@ -301,6 +301,19 @@ fn a_trace_of_more_events_than_there_is_room_for_is_refused(rt: HostRuntime) {
     assert_eq!(rt; (told.outcome, told.number, told.count), (2, 4, 0));
 }
 
+// As many events as there is room for, then what is no line; and one event more before it.
+#[test]
+fn a_fault_is_told_where_it_comes_before_the_room_ends(rt: HostRuntime) {
+    let mut marks = [NO_MARK; 1];
+    for (begun, number, place) in [(EVENT_ROOM, 2, 10_002), (EVENT_ROOM + 1, 4, 0)] {
+        let mut text = reads(&rt, begun);
+        text.push_str("no event\n")
+            .expect(&rt, "memory for the text");
+        let told = audit(text.as_str(), &mut marks);
+        assert_eq!(rt; (told.outcome, told.number, told.place), (2, number, place));
+    }
+}
+
 // Two items of three digits through two cells, one put after the other, and a close; three takes.
 const ASKED: Asked = Asked {
     capacity: 2,

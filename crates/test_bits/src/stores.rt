@@ -1,6 +1,7 @@
 use crate::memories::{CHOICE_COUNT, CHOICES, expect_made, expect_same, expect_true, make};
 use bits_core::{
-    Act, Bit, Event, Filled, Flip, Memory, Shape, Side, TraceFault, read_trace, read_trace_into,
+    Act, Bit, Event, Filled, Flip, Memory, Shape, ShapeFault, Side, TraceFault, read_trace,
+    read_trace_into,
 };
 use std::alloc::AllocGlobal;
 use std::process::Abort;
@@ -53,6 +54,18 @@ fn a_line_is_read_before_room_is_wanted(rt: HostRuntime) {
     expect_fault(&rt, bad, &mut slots, TraceFault::BadLine(3));
     expect_fault(&rt, bad, &mut [], TraceFault::OutOfMemory);
     expect_fault(&rt, b"shape 1 3 1", &mut [], TraceFault::BadLine(1));
+    expect_fault(
+        &rt,
+        b"shape 1 3 1\nP read s3\n",
+        &mut [],
+        TraceFault::BadLine(2),
+    );
+    expect_fault(
+        &rt,
+        b"shape 1 2 1\nP read s3\n",
+        &mut [],
+        TraceFault::BadShape(ShapeFault::Modulus),
+    );
 }
 
 // How many of the choices a memory makes whose history has these slots. Beside it is one with an allocator: they

@@ -2,6 +2,7 @@
 use Rattle.std.proofs.Common.{◌≡◌, ℕ, suc, ◌+◌, ◌<◌, Some, List, [], ◌∷◌, ◌++◌, map, take, length, get_or, ap, sym, subst, ◌∙◌}
 use Rattle.std.proofs.lemmas.List.{length-map, map-append, take-map, take_more}
 use Rattle.std.proofs.Math.Numerals.{suc-eq-add-one}
+use Rattle.queue_calls.specs.Audits.{HasMoreItems}
 use Rattle.queue_calls.specs.Calls.{IsLinearizable}
 use Rattle.queue_calls.specs.Told.{meant, told}
 use Rattle.queue_calls.specs.declared.capacities.Capacity.{Capacity}
@@ -23,3 +24,13 @@ stops_there of capacity events number d same within so_far stops =
       subst (IsLinearizable (meant capacity)) (sym (take-map told number events)) so_far,
       λ lin. stops (subst (λ (k : Capacity). IsLinearizable (meant k) (map told (take number events) ++ told (get_or events number d) ∷ [])) (sym same) (subst (IsLinearizable (meant capacity)) now lin)),
     )
+
+-- the event with which there are more items than slots
+pub outgrown :
+    (of capacity : Capacity) (events : List Event) (number : ℕ) (d : Event) (now slots : ℕ) → of ≡ capacity → now ≡ slots → number < length events →
+    HasMoreItems now (meant of) (map told (take number events) ++ told (get_or events number d) ∷ []) → HasMoreItems slots (meant capacity) (take (number + 1) (map told events))
+outgrown of capacity events number d now slots same room within more =
+    let first : take (number + 1) (map told events) ≡ map told (take number events) ++ told (get_or events number d) ∷ [] = take-map told (number + 1) events ∙ one_more events number d within in
+    subst (λ z. HasMoreItems slots (meant capacity) z) (sym first)
+    (subst (λ (k : Capacity). HasMoreItems slots (meant k) (map told (take number events) ++ told (get_or events number d) ∷ [])) same
+    (subst (λ n. HasMoreItems n (meant of) (map told (take number events) ++ told (get_or events number d) ∷ [])) room more))

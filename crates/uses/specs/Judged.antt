@@ -1,5 +1,6 @@
 -- What is said of a history, and of the text of a recording, by the event or the line at fault, if there is one.
 use Rattle.std.specs.Prelude.{◌<◌, ℕ, suc, Option, Some, None, List, length, take}
+use Rattle.queue_calls.specs.Audits.{HasMoreItems}
 use Rattle.queue_calls.specs.Calls.{Event, IsLinearizable}
 use Rattle.queue_calls.specs.Queue.{Capacity}
 use Rattle.queue_calls.specs.Recordings.{IsRecording, StopsAt}
@@ -9,6 +10,10 @@ abbrev pub JudgesCalls : Capacity → List Event → Option ℕ → Type 0
 JudgesCalls capacity events None = IsLinearizable capacity events
 JudgesCalls capacity events (Some number) =
     (number < length events) × IsLinearizable capacity (take number events) × ¬ IsLinearizable capacity (take (suc number) events)
+
+-- behind some first events of the history there are more items than so many slots
+abbrev pub OutgrowsSlots : ℕ → Capacity → List Event → Type 0
+OutgrowsSlots slots capacity events = (count : ℕ) × HasMoreItems slots capacity (take count events)
 
 -- the history that the text tells is linearizable, or the event of this line is the first one with which it is not
 abbrev pub JudgesLine : List ℕ → Option ℕ → Type 0

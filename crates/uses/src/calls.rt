@@ -1,10 +1,10 @@
 //! An auditor of recorded calls, fed event by event.
-ghost use Rattle.std.specs.Prelude.{◌≡◌, ◌≤◌, [], IfErr, IfOk, map};
+ghost use Rattle.std.specs.Prelude.{◌≡◌, ◌≤◌, [], IfErr, IfOk, OnErr, length, map};
 ghost use Rattle.queue_calls.specs.Audits.{Audits};
 ghost use Rattle.queue_calls.specs.Queue.{exactly};
 ghost use Rattle.queue_calls.specs.Told.{meant, told};
 ghost use Rattle.queue_calls.specs.declared.faults.Fault.TheVariants.{OutOfMemory};
-ghost use Rattle.uses.specs.Judged.{JudgesCalls};
+ghost use Rattle.uses.specs.Judged.{JudgesCalls, OutgrowsSlots};
 
 use queue_calls::{CallAuditor, Event, Fault, Fifo, Slots, exactly};
 use std::alloc::Allocator;
@@ -16,6 +16,7 @@ fn first_of<Q: Fifo<u64>>(
 ) -> Result<Option<usize>, Fault>
     ensures judged { Audits Q.items auditor.old [] → IfOk result (JudgesCalls (meant auditor.old.capacity) (map told events.now)) }
     ensures refused { IfErr result (λ fault. fault ≡ OutOfMemory) }
+    ensures full { Audits Q.items auditor.old [] → OnErr result (OutgrowsSlots (Q.room auditor.old.inside) (meant auditor.old.capacity) (map told events.now)) }
 {
     auditor.has_read();
     for (number, event) in events.iter().enumerate() {
@@ -43,7 +44,7 @@ pub fn first_at_fault<A: Allocator + Copy>(
     first_of(&mut CallAuditor::new(alloc, exactly(capacity)), events)
 }
 
-/// The same with no memory but these slots, as many as there are items inside at most, with those that a put offers.
+/// The same with no memory but these slots; refused only where there are more items inside, with those that a put offers, than slots.
 pub fn first_at_fault_in_slots(
     slots: &mut [u64],
     capacity: usize,
@@ -52,6 +53,7 @@ pub fn first_at_fault_in_slots(
     requires { 1 ≤ capacity }
     ensures judged { IfOk result (JudgesCalls (exactly capacity) (map told events.now)) }
     ensures refused { IfErr result (λ fault. fault ≡ OutOfMemory) }
+    ensures full { OnErr result (OutgrowsSlots (length slots.old) (exactly capacity) (map told events.now)) }
 {
     let list = Slots::new(slots);
     first_of(&mut CallAuditor::with(list, exactly(capacity)), events)

@@ -7,6 +7,7 @@ abbrev pub invariant-loop-left : goal.invariant-loop-left
 invariant-loop-left g l = record {
   text : l.bytes ≡ numbers_text (g.R.Row.items l.numbers) ++ l.left;
   small : AreSmall (g.R.Row.items l.numbers);
+  room : g.R.Row.room l.numbers ≡ g.R.Row.room l.initial.numbers;
   more : (told : List ℕ) → AreSmall told → l.bytes ≡ numbers_text told → (more : List ℕ) × AreSmall more × (l.left ≡ numbers_text more);
 }
 

@@ -1,5 +1,7 @@
-use Rattle.std.proofs.Common.{◌≤◌, ◌∙◌, ℕ, sym, subst, inl, take, length, arith}
+use Rattle.std.proofs.Common.{◌≡◌, ◌<◌, ◌≤◌, ◌∙◌, ℕ, sym, subst, inl, inr, take, length, arith}
+use Rattle.bits_core.specs.Trace.{BeginsWithMore}
 use Rattle.ring_page.specs.Programs.{TellsPrograms}
+use Rattle.ring_page.specs.declared.audits.TheConstants.{EVENT_ROOM}
 use Rattle.ring_page.specs.Reasons.{TellsSince}
 use Rattle.ring_page.specs.declared.programs.Judged.{Judged}
 use Rattle.std.proofs.lemmas.List.{length-take-le}
@@ -30,4 +32,22 @@ returns-in-Ok c =
       programs = subst (λ (j : Judged). TellsPrograms shape events c.tell_programs-programs.new.put c.tell_programs-programs.new.taken j) (sym c.told_verdict.ensures.programs) c.tell_programs-programs.ensures;
       are_marks = AreMarksOf-audited c.fault_breaks.ensures c.flicker_is_by_interval.ensures shape events verdict c.args.seen.now c.audit_bits_into-verdict.new.seen c.put_marks.new.marks
           c.audit_bits_into-verdict.ensures.verdict c.requires.seen.1 c.audit_bits_into-verdict.ensures.seen few c.put_marks.ensures;
+    })
+
+pub returns-in-Err : goal.returns-in-Err
+returns-in-Err c =
+    let room : length c.read_trace_into.new.events ≡ EVENT_ROOM = c.read_trace_into.auto.events ∙ c.requires.room in
+    inr (record {
+      fault = c.in-Err.fault;
+      cause = elim c.in-Err.ensures.refused [
+        | inl is ↦ inr (
+          is,
+          record {
+            begins = subst (BeginsWithMore c.args.text.now) room (c.in-Err.ensures.full is);
+            only = λ shape events trace. subst (λ (n : ℕ). n < length events) room (c.in-Err.ensures.only shape events trace).1;
+          },
+        )
+        | inr fault ↦ inl fault
+      ];
+      tells = c.told_fault.ensures;
     })

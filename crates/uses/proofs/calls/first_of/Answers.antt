@@ -3,14 +3,14 @@ use Rattle.queue_calls.specs.Audits.{Audits}
 use Rattle.queue_calls.specs.Calls.{IsLinearizable}
 use Rattle.queue_calls.specs.Told.{meant, told}
 use Rattle.queue_calls.specs.declared.capacities.Capacity.{Capacity}
-use Rattle.uses.proofs.Judging.{one_more, stops_there}
+use Rattle.uses.proofs.Judging.{one_more, outgrown, stops_there}
 use Rattle.uses.proofs.calls.first_of.Goals as goal
 
 pub returns-in-Err-OutOfTurn-clause-judged : goal.returns-in-Err-OutOfTurn-clause-judged
 returns-in-Err-OutOfTurn-clause-judged g c fresh =
     let inv = c.loop-number.invariant in
     let was = inv.1 fresh in
-    let refused = rw c.in-Err-OutOfTurn.field-0-is at c.in-Err-OutOfTurn.ensures in
+    let refused = rw c.in-Err-OutOfTurn.field-0-is at c.in-Err-OutOfTurn.ensures.reads in
     let stops = ((refused.1 (map told (take c.loop-number.number c.args.events.now)) was.0).1).1 in
     stops_there c.loop-number.auditor.capacity c.args.auditor.now.capacity c.args.events.now c.loop-number.number _ inv.0 c.loop-number-test.true was.1 stops
 
@@ -18,14 +18,14 @@ pub returns-in-Err-NotLinearizable-clause-judged : goal.returns-in-Err-NotLinear
 returns-in-Err-NotLinearizable-clause-judged g c fresh =
     let inv = c.loop-number.invariant in
     let was = inv.1 fresh in
-    let refused = rw c.in-Err-NotLinearizable.field-0-is at c.in-Err-NotLinearizable.ensures in
+    let refused = rw c.in-Err-NotLinearizable.field-0-is at c.in-Err-NotLinearizable.ensures.reads in
     let stops = ((refused.1 (map told (take c.loop-number.number c.args.events.now)) was.0).1).1 in
     stops_there c.loop-number.auditor.capacity c.args.auditor.now.capacity c.args.events.now c.loop-number.number _ inv.0 c.loop-number-test.true was.1 stops
 
 pub loop-number-preserved : goal.loop-number-preserved
 loop-number-preserved g c =
     let inv = c.loop-number.invariant in
-    let now = c.in-Ok.ensures in (
+    let now = c.in-Ok.ensures.reads in (
       now.0 ∙ inv.0,
       λ fresh.
           (let was = inv.1 fresh in
@@ -34,4 +34,15 @@ loop-number-preserved g c =
             subst (Audits g.Q.Fifo.items c.feed.new.self) one more.0,
             subst (λ (k : Capacity). IsLinearizable (meant k) (map told (take (c.loop-number.number + 1) c.args.events.now))) inv.0 (subst (IsLinearizable (meant c.loop-number.auditor.capacity)) one more.1),
           )),
+      c.in-Ok.ensures.room ∙ inv.2,
+    )
+
+pub returns-in-Err-OutOfMemory-clause-full : goal.returns-in-Err-OutOfMemory-clause-full
+returns-in-Err-OutOfMemory-clause-full g c fresh =
+    let inv = c.loop-number.invariant in
+    let was = inv.1 fresh in
+    let refused = rw c.in-Err-OutOfMemory.field-0-is at c.in-Err-OutOfMemory.ensures.reads in
+    let more = ((refused.1 (map told (take c.loop-number.number c.args.events.now)) was.0).1).1 in (
+      c.loop-number.number + 1,
+      outgrown c.loop-number.auditor.capacity c.args.auditor.now.capacity c.args.events.now c.loop-number.number _ _ _ inv.0 inv.2 c.loop-number-test.true more,
     )

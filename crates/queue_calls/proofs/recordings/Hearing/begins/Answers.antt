@@ -1,4 +1,4 @@
-use Rattle.std.proofs.Common.{◌∙◌, ap, sym, subst}
+use Rattle.std.proofs.Common.{◌∙◌, ap, sym, subst, arith}
 use Rattle.queue_calls.specs.State.{IsProper}
 use Rattle.queue_calls.specs.Recordings.{capacity_told}
 use Rattle.queue_calls.specs.Told.{meant}
@@ -9,4 +9,4 @@ pub restart-requires : goal.restart-requires
 restart-requires g c = subst IsProper (sym c.capacity_told-capacity.ensures) (proper_told c.args.numbers.now c.requires)
 
 pub returns-clause-heard : goal.returns-clause-heard
-returns-clause-heard g c = (ap meant c.restart.ensures.capacity ∙ c.capacity_told-capacity.ensures, (c.restart.ensures.reads, nothing_heard (capacity_told c.args.numbers.now)))
+returns-clause-heard g c = (ap meant c.restart.ensures.capacity ∙ c.capacity_told-capacity.ensures, (c.restart.ensures.reads, nothing_heard (capacity_told c.args.numbers.now)), omega (arith, c.restart-2.ensures.none))

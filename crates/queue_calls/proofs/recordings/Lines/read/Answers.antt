@@ -1,4 +1,4 @@
-use Rattle.std.proofs.Common.{◌≡◌, ◌≢◌, ap, ◌∙◌, ℕ, ◌+◌, List, [], ◌∷◌, ◌++◌, length, Option, Some, Result, Ok, Err, OnOk, IfSome, length-append, ap₂, sym, subst, arith}
+use Rattle.std.proofs.Common.{◌≡◌, ◌≢◌, ap, ◌∙◌, ℕ, ◌+◌, List, [], ◌∷◌, ◌++◌, length, Option, Some, Result, Ok, Err, OnOk, IfErr, IfSome, inl, length-append, ap₂, sym, subst, arith}
 use Rattle.std.proofs.lemmas.List.{nil_from_length}
 use Rattle.queue_calls.specs.Lines.{IsLine}
 use Rattle.queue_calls.specs.Recordings.{Line, line, begun_after, begun_behind, capacity_told, event_told, events_told}
@@ -8,6 +8,7 @@ use Rattle.queue_calls.specs.declared.lines.Word.{Word}
 use Rattle.queue_calls.specs.declared.lines.Word.TheVariants.{Queue}
 use Rattle.queue_calls.specs.declared.recordings.Begun.TheVariants as begun
 use Rattle.queue_calls.proofs.HeardLines.{first_line, is_line, first_heard, further_line, count_is, further_heard, not_the_first, not_further}
+use Rattle.queue_calls.proofs.NotingLemmas.{line_long}
 use Rattle.queue_calls.proofs.recordings.Lines.read.Goals as goal
 
 -- what holds on success follows from what else holds on success
@@ -65,17 +66,33 @@ pub returns-in_default-2-clause-refused : goal.returns-in_default-2-clause-refus
 returns-in_default-2-clause-refused g c before has =
     (omega (arith, has.count, c.in-Some.ensures.1), λ l on. c.in_ok-word.ensures.none c.in_default-2.is l.word l.numbers (is_line before c.args.line.now l on))
 
-pub returns-in_default-word : goal.returns-in_default-word
-returns-in_default-word g c = record {
-  read = tt;
-  refused = λ before has.
-      let none : before ≡ [] = nil_from_length before (omega (arith, has.count, c.in-Some.ensures.1, c.if-count-eq1.true)) in
-      let is = read_is _ _ _ _ c.in-Some-2.is c.in_ok-word.ensures.line in
-      (omega (arith, has.count, c.in-Some.ensures.1), λ l. not_the_first before c.args.line.now _ c.in-Some-2.word l none c.in_default-word.not-Queue is);
-}
+pub returns-in_default-word-clause-refused : goal.returns-in_default-word-clause-refused
+returns-in_default-word-clause-refused g c before has =
+    let none : before ≡ [] = nil_from_length before (omega (arith, has.count, c.in-Some.ensures.1, c.if-count-eq1.true)) in
+    let is = read_is _ _ _ _ c.in-Some-2.is c.in_ok-word.ensures.line in
+    (omega (arith, has.count, c.in-Some.ensures.1), λ l. not_the_first before c.args.line.now _ c.in-Some-2.word l none c.in_default-word.not-Queue is)
 
 pub returns-in_default-event_told-clause-refused : goal.returns-in_default-event_told-clause-refused
 returns-in_default-event_told-clause-refused g c before has =
     let some : before ≢ [] = λ none. c.if-count-eq1.false (omega (arith, has.count, c.in-Some.ensures.1, ap length none)) in
     let is = read_is _ _ _ _ c.in-Some-2.is c.in_ok-word.ensures.line in
     (omega (arith, has.count, c.in-Some.ensures.1), λ l. not_further before c.args.line.now _ _ c.args.self.now.hearing.begun c.in-Some-2.word l some (sym c.in_default-event_told.ensures) is)
+
+-- what holds of an error follows from what else holds of it
+then_err : {T E : Type 0} {P Q : E → Type 0} (r : Result T E) → IfErr r P → ((e : E) → P e → Q e) → IfErr r Q
+then_err (Ok x) p q = tt
+then_err (Err e) p q = q e p
+
+pub returns-clause-full : goal.returns-clause-full
+returns-clause-full g c = then_err c.hear.result c.hear.ensures.full (λ e needs short before has.
+    let numbers : List ℕ = g.S.Numbers.Row.items c.read_line.new.numbers in
+    let is : IsLine c.args.line.now c.in-Some-2.word numbers = read_is _ _ _ _ c.in-Some-2.is c.in_ok-word.ensures.line in
+    let some : before ≢ [] = λ none. c.if-count-eq1.false (omega (arith, has.count, c.in-Some.ensures.1, ap length none)) in
+    let lines = has.heard some in
+    let same : c.as_slice-numbers.result.now ≡ numbers = c.as_slice-numbers.ensures in
+    let tells : event_told (begun_behind begun.Nothing lines.1) c.in-Some-2.word numbers ≡ Some (told c.in-Some-event_told.event) =
+    ap₂ (λ b ns. event_told b c.in-Some-2.word ns) (sym lines.3) (sym same) ∙ sym c.in-Some-event_told.ensures in
+    let on = further_line before c.args.line.now lines.0 lines.1 (begun_behind begun.Nothing lines.1) c.in-Some-2.word numbers (told c.in-Some-event_told.event) lines.2 has.are is tells in
+    let s = c.args.self.now in
+    inl (line_long (g.S.Items.Fifo.room s.hearing.auditor.inside) (g.S.Offered.Fifo.room s.hearing.notes.inside) (g.S.Taken.Fifo.room s.hearing.notes.taken) (g.S.Numbers.Row.room s.hearing.notes.offers)
+    before c.args.line.now lines.0 lines.1 c.in-Some-2.word numbers (told c.in-Some-event_told.event) lines.2 on.0 on.1 tells (needs (capacity_told lines.0) (events_told begun.Nothing lines.1) lines.4)))

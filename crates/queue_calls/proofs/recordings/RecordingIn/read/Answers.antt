@@ -1,6 +1,11 @@
-use Rattle.std.proofs.Common.{◌≡◌, ◌≢◌, ◌∙◌, ◌++◌, ◌∷◌, [], List, ℕ, refl, ap, sym, subst, append_assoc, rules}
+use Rattle.std.proofs.Common.{◌≡◌, ◌≢◌, inr, Result, Ok, Err, length-append, arith, ◌∙◌, ◌++◌, ◌∷◌, [], List, ℕ, refl, ap, sym, subst, append_assoc, rules}
 use Rattle.std.proofs.lemmas.List.{append-nil}
 use Rattle.std.proofs.lemmas.List.Elements.{All-append}
+use Rattle.std.specs.Prelude.{IfErr}
+use Rattle.queue_calls.specs.Rooms.{AreTooShort, rooms_in}
+use Rattle.queue_calls.specs.declared.recordings.RecordingFault.{RecordingFault}
+use Rattle.queue_calls.specs.declared.recordings.RecordingFault.TheVariants.{OutOfMemory}
+use Rattle.queue_calls.proofs.NotingLemmas.{rooms_same, too_short_on}
 use Rattle.queue_calls.specs.Recordings.{RefusesText, lines_text}
 use Rattle.queue_calls.specs.RecordingStates.{HasNoFeed, HasRead}
 use Rattle.queue_calls.proofs.recordings.RecordingIn.read.Goals as goal
@@ -27,7 +32,7 @@ returns-in_err-read_end-clause-refused g c =
     search (rules, refused)
 
 pub loop-end-init : goal.loop-end-init
-loop-end-init g c = ([], refl, λ bytes has. subst (λ t. HasRead g.S.Items.Fifo.items g.S.Bytes.Row.items c.args.self.now t) (sym (append-nil bytes)) has)
+loop-end-init g c = ([], refl, λ bytes has. subst (λ t. HasRead g.S.Items.Fifo.items g.S.Bytes.Row.items c.args.self.now t) (sym (append-nil bytes)) has, refl)
 
 pub loop-end-preserved : goal.loop-end-preserved
 loop-end-preserved g c =
@@ -36,6 +41,7 @@ loop-end-preserved g c =
       read.0 ++ line,
       line_read c.args.piece.now read.0 c.loop-end.rest.now c.in-Some.end.now c.in-Some.more.now read.1 c.in-Some.ensures.1,
       λ bytes has. subst (λ t. HasRead g.S.Items.Fifo.items g.S.Bytes.Row.items c.read_end.new.self t) (append_assoc (bytes ++ read.0) c.in-Some.end.now (10 ∷ []) ∙ append_assoc bytes read.0 line) (c.in_ok-read_end.ensures.read (bytes ++ read.0) (read.2 bytes has)),
+      (let r = c.read_end.ensures.rooms in rooms_same _ _ _ _ _ _ _ _ _ _ _ _ r.0 r.1 r.2 r.3 r.4 r.5) ∙ read.3,
     )
 
 pub returns-clause-read : goal.returns-clause-read
@@ -50,3 +56,45 @@ returns-clause-read g c bytes has =
       no_feed = subst HasNoFeed (sym cut) (All-append (λ b. b ≢ 10) (g.S.Bytes.Row.items c.loop-end.self.cut) c.loop-end.rest.now so_far.no_feed c.in_default.ensures);
       lines = so_far.lines;
     }
+
+-- what holds of the error that is answered
+of_err : {T E : Type 0} (Q : E → Type 0) (r : Result T E) (e : E) → r ≡ Err e → Q e → IfErr r Q
+of_err Q r e is q = subst (λ z. IfErr z Q) (sym is) q
+
+if_err : {T E : Type 0} {Q : E → Type 0} (r : Result T E) → ((e : E) → Q e) → IfErr r Q
+if_err (Ok x) q = tt
+if_err (Err e) q = q e
+
+pub returns-in_err-read_end-clause-full : goal.returns-in_err-read_end-clause-full
+returns-in_err-read_end-clause-full g c =
+    let read = c.loop-end.invariant in
+    let Short : RecordingFault → Type 0 = λ e. e ≡ OutOfMemory → (bytes : List ℕ) → HasRead g.S.Items.Fifo.items g.S.Bytes.Row.items c.args.self.now bytes →
+    AreTooShort (rooms_in g.S.Items.Fifo.room g.S.Offered.Fifo.room g.S.Taken.Fifo.room g.S.Numbers.Row.room g.S.Bytes.Row.room c.args.self.now) (bytes ++ c.args.piece.now) in
+    let full : Short c.in_err-read_end.field-0.0 =
+    λ short bytes has.
+    let end : List ℕ = c.in-Some.end.now ++ 10 ∷ [] in
+    let so_far = c.in_err-read_end.ensures.full short (bytes ++ read.0) (read.2 bytes has) in
+    let text : ((bytes ++ read.0) ++ end) ++ c.in-Some.more.now ≡ bytes ++ c.args.piece.now =
+    ap (λ (t : List ℕ). t ++ c.in-Some.more.now) (append_assoc bytes read.0 end) ∙ append_assoc bytes (read.0 ++ end) c.in-Some.more.now
+    ∙ ap (λ (t : List ℕ). bytes ++ t) (sym (line_read c.args.piece.now read.0 c.loop-end.rest.now c.in-Some.end.now c.in-Some.more.now read.1 c.in-Some.ensures.1)) in
+    subst (λ r. AreTooShort r (bytes ++ c.args.piece.now)) read.3 (subst (AreTooShort _) text (too_short_on _ ((bytes ++ read.0) ++ end) c.in-Some.more.now so_far)) in
+    of_err Short c.from_residual.result c.in_err-read_end.field-0.0 (search rules) full
+
+pub returns-in_err-extend_from_slice-clause-full : goal.returns-in_err-extend_from_slice-clause-full
+returns-in_err-extend_from_slice-clause-full g c = if_err c.from_residual-in_err-extend_from_slice.result (λ e short bytes has.
+    let read = c.loop-end.invariant in
+    let so_far = read.2 bytes has in
+    let cut : List ℕ = g.S.Bytes.Row.items c.loop-end.self.cut in
+    let rest : List ℕ = c.loop-end.rest.now in
+    subst (λ r. AreTooShort r (bytes ++ c.args.piece.now)) read.3 (inr (inr (record {
+      lines = so_far.ended;
+      bytes = cut ++ rest;
+      rest = [];
+      parts = ap (λ (t : List ℕ). bytes ++ t) read.1 ∙ sym (append_assoc bytes read.0 rest) ∙ ap (λ (t : List ℕ). t ++ rest) so_far.text
+          ∙ append_assoc (lines_text so_far.ended) cut rest ∙ ap (λ (t : List ℕ). lines_text so_far.ended ++ t) (sym (append-nil (cut ++ rest)));
+      no_feed = All-append (λ b. b ≢ 10) cut rest so_far.no_feed c.in_default.ensures;
+      more = omega (arith, c.in_err-extend_from_slice.ensures.full, length-append cut rest);
+    }))))
+
+pub returns-clause-rooms : goal.returns-clause-rooms
+returns-clause-rooms g c = rooms_same _ _ _ _ _ _ _ _ _ _ _ _ refl refl refl refl refl c.in_ok-extend_from_slice.ensures.kept ∙ c.loop-end.invariant.3

@@ -1,9 +1,14 @@
-use Rattle.std.proofs.Common.{◌≡◌, ◌∙◌, ◌++◌, ◌∷◌, [], List, ℕ, Result, Ok, Err, OnOk, IfErr, ap, sym, subst, rules}
+use Rattle.std.proofs.Common.{◌≡◌, ◌≢◌, inr, length-append, arith, ◌∙◌, ◌++◌, ◌∷◌, [], List, ℕ, Result, Ok, Err, OnOk, IfErr, ap, sym, subst, rules}
 use Rattle.std.proofs.lemmas.Bool.{eqb-true}
 use Rattle.std.proofs.lemmas.List.{nil_from_length}
-use Rattle.queue_calls.specs.Recordings.{RefusesText}
+use Rattle.std.proofs.lemmas.List.Elements.{All-append}
+use Rattle.queue_calls.specs.Recordings.{RefusesText, lines_text}
+use Rattle.queue_calls.specs.Rooms.{AreTooShort, rooms_in}
+use Rattle.queue_calls.specs.declared.recordings.RecordingFault.{RecordingFault}
+use Rattle.queue_calls.specs.declared.recordings.RecordingFault.TheVariants.{OutOfMemory}
 use Rattle.queue_calls.specs.RecordingStates.{HasRead, RefusesLine}
-use Rattle.queue_calls.proofs.RecordingLemmas.{end_refused, line_ended}
+use Rattle.queue_calls.proofs.RecordingLemmas.{end_refused, ended_text, line_ended}
+use Rattle.queue_calls.proofs.NotingLemmas.{line_short}
 use Rattle.queue_calls.proofs.recordings.RecordingIn.read_end.Goals as goal
 
 -- what holds of an error follows from what else holds of it
@@ -15,6 +20,14 @@ then_err (Err e) p q = q e p
 then_ok : {T E P Q : Type 0} (r : Result T E) → OnOk r P → (P → Q) → OnOk r Q
 then_ok (Ok x) p q = q p
 then_ok (Err e) p q = tt
+
+-- what holds of the error that is answered
+of_err : {T E : Type 0} (Q : E → Type 0) (r : Result T E) (e : E) → r ≡ Err e → Q e → IfErr r Q
+of_err Q r e is q = subst (λ z. IfErr z Q) (sym is) q
+
+if_err : {T E : Type 0} {Q : E → Type 0} (r : Result T E) → ((e : E) → Q e) → IfErr r Q
+if_err (Ok x) q = tt
+if_err (Err e) q = q e
 
 pub returns-then-is_empty-clause-read : goal.returns-then-is_empty-clause-read
 returns-then-is_empty-clause-read g c = then_ok c.read.result c.read.ensures.read (λ read bytes has.
@@ -42,3 +55,34 @@ returns-in_err-read-clause-refused g c =
     end_refused c.in_err-read.field-0.0 has.ended bytes (g.S.Bytes.Row.items c.args.self.now.cut) c.args.end.now more has.text has.lines.are has.no_feed c.requires
     (subst (λ t. RefusesLine c.in_err-read.field-0.0 has.ended t) (c.as_slice.ensures ∙ c.in_ok-extend_from_slice.ensures.items) (c.in_err-read.ensures.refused has.ended has.lines)) in
     search (rules, refused)
+
+pub returns-then-is_empty-clause-full : goal.returns-then-is_empty-clause-full
+returns-then-is_empty-clause-full g c = then_err c.read.result c.read.ensures.full (λ e h short bytes has.
+    let cut : List ℕ = (g.S.Bytes.Row.items c.args.self.now.cut) in
+    let none : cut ≡ [] = nil_from_length cut (eqb-true _ 0 (sym c.is_empty.ensures ∙ c.if-is_empty.true)) in
+    line_short (rooms_in g.S.Items.Fifo.room g.S.Offered.Fifo.room g.S.Taken.Fifo.room g.S.Numbers.Row.room g.S.Bytes.Row.room c.args.self.now) has.ended c.args.end.now (bytes ++ (c.args.end.now ++ 10 ∷ []))
+    (ended_text has.ended bytes cut c.args.end.now [] has.text ∙ ap (λ (t : List ℕ). lines_text has.ended ++ ((t ++ c.args.end.now) ++ 10 ∷ [])) none) (h short has.ended has.lines))
+
+pub returns-in_err-extend_from_slice-clause-full : goal.returns-in_err-extend_from_slice-clause-full
+returns-in_err-extend_from_slice-clause-full g c = if_err c.from_residual.result (λ e short bytes has.
+    let cut : List ℕ = (g.S.Bytes.Row.items c.args.self.now.cut) in
+    inr (inr (record {
+      lines = has.ended;
+      bytes = cut ++ c.args.end.now;
+      rest = 10 ∷ [];
+      parts = ended_text has.ended bytes cut c.args.end.now [] has.text;
+      no_feed = All-append (λ b. b ≢ 10) cut c.args.end.now has.no_feed c.requires;
+      more = omega (arith, c.in_err-extend_from_slice.ensures.full, length-append cut c.args.end.now);
+    })))
+
+pub returns-in_err-read-clause-full : goal.returns-in_err-read-clause-full
+returns-in_err-read-clause-full g c =
+    let Short : RecordingFault → Type 0 = λ e. e ≡ OutOfMemory → (bytes : List ℕ) → HasRead g.S.Items.Fifo.items g.S.Bytes.Row.items c.args.self.now bytes →
+    AreTooShort (rooms_in g.S.Items.Fifo.room g.S.Offered.Fifo.room g.S.Taken.Fifo.room g.S.Numbers.Row.room g.S.Bytes.Row.room c.args.self.now) (bytes ++ (c.args.end.now ++ 10 ∷ [])) in
+    let full : Short c.in_err-read.field-0.0 =
+    λ short bytes has.
+    let cut : List ℕ = (g.S.Bytes.Row.items c.args.self.now.cut) in
+    let line_is : c.as_slice.result.now ≡ cut ++ c.args.end.now = c.as_slice.ensures ∙ c.in_ok-extend_from_slice.ensures.items in
+    line_short (rooms_in g.S.Items.Fifo.room g.S.Offered.Fifo.room g.S.Taken.Fifo.room g.S.Numbers.Row.room g.S.Bytes.Row.room c.args.self.now) has.ended c.as_slice.result.now (bytes ++ (c.args.end.now ++ 10 ∷ []))
+    (ended_text has.ended bytes cut c.args.end.now [] has.text ∙ ap (λ (t : List ℕ). lines_text has.ended ++ (t ++ 10 ∷ [])) (sym line_is)) (c.in_err-read.ensures.full short has.ended has.lines) in
+    of_err Short c.from_residual-in_err-read.result c.in_err-read.field-0.0 (search rules) full
