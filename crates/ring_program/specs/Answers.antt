@@ -5,7 +5,6 @@ use Rattle.clap.specs.Kinds.{IsAmong, Kinds}
 use Rattle.clap.specs.declared.error.kind.ErrorKind.{ErrorKind}
 use Rattle.clap.specs.declared.error.kind.ErrorKind.TheVariants as kind
 use Rattle.bits_core.specs.Audit.{IsVerdict}
-use Rattle.bits_core.specs.Lawful.{IsLawful}
 use Rattle.bits_core.specs.Trace.{IsTrace, IsTraceFault, IsTraceText, RefusesTraceText}
 use Rattle.bits_core.specs.declared.audits.Verdict.{Verdict}
 use Rattle.bits_core.specs.declared.audits.Verdict.TheVariants.{Lawful, Fault}
@@ -16,6 +15,7 @@ use Rattle.bits_core.specs.Shape.{HasBatch, IsRefusedBatch, capacity_of}
 use Rattle.bits_core.specs.Made.{IsBeginning}
 use Rattle.bits_core.specs.declared.traces.TraceFault.{TraceFault}
 use Rattle.bits_core.specs.declared.traces.TraceFault.TheVariants as trace
+use Rattle.near_misses.specs.NearPlays.{IsNearPlay}
 use Rattle.queue_calls.specs.Queue.{exactly}
 use Rattle.queue_calls.specs.Recordings.{IsFindingOf, IsRecording, RefusesText}
 use Rattle.queue_calls.specs.declared.recordings.CallsFinding.{CallsFinding}
@@ -190,20 +190,24 @@ pub record RecordsScript (input text : List ℕ) (ending : Ending) : Type 0 wher
   pub is_recording : IsRecording text (exactly (capacity_of content.shape)) (call_events content told)
   pub ends : ending ≡ Done
 
--- the input is a script, and the text is a trace, of a lawful history of the bits; of its items nothing is said
+-- the input is a script, and the text is the trace of its play by a near miss
 pub record TracesWrong (input text : List ℕ) (ending : Ending) : Type 0 where
   pub content : Content
   pub history : List Event
+  pub told : List play_told.Told
   pub is_script : IsScript input content
-  pub lawful : IsLawful content.shape history
+  pub plays : IsNearPlay content history told
   pub is_trace : IsTraceText text content.shape history
   pub ends : ending ≡ Done
 
--- the input is a script, and the text has a line of the ring's capacity and then a line for each begin and end of a call
+-- the input is a script, and the text has a line of the ring's capacity and then a line for each begin and end of a call that is told
+-- of its play by a near miss
 pub record RecordsWrong (input text : List ℕ) (ending : Ending) : Type 0 where
   pub content : Content
+  pub history : List Event
   pub told : List play_told.Told
   pub is_script : IsScript input content
+  pub plays : IsNearPlay content history told
   pub words : text ≡ told_text_of content told
   pub ends : ending ≡ Done
 

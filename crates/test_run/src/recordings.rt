@@ -1,7 +1,8 @@
 //! What a recorder tells of a relay of which one side makes no call, so that its lines are the same at every schedule.
 use crate::expects::{Kind, Numbers, expect_relay};
 use queue_calls::Word;
-use ring_run::{Limits, RecordedLines, Recorder, Slot};
+use ring_core::{BatchReply, TakeReply};
+use ring_run::{Gate, Limits, RecordedLines, Recorder, Slot};
 use std::alloc::AllocGlobal;
 use std::process::Abort;
 use std::thread::Threads;
@@ -29,6 +30,18 @@ static TAKES: [(Word, &[u64]); 4] = [
     (Word::Empty, &[]),
     (Word::Take, &[]),
     (Word::Empty, &[]),
+];
+
+/// The calls of both sides, one after the other: two items that are put and taken.
+static BOTH: [(Word, &[u64]); 8] = [
+    (Word::Put, &[7]),
+    (Word::Stored, &[]),
+    (Word::Take, &[]),
+    (Word::Item, &[7]),
+    (Word::Put, &[8]),
+    (Word::Stored, &[]),
+    (Word::Take, &[]),
+    (Word::Item, &[8]),
 ];
 
 /// So many slots.
@@ -93,4 +106,35 @@ fn a_recording_ends_where_its_room_does(rt: HostRuntime) {
     expect_recorded(&rt, 4, &[7, 8, 9, 10, 11], puts, &PUTS[..2]);
     expect_recorded(&rt, 5, &[7, 8, 9, 10, 11], puts, &PUTS[..3]);
     expect_recorded(&rt, 3, &[7], takes, &TAKES[..3]);
+}
+
+// Tells the recorder the calls of both sides.
+fn tell_both(recorder: &Recorder<'_>) {
+    for item in [7, 8] {
+        recorder.put_begins(&[item]);
+        recorder.put_ended(&[item], BatchReply::Stored(1));
+        recorder.take_begins();
+        recorder.take_ended(TakeReply::Item(item));
+    }
+}
+
+// With room for so many lines of each side, so many of the lines of both are recorded.
+fn expect_both(rt: &(impl Abort + AllocGlobal), room: (usize, usize), lines: usize) {
+    let (puts, takes) = (slots(rt, room.0), slots(rt, room.1));
+    let recorder = Recorder::new(puts.as_slice(), takes.as_slice());
+    tell_both(&recorder);
+    let expected = BOTH.get(..lines).unwrap_or(&[]);
+    let is_so = are_recorded(rt, recorder.lines(), expected);
+    assert!(rt; is_so, "{lines} lines");
+}
+
+// Where one side has no room for a line, the lines of the other that come later are left out too.
+#[test]
+fn a_side_with_no_room_ends_the_recording_of_both(rt: HostRuntime) {
+    expect_both(&rt, (4, 4), 8);
+    expect_both(&rt, (3, 4), 5);
+    expect_both(&rt, (2, 4), 4);
+    expect_both(&rt, (0, 4), 0);
+    expect_both(&rt, (4, 3), 7);
+    expect_both(&rt, (4, 1), 3);
 }

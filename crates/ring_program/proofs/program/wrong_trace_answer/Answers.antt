@@ -6,8 +6,9 @@ returns-clause-answered g c =
     record {
       content = c.in_ok-script.script;
       history = c.in_ok-play.play.history.items;
+      told = c.in_ok-play.play.told.items;
       is_script = c.in_ok-script.ensures.read;
-      lawful = c.in_ok-play.ensures.lawful;
+      plays = c.in_ok-play.ensures.plays;
       is_trace = record {
         text = rw (c.shape.ensures, c.as_slice.ensures.value) at c.in_ok-text.ensures.text;
         of_shape = c.in_ok-play.ensures.of_shape;
