@@ -150,7 +150,8 @@ pub fn nothing_seen() -> [Seen; EVENT_ROOM]
 
 /// Tells the verdict on the trace that the text is, with the marks of its events, as many as there is room for, and what the
 /// audit of programs finds of it, with the items put and taken in the first slots of two slices; or why it is no trace, or that
-/// it has more events than `EVENT_ROOM`. As many slots as there are events are enough. It takes no memory.
+/// it begins with a trace of more events than `EVENT_ROOM`, so that no fault was found before the room ended. As many slots as
+/// there are events are enough. It takes no memory.
 #[unsafe(no_mangle)]
 pub extern "C" fn page_audit(
     text: &[u8],
