@@ -1,18 +1,10 @@
 -- What a writer gained, all of a text or a front of it.
 use Rattle.std.proofs.Common.{◌≡◌, ◌⊎◌, ℕ, ◌+◌, Bool, true, false, List, [], ◌++◌, Option, inl, length, not, refl, subst, sym, take, append-nil}
-use Rattle.std.proofs.KnownBytes.{Appends-nil, Appends-trans}
+use Rattle.std.proofs.KnownBytes.{Appends-trans}
 use Rattle.std.proofs.Math.Seq.{take-append-add}
 use Rattle.std.specs.Io.KnownBytes.{Appends}
 use Rattle.ring_program.specs.Faults.{Gains, IsInText, SaysRefusal, refusal_line}
 use Rattle.ring_program.specs.declared.faults.Refusal.{Refusal}
-
--- nothing was gained yet
-pub no_gain : (held : Option (List ℕ)) (text : List ℕ) → Gains held held false text
-no_gain held text = (0, Appends-nil held)
-
--- all of nothing was gained
-pub gains_nothing : (held : Option (List ℕ)) → Gains held held true []
-gains_nothing held = Appends-nil held
 
 -- a refusal was told by its line alone
 pub tells_line : (before after : Option (List ℕ)) (is_told : Bool) (e : Refusal) → Gains before after is_told (refusal_line e)
