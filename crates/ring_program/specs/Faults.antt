@@ -13,12 +13,12 @@ use Rattle.ring_program.specs.declared.faults.Refusal.{Refusal}
 use Rattle.ring_program.specs.declared.faults.Refusal.TheVariants as refusal
 
 -- the number of each fault
-abbrev pub number_of : AppFault → ℕ
-number_of ReadFailed = 1
-number_of TooLarge = 2
-number_of WriteFailed = 3
-number_of OutOfMemory = 4
-number_of NotOfRun = 5
+abbrev pub app_fault_number : AppFault → ℕ
+app_fault_number ReadFailed = 1
+app_fault_number TooLarge = 2
+app_fault_number WriteFailed = 3
+app_fault_number OutOfMemory = 4
+app_fault_number NotOfRun = 5
 
 -- its words
 abbrev pub app_fault_words : AppFault → List ℕ

@@ -49,11 +49,11 @@ impl fmt::Display for AppFault {
 impl Error for AppFault {}
 
 impl AppFault {
-    ghost use Rattle.ring_program.specs.Faults.{number_of};
+    ghost use Rattle.ring_program.specs.Faults.{app_fault_number};
 
     /// The number of the fault: 1 `ReadFailed`, 2 `TooLarge`, 3 `WriteFailed`, 4 `OutOfMemory`, 5 `NotOfRun`.
     pub fn number(&self) -> u8
-        ensures { result ≡ number_of self.now }
+        ensures { result ≡ app_fault_number self.now }
     {
         match self {
             AppFault::ReadFailed => 1,
