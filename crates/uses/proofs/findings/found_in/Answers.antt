@@ -29,7 +29,7 @@ pieces-preserved g c = (
 -- the pieces before this one, this one, and those behind it
 all_pieces : (pieces : List (Bor (List ℕ))) (index : ℕ) (d : Bor (List ℕ)) → index < length pieces
     → flat_map (λ piece. piece.now) (take index pieces) ++ ((slice_index_or pieces index d).now ++ flat_map (λ piece. piece.now) (drop (index + 1) pieces))
-        ≡ flat_map (λ piece. piece.now) pieces
+    ≡ flat_map (λ piece. piece.now) pieces
 all_pieces pieces index d less =
     let f : Bor (List ℕ) → List ℕ = λ piece. piece.now in
     sym (append_assoc (flat_map f (take index pieces)) (slice_index_or pieces index d).now (flat_map f (drop (index + 1) pieces)))
@@ -44,8 +44,8 @@ if_err (Err e) p q = q e p
 pub returns-in_err-read-clause-refused : goal.returns-in_err-read-clause-refused
 returns-in_err-read-clause-refused g c =
     let refused : RefusesText c.in_err-read.field-0.0 (flat_map (λ piece. piece.now) c.args.pieces.now) =
-        subst (RefusesText c.in_err-read.field-0.0) (all_pieces c.args.pieces.now c.pieces.piece-index _ (omega (arith, c.pieces-test.true)))
-            (c.in_err-read.ensures.refused _ (flat_map (λ piece. piece.now) (drop (c.pieces.piece-index + 1) c.args.pieces.now)) c.pieces.invariant.0) in
+    subst (RefusesText c.in_err-read.field-0.0) (all_pieces c.args.pieces.now c.pieces.piece-index _ (omega (arith, c.pieces-test.true)))
+    (c.in_err-read.ensures.refused _ (flat_map (λ piece. piece.now) (drop (c.pieces.piece-index + 1) c.args.pieces.now)) c.pieces.invariant.0) in
     search (rules, refused)
 
 pub returns-clause-found : goal.returns-clause-found

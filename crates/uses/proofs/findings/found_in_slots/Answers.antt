@@ -16,7 +16,7 @@ if_err (Err e) p q = q e p
 pub returns-in_err-read-clause-refused : goal.returns-in_err-read-clause-refused
 returns-in_err-read-clause-refused c =
     let refused : RefusesText c.in_err-read.field-0.0 c.args.text.now =
-        subst (RefusesText c.in_err-read.field-0.0) (append-nil c.args.text.now) (c.in_err-read.ensures.refused [] [] c.within-recording.ensures.read) in
+    subst (RefusesText c.in_err-read.field-0.0) (append-nil c.args.text.now) (c.in_err-read.ensures.refused [] [] c.within-recording.ensures.read) in
     search (rules, refused)
 
 pub returns-clause-found : goal.returns-clause-found
