@@ -3,6 +3,7 @@ mod PlayLemmas
 mod Endings
 mod Gains
 mod InlineLines
+mod RecordingText
 mod RunItems
 mod RunTelling
 mod RunText
