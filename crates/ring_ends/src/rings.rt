@@ -111,6 +111,8 @@ impl<K: Kind, A: Allocator> RingIn<K, A> {
 pub type FlickerRing<A> = RingIn<Flickering, A>;
 
 /// The right to make the two ends of one ring of this kind; with no other can they be made. To a contract it is which ring it is.
+///
+/// In use: `uses::two_threads::pass_through`, as that of a counter ring.
 #[derive(Drop)]
 pub struct StartIn<K: Kind> {
     pub(crate) seat: Seat<(), View>,
