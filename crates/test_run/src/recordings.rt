@@ -118,23 +118,22 @@ fn tell_both(recorder: &Recorder<'_>) {
     }
 }
 
-// With room for so many lines of each side, so many of the lines of both are recorded.
-fn expect_both(rt: &(impl Abort + AllocGlobal), room: (usize, usize), lines: usize) {
+// With room for so many lines of each side, these lines of both are recorded.
+fn expect_both(rt: &(impl Abort + AllocGlobal), room: (usize, usize), expected: &[(Word, &[u64])]) {
     let (puts, takes) = (slots(rt, room.0), slots(rt, room.1));
     let recorder = Recorder::new(puts.as_slice(), takes.as_slice());
     tell_both(&recorder);
-    let expected = BOTH.get(..lines).unwrap_or(&[]);
     let is_so = are_recorded(rt, recorder.lines(), expected);
-    assert!(rt; is_so, "{lines} lines");
+    assert!(rt; is_so, "{} lines", expected.len());
 }
 
 // Where one side has no room for a line, the lines of the other that come later are left out too.
 #[test]
 fn a_side_with_no_room_ends_the_recording_of_both(rt: HostRuntime) {
-    expect_both(&rt, (4, 4), 8);
-    expect_both(&rt, (3, 4), 5);
-    expect_both(&rt, (2, 4), 4);
-    expect_both(&rt, (0, 4), 0);
-    expect_both(&rt, (4, 3), 7);
-    expect_both(&rt, (4, 1), 3);
+    expect_both(&rt, (4, 4), &BOTH);
+    expect_both(&rt, (3, 4), &BOTH[..5]);
+    expect_both(&rt, (2, 4), &BOTH[..4]);
+    expect_both(&rt, (0, 4), &[]);
+    expect_both(&rt, (4, 3), &BOTH[..7]);
+    expect_both(&rt, (4, 1), &BOTH[..3]);
 }
