@@ -1,6 +1,8 @@
--- Operations that come one after the other at a queue, and some that do not.
+-- Operations that come one after the other at a queue, and some that do not; and what is counted of pasts, the last event first.
 use Rattle.std.proofs.Common.{◌≡◌, true, false, [], ◌∷◌, length, refl, ap, arith}
 use Rattle.queue_calls.specs.Queue.{Unbounded, Between, exactly, Enqueue, FindNoRoom, FindFull, FindShut, Close, Dequeue, FindFewer, FindEmpty, FindClosed, Queue, queue, IsLegal}
+use Rattle.queue_calls.specs.Calls.{PutBegin, PutStored, TakeBegin, TakeItems}
+use Rattle.queue_calls.specs.Reporting.{begun, full_ends, overlapped, under_way}
 
 -- these come one after the other at a queue of one cell
 some_legal : IsLegal (exactly 1) (queue [] false) (FindEmpty ∷ Enqueue 1 ∷ FindFull ∷ FindFewer 2 ∷ Close ∷ FindShut ∷ Dequeue 1 ∷ FindClosed ∷ [])
@@ -51,3 +53,28 @@ not_empty r = omega (arith, r.2.1.0, ap (λ (q : Queue). length q.items) r.1.2)
 
 drained : ¬ IsLegal (exactly 1) (queue [] true) (FindFewer 2 ∷ [])
 drained r = r.1.1 (refl, refl)
+
+-- a put within a take: both calls have overlapped one of the other side; a second put within the same take: three have; takes that come
+-- behind a put: none have
+within_one : overlapped (PutStored 1 ∷ PutBegin (7 ∷ []) ∷ TakeBegin 1 ∷ []) ≡ 2
+within_one = refl
+
+within_both : overlapped (PutBegin (8 ∷ []) ∷ PutStored 1 ∷ PutBegin (7 ∷ []) ∷ TakeBegin 1 ∷ []) ≡ 3
+within_both = refl
+
+one_behind : overlapped (TakeBegin 1 ∷ TakeItems (7 ∷ []) ∷ TakeBegin 1 ∷ PutStored 1 ∷ PutBegin (7 ∷ []) ∷ []) ≡ 0
+one_behind = refl
+
+-- a put of which only some items were stored ends as a full one does
+some_stored : full_ends (PutStored 1 ∷ PutBegin (7 ∷ 8 ∷ []) ∷ []) ≡ 1
+some_stored = refl
+
+all_stored : full_ends (PutStored 2 ∷ PutBegin (7 ∷ 8 ∷ []) ∷ []) ≡ 0
+all_stored = refl
+
+-- two calls that have begun and not ended
+both_begun : begun (TakeBegin 1 ∷ PutBegin (7 ∷ []) ∷ []) ≡ 2
+both_begun = refl
+
+both_under_way : under_way (TakeBegin 1 ∷ PutBegin (7 ∷ []) ∷ []) ≡ 2
+both_under_way = refl

@@ -8,7 +8,7 @@ use Rattle.queue_calls.specs.State.{taken_by, left_by, Keeps}
 use Rattle.queue_calls.specs.Audits.{HasMoreItems, items_at, left_at}
 use Rattle.queue_calls.proofs.PutBegins.{put_begin}
 
-pub left_same : (offered before : ℕ) (p : Producer) → left_by (Offers offered before) p ≡ left_at p
+left_same : (offered before : ℕ) (p : Producer) → left_by (Offers offered before) p ≡ left_at p
 left_same offered before Idle = refl
 left_same offered before (Putting lacked done left) = refl
 left_same offered before FoundShut = refl

@@ -11,6 +11,8 @@ use Rattle.queue_calls.specs.declared.lines.Word.{Word}
 use Rattle.queue_calls.specs.declared.lines.Word.TheVariants.{Queue, Put, Stored, Full, Short, PutNothing, PutClosed, Close, Take, Item, Empty, TakeShort, TakeNothing, TakeClosed}
 use Rattle.queue_calls.specs.declared.recordings.Begun.{Begun}
 use Rattle.queue_calls.specs.declared.recordings.Begun.TheVariants as begun
+use Rattle.queue_calls.specs.declared.entries.Offered.{Offered}
+use Rattle.queue_calls.specs.declared.entries.Taken.{Taken}
 use Rattle.queue_calls.specs.declared.recordings.Hearing.{Hearing}
 use Rattle.queue_calls.proofs.LineLemmas.{line_same}
 
@@ -103,10 +105,10 @@ pub first_line : (before : List Line) (bytes numbers : List ℕ) → before ≡ 
 first_line [] bytes numbers none is = ((refl, (is.allowed, is.small), All-nil IsFurther), is.text)
 first_line (l ∷ before) bytes numbers none is = absurd (omega (arith, ap length none))
 
-pub first_heard : {S Q O T N B : Type 0} (items : Q → List ℕ) (hearing : Hearing S Q O T N B) (before : List Line) (numbers : List ℕ) → before ≡ [] → hearing.begun ≡ begun.Nothing → HasHeard items hearing (capacity_told numbers) []
-    → HeardLines items hearing (before ++ line Queue numbers ∷ [])
-first_heard items hearing [] numbers none rests heard = (numbers, [], refl, rests, heard)
-first_heard items hearing (l ∷ before) numbers none rests heard = absurd (omega (arith, ap length none))
+pub first_heard : {S O T N B : Type 0} (offered : O → List Offered) (last : T → List Taken) (hearing : Hearing S O T N B) (before : List Line) (numbers : List ℕ) → before ≡ [] → hearing.begun ≡ begun.Nothing → HasHeard offered last hearing (capacity_told numbers) []
+    → HeardLines offered last hearing (before ++ line Queue numbers ∷ [])
+first_heard offered last hearing [] numbers none rests heard = (numbers, [], refl, rests, heard)
+first_heard offered last hearing (l ∷ before) numbers none rests heard = absurd (omega (arith, ap length none))
 
 -- a further line
 pub further_line : (before : List Line) (bytes first : List ℕ) (further : List Line) (b : Begun) (w : Word) (numbers : List ℕ) (event : Event) → before ≡ line Queue first ∷ further → AreLines before
@@ -125,15 +127,15 @@ count_is before first further b count line_number parts are is next =
     let all : length before ≡ length further + 1 = ap length parts ∙ omega arith in
     omega (arith, many, all, is, next)
 
-pub further_heard : {S Q O T N B : Type 0} (items : Q → List ℕ) (hearing : Hearing S Q O T N B) (before : List Line) (first : List ℕ) (further : List Line) (w : Word) (numbers : List ℕ) (event : Event) → before ≡ line Queue first ∷ further
+pub further_heard : {S O T N B : Type 0} (offered : O → List Offered) (last : T → List Taken) (hearing : Hearing S O T N B) (before : List Line) (first : List ℕ) (further : List Line) (w : Word) (numbers : List ℕ) (event : Event) → before ≡ line Queue first ∷ further
     → event_told (begun_behind begun.Nothing further) w numbers ≡ Some event → hearing.begun ≡ begun_after (begun_behind begun.Nothing further) w numbers
-    → HasHeard items hearing (capacity_told first) (events_told begun.Nothing further ++ event ∷ []) → HeardLines items hearing (before ++ line w numbers ∷ [])
-further_heard items hearing before first further w numbers event parts tells behind heard =
+    → HasHeard offered last hearing (capacity_told first) (events_told begun.Nothing further ++ event ∷ []) → HeardLines offered last hearing (before ++ line w numbers ∷ [])
+further_heard offered last hearing before first further w numbers event parts tells behind heard =
     let more : events_told begun.Nothing further ++ event ∷ [] ≡ events_told begun.Nothing (further ++ line w numbers ∷ []) =
     sym (events_more begun.Nothing further (line w numbers) ∙ ap (λ (o : Option Event). events_told begun.Nothing further ++ and_then o []) tells) in (
       first,
       further ++ line w numbers ∷ [],
       ap (λ (lines : List Line). lines ++ line w numbers ∷ []) parts,
       behind ∙ sym (begun_more begun.Nothing further (line w numbers)),
-      subst (λ (events : List Event). HasHeard items hearing (capacity_told first) events) more heard,
+      subst (λ (events : List Event). HasHeard offered last hearing (capacity_told first) events) more heard,
     )

@@ -1,18 +1,32 @@
--- What was heard of a history: at first nothing; a fault stays the first; and an event that is refused is the first fault.
-use Rattle.std.proofs.Common.{◌≡◌, ℕ, ◌+◌, true, false, Option, Some, None, List, [], ◌∷◌, ◌++◌, length, refl, ap, sym, subst, ◌∙◌, append_assoc, arith}
-use Rattle.std.specs.Prelude.{is_some}
+-- What was heard of a history: a fault stays the first; an event that is refused is the first fault; and one that is not is counted.
+use Rattle.std.proofs.Common.{◌≡◌, ℕ, ◌+◌, true, false, Option, Some, None, List, [], ◌∷◌, ◌++◌, length, reverse, refl, ap, sym, subst, ◌∙◌, append_assoc, arith}
+use Rattle.std.specs.Prelude.{is_some, max}
 use Rattle.std.proofs.lemmas.Bool.{false≢true}
-use Rattle.queue_calls.specs.Queue.{Capacity, queue}
-use Rattle.queue_calls.specs.Calls.{Event, Idle, Resting, point, IsLinearizable}
-use Rattle.queue_calls.specs.State.{IsProper}
-use Rattle.queue_calls.specs.Audits.{Audits}
+use Rattle.queue_calls.specs.Queue.{Capacity}
+use Rattle.queue_calls.specs.Calls.{Event, IsLinearizable}
+use Rattle.queue_calls.specs.Counting.{Kept, kept}
+use Rattle.queue_calls.specs.State.{IsProper, offered_by}
 use Rattle.queue_calls.specs.Lines.{Allows}
 use Rattle.queue_calls.specs.Recordings.{capacity_told, StopsAt}
 use Rattle.queue_calls.specs.RecordingStates.{IsFaultSoFar}
+use Rattle.queue_calls.specs.Reporting.{as_number, IsReport, IsSurelyInside, IsPerhapsInside}
+use Rattle.queue_calls.specs.Tallying.{HaveNumbersOf, IsTallied, IsToldOf, Tallies, least_kept, most_behind, most_kept, has_put, has_take}
+use Rattle.queue_calls.specs.Told.{meant}
+use Rattle.queue_calls.specs.Witnesses.{Remembers}
 use Rattle.queue_calls.specs.declared.lines.Word.TheVariants as word
-use Rattle.queue_calls.specs.declared.auditors.CallAuditor.{CallAuditor}
+use Rattle.queue_calls.specs.declared.entries.Offered.{Offered}
+use Rattle.queue_calls.specs.declared.entries.Taken.{Taken}
+use Rattle.queue_calls.specs.declared.reports.Report.{Report}
+use Rattle.queue_calls.specs.declared.reports.Tally.{Tally}
+use Rattle.queue_calls.specs.declared.turns.PutTurn.TheVariants.{Free}
+use Rattle.queue_calls.specs.declared.turns.TakeTurn.TheVariants.{Rests}
+use Rattle.queue_calls.specs.declared.witnesses.Witness.{Witness}
 use Rattle.queue_calls.specs.declared.recordings.CallsFinding.{CallsFinding}
 use Rattle.queue_calls.specs.declared.recordings.CallsFinding.TheVariants.{Lawful, OutOfTurn, NotLinearizable}
+use Rattle.queue_calls.proofs.Agreeing.{turned}
+use Rattle.queue_calls.proofs.InsideMoments.{perhaps_follows, surely_follows}
+use Rattle.queue_calls.proofs.Remembering.{kept_of, linear, stands}
+use Rattle.queue_calls.proofs.TalliesFollow.{last_count, sides_fit, tells}
 
 -- the numbers of a first line tell a capacity that a queue may have
 pub proper_told : (numbers : List ℕ) → Allows word.Queue numbers → IsProper (capacity_told numbers)
@@ -21,12 +35,8 @@ proper_told (most ∷ []) allowed = (omega (arith, allowed), omega arith)
 proper_told (full ∷ most ∷ []) allowed = (omega (arith, allowed.0), omega (arith, allowed.1))
 proper_told (full ∷ most ∷ n ∷ more) allowed = absurd allowed
 
--- no event is linearizable
-pub nothing_heard : (capacity : Capacity) → IsLinearizable capacity []
-nothing_heard capacity = (point (queue [] false) Idle Resting, record { marks = []; events = refl; lead = refl })
-
 -- a fault stays the first one
-stops_before : (capacity : Capacity) (events : List Event) (event : Event) (number : ℕ) (Says : List Event → Type 0) → StopsAt capacity events number Says → StopsAt capacity (events ++ event ∷ []) number Says
+stops_before : (capacity : Capacity) (events : List Event) (event : Event) (number : ℕ) (Says : List Event → Event → Type 0) → StopsAt capacity events number Says → StopsAt capacity (events ++ event ∷ []) number Says
 stops_before capacity events event number Says at = record {
   before = at.before;
   event = at.event;
@@ -38,28 +48,85 @@ stops_before capacity events event number Says at = record {
   says = at.says;
 }
 
-pub fault_stays : {Q : Type 0} (items : Q → List ℕ) (fault : Option CallsFinding) (auditor : CallAuditor Q) (capacity : Capacity) (events : List Event) (event : Event) → is_some fault ≡ true
-    → IsFaultSoFar items fault auditor capacity events → IsFaultSoFar items fault auditor capacity (events ++ event ∷ [])
-fault_stays items None auditor capacity events event some is = absurd (false≢true some)
-fault_stays items (Some (Lawful report)) auditor capacity events event some is = is
-fault_stays items (Some (OutOfTurn number)) auditor capacity events event some is = stops_before capacity events event number _ is
-fault_stays items (Some (NotLinearizable number cause)) auditor capacity events event some is = stops_before capacity events event number _ is
-
-pub no_fault : {Q : Type 0} (items : Q → List ℕ) (fault : Option CallsFinding) (auditor : CallAuditor Q) (capacity : Capacity) (events : List Event) → is_some fault ≡ false
-    → IsFaultSoFar items fault auditor capacity events → Audits items auditor events × IsLinearizable capacity events
-no_fault items None auditor capacity events none is = is
-no_fault items (Some fault) auditor capacity events none is = absurd (false≢true (sym none))
-
 -- an event with which the history is not linearizable
-pub stops_here : (told capacity : Capacity) (events : List Event) (event : Event) (number : ℕ) (Says : List Event → Type 0) → told ≡ capacity → IsLinearizable capacity events
-    → ¬ (IsLinearizable told (events ++ event ∷ [])) → Says (events ++ event ∷ []) → length events + 2 ≡ number → StopsAt capacity (events ++ event ∷ []) number Says
-stops_here told capacity events event number Says same so_far stops says is = record {
+pub stops_here : (capacity : Capacity) (events : List Event) (event : Event) (number : ℕ) (Says : List Event → Event → Type 0) → IsLinearizable capacity events
+    → ¬ (IsLinearizable capacity (events ++ event ∷ [])) → Says events event → length events + 2 ≡ number → StopsAt capacity (events ++ event ∷ []) number Says
+stops_here capacity events event number Says so_far stops says is = record {
   before = events;
   event = event;
   rest = [];
   parts = refl;
   is_number = is;
   so_far = so_far;
-  stops = subst (λ (c : Capacity). ¬ (IsLinearizable c (events ++ event ∷ []))) same stops;
+  stops = stops;
   says = says;
 }
+
+module _ {S O T N B : Type 0} (offered : O → List Offered) (last : T → List Taken) (capacity : Capacity) (events : List Event) where
+  -- what is remembered is linearizable
+  pub heard_linear : (w : Witness S O T N B) → Remembers offered last w capacity events → IsLinearizable capacity events
+  heard_linear w r = linear capacity events _ r.proper r.counted
+
+  pub fault_stays : (fault : Option CallsFinding) (w : Witness S O T N B) (tally : Tally) (event : Event) → is_some fault ≡ true → IsFaultSoFar offered last fault w tally capacity events
+      → IsFaultSoFar offered last fault w tally capacity (events ++ event ∷ [])
+  fault_stays None w tally event some is = absurd (false≢true some)
+  fault_stays (Some (Lawful report)) w tally event some is = is
+  fault_stays (Some (OutOfTurn number)) w tally event some is = stops_before capacity events event number _ is
+  fault_stays (Some (NotLinearizable number cause)) w tally event some is = stops_before capacity events event number _ is
+
+  pub no_fault : (fault : Option CallsFinding) (w : Witness S O T N B) (tally : Tally) → is_some fault ≡ false → IsFaultSoFar offered last fault w tally capacity events
+      → Remembers offered last w capacity events × IsTallied capacity events tally
+  no_fault None w tally none is = is
+  no_fault (Some fault) w tally none is = absurd (false≢true (sym none))
+
+  pub unheard : (fault : Option CallsFinding) (w : Witness S O T N B) (tally : Tally) → is_some fault ≡ false → Remembers offered last w capacity events × IsTallied capacity events tally
+      → IsFaultSoFar offered last fault w tally capacity events
+  unheard None w tally none is = is
+  unheard (Some fault) w tally none is = absurd (false≢true (sym none))
+
+  -- an event more is counted
+  pub heard_more :
+      (w after : Witness S O T N B) (tally : Tally) (counted : Tally) (event : Event) → Remembers offered last w capacity events → Remembers offered last after capacity (events ++ event ∷ []) →
+      IsTallied capacity events tally →
+      ((past : List Event) → Tallies past tally → IsToldOf event past (offered_by w.auditor.put) after.auditor.put after.auditor.take → Tallies (event ∷ past) counted) →
+      counted.report.surely_inside ≡ max tally.report.surely_inside (least_kept (kept_of offered after)) →
+      counted.report.perhaps_inside ≡ most_behind event tally.report.perhaps_inside (most_kept (meant after.auditor.capacity) (kept_of offered after)) →
+      IsTallied capacity (events ++ event ∷ []) counted
+  heard_more w after tally counted event r r' t adds surely perhaps =
+      let k : Kept = kept_of offered after in
+      let (before, there, now) = last_count capacity (kept [] Free Rests false) events event k r'.counted in
+      let j = stands capacity events before r'.proper there in
+      let j' = stands capacity (events ++ event ∷ []) k r'.proper r'.counted in
+      record {
+        tallies =
+            subst (λ past. Tallies past counted) (sym (turned events event))
+            (adds (reverse events) t.tallies (tells capacity events (kept_of offered w) r.proper r.counted event k r'.counted));
+        surely = subst (IsSurelyInside capacity (events ++ event ∷ [])) (sym surely) (surely_follows capacity events event before k j j' tally.report.surely_inside t.surely);
+        perhaps =
+            subst (IsPerhapsInside capacity (events ++ event ∷ []))
+            (sym (perhaps ∙ ap (λ c. most_behind event tally.report.perhaps_inside (most_kept c k)) r'.capacity_is))
+            (perhaps_follows capacity events event before k j j' now tally.report.perhaps_inside t.perhaps);
+      }
+
+  -- the report of what was heard
+  pub reported :
+      (w : Witness S O T N B) (tally : Tally) (report : Report) → Remembers offered last w capacity events → IsTallied capacity events tally →
+      report.under_way ≡ as_number (has_put w.auditor.put) + as_number (has_take w.auditor.take) → HaveNumbersOf tally.report report → IsReport capacity events report
+  reported w tally report r t under numbers =
+      let fit = sides_fit capacity events (kept_of offered w) r.proper r.counted in
+      let c = t.tallies.counted in
+      record {
+        counted = record {
+          calls = numbers.calls ∙ c.calls;
+          stored = numbers.others.stored ∙ c.stored;
+          taken = numbers.others.taken ∙ c.taken;
+          full = numbers.others.full ∙ c.full;
+          empty = numbers.others.empty ∙ c.empty;
+          nothing = numbers.others.nothing ∙ c.nothing;
+          told = numbers.others.told ∙ c.told;
+          overlapped = numbers.overlapped ∙ c.overlapped;
+        };
+        surely = subst (IsSurelyInside capacity events) (sym numbers.others.surely_inside) t.surely;
+        perhaps = subst (IsPerhapsInside capacity events) (sym numbers.others.perhaps_inside) t.perhaps;
+        under_way = omega (arith, under, ap as_number fit.0, ap as_number fit.1);
+      }

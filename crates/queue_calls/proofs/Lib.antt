@@ -19,6 +19,8 @@ mod Examples
 pub mod NumberReading
 pub mod LineReadings
 pub mod LineLemmas
+pub mod TalliesFollow
+pub mod InsideMoments
 pub mod HearingLemmas
 pub mod FullLists
 pub mod NotingLemmas
@@ -29,3 +31,12 @@ pub mod CountedHistories
 pub mod CountsFollow
 pub mod Tellings
 mod Stretches
+pub mod Agrees
+pub mod Agreeing
+pub mod Coming
+pub mod CauseTests
+pub mod CauseFound
+pub mod CauseTold
+pub mod Remembering
+pub mod Hears
+mod LastOnes

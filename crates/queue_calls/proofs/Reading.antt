@@ -12,10 +12,10 @@ use Rattle.queue_calls.specs.declared.turns.TakeTurn.{TakeTurn}
 use Rattle.queue_calls.proofs.Keeping.{Accepts, Refused, TurnedAway}
 
 -- an auditor, whose list has these items, that has these parts
-abbrev pub HasParts : {Q : Type 0} → (items : Q → List ℕ) → CallAuditor Q → Capacity → List ℕ → PutTurn → TakeTurn → Bool → Type 0
+abbrev pub HasParts : {Q E : Type 0} → (items : Q → List ℕ) → CallAuditor Q E → Capacity → List ℕ → PutTurn → TakeTurn → Bool → Type 0
 HasParts items a capacity inside put take shut = (a.capacity ≡ capacity) × (items a.inside ≡ inside) × (a.put ≡ put) × (a.take ≡ take) × (a.shut ≡ shut)
 
-module _ {Q : Type 0} (items : Q → List ℕ) (a : CallAuditor Q) (capacity : Capacity) (inside : List ℕ) (put : PutTurn) (take : TakeTurn) (shut : Bool) (has : HasParts items a capacity inside put take shut) where
+module _ {Q E : Type 0} (items : Q → List ℕ) (a : CallAuditor Q E) (capacity : Capacity) (inside : List ℕ) (put : PutTurn) (take : TakeTurn) (shut : Bool) (has : HasParts items a capacity inside put take shut) where
   pub audits_by_parts : (h : List Event) → Keeps (meant capacity) h inside put take shut → Audits items a h
   audits_by_parts h k =
       let K : Capacity → List ℕ → PutTurn → TakeTurn → Bool → Type 0 = λ c i p t s. Keeps (meant c) h i p t s in
@@ -35,11 +35,11 @@ module _ {Q : Type 0} (items : Q → List ℕ) (a : CallAuditor Q) (capacity : C
       (subst (λ z. K z (items a.inside) a.put a.take a.shut) has.0 k))))
 
 pub parts_as :
-    {Q : Type 0} {capacity : Capacity} {inside : List ℕ} {put : PutTurn} {take : TakeTurn} {shut : Bool} (items : Q → List ℕ) (a b : CallAuditor Q) → a ≡ b →
+    {Q E : Type 0} {capacity : Capacity} {inside : List ℕ} {put : PutTurn} {take : TakeTurn} {shut : Bool} (items : Q → List ℕ) (a b : CallAuditor Q E) → a ≡ b →
     HasParts items b capacity inside put take shut → HasParts items a capacity inside put take shut
 parts_as {capacity = capacity} {inside = inside} {put = put} {take = take} {shut = shut} items a b e has = subst (λ z. HasParts items z capacity inside put take shut) (sym e) has
 
-module _ {Q : Type 0} (items : Q → List ℕ) (old new : CallAuditor Q) (e : Event) (capacity : Capacity) (inside : List ℕ) (put : PutTurn) (take : TakeTurn) (shut : Bool)
+module _ {Q E : Type 0} (items : Q → List ℕ) (old new : CallAuditor Q E) (e : Event) (capacity : Capacity) (inside : List ℕ) (put : PutTurn) (take : TakeTurn) (shut : Bool)
     (had : HasParts items old capacity inside put take shut) where
   pub reads :
       (inside' : List ℕ) (put' : PutTurn) (take' : TakeTurn) (shut' : Bool) → HasParts items new capacity inside' put' take' shut' →

@@ -10,6 +10,8 @@ use Rattle.queue_calls.specs.Recordings.{Line, text_of, lines_text, AreLines, ca
 use Rattle.queue_calls.specs.RecordingStates.{HasNoFeed, HasLines, HasRead, HeardLines, HasHeard, RefusesLine}
 use Rattle.queue_calls.specs.declared.recordings.Begun.TheVariants.{Nothing}
 use Rattle.queue_calls.specs.declared.recordings.CallsFinding.{CallsFinding}
+use Rattle.queue_calls.specs.declared.entries.Offered.{Offered}
+use Rattle.queue_calls.specs.declared.entries.Taken.{Taken}
 use Rattle.queue_calls.specs.declared.recordings.Hearing.{Hearing}
 use Rattle.queue_calls.specs.declared.recordings.RecordingIn.{RecordingIn}
 use Rattle.queue_calls.specs.declared.recordings.RecordingFault.{RecordingFault}
@@ -63,9 +65,9 @@ ended_text before bytes cut end more text =
     ∙ ap (λ (t : List ℕ). lines_text before ++ t) (sym (append_assoc cut end (10 ∷ more)))
 
 -- a line was read, and no byte of another one
-pub line_ended : {S Q O T N B : Type 0} (items : Q → List ℕ) (bytes_of : B → List ℕ) (old new : RecordingIn S Q O T N B) (bytes end : List ℕ) (has : HasRead items bytes_of old bytes) (l : Line)
-    → bytes_of old.cut ++ end ≡ line_text l.word l.numbers → bytes_of new.cut ≡ [] → HasLines items new.lines (has.ended ++ l ∷ []) → HasRead items bytes_of new (bytes ++ end ++ 10 ∷ [])
-line_ended items bytes_of old new bytes end has l is none lines = record {
+pub line_ended : {S O T N B : Type 0} (offered : O → List Offered) (last : T → List Taken) (bytes_of : B → List ℕ) (old new : RecordingIn S O T N B) (bytes end : List ℕ) (has : HasRead offered last bytes_of old bytes) (l : Line)
+    → bytes_of old.cut ++ end ≡ line_text l.word l.numbers → bytes_of new.cut ≡ [] → HasLines offered last new.lines (has.ended ++ l ∷ []) → HasRead offered last bytes_of new (bytes ++ end ++ 10 ∷ [])
+line_ended offered last bytes_of old new bytes end has l is none lines = record {
   ended = has.ended ++ l ∷ [];
   text = append_assoc bytes end (10 ∷ []) ∙ ended_text has.ended bytes (bytes_of old.cut) end [] has.text ∙ ap (λ (t : List ℕ). lines_text has.ended ++ (t ++ 10 ∷ [])) is ∙ sym (lines_more has.ended l)
       ∙ sym (append-nil (lines_text (has.ended ++ l ∷ []))) ∙ ap (λ (t : List ℕ). lines_text (has.ended ++ l ∷ []) ++ t) (sym none);
@@ -106,9 +108,9 @@ cut_refused before bytes cut number text are none is there = record {
 
 -- ---- findings
 
-pub found : {S Q O T N B : Type 0} (items : Q → List ℕ) (hearing : Hearing S Q O T N B) (finding : CallsFinding) (ended : List Line) (bytes cut : List ℕ) → bytes ≡ lines_text ended ++ cut → cut ≡ [] → AreLines ended → HeardLines items hearing ended
-    → ((capacity : Capacity) (events : List Event) → HasHeard items hearing capacity events → IsFoundOf capacity events finding) → IsFindingOf bytes finding
-found items hearing finding ended bytes cut text none are heard finds = (
+pub found : {S O T N B : Type 0} (offered : O → List Offered) (last : T → List Taken) (hearing : Hearing S O T N B) (finding : CallsFinding) (ended : List Line) (bytes cut : List ℕ) → bytes ≡ lines_text ended ++ cut → cut ≡ [] → AreLines ended → HeardLines offered last hearing ended
+    → ((capacity : Capacity) (events : List Event) → HasHeard offered last hearing capacity events → IsFoundOf capacity events finding) → IsFindingOf bytes finding
+found offered last hearing finding ended bytes cut text none are heard finds = (
   capacity_told heard.0,
   events_told Nothing heard.1,
   record {

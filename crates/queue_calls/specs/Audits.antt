@@ -10,7 +10,7 @@ use Rattle.queue_calls.specs.declared.faults.Fault.{Fault}
 use Rattle.queue_calls.specs.declared.faults.Fault.TheVariants.{OutOfTurn, NotLinearizable, OutOfMemory}
 
 -- the auditor, whose list has these items, has read this history
-abbrev pub Audits : {Q : Type 0} → (items : Q → List ℕ) → CallAuditor Q → List Event → Type 0
+abbrev pub Audits : {Q E : Type 0} → (items : Q → List ℕ) → CallAuditor Q E → List Event → Type 0
 Audits items a h = Keeps (meant a.capacity) h (items a.inside) a.put a.take a.shut
 
 -- the items that a put under way has left
@@ -35,7 +35,7 @@ RefusesEvent room OutOfMemory capacity h event = ((items : List ℕ) × (event �
 -- Behind each history that it has read, an auditor reads an event: it accepts where the history with the event is linearizable, and
 -- has then read that; it refuses where it is not, and has then read what it had; or at a put's begin for want of room, where more items
 -- are there than its list has room for.
-abbrev pub Reads : {Q : Type 0} → (items : Q → List ℕ) → (room : Q → ℕ) → CallAuditor Q → Event → Result Unit Fault → CallAuditor Q → Type 0
+abbrev pub Reads : {Q E : Type 0} → (items : Q → List ℕ) → (room : Q → ℕ) → CallAuditor Q E → Event → Result Unit Fault → CallAuditor Q E → Type 0
 Reads items room old event result new =
     (new.capacity ≡ old.capacity) ×
     ((h : List Event) → Audits items old h →

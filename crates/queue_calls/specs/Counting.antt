@@ -1,9 +1,12 @@
 -- Lawful by counting: what an auditor keeps of a history, and what each event needs it to be and makes of it. It keeps the items that
 -- are inside, with those offered by the put under way, which may have been stored; a history is lawful where each event can be counted.
-use Rattle.std.specs.Prelude.{◌≡◌, ◌⊎◌, ℕ, suc, ◌-◌, ◌<◌, ◌≤◌, Bool, true, false, List, [], ◌∷◌, ◌++◌, length, take, drop, ◌↔◌}
+use Rattle.std.specs.Prelude.{◌≡◌, ◌⊎◌, ℕ, suc, ◌-◌, ◌<◌, ◌≤◌, Bool, true, false, List, [], ◌∷◌, ◌++◌, length, take, drop, ◌↔◌, Result, MatchResult}
 use Rattle.queue_calls.specs.Queue.{Capacity, LacksRoom}
 use Rattle.queue_calls.specs.Calls.{Event, PutBegin, PutStored, PutFull, PutShort, PutNothing, PutClosed, CloseBegin, CloseEnd, TakeBegin, TakeItems, TakeEmpty, TakeShort, TakeNothing, TakeClosed, IsLinearizable}
 use Rattle.queue_calls.specs.State.{IsProper, AreNext, CanEndPut, CanEndTake, offered_by, asked_by, has_closed}
+use Rattle.queue_calls.specs.Told.{meant}
+use Rattle.queue_calls.specs.declared.auditors.CallAuditor.{CallAuditor}
+use Rattle.queue_calls.specs.declared.faults.Fault.{Fault}
 use Rattle.queue_calls.specs.declared.turns.PutTurn.{PutTurn}
 use Rattle.queue_calls.specs.declared.turns.PutTurn.TheVariants.{Free, Offers, Late, Closes}
 use Rattle.queue_calls.specs.declared.turns.TakeTurn.{TakeTurn}
@@ -18,6 +21,10 @@ pub record Kept : Type 0 where
 
 abbrev pub kept : List ℕ → PutTurn → TakeTurn → Bool → Kept
 kept inside put take shut = record { inside = inside; put = put; take = take; shut = shut }
+
+-- what an auditor keeps, whose list has these items
+abbrev pub kept_by : {Q E : Type 0} → (items : Q → List ℕ) → CallAuditor Q E → Kept
+kept_by items a = kept (items a.inside) a.put a.take a.shut
 
 -- the items inside without so many of the last
 abbrev pub without : ℕ → List ℕ → List ℕ
@@ -63,10 +70,20 @@ Counts capacity k TakeClosed after =
     (wanted before : ℕ) × (ended : Bool) × (k.take ≡ Waits wanted before ended) × (k.inside ≡ []) × (has_closed k.put k.shut ≡ true) ×
     (after ≡ kept [] k.put Rests true)
 
+-- an auditor counts an event that it accepts; of a refused one nothing is kept
+abbrev pub CountsOrKeeps : {Q E : Type 0} → (items : Q → List ℕ) → CallAuditor Q E → Event → Result Unit Fault → CallAuditor Q E → Type 0
+CountsOrKeeps items old event result new =
+    MatchResult result (λ _. Counts (meant old.capacity) (kept_by items old) event (kept_by items new)) (λ _. kept_by items new ≡ kept_by items old)
+
 -- the events of a history can be counted, one after the other
 abbrev pub AreCounted : Capacity → Kept → List Event → Type 0
 AreCounted capacity k [] = Unit {0}
 AreCounted capacity k (event ∷ h) = (after : Kept) × Counts capacity k event after × AreCounted capacity after h
+
+-- they lead from what is kept to this
+abbrev pub CountTo : Capacity → Kept → List Event → Kept → Type 0
+CountTo capacity k [] last = last ≡ k
+CountTo capacity k (event ∷ h) last = (after : Kept) × Counts capacity k event after × CountTo capacity after h last
 
 -- what can be counted from nothing on is linearizable
 abbrev pub CountedIsLinearizable : Type 0

@@ -6,6 +6,7 @@ pub mod Rings
 pub mod Noting
 pub mod Rooms
 pub mod Audits
+pub mod Insides
 pub mod Told
 pub mod Steps
 pub mod Moments
@@ -15,8 +16,12 @@ pub mod Laws
 pub mod Lines
 pub mod LineReading
 pub mod Causes
+pub mod Reasons
+pub mod Witnesses
 pub mod Faults
 pub mod Recordings
+pub mod Reporting
+pub mod Tallying
 pub mod RecordingStates
 pub mod RecordingLaws
 pub mod Tellings

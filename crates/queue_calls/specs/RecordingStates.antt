@@ -1,14 +1,16 @@
 -- What is kept of a recording that is being read.
-use Rattle.std.specs.Prelude.{◌≡◌, ◌≢◌, ℕ, ◌+◌, ◌-◌, ◌^◌, ◌≤◌, List, [], ◌∷◌, ◌++◌, Option, Some, None, length, All}
+use Rattle.std.specs.Prelude.{◌≡◌, ◌≢◌, ℕ, ◌+◌, ◌-◌, ◌^◌, List, [], ◌∷◌, ◌++◌, Option, Some, None, length, All}
 use Rattle.queue_calls.specs.Queue.{Capacity}
-use Rattle.queue_calls.specs.Calls.{Event, IsLinearizable}
-use Rattle.queue_calls.specs.Audits.{Audits}
-use Rattle.queue_calls.specs.Noting.{all_got}
-use Rattle.queue_calls.specs.Told.{meant}
+use Rattle.queue_calls.specs.Calls.{Event}
 use Rattle.queue_calls.specs.Lines.{line_text}
+use Rattle.queue_calls.specs.Witnesses.{Remembers}
+use Rattle.queue_calls.specs.Tallying.{IsTallied}
 use Rattle.queue_calls.specs.Recordings.{Line, line, lines_text, AreLines, capacity_told, events_told, begun_behind, IsFoundOf}
 use Rattle.queue_calls.specs.declared.lines.Word.TheVariants.{Queue}
-use Rattle.queue_calls.specs.declared.auditors.CallAuditor.{CallAuditor}
+use Rattle.queue_calls.specs.declared.entries.Offered.{Offered}
+use Rattle.queue_calls.specs.declared.entries.Taken.{Taken}
+use Rattle.queue_calls.specs.declared.reports.Tally.{Tally}
+use Rattle.queue_calls.specs.declared.witnesses.Witness.{Witness}
 use Rattle.queue_calls.specs.declared.recordings.Begun.TheVariants.{Nothing}
 use Rattle.queue_calls.specs.declared.recordings.CallsFinding.{CallsFinding}
 use Rattle.queue_calls.specs.declared.recordings.CallsFinding.TheVariants.{Lawful}
@@ -22,27 +24,26 @@ use Rattle.queue_calls.specs.declared.recordings.RecordingIn.{RecordingIn}
 abbrev pub HasNoFeed : List ℕ → Type 0
 HasNoFeed bytes = All (λ b. b ≢ 10) bytes
 
--- the first fault of a history, or none so far
-abbrev pub IsFaultSoFar : {Q : Type 0} → (items : Q → List ℕ) → Option CallsFinding → CallAuditor Q → Capacity → List Event → Type 0
-IsFaultSoFar items None auditor capacity events = Audits items auditor events × IsLinearizable capacity events
-IsFaultSoFar items (Some (Lawful report)) auditor capacity events = ⊥
-IsFaultSoFar items (Some fault) auditor capacity events = IsFoundOf capacity events fault
+-- the first fault of a history, or none so far, and what is kept of it for its report
+abbrev pub IsFaultSoFar : {S O T N B : Type 0} → (offered : O → List Offered) → (last : T → List Taken) → Option CallsFinding → Witness S O T N B → Tally → Capacity → List Event → Type 0
+IsFaultSoFar offered last None w tally capacity events = Remembers offered last w capacity events × IsTallied capacity events tally
+IsFaultSoFar offered last (Some (Lawful report)) w tally capacity events = ⊥
+IsFaultSoFar offered last (Some fault) w tally capacity events = IsFoundOf capacity events fault
 
--- these events were heard, of a queue of this capacity; no more items were counted as taken than were
-abbrev pub HasHeard : {S Q O T N B : Type 0} → (items : Q → List ℕ) → Hearing S Q O T N B → Capacity → List Event → Type 0
-HasHeard items hearing capacity events = (meant hearing.auditor.capacity ≡ capacity) × IsFaultSoFar items hearing.fault hearing.auditor capacity events
-    × (hearing.notes.report.taken ≤ length (all_got events))
+-- these events were heard, of a queue of this capacity
+abbrev pub HasHeard : {S O T N B : Type 0} → (offered : O → List Offered) → (last : T → List Taken) → Hearing S O T N B → Capacity → List Event → Type 0
+HasHeard offered last hearing capacity events = IsFaultSoFar offered last hearing.fault hearing.witness hearing.tally capacity events
 
 -- lines were heard, a first one and others
-abbrev pub HeardLines : {S Q O T N B : Type 0} → (items : Q → List ℕ) → Hearing S Q O T N B → List Line → Type 0
-HeardLines items hearing lines = (first : List ℕ) × (further : List Line) × (lines ≡ line Queue first ∷ further)
-    × (hearing.begun ≡ begun_behind Nothing further) × HasHeard items hearing (capacity_told first) (events_told Nothing further)
+abbrev pub HeardLines : {S O T N B : Type 0} → (offered : O → List Offered) → (last : T → List Taken) → Hearing S O T N B → List Line → Type 0
+HeardLines offered last hearing lines = (first : List ℕ) × (further : List Line) × (lines ≡ line Queue first ∷ further)
+    × (hearing.begun ≡ begun_behind Nothing further) × HasHeard offered last hearing (capacity_told first) (events_told Nothing further)
 
 -- these lines have ended
-pub record HasLines {S Q O T N B : Type 0} (items : Q → List ℕ) (lines : Lines S Q O T N B) (ended : List Line) : Type 0 where
+pub record HasLines {S O T N B : Type 0} (offered : O → List Offered) (last : T → List Taken) (lines : Lines S O T N B) (ended : List Line) : Type 0 where
   pub are : AreLines ended
   pub count : lines.count ≡ length ended
-  pub heard : ended ≢ [] → HeardLines items lines.hearing ended
+  pub heard : ended ≢ [] → HeardLines offered last lines.hearing ended
 
 -- bytes without a line feed are a line that goes on with lines
 abbrev pub ContinuesLines : List Line → List ℕ → Line → Type 0
@@ -54,9 +55,9 @@ RefusesLine (BadLine number) before bytes = (length before + 1 ≡ number) × ((
 RefusesLine TooLong before bytes = length before ≡ 2 ^ 64 - 1
 RefusesLine OutOfMemory before bytes = Unit {0}
 
--- these bytes were read, by a recording whose lists have these items and these bytes
-pub record HasRead {S Q O T N B : Type 0} (items : Q → List ℕ) (bytes_of : B → List ℕ) (recording : RecordingIn S Q O T N B) (bytes : List ℕ) : Type 0 where
+-- these bytes were read, by a recording whose lists have these entries and these bytes
+pub record HasRead {S O T N B : Type 0} (offered : O → List Offered) (last : T → List Taken) (bytes_of : B → List ℕ) (recording : RecordingIn S O T N B) (bytes : List ℕ) : Type 0 where
   pub ended : List Line
   pub text : bytes ≡ lines_text ended ++ bytes_of recording.cut
   pub no_feed : HasNoFeed (bytes_of recording.cut)
-  pub lines : HasLines items recording.lines ended
+  pub lines : HasLines offered last recording.lines ended

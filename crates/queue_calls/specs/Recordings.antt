@@ -3,6 +3,8 @@ use Rattle.std.specs.Prelude.{◌≡◌, ◌≢◌, ℕ, ◌+◌, ◌-◌, ◌^�
 use Rattle.queue_calls.specs.Queue.{Capacity, Unbounded, Between, exactly}
 use Rattle.queue_calls.specs.Calls.{Event, PutBegin, PutStored, PutFull, PutShort, PutNothing, PutClosed, CloseBegin, CloseEnd, TakeBegin, TakeItems, TakeEmpty, TakeShort, TakeNothing, TakeClosed, IsLinearizable}
 use Rattle.queue_calls.specs.InTurn.{CallsAreInTurn}
+use Rattle.queue_calls.specs.Reasons.{IsCause}
+use Rattle.queue_calls.specs.Reporting.{IsReport}
 use Rattle.queue_calls.specs.Lines.{line_text, Allows, AreSmall}
 use Rattle.queue_calls.specs.declared.lines.Word.{Word}
 use Rattle.queue_calls.specs.declared.lines.Word.TheVariants as word
@@ -135,7 +137,7 @@ RefusesText TooLong bytes = 2 ^ 64 - 1 ≤ length bytes
 RefusesText OutOfMemory bytes = Unit {0}
 
 -- the event of the line of this number is the first one with which the history is not linearizable
-pub record StopsAt (capacity : Capacity) (events : List Event) (number : ℕ) (Says : List Event → Type 0) : Type 0 where
+pub record StopsAt (capacity : Capacity) (events : List Event) (number : ℕ) (Says : List Event → Event → Type 0) : Type 0 where
   pub before : List Event
   pub event : Event
   pub rest : List Event
@@ -143,13 +145,15 @@ pub record StopsAt (capacity : Capacity) (events : List Event) (number : ℕ) (S
   pub is_number : length before + 2 ≡ number
   pub so_far : IsLinearizable capacity before
   pub stops : ¬ (IsLinearizable capacity (before ++ event ∷ []))
-  pub says : Says (before ++ event ∷ [])
+  pub says : Says before event
 
--- what is found of a history
+-- what is found of a history: it is linearizable, and what is told of it; or its first fault is out of turn, or in its turn, with what
+-- speaks against it
 abbrev pub IsFoundOf : Capacity → List Event → CallsFinding → Type 0
-IsFoundOf capacity events (Lawful report) = IsLinearizable capacity events
-IsFoundOf capacity events (OutOfTurn number) = StopsAt capacity events number (λ h. ¬ (CallsAreInTurn h))
-IsFoundOf capacity events (NotLinearizable number cause) = StopsAt capacity events number CallsAreInTurn
+IsFoundOf capacity events (Lawful report) = IsLinearizable capacity events × IsReport capacity events report
+IsFoundOf capacity events (OutOfTurn number) = StopsAt capacity events number (λ before event. ¬ CallsAreInTurn (before ++ event ∷ []))
+IsFoundOf capacity events (NotLinearizable number cause) =
+    StopsAt capacity events number (λ before event. CallsAreInTurn (before ++ event ∷ []) × IsCause capacity before event cause)
 
 -- what is found of a text
 abbrev pub IsFindingOf : List ℕ → CallsFinding → Type 0

@@ -1,10 +1,10 @@
 //! The auditor of a history.
-ghost use Rattle.std.specs.Prelude.{◌≡◌, ◌<◌, suc, ◌+◌, ◌++◌, ◌↔◌, IsTrue, true, false, ℕ, List, [], IfSome, if◌then◌else◌, length, take, drop, ◌-◌};
+ghost use Rattle.std.specs.Prelude.{◌≡◌, ◌<◌, suc, ◌+◌, ◌++◌, ◌↔◌, IsTrue, true, false, ℕ, List, [], if◌then◌else◌, length, take, drop, map, ◌-◌};
 
 use crate::capacities::Capacity;
 use crate::events::Event;
 use crate::faults::Fault;
-use crate::fifos::Fifo;
+use crate::insides::Inside;
 use crate::turns::{PutTurn, TakeTurn};
 use std::alloc::Allocator;
 use std::collections::VecDeque;
@@ -25,12 +25,12 @@ use std::collections::VecDeque;
 ///
 /// In use: `uses::calls::first_at_fault`.
 #[derive(Drop)]
-pub struct CallAuditor<Q: Fifo<u64>> {
+pub struct CallAuditor<Q: Inside> {
     capacity: Capacity,
     // the items stored or offered and not yet taken, in order
-    inside: Q,
-    put: PutTurn,
-    take: TakeTurn,
+    pub(crate) inside: Q,
+    pub(crate) put: PutTurn,
+    pub(crate) take: TakeTurn,
     // a close has ended, or a take was told that the queue is closed
     shut: bool,
 }
@@ -51,11 +51,14 @@ impl<A: Allocator> CallAuditor<VecDeque<u64, A>> {
     }
 }
 
-impl<Q: Fifo<u64>> CallAuditor<Q> {
+impl<Q: Inside> CallAuditor<Q> {
     ghost use Rattle.queue_calls.specs.Queue.{LacksRoom};
     ghost use Rattle.queue_calls.specs.Calls.{Event as AnEvent, IsLinearizable, PutBegin, PutStored, PutFull, PutShort, PutNothing, PutClosed, CloseBegin, CloseEnd, TakeBegin, TakeItems, TakeEmpty, TakeShort, TakeNothing, TakeClosed};
     ghost use Rattle.queue_calls.specs.State.{IsProper, MayHold, offered_by, asked_by, has_closed, AreNext, CanEndPut, CanEndTake};
     ghost use Rattle.queue_calls.specs.Audits.{Audits, Reads};
+    ghost use Rattle.queue_calls.specs.Insides.{MovesEntries};
+    ghost use Rattle.queue_calls.specs.Counting.{CountsOrKeeps, kept_by};
+    ghost use Rattle.queue_calls.specs.Tallying.{least_kept, most_kept, has_put, has_take};
     ghost use Rattle.queue_calls.specs.Told.{meant, told};
     ghost use Rattle.queue_calls.specs.declared.turns.PutTurn.TheVariants.{Free, Offers};
     ghost use Rattle.queue_calls.specs.declared.turns.TakeTurn.TheVariants.{Rests};
@@ -66,6 +69,7 @@ impl<Q: Fifo<u64>> CallAuditor<Q> {
         requires { IsProper (meant capacity) }
         ensures capacity { result.capacity ≡ capacity }
         ensures reads { Audits Q.items result [] }
+        ensures entries { Q.entries result.inside ≡ [] }
         ensures room { Q.room result.inside ≡ Q.room list }
     {
         let mut inside = list;
@@ -84,6 +88,7 @@ impl<Q: Fifo<u64>> CallAuditor<Q> {
         requires { IsProper (meant capacity) }
         ensures capacity { self.new.capacity ≡ capacity }
         ensures reads { Audits Q.items self.new [] }
+        ensures entries { Q.entries self.new.inside ≡ [] }
         ensures room { Q.room self.new.inside ≡ Q.room self.old.inside }
     {
         self.inside.truncate(0);
@@ -107,8 +112,18 @@ impl<Q: Fifo<u64>> CallAuditor<Q> {
         ensures reads { Reads Q.items Q.room self.old (told event.entry) result self.new }
         ensures room { Q.room self.new.inside ≡ Q.room self.old.inside }
     {
+        self.feed_at(0, event)
+    }
+
+    // As `feed`, of an event of this line, which is kept with each item that the event offers.
+    pub(crate) fn feed_at(&mut self, line: u64, event: Event<'_>) -> Result<(), Fault>
+        ensures reads { Reads Q.items Q.room self.old (told event.entry) result self.new }
+        ensures room { Q.room self.new.inside ≡ Q.room self.old.inside }
+        ensures entries { MovesEntries Q.entries (λ item. Q.entry item line) self.old (told event.entry) result self.new }
+        ensures counts { CountsOrKeeps Q.items self.old (told event.entry) result self.new }
+    {
         match event {
-            Event::PutBegins(items) => self.put_begins(items),
+            Event::PutBegins(items) => self.put_begins(line, items),
             Event::PutStored(count) => self.put_stored(count),
             Event::PutFull => self.put_full(),
             Event::PutShort => self.put_short(),
@@ -125,19 +140,18 @@ impl<Q: Fifo<u64>> CallAuditor<Q> {
         }
     }
 
-    /// A put of these items begins, of one at least.
-    pub fn put_begins(&mut self, items: &[u64]) -> Result<(), Fault>
+    // A put of these items begins, of one at least.
+    fn put_begins(&mut self, line: u64, items: &[u64]) -> Result<(), Fault>
         ensures reads { Reads Q.items Q.room self.old (PutBegin items.now) result self.new }
         ensures room { Q.room self.new.inside ≡ Q.room self.old.inside }
+        ensures entries { MovesEntries Q.entries (λ item. Q.entry item line) self.old (PutBegin items.now) result self.new }
+        ensures counts { CountsOrKeeps Q.items self.old (PutBegin items.now) result self.new }
     {
         match self.put {
             PutTurn::Free => {}
-            PutTurn::Offers {
-                offered: _,
-                before: _,
-            }
-            | PutTurn::Late { offered: _ }
-            | PutTurn::Closes { again: _ } => return Err(Fault::OutOfTurn),
+            PutTurn::Offers { .. } | PutTurn::Late { .. } | PutTurn::Closes { .. } => return Err(
+                Fault::OutOfTurn,
+            ),
         }
         if items.is_empty() {
             return Err(Fault::OutOfTurn);
@@ -149,7 +163,7 @@ impl<Q: Fifo<u64>> CallAuditor<Q> {
             return Ok(());
         }
         let before = self.inside.len();
-        if !self.holds(items) {
+        if !self.holds(line, items) {
             return Err(Fault::OutOfMemory);
         }
         self.put = PutTurn::Offers {
@@ -160,10 +174,11 @@ impl<Q: Fifo<u64>> CallAuditor<Q> {
     }
 
     // Puts the items behind those inside, or none of them where memory ran out.
-    fn holds(&mut self, items: &[u64]) -> bool
+    fn holds(&mut self, line: u64, items: &[u64]) -> bool
         ensures full { result ≡ false → Q.room self.old.inside < length (Q.items self.old.inside) + length items.now }
         ensures room { Q.room self.new.inside ≡ Q.room self.old.inside }
         ensures inside { Q.items self.new.inside ≡ (if result then (Q.items self.old.inside) ++ items.now else (Q.items self.old.inside)) }
+        ensures entries { Q.entries self.new.inside ≡ (if result then Q.entries self.old.inside ++ map (λ item. Q.entry item line) items.now else Q.entries self.old.inside) }
         ensures capacity { self.new.capacity ≡ self.old.capacity }
         ensures put { self.new.put ≡ self.old.put }
         ensures take { self.new.take ≡ self.old.take }
@@ -171,7 +186,7 @@ impl<Q: Fifo<u64>> CallAuditor<Q> {
     {
         let before = self.inside.len();
         for item in items {
-            if self.inside.push_back(*item).is_err() {
+            if self.inside.push_back(*item, line).is_err() {
                 self.inside.truncate(before);
                 return false;
             }
@@ -179,10 +194,12 @@ impl<Q: Fifo<u64>> CallAuditor<Q> {
         true
     }
 
-    /// The put ends: so many of its first items were stored, one at least and no more than it offered.
-    pub fn put_stored(&mut self, count: usize) -> Result<(), Fault>
+    // The put ends: so many of its first items were stored, one at least and no more than it offered.
+    fn put_stored(&mut self, count: usize) -> Result<(), Fault>
         ensures reads { Reads Q.items Q.room self.old (PutStored count) result self.new }
         ensures room { Q.room self.new.inside ≡ Q.room self.old.inside }
+        ensures entries { MovesEntries Q.entries (λ item. Q.entry item 0) self.old (PutStored count) result self.new }
+        ensures counts { CountsOrKeeps Q.items self.old (PutStored count) result self.new }
     {
         match self.put {
             PutTurn::Offers { offered, before } => {
@@ -203,14 +220,16 @@ impl<Q: Fifo<u64>> CallAuditor<Q> {
                 }
                 Err(Fault::NotLinearizable)
             }
-            PutTurn::Free | PutTurn::Closes { again: _ } => Err(Fault::OutOfTurn),
+            PutTurn::Free | PutTurn::Closes { .. } => Err(Fault::OutOfTurn),
         }
     }
 
-    /// The put ends: the queue had no room for one item, and none was stored.
-    pub fn put_full(&mut self) -> Result<(), Fault>
+    // The put ends: the queue had no room for one item, and none was stored.
+    fn put_full(&mut self) -> Result<(), Fault>
         ensures reads { Reads Q.items Q.room self.old PutFull result self.new }
         ensures room { Q.room self.new.inside ≡ Q.room self.old.inside }
+        ensures entries { MovesEntries Q.entries (λ item. Q.entry item 0) self.old PutFull result self.new }
+        ensures counts { CountsOrKeeps Q.items self.old PutFull result self.new }
     {
         match self.put {
             PutTurn::Offers { offered, before } => {
@@ -219,15 +238,17 @@ impl<Q: Fifo<u64>> CallAuditor<Q> {
                 }
                 Ok(())
             }
-            PutTurn::Late { offered: _ } => Err(Fault::NotLinearizable),
-            PutTurn::Free | PutTurn::Closes { again: _ } => Err(Fault::OutOfTurn),
+            PutTurn::Late { .. } => Err(Fault::NotLinearizable),
+            PutTurn::Free | PutTurn::Closes { .. } => Err(Fault::OutOfTurn),
         }
     }
 
-    /// The put of several items ends: the queue had no room for all of them, and none was stored.
-    pub fn put_short(&mut self) -> Result<(), Fault>
+    // The put of several items ends: the queue had no room for all of them, and none was stored.
+    fn put_short(&mut self) -> Result<(), Fault>
         ensures reads { Reads Q.items Q.room self.old PutShort result self.new }
         ensures room { Q.room self.new.inside ≡ Q.room self.old.inside }
+        ensures entries { MovesEntries Q.entries (λ item. Q.entry item 0) self.old PutShort result self.new }
+        ensures counts { CountsOrKeeps Q.items self.old PutShort result self.new }
     {
         match self.put {
             PutTurn::Offers { offered, before } => {
@@ -245,27 +266,29 @@ impl<Q: Fifo<u64>> CallAuditor<Q> {
                 }
                 Err(Fault::NotLinearizable)
             }
-            PutTurn::Free | PutTurn::Closes { again: _ } => Err(Fault::OutOfTurn),
+            PutTurn::Free | PutTurn::Closes { .. } => Err(Fault::OutOfTurn),
         }
     }
 
-    /// The put ends: none of its items was stored, and no reason is told.
-    pub fn put_nothing(&mut self) -> Result<(), Fault>
+    // The put ends: none of its items was stored, and no reason is told.
+    fn put_nothing(&mut self) -> Result<(), Fault>
         ensures reads { Reads Q.items Q.room self.old PutNothing result self.new }
         ensures room { Q.room self.new.inside ≡ Q.room self.old.inside }
+        ensures entries { MovesEntries Q.entries (λ item. Q.entry item 0) self.old PutNothing result self.new }
+        ensures counts { CountsOrKeeps Q.items self.old PutNothing result self.new }
     {
         match self.put {
-            PutTurn::Offers { offered, before: _ } => {
+            PutTurn::Offers { offered, .. } => {
                 if !self.ends_put(offered) {
                     return Err(Fault::NotLinearizable);
                 }
                 Ok(())
             }
-            PutTurn::Late { offered: _ } => {
+            PutTurn::Late { .. } => {
                 self.put = PutTurn::Free;
                 Ok(())
             }
-            PutTurn::Free | PutTurn::Closes { again: _ } => Err(Fault::OutOfTurn),
+            PutTurn::Free | PutTurn::Closes { .. } => Err(Fault::OutOfTurn),
         }
     }
 
@@ -280,7 +303,7 @@ impl<Q: Fifo<u64>> CallAuditor<Q> {
     }
 
     // Whether a queue may have so many items inside.
-    fn may_hold(&self, inside: usize) -> bool
+    pub(crate) fn may_hold(&self, inside: usize) -> bool
         ensures { IsTrue result ↔ MayHold (meant self.now.capacity) inside }
     {
         match self.capacity {
@@ -294,6 +317,7 @@ impl<Q: Fifo<u64>> CallAuditor<Q> {
         ensures room { Q.room self.new.inside ≡ Q.room self.old.inside }
         ensures ends { IsTrue result ↔ CanEndPut (meant self.old.capacity) (length (Q.items self.old.inside)) (asked_by self.old.take) rest }
         ensures inside { Q.items self.new.inside ≡ (if result then take (length (Q.items self.old.inside) - rest) (Q.items self.old.inside) else (Q.items self.old.inside)) }
+        ensures entries { Q.entries self.new.inside ≡ (if result then take (length (Q.entries self.old.inside) - rest) (Q.entries self.old.inside) else Q.entries self.old.inside) }
         ensures put { self.new.put ≡ (if result then Free else self.old.put) }
         ensures capacity { self.new.capacity ≡ self.old.capacity }
         ensures take { self.new.take ≡ self.old.take }
@@ -311,67 +335,64 @@ impl<Q: Fifo<u64>> CallAuditor<Q> {
         true
     }
 
-    /// The put ends: the queue was closed, and none of its items was stored.
-    pub fn put_closed(&mut self) -> Result<(), Fault>
+    // The put ends: the queue was closed, and none of its items was stored.
+    fn put_closed(&mut self) -> Result<(), Fault>
         ensures reads { Reads Q.items Q.room self.old PutClosed result self.new }
         ensures room { Q.room self.new.inside ≡ Q.room self.old.inside }
+        ensures entries { MovesEntries Q.entries (λ item. Q.entry item 0) self.old PutClosed result self.new }
+        ensures counts { CountsOrKeeps Q.items self.old PutClosed result self.new }
     {
         match self.put {
-            PutTurn::Late { offered: _ } => {
+            PutTurn::Late { .. } => {
                 self.put = PutTurn::Free;
                 Ok(())
             }
-            PutTurn::Offers {
-                offered: _,
-                before: _,
-            } => Err(Fault::NotLinearizable),
-            PutTurn::Free | PutTurn::Closes { again: _ } => Err(Fault::OutOfTurn),
+            PutTurn::Offers { .. } => Err(Fault::NotLinearizable),
+            PutTurn::Free | PutTurn::Closes { .. } => Err(Fault::OutOfTurn),
         }
     }
 
-    /// A close begins.
-    pub fn close_begins(&mut self) -> Result<(), Fault>
+    // A close begins.
+    fn close_begins(&mut self) -> Result<(), Fault>
         ensures reads { Reads Q.items Q.room self.old CloseBegin result self.new }
         ensures room { Q.room self.new.inside ≡ Q.room self.old.inside }
+        ensures entries { MovesEntries Q.entries (λ item. Q.entry item 0) self.old CloseBegin result self.new }
+        ensures counts { CountsOrKeeps Q.items self.old CloseBegin result self.new }
     {
         match self.put {
             PutTurn::Free => {
                 self.put = PutTurn::Closes { again: self.shut };
                 Ok(())
             }
-            PutTurn::Offers {
-                offered: _,
-                before: _,
-            }
-            | PutTurn::Late { offered: _ }
-            | PutTurn::Closes { again: _ } => Err(Fault::OutOfTurn),
+            PutTurn::Offers { .. } | PutTurn::Late { .. } | PutTurn::Closes { .. } => Err(
+                Fault::OutOfTurn,
+            ),
         }
     }
 
-    /// The close ends.
-    pub fn close_ends(&mut self) -> Result<(), Fault>
+    // The close ends.
+    fn close_ends(&mut self) -> Result<(), Fault>
         ensures reads { Reads Q.items Q.room self.old CloseEnd result self.new }
         ensures room { Q.room self.new.inside ≡ Q.room self.old.inside }
+        ensures entries { MovesEntries Q.entries (λ item. Q.entry item 0) self.old CloseEnd result self.new }
+        ensures counts { CountsOrKeeps Q.items self.old CloseEnd result self.new }
     {
         match self.put {
-            PutTurn::Closes { again: _ } => {
+            PutTurn::Closes { .. } => {
                 self.put = PutTurn::Free;
                 self.shut = true;
                 Ok(())
             }
-            PutTurn::Free
-            | PutTurn::Offers {
-                offered: _,
-                before: _,
-            }
-            | PutTurn::Late { offered: _ } => Err(Fault::OutOfTurn),
+            PutTurn::Free | PutTurn::Offers { .. } | PutTurn::Late { .. } => Err(Fault::OutOfTurn),
         }
     }
 
-    /// A take of up to so many items begins, of one at least.
-    pub fn take_begins(&mut self, wanted: usize) -> Result<(), Fault>
+    // A take of up to so many items begins, of one at least.
+    fn take_begins(&mut self, wanted: usize) -> Result<(), Fault>
         ensures reads { Reads Q.items Q.room self.old (TakeBegin wanted) result self.new }
         ensures room { Q.room self.new.inside ≡ Q.room self.old.inside }
+        ensures entries { MovesEntries Q.entries (λ item. Q.entry item 0) self.old (TakeBegin wanted) result self.new }
+        ensures counts { CountsOrKeeps Q.items self.old (TakeBegin wanted) result self.new }
     {
         match self.take {
             TakeTurn::Rests => {
@@ -386,26 +407,20 @@ impl<Q: Fifo<u64>> CallAuditor<Q> {
                 };
                 Ok(())
             }
-            TakeTurn::Waits {
-                wanted: _,
-                before: _,
-                ended: _,
-            } => Err(Fault::OutOfTurn),
+            TakeTurn::Waits { .. } => Err(Fault::OutOfTurn),
         }
     }
 
-    /// The take ends: it took these items, one at least and no more than it wanted.
-    pub fn take_items(&mut self, items: &[u64]) -> Result<(), Fault>
+    // The take ends: it took these items, one at least and no more than it wanted.
+    fn take_items(&mut self, items: &[u64]) -> Result<(), Fault>
         ensures reads { Reads Q.items Q.room self.old (TakeItems items.now) result self.new }
         ensures room { Q.room self.new.inside ≡ Q.room self.old.inside }
+        ensures entries { MovesEntries Q.entries (λ item. Q.entry item 0) self.old (TakeItems items.now) result self.new }
+        ensures counts { CountsOrKeeps Q.items self.old (TakeItems items.now) result self.new }
     {
         match self.take {
             TakeTurn::Rests => Err(Fault::OutOfTurn),
-            TakeTurn::Waits {
-                wanted,
-                before,
-                ended: _,
-            } => {
+            TakeTurn::Waits { wanted, before, .. } => {
                 if items.is_empty() || wanted < items.len() {
                     return Err(Fault::OutOfTurn);
                 }
@@ -425,9 +440,9 @@ impl<Q: Fifo<u64>> CallAuditor<Q> {
         ensures { IsTrue result ↔ AreNext items.now (Q.items self.now.inside) }
     {
         for (index, item) in items.iter().enumerate() {
-            match self.inside.get(index) {
+            match self.inside.item(index) {
                 Some(next) => {
-                    if *next != *item {
+                    if next != *item {
                         return false;
                     }
                 }
@@ -442,6 +457,7 @@ impl<Q: Fifo<u64>> CallAuditor<Q> {
         ensures room { Q.room self.new.inside ≡ Q.room self.old.inside }
         ensures ends { IsTrue result ↔ CanEndTake (meant self.old.capacity) (length (Q.items self.old.inside)) (offered_by self.old.put) count }
         ensures inside { Q.items self.new.inside ≡ (if result then drop count (Q.items self.old.inside) else (Q.items self.old.inside)) }
+        ensures entries { Q.entries self.new.inside ≡ (if result then drop count (Q.entries self.old.inside) else Q.entries self.old.inside) }
         ensures take { self.new.take ≡ (if result then Rests else self.old.take) }
         ensures capacity { self.new.capacity ≡ self.old.capacity }
         ensures put { self.new.put ≡ self.old.put }
@@ -452,24 +468,22 @@ impl<Q: Fifo<u64>> CallAuditor<Q> {
             return false;
         }
         for _ in 0..count {
-            let _item = self.inside.pop_front();
+            self.inside.pop_front();
         }
         self.take = TakeTurn::Rests;
         true
     }
 
-    /// The take ends: the queue had no item, and some may come.
-    pub fn take_empty(&mut self) -> Result<(), Fault>
+    // The take ends: the queue had no item, and some may come.
+    fn take_empty(&mut self) -> Result<(), Fault>
         ensures reads { Reads Q.items Q.room self.old TakeEmpty result self.new }
         ensures room { Q.room self.new.inside ≡ Q.room self.old.inside }
+        ensures entries { MovesEntries Q.entries (λ item. Q.entry item 0) self.old TakeEmpty result self.new }
+        ensures counts { CountsOrKeeps Q.items self.old TakeEmpty result self.new }
     {
         match self.take {
             TakeTurn::Rests => Err(Fault::OutOfTurn),
-            TakeTurn::Waits {
-                wanted: _,
-                before,
-                ended,
-            } => {
+            TakeTurn::Waits { before, ended, .. } => {
                 if ended || before > 0 || !self.ends_take(0) {
                     return Err(Fault::NotLinearizable);
                 }
@@ -478,11 +492,13 @@ impl<Q: Fifo<u64>> CallAuditor<Q> {
         }
     }
 
-    /// The take of several items ends: the queue had fewer than it wanted, though it was not empty and closed, and none was
-    /// taken.
-    pub fn take_short(&mut self) -> Result<(), Fault>
+    // The take of several items ends: the queue had fewer than it wanted, though it was not empty and closed, and none was
+    // taken.
+    fn take_short(&mut self) -> Result<(), Fault>
         ensures reads { Reads Q.items Q.room self.old TakeShort result self.new }
         ensures room { Q.room self.new.inside ≡ Q.room self.old.inside }
+        ensures entries { MovesEntries Q.entries (λ item. Q.entry item 0) self.old TakeShort result self.new }
+        ensures counts { CountsOrKeeps Q.items self.old TakeShort result self.new }
     {
         match self.take {
             TakeTurn::Rests => Err(Fault::OutOfTurn),
@@ -502,18 +518,16 @@ impl<Q: Fifo<u64>> CallAuditor<Q> {
         }
     }
 
-    /// The take ends: no item was taken, and no reason is told.
-    pub fn take_nothing(&mut self) -> Result<(), Fault>
+    // The take ends: no item was taken, and no reason is told.
+    fn take_nothing(&mut self) -> Result<(), Fault>
         ensures reads { Reads Q.items Q.room self.old TakeNothing result self.new }
         ensures room { Q.room self.new.inside ≡ Q.room self.old.inside }
+        ensures entries { MovesEntries Q.entries (λ item. Q.entry item 0) self.old TakeNothing result self.new }
+        ensures counts { CountsOrKeeps Q.items self.old TakeNothing result self.new }
     {
         match self.take {
             TakeTurn::Rests => Err(Fault::OutOfTurn),
-            TakeTurn::Waits {
-                wanted: _,
-                before: _,
-                ended: _,
-            } => {
+            TakeTurn::Waits { .. } => {
                 if !self.ends_take(0) {
                     return Err(Fault::NotLinearizable);
                 }
@@ -522,19 +536,17 @@ impl<Q: Fifo<u64>> CallAuditor<Q> {
         }
     }
 
-    /// The take ends: the queue was empty and closed.
-    pub fn take_closed(&mut self) -> Result<(), Fault>
+    // The take ends: the queue was empty and closed.
+    fn take_closed(&mut self) -> Result<(), Fault>
         ensures reads { Reads Q.items Q.room self.old TakeClosed result self.new }
         ensures room { Q.room self.new.inside ≡ Q.room self.old.inside }
+        ensures entries { MovesEntries Q.entries (λ item. Q.entry item 0) self.old TakeClosed result self.new }
+        ensures counts { CountsOrKeeps Q.items self.old TakeClosed result self.new }
     {
         match self.take {
             TakeTurn::Rests => Err(Fault::OutOfTurn),
-            TakeTurn::Waits {
-                wanted: _,
-                before: _,
-                ended: _,
-            } => {
-                if !self.inside.is_empty() || !self.is_closed() {
+            TakeTurn::Waits { .. } => {
+                if self.inside.len() > 0 || !self.is_closed() {
                     return Err(Fault::NotLinearizable);
                 }
                 self.shut = true;
@@ -545,52 +557,79 @@ impl<Q: Fifo<u64>> CallAuditor<Q> {
     }
 
     // Whether a close has begun.
-    fn is_closed(&self) -> bool
+    pub(crate) fn is_closed(&self) -> bool
         ensures { result ≡ has_closed self.now.put self.now.shut }
     {
         match self.put {
-            PutTurn::Closes { again: _ } => true,
-            PutTurn::Free
-            | PutTurn::Offers {
-                offered: _,
-                before: _,
-            }
-            | PutTurn::Late { offered: _ } => self.shut,
+            PutTurn::Closes { .. } => true,
+            PutTurn::Free | PutTurn::Offers { .. } | PutTurn::Late { .. } => self.shut,
         }
     }
 
     // How many items the put under way offered, where it began before a close had ended.
-    fn offered(&self) -> usize
+    pub(crate) fn offered(&self) -> usize
         ensures { result ≡ offered_by self.now.put }
     {
         match self.put {
-            PutTurn::Offers { offered, before: _ } => offered,
-            PutTurn::Free | PutTurn::Late { offered: _ } | PutTurn::Closes { again: _ } => 0,
+            PutTurn::Offers { offered, .. } => offered,
+            PutTurn::Free | PutTurn::Late { .. } | PutTurn::Closes { .. } => 0,
         }
     }
 
-    /// How many items are inside before those that the put under way offers; none where there is no put, or it began after a
-    /// close had ended.
-    pub(crate) fn before_put(&self) -> Option<usize>
-        ensures { IfSome result (λ before. (offered inside : ℕ) × (self.now.put ≡ Offers offered inside) × (before + offered ≡ length (Q.items self.now.inside))) }
+    // Whether the producer has a call under way; the consumer.
+    pub(crate) fn is_putting(&self) -> bool
+        ensures { result ≡ has_put self.now.put }
     {
         match self.put {
-            PutTurn::Offers { offered, before: _ } => self.inside.len().checked_sub(offered),
-            PutTurn::Free | PutTurn::Late { offered: _ } | PutTurn::Closes { again: _ } => None,
+            PutTurn::Free => false,
+            PutTurn::Offers {
+                offered: _,
+                before: _,
+            }
+            | PutTurn::Late { offered: _ }
+            | PutTurn::Closes { again: _ } => true,
+        }
+    }
+
+    pub(crate) fn is_taking(&self) -> bool
+        ensures { result ≡ has_take self.now.take }
+    {
+        match self.take {
+            TakeTurn::Rests => false,
+            TakeTurn::Waits {
+                wanted: _,
+                before: _,
+                ended: _,
+            } => true,
+        }
+    }
+
+    // How many items are inside whatever the calls under way have done; and at most.
+    pub(crate) fn least_inside(&self) -> usize
+        ensures { result ≡ least_kept (kept_by Q.items self.now) }
+    {
+        self.inside
+            .len()
+            .saturating_sub(self.offered())
+            .saturating_sub(self.asked())
+    }
+
+    pub(crate) fn most_inside(&self) -> usize
+        ensures { result ≡ most_kept (meant self.now.capacity) (kept_by Q.items self.now) }
+    {
+        match self.capacity {
+            Capacity::Unbounded => self.inside.len(),
+            Capacity::Between { full: _, most } => self.inside.len().min(most),
         }
     }
 
     // How many items the take under way may have taken.
-    fn asked(&self) -> usize
+    pub(crate) fn asked(&self) -> usize
         ensures { result ≡ asked_by self.now.take }
     {
         match self.take {
             TakeTurn::Rests => 0,
-            TakeTurn::Waits {
-                wanted,
-                before: _,
-                ended: _,
-            } => wanted,
+            TakeTurn::Waits { wanted, .. } => wanted,
         }
     }
 }

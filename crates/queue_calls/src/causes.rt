@@ -1,7 +1,8 @@
 //! What speaks against a line of a recording.
 ghost use Rattle.std.specs.Prelude.{◌≡◌, ◌++◌, codes, decimal};
-ghost use Rattle.queue_calls.specs.Causes.{cause_words, said_words};
+ghost use Rattle.queue_calls.specs.Causes.{cause_line, cause_words, next_words, said_words};
 
+use crate::entries::{Offered, Taken};
 use std::fmt;
 
 /// What speaks against a line of a recording with which the history is not linearizable.
@@ -13,159 +14,259 @@ use std::fmt;
 /// `uses::findings::line_at_fault`.
 #[derive(Clone, Copy, PartialEq, Eq, Debug)]
 pub enum Cause {
-    /// Items were stored by a put that began after a close had ended.
+    /// Items were stored by a put that began after a close had ended, the first one at this line.
     StoredAfterClose(u64),
-    /// An item that was taken is not among those that its put stored.
+    /// A put stored only so many of its items, but one of the others was taken.
     OnlySomeStored {
         count: usize,
-        item: u64,
+        taken: Taken,
     },
-    /// More items are inside than the queue can hold.
+    /// More items are inside than the queue can hold: so many at least.
     StoredTooMany(usize),
-    /// A put found no room, where there was room.
-    FullWithRoom(usize),
-    /// A put that began after a close had ended found no room.
+    /// A put stored only so many of its items, where there was room for one more: since this line, which began it, at most so many
+    /// were inside before those that it stored.
+    OnlySomeWithRoom {
+        count: usize,
+        inside: usize,
+        since: u64,
+    },
+    /// A put found no room for one item, where there was room: since this line, which began it, at most so many were inside.
+    FullWithRoom {
+        inside: usize,
+        since: u64,
+    },
+    /// A put that began after a close had ended, the first one at this line, found no room for one item.
     FullAfterClose(u64),
     /// A put stored nothing, but an item of it was taken.
-    NotStoredButTaken(u64),
+    NotStoredButTaken(Taken),
+    /// A put found no room for all its items, so many, where there was room: since this line, which began it, at most so many were
+    /// inside.
+    ShortWithRoom {
+        offered: usize,
+        inside: usize,
+        since: u64,
+    },
     /// A put was told that the queue is closed, and no close had ended before it began.
     ClosedWithoutClose,
-    /// A take gave items after one was told that the queue is closed.
-    ItemAfterTold,
+    /// A take gave items after one was told, at this line, that the queue is closed.
+    ItemAfterTold(u64),
     /// A take gave an item that is inside, or is being put, behind another.
     NotNext {
         item: u64,
-        next: u64,
-        offered_at: u64,
+        next: Offered,
     },
-    /// A take gave an item that was taken before, among the last [`TAKEN_LIMIT`](crate::TAKEN_LIMIT).
+    /// A take gave an item that was taken before, among the last [`TAKEN_LIMIT`](crate::TAKEN_LIMIT) or earlier in the same line;
+    /// and what is next in its place, where something is.
     ComesAgain {
-        item: u64,
-        taken_at: u64,
+        taken: Taken,
+        next: Option<Offered>,
     },
-    /// A take gave an item that no put has offered.
-    NotPut(u64),
+    /// A take gave an item that is neither inside nor being put; and what is next in its place, where something is.
+    NotInside {
+        item: u64,
+        next: Option<Offered>,
+    },
     /// A take gave fewer items than it wanted, while another was inside.
-    NoMoreWhileInside {
-        item: u64,
-        stored_at: u64,
+    NoMoreWhileInside(Offered),
+    /// A take took too few: more items are inside than the queue can hold, so many at least, since this line, which ended the last put
+    /// that stored some.
+    NotTaken {
+        inside: usize,
+        since: u64,
     },
-    /// A take took too few: more items are inside than the queue can hold.
-    NotTaken(usize),
-    /// A take found the queue empty after one was told that it is closed.
-    EmptyAfterTold,
+    /// A take found the queue empty after one was told, at this line, that it is closed.
+    EmptyAfterTold(u64),
     /// A take found the queue empty, while an item was inside.
-    EmptyWhileInside {
-        item: u64,
-        stored_at: u64,
-    },
-    /// A take that began after a close had ended found the queue empty and open.
+    EmptyWhileInside(Offered),
+    /// A take that began after a close had ended, the first one at this line, found the queue empty and open.
     EmptyAfterClose(u64),
-    /// A take found fewer items than it wanted after one was told that the queue is closed.
-    ShortAfterTold,
+    /// A take found fewer items than it wanted after one was told, at this line, that the queue is closed.
+    ShortAfterTold(u64),
     /// A take found fewer items than it wanted, while this one was the last of as many.
-    ShortWhileInside {
-        item: u64,
-        stored_at: u64,
-    },
-    /// A take that began after a close had ended, of a queue with nothing inside, found fewer items than it wanted.
+    ShortWhileInside(Offered),
+    /// A close had ended, the first one at this line. A put that began after it found no room for all its items; or a take that
+    /// began after it found fewer items than it wanted, of a queue with nothing inside.
     ShortAfterClose(u64),
     /// A take was told that the queue is closed, and no close has begun.
     ClosedBeforeClose,
     /// A take was told that the queue is closed, while an item was inside.
-    ClosedWhileInside {
-        item: u64,
-        stored_at: u64,
-    },
+    ClosedWhileInside(Offered),
 }
 
-// What a cause says.
+/// What a cause says: words, and numbers between them.
+///
+/// In use: `ring_page::page_calls`, which writes them without memory.
 #[derive(Clone, Copy)]
 pub enum Said {
-    // words
+    /// Words.
     Words(&'static str),
-    // words with a number between them
+    /// Words with a number between them.
     One(&'static str, u64, &'static str),
-    // words with two numbers between them
+    /// Words with two numbers between them.
     Two(&'static str, u64, &'static str, u64, &'static str),
-    // that the first item was taken, where the second is next, whose put this line began
-    NotNext(u64, u64, u64),
+    /// Words with three numbers between them.
+    Three(&'static str, u64, &'static str, u64, &'static str, u64, &'static str),
+    /// Words with a number, that the item was not inside, and what is next.
+    Lost(&'static str, u64, Next),
+    /// Words with two numbers, and what is next.
+    Again(&'static str, u64, &'static str, u64, Next),
 }
 
-// The words of a call that says so while an item was inside, put by the call that this line ended.
-fn since(says: &'static str, item: u64, line: u64) -> Said
-    ensures { said_words result ≡ says.now ++ (decimal item ++ (codes " was inside since line " ++ decimal line)) }
+/// What is next, where something is.
+///
+/// In use: `ring_page::page_calls`.
+#[derive(Clone, Copy)]
+pub struct Next(pub Option<Offered>);
+
+impl fmt::Display for Next {
+    ghost use Rattle.std.specs.Prelude.{Some};
+
+    ghost output = { λ n. Some (next_words n.0) };
+
+    /// The words of what is next.
+    fn fmt<W: fmt::Write>(&self, f: &mut fmt::Formatter<W>) -> fmt::Result {
+        match self.0 {
+            Some(next) => write!(f, "item {} of line {} is next", next.item, next.offered_at),
+            None => f.write_str("none is next"),
+        }
+    }
+}
+
+// The words of a call that says so while an item was inside.
+fn since(says: &'static str, inside: Offered) -> Said
+    ensures { said_words result ≡ says.now ++ (decimal inside.item ++ (codes " was inside since line " ++ decimal inside.stored_at)) }
 {
-    Said::Two(says, item, " was inside since line ", line, "")
+    Said::Two(
+        says,
+        inside.item,
+        " was inside since line ",
+        inside.stored_at,
+        "",
+    )
 }
 
 impl Cause {
-    // What it says.
-    fn said(self) -> Said
+    /// The line that contradicts the one at fault, where another one does.
+    pub fn line(&self) -> Option<u64>
+        ensures { result ≡ cause_line self.now }
+    {
+        match *self {
+            Cause::StoredAfterClose(line)
+            | Cause::FullAfterClose(line)
+            | Cause::ItemAfterTold(line)
+            | Cause::EmptyAfterTold(line)
+            | Cause::EmptyAfterClose(line)
+            | Cause::ShortAfterTold(line)
+            | Cause::ShortAfterClose(line) => Some(line),
+            Cause::OnlySomeWithRoom { since, .. }
+            | Cause::FullWithRoom { since, .. }
+            | Cause::ShortWithRoom { since, .. }
+            | Cause::NotTaken { since, .. } => Some(since),
+            Cause::OnlySomeStored { taken, .. }
+            | Cause::NotStoredButTaken(taken)
+            | Cause::ComesAgain { taken, .. } => Some(taken.taken_at),
+            Cause::NotNext { next, .. } => Some(next.offered_at),
+            Cause::NotInside { next, .. } => Some(next?.offered_at),
+            Cause::NoMoreWhileInside(inside)
+            | Cause::EmptyWhileInside(inside)
+            | Cause::ShortWhileInside(inside)
+            | Cause::ClosedWhileInside(inside) => Some(inside.stored_at),
+            Cause::StoredTooMany(_) | Cause::ClosedWithoutClose | Cause::ClosedBeforeClose => None,
+        }
+    }
+
+    /// What it says, in parts. They are what is printed; where a text has a writer that may fail, print the cause itself.
+    pub fn said(self) -> Said
         ensures { said_words result ≡ cause_words self }
     {
         match self {
             Cause::StoredAfterClose(n) => Said::One("stored, but closed at line ", n, ""),
-            Cause::OnlySomeStored { count, item } => Said::Two(
+            Cause::OnlySomeStored { count, taken } => Said::Three(
                 "only ",
                 count as u64,
                 " stored, but item ",
-                item,
-                " was taken",
-            ),
-            Cause::StoredTooMany(n) => Said::One(
-                "stored, but at least ",
-                n as u64,
-                " items are inside",
-            ),
-            Cause::FullWithRoom(n) => Said::One(
-                "full, but at most ",
-                n as u64,
-                " items were inside",
-            ),
-            Cause::FullAfterClose(n) => Said::One("full, but closed at line ", n, ""),
-            Cause::NotStoredButTaken(n) => Said::One("not stored, but item ", n, " was taken"),
-            Cause::ClosedWithoutClose => Said::Words("closed, but there was no close"),
-            Cause::ItemAfterTold => Said::Words("item, but closed was told"),
-            Cause::NotNext {
-                item,
-                next,
-                offered_at,
-            } => Said::NotNext(item, next, offered_at),
-            Cause::ComesAgain { item, taken_at } => Said::Two(
-                "item ",
-                item,
-                " comes again, it was taken at line ",
-                taken_at,
+                taken.item,
+                " was taken at line ",
+                taken.taken_at,
                 "",
             ),
-            Cause::NotPut(n) => Said::One("item ", n, " was not put"),
-            Cause::NoMoreWhileInside { item, stored_at } => since(
-                "no more, but item ",
-                item,
-                stored_at,
+            Cause::StoredTooMany(n) => Said::One("stored, but at least ", n as u64, " inside"),
+            Cause::OnlySomeWithRoom {
+                count,
+                inside,
+                since,
+            } => Said::Three(
+                "only ",
+                count as u64,
+                " stored, but before them at most ",
+                inside as u64,
+                " inside since line ",
+                since,
+                "",
             ),
-            Cause::NotTaken(n) => Said::One("not taken, but ", n as u64, " items are inside"),
-            Cause::EmptyAfterTold => Said::Words("empty, but closed was told"),
-            Cause::EmptyWhileInside { item, stored_at } => since(
-                "empty, but item ",
-                item,
-                stored_at,
+            Cause::FullWithRoom { inside, since } => Said::Two(
+                "full, but at most ",
+                inside as u64,
+                " inside since line ",
+                since,
+                "",
             ),
+            Cause::FullAfterClose(n) => Said::One("full, but closed at line ", n, ""),
+            Cause::NotStoredButTaken(taken) => Said::Two(
+                "not stored, but item ",
+                taken.item,
+                " was taken at line ",
+                taken.taken_at,
+                "",
+            ),
+            Cause::ShortWithRoom {
+                offered,
+                inside,
+                since,
+            } => Said::Three(
+                "short for ",
+                offered as u64,
+                ", but at most ",
+                inside as u64,
+                " inside since line ",
+                since,
+                "",
+            ),
+            Cause::ClosedWithoutClose => Said::Words("closed, but there was no close"),
+            Cause::ItemAfterTold(n) => Said::One("item, but closed was told at line ", n, ""),
+            Cause::NotNext { item, next } => Said::Three(
+                "item ",
+                item,
+                ", but item ",
+                next.item,
+                " of line ",
+                next.offered_at,
+                " is next",
+            ),
+            Cause::ComesAgain { taken, next } => Said::Again(
+                "item ",
+                taken.item,
+                " comes again, it was taken at line ",
+                taken.taken_at,
+                Next(next),
+            ),
+            Cause::NotInside { item, next } => Said::Lost("item ", item, Next(next)),
+            Cause::NoMoreWhileInside(inside) => since("no more, but item ", inside),
+            Cause::NotTaken { inside, since } => Said::Two(
+                "not taken, but at least ",
+                inside as u64,
+                " inside since line ",
+                since,
+                "",
+            ),
+            Cause::EmptyAfterTold(n) => Said::One("empty, but closed was told at line ", n, ""),
+            Cause::EmptyWhileInside(inside) => since("empty, but item ", inside),
             Cause::EmptyAfterClose(n) => Said::One("empty, but closed at line ", n, ""),
-            Cause::ShortAfterTold => Said::Words("short, but closed was told"),
-            Cause::ShortWhileInside { item, stored_at } => since(
-                "short, but item ",
-                item,
-                stored_at,
-            ),
+            Cause::ShortAfterTold(n) => Said::One("short, but closed was told at line ", n, ""),
+            Cause::ShortWhileInside(inside) => since("short, but item ", inside),
             Cause::ShortAfterClose(n) => Said::One("short, but closed at line ", n, ""),
             Cause::ClosedBeforeClose => Said::Words("closed, but no close has begun"),
-            Cause::ClosedWhileInside { item, stored_at } => since(
-                "closed, but item ",
-                item,
-                stored_at,
-            ),
+            Cause::ClosedWhileInside(inside) => since("closed, but item ", inside),
         }
     }
 }
@@ -179,15 +280,11 @@ impl fmt::Display for Cause {
     fn fmt<W: fmt::Write>(&self, f: &mut fmt::Formatter<W>) -> fmt::Result {
         match self.said() {
             Said::Words(words) => f.write_str(words),
-            Said::One(before, n, behind) => write!(f, "{before}{n}{behind}"),
-            Said::Two(before, n, between, m, behind) => write!(
-                f,
-                "{before}{n}{between}{m}{behind}"
-            ),
-            Said::NotNext(item, next, line) => write!(
-                f,
-                "item {item}, but item {next} of line {line} is next"
-            ),
+            Said::One(a, n, b) => write!(f, "{a}{n}{b}"),
+            Said::Two(a, n, b, m, c) => write!(f, "{a}{n}{b}{m}{c}"),
+            Said::Three(a, n, b, m, c, k, d) => write!(f, "{a}{n}{b}{m}{c}{k}{d}"),
+            Said::Lost(a, n, next) => write!(f, "{a}{n} was not inside; {next}"),
+            Said::Again(a, n, b, m, next) => write!(f, "{a}{n}{b}{m}; {next}"),
         }
     }
 }

@@ -4,10 +4,12 @@
 //! - `moments_are_orders`, `counts_are_exact`, `counted_is_linearizable`: linearizable said in three ways. For who proves that
 //!   calls of his own queue are linearizable: the rules of counting need neither moments nor an order to be found.
 //! - `beginning_is_linearizable`, `linearizable_is_in_turn`, `operations_lead_one_way`: for who reads a finding.
+//! - `cause_is_reason`, `fault_has_a_cause`: what a told cause says of the history, and that there is one.
 //! - `history_has_a_recording` and the laws of the text: for who writes recordings.
 ghost use Rattle.queue_calls.specs.RecordingLaws.{RecordingHasNoBadLine, RecordingIsOne};
 ghost use Rattle.queue_calls.specs.Counting.{CountedIsLinearizable, CountsAreExact};
 ghost use Rattle.queue_calls.specs.Tellings.{HistoryHasARecording, LinearizableIsInTurn};
+ghost use Rattle.queue_calls.specs.Reasons.{CauseIsReason, FaultHasACause};
 ghost use Rattle.queue_calls.specs.Laws.{BeginningIsLinearizable, MomentsAreOrders, OperationsLeadOneWay};
 
 /// An operation leaves one queue: the sequential specification lets it answer or not, and chooses nothing else. So
@@ -60,4 +62,15 @@ pub fn linearizable_is_in_turn()
 /// capacity.
 pub fn history_has_a_recording()
     ensures { HistoryHasARecording }
+{}
+
+/// A cause is a reason: the history with the event that it speaks against is not linearizable.
+pub fn cause_is_reason()
+    ensures { CauseIsReason }
+{}
+
+/// Where a history stops being linearizable, at an event that comes in its turn, there is a cause: something speaks against the
+/// event.
+pub fn fault_has_a_cause()
+    ensures { FaultHasACause }
 {}

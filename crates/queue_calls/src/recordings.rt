@@ -3,23 +3,22 @@ ghost use Rattle.std.specs.Prelude.{◌≡◌, ◌≢◌, ◌+◌, ◌⊎◌, Li
 ghost use Rattle.queue_calls.specs.Calls.{Event as AnEvent};
 ghost use Rattle.queue_calls.specs.Queue.{Capacity as ACapacity};
 ghost use Rattle.queue_calls.specs.Told.{meant, told};
-ghost use Rattle.queue_calls.specs.State.{IsProper};
 ghost use Rattle.queue_calls.specs.Lines.{Allows};
 ghost use Rattle.queue_calls.specs.Recordings.{IsFindingOf, IsFoundOf, Line, RefusesText, lines_text, begun_after, capacity_told, event_told, stored_told, wanted_told};
 ghost use Rattle.queue_calls.specs.RecordingStates.{ContinuesLines, HasHeard, HasLines, HasNoFeed, HasRead, RefusesLine};
-ghost use Rattle.queue_calls.specs.Rooms.{AreTooShort, BeginsWithNumbers, HasLongHistory, OutgrowsLists, rooms_in, rooms_of};
+ghost use Rattle.queue_calls.specs.Rooms.{AreTooShort, BeginsWithNumbers, HasLongHistory, rooms_in, rooms_of};
+ghost use Rattle.queue_calls.specs.Noting.{OutgrowsLists};
 ghost use Rattle.queue_calls.specs.declared.lines.Word.TheVariants as word;
 
-use crate::auditors::CallAuditor;
 use crate::capacities::{Capacity, exactly};
 use crate::causes::Cause;
 use crate::events::Event;
 use crate::faults::Fault;
-use crate::fifos::{Fifo, Row};
+use crate::fifos::Row;
 use crate::lines::{Word, read_line};
-use crate::notes::Notes;
-use crate::reports::Report;
+use crate::reports::{Report, Tally};
 use crate::storage::{Lists, Memory, Storage};
+use crate::witnesses::Witness;
 use memchr::memchr;
 use std::alloc::{AllocError, Allocator};
 use std::collections::VecDeque;
@@ -111,8 +110,8 @@ pub enum Begun {
 // The history that the lines tell, with what is found of it so far.
 #[derive(Drop)]
 struct Hearing<S: Storage> {
-    auditor: CallAuditor<S::Items>,
-    notes: Notes<S>,
+    witness: Witness<S>,
+    tally: Tally,
     begun: Begun,
     // the first fault
     fault: Option<CallsFinding>,
@@ -198,13 +197,12 @@ impl<S: Storage> Hearing<S> {
     ghost use Rattle.queue_calls.specs.declared.recordings.RecordingFault.TheVariants.{OutOfMemory};
 
     // Nothing was heard, and of what queue is not told.
-    fn new(items: S::Items, notes: Notes<S>) -> Hearing<S>
-        ensures items { S.Items.room result.auditor.inside ≡ S.Items.room items }
-        ensures notes { result.notes ≡ notes }
+    fn new(offered: S::Offered, taken: S::Taken) -> Hearing<S>
+        ensures rooms { (S.Offered.room result.witness.auditor.inside.list ≡ S.Offered.room offered) × (S.Taken.room result.witness.taken ≡ S.Taken.room taken) }
     {
         Hearing {
-            auditor: CallAuditor::with(items, Capacity::Unbounded),
-            notes,
+            witness: Witness::new(offered, taken),
+            tally: Tally::new(),
             begun: Begun::Nothing,
             fault: None,
         }
@@ -213,38 +211,41 @@ impl<S: Storage> Hearing<S> {
     // Forgets all, and hears of a queue of the capacity that these numbers of a first line tell.
     fn begins(&mut self, numbers: &[u64])
         requires { Allows word.Queue numbers.now }
-        ensures heard { HasHeard S.Items.items self.new (capacity_told numbers.now) [] }
+        ensures heard { HasHeard S.Offered.items S.Taken.items self.new (capacity_told numbers.now) [] }
         ensures begun { self.new.begun ≡ Nothing }
-        ensures rooms { (S.Items.room self.new.auditor.inside ≡ S.Items.room self.old.auditor.inside) × (S.Offered.room self.new.notes.inside ≡ S.Offered.room self.old.notes.inside) × (S.Taken.room self.new.notes.taken ≡ S.Taken.room self.old.notes.taken) × (S.Numbers.room self.new.notes.offers ≡ S.Numbers.room self.old.notes.offers) }
+        ensures rooms { (S.Offered.room self.new.witness.auditor.inside.list ≡ S.Offered.room self.old.witness.auditor.inside.list) × (S.Taken.room self.new.witness.taken ≡ S.Taken.room self.old.witness.taken) }
     {
-        let capacity = capacity_told(numbers);
-        self.auditor.restart(capacity);
-        self.notes.restart(capacity);
+        self.witness.restart(capacity_told(numbers));
+        self.tally = Tally::new();
         self.begun = Begun::Nothing;
         self.fault = None;
     }
 
     // Hears the event of a line; behind a fault nothing is asked of it.
     fn hear(&mut self, line: u64, event: Event<'_>) -> Result<(), RecordingFault>
-        ensures heard { OnOk result ((capacity : ACapacity) (events : List AnEvent) → HasHeard S.Items.items self.old capacity events → length events + 2 ≡ line
-            → HasHeard S.Items.items self.new capacity (events ++ told event.entry ∷ [])) }
+        ensures heard { OnOk result ((capacity : ACapacity) (events : List AnEvent) → HasHeard S.Offered.items S.Taken.items self.old capacity events → length events + 2 ≡ line
+            → HasHeard S.Offered.items S.Taken.items self.new capacity (events ++ told event.entry ∷ [])) }
         ensures refused { IfErr result (λ e. e ≡ OutOfMemory) }
         ensures begun { self.new.begun ≡ self.old.begun }
-        ensures full { IfErr result (λ e. (capacity : ACapacity) (events : List AnEvent) → HasHeard S.Items.items self.old capacity events
-            → OutgrowsLists (S.Items.room self.old.auditor.inside) (S.Offered.room self.old.notes.inside) (S.Taken.room self.old.notes.taken) (S.Numbers.room self.old.notes.offers) capacity (events ++ told event.entry ∷ [])) }
-        ensures rooms { (S.Items.room self.new.auditor.inside ≡ S.Items.room self.old.auditor.inside) × (S.Offered.room self.new.notes.inside ≡ S.Offered.room self.old.notes.inside) × (S.Taken.room self.new.notes.taken ≡ S.Taken.room self.old.notes.taken) × (S.Numbers.room self.new.notes.offers ≡ S.Numbers.room self.old.notes.offers) }
+        ensures full { IfErr result (λ e. (capacity : ACapacity) (events : List AnEvent) → HasHeard S.Offered.items S.Taken.items self.old capacity events
+            → OutgrowsLists (S.Offered.room self.old.witness.auditor.inside.list) (S.Taken.room self.old.witness.taken) capacity (events ++ told event.entry ∷ [])) }
+        ensures rooms { (S.Offered.room self.new.witness.auditor.inside.list ≡ S.Offered.room self.old.witness.auditor.inside.list) × (S.Taken.room self.new.witness.taken ≡ S.Taken.room self.old.witness.taken) }
     {
         if self.fault.is_some() {
             return Ok(());
         }
-        match self.auditor.feed(event) {
-            Ok(()) => Ok(self.notes.note(line, event, self.auditor.before_put())?),
+        let offered = self.witness.auditor.offered();
+        match self.witness.hear(line, event) {
+            Ok(()) => {
+                self.tally.count(event, offered, &self.witness.auditor);
+                Ok(())
+            }
             Err(Fault::OutOfTurn) => {
                 self.fault = Some(CallsFinding::OutOfTurn { line });
                 Ok(())
             }
             Err(Fault::NotLinearizable) => {
-                let cause = self.notes.cause(line, event);
+                let cause = self.witness.cause(line, event);
                 self.fault = Some(CallsFinding::NotLinearizable { line, cause });
                 Ok(())
             }
@@ -254,11 +255,11 @@ impl<S: Storage> Hearing<S> {
 
     // What is found of the lines so far.
     fn finding(&self) -> CallsFinding
-        ensures { (capacity : ACapacity) (events : List AnEvent) → HasHeard S.Items.items self.now capacity events → IsFoundOf capacity events result }
+        ensures { (capacity : ACapacity) (events : List AnEvent) → HasHeard S.Offered.items S.Taken.items self.now capacity events → IsFoundOf capacity events result }
     {
         match self.fault {
             Some(fault) => fault,
-            None => CallsFinding::Lawful(self.notes.report()),
+            None => CallsFinding::Lawful(self.tally.report(&self.witness.auditor)),
         }
     }
 }
@@ -279,11 +280,11 @@ impl<S: Storage> Lines<S> {
 
     // Reads one more line, without its line feed.
     fn read(&mut self, line: &[u8]) -> Result<(), RecordingFault>
-        ensures read { OnOk result ((before : List Line) → HasLines S.Items.items self.old before → (l : Line) × ContinuesLines before line.now l × HasLines S.Items.items self.new (before ++ l ∷ [])) }
-        ensures refused { IfErr result (λ e. (before : List Line) → HasLines S.Items.items self.old before → RefusesLine e before line.now) }
-        ensures full { IfErr result (λ e. e ≡ OutOfMemory → (before : List Line) → HasLines S.Items.items self.old before
-            → HasLongHistory (S.Items.room self.old.hearing.auditor.inside) (S.Offered.room self.old.hearing.notes.inside) (S.Taken.room self.old.hearing.notes.taken) (S.Numbers.room self.old.hearing.notes.offers) (lines_text before ++ (line.now ++ 10 ∷ [])) ⊎ BeginsWithNumbers (S.Numbers.room self.old.numbers) line.now) }
-        ensures rooms { (S.Items.room self.new.hearing.auditor.inside ≡ S.Items.room self.old.hearing.auditor.inside) × (S.Offered.room self.new.hearing.notes.inside ≡ S.Offered.room self.old.hearing.notes.inside) × (S.Taken.room self.new.hearing.notes.taken ≡ S.Taken.room self.old.hearing.notes.taken) × (S.Numbers.room self.new.hearing.notes.offers ≡ S.Numbers.room self.old.hearing.notes.offers) × (S.Numbers.room self.new.numbers ≡ S.Numbers.room self.old.numbers) }
+        ensures read { OnOk result ((before : List Line) → HasLines S.Offered.items S.Taken.items self.old before → (l : Line) × ContinuesLines before line.now l × HasLines S.Offered.items S.Taken.items self.new (before ++ l ∷ [])) }
+        ensures refused { IfErr result (λ e. (before : List Line) → HasLines S.Offered.items S.Taken.items self.old before → RefusesLine e before line.now) }
+        ensures full { IfErr result (λ e. e ≡ OutOfMemory → (before : List Line) → HasLines S.Offered.items S.Taken.items self.old before
+            → HasLongHistory (S.Offered.room self.old.hearing.witness.auditor.inside.list) (S.Taken.room self.old.hearing.witness.taken) (lines_text before ++ (line.now ++ 10 ∷ [])) ⊎ BeginsWithNumbers (S.Numbers.room self.old.numbers) line.now) }
+        ensures rooms { (S.Offered.room self.new.hearing.witness.auditor.inside.list ≡ S.Offered.room self.old.hearing.witness.auditor.inside.list) × (S.Taken.room self.new.hearing.witness.taken ≡ S.Taken.room self.old.hearing.witness.taken) × (S.Numbers.room self.new.numbers ≡ S.Numbers.room self.old.numbers) }
     {
         let Some(count) = self.count.checked_add(1) else {
             return Err(RecordingFault::TooLong);
@@ -340,13 +341,11 @@ fn split_line(bytes: &[u8]) -> Option<(&[u8], &[u8])>
 impl<A: Allocator + Copy> RecordingIn<Memory<A>> {
     /// A recording of which nothing was read.
     pub fn new(alloc: A) -> Recording<A>
-        ensures { HasRead (λ q. q.items) (λ v. v.items) result [] }
+        ensures { HasRead (λ q. q.items) (λ q. q.items) (λ v. v.items) result [] }
     {
         RecordingIn::within(Lists {
-            items: VecDeque::new(alloc),
             offered: VecDeque::new(alloc),
             taken: VecDeque::new(alloc),
-            offers: Vec::new(alloc),
             numbers: Vec::new(alloc),
             bytes: Vec::new(alloc),
         })
@@ -358,14 +357,12 @@ impl<S: Storage> RecordingIn<S> {
 
     /// A recording of which nothing was read, with these lists to read it in. What they hold is taken away.
     pub fn within(lists: Lists<S>) -> RecordingIn<S>
-        ensures read { HasRead S.Items.items S.Bytes.items result [] }
-        ensures rooms { rooms_in S.Items.room S.Offered.room S.Taken.room S.Numbers.room S.Bytes.room result ≡ rooms_of S.Items.room S.Offered.room S.Taken.room S.Numbers.room S.Bytes.room lists.items lists.offered lists.taken lists.offers lists.numbers lists.bytes }
+        ensures read { HasRead S.Offered.items S.Taken.items S.Bytes.items result [] }
+        ensures rooms { rooms_in S.Offered.room S.Taken.room S.Numbers.room S.Bytes.room result ≡ rooms_of S.Offered.room S.Taken.room S.Numbers.room S.Bytes.room lists.offered lists.taken lists.numbers lists.bytes }
     {
         let Lists {
-            items,
             offered,
             taken,
-            offers,
             numbers,
             bytes,
         } = lists;
@@ -375,7 +372,7 @@ impl<S: Storage> RecordingIn<S> {
             lines: Lines {
                 numbers,
                 count: 0,
-                hearing: Hearing::new(items, Notes::new(offered, offers, taken)),
+                hearing: Hearing::new(offered, taken),
             },
             cut,
         }
@@ -385,13 +382,13 @@ impl<S: Storage> RecordingIn<S> {
     ///
     /// `BadLine` at the first line that is not of the format, whatever comes behind it, and though the history has a
     /// fault before it; `TooLong` past 2^64 - 1 lines; `OutOfMemory` where a growth was refused, or a list in slots is too short: for
-    /// the items that are inside or offered, for those of a put, for the last [`TAKEN_LIMIT`](crate::TAKEN_LIMIT) taken, for the
-    /// numbers of a line, or for its bytes. A recording that gave one of these is of no further use.
+    /// the items that are inside or offered, for the last [`TAKEN_LIMIT`](crate::TAKEN_LIMIT) taken, for the numbers of a line, or for
+    /// its bytes. A recording that gave one of these is of no further use.
     pub fn read(&mut self, piece: &[u8]) -> Result<(), RecordingFault>
-        ensures read { OnOk result ((bytes : List ℕ) → HasRead S.Items.items S.Bytes.items self.old bytes → HasRead S.Items.items S.Bytes.items self.new (bytes ++ piece.now)) }
-        ensures refused { IfErr result (λ e. (bytes more : List ℕ) → HasRead S.Items.items S.Bytes.items self.old bytes → RefusesText e (bytes ++ (piece.now ++ more))) }
-        ensures full { IfErr result (λ e. e ≡ OutOfMemory → (bytes : List ℕ) → HasRead S.Items.items S.Bytes.items self.old bytes → AreTooShort (rooms_in S.Items.room S.Offered.room S.Taken.room S.Numbers.room S.Bytes.room self.old) (bytes ++ piece.now)) }
-        ensures rooms { rooms_in S.Items.room S.Offered.room S.Taken.room S.Numbers.room S.Bytes.room self.new ≡ rooms_in S.Items.room S.Offered.room S.Taken.room S.Numbers.room S.Bytes.room self.old }
+        ensures read { OnOk result ((bytes : List ℕ) → HasRead S.Offered.items S.Taken.items S.Bytes.items self.old bytes → HasRead S.Offered.items S.Taken.items S.Bytes.items self.new (bytes ++ piece.now)) }
+        ensures refused { IfErr result (λ e. (bytes more : List ℕ) → HasRead S.Offered.items S.Taken.items S.Bytes.items self.old bytes → RefusesText e (bytes ++ (piece.now ++ more))) }
+        ensures full { IfErr result (λ e. e ≡ OutOfMemory → (bytes : List ℕ) → HasRead S.Offered.items S.Taken.items S.Bytes.items self.old bytes → AreTooShort (rooms_in S.Offered.room S.Taken.room S.Numbers.room S.Bytes.room self.old) (bytes ++ piece.now)) }
+        ensures rooms { rooms_in S.Offered.room S.Taken.room S.Numbers.room S.Bytes.room self.new ≡ rooms_in S.Offered.room S.Taken.room S.Numbers.room S.Bytes.room self.old }
     {
         let mut rest = piece;
         while let Some((end, more)) = split_line(rest) {
@@ -405,10 +402,10 @@ impl<S: Storage> RecordingIn<S> {
     // Reads the end of a line, without its line feed.
     fn read_end(&mut self, end: &[u8]) -> Result<(), RecordingFault>
         requires { HasNoFeed end.now }
-        ensures read { OnOk result ((bytes : List ℕ) → HasRead S.Items.items S.Bytes.items self.old bytes → HasRead S.Items.items S.Bytes.items self.new (bytes ++ end.now ++ 10 ∷ [])) }
-        ensures refused { IfErr result (λ e. (bytes more : List ℕ) → HasRead S.Items.items S.Bytes.items self.old bytes → RefusesText e (bytes ++ (end.now ++ 10 ∷ more))) }
-        ensures full { IfErr result (λ e. e ≡ OutOfMemory → (bytes : List ℕ) → HasRead S.Items.items S.Bytes.items self.old bytes → AreTooShort (rooms_in S.Items.room S.Offered.room S.Taken.room S.Numbers.room S.Bytes.room self.old) (bytes ++ (end.now ++ 10 ∷ []))) }
-        ensures rooms { (S.Items.room self.new.lines.hearing.auditor.inside ≡ S.Items.room self.old.lines.hearing.auditor.inside) × (S.Offered.room self.new.lines.hearing.notes.inside ≡ S.Offered.room self.old.lines.hearing.notes.inside) × (S.Taken.room self.new.lines.hearing.notes.taken ≡ S.Taken.room self.old.lines.hearing.notes.taken) × (S.Numbers.room self.new.lines.hearing.notes.offers ≡ S.Numbers.room self.old.lines.hearing.notes.offers) × (S.Numbers.room self.new.lines.numbers ≡ S.Numbers.room self.old.lines.numbers) × (S.Bytes.room self.new.cut ≡ S.Bytes.room self.old.cut) }
+        ensures read { OnOk result ((bytes : List ℕ) → HasRead S.Offered.items S.Taken.items S.Bytes.items self.old bytes → HasRead S.Offered.items S.Taken.items S.Bytes.items self.new (bytes ++ end.now ++ 10 ∷ [])) }
+        ensures refused { IfErr result (λ e. (bytes more : List ℕ) → HasRead S.Offered.items S.Taken.items S.Bytes.items self.old bytes → RefusesText e (bytes ++ (end.now ++ 10 ∷ more))) }
+        ensures full { IfErr result (λ e. e ≡ OutOfMemory → (bytes : List ℕ) → HasRead S.Offered.items S.Taken.items S.Bytes.items self.old bytes → AreTooShort (rooms_in S.Offered.room S.Taken.room S.Numbers.room S.Bytes.room self.old) (bytes ++ (end.now ++ 10 ∷ []))) }
+        ensures rooms { (S.Offered.room self.new.lines.hearing.witness.auditor.inside.list ≡ S.Offered.room self.old.lines.hearing.witness.auditor.inside.list) × (S.Taken.room self.new.lines.hearing.witness.taken ≡ S.Taken.room self.old.lines.hearing.witness.taken) × (S.Numbers.room self.new.lines.numbers ≡ S.Numbers.room self.old.lines.numbers) × (S.Bytes.room self.new.cut ≡ S.Bytes.room self.old.cut) }
     {
         if self.cut.is_empty() {
             return self.lines.read(end);
@@ -421,8 +418,8 @@ impl<S: Storage> RecordingIn<S> {
 
     /// What is found, where the text ends here: `BadLine` where its last line has not ended, or there is none. No memory is taken.
     pub fn finding(&self) -> Result<CallsFinding, RecordingFault>
-        ensures found { IfOk result (λ finding. (bytes : List ℕ) → HasRead S.Items.items S.Bytes.items self.now bytes → IsFindingOf bytes finding) }
-        ensures refused { IfErr result (λ e. (bytes : List ℕ) → HasRead S.Items.items S.Bytes.items self.now bytes → RefusesText e bytes) }
+        ensures found { IfOk result (λ finding. (bytes : List ℕ) → HasRead S.Offered.items S.Taken.items S.Bytes.items self.now bytes → IsFindingOf bytes finding) }
+        ensures refused { IfErr result (λ e. (bytes : List ℕ) → HasRead S.Offered.items S.Taken.items S.Bytes.items self.now bytes → RefusesText e bytes) }
         ensures takes_no_memory { IfErr result (λ e. e ≢ OutOfMemory) }
     {
         if self.lines.count > 0 && self.cut.is_empty() {

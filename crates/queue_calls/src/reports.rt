@@ -1,4 +1,14 @@
 //! What is told of a history that is linearizable.
+ghost use Rattle.std.specs.Prelude.{◌≡◌, ℕ, ◌+◌, ◌∷◌, [], List, max};
+ghost use Rattle.queue_calls.specs.Calls.{Event as AnEvent, CloseBegin, TakeBegin};
+ghost use Rattle.queue_calls.specs.Counting.{kept_by};
+ghost use Rattle.queue_calls.specs.Reporting.{as_number, capped, put_is_open, take_is_open};
+ghost use Rattle.queue_calls.specs.Tallying.{HaveNumbersOf, HaveOtherNumbersOf, IsToldOf, Tallies, least_kept, most_behind, most_kept, has_put, has_take};
+ghost use Rattle.queue_calls.specs.Told.{meant, told};
+
+use crate::auditors::CallAuditor;
+use crate::events::Event;
+use crate::insides::Inside;
 
 /// What is told of a history that is linearizable: how much of what an author wanted to try it has reached.
 ///
@@ -29,4 +39,122 @@ pub struct Report {
     pub overlapped: usize,
     /// Calls under way at the end, at most 2.
     pub under_way: usize,
+}
+
+// The report on the events so far; and whether the call under way of each side has overlapped one of the other.
+#[derive(Drop)]
+pub struct Tally {
+    report: Report,
+    put_overlaps: bool,
+    take_overlaps: bool,
+}
+
+impl Tally {
+    pub fn new() -> Tally
+        ensures tallies { Tallies [] result }
+        ensures inside { (result.report.surely_inside ≡ 0) × (result.report.perhaps_inside ≡ 0) }
+    {
+        Tally {
+            report: Report {
+                calls: 0,
+                stored: 0,
+                taken: 0,
+                full: 0,
+                empty: 0,
+                nothing: 0,
+                told: false,
+                surely_inside: 0,
+                perhaps_inside: 0,
+                overlapped: 0,
+                under_way: 0,
+            },
+            put_overlaps: false,
+            take_overlaps: false,
+        }
+    }
+
+    // The report, of an auditor that has read the events.
+    pub fn report<Q: Inside>(&self, auditor: &CallAuditor<Q>) -> Report
+        ensures under_way { result.under_way ≡ as_number (has_put auditor.now.put) + as_number (has_take auditor.now.take) }
+        ensures numbers { HaveNumbersOf self.now.report result }
+    {
+        let mut report = self.report;
+        report.under_way = usize::from(auditor.is_putting()) + usize::from(auditor.is_taking());
+        report
+    }
+
+    // Counts an event that an auditor has read; before it so many items were offered.
+    pub fn count<Q: Inside>(&mut self, event: Event<'_>, offered: usize, auditor: &CallAuditor<Q>)
+        ensures tallies { (past : List AnEvent) → Tallies past self.old → IsToldOf (told event.entry) past offered auditor.now.put auditor.now.take → Tallies (told event.entry ∷ past) self.new }
+        ensures surely { self.new.report.surely_inside ≡ max self.old.report.surely_inside (least_kept (kept_by Q.items auditor.now)) }
+        ensures perhaps { self.new.report.perhaps_inside ≡ most_behind (told event.entry) self.old.report.perhaps_inside (most_kept (meant auditor.now.capacity) (kept_by Q.items auditor.now)) }
+    {
+        self.adds(event, offered, auditor);
+        self.report.surely_inside = self.report.surely_inside.max(auditor.least_inside());
+    }
+
+    // Counts all of an event but what was inside whatever the order.
+    fn adds<Q: Inside>(&mut self, event: Event<'_>, offered: usize, auditor: &CallAuditor<Q>)
+        ensures tallies { (past : List AnEvent) → Tallies past self.old → IsToldOf (told event.entry) past offered auditor.now.put auditor.now.take → Tallies (told event.entry ∷ past) self.new }
+        ensures surely { self.new.report.surely_inside ≡ self.old.report.surely_inside }
+        ensures perhaps { self.new.report.perhaps_inside ≡ most_behind (told event.entry) self.old.report.perhaps_inside (most_kept (meant auditor.now.capacity) (kept_by Q.items auditor.now)) }
+    {
+        match event {
+            Event::PutBegins(_) => {
+                self.put_begins(auditor.is_taking());
+                let inside = auditor.most_inside();
+                self.report.perhaps_inside = self.report.perhaps_inside.max(inside);
+            }
+            Event::CloseBegins => self.put_begins(auditor.is_taking()),
+            Event::TakeBegins(_) => self.take_begins(auditor.is_putting()),
+            Event::PutStored(count) => {
+                self.report.stored = self.report.stored.saturating_add(count);
+                let is_short = count < offered;
+                self.report.full = self.report.full.saturating_add(usize::from(is_short));
+            }
+            Event::PutFull | Event::PutShort => {
+                self.report.full = self.report.full.saturating_add(1);
+            }
+            Event::TakeItems(items) => {
+                self.report.taken = self.report.taken.saturating_add(items.len());
+            }
+            Event::TakeEmpty | Event::TakeShort => {
+                self.report.empty = self.report.empty.saturating_add(1);
+            }
+            Event::PutNothing | Event::TakeNothing => {
+                self.report.nothing = self.report.nothing.saturating_add(1);
+            }
+            Event::TakeClosed => self.report.told = true,
+            Event::PutClosed | Event::CloseEnds => {}
+        }
+    }
+
+    fn put_begins(&mut self, is_taking: bool)
+        ensures tallies { (past : List AnEvent) → Tallies past self.old → is_taking ≡ take_is_open past → Tallies (CloseBegin ∷ past) self.new }
+        ensures inside { (self.new.report.surely_inside ≡ self.old.report.surely_inside) × (self.new.report.perhaps_inside ≡ self.old.report.perhaps_inside) }
+    {
+        self.begins(is_taking && !self.take_overlaps, is_taking);
+        self.put_overlaps = is_taking;
+        self.take_overlaps = self.take_overlaps || is_taking;
+    }
+
+    fn take_begins(&mut self, is_putting: bool)
+        ensures tallies { (past : List AnEvent) (wanted : ℕ) → Tallies past self.old → is_putting ≡ put_is_open past → Tallies (TakeBegin wanted ∷ past) self.new }
+        ensures inside { (self.new.report.surely_inside ≡ self.old.report.surely_inside) × (self.new.report.perhaps_inside ≡ self.old.report.perhaps_inside) }
+    {
+        self.begins(is_putting && !self.put_overlaps, is_putting);
+        self.take_overlaps = is_putting;
+        self.put_overlaps = self.put_overlaps || is_putting;
+    }
+
+    // Counts a call that begins; whether it is the first that overlaps that of the other side, and whether it overlaps one.
+    fn begins(&mut self, is_first: bool, overlaps: bool)
+        ensures calls { self.new.report.calls ≡ capped (self.old.report.calls + 1) }
+        ensures overlapped { self.new.report.overlapped ≡ capped (self.old.report.overlapped + (as_number is_first + as_number overlaps)) }
+        ensures others { HaveOtherNumbersOf self.old.report self.new.report × (self.new.put_overlaps ≡ self.old.put_overlaps) × (self.new.take_overlaps ≡ self.old.take_overlaps) }
+    {
+        self.report.calls = self.report.calls.saturating_add(1);
+        let more = usize::from(is_first) + usize::from(overlaps);
+        self.report.overlapped = self.report.overlapped.saturating_add(more);
+    }
 }

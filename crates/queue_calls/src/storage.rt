@@ -1,7 +1,7 @@
 //! Where the lists of a recording lie.
 
+use crate::entries::{Offered, Taken};
 use crate::fifos::{Fifo, Row};
-use crate::notes::{Offered, Taken};
 use crate::slots::{Front, Slots};
 use std::alloc::Allocator;
 use std::collections::VecDeque;
@@ -11,8 +11,6 @@ use std::marker::PhantomData;
 ///
 /// In use: `uses::findings::found_in_slots`.
 pub trait Storage {
-    /// The items that may be inside.
-    type Items: Fifo<u64>;
     /// The items that were offered and not taken, with the lines of their put.
     type Offered: Fifo<Offered>;
     /// The items taken last, with the lines of their take.
@@ -32,8 +30,6 @@ pub struct Memory<A: Allocator> {
 }
 
 impl<A: Allocator> Storage for Memory<A> {
-    type Items = VecDeque<u64, A>;
-
     type Offered = VecDeque<Offered, A>;
 
     type Taken = VecDeque<Taken, A>;
@@ -52,8 +48,6 @@ pub struct Lent<'a> {
 }
 
 impl<'a> Storage for Lent<'a> {
-    type Items = Slots<'a, u64>;
-
     type Offered = Slots<'a, Offered>;
 
     type Taken = Slots<'a, Taken>;
@@ -68,14 +62,11 @@ impl<'a> Storage for Lent<'a> {
 /// In use: `uses::findings::found_in_slots`.
 #[derive(Drop)]
 pub struct Lists<S: Storage> {
-    /// The items that may be inside: those stored, and those that the put under way offers.
-    pub items: S::Items,
-    /// The same, with the lines that offered and stored them.
+    /// The items that may be inside: those stored, and those that the put under way offers, with the lines that offered and stored
+    /// them.
     pub offered: S::Offered,
     /// The last [`TAKEN_LIMIT`](crate::TAKEN_LIMIT) items taken.
     pub taken: S::Taken,
-    /// All items of the last put.
-    pub offers: S::Numbers,
     /// The numbers of a line.
     pub numbers: S::Numbers,
     /// The bytes of a line that came in several pieces.

@@ -4,4 +4,5 @@ pub mod Programs
 pub mod Audit
 pub mod Play
 pub mod Order
+pub mod Words
 pub mod Calls

@@ -1,4 +1,4 @@
-use crate::{Against, CallsTold, Counts, page_calls};
+use crate::{CAUSE_WORDS, CallsTold, Counts, page_calls};
 use queue_calls::{Offered, Taken};
 
 const NO_COUNTS: Counts = Counts {
@@ -15,16 +15,8 @@ const NO_COUNTS: Counts = Counts {
     under_way: 0,
 };
 
-const NOTHING_AGAINST: Against = Against {
-    number: 0,
-    item: 0,
-    next: 0,
-    count: 0,
-    line: 0,
-};
-
-// What is told of a text with so many slots of each kind.
-fn calls(text: &str, room: usize) -> CallsTold {
+// What is told of a text with so many slots of each kind, and the slots for words, which held 7s.
+fn calls_with(text: &str, room: usize, word_room: usize) -> (CallsTold, [u8; CAUSE_WORDS]) {
     let blank = Offered {
         item: 7,
         offered_at: 7,
@@ -35,29 +27,34 @@ fn calls(text: &str, room: usize) -> CallsTold {
         taken_at: 7,
     };
     let room = room.min(8);
-    let mut items = [7; 8];
     let mut offered = [blank; 8];
     let mut taken = [gone; 8];
-    let mut offers = [7; 8];
     let mut numbers = [7; 8];
     let mut bytes = [7; 8];
+    let mut words = [7; CAUSE_WORDS];
     let mut told = CallsTold {
         outcome: 9,
         number: 9,
         line: 9,
-        against: NOTHING_AGAINST,
+        against: 9,
+        words: 9,
         counts: NO_COUNTS,
     };
     page_calls(
         text.as_bytes(),
-        &mut items[..room],
         &mut offered[..room],
         &mut taken[..room],
-        &mut offers[..room],
         &mut numbers[..room],
         &mut bytes[..room],
+        &mut words[..word_room.min(CAUSE_WORDS)],
         &mut told,
     );
+    (told, words)
+}
+
+// What is told of a text that has no cause.
+fn calls(text: &str, room: usize) -> CallsTold {
+    let (told, _) = calls_with(text, room, CAUSE_WORDS);
     told
 }
 
@@ -70,7 +67,8 @@ fn a_lawful_recording_is_told_with_its_report(rt: HostRuntime) {
         outcome: 0,
         number: 0,
         line: 0,
-        against: NOTHING_AGAINST,
+        against: 0,
+        words: 0,
         counts: Counts {
             calls: 8,
             stored: 3,
@@ -90,58 +88,89 @@ fn a_lawful_recording_is_told_with_its_report(rt: HostRuntime) {
     assert!(rt; calls("queue\n", 0).outcome == 0);
 }
 
-// A text, the line at fault, and what speaks against it.
-static AGAINST: [(&str, u64, [u64; 5]); 4] = [
+// A text, the line at fault, the one that contradicts it, and the words of the cause.
+static CAUSES: [(&str, u64, u64, &str); 6] = [
     (
         "queue 8\nP put 12\nP stored\nC take\nC empty\n",
         5,
-        [15, 12, 0, 0, 3],
+        3,
+        "empty, but item 12 was inside since line 3",
     ),
     (
         "queue 8\nP put 1 2\nP stored\nC take\nC item 2\n",
         5,
-        [9, 2, 1, 0, 2],
+        2,
+        "item 2, but item 1 of line 2 is next",
     ),
     (
         "queue 2\nP put 1\nP stored\nP put 2\nP full\n",
         5,
-        [4, 0, 0, 1, 0],
+        4,
+        "full, but at most 1 inside since line 4",
     ),
     (
         "queue 8\nP close\nP closed\nP put 1\nP stored\n",
         5,
-        [1, 0, 0, 0, 3],
+        3,
+        "stored, but closed at line 3",
+    ),
+    (
+        "queue 8\nC take\nC closed\n",
+        3,
+        0,
+        "closed, but no close has begun",
+    ),
+    (
+        "queue 8\nP put 18446744073709551615\nP stored\nC take\nC item 18446744073709551615\nP put 18446744073709551614\nC take\n\
+        C item 18446744073709551615\n",
+        8,
+        5,
+        "item 18446744073709551615 comes again, it was taken at line 5; item 18446744073709551614 of line 6 is next",
     ),
 ];
 
+// The slots have the first bytes of the words, so many, and behind them what they held.
+fn are_words(slots: &[u8; CAUSE_WORDS], words: &str, count: usize) -> bool {
+    let count = count.min(words.len()).min(CAUSE_WORDS);
+    let (front, behind) = slots.split_at(count);
+    front == &words.as_bytes()[..count] && behind.iter().all(|slot| *slot == 7)
+}
+
 #[test]
 fn a_fault_of_a_recording_is_told_with_its_cause(rt: HostRuntime) {
-    for (text, line, against) in AGAINST.iter() {
-        let [number, item, next, count, other] = *against;
-        let against = Against {
-            number,
-            item,
-            next,
-            count,
-            line: other,
-        };
-        let told = CallsTold {
-            outcome: 1,
-            number: 2,
-            line: *line,
-            against,
-            counts: NO_COUNTS,
-        };
-        assert!(rt; calls(text, 8) == told);
+    for (text, line, against, words) in CAUSES.iter() {
+        for room in [CAUSE_WORDS, 20, 0] {
+            let (told, slots) = calls_with(text, 8, room);
+            let count = words.len().min(room);
+            let wanted = CallsTold {
+                outcome: 1,
+                number: 2,
+                line: *line,
+                against: *against,
+                words: count as u64,
+                counts: NO_COUNTS,
+            };
+            assert!(rt; told == wanted);
+            assert!(rt; are_words(&slots, words, count));
+        }
     }
+}
+
+#[test]
+fn no_cause_has_no_words(rt: HostRuntime) {
     let out_of_turn = CallsTold {
         outcome: 1,
         number: 1,
         line: 3,
-        against: NOTHING_AGAINST,
+        against: 0,
+        words: 0,
         counts: NO_COUNTS,
     };
-    assert!(rt; calls("queue 8\nC take\nC take\n", 8) == out_of_turn);
+    let (told, slots) = calls_with("queue 8\nC take\nC take\n", 8, CAUSE_WORDS);
+    assert!(rt; told == out_of_turn);
+    assert!(rt; are_words(&slots, "", 0));
+    let (_, slots) = calls_with("queue 8\nC take", 8, CAUSE_WORDS);
+    assert!(rt; are_words(&slots, "", 0));
 }
 
 #[test]
@@ -150,7 +179,8 @@ fn no_recording_and_no_room_are_told(rt: HostRuntime) {
         outcome: 2,
         number,
         line,
-        against: NOTHING_AGAINST,
+        against: 0,
+        words: 0,
         counts: NO_COUNTS,
     };
     assert!(rt; calls("", 8) == refused(1, 1));

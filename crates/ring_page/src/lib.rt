@@ -8,13 +8,15 @@ mod orders;
 mod plays;
 mod programs;
 mod reasons;
+mod words;
 
 pub use audits::{EVENT_ROOM, Told, page_audit};
-pub use calls::{Against, CallsTold, Counts, page_calls};
+pub use calls::{CallsTold, Counts, page_calls};
 pub use marks::Mark;
 pub use orders::{Came, Holds, page_order};
 pub use plays::{ANSWER_ROOM, Asked, Played, RUN_ROOM, page_play};
 pub use programs::{Due, Judged};
+pub use words::CAUSE_WORDS;
 
 #[cfg(test)]
 mod call_tests;

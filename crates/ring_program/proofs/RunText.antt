@@ -76,12 +76,12 @@ pub record IsLeft (batch : ℕ) (items : List ℕ) (all : RunCounts) (untold : U
   pub takes : room.takes ≡ RECORDED - sum_by (room_with C) events
 
 -- the events are read
-pub record IsAudited {Q : Type 0} (items_of : Q → List ℕ) (capacity : ℕ) (auditor : CallAuditor Q) (events : List Event) : Type 0 where
+pub record IsAudited {Q E : Type 0} (items_of : Q → List ℕ) (capacity : ℕ) (auditor : CallAuditor Q E) (events : List Event) : Type 0 where
   pub audits : Audits items_of auditor events
   pub capacity_is : meant auditor.capacity ≡ exactly capacity
   pub linearizable : IsLinearizable (exactly capacity) events
 
-pub record HasTold {Q : Type 0} (items_of : Q → List ℕ) (capacity batch : ℕ) (items : List ℕ) (all : RunCounts) (text : List ℕ) (auditor : CallAuditor Q) (untold : Untold)
+pub record HasTold {Q E : Type 0} (items_of : Q → List ℕ) (capacity batch : ℕ) (items : List ℕ) (all : RunCounts) (text : List ℕ) (auditor : CallAuditor Q E) (untold : Untold)
     (room : Room) (offers : ℕ) : Type 0 where
   pub events : List Event
   pub is_written : IsWritten capacity offers text events
@@ -120,7 +120,7 @@ leaves_less batch items all untold after room less events event is off puts take
   takes = room_less (room_with C) events event room.takes less.takes l.takes takes;
 }
 
-pub audits_more : {Q : Type 0} (items_of : Q → List ℕ) (capacity : ℕ) (auditor after : CallAuditor Q) (events : List Event) (event : Event)
+pub audits_more : {Q E : Type 0} (items_of : Q → List ℕ) (capacity : ℕ) (auditor after : CallAuditor Q E) (events : List Event) (event : Event)
     → after.capacity ≡ auditor.capacity
     → ((h : List Event) → Audits items_of auditor h → Audits items_of after (h ++ event ∷ []) × IsLinearizable (meant auditor.capacity) (h ++ event ∷ []))
     → IsAudited items_of capacity auditor events → IsAudited items_of capacity after (events ++ event ∷ [])
@@ -137,7 +137,7 @@ audits_more {Q} items_of capacity auditor after events event same reads a =
 pub meant_exactly : (told : Capacity) (n capacity : ℕ) → told ≡ Between n n → n ≡ capacity → meant told ≡ exactly capacity
 meant_exactly told n capacity is same = ap meant is ∙ ap exactly same
 
-pub begins_run : {Q : Type 0} (items_of : Q → List ℕ) (capacity batch : ℕ) (items : List ℕ) (all : RunCounts) (text before word : List ℕ) (n : ℕ) (auditor : CallAuditor Q)
+pub begins_run : {Q E : Type 0} (items_of : Q → List ℕ) (capacity batch : ℕ) (items : List ℕ) (all : RunCounts) (text before word : List ℕ) (n : ℕ) (auditor : CallAuditor Q E)
     (untold : Untold) → before ≡ [] → word ≡ word_text Queue → n ≡ capacity → text ≡ before ++ list_line word (n ∷ []) → Audits items_of auditor []
     → meant auditor.capacity ≡ exactly capacity → IsLinearizable (meant auditor.capacity) [] → untold.items.now ≡ items → left_of untold ≡ all
     → HasTold items_of capacity batch items all text auditor untold (record { puts = RECORDED; takes = RECORDED }) 0
@@ -163,7 +163,7 @@ begins_run {Q} items_of capacity batch items all text before word n auditor unto
   };
 }
 
-pub records_run : {Q : Type 0} (items_of : Q → List ℕ) (shape : Shape) (n : ℕ) (items : List ℕ) (all : RunCounts) (text : List ℕ) (auditor : CallAuditor Q) (untold : Untold)
+pub records_run : {Q E : Type 0} (items_of : Q → List ℕ) (shape : Shape) (n : ℕ) (items : List ℕ) (all : RunCounts) (text : List ℕ) (auditor : CallAuditor Q E) (untold : Untold)
     (room : Room) (offers : ℕ) → HistoryHasARecording → LinearizableIsInTurn → n ≡ capacity_of shape → 0 < n → n ≤ 64
     → (batch_of shape ≤ room.puts → 0 < room.takes → left_of untold ≡ nothing_left)
     → HasTold items_of (capacity_of shape) (batch_of shape) items all text auditor untold room offers → RecordsRun shape items all text

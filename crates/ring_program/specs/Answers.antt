@@ -301,8 +301,8 @@ unfoldable pub IsShortage : Refusal → Type 0
 IsShortage e = IsOutOfMemory e ⊎ (e ≡ refusal.App app.ReadFailed)
 
 -- a true cause of a refusal, of a question on an input; only of an input that is not too large the text is refused
-abbrev pub IsCause : Question → List ℕ → Refusal → Type 0
-IsCause question input e = IsShortage e ⊎ (IsTooLarge input e ⊎ ((length input ≤ INPUT_LIMIT) × Refuses question input e))
+abbrev pub IsTrueCause : Question → List ℕ → Refusal → Type 0
+IsTrueCause question input e = IsShortage e ⊎ (IsTooLarge input e ⊎ ((length input ≤ INPUT_LIMIT) × Refuses question input e))
 
 -- a true cause of a refusal of recorded calls: memory ran out, or a read failed, or the input is no recording
 unfoldable pub IsCallsCause : List ℕ → Refusal → Type 0
@@ -349,10 +349,10 @@ EndsBy IsAnswer IsReason before after Tells status = WasAnswered IsAnswer before
 
 -- how the program ends on a question of this input
 abbrev pub RefusedOn : Question → List ℕ → Option (List ℕ) → Option (List ℕ) → Refusal → Type 0
-RefusedOn question input = Refused (AnswersWithin question input) (IsCause question input)
+RefusedOn question input = Refused (AnswersWithin question input) (IsTrueCause question input)
 
 abbrev pub EndsOn : Question → List ℕ → Option (List ℕ) → Option (List ℕ) → (List ℕ → Type 0) → ℕ → Type 0
-EndsOn question input = EndsBy (AnswersWithin question input) (IsCause question input)
+EndsOn question input = EndsBy (AnswersWithin question input) (IsTrueCause question input)
 
 -- how it ends on a run, which has no input
 abbrev pub RefusedRun : Run → Option (List ℕ) → Option (List ℕ) → Refusal → Type 0

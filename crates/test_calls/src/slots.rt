@@ -56,20 +56,16 @@ fn many_items_go_round_the_slots(rt: HostRuntime) -> Result<(), Fail> {
 // How many slots there are of each kind.
 #[derive(Clone, Copy)]
 struct Room {
-    items: usize,
     offered: usize,
     taken: usize,
-    offers: usize,
     numbers: usize,
     bytes: usize,
 }
 
 // What is just enough for the text: 2 items inside and 2 of a put, 3 taken, a line of 2 numbers, and one of 10 bytes that is cut.
 const ENOUGH: Room = Room {
-    items: 3,
     offered: 3,
     taken: 3,
-    offers: 2,
     numbers: 2,
     bytes: 10,
 };
@@ -85,17 +81,13 @@ fn found(text: &[u8], size: usize, room: Room) -> Result<CallsFinding, Recording
         item: 9,
         taken_at: 9,
     };
-    let mut items = [9; 8];
     let mut offered = [blank; 8];
     let mut taken = [gone; 8];
-    let mut offers = [9; 8];
     let mut numbers = [9; 8];
     let mut bytes = [9; 40];
     let lists: Lists<Lent<'_>> = Lists {
-        items: Slots::new(&mut items[..room.items.min(8)]),
         offered: Slots::new(&mut offered[..room.offered.min(8)]),
         taken: Slots::new(&mut taken[..room.taken.min(8)]),
-        offers: Front::new(&mut offers[..room.offers.min(8)]),
         numbers: Front::new(&mut numbers[..room.numbers.min(8)]),
         bytes: Front::new(&mut bytes[..room.bytes.min(40)]),
     };
@@ -115,7 +107,10 @@ fn a_text_is_read_in_slots(rt: HostRuntime) -> Result<(), Fail> {
     let text = b"queue 8\nC take\nC item 1\nP put 1\nC take\nC item 2\n";
     let fault = Ok(CallsFinding::NotLinearizable {
         line: 3,
-        cause: Cause::NotPut(1),
+        cause: Cause::NotInside {
+            item: 1,
+            next: None,
+        },
     });
     assert!(rt; found(text, 9, ENOUGH) == fault);
     Ok(())
@@ -139,16 +134,11 @@ fn other_texts_are_refused_in_slots(rt: HostRuntime) -> Result<(), Fail> {
 #[test]
 fn one_slot_too_few_is_want_of_memory(rt: HostRuntime) -> Result<(), Fail> {
     let rooms = [
-        Room { items: 2, ..ENOUGH },
         Room {
             offered: 2,
             ..ENOUGH
         },
         Room { taken: 2, ..ENOUGH },
-        Room {
-            offers: 1,
-            ..ENOUGH
-        },
         Room {
             numbers: 1,
             ..ENOUGH

@@ -96,14 +96,10 @@ fn a_recording_is_read_in_slots(rt: HostRuntime) -> Result<(), Fail> {
         item: 0,
         taken_at: 0,
     }];
-    let mut items = [0];
-    let mut offers = [0];
     let mut numbers = [0];
     let lists: Lists<Lent<'_>> = Lists {
-        items: Slots::new(&mut items),
         offered: Slots::new(&mut offered),
         taken: Slots::new(&mut taken),
-        offers: Front::new(&mut offers),
         numbers: Front::new(&mut numbers),
         bytes: Front::new(&mut []),
     };

@@ -18,4 +18,4 @@ OutgrowsSlots slots capacity events = (count : ℕ) × HasMoreItems slots capaci
 -- the history that the text tells is linearizable, or the event of this line is the first one with which it is not
 abbrev pub JudgesLine : List ℕ → Option ℕ → Type 0
 JudgesLine bytes None = (capacity : Capacity) × (events : List Event) × IsRecording bytes capacity events × IsLinearizable capacity events
-JudgesLine bytes (Some line) = (capacity : Capacity) × (events : List Event) × IsRecording bytes capacity events × StopsAt capacity events line (λ _. Unit {0})
+JudgesLine bytes (Some line) = (capacity : Capacity) × (events : List Event) × IsRecording bytes capacity events × StopsAt capacity events line (λ before event. Unit {0})

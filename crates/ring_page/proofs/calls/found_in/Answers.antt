@@ -35,7 +35,7 @@ of_err Q r e is q = subst (λ z. IfErr z Q) (sym is) q
 pub returns-in_err-read-clause-full : goal.returns-in_err-read-clause-full
 returns-in_err-read-clause-full c =
     let lists = c.args.lists in
-    let slots : Rooms = slots_for (length lists.items.slots.now) (length lists.offered.slots.now) (length lists.taken.slots.now) (length lists.offers.slots.now) (length lists.numbers.slots.now) (length lists.bytes.slots.now) in
+    let slots : Rooms = slots_for (length lists.offered.slots.now) (length lists.taken.slots.now) (length lists.numbers.slots.now) (length lists.bytes.slots.now) in
     let Short : RecordingFault → Type 0 = λ e. e ≡ OutOfMemory → AreTooShort slots c.args.text.now in
     let full : Short c.in_err-read.field-0.0 =
     λ short. subst (λ z. AreTooShort z c.args.text.now) c.within-recording.ensures.rooms (c.in_err-read.ensures.full short [] c.within-recording.ensures.read) in

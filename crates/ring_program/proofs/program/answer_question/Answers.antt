@@ -1,7 +1,7 @@
 use Rattle.std.proofs.Common.{arith, ◌≡◌, ◌≢◌, ◌<◌, ◌∙◌, ◌++◌, append-nil, subst, sym, ℕ, List, Option, Some, None, Err, IfSome, inl, inr, ap, length, length-append, refl}
 use Rattle.std.proofs.KnownBytes.{Keeps-refl}
 use Rattle.std.specs.Io.KnownBytes.{Consumes, IsAtEnd}
-use Rattle.ring_program.specs.Answers.{EndsOn, IsCause, IsOutOfMemory, IsShortage}
+use Rattle.ring_program.specs.Answers.{EndsOn, IsTrueCause, IsOutOfMemory, IsShortage}
 use Rattle.ring_program.specs.Faults.{Gains, SaysRefusal}
 use Rattle.ring_program.specs.declared.command_line.Question.{Question}
 use Rattle.ring_program.specs.declared.faults.AppFault.{AppFault}
@@ -13,7 +13,7 @@ use Rattle.ring_program.proofs.program.answer_question.Goals as goal
 
 -- a fault of the reading of an input is a true cause, of any question
 cause : (question : Question) (input : List ℕ) (fault : AppFault) → fault ≢ app.WriteFailed → fault ≢ app.NotOfRun → (fault ≡ app.TooLarge → INPUT_LIMIT < length input)
-    → IsCause question input (refusal.App fault)
+    → IsTrueCause question input (refusal.App fault)
 unfolding IsOutOfMemory IsShortage
 cause question input app.ReadFailed unwritten unrun large = inl (inr refl)
 cause question input app.TooLarge unwritten unrun large = inr (inl (refl, large refl))

@@ -5,4 +5,4 @@ use Rattle.ring_program.proofs.recordings.read_calls.Given as goal
 
 -- the recording has read the bytes that the reader gave, at least one in each turn
 abbrev pub invariant-loop : goal.invariant-loop
-invariant-loop g l = (came : List ℕ) × Consumes (g.I.Read.remaining l.fn.input) (g.I.Read.remaining l.input) came × HasRead (λ q. q.items) (λ v. v.items) l.recording came × (l.counter ≤ length came)
+invariant-loop g l = (came : List ℕ) × Consumes (g.I.Read.remaining l.fn.input) (g.I.Read.remaining l.input) came × HasRead (λ q. q.items) (λ q. q.items) (λ v. v.items) l.recording came × (l.counter ≤ length came)

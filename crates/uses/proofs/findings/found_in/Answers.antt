@@ -21,7 +21,7 @@ one_more pieces index d less =
 
 pub pieces-preserved : goal.pieces-preserved
 pieces-preserved g c = (
-  subst (λ t. HasRead (λ q. q.items) (λ v. v.items) c.read.new.self t) (one_more c.args.pieces.now c.pieces.piece-index _ (omega (arith, c.pieces-test.true)))
+  subst (λ t. HasRead (λ q. q.items) (λ q. q.items) (λ v. v.items) c.read.new.self t) (one_more c.args.pieces.now c.pieces.piece-index _ (omega (arith, c.pieces-test.true)))
       (c.in_ok-read.ensures.read _ c.pieces.invariant.0),
   refl,
 )

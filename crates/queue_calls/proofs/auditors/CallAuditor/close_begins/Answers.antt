@@ -14,7 +14,7 @@ returns-in-Offers-clause-reads g c = (
   refl,
   λ h k.
       let s = c.args.self.now in
-      away_close (meant s.capacity) h (g.Q.Fifo.items s.inside) s.put s.take s.shut k (busy s.put c.in-Offers.is),
+      away_close (meant s.capacity) h (g.Q.Inside.items s.inside) s.put s.take s.shut k (busy s.put c.in-Offers.is),
 )
 
 pub returns-in-Free-clause-reads : goal.returns-in-Free-clause-reads
@@ -22,6 +22,6 @@ returns-in-Free-clause-reads g c = (
   refl,
   λ h k.
       let s = c.args.self.now in
-      let F : PutTurn → Type 0 = λ z. Keeps (meant s.capacity) h (g.Q.Fifo.items s.inside) z s.take s.shut → Accepts (meant s.capacity) h CloseBegin (g.Q.Fifo.items s.inside) (Closes s.shut) s.take s.shut in
-      subst F (sym c.in-Free.is) (λ j. close_begin (meant s.capacity) h (g.Q.Fifo.items s.inside) s.take s.shut j) k,
+      let F : PutTurn → Type 0 = λ z. Keeps (meant s.capacity) h (g.Q.Inside.items s.inside) z s.take s.shut → Accepts (meant s.capacity) h CloseBegin (g.Q.Inside.items s.inside) (Closes s.shut) s.take s.shut in
+      subst F (sym c.in-Free.is) (λ j. close_begin (meant s.capacity) h (g.Q.Inside.items s.inside) s.take s.shut j) k,
 )

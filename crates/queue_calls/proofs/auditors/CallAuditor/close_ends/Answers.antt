@@ -14,7 +14,7 @@ returns-in-Free-clause-reads g c = (
   refl,
   λ h k.
       let s = c.args.self.now in
-      away_close_end (meant s.capacity) h (g.Q.Fifo.items s.inside) s.put s.take s.shut k (no_close s.put c.in-Free.is),
+      away_close_end (meant s.capacity) h (g.Q.Inside.items s.inside) s.put s.take s.shut k (no_close s.put c.in-Free.is),
 )
 
 pub returns-in-Closes-clause-reads : goal.returns-in-Closes-clause-reads
@@ -23,6 +23,6 @@ returns-in-Closes-clause-reads g c = (
   λ h k.
       let s = c.args.self.now in
       let i = c.in-Closes.is in
-      let F : PutTurn → Type 0 = λ z. Keeps (meant s.capacity) h (g.Q.Fifo.items s.inside) z s.take s.shut → Accepts (meant s.capacity) h CloseEnd (g.Q.Fifo.items s.inside) Free s.take true in
-      subst F (sym i) (λ j. close_end (meant s.capacity) h (g.Q.Fifo.items s.inside) s.take c.in-Closes.again s.shut j) k,
+      let F : PutTurn → Type 0 = λ z. Keeps (meant s.capacity) h (g.Q.Inside.items s.inside) z s.take s.shut → Accepts (meant s.capacity) h CloseEnd (g.Q.Inside.items s.inside) Free s.take true in
+      subst F (sym i) (λ j. close_end (meant s.capacity) h (g.Q.Inside.items s.inside) s.take c.in-Closes.again s.shut j) k,
 )

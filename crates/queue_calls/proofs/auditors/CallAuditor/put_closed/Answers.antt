@@ -14,7 +14,7 @@ returns-in-Free-clause-reads g c = (
   refl,
   λ h k.
       let s = c.args.self.now in
-      away_closed (meant s.capacity) h (g.Q.Fifo.items s.inside) s.put s.take s.shut k (λ n. no_put s.put n c.in-Free.is),
+      away_closed (meant s.capacity) h (g.Q.Inside.items s.inside) s.put s.take s.shut k (λ n. no_put s.put n c.in-Free.is),
 )
 
 pub returns-in-Late-clause-reads : goal.returns-in-Late-clause-reads
@@ -22,8 +22,8 @@ returns-in-Late-clause-reads g c = (
   refl,
   λ h k.
       let s = c.args.self.now in
-      let F : PutTurn → Type 0 = λ z. Keeps (meant s.capacity) h (g.Q.Fifo.items s.inside) z s.take s.shut → Accepts (meant s.capacity) h PutClosed (g.Q.Fifo.items s.inside) Free s.take s.shut in
-      subst F (sym c.in-Late.is) (λ j. put_closed (meant s.capacity) h (g.Q.Fifo.items s.inside) s.take s.shut c.in-Late.offered j) k,
+      let F : PutTurn → Type 0 = λ z. Keeps (meant s.capacity) h (g.Q.Inside.items s.inside) z s.take s.shut → Accepts (meant s.capacity) h PutClosed (g.Q.Inside.items s.inside) Free s.take s.shut in
+      subst F (sym c.in-Late.is) (λ j. put_closed (meant s.capacity) h (g.Q.Inside.items s.inside) s.take s.shut c.in-Late.offered j) k,
 )
 
 pub returns-in-Offers-clause-reads : goal.returns-in-Offers-clause-reads
@@ -32,6 +32,6 @@ returns-in-Offers-clause-reads g c = (
   λ h k.
       let s = c.args.self.now in
       let i = c.in-Offers.is in
-      let F : PutTurn → Type 0 = λ z. Keeps (meant s.capacity) h (g.Q.Fifo.items s.inside) z s.take s.shut → Refused (meant s.capacity) h PutClosed (g.Q.Fifo.items s.inside) z s.take s.shut in
-      subst F (sym i) (λ j. not_closed (meant s.capacity) h (g.Q.Fifo.items s.inside) s.take s.shut c.in-Offers.offered c.in-Offers.before j) k,
+      let F : PutTurn → Type 0 = λ z. Keeps (meant s.capacity) h (g.Q.Inside.items s.inside) z s.take s.shut → Refused (meant s.capacity) h PutClosed (g.Q.Inside.items s.inside) z s.take s.shut in
+      subst F (sym i) (λ j. not_closed (meant s.capacity) h (g.Q.Inside.items s.inside) s.take s.shut c.in-Offers.offered c.in-Offers.before j) k,
 )

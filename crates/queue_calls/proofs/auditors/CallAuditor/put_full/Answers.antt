@@ -15,7 +15,7 @@ returns-in-Free-clause-reads g c = (
   refl,
   λ h k.
       let s = c.args.self.now in
-      away_full (meant s.capacity) h (g.Q.Fifo.items s.inside) s.put s.take s.shut k (λ n. no_put s.put n c.in-Free.is),
+      away_full (meant s.capacity) h (g.Q.Inside.items s.inside) s.put s.take s.shut k (λ n. no_put s.put n c.in-Free.is),
 )
 
 pub returns-in-Late-clause-reads : goal.returns-in-Late-clause-reads
@@ -23,8 +23,8 @@ returns-in-Late-clause-reads g c = (
   refl,
   λ h k.
       let s = c.args.self.now in
-      let F : PutTurn → Type 0 = λ z. Keeps (meant s.capacity) h (g.Q.Fifo.items s.inside) z s.take s.shut → Refused (meant s.capacity) h PutFull (g.Q.Fifo.items s.inside) z s.take s.shut in
-      subst F (sym c.in-Late.is) (λ j. late_not_full (meant s.capacity) h (g.Q.Fifo.items s.inside) s.take s.shut c.in-Late.offered j) k,
+      let F : PutTurn → Type 0 = λ z. Keeps (meant s.capacity) h (g.Q.Inside.items s.inside) z s.take s.shut → Refused (meant s.capacity) h PutFull (g.Q.Inside.items s.inside) z s.take s.shut in
+      subst F (sym c.in-Late.is) (λ j. late_not_full (meant s.capacity) h (g.Q.Inside.items s.inside) s.take s.shut c.in-Late.offered j) k,
 )
 
 pub returns-then-not-may_lack-clause-reads : goal.returns-then-not-may_lack-clause-reads
@@ -34,11 +34,11 @@ returns-then-not-may_lack-clause-reads g c = elim c.then-not-may_lack.branch [
     λ h k.
         let s = c.args.self.now in
         let n = c.then-not-may_lack.self in
-        let F : PutTurn → Type 0 = λ z. Keeps (meant s.capacity) h (g.Q.Fifo.items s.inside) z s.take s.shut in
-        let (a, b) = not_full (meant s.capacity) h (g.Q.Fifo.items s.inside) s.take s.shut c.in-Offers.offered c.in-Offers.before (subst F c.in-Offers.is k)
+        let F : PutTurn → Type 0 = λ z. Keeps (meant s.capacity) h (g.Q.Inside.items s.inside) z s.take s.shut in
+        let (a, b) = not_full (meant s.capacity) h (g.Q.Inside.items s.inside) s.take s.shut c.in-Offers.offered c.in-Offers.before (subst F c.in-Offers.is k)
         (inl (λ f. elim f [ inl e ↦ omega (arith, e) | inr r ↦ (let x : false ≡ true = w.if-not-may_lack.ensures.1 r in cc) ])) in (
-          kept_as (meant s.capacity) (meant n.capacity) h (g.Q.Fifo.items s.inside) (g.Q.Fifo.items n.inside) s.put n.put s.take n.take s.shut n.shut (ap (λ z. meant z.capacity) w.self-is)
-              (ap (λ z. (g.Q.Fifo.items z.inside)) w.self-is) (ap (λ z. z.put) w.self-is) (ap (λ z. z.take) w.self-is) (ap (λ z. z.shut) w.self-is) k,
+          kept_as (meant s.capacity) (meant n.capacity) h (g.Q.Inside.items s.inside) (g.Q.Inside.items n.inside) s.put n.put s.take n.take s.shut n.shut (ap (λ z. meant z.capacity) w.self-is)
+              (ap (λ z. (g.Q.Inside.items z.inside)) w.self-is) (ap (λ z. z.put) w.self-is) (ap (λ z. z.take) w.self-is) (ap (λ z. z.shut) w.self-is) k,
           b,
         ),
   )
@@ -48,11 +48,11 @@ returns-then-not-may_lack-clause-reads g c = elim c.then-not-may_lack.branch [
         let s = c.args.self.now in
         let n = c.then-not-may_lack.self in
         let e = w.if-not-ends_put.ensures in
-        let F : PutTurn → Type 0 = λ z. Keeps (meant s.capacity) h (g.Q.Fifo.items s.inside) z s.take s.shut in
-        let (a, b) = not_full (meant s.capacity) h (g.Q.Fifo.items s.inside) s.take s.shut c.in-Offers.offered c.in-Offers.before (subst F c.in-Offers.is k)
+        let F : PutTurn → Type 0 = λ z. Keeps (meant s.capacity) h (g.Q.Inside.items s.inside) z s.take s.shut in
+        let (a, b) = not_full (meant s.capacity) h (g.Q.Inside.items s.inside) s.take s.shut c.in-Offers.offered c.in-Offers.before (subst F c.in-Offers.is k)
         (inr (λ f. let x : false ≡ true = e.ends.1 f in cc)) in (
-          kept_as (meant s.capacity) (meant n.capacity) h (g.Q.Fifo.items s.inside) (g.Q.Fifo.items n.inside) s.put n.put s.take n.take s.shut n.shut
-              (ap (λ z. meant z.capacity) w.self-is ∙ ap meant e.capacity) (ap (λ z. (g.Q.Fifo.items z.inside)) w.self-is ∙ e.inside) (ap (λ z. z.put) w.self-is ∙ e.put)
+          kept_as (meant s.capacity) (meant n.capacity) h (g.Q.Inside.items s.inside) (g.Q.Inside.items n.inside) s.put n.put s.take n.take s.shut n.shut
+              (ap (λ z. meant z.capacity) w.self-is ∙ ap meant e.capacity) (ap (λ z. (g.Q.Inside.items z.inside)) w.self-is ∙ e.inside) (ap (λ z. z.put) w.self-is ∙ e.put)
               (ap (λ z. z.take) w.self-is ∙ e.take) (ap (λ z. z.shut) w.self-is ∙ e.shut) k,
           b,
         ),
@@ -66,8 +66,8 @@ returns-else-not-ends_put-clause-reads g c = (
       let s = c.args.self.now in
       let n = c.ends_put.new.self in
       let e = c.if-not-ends_put.ensures in
-      let F : PutTurn → Type 0 = λ z. Keeps (meant s.capacity) h (g.Q.Fifo.items s.inside) z s.take s.shut in
-      let (a, b) = put_full (meant s.capacity) h (g.Q.Fifo.items s.inside) s.take s.shut c.in-Offers.offered c.in-Offers.before (subst F c.in-Offers.is k)
+      let F : PutTurn → Type 0 = λ z. Keeps (meant s.capacity) h (g.Q.Inside.items s.inside) z s.take s.shut in
+      let (a, b) = put_full (meant s.capacity) h (g.Q.Inside.items s.inside) s.take s.shut c.in-Offers.offered c.in-Offers.before (subst F c.in-Offers.is k)
       (inr (c.if-not-may_lack.ensures.0 refl)) (e.ends.0 refl) in
-      (kept_as (meant s.capacity) (meant n.capacity) (h ++ PutFull ∷ []) _ (g.Q.Fifo.items n.inside) Free n.put s.take n.take s.shut n.shut (ap meant e.capacity) e.inside e.put e.take e.shut a, b),
+      (kept_as (meant s.capacity) (meant n.capacity) (h ++ PutFull ∷ []) _ (g.Q.Inside.items n.inside) Free n.put s.take n.take s.shut n.shut (ap meant e.capacity) e.inside e.put e.take e.shut a, b),
 )

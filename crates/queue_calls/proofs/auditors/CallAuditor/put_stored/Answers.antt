@@ -16,7 +16,7 @@ returns-in-Free-clause-reads g c = (
   refl,
   λ h k.
       let s = c.args.self.now in
-      away_stored (meant s.capacity) h (g.Q.Fifo.items s.inside) s.put s.take s.shut k c.args.count (λ n. no_put s.put n c.in-Free.is),
+      away_stored (meant s.capacity) h (g.Q.Inside.items s.inside) s.put s.take s.shut k c.args.count (λ n. no_put s.put n c.in-Free.is),
 )
 
 pub returns-then-count-eq0-clause-reads : goal.returns-then-count-eq0-clause-reads
@@ -24,7 +24,7 @@ returns-then-count-eq0-clause-reads g c = (
   refl,
   λ h k.
       let s = c.args.self.now in
-      away_range (meant s.capacity) h (g.Q.Fifo.items s.inside) s.put s.take s.shut k c.args.count c.in-Offers.offered (ap call_of_put c.in-Offers.is)
+      away_range (meant s.capacity) h (g.Q.Inside.items s.inside) s.put s.take s.shut k c.args.count c.in-Offers.offered (ap call_of_put c.in-Offers.is)
       (elim c.then-count-eq0.either [ inl e ↦ inl (omega (arith, e)) | inr e ↦ inr (omega (arith, e.1)) ]),
 )
 
@@ -33,7 +33,7 @@ returns-then-count-eq0-2-clause-reads g c = (
   refl,
   λ h k.
       let s = c.args.self.now in
-      away_range (meant s.capacity) h (g.Q.Fifo.items s.inside) s.put s.take s.shut k c.args.count c.in-Late.offered (ap call_of_put c.in-Late.is)
+      away_range (meant s.capacity) h (g.Q.Inside.items s.inside) s.put s.take s.shut k c.args.count c.in-Late.offered (ap call_of_put c.in-Late.is)
       (elim c.then-count-eq0-2.either [ inl e ↦ inl (omega (arith, e)) | inr e ↦ inr (omega (arith, e.1)) ]),
 )
 
@@ -42,10 +42,10 @@ returns-else-offered-count-2-clause-reads g c = (
   refl,
   λ h k.
       let s = c.args.self.now in
-      let F : PutTurn → Type 0 = λ z. Keeps (meant s.capacity) h (g.Q.Fifo.items s.inside) z s.take s.shut → Refused (meant s.capacity) h (PutStored c.args.count) (g.Q.Fifo.items s.inside) z s.take s.shut in
+      let F : PutTurn → Type 0 = λ z. Keeps (meant s.capacity) h (g.Q.Inside.items s.inside) z s.take s.shut → Refused (meant s.capacity) h (PutStored c.args.count) (g.Q.Inside.items s.inside) z s.take s.shut in
       subst F (sym c.in-Late.is)
       (λ j.
-      late_not_stored (meant s.capacity) h (g.Q.Fifo.items s.inside) s.take s.shut c.in-Late.offered j c.args.count (omega (arith, c.if-count-eq0-2.false))
+      late_not_stored (meant s.capacity) h (g.Q.Inside.items s.inside) s.take s.shut c.in-Late.offered j c.args.count (omega (arith, c.if-count-eq0-2.false))
       (omega (arith, c.if-offered-count-2.false)))
       k,
 )
@@ -55,11 +55,11 @@ returns-then-not-may_lack-clause-reads g c = (
   refl,
   λ h k.
       let s = c.args.self.now in
-      let F : PutTurn → Type 0 = λ z. Keeps (meant s.capacity) h (g.Q.Fifo.items s.inside) z s.take s.shut → Refused (meant s.capacity) h (PutStored c.args.count) (g.Q.Fifo.items s.inside) z s.take s.shut in
+      let F : PutTurn → Type 0 = λ z. Keeps (meant s.capacity) h (g.Q.Inside.items s.inside) z s.take s.shut → Refused (meant s.capacity) h (PutStored c.args.count) (g.Q.Inside.items s.inside) z s.take s.shut in
       let one : suc c.args.count ≡ c.args.count + 1 = omega arith in
       subst F (sym c.in-Offers.is)
       (λ j.
-      not_stored (meant s.capacity) h (g.Q.Fifo.items s.inside) s.take s.shut c.in-Offers.offered c.in-Offers.before j c.args.count (omega (arith, c.if-count-eq0.false))
+      not_stored (meant s.capacity) h (g.Q.Inside.items s.inside) s.take s.shut c.in-Offers.offered c.in-Offers.before j c.args.count (omega (arith, c.if-count-eq0.false))
       (omega (arith, c.if-offered-count.false))
       (inl (
         c.if-count-offered.true,
@@ -78,10 +78,10 @@ returns-then-not-ends_put-clause-reads g c = (
       let s = c.args.self.now in
       let n = c.ends_put.new.self in
       let e = c.if-not-ends_put.ensures in
-      let F : PutTurn → Type 0 = λ z. Keeps (meant s.capacity) h (g.Q.Fifo.items s.inside) z s.take s.shut in
-      let (a, b) = not_stored (meant s.capacity) h (g.Q.Fifo.items s.inside) s.take s.shut c.in-Offers.offered c.in-Offers.before (subst F c.in-Offers.is k) c.args.count
+      let F : PutTurn → Type 0 = λ z. Keeps (meant s.capacity) h (g.Q.Inside.items s.inside) z s.take s.shut in
+      let (a, b) = not_stored (meant s.capacity) h (g.Q.Inside.items s.inside) s.take s.shut c.in-Offers.offered c.in-Offers.before (subst F c.in-Offers.is k) c.args.count
       (omega (arith, c.if-count-eq0.false)) (omega (arith, c.if-offered-count.false)) (inr (λ f. let x : false ≡ true = e.ends.1 f in cc)) in
-      (kept_as (meant s.capacity) (meant n.capacity) h (g.Q.Fifo.items s.inside) (g.Q.Fifo.items n.inside) s.put n.put s.take n.take s.shut n.shut (ap meant e.capacity) e.inside e.put e.take e.shut k, b),
+      (kept_as (meant s.capacity) (meant n.capacity) h (g.Q.Inside.items s.inside) (g.Q.Inside.items n.inside) s.put n.put s.take n.take s.shut n.shut (ap meant e.capacity) e.inside e.put e.take e.shut k, b),
 )
 
 pub returns-else-not-ends_put-clause-reads : goal.returns-else-not-ends_put-clause-reads
@@ -91,7 +91,7 @@ returns-else-not-ends_put-clause-reads g c = (
       let s = c.args.self.now in
       let n = c.ends_put.new.self in
       let e = c.if-not-ends_put.ensures in
-      let F : PutTurn → Type 0 = λ z. Keeps (meant s.capacity) h (g.Q.Fifo.items s.inside) z s.take s.shut in
+      let F : PutTurn → Type 0 = λ z. Keeps (meant s.capacity) h (g.Q.Inside.items s.inside) z s.take s.shut in
       let one : c.args.count + 1 ≡ suc c.args.count = omega arith in
       let lacks : c.args.count < c.in-Offers.offered → MayLack (meant s.capacity) c.in-Offers.before (suc c.args.count) =
       λ l. elim c.else-count-offered.branch [
@@ -99,9 +99,9 @@ returns-else-not-ends_put-clause-reads g c = (
             inr (subst (λ z. LacksRoom (meant s.capacity) c.in-Offers.before z) one (w.if-not-may_lack.ensures.0 refl))
         | else-count-offered-via-else-count-offered w ↦ absurd (omega (arith, l, w.if-count-offered.false))
       ] in
-      let (a, b) = put_stored (meant s.capacity) h (g.Q.Fifo.items s.inside) s.take s.shut c.in-Offers.offered c.in-Offers.before (subst F c.in-Offers.is k) c.args.count
+      let (a, b) = put_stored (meant s.capacity) h (g.Q.Inside.items s.inside) s.take s.shut c.in-Offers.offered c.in-Offers.before (subst F c.in-Offers.is k) c.args.count
       (omega (arith, c.if-count-eq0.false)) (omega (arith, c.if-offered-count.false)) lacks (e.ends.0 refl) in (
-        kept_as (meant s.capacity) (meant n.capacity) (h ++ PutStored c.args.count ∷ []) _ (g.Q.Fifo.items n.inside) Free n.put s.take n.take s.shut n.shut (ap meant e.capacity) e.inside
+        kept_as (meant s.capacity) (meant n.capacity) (h ++ PutStored c.args.count ∷ []) _ (g.Q.Inside.items n.inside) Free n.put s.take n.take s.shut n.shut (ap meant e.capacity) e.inside
             e.put e.take e.shut a,
         b,
       ),

@@ -14,7 +14,7 @@ returns-in-Waits-clause-reads g c = (
   refl,
   λ h k.
       let s = c.args.self.now in
-      away_take (meant s.capacity) h (g.Q.Fifo.items s.inside) s.put s.take s.shut k c.args.wanted (inl (takes_now s.take c.in-Waits.wanted c.in-Waits.before c.in-Waits.ended c.in-Waits.is)),
+      away_take (meant s.capacity) h (g.Q.Inside.items s.inside) s.put s.take s.shut k c.args.wanted (inl (takes_now s.take c.in-Waits.wanted c.in-Waits.before c.in-Waits.ended c.in-Waits.is)),
 )
 
 pub returns-then-wanted-eq0-clause-reads : goal.returns-then-wanted-eq0-clause-reads
@@ -22,7 +22,7 @@ returns-then-wanted-eq0-clause-reads g c = (
   refl,
   λ h k.
       let s = c.args.self.now in
-      away_take (meant s.capacity) h (g.Q.Fifo.items s.inside) s.put s.take s.shut k c.args.wanted (inr c.if-wanted-eq0.true),
+      away_take (meant s.capacity) h (g.Q.Inside.items s.inside) s.put s.take s.shut k c.args.wanted (inr c.if-wanted-eq0.true),
 )
 
 pub returns-else-wanted-eq0-clause-reads : goal.returns-else-wanted-eq0-clause-reads
@@ -31,9 +31,9 @@ returns-else-wanted-eq0-clause-reads g c = (
   λ h k.
       let s = c.args.self.now in
       let before : ℕ = c.saturating_sub-before.result in
-      let is_before : before ≡ length (g.Q.Fifo.items s.inside) - offered_by s.put = omega (arith, c.len.ensures, c.offered.ensures, c.saturating_sub-before.ensures) in
-      let F : TakeTurn → Type 0 = λ z. Keeps (meant s.capacity) h (g.Q.Fifo.items s.inside) s.put z s.shut → Accepts (meant s.capacity) h (TakeBegin c.args.wanted) (g.Q.Fifo.items s.inside) s.put (Waits c.args.wanted before s.shut) s.shut in
-      let A : ℕ → Type 0 = λ z. Accepts (meant s.capacity) h (TakeBegin c.args.wanted) (g.Q.Fifo.items s.inside) s.put (Waits c.args.wanted z s.shut) s.shut in
+      let is_before : before ≡ length (g.Q.Inside.items s.inside) - offered_by s.put = omega (arith, c.len.ensures, c.offered.ensures, c.saturating_sub-before.ensures) in
+      let F : TakeTurn → Type 0 = λ z. Keeps (meant s.capacity) h (g.Q.Inside.items s.inside) s.put z s.shut → Accepts (meant s.capacity) h (TakeBegin c.args.wanted) (g.Q.Inside.items s.inside) s.put (Waits c.args.wanted before s.shut) s.shut in
+      let A : ℕ → Type 0 = λ z. Accepts (meant s.capacity) h (TakeBegin c.args.wanted) (g.Q.Inside.items s.inside) s.put (Waits c.args.wanted z s.shut) s.shut in
       subst F (sym c.in-Rests.is)
-      (λ j. subst A (sym is_before) (take_begin (meant s.capacity) h (g.Q.Fifo.items s.inside) s.shut c.args.wanted (omega (arith, c.if-wanted-eq0.false)) s.put j)) k,
+      (λ j. subst A (sym is_before) (take_begin (meant s.capacity) h (g.Q.Inside.items s.inside) s.shut c.args.wanted (omega (arith, c.if-wanted-eq0.false)) s.put j)) k,
 )

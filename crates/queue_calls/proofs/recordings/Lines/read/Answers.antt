@@ -39,7 +39,7 @@ returns-clause-read g c = then_ok c.hear.result c.hear.ensures.heard (λ heard b
       record {
         are = on.0;
         count = counted before _ c.args.self.now.count c.in-Some.count has.count c.in-Some.ensures.1;
-        heard = λ _. further_heard g.S.Items.Fifo.items c.hear.new.self before lines.0 lines.1 c.in-Some-2.word numbers (told c.in-Some-event_told.event) lines.2 tells
+        heard = λ _. further_heard g.S.Offered.Fifo.items g.S.Taken.Fifo.items c.hear.new.self before lines.0 lines.1 c.in-Some-2.word numbers (told c.in-Some-event_told.event) lines.2 tells
             (c.hear.ensures.begun ∙ c.begun_after-self.ensures ∙ ap₂ (λ b ns. begun_after b c.in-Some-2.word ns) begun_is same)
             (heard (capacity_told lines.0) (events_told begun.Nothing lines.1) lines.4
             (count_is before lines.0 lines.1 begun.Nothing c.args.self.now.count c.in-Some.count lines.2 has.are has.count c.in-Some.ensures.1));
@@ -57,8 +57,8 @@ returns-in-Queue-clause-read g c before has =
       record {
         are = on.0;
         count = counted before _ c.args.self.now.count c.in-Some.count has.count c.in-Some.ensures.1;
-        heard = λ _. first_heard g.S.Items.Fifo.items c.begins.new.self before numbers none c.begins.ensures.begun
-            (subst (λ ns. HasHeard g.S.Items.Fifo.items c.begins.new.self (capacity_told ns) []) c.as_slice-numbers.ensures c.begins.ensures.heard);
+        heard = λ _. first_heard g.S.Offered.Fifo.items g.S.Taken.Fifo.items c.begins.new.self before numbers none c.begins.ensures.begun
+            (subst (λ ns. HasHeard g.S.Offered.Fifo.items g.S.Taken.Fifo.items c.begins.new.self (capacity_told ns) []) c.as_slice-numbers.ensures c.begins.ensures.heard);
       },
     )
 
@@ -94,5 +94,5 @@ returns-clause-full g c = then_err c.hear.result c.hear.ensures.full (λ e needs
     ap₂ (λ b ns. event_told b c.in-Some-2.word ns) (sym lines.3) (sym same) ∙ sym c.in-Some-event_told.ensures in
     let on = further_line before c.args.line.now lines.0 lines.1 (begun_behind begun.Nothing lines.1) c.in-Some-2.word numbers (told c.in-Some-event_told.event) lines.2 has.are is tells in
     let s = c.args.self.now in
-    inl (line_long (g.S.Items.Fifo.room s.hearing.auditor.inside) (g.S.Offered.Fifo.room s.hearing.notes.inside) (g.S.Taken.Fifo.room s.hearing.notes.taken) (g.S.Numbers.Row.room s.hearing.notes.offers)
+    inl (line_long (g.S.Offered.Fifo.room s.hearing.witness.auditor.inside.list) (g.S.Taken.Fifo.room s.hearing.witness.taken)
     before c.args.line.now lines.0 lines.1 c.in-Some-2.word numbers (told c.in-Some-event_told.event) lines.2 on.0 on.1 tells (needs (capacity_told lines.0) (events_told begun.Nothing lines.1) lines.4)))

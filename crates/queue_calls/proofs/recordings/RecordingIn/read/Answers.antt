@@ -25,14 +25,14 @@ line_refused bytes piece read rest end left more one two =
 pub returns-in_err-read_end-clause-refused : goal.returns-in_err-read_end-clause-refused
 returns-in_err-read_end-clause-refused g c =
     let read = c.loop-end.invariant in
-    let refused : (bytes more : List ℕ) → HasRead g.S.Items.Fifo.items g.S.Bytes.Row.items c.args.self.now bytes → RefusesText c.in_err-read_end.field-0.0 (bytes ++ (c.args.piece.now ++ more)) =
+    let refused : (bytes more : List ℕ) → HasRead g.S.Offered.Fifo.items g.S.Taken.Fifo.items g.S.Bytes.Row.items c.args.self.now bytes → RefusesText c.in_err-read_end.field-0.0 (bytes ++ (c.args.piece.now ++ more)) =
     λ bytes more has.
     subst (RefusesText c.in_err-read_end.field-0.0) (line_refused bytes c.args.piece.now read.0 c.loop-end.rest.now c.in-Some.end.now c.in-Some.more.now more read.1 c.in-Some.ensures.1)
     (c.in_err-read_end.ensures.refused (bytes ++ read.0) (c.in-Some.more.now ++ more) (read.2 bytes has)) in
     search (rules, refused)
 
 pub loop-end-init : goal.loop-end-init
-loop-end-init g c = ([], refl, λ bytes has. subst (λ t. HasRead g.S.Items.Fifo.items g.S.Bytes.Row.items c.args.self.now t) (sym (append-nil bytes)) has, refl)
+loop-end-init g c = ([], refl, λ bytes has. subst (λ t. HasRead g.S.Offered.Fifo.items g.S.Taken.Fifo.items g.S.Bytes.Row.items c.args.self.now t) (sym (append-nil bytes)) has, refl)
 
 pub loop-end-preserved : goal.loop-end-preserved
 loop-end-preserved g c =
@@ -40,8 +40,8 @@ loop-end-preserved g c =
     let line : List ℕ = c.in-Some.end.now ++ 10 ∷ [] in (
       read.0 ++ line,
       line_read c.args.piece.now read.0 c.loop-end.rest.now c.in-Some.end.now c.in-Some.more.now read.1 c.in-Some.ensures.1,
-      λ bytes has. subst (λ t. HasRead g.S.Items.Fifo.items g.S.Bytes.Row.items c.read_end.new.self t) (append_assoc (bytes ++ read.0) c.in-Some.end.now (10 ∷ []) ∙ append_assoc bytes read.0 line) (c.in_ok-read_end.ensures.read (bytes ++ read.0) (read.2 bytes has)),
-      (let r = c.read_end.ensures.rooms in rooms_same _ _ _ _ _ _ _ _ _ _ _ _ r.0 r.1 r.2 r.3 r.4 r.5) ∙ read.3,
+      λ bytes has. subst (λ t. HasRead g.S.Offered.Fifo.items g.S.Taken.Fifo.items g.S.Bytes.Row.items c.read_end.new.self t) (append_assoc (bytes ++ read.0) c.in-Some.end.now (10 ∷ []) ∙ append_assoc bytes read.0 line) (c.in_ok-read_end.ensures.read (bytes ++ read.0) (read.2 bytes has)),
+      (let r = c.read_end.ensures.rooms in rooms_same _ _ _ _ _ _ _ _ r.0 r.1 r.2 r.3) ∙ read.3,
     )
 
 pub returns-clause-read : goal.returns-clause-read
@@ -68,8 +68,8 @@ if_err (Err e) q = q e
 pub returns-in_err-read_end-clause-full : goal.returns-in_err-read_end-clause-full
 returns-in_err-read_end-clause-full g c =
     let read = c.loop-end.invariant in
-    let Short : RecordingFault → Type 0 = λ e. e ≡ OutOfMemory → (bytes : List ℕ) → HasRead g.S.Items.Fifo.items g.S.Bytes.Row.items c.args.self.now bytes →
-    AreTooShort (rooms_in g.S.Items.Fifo.room g.S.Offered.Fifo.room g.S.Taken.Fifo.room g.S.Numbers.Row.room g.S.Bytes.Row.room c.args.self.now) (bytes ++ c.args.piece.now) in
+    let Short : RecordingFault → Type 0 = λ e. e ≡ OutOfMemory → (bytes : List ℕ) → HasRead g.S.Offered.Fifo.items g.S.Taken.Fifo.items g.S.Bytes.Row.items c.args.self.now bytes →
+    AreTooShort (rooms_in g.S.Offered.Fifo.room g.S.Taken.Fifo.room g.S.Numbers.Row.room g.S.Bytes.Row.room c.args.self.now) (bytes ++ c.args.piece.now) in
     let full : Short c.in_err-read_end.field-0.0 =
     λ short bytes has.
     let end : List ℕ = c.in-Some.end.now ++ 10 ∷ [] in
@@ -97,4 +97,4 @@ returns-in_err-extend_from_slice-clause-full g c = if_err c.from_residual-in_err
     }))))
 
 pub returns-clause-rooms : goal.returns-clause-rooms
-returns-clause-rooms g c = rooms_same _ _ _ _ _ _ _ _ _ _ _ _ refl refl refl refl refl c.in_ok-extend_from_slice.ensures.kept ∙ c.loop-end.invariant.3
+returns-clause-rooms g c = rooms_same _ _ _ _ _ _ _ _ refl refl refl c.in_ok-extend_from_slice.ensures.kept ∙ c.loop-end.invariant.3

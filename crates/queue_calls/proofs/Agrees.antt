@@ -1,0 +1,44 @@
+-- What an auditor keeps of a history agrees with what the past tells: it counts by differences what a cause tells in full.
+use Rattle.std.proofs.Common.{◌≡◌, ℕ, ◌+◌, ◌-◌, ◌≤◌, Bool, true, false, ◌||◌, List, [], ◌++◌, length}
+use Rattle.queue_calls.specs.Calls.{Event}
+use Rattle.queue_calls.specs.Counting.{Kept}
+use Rattle.queue_calls.specs.Reasons.{has_begun, has_ended, has_told, before_put, before_take, offers, stored, wanted, n_of, k_of, items_of}
+use Rattle.queue_calls.specs.declared.entries.Offered.{Offered}
+use Rattle.queue_calls.specs.declared.turns.PutTurn.{PutTurn}
+use Rattle.queue_calls.specs.declared.turns.PutTurn.TheVariants.{Free, Offers, Late, Closes}
+use Rattle.queue_calls.specs.declared.turns.TakeTurn.{TakeTurn}
+use Rattle.queue_calls.specs.declared.turns.TakeTurn.TheVariants.{Rests, Waits}
+
+-- what the producer has under way, by what is offered, whether a close had ended before the put, how many were taken then, how many are
+-- stored, and whether a close has begun and ended
+abbrev pub PutFits : PutTurn → List Offered → (late : Bool) → (before count : ℕ) → (begun ended : Bool) → Type 0
+PutFits Free offered late before count begun ended = (offered ≡ []) × (begun ≡ ended)
+PutFits (Offers n inside) offered late before count begun ended = (length offered ≡ n) × (late ≡ false) × (before + inside ≡ count) × (begun ≡ false)
+PutFits (Late n) offered late before count begun ended = (offered ≡ []) × (late ≡ true) × (ended ≡ true) × (begun ≡ true)
+PutFits (Closes again) offered late before count begun ended = (offered ≡ []) × (begun ≡ true)
+
+-- what the consumer has under way, by how many it wants, how many were stored before, how many are taken, whether a close had ended
+-- before the take, and whether one was told that the queue is closed
+abbrev pub TakeFits : TakeTurn → (wanted before count : ℕ) → (ended told : Bool) → Type 0
+TakeFits Rests wanted before count ended told = wanted ≡ 0
+TakeFits (Waits wants inside closed) wanted before count ended told = (wanted ≡ wants) × (inside ≡ before - count) × (closed ≡ (ended || told))
+
+-- by what a past tells
+abbrev pub PutAgrees : List Event → PutTurn → Type 0
+PutAgrees past put = PutFits put (offers past) (has_ended (before_put past)) (k_of (before_put past)) (n_of past) (has_begun past) (has_ended past)
+
+abbrev pub TakeAgrees : List Event → TakeTurn → Type 0
+TakeAgrees past turn = TakeFits turn (wanted past) (n_of (before_take past)) (k_of past) (has_ended (before_take past)) (has_told past)
+
+-- What is kept agrees with a past. The items inside come behind those that are gone, among all that were stored or are offered. Where
+-- one was told that the queue is closed nothing is inside, and nothing is stored after a take that began behind the end of a close.
+pub record Agrees (past : List Event) (k : Kept) : Type 0 where
+  pub gone : List ℕ
+  pub row : gone ++ k.inside ≡ items_of (stored past ++ offers past)
+  pub count : length gone ≡ k_of past
+  pub put_fits : PutAgrees past k.put
+  pub take_fits : TakeAgrees past k.take
+  pub shut : k.shut ≡ (has_ended past || has_told past)
+  pub told : has_told past ≡ true → (k.inside ≡ []) × (has_begun past ≡ true)
+  pub ended : has_ended past ≡ true → has_begun past ≡ true
+  pub steady : has_ended (before_take past) ≡ true → n_of past ≤ n_of (before_take past)

@@ -1,0 +1,522 @@
+-- Nothing speaks against an event behind a past just where the event can be counted.
+use Rattle.std.proofs.Common.{◌≡◌, ◌↔◌, ◌⊎◌, inl, inr, ℕ, suc, ◌+◌, ◌-◌, ◌<◌, ◌≤◌, nat_lt, Bool, true, false, ◌==◌, not, ◌&&◌, Some, None, List, [], ◌∷◌, ◌++◌, map, length, take, drop, reverse, refl, sym, ap, subst, ◌∙◌, arith, length-append, append_assoc, append-nil}
+use Rattle.std.proofs.lemmas.Bool.{false_from_ne_true, or_left, or_right, or_from, or_parts, not-false, not_from_true, ltb-true, ltb-false, lt-ltb, le-ltb, eqb-true, eqb-false, eq-eqb, ne_eqb}
+use Rattle.std.proofs.lemmas.Option.{none-some}
+use Rattle.queue_calls.specs.Queue.{Capacity, Unbounded, Between, LacksRoom}
+use Rattle.queue_calls.specs.Calls.{Event, PutBegin, PutStored, PutFull, PutShort, PutNothing, PutClosed, CloseBegin, CloseEnd, TakeBegin, TakeItems, TakeEmpty, TakeShort, TakeNothing, TakeClosed, IsLinearizable}
+use Rattle.queue_calls.specs.InTurn.{NoCall, APut, AClose, ATake, Sides, sides, MovesSides}
+use Rattle.queue_calls.specs.State.{IsProper, MayHold, AreNext, CanEndPut, CanEndTake, offered_by, asked_by, call_of_put, call_of_take, sides_of}
+use Rattle.queue_calls.specs.Counting.{Kept, kept, without, Counts, AreCounted}
+use Rattle.queue_calls.specs.Reasons.{line_behind, stored_at, has_ended, has_told, before_put, before_take, offers, stored, wanted, n_of, k_of, coming, can_hold, can_lack, stored_cause, full_cause, put_short_cause, not_taken_cause, fewer_cause, items_cause, empty_cause, take_short_cause, closed_cause, cause_of, CauseIsReason, FaultHasACause, items_of}
+use Rattle.queue_calls.specs.declared.causes.Cause.{Cause}
+use Rattle.queue_calls.specs.declared.entries.Offered.{Offered}
+use Rattle.queue_calls.specs.declared.turns.PutTurn.{PutTurn}
+use Rattle.queue_calls.specs.declared.turns.PutTurn.TheVariants.{Free, Offers, Late, Closes}
+use Rattle.queue_calls.specs.declared.turns.TakeTurn.{TakeTurn}
+use Rattle.queue_calls.specs.declared.turns.TakeTurn.TheVariants.{Rests, Waits}
+use Rattle.queue_calls.proofs.Agrees.{Agrees}
+use Rattle.queue_calls.proofs.Agreeing.{both, long, offered_is, asked_is, coming_is, begun_is, as_put, as_take, closing, turned_behind, step, at_first, offers_none, ended_grows}
+use Rattle.queue_calls.proofs.CauseTests.{can_hold_tells, can_lack_tells, and_off, and_of, if_on, none_off, off, none_on, some_else, some_both, some_or}
+use Rattle.queue_calls.proofs.CountedHistories.{Stands, counts_keeps}
+use Rattle.queue_calls.proofs.CountsFollow.{counts_are_exact}
+use Rattle.queue_calls.proofs.Keeping.{some as has_points}
+use Rattle.queue_calls.proofs.TakeBegins.{keeps_nothing}
+use Rattle.queue_calls.proofs.TurnLemmas.{last_turn, same_turns}
+
+-- a queue lacks room for as many, told by the sum
+pub lacks_as : (capacity : Capacity) (a b c d : ℕ) → a + b ≡ c + d → LacksRoom capacity a b → LacksRoom capacity c d
+lacks_as Unbounded a b c d e l = l
+lacks_as (Between full most) a b c d e l = omega (arith, e, l)
+
+-- what was stored before the take is no more than what is stored
+pub stored_grows : (past : List Event) → n_of (before_take past) ≤ n_of past
+stored_grows [] = omega arith
+stored_grows (PutStored count ∷ past) = omega (arith, stored_grows past, length-append (stored past) (map (stored_at (line_behind past)) (take count (offers past))))
+stored_grows (TakeBegin count ∷ past) = omega arith
+stored_grows (_ ∷ past) = stored_grows past
+
+-- what a side has under way
+pub put_of : (put : PutTurn) (n : ℕ) → call_of_put put ≡ APut n → ((inside : ℕ) × (put ≡ Offers n inside)) ⊎ (put ≡ Late n)
+put_of Free n e = absurd cc
+put_of (Offers m inside) n e = inl (inside, (let same : m ≡ n = cc in ap (λ z. Offers z inside) same))
+put_of (Late m) n e = inr (let same : m ≡ n = cc in ap Late same)
+put_of (Closes again) n e = absurd cc
+
+pub take_of : (turn : TakeTurn) (n : ℕ) → call_of_take turn ≡ ATake n → (inside : ℕ) × (closed : Bool) × (turn ≡ Waits n inside closed)
+take_of Rests n e = absurd cc
+take_of (Waits wants inside closed) n e = (inside, closed, (let same : wants ≡ n = cc in ap (λ z. Waits z inside closed) same))
+
+free_of : (put : PutTurn) → call_of_put put ≡ NoCall → put ≡ Free
+free_of Free e = refl
+free_of (Offers n inside) e = absurd cc
+free_of (Late n) e = absurd cc
+free_of (Closes again) e = absurd cc
+
+close_of : (put : PutTurn) → call_of_put put ≡ AClose → (again : Bool) × (put ≡ Closes again)
+close_of Free e = absurd cc
+close_of (Offers n inside) e = absurd cc
+close_of (Late n) e = absurd cc
+close_of (Closes again) e = (again, refl)
+
+rest_of : (turn : TakeTurn) → call_of_take turn ≡ NoCall → turn ≡ Rests
+rest_of Rests e = refl
+rest_of (Waits wants inside closed) e = absurd cc
+
+bool_or : (b : Bool) → (b ≡ true) ⊎ (b ≡ false)
+bool_or true = inl refl
+bool_or false = inr refl
+
+-- nothing speaks against items just where they are the next ones, and nothing against so few
+pub items_next :
+    (capacity : Capacity) (past : List Event) (first items : List ℕ) (rest : List Offered) → items_cause capacity past first items rest ≡ None →
+    AreNext items (items_of rest) × (fewer_cause capacity (length first + length items) past ≡ None)
+items_next capacity past first [] rest e =
+    let same : length first ≡ length first + 0 = omega arith in ((items_of rest, refl), subst (λ z. fewer_cause capacity z past ≡ None) same e)
+items_next capacity past first (item ∷ items) [] e = absurd cc
+items_next capacity past first (item ∷ items) (next ∷ rest) e =
+    let count : length (first ++ item ∷ []) + length items ≡ length first + suc (length items) = omega (arith, length-append first (item ∷ [])) in
+    let (same, f) = some_else _ _ _ (λ g. some_both _ _ _ g) e in
+    let ((left, g), h) = items_next capacity past (first ++ item ∷ []) items rest f in (
+      (left, ap (λ z. next.item ∷ z) g ∙ ap (λ z. z ∷ (items ++ left)) (eqb-true next.item item same)),
+      subst (λ z. fewer_cause capacity z past ≡ None) count h,
+    )
+
+pub items_unspoken :
+    (capacity : Capacity) (past : List Event) (first items : List ℕ) (rest : List Offered) → AreNext items (items_of rest) →
+    fewer_cause capacity (length first + length items) past ≡ None → items_cause capacity past first items rest ≡ None
+items_unspoken capacity past first [] rest next e =
+    let same : length first + 0 ≡ length first = omega arith in subst (λ z. fewer_cause capacity z past ≡ None) same e
+items_unspoken capacity past first (item ∷ items) [] (left, g) e = absurd cc
+items_unspoken capacity past first (item ∷ items) (next ∷ rest) (left, g) e =
+    let same : next.item ≡ item = cc in
+    let others : items_of rest ≡ items ++ left = cc in
+    let count : length first + suc (length items) ≡ length (first ++ item ∷ []) + length items = omega (arith, length-append first (item ∷ [])) in
+    if_on _ _ _ (eq-eqb next.item item same) ∙ items_unspoken capacity past (first ++ item ∷ []) items rest (left, others) (subst (λ z. fewer_cause capacity z past ≡ None) count e)
+
+module _ (capacity : Capacity) (past : List Event) (k : Kept) (a : Agrees past k) where
+  -- the numbers that a cause tells, by what is kept
+
+  -- how many were inside at most where the put found no room
+  pub most_inside : (n inside : ℕ) → k.put ≡ Offers n inside → n_of past - k_of (before_put past) ≡ inside
+  most_inside n inside is = let f = as_put past k a (Offers n inside) is in omega (arith, f.2)
+
+  -- and how many are inside at least
+  pub least_stored : (n inside count : ℕ) → k.put ≡ Offers n inside → count ≤ n → (n_of past + count) - (k_of past + wanted past) ≡ (length k.inside - (n - count)) - asked_by k.take
+  least_stored n inside count is few = let f = as_put past k a (Offers n inside) is in omega (arith, long past k a, asked_is past k a, f.0, few)
+
+  -- with so many items taken, how many are inside at least
+  pub least_left : (count : ℕ) → n_of past - (k_of past + count) ≡ (length k.inside - count) - offered_by k.put
+  least_left count = omega (arith, long past k a, offered_is past k a)
+
+  -- ---- each test, by what is kept
+
+  -- the items of the put under way that were not stored are inside
+  pub rest_inside : (n inside count : ℕ) → k.put ≡ Offers n inside → count ≤ n → (nat_lt (n_of past + count) (k_of past) ≡ false) ↔ (n - count ≤ length k.inside)
+  rest_inside n inside count is few =
+      let f = as_put past k a (Offers n inside) is in (
+        λ e. omega (arith, ltb-false (n_of past + count) (k_of past) e, long past k a, f.0, few),
+        λ l. le-ltb (n_of past + count) (k_of past) (omega (arith, l, long past k a, f.0, few)),
+      )
+
+  pub all_inside : (n inside : ℕ) → k.put ≡ Offers n inside → (nat_lt (n_of past) (k_of past) ≡ false) ↔ (n ≤ length k.inside)
+  all_inside n inside is =
+      let f = as_put past k a (Offers n inside) is in (
+        λ e. omega (arith, ltb-false (n_of past) (k_of past) e, long past k a, f.0),
+        λ l. le-ltb (n_of past) (k_of past) (omega (arith, l, long past k a, f.0)),
+      )
+
+  -- those that were stored fit
+  pub stored_fit :
+      (n inside count : ℕ) → k.put ≡ Offers n inside → count ≤ n →
+      (not (can_hold capacity ((n_of past + count) - (k_of past + wanted past))) ≡ false) ↔ MayHold capacity ((length k.inside - (n - count)) - asked_by k.take)
+  stored_fit n inside count is few =
+      let least : ℕ = (n_of past + count) - (k_of past + wanted past) in
+      let same : least ≡ (length k.inside - (n - count)) - asked_by k.take = least_stored n inside count is few in (
+        λ e. subst (λ z. MayHold capacity z) same ((can_hold_tells capacity least).0 (not-false (can_hold capacity least) e)),
+        λ h. not_from_true (can_hold capacity least) ((can_hold_tells capacity least).1 (subst (λ z. MayHold capacity z) (sym same) h)),
+      )
+
+  -- where not all were, there may have been no room for one more
+  pub some_lack :
+      (n inside count : ℕ) → k.put ≡ Offers n inside →
+      ((nat_lt count (length (offers past)) && not (can_lack capacity (n_of past - k_of (before_put past)) (suc count))) ≡ false) ↔ (count < n → LacksRoom capacity inside (suc count))
+  some_lack n inside count is =
+      let f = as_put past k a (Offers n inside) is in
+      let most : ℕ = n_of past - k_of (before_put past) in
+      let same : most + suc count ≡ inside + suc count = omega (arith, most_inside n inside is) in (
+        λ e. λ l.
+            let fewer : nat_lt count (length (offers past)) ≡ true = lt-ltb count (length (offers past)) (omega (arith, l, f.0)) in
+            lacks_as capacity most (suc count) inside (suc count) same
+            ((can_lack_tells capacity most (suc count)).0 (not-false (can_lack capacity most (suc count)) (and_of (nat_lt count (length (offers past))) (not (can_lack capacity most (suc count))) e fewer))),
+        λ h. and_off (nat_lt count (length (offers past))) (not (can_lack capacity most (suc count))) (λ e.
+            let fewer : count < n = omega (arith, ltb-true count (length (offers past)) e, f.0) in
+            not_from_true (can_lack capacity most (suc count)) ((can_lack_tells capacity most (suc count)).1 (lacks_as capacity inside (suc count) most (suc count) (sym same) (h fewer)))),
+      )
+
+  -- where none was, for so many
+  pub none_lack :
+      (n inside count : ℕ) → k.put ≡ Offers n inside → (not (can_lack capacity (n_of past - k_of (before_put past)) count) ≡ false) ↔ LacksRoom capacity inside count
+  none_lack n inside count is =
+      let f = as_put past k a (Offers n inside) is in
+      let most : ℕ = n_of past - k_of (before_put past) in
+      let same : most + count ≡ inside + count = omega (arith, f.2) in (
+        λ e. lacks_as capacity most count inside count same ((can_lack_tells capacity most count).0 (not-false (can_lack capacity most count) e)),
+        λ h. not_from_true (can_lack capacity most count) ((can_lack_tells capacity most count).1 (lacks_as capacity inside count most count (sym same) h)),
+      )
+
+  -- those that were not taken fit
+  pub left_fit : (count : ℕ) → (not_taken_cause capacity count past ≡ None) ↔ CanEndTake capacity (length k.inside) (offered_by k.put) count
+  left_fit count =
+      let least : ℕ = n_of past - (k_of past + count) in (
+        λ e. subst (λ z. MayHold capacity z) (least_left count) ((can_hold_tells capacity least).0 (none_on (can_hold capacity least) None _ e).0),
+        λ h. if_on (can_hold capacity least) None _ ((can_hold_tells capacity least).1 (subst (λ z. MayHold capacity z) (sym (least_left count)) h)),
+      )
+
+  -- where the take wanted more, it found no more
+  pub no_more :
+      (n inside : ℕ) (closed : Bool) (count : ℕ) → k.take ≡ Waits n inside closed →
+      ((nat_lt count (wanted past) && nat_lt (k_of past + count) (n_of (before_take past))) ≡ false) ↔ (count < n → inside ≤ count)
+  no_more n inside closed count is =
+      let f = as_take past k a (Waits n inside closed) is in
+      let more : Bool = nat_lt (k_of past + count) (n_of (before_take past)) in (
+        λ e. λ l.
+            let fewer : nat_lt count (wanted past) ≡ true = lt-ltb count (wanted past) (omega (arith, l, f.0)) in
+            omega (arith, f.1, ltb-false (k_of past + count) (n_of (before_take past)) (and_of (nat_lt count (wanted past)) more e fewer)),
+        λ h. and_off (nat_lt count (wanted past)) more (λ e.
+            let fewer : count < n = omega (arith, ltb-true count (wanted past) e, f.0) in
+            le-ltb (k_of past + count) (n_of (before_take past)) (omega (arith, f.1, h fewer))),
+      )
+
+  -- it found none
+  pub none_found : (n inside : ℕ) (closed : Bool) → k.take ≡ Waits n inside closed → (nat_lt (k_of past) (n_of (before_take past)) ≡ false) ↔ (inside ≡ 0)
+  none_found n inside closed is =
+      let f = as_take past k a (Waits n inside closed) is in (
+        λ e. omega (arith, f.1, ltb-false (k_of past) (n_of (before_take past)) e),
+        λ e. le-ltb (k_of past) (n_of (before_take past)) (omega (arith, f.1, e)),
+      )
+
+  -- it found fewer than it wanted
+  pub fewer_found :
+      (n inside : ℕ) (closed : Bool) → k.take ≡ Waits n inside closed → 0 < n → (nat_lt (k_of past + (wanted past - 1)) (n_of (before_take past)) ≡ false) ↔ (inside < n)
+  fewer_found n inside closed is some =
+      let f = as_take past k a (Waits n inside closed) is in
+      let last : ℕ = k_of past + (wanted past - 1) in (
+        λ e. omega (arith, f.0, f.1, some, ltb-false last (n_of (before_take past)) e),
+        λ l. le-ltb last (n_of (before_take past)) (omega (arith, f.0, f.1, some, l)),
+      )
+
+  -- it found none of a closed queue, where none was told so
+  pub drained :
+      (n inside : ℕ) (closed : Bool) → k.take ≡ Waits n inside closed → has_told past ≡ false →
+      ((has_ended (before_take past) && (n_of past == k_of past)) ≡ false) ↔ (closed ≡ true → 0 < inside)
+  drained n inside closed is not_told =
+      let f = as_take past k a (Waits n inside closed) is in
+      let late : Bool = has_ended (before_take past) in
+      let known : late ≡ true → closed ≡ true = λ e. f.2 ∙ or_left late (has_told past) e in
+      let all_of : late ≡ true → k_of past + length k.inside ≡ n_of past = λ e.
+      omega (arith, long past k a, ap length (offers_none past k a (a.ended (ended_grows past e)))) in (
+        λ e. λ c. elim (bool_or late) [
+          | inl g ↦ omega (arith, all_of g, a.steady g, stored_grows past, f.1, eqb-false (n_of past) (k_of past) (and_of late (n_of past == k_of past) e g))
+          | inr g ↦ both (0 < inside) closed c (f.2 ∙ or_from late (has_told past) g not_told)
+        ],
+        λ h. and_off late (n_of past == k_of past) (λ e. ne_eqb (n_of past) (k_of past) (λ same. omega (arith, same, h (known e), stored_grows past, f.1))),
+      )
+
+  -- the items are the next ones
+  pub are_next :
+      (items : List ℕ) → (items_cause capacity past [] items (coming past) ≡ None) ↔ (AreNext items k.inside × (fewer_cause capacity (length items) past ≡ None))
+  are_next items =
+      let F : List ℕ → Type 0 = λ z. AreNext items z in
+      let G : ℕ → Type 0 = λ z. fewer_cause capacity z past ≡ None in
+      let none : 0 + length items ≡ length items = omega arith in (
+        λ e. (let (next, f) = items_next capacity past [] items (coming past) e in (subst F (coming_is past k a) next, subst G none f)),
+        λ (next, f). items_unspoken capacity past [] items (coming past) (subst F (sym (coming_is past k a)) next) (subst G (sym none) f),
+      )
+
+  -- nothing is inside
+  none_comes : (entries : List Offered) → (closed_cause entries ≡ None) ↔ (items_of entries ≡ [])
+  none_comes [] = (λ e. refl, λ e. refl)
+  none_comes (next ∷ rest) = (λ e. absurd cc, λ e. absurd cc)
+
+  pub none_inside : (closed_cause (coming past) ≡ None) ↔ (k.inside ≡ [])
+  none_inside =
+      (λ e. sym (coming_is past k a) ∙ (none_comes (coming past)).0 e, λ e. (none_comes (coming past)).1 (coming_is past k a ∙ e))
+
+  -- of a late put none was taken
+  late_inside : (n : ℕ) → k.put ≡ Late n → nat_lt (n_of past) (k_of past) ≡ false
+  late_inside n is = let f = as_put past k a (Late n) is in le-ltb (n_of past) (k_of past) (omega (arith, long past k a, ap length f.0))
+
+  -- a queue of which closed was told has no item, and none is found in it
+  some_untold : 0 < length k.inside → has_told past ≡ false
+  some_untold some = false_from_ne_true (has_told past) (λ e. omega (arith, some, ap length (a.told e).0))
+
+  found_untold : (n inside : ℕ) (closed : Bool) → k.take ≡ Waits n inside closed → (closed ≡ true → 0 < inside) → has_told past ≡ false
+  found_untold n inside closed is found =
+      let f = as_take past k a (Waits n inside closed) is in
+      false_from_ne_true (has_told past) (λ e.
+      omega (arith, found (f.2 ∙ or_right (has_ended (before_take past)) (has_told past) e), f.1, stored_grows past, long past k a, ap length (a.told e).0))
+
+  -- ---- against an event that can be counted nothing speaks
+
+  pub unspoken : (event : Event) (after : Kept) → Counts capacity k event after → cause_of capacity event past ≡ None
+  unspoken (PutBegin items) after c = refl
+  unspoken (PutStored count) after (n, inside, is, some, few, lacks, fits) =
+      off _ _ _ (as_put past k a (Offers n inside) is).1
+      (off _ _ _ ((rest_inside n inside count is few).1 fits.0.0)
+      (off _ _ _ ((stored_fit n inside count is few).1 fits.0.1) (off _ _ _ ((some_lack n inside count is).1 lacks) refl)))
+  unspoken PutFull after (n, inside, is, lacks, fits) =
+      off _ _ _ (as_put past k a (Offers n inside) is).1 (off _ _ _ ((all_inside n inside is).1 fits.0.0) (off _ _ _ ((none_lack n inside 1 is).1 lacks) refl))
+  unspoken PutShort after (n, inside, is, several, lacks, fits) =
+      let f = as_put past k a (Offers n inside) is in
+      let lacks_all : LacksRoom capacity inside (length (offers past)) = subst (λ z. LacksRoom capacity inside z) (sym f.0) lacks in
+      off _ _ _ f.1 (off _ _ _ ((all_inside n inside is).1 fits.0.0) (off _ _ _ ((none_lack n inside (length (offers past)) is).1 lacks_all) refl))
+  unspoken PutNothing after c = elim c [
+    | inl b ↦ (let (n, inside, is, fits) = b in off _ _ _ ((all_inside n inside is).1 fits.0.0) refl)
+    | inr b ↦ (let (n, is, e) = b in off _ _ _ (late_inside n is) refl)
+  ]
+  unspoken PutClosed after (n, is, e) = if_on _ _ _ (as_put past k a (Late n) is).1
+  unspoken CloseBegin after c = refl
+  unspoken CloseEnd after c = refl
+  unspoken (TakeBegin count) after c = refl
+  unspoken (TakeItems items) after (n, inside, closed, is, some, few, found, (rest, next), fits) =
+      let within : 0 < length k.inside = omega (arith, some, ap length next, length-append items rest) in
+      off _ _ _ (some_untold within)
+      ((are_next items).1 ((rest, next), off _ _ _ ((no_more n inside closed (length items) is).1 found) ((left_fit (length items)).1 fits.0)))
+  unspoken TakeEmpty after (n, inside, is, none, fits) =
+      let f = as_take past k a (Waits n inside false) is in
+      let (not_ended, not_told) = or_parts (has_ended (before_take past)) (has_told past) (sym f.2) in
+      off _ _ _ not_told (off _ _ _ ((none_found n inside false is).1 none) (off _ _ _ not_ended ((left_fit 0).1 fits.0)))
+  unspoken TakeShort after (n, inside, closed, is, several, less, found, fits) =
+      let not_told = found_untold n inside closed is found in
+      off _ _ _ not_told
+      (off _ _ _ ((fewer_found n inside closed is (omega (arith, several))).1 less) (off _ _ _ ((drained n inside closed is not_told).1 found) ((left_fit 0).1 fits.0)))
+  unspoken TakeNothing after (n, inside, closed, is, fits) = (left_fit 0).1 fits.0
+  unspoken TakeClosed after (n, inside, closed, is, none, begun, e) = if_on _ _ _ (begun_is past k a begun) ∙ none_inside.1 none
+
+module _ (capacity : Capacity) (past : List Event) (k : Kept) (a : Agrees past k) (few : MayHold capacity (length k.inside - (offered_by k.put + asked_by k.take))) where
+  abbrev pub Counted : Event → Type 0
+  Counted event = (after : Kept) × Counts capacity k event after
+
+  -- the put under way can end with none stored
+  can_end : (n inside : ℕ) → k.put ≡ Offers n inside → nat_lt (n_of past) (k_of past) ≡ false → CanEndPut capacity (length k.inside) (asked_by k.take) n
+  can_end n inside is e =
+      let f = as_put past k a (Offers n inside) is in
+      let same : length k.inside - (offered_by k.put + asked_by k.take) ≡ (length k.inside - n) - asked_by k.take = omega (arith, offered_is past k a, f.0) in
+      ((all_inside capacity past k a n inside is).0 e, subst (λ z. MayHold capacity z) same few)
+
+  -- where the put began before a close had ended
+  early : {A : Type 0} (n : ℕ) → k.put ≡ Late n → has_ended (before_put past) ≡ false → A
+  early {A} n is e = both A (has_ended (before_put past)) (as_put past k a (Late n) is).1 e
+
+  stored_counted : (count n : ℕ) → 0 < count → count ≤ n → call_of_put k.put ≡ APut n → stored_cause capacity count past ≡ None → Counted (PutStored count)
+  stored_counted count n some least is e =
+      let (open', e1) = none_off _ _ _ e in
+      let (enough, e2) = none_off _ _ _ e1 in
+      let (fit, e3) = none_off _ _ _ e2 in
+      let (lack, e4) = none_off _ _ _ e3 in
+      elim (put_of k.put n is) [
+        | inl o ↦ (
+            let (inside, is_put) = o in (
+              kept (without (n - count) k.inside) Free k.take k.shut,
+              (
+                n,
+                inside,
+                is_put,
+                some,
+                least,
+                (some_lack capacity past k a n inside count is_put).0 lack,
+                (((rest_inside capacity past k a n inside count is_put least).0 enough, (stored_fit capacity past k a n inside count is_put least).0 fit), refl),
+              ),
+            ))
+        | inr late ↦ early n late open'
+      ]
+
+  full_counted : (n : ℕ) → call_of_put k.put ≡ APut n → full_cause capacity past ≡ None → Counted PutFull
+  full_counted n is e =
+      let (open', e1) = none_off _ _ _ e in
+      let (enough, e2) = none_off _ _ _ e1 in
+      let (lack, e3) = none_off _ _ _ e2 in
+      elim (put_of k.put n is) [
+        | inl o ↦ (
+            let (inside, is_put) = o in (
+              kept (without n k.inside) Free k.take k.shut,
+              (n, inside, is_put, (none_lack capacity past k a n inside 1 is_put).0 lack, (can_end n inside is_put enough, refl)),
+            ))
+        | inr late ↦ early n late open'
+      ]
+
+  put_short_counted : (n : ℕ) → call_of_put k.put ≡ APut n → 1 < n → put_short_cause capacity past ≡ None → Counted PutShort
+  put_short_counted n is several e =
+      let (open', e1) = none_off _ _ _ e in
+      let (enough, e2) = none_off _ _ _ e1 in
+      let (lack, e3) = none_off _ _ _ e2 in
+      elim (put_of k.put n is) [
+        | inl o ↦ (
+            let (inside, is_put) = o in
+            let same : length (offers past) ≡ n = (as_put past k a (Offers n inside) is_put).0 in
+            let lacks : LacksRoom capacity inside n = subst (λ z. LacksRoom capacity inside z) same ((none_lack capacity past k a n inside (length (offers past)) is_put).0 lack) in
+            (kept (without n k.inside) Free k.take k.shut, (n, inside, is_put, several, lacks, (can_end n inside is_put enough, refl))))
+        | inr late ↦ early n late open'
+      ]
+
+  put_nothing_counted : (n : ℕ) → call_of_put k.put ≡ APut n → cause_of capacity PutNothing past ≡ None → Counted PutNothing
+  put_nothing_counted n is e =
+      let (enough, e1) = none_off _ _ _ e in
+      elim (put_of k.put n is) [
+        | inl o ↦ (let (inside, is_put) = o in (kept (without n k.inside) Free k.take k.shut, inl (n, inside, is_put, (can_end n inside is_put enough, refl))))
+        | inr late ↦ (kept k.inside Free k.take k.shut, inr (n, late, refl))
+      ]
+
+  put_closed_counted : (n : ℕ) → call_of_put k.put ≡ APut n → cause_of capacity PutClosed past ≡ None → Counted PutClosed
+  put_closed_counted n is e = elim (put_of k.put n is) [
+    | inl o ↦ (
+        let (inside, is_put) = o in both (Counted PutClosed) (has_ended (before_put past)) (none_on _ _ _ e).0 (as_put past k a (Offers n inside) is_put).1)
+    | inr late ↦ (kept k.inside Free k.take k.shut, (n, late, refl))
+  ]
+
+  items_counted : (items : List ℕ) (n : ℕ) → call_of_take k.take ≡ ATake n → 0 < length items → length items ≤ n → cause_of capacity (TakeItems items) past ≡ None → Counted (TakeItems items)
+  items_counted items n is some most e =
+      let (inside, closed, is_take) = take_of k.take n is in
+      let (not_told, e1) = none_off _ _ _ e in
+      let (next, e2) = (are_next capacity past k a items).0 e1 in
+      let (found, e3) = none_off _ _ _ e2 in (
+        kept (drop (length items) k.inside) k.put Rests k.shut,
+        (
+          n,
+          inside,
+          closed,
+          is_take,
+          some,
+          most,
+          (no_more capacity past k a n inside closed (length items) is_take).0 found,
+          next,
+          ((left_fit capacity past k a (length items)).0 e3, refl),
+        ),
+      )
+
+  empty_counted : (n : ℕ) → call_of_take k.take ≡ ATake n → empty_cause capacity past ≡ None → Counted TakeEmpty
+  empty_counted n is e =
+      let (inside, closed, is_take) = take_of k.take n is in
+      let (not_told, e1) = none_off _ _ _ e in
+      let (none, e2) = none_off _ _ _ e1 in
+      let (not_ended, e3) = none_off _ _ _ e2 in
+      let f = as_take past k a (Waits n inside closed) is_take in
+      let open' : closed ≡ false = f.2 ∙ or_from (has_ended (before_take past)) (has_told past) not_ended not_told in (
+        kept (drop 0 k.inside) k.put Rests k.shut,
+        (
+          n,
+          inside,
+          is_take ∙ ap (λ z. Waits n inside z) open',
+          (none_found capacity past k a n inside closed is_take).0 none,
+          ((left_fit capacity past k a 0).0 e3, refl),
+        ),
+      )
+
+  take_short_counted : (n : ℕ) → call_of_take k.take ≡ ATake n → 1 < n → take_short_cause capacity past ≡ None → Counted TakeShort
+  take_short_counted n is several e =
+      let (inside, closed, is_take) = take_of k.take n is in
+      let (not_told, e1) = none_off _ _ _ e in
+      let (fewer, e2) = none_off _ _ _ e1 in
+      let (found, e3) = none_off _ _ _ e2 in (
+        kept (drop 0 k.inside) k.put Rests k.shut,
+        (
+          n,
+          inside,
+          closed,
+          is_take,
+          several,
+          (fewer_found capacity past k a n inside closed is_take (omega (arith, several))).0 fewer,
+          (drained capacity past k a n inside closed is_take not_told).0 found,
+          ((left_fit capacity past k a 0).0 e3, refl),
+        ),
+      )
+
+  take_nothing_counted : (n : ℕ) → call_of_take k.take ≡ ATake n → not_taken_cause capacity 0 past ≡ None → Counted TakeNothing
+  take_nothing_counted n is e =
+      let (inside, closed, is_take) = take_of k.take n is in (kept (drop 0 k.inside) k.put Rests k.shut, (n, inside, closed, is_take, ((left_fit capacity past k a 0).0 e, refl)))
+
+  take_closed_counted : (n : ℕ) → call_of_take k.take ≡ ATake n → cause_of capacity TakeClosed past ≡ None → Counted TakeClosed
+  take_closed_counted n is e =
+      let (inside, closed, is_take) = take_of k.take n is in
+      let (begun, e1) = none_on _ _ _ e in
+      (kept [] k.put Rests true, (n, inside, closed, is_take, (none_inside capacity past k a).0 e1, closing past k a begun, refl))
+
+  -- ---- an event in its turn, against which nothing speaks, can be counted
+
+  pub counted : (event : Event) (next : Sides) → MovesSides (sides_of k.put k.take) event next → cause_of capacity event past ≡ None → Counted event
+  counted (PutBegin items) next (free, some, m) e = elim (bool_or k.shut) [
+    | inl g ↦ (kept k.inside (Late (length items)) k.take true, (free_of k.put free, some, inr (g, refl)))
+    | inr g ↦ (kept (k.inside ++ items) (Offers (length items) (length k.inside)) k.take false, (free_of k.put free, some, inl (g, refl)))
+  ]
+  counted (PutStored count) next (n, is, some, most, m) e = stored_counted count n some most is e
+  counted PutFull next (n, is, m) e = full_counted n is e
+  counted PutShort next (n, is, several, m) e = put_short_counted n is several e
+  counted PutNothing next (n, is, m) e = put_nothing_counted n is e
+  counted PutClosed next (n, is, m) e = put_closed_counted n is e
+  counted CloseBegin next (free, m) e = (kept k.inside (Closes k.shut) k.take k.shut, (free_of k.put free, refl))
+  counted CloseEnd next (is, m) e = (kept k.inside Free k.take true, (let (again, g) = close_of k.put is in (again, g, refl)))
+  counted (TakeBegin count) next (rests, some, m) e =
+      (kept k.inside k.put (Waits count (length k.inside - offered_by k.put) k.shut) k.shut, (rest_of k.take rests, some, refl))
+  counted (TakeItems items) next (n, is, some, most, m) e = items_counted items n is some most e
+  counted TakeEmpty next (n, is, m) e = empty_counted n is e
+  counted TakeShort next (n, is, several, m) e = take_short_counted n is several e
+  counted TakeNothing next (n, is, m) e = take_nothing_counted n is e
+  counted TakeClosed next (n, is, m) e = take_closed_counted n is e
+
+  -- against one that cannot be counted something speaks
+  pub spoken : (event : Event) (next : Sides) → MovesSides (sides_of k.put k.take) event next → (Counted event → ⊥) → (cause : Cause) × (cause_of capacity event past ≡ Some cause)
+  spoken event next moves never = some_or (cause_of capacity event past) (λ e. never (counted event next moves e))
+
+-- a history whose events are counted, and what is then kept
+abbrev pub Arrived : Capacity → List Event → List Event → Type 0
+Arrived capacity h past = (k : Kept) × Agrees past k × Stands capacity h k
+
+arrive :
+    (capacity : Capacity) (events h past : List Event) (k : Kept) → Agrees past k → Stands capacity h k → AreCounted capacity k events →
+    Arrived capacity (h ++ events) (reverse events ++ past)
+arrive capacity [] h past k a j c = (k, a, (let F : List Event → Type 0 = λ z. Stands capacity z k in subst F (sym (append-nil h)) j))
+arrive capacity (first ∷ events) h past k a j (after, now, later) =
+    let F : List Event → Type 0 = λ z. Arrived capacity (h ++ first ∷ events) z in
+    let G : List Event → Type 0 = λ z. Arrived capacity z (reverse events ++ (first ∷ past)) in
+    subst F (sym (turned_behind first events past))
+    (subst G (append_assoc h (first ∷ []) events)
+    (arrive capacity events (h ++ first ∷ []) (first ∷ past) after (step past k a capacity first after now) (counts_keeps capacity h k j first after now) later))
+
+-- what is kept of a linearizable history, and agrees with its past
+pub arrived : (capacity : Capacity) (h : List Event) → IsProper capacity → IsLinearizable capacity h → Arrived capacity h (reverse h)
+arrived capacity h proper linear =
+    let F : List Event → Type 0 = λ z. Arrived capacity h z in
+    subst F (append-nil (reverse h))
+    (arrive capacity h [] [] (kept [] Free Rests false) at_first (keeps_nothing capacity proper) ((counts_are_exact capacity h proper).1 linear))
+
+-- what stands is linearizable
+pub standing : (capacity : Capacity) (h : List Event) (k : Kept) → Stands capacity h k → IsLinearizable capacity h
+standing capacity h k j = let (t, d, told) = has_points capacity k.inside k.put k.take k.shut j.few in (t, j.sound t d (told j.late))
+
+-- the last of counted events
+abbrev Reached : Capacity → List Event → Event → Type 0
+Reached capacity past event = (k : Kept) × Agrees past k × ((after : Kept) × Counts capacity k event after)
+
+reach : (capacity : Capacity) (event : Event) (events past : List Event) (k : Kept) → Agrees past k → AreCounted capacity k (events ++ event ∷ []) → Reached capacity (reverse events ++ past) event
+reach capacity event [] past k a (after, now, later) = (k, a, (after, now))
+reach capacity event (first ∷ events) past k a (after, now, later) =
+    let F : List Event → Type 0 = λ z. Reached capacity z event in
+    subst F (sym (turned_behind first events past)) (reach capacity event events (first ∷ past) after (step past k a capacity first after now) later)
+
+-- ---- the laws
+
+pub cause_is_reason : CauseIsReason
+cause_is_reason capacity before event cause proper is linear =
+    let F : List Event → Type 0 = λ z. Reached capacity z event in
+    let (k, a, (after, now)) = subst F (append-nil (reverse before))
+    (reach capacity event before [] (kept [] Free Rests false) at_first ((counts_are_exact capacity (before ++ event ∷ []) proper).1 linear)) in
+    none-some cause (sym (unspoken capacity (reverse before) k a event after now) ∙ is)
+
+pub fault_has_a_cause : FaultHasACause
+fault_has_a_cause capacity before event proper linear turn never =
+    let (k, a, j) = arrived capacity before proper linear in
+    let (t, r) = turn in
+    let (s, sooner, last) = last_turn before event (sides NoCall NoCall) t r in
+    let same : s ≡ sides_of k.put k.take = same_turns before (sides NoCall NoCall) s (sides_of k.put k.take) sooner j.turns in
+    spoken capacity (reverse before) k a j.few event t (subst (λ x. MovesSides x event t) same last)
+    (λ c. let (after, now) = c in never (standing capacity (before ++ event ∷ []) after (counts_keeps capacity before k j event after now)))

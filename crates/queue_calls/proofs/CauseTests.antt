@@ -1,0 +1,71 @@
+-- What the tests tell by which a cause is found.
+use Rattle.std.proofs.Common.{◌≡◌, ◌↔◌, ℕ, ◌+◌, Bool, true, false, ◌&&◌, if◌then◌else◌, Option, Some, None, refl}
+use Rattle.std.proofs.lemmas.Bool.{both_ways, false_from_ne_true, ltb-true, lt-ltb, leb-true, le-leb}
+use Rattle.queue_calls.specs.Queue.{Capacity, Unbounded, Between, LacksRoom}
+use Rattle.queue_calls.specs.State.{MayHold}
+use Rattle.queue_calls.specs.Reasons.{can_hold, can_lack}
+
+-- what a queue can be
+pub can_hold_tells : (capacity : Capacity) (n : ℕ) → (can_hold capacity n ≡ true) ↔ MayHold capacity n
+can_hold_tells Unbounded n = (λ e. tt, λ h. refl)
+can_hold_tells (Between full most) n = (λ e. leb-true n most e, λ h. le-leb n most h)
+
+pub cannot_hold_tells : (capacity : Capacity) (n : ℕ) → (can_hold capacity n ≡ false) ↔ (¬ MayHold capacity n)
+cannot_hold_tells capacity n =
+    (λ e. λ h. both_ways (can_hold capacity n) e ((can_hold_tells capacity n).1 h), λ f. false_from_ne_true (can_hold capacity n) (λ e. f ((can_hold_tells capacity n).0 e)))
+
+pub can_lack_tells : (capacity : Capacity) (inside count : ℕ) → (can_lack capacity inside count ≡ true) ↔ LacksRoom capacity inside count
+can_lack_tells Unbounded inside count = (λ e. absurd cc, λ h. absurd h)
+can_lack_tells (Between full most) inside count = (λ e. ltb-true full (inside + count) e, λ h. lt-ltb full (inside + count) h)
+
+pub cannot_lack_tells : (capacity : Capacity) (inside count : ℕ) → (can_lack capacity inside count ≡ false) ↔ (¬ LacksRoom capacity inside count)
+cannot_lack_tells capacity inside count = (
+  λ e. λ h. both_ways (can_lack capacity inside count) e ((can_lack_tells capacity inside count).1 h),
+  λ f. false_from_ne_true (can_lack capacity inside count) (λ e. f ((can_lack_tells capacity inside count).0 e)),
+)
+
+-- two tests that do not both hold
+pub and_off : (b c : Bool) → (b ≡ true → c ≡ false) → (b && c) ≡ false
+and_off true c f = f refl
+and_off false c f = refl
+
+pub and_of : (b c : Bool) → (b && c) ≡ false → b ≡ true → c ≡ false
+and_of true c e f = e
+and_of false c e f = absurd cc
+
+-- a value by a test
+pub if_on : {A : Type 0} (b : Bool) (x y : A) → b ≡ true → (if b then x else y) ≡ x
+if_on true x y e = refl
+if_on false x y e = absurd cc
+
+pub if_off : {A : Type 0} (b : Bool) (x y : A) → b ≡ false → (if b then x else y) ≡ y
+if_off true x y e = absurd cc
+if_off false x y e = refl
+
+module _ {A : Type 0} where
+  -- where the first of several tests holds, there is something
+  pub none_off : (b : Bool) (x : A) (y : Option A) → (if b then Some x else y) ≡ None → (b ≡ false) × (y ≡ None)
+  none_off true x y e = absurd cc
+  none_off false x y e = (refl, e)
+
+  pub off : (b : Bool) (x : A) (y : Option A) → b ≡ false → y ≡ None → (if b then Some x else y) ≡ None
+  off true x y e f = absurd cc
+  off false x y e f = f
+
+  -- where the last one does not, there is something
+  pub none_on : (b : Bool) (x : Option A) (y : A) → (if b then x else Some y) ≡ None → (b ≡ true) × (x ≡ None)
+  none_on true x y e = (refl, e)
+  none_on false x y e = absurd cc
+
+  -- where it does not, there is something of the others
+  pub some_else : (b : Bool) (x y : Option A) → (y ≡ None → ⊥) → (if b then x else y) ≡ None → (b ≡ true) × (x ≡ None)
+  some_else true x y f e = (refl, e)
+  some_else false x y f e = absurd (f e)
+
+  pub some_both : (b : Bool) (x y : A) → (if b then Some x else Some y) ≡ None → ⊥
+  some_both true x y e = absurd cc
+  some_both false x y e = absurd cc
+
+  pub some_or : (x : Option A) → (x ≡ None → ⊥) → (value : A) × (x ≡ Some value)
+  some_or None f = absurd (f refl)
+  some_or (Some value) f = (value, refl)

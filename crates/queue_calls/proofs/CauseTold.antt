@@ -1,0 +1,319 @@
+-- What is told by what is kept is what the past tells.
+use Rattle.std.proofs.Common.{◌≡◌, ◌≢◌, ◌⊎◌, inl, inr, ℕ, zero, suc, ◌+◌, ◌-◌, ◌<◌, ◌≤◌, nat_lt, Bool, true, false, ◌==◌, not, ◌&&◌, ◌||◌, if◌then◌else◌, Option, Some, None, List, [], ◌∷◌, ◌++◌, length, take, drop, get_or, refl, sym, ap, subst, ◌∙◌, arith, append_assoc, append-nil}
+use Rattle.std.specs.List.{list_any}
+use Rattle.std.specs.Prelude.{unwrap_or, find, map, nat_eq}
+use Rattle.std.proofs.Math.Seq.{drop-cons}
+use Rattle.std.proofs.lemmas.List.{drop_all, length-take-le, take_all}
+use Rattle.std.proofs.lemmas.Bool.{or_from, or_left, eqb-true, lt-ltb, eq-eqb, ne_eqb, false_from_ne_true}
+use Rattle.queue_calls.specs.Queue.{Capacity}
+use Rattle.queue_calls.specs.Calls.{Event}
+use Rattle.queue_calls.specs.Counting.{Kept}
+use Rattle.queue_calls.specs.State.{MayHold, offered_by, asked_by, has_closed}
+use Rattle.queue_calls.specs.Reasons.{at, before_put, before_stored, before_take, can_hold, closed_cause, coming, empty_cause, ended_line, fewer_cause, full_cause, has_begun, has_ended, has_told, items_cause, k_of, last_of, last_taken, line_behind, n_of, not_taken_cause, offers, put_short_cause, stored_cause, take_short_cause, taken, taken_at, wanted}
+use Rattle.queue_calls.specs.Witnesses.{agreed}
+use Rattle.queue_calls.specs.declared.causes.Cause.{Cause}
+use Rattle.queue_calls.specs.declared.causes.Cause.TheVariants.{StoredAfterClose, OnlySomeStored, StoredTooMany, OnlySomeWithRoom, FullWithRoom, FullAfterClose, NotStoredButTaken, ShortWithRoom, NoMoreWhileInside, NotTaken, EmptyWhileInside, EmptyAfterClose, ShortWhileInside, ShortAfterClose, ClosedBeforeClose, ClosedWhileInside}
+use Rattle.queue_calls.specs.declared.entries.Offered.{Offered}
+use Rattle.queue_calls.specs.declared.entries.Taken.{Taken}
+use Rattle.queue_calls.specs.declared.turns.PutTurn.TheVariants.{Offers, Late}
+use Rattle.queue_calls.specs.declared.turns.TakeTurn.TheVariants.{Waits}
+use Rattle.queue_calls.proofs.Agrees.{Agrees}
+use Rattle.queue_calls.proofs.Agreeing.{as_put, as_take, both, begun_is, closing, ended_grows, long, offers_none}
+use Rattle.queue_calls.proofs.CauseFound.{all_inside, least_left, least_stored, most_inside, no_more, none_found, fewer_found, rest_inside, stored_fit}
+use Rattle.queue_calls.proofs.CauseTests.{cannot_hold_tells, if_on}
+
+-- ---- chains of tests
+
+bool_or : (b : Bool) → (b ≡ true) ⊎ (b ≡ false)
+bool_or true = inl refl
+bool_or false = inr refl
+
+module _ {A : Type 0} where
+  pub told_on : (b : Bool) (x : A) (y : Option A) (z : A) → b ≡ true → (if b then Some x else y) ≡ Some z → x ≡ z
+  told_on true x y z on e = cc
+  told_on false x y z on e = absurd cc
+
+  pub told_off : (b : Bool) (x : A) (y : Option A) (z : A) → b ≡ false → (if b then Some x else y) ≡ Some z → y ≡ Some z
+  told_off true x y z off e = absurd cc
+  told_off false x y z off e = e
+
+  pub told_last : (b : Bool) (x z : A) → (if b then Some x else None) ≡ Some z → x ≡ z
+  told_last true x z e = cc
+  told_last false x z e = absurd cc
+
+  pub told_else : (b : Bool) (x z : A) → (if b then None else Some x) ≡ Some z → x ≡ z
+  told_else true x z e = absurd cc
+  told_else false x z e = cc
+
+-- a line that may be there
+pub is_line : (b : Bool) (line : ℕ) (told : Option ℕ) → told ≡ (if b then Some line else None) → b ≡ true → unwrap_or told 0 ≡ line
+is_line true line told e on = ap (λ z. unwrap_or z 0) e
+is_line false line told e on = absurd cc
+
+pub no_line : (b : Bool) (line : ℕ) (told : Option ℕ) → told ≡ (if b then Some line else None) → ((x : ℕ) → told ≡ Some x → ⊥) → b ≡ false
+no_line true line told e none = absurd (none line e)
+no_line false line told e none = refl
+
+-- the last item of the last ones is the last one
+get_last : {A : Type 0} (d : A) (n : ℕ) (xs : List A) → n < length xs → get_or (drop n xs) (length (drop n xs) - 1) d ≡ get_or xs (length xs - 1) d
+get_last d zero xs l = refl
+get_last d (suc n) [] l = absurd (omega (arith, l))
+get_last d (suc n) (x ∷ []) l = absurd (omega (arith, l))
+get_last d (suc n) (x ∷ y ∷ xs) l =
+    let F : suc (suc (length xs)) - 1 ≡ suc (suc (length xs) - 1) = omega arith in
+    get_last d n (y ∷ xs) (omega (arith, l)) ∙ ap (λ m. get_or (x ∷ y ∷ xs) m d) (sym F)
+
+pub last_is_last : (limit : ℕ) (past : List Event) (all : List Taken) → 0 < limit → all ≡ last_of limit (taken past) → 0 < k_of past → get_or all (length all - 1) (taken_at 0 0) ≡ last_taken past
+last_is_last limit past all some e l =
+    ap (λ z. get_or z (length z - 1) (taken_at 0 0)) e ∙ get_last (taken_at 0 0) (length (taken past) - limit) (taken past) (omega (arith, some, l))
+
+module _ (capacity : Capacity) (past : List Event) (k : Kept) (a : Agrees past k) (z : Cause) where
+  -- ---- puts
+
+  pub late_ends : (n : ℕ) → k.put ≡ Late n → has_ended past ≡ true
+  late_ends n is = (as_put past k a (Late n) is).2
+
+  pub late_stored : (n count : ℕ) → k.put ≡ Late n → stored_cause capacity count past ≡ Some z → StoredAfterClose (ended_line past) ≡ z
+  late_stored n count is e = told_on _ _ _ z (as_put past k a (Late n) is).1 e
+
+  pub late_full : (n : ℕ) → k.put ≡ Late n → full_cause capacity past ≡ Some z → FullAfterClose (ended_line past) ≡ z
+  late_full n is e = told_on _ _ _ z (as_put past k a (Late n) is).1 e
+
+  pub late_short : (n : ℕ) → k.put ≡ Late n → put_short_cause capacity past ≡ Some z → ShortAfterClose (ended_line past) ≡ z
+  late_short n is e = told_on _ _ _ z (as_put past k a (Late n) is).1 e
+
+  module _ (n inside : ℕ) (is : k.put ≡ Offers n inside) where
+    early : has_ended (before_put past) ≡ false
+    early = (as_put past k a (Offers n inside) is).1
+
+    offered : length (offers past) ≡ n
+    offered = (as_put past k a (Offers n inside) is).0
+
+    pub gone : (count : ℕ) → count ≤ n → length k.inside < n - count → nat_lt (n_of past + count) (k_of past) ≡ true
+    gone count few l = lt-ltb (n_of past + count) (k_of past) (omega (arith, l, long past k a, offered, few))
+
+    none_gone : (count : ℕ) → count ≤ n → n - count ≤ length k.inside → nat_lt (n_of past + count) (k_of past) ≡ false
+    none_gone count few l = (rest_inside capacity past k a n inside count is few).1 l
+
+    pub all_gone : length k.inside < n → nat_lt (n_of past) (k_of past) ≡ true
+    all_gone l = lt-ltb (n_of past) (k_of past) (omega (arith, l, long past k a, offered))
+
+    pub some_taken : (count : ℕ) → count ≤ n → length k.inside < n - count → 0 < k_of past
+    some_taken count few l = omega (arith, l, long past k a, offered, few)
+
+    pub stored_gone : (count : ℕ) → count ≤ n → length k.inside < n - count → stored_cause capacity count past ≡ Some z → OnlySomeStored count (last_taken past) ≡ z
+    stored_gone count few l e = told_on _ _ _ z (gone count few l) (told_off _ _ _ z early e)
+
+    pub stored_over :
+        (count : ℕ) → count ≤ n → n - count ≤ length k.inside → ¬ MayHold capacity ((length k.inside - (n - count)) - asked_by k.take) → stored_cause capacity count past ≡ Some z →
+        StoredTooMany ((length k.inside - (n - count)) - asked_by k.take) ≡ z
+    stored_over count few l over e =
+        let least : ℕ = (n_of past + count) - (k_of past + wanted past) in
+        let same : least ≡ (length k.inside - (n - count)) - asked_by k.take = least_stored capacity past k a n inside count is few in
+        let not_held : can_hold capacity least ≡ false = (cannot_hold_tells capacity least).1 (λ h. over (subst (λ y. MayHold capacity y) same h)) in
+        ap StoredTooMany (sym same) ∙ told_on _ _ _ z (ap not not_held) (told_off _ _ _ z (none_gone count few l) (told_off _ _ _ z early e))
+
+    pub stored_room :
+        (count : ℕ) → count ≤ n → n - count ≤ length k.inside → MayHold capacity ((length k.inside - (n - count)) - asked_by k.take) → stored_cause capacity count past ≡ Some z →
+        OnlySomeWithRoom count inside (line_behind (before_put past)) ≡ z
+    stored_room count few l fits e =
+        ap (λ y. OnlySomeWithRoom count y (line_behind (before_put past))) (sym (most_inside capacity past k a n inside is)) ∙
+        told_last _ _ z (told_off _ _ _ z ((stored_fit capacity past k a n inside count is few).1 fits) (told_off _ _ _ z (none_gone count few l) (told_off _ _ _ z early e)))
+
+    pub full_gone : length k.inside < n → full_cause capacity past ≡ Some z → NotStoredButTaken (last_taken past) ≡ z
+    full_gone l e = told_on _ _ _ z (all_gone l) (told_off _ _ _ z early e)
+
+    pub full_room : n ≤ length k.inside → full_cause capacity past ≡ Some z → FullWithRoom inside (line_behind (before_put past)) ≡ z
+    full_room l e =
+        ap (λ y. FullWithRoom y (line_behind (before_put past))) (sym (most_inside capacity past k a n inside is)) ∙
+        told_last _ _ z (told_off _ _ _ z ((all_inside capacity past k a n inside is).1 l) (told_off _ _ _ z early e))
+
+    pub short_gone : length k.inside < n → put_short_cause capacity past ≡ Some z → NotStoredButTaken (last_taken past) ≡ z
+    short_gone l e = told_on _ _ _ z (all_gone l) (told_off _ _ _ z early e)
+
+    pub short_room : n ≤ length k.inside → put_short_cause capacity past ≡ Some z → ShortWithRoom n inside (line_behind (before_put past)) ≡ z
+    short_room l e =
+        ap (λ y. ShortWithRoom y inside (line_behind (before_put past))) (sym offered) ∙
+        ap (λ y. ShortWithRoom (length (offers past)) y (line_behind (before_put past))) (sym (most_inside capacity past k a n inside is)) ∙
+        told_last _ _ z (told_off _ _ _ z ((all_inside capacity past k a n inside is).1 l) (told_off _ _ _ z early e))
+
+  -- ---- takes
+
+  pub too_few : (count : ℕ) → not_taken_cause capacity count past ≡ Some z → NotTaken ((length k.inside - count) - offered_by k.put) (line_behind (before_stored past)) ≡ z
+  too_few count e =
+      ap (λ y. NotTaken y (line_behind (before_stored past))) (sym (least_left capacity past k a count)) ∙ told_else _ _ z e
+
+  module _ (n before : ℕ) (closed : Bool) (is : k.take ≡ Waits n before closed) where
+    wants : wanted past ≡ n
+    wants = (as_take past k a (Waits n before closed) is).0
+
+    left : before ≡ n_of (before_take past) - k_of past
+    left = (as_take past k a (Waits n before closed) is).1
+
+    ends : closed ≡ (has_ended (before_take past) || has_told past)
+    ends = (as_take past k a (Waits n before closed) is).2
+
+    pub fewer_inside : (count : ℕ) → count < n → count < before → fewer_cause capacity count past ≡ Some z → NoMoreWhileInside (at (coming past) count) ≡ z
+    fewer_inside count l m e =
+        let one : nat_lt count (wanted past) ≡ true = lt-ltb count (wanted past) (omega (arith, l, wants)) in
+        let two : nat_lt (k_of past + count) (n_of (before_take past)) ≡ true = lt-ltb (k_of past + count) (n_of (before_take past)) (omega (arith, m, left)) in
+        told_on _ _ _ z (ap (λ y. y && nat_lt (k_of past + count) (n_of (before_take past))) one ∙ two) e
+
+    pub fewer_left : (count : ℕ) → (count < n → before ≤ count) → fewer_cause capacity count past ≡ Some z → not_taken_cause capacity count past ≡ Some z
+    fewer_left count f e = told_off _ _ _ z ((no_more capacity past k a n before closed count is).1 f) e
+
+    module _ (open' : has_told past ≡ false) where
+      pub empty_inside : 0 < before → empty_cause capacity past ≡ Some z → EmptyWhileInside (at (coming past) 0) ≡ z
+      empty_inside l e = told_on _ _ _ z (lt-ltb (k_of past) (n_of (before_take past)) (omega (arith, l, left))) (told_off _ _ _ z open' e)
+
+      late : closed ≡ true → has_ended (before_take past) ≡ true
+      late e = elim (bool_or (has_ended (before_take past))) [
+        | inl f ↦ f
+        | inr f ↦ absurd (both ⊥ closed e (ends ∙ or_from (has_ended (before_take past)) (has_told past) f open'))
+      ]
+
+      early_take : closed ≡ false → has_ended (before_take past) ≡ false
+      early_take e = false_from_ne_true (has_ended (before_take past)) (λ f. both ⊥ closed (ends ∙ or_left (has_ended (before_take past)) (has_told past) f) e)
+
+      pub take_ends : closed ≡ true → has_ended past ≡ true
+      take_ends e = ended_grows past (late e)
+
+      pub empty_late : before ≡ 0 → closed ≡ true → empty_cause capacity past ≡ Some z → EmptyAfterClose (ended_line past) ≡ z
+      empty_late none e f = told_on _ _ _ z (late e) (told_off _ _ _ z ((none_found capacity past k a n before closed is).1 none) (told_off _ _ _ z open' f))
+
+      pub empty_early : before ≡ 0 → closed ≡ false → empty_cause capacity past ≡ Some z → not_taken_cause capacity 0 past ≡ Some z
+      empty_early none e f =
+          told_off _ _ _ z (early_take e) (told_off _ _ _ z ((none_found capacity past k a n before closed is).1 none) (told_off _ _ _ z open' f))
+
+      pub short_inside : 0 < n → n ≤ before → take_short_cause capacity past ≡ Some z → ShortWhileInside (at (coming past) (n - 1)) ≡ z
+      short_inside some l e =
+          let last : ℕ = wanted past - 1 in
+          let same : n - 1 ≡ last = ap (λ y. y - 1) (sym wants) in
+          ap (λ y. ShortWhileInside (at (coming past) y)) same ∙
+          told_on _ _ _ z (lt-ltb (k_of past + last) (n_of (before_take past)) (omega (arith, l, left, some, wants))) (told_off _ _ _ z open' e)
+
+      pub short_late : 0 < n → before < n → closed ≡ true → length k.inside ≡ 0 → take_short_cause capacity past ≡ Some z → ShortAfterClose (ended_line past) ≡ z
+      short_late some l e none f =
+          let no_offers : offers past ≡ [] = offers_none past k a (a.ended (take_ends e)) in
+          let same : n_of past ≡ k_of past = omega (arith, none, long past k a, ap length no_offers) in
+          let test : (has_ended (before_take past) && (n_of past == k_of past)) ≡ true =
+          ap (λ y. y && (n_of past == k_of past)) (late e) ∙ eq-eqb (n_of past) (k_of past) same in
+          told_on _ _ _ z test (told_off _ _ _ z ((fewer_found capacity past k a n before closed is some).1 l) (told_off _ _ _ z open' f))
+
+      pub short_early :
+          0 < n → before < n → (closed ≡ true → 0 < length k.inside) → take_short_cause capacity past ≡ Some z → not_taken_cause capacity 0 past ≡ Some z
+      short_early some l inside f =
+          let test : (has_ended (before_take past) && (n_of past == k_of past)) ≡ false = elim (bool_or (has_ended (before_take past))) [
+            | inl e ↦ (
+                let is_closed : closed ≡ true = ends ∙ or_left (has_ended (before_take past)) (has_told past) e in
+                let no_offers : offers past ≡ [] = offers_none past k a (a.ended (ended_grows past e)) in
+                let differ : n_of past ≢ k_of past = λ same. omega (arith, inside is_closed, long past k a, ap length no_offers, same) in
+                ap (λ y. y && (n_of past == k_of past)) e ∙ ne_eqb (n_of past) (k_of past) differ)
+            | inr e ↦ ap (λ y. y && (n_of past == k_of past)) e
+          ] in
+          told_off _ _ _ z test (told_off _ _ _ z ((fewer_found capacity past k a n before closed is some).1 l) (told_off _ _ _ z open' f))
+
+  -- the first of entries
+  first_entry : (entries : List Offered) → closed_cause entries ≡ Some z → ClosedWhileInside (at entries 0) ≡ z
+  first_entry [] e = absurd cc
+  first_entry (next ∷ rest) e = cc
+
+  pub closed_inside : has_closed k.put k.shut ≡ true → (if has_begun past then closed_cause (coming past) else Some ClosedBeforeClose) ≡ Some z → ClosedWhileInside (at (coming past) 0) ≡ z
+  closed_inside e f =
+      let F : Bool → Type 0 = λ b. (if b then closed_cause (coming past) else Some ClosedBeforeClose) ≡ Some z in
+      first_entry (coming past) (subst F (begun_is past k a e) f)
+
+  pub closed_open : has_closed k.put k.shut ≡ false → (if has_begun past then closed_cause (coming past) else Some ClosedBeforeClose) ≡ Some z → ClosedBeforeClose ≡ z
+  closed_open e f =
+      let none : has_begun past ≡ false = false_from_ne_true (has_begun past) (λ g. both ⊥ (has_closed k.put k.shut) (closing past k a g) e) in
+      let F : Bool → Type 0 = λ b. (if b then closed_cause (coming past) else Some ClosedBeforeClose) ≡ Some z in
+      let G : Some ClosedBeforeClose ≡ Some z = subst F none f in cc
+
+-- ---- items
+
+-- the next ones of items are passed
+pub passed :
+    (capacity : Capacity) (past : List Event) (first items : List ℕ) (rest : List Offered) →
+    items_cause capacity past first items rest ≡ items_cause capacity past (first ++ take (agreed items rest) items) (drop (agreed items rest) items) (drop (agreed items rest) rest)
+passed capacity past first [] rest = ap (λ z. items_cause capacity past z [] rest) (sym (append-nil first))
+passed capacity past first (item ∷ items) [] = ap (λ z. items_cause capacity past z (item ∷ items) []) (sym (append-nil first))
+passed capacity past first (item ∷ items) (next ∷ rest) =
+    elim (next.item == item) as (λ v. (next.item == item) ≡ v → items_cause capacity past first (item ∷ items) (next ∷ rest) ≡
+    items_cause capacity past (first ++ take (if v then suc (agreed items rest) else 0) (item ∷ items)) (drop (if v then suc (agreed items rest) else 0) (item ∷ items))
+    (drop (if v then suc (agreed items rest) else 0) (next ∷ rest))) [
+      | true ↦ λ e.
+          let p : ℕ = agreed items rest in
+          let on : items_cause capacity past first (item ∷ items) (next ∷ rest) ≡ items_cause capacity past (first ++ item ∷ []) items rest = if_on _ _ _ e in
+          on ∙ passed capacity past (first ++ item ∷ []) items rest ∙
+          ap (λ z. items_cause capacity past z (drop p items) (drop p rest)) (append_assoc first (item ∷ []) (take p items))
+      | false ↦ λ e. ap (λ z. items_cause capacity past z (item ∷ items) (next ∷ rest)) (sym (append-nil first))
+    ] refl
+
+-- and the one behind them is not the next
+pub not_passed : (items : List ℕ) (rest : List Offered) → agreed (drop (agreed items rest) items) (drop (agreed items rest) rest) ≡ 0
+not_passed [] rest = refl
+not_passed (item ∷ items) [] = refl
+not_passed (item ∷ items) (next ∷ rest) =
+    elim (next.item == item) as (λ v. (next.item == item) ≡ v →
+    agreed (drop (if v then suc (agreed items rest) else 0) (item ∷ items)) (drop (if v then suc (agreed items rest) else 0) (next ∷ rest)) ≡ 0) [
+      | true ↦ λ e. not_passed items rest
+      | false ↦ λ e. ap (λ b. if b then suc (agreed items rest) else 0) e
+    ] refl
+
+pub agreed_few : (items : List ℕ) (rest : List Offered) → agreed items rest ≤ length items
+agreed_few [] rest = omega arith
+agreed_few (item ∷ items) [] = omega arith
+agreed_few (item ∷ items) (next ∷ rest) =
+    elim (next.item == item) as (λ v. (if v then suc (agreed items rest) else 0) ≤ suc (length items)) [
+      | true ↦ omega (arith, agreed_few items rest)
+      | false ↦ omega arith
+    ]
+
+pub one_not_passed : (item : ℕ) (more : List ℕ) (rest : List Offered) → agreed (item ∷ more) rest ≡ 0 → agreed (item ∷ []) rest ≡ 0
+one_not_passed item more [] e = refl
+one_not_passed item more (next ∷ rest) e =
+    elim (next.item == item) as (λ v. (if v then suc (agreed more rest) else 0) ≡ 0 → (if v then suc (agreed [] rest) else 0) ≡ 0) [
+      | true ↦ λ f. absurd (omega (arith, f))
+      | false ↦ λ f. refl
+    ] e
+
+-- an item that a line took before others
+pub taken_first :
+    (line item : ℕ) (first : List ℕ) (more : List Taken) → find (λ t. t.item == item) (map (taken_at line) first ++ more) ≡
+    (if list_any (λ y. nat_eq y item) first then Some (taken_at line item) else find (λ t. t.item == item) more)
+taken_first line item [] more = refl
+taken_first line item (x ∷ first) more =
+    elim (nat_eq x item) as (λ v. nat_eq x item ≡ v → (if v then Some (taken_at line x) else find (λ t. t.item == item) (map (taken_at line) first ++ more)) ≡
+    (if (v || list_any (λ y. nat_eq y item) first) then Some (taken_at line item) else find (λ t. t.item == item) more)) [
+      | true ↦ λ e. ap (λ z. Some (taken_at line z)) (eqb-true x item e)
+      | false ↦ λ e. taken_first line item first more
+    ] refl
+
+-- what is told behind those that are passed
+pub behind_passed :
+    (capacity : Capacity) (past : List Event) (items : List ℕ) (rest : List Offered) (z : Cause) (q item d : ℕ) → q ≡ agreed items rest → q < length items → item ≡ get_or items q d →
+    items_cause capacity past [] items rest ≡ Some z →
+    (agreed (item ∷ []) (drop (length (take q items)) rest) ≡ 0) × (items_cause capacity past (take q items) (item ∷ drop (suc q) items) (drop (length (take q items)) rest) ≡ Some z)
+behind_passed capacity past items rest z q item d is few at_it e =
+    let long : length (take q items) ≡ q = length-take-le q items (omega (arith, few)) in
+    let parts : drop q items ≡ item ∷ drop (suc q) items = drop-cons items q d few ∙ ap (λ x. x ∷ drop (suc q) items) (sym at_it) in
+    let F : ℕ → Type 0 = λ n. items_cause capacity past (take n items) (drop n items) (drop n rest) ≡ Some z in
+    let told : F q = subst F (sym is) (sym (passed capacity past [] items rest) ∙ e) in
+    let G : ℕ → Type 0 = λ n. agreed (drop n items) (drop n rest) ≡ 0 in
+    let none : G q = subst G (sym is) (not_passed items rest) in
+    let P : List ℕ → Type 0 = λ l. agreed l (drop q rest) ≡ 0 in
+    let Q : List ℕ → Type 0 = λ l. items_cause capacity past (take q items) l (drop q rest) ≡ Some z in
+    let R : ℕ → Type 0 = λ n. (agreed (item ∷ []) (drop n rest) ≡ 0) × (items_cause capacity past (take q items) (item ∷ drop (suc q) items) (drop n rest) ≡ Some z) in
+    subst R (sym long) (one_not_passed item (drop (suc q) items) (drop q rest) (subst P parts none), subst Q parts told)
+
+pub all_passed :
+    (capacity : Capacity) (past : List Event) (items : List ℕ) (rest : List Offered) (z : Cause) (q : ℕ) → q ≡ agreed items rest → length items ≤ q →
+    items_cause capacity past [] items rest ≡ Some z → fewer_cause capacity (length items) past ≡ Some z
+all_passed capacity past items rest z q is many e =
+    let p : ℕ = agreed items rest in
+    let all : p ≡ length items = omega (arith, is, many, agreed_few items rest) in
+    let F : List ℕ → List ℕ → Type 0 = λ l m. items_cause capacity past l m (drop p rest) ≡ Some z in
+    let told : F (take p items) (drop p items) = sym (passed capacity past [] items rest) ∙ e in
+    let whole : take p items ≡ items = take_all p items (omega (arith, all)) in
+    let none : drop p items ≡ [] = drop_all p items (omega (arith, all)) in
+    subst (λ l. F l []) whole (subst (λ m. F (take p items) m) none told)

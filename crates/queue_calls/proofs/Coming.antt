@@ -1,0 +1,87 @@
+-- What becomes of the entries that come next, with their lines, with an event that can be counted. With the others they stay as they are.
+use Rattle.std.proofs.Common.{◌≡◌, ℕ, zero, suc, ◌+◌, ◌-◌, ◌≤◌, Bool, true, false, if◌then◌else◌, List, [], ◌∷◌, ◌++◌, map, length, take, drop, refl, sym, ap, subst, ◌∙◌, arith, length-append, append-nil}
+use Rattle.std.proofs.lemmas.Bool.{or_parts}
+use Rattle.std.proofs.lemmas.List.{length-map, drop-map, drop-take, drop-drop}
+use Rattle.std.proofs.Math.Seq.{take-append-add}
+use Rattle.queue_calls.specs.Calls.{Event, PutBegin, PutStored, TakeItems}
+use Rattle.queue_calls.specs.Counting.{Kept}
+use Rattle.queue_calls.proofs.Agrees.{Agrees}
+use Rattle.queue_calls.specs.Reasons.{line_behind, has_ended, has_told, offered_at, stored_at, taken_at, offers, stored, taken, n_of, k_of, coming}
+use Rattle.queue_calls.specs.declared.entries.Offered.{Offered}
+use Rattle.queue_calls.specs.declared.turns.PutTurn.TheVariants.{Free, Offers, Late}
+use Rattle.queue_calls.proofs.Agreeing.{as_put, long, is_late}
+
+-- the entries of a row, of which those behind its first part are changed; and from a place on
+all_changed : {A : Type 0} (f : A → A) (s o : List A) → s ++ map f o ≡ take (length s) (s ++ o) ++ map f (drop (length s) (s ++ o))
+all_changed f [] o = refl
+all_changed f (x ∷ s) o = ap (λ z. x ∷ z) (all_changed f s o)
+
+changed :
+    {A : Type 0} (f : A → A) (s o : List A) (gone rest : ℕ) → rest ≡ length s - gone →
+    drop gone (s ++ map f o) ≡ take rest (drop gone (s ++ o)) ++ map f (drop rest (drop gone (s ++ o)))
+changed f s o zero rest e =
+    let same : length s ≡ rest = omega (arith, e) in
+    let G : ℕ → Type 0 = λ z. s ++ map f o ≡ take z (s ++ o) ++ map f (drop z (s ++ o)) in subst G same (all_changed f s o)
+changed f [] o (suc gone) rest e =
+    let none : 0 ≡ rest = omega (arith, e) in
+    let G : ℕ → Type 0 = λ z. drop (suc gone) (map f o) ≡ take z (drop (suc gone) o) ++ map f (drop z (drop (suc gone) o)) in subst G none (drop-map f (suc gone) o)
+changed f (x ∷ s) o (suc gone) rest e = changed f s o gone rest (omega (arith, e))
+
+module _ (past : List Event) (k : Kept) (a : Agrees past k) where
+  -- a put begins: its items come behind the others, or none do where the queue is known to be closed
+  pub open_begins : (items : List ℕ) → k.put ≡ Free → k.shut ≡ false → coming (PutBegin items ∷ past) ≡ coming past ++ map (offered_at (line_behind past)) items
+  open_begins items free open' =
+      let f = as_put past k a Free free in
+      let new = map (offered_at (line_behind past)) items in
+      let (not_ended, not_told) = or_parts (has_ended past) (has_told past) (sym a.shut ∙ open') in
+      let few : k_of past ≤ length (stored past ++ offers past) = omega (arith, long past k a, length-append (stored past) (offers past)) in
+      let F : Bool → Type 0 = λ z. drop (k_of past) (stored past ++ (if z then [] else new)) ≡ coming past ++ new in
+      subst F (sym not_ended)
+      (ap (λ z. drop (k_of past) (z ++ new)) (sym (ap (λ z. stored past ++ z) f.0 ∙ append-nil (stored past))) ∙ dropped (stored past ++ offers past) new (k_of past) few)
+    where
+      dropped : (xs ys : List Offered) (n : ℕ) → n ≤ length xs → drop n (xs ++ ys) ≡ drop n xs ++ ys
+      dropped xs ys zero l = refl
+      dropped [] ys (suc n) l = absurd (omega (arith, l))
+      dropped (x ∷ xs) ys (suc n) l = dropped xs ys n (omega (arith, l))
+
+  pub late_begins : (items : List ℕ) → k.put ≡ Free → k.shut ≡ true → coming (PutBegin items ∷ past) ≡ coming past
+  late_begins items free shut =
+      let f = as_put past k a Free free in
+      let F : Bool → Type 0 = λ z. drop (k_of past) (stored past ++ (if z then [] else map (offered_at (line_behind past)) items)) ≡ coming past in
+      subst F (sym (is_late past k a free shut)) (ap (λ z. drop (k_of past) (stored past ++ z)) (sym f.0))
+
+  -- the put under way ends with so many of its items stored: the others go, and those that are not taken yet have this line
+  left_over : (n inside count : ℕ) → k.put ≡ Offers n inside → count ≤ n → n - count ≤ length k.inside → drop (k_of past) (stored past ++ take count (offers past)) ≡ take (length k.inside - (n - count)) (coming past)
+  left_over n inside count is few some =
+      let f = as_put past k a (Offers n inside) is in
+      let same : n_of past + count ≡ k_of past + (length k.inside - (n - count)) = omega (arith, long past k a, f.0, few, some) in
+      ap (λ z. drop (k_of past) z) (sym (take-append-add (stored past) (offers past) count) ∙ ap (λ z. take z (stored past ++ offers past)) same) ∙
+      drop-take (k_of past) (length k.inside - (n - count)) (stored past ++ offers past)
+
+  pub some_stored :
+      (n inside count : ℕ) → k.put ≡ Offers n inside → count ≤ n → n - count ≤ length k.inside → (left : List Offered) → left ≡ take (length k.inside - (n - count)) (coming past) →
+      coming (PutStored count ∷ past) ≡ take (length k.inside - n) left ++ map (stored_at (line_behind past)) (drop (length k.inside - n) left)
+  some_stored n inside count is few some left e =
+      let f = as_put past k a (Offers n inside) is in
+      let line = stored_at (line_behind past) in
+      let rest : ℕ = length k.inside - n in
+      let H : List Offered → Type 0 = λ l. drop (k_of past) (stored past ++ map line (take count (offers past))) ≡ take rest l ++ map line (drop rest l) in
+      ap (λ z. drop (k_of past) z) (append-nil (stored past ++ map line (take count (offers past)))) ∙
+      subst H (left_over n inside count is few some ∙ sym e)
+      (changed line (stored past) (take count (offers past)) (k_of past) rest (omega (arith, long past k a, f.0)))
+
+  -- it ends with none stored: the entries that come next are then those that were stored
+  pub none_stored : (n inside : ℕ) → k.put ≡ Offers n inside → n ≤ length k.inside → drop (k_of past) (stored past ++ []) ≡ take (length k.inside - n) (coming past)
+  none_stored n inside is some =
+      let whole : n - 0 ≡ n = omega arith in
+      subst (λ z. drop (k_of past) (stored past ++ []) ≡ take (length k.inside - z) (coming past)) whole (left_over n inside 0 is (omega arith) (omega (arith, some)))
+
+  pub late_stored : (n : ℕ) → k.put ≡ Late n → drop (k_of past) (stored past ++ []) ≡ coming past
+  late_stored n is = ap (λ z. drop (k_of past) (stored past ++ z)) (sym (as_put past k a (Late n) is).0)
+
+  -- the take under way ends with items
+  pub took : (items : List ℕ) → coming (TakeItems items ∷ past) ≡ drop (length items) (coming past)
+  took items =
+      let line = taken_at (line_behind past) in
+      let count : k_of (TakeItems items ∷ past) ≡ k_of past + length items = omega (arith, length-append (taken past) (map line items), length-map items line) in
+      ap (λ z. drop z (stored past ++ offers past)) count ∙ sym (drop-drop (length items) (k_of past) (stored past ++ offers past))

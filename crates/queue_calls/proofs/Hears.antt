@@ -1,0 +1,293 @@
+-- What a witness remembers behind one event more.
+use Rattle.std.proofs.Common.{◌≡◌, inl, inr, ℕ, zero, suc, ◌+◌, ◌-◌, ◌≤◌, Bool, true, false, if◌then◌else◌, Option, Some, None, List, [], ◌∷◌, ◌++◌, map, length, take, drop, reverse, refl, sym, ap, subst, ◌∙◌, arith, length-append, append-nil}
+use Rattle.std.proofs.lemmas.List.{length-map, length-reverse, length-take-le, take_all}
+use Rattle.std.specs.Option.{option_or}
+use Rattle.queue_calls.specs.Queue.{Capacity}
+use Rattle.queue_calls.specs.Calls.{Event, PutBegin, PutStored, PutFull, PutShort, PutNothing, PutClosed, CloseBegin, CloseEnd, TakeBegin, TakeItems, TakeEmpty, TakeShort, TakeNothing, TakeClosed, IsLinearizable}
+use Rattle.queue_calls.specs.Audits.{HasMoreItems, RefusesEvent}
+use Rattle.queue_calls.specs.Counting.{Kept, kept, without, Counts, CountTo}
+use Rattle.queue_calls.specs.Insides.{Moves}
+use Rattle.queue_calls.specs.Noting.{all_got, items_got}
+use Rattle.queue_calls.specs.Reasons.{before_put, before_stored, coming, ended_line, has_ended, has_told, items_of, k_of, last_of, line_behind, offered_at, stored_at, taken, taken_at, told_closed_line}
+use Rattle.queue_calls.specs.State.{Keeps}
+use Rattle.queue_calls.specs.Told.{meant}
+use Rattle.queue_calls.specs.Witnesses.{Remembers, RefusesNext, mark_last}
+use Rattle.queue_calls.specs.declared.entries.TheConstants.{TAKEN_LIMIT}
+use Rattle.queue_calls.specs.declared.entries.Offered.{Offered}
+use Rattle.queue_calls.specs.declared.entries.Taken.{Taken}
+use Rattle.queue_calls.specs.declared.faults.Fault.{Fault}
+use Rattle.queue_calls.specs.declared.faults.Fault.TheVariants.{OutOfTurn, NotLinearizable, OutOfMemory}
+use Rattle.queue_calls.specs.declared.turns.PutTurn.{PutTurn}
+use Rattle.queue_calls.specs.declared.turns.PutTurn.TheVariants.{Free, Offers}
+use Rattle.queue_calls.specs.declared.turns.TakeTurn.{TakeTurn}
+use Rattle.queue_calls.specs.declared.turns.TakeTurn.TheVariants.{Rests}
+use Rattle.queue_calls.specs.declared.witnesses.Witness.{Witness}
+use Rattle.queue_calls.proofs.Agrees.{Agrees}
+use Rattle.queue_calls.proofs.Agreeing.{long_coming, turned, turned_behind}
+use Rattle.queue_calls.proofs.Coming.{late_begins, late_stored, none_stored, open_begins, some_stored, took}
+use Rattle.queue_calls.proofs.Remembering.{agrees_of, count_more, kept_of, stands}
+
+-- ---- entries
+
+-- first parts as long as each other are the same
+take_same : {A : Type 0} (m n : ℕ) (xs : List A) → length (take m xs) ≡ length (take n xs) → take m xs ≡ take n xs
+take_same zero zero xs e = refl
+take_same zero (suc n) [] e = refl
+take_same zero (suc n) (x ∷ xs) e = absurd (omega (arith, e))
+take_same (suc m) zero [] e = refl
+take_same (suc m) zero (x ∷ xs) e = absurd (omega (arith, e))
+take_same (suc m) (suc n) [] e = refl
+take_same (suc m) (suc n) (x ∷ xs) e = ap (λ z. x ∷ z) (take_same m n xs (omega (arith, e)))
+
+long_entries : (entries : List Offered) (inside : List ℕ) → items_of entries ≡ inside → length entries ≡ length inside
+long_entries entries inside e = sym (length-map entries (λ o. o.item)) ∙ ap length e
+
+-- so many first entries are those that are kept
+first_ones :
+    (kept count : ℕ) (entries left : List Offered) (inside : List ℕ) → left ≡ take kept entries → items_of left ≡ take count inside → length entries ≡ length inside → count ≤ length inside →
+    left ≡ take count entries
+first_ones kept count entries left inside moves are same few =
+    let long : length left ≡ count = long_entries left (take count inside) are ∙ length-take-le count inside few in
+    let also : length (take count entries) ≡ count = length-take-le count entries (omega (arith, same, few)) in
+    moves ∙ take_same kept count entries (sym (ap length moves) ∙ (long ∙ sym also))
+
+marked_items : (line : ℕ) (entries : List Offered) → items_of (map (stored_at line) entries) ≡ items_of entries
+marked_items line [] = refl
+marked_items line (x ∷ entries) = ap (λ z. x.item ∷ z) (marked_items line entries)
+
+marked_behind : (n line : ℕ) (entries : List Offered) → items_of (take n entries ++ map (stored_at line) (drop n entries)) ≡ items_of entries
+marked_behind zero line entries = marked_items line entries
+marked_behind (suc n) line [] = refl
+marked_behind (suc n) line (x ∷ entries) = ap (λ z. x.item ∷ z) (marked_behind n line entries)
+
+-- a line that stores entries changes no item
+pub mark_items : (line count : ℕ) (entries : List Offered) → items_of (mark_last line count entries) ≡ items_of entries
+mark_items line count entries = marked_behind (length entries - count) line entries
+
+module _ (past : List Event) (k : Kept) (a : Agrees past k) (capacity : Capacity) where
+  same_long : (entries : List Offered) → entries ≡ coming past → length entries ≡ length k.inside
+  same_long entries e = ap length e ∙ long_coming past k a
+
+  abbrev MovesSo : Event → List Offered → List Offered → Type 0
+  MovesSo event entries after = Moves (offered_at (line_behind past)) k.shut event entries after
+
+  -- a put ends with none stored
+  none_left : (n inside : ℕ) (entries left : List Offered) (after : List ℕ) → k.put ≡ Offers n inside → n ≤ length k.inside → after ≡ without n k.inside → entries ≡ coming past → items_of left ≡ after →
+      (kept : ℕ) × (left ≡ take kept entries) → left ≡ take (length k.inside - n) (coming past)
+  none_left n inside entries left after is few e come are (m, moves) =
+      first_ones m (length k.inside - n) entries left k.inside moves (are ∙ e) (same_long entries come) (omega arith) ∙ ap (λ z. take (length k.inside - n) z) come
+
+  -- all is left
+  all_left : (entries left : List Offered) → entries ≡ coming past → items_of left ≡ k.inside → (kept : ℕ) × (left ≡ take kept entries) → left ≡ coming past
+  all_left entries left come are (m, moves) =
+      let whole : take (length k.inside) k.inside ≡ k.inside = take_all (length k.inside) k.inside (omega arith) in
+      first_ones m (length k.inside) entries left k.inside moves (are ∙ sym whole) (same_long entries come) (omega arith) ∙
+      take_all (length k.inside) entries (omega (arith, same_long entries come)) ∙ come
+
+  inside_is : (after told : Kept) → after ≡ told → after.inside ≡ told.inside
+  inside_is after told e = ap (λ z. z.inside) e
+
+  -- what comes next behind an event, but for the end of a put that stored some
+  pub moved :
+      (event : Event) (after : Kept) (entries left : List Offered) → entries ≡ coming past → items_of left ≡ after.inside → Counts capacity k event after → MovesSo event entries left →
+      ((count : ℕ) → event ≡ PutStored count → ⊥) → left ≡ coming (event ∷ past)
+  moved (PutBegin items) after entries left come are (free, some, begins) moves other = elim begins [
+    | inl b ↦
+        moves ∙ ap (λ z. if z then entries else entries ++ map (offered_at (line_behind past)) items) b.0 ∙ ap (λ z. z ++ map (offered_at (line_behind past)) items) come ∙
+        sym (open_begins past k a items free b.0)
+    | inr b ↦ moves ∙ ap (λ z. if z then entries else entries ++ map (offered_at (line_behind past)) items) b.0 ∙ come ∙ sym (late_begins past k a items free b.0)
+  ]
+  moved (PutStored count) after entries left come are c moves other = absurd (other count refl)
+  moved PutFull after entries left come are (n, inside, is, lacks, ends) moves other =
+      none_left n inside entries left after.inside is ends.0.0 (inside_is after _ ends.1) come are moves ∙ sym (none_stored past k a n inside is ends.0.0)
+  moved PutShort after entries left come are (n, inside, is, several, lacks, ends) moves other =
+      none_left n inside entries left after.inside is ends.0.0 (inside_is after _ ends.1) come are moves ∙ sym (none_stored past k a n inside is ends.0.0)
+  moved PutNothing after entries left come are c moves other = elim c [
+    | inl b ↦ (
+        let (n, inside, is, ends) = b in
+        none_left n inside entries left after.inside is ends.0.0 (inside_is after _ ends.1) come are moves ∙ sym (none_stored past k a n inside is ends.0.0))
+    | inr b ↦ (let (n, is, e) = b in all_left entries left come (are ∙ inside_is after _ e) moves ∙ sym (late_stored past k a n is))
+  ]
+  moved PutClosed after entries left come are (n, is, e) moves other = moves ∙ come ∙ sym (late_stored past k a n is)
+  moved (TakeItems items) after entries left come are c moves other = moves ∙ ap (λ z. drop (length items) z) come ∙ sym (took past k a items)
+  moved CloseBegin after entries left come are c moves other = moves ∙ come
+  moved CloseEnd after entries left come are c moves other = moves ∙ come
+  moved (TakeBegin wanted) after entries left come are c moves other = moves ∙ come
+  moved TakeEmpty after entries left come are c moves other = moves ∙ come
+  moved TakeShort after entries left come are c moves other = moves ∙ come
+  moved TakeNothing after entries left come are c moves other = moves ∙ come
+  moved TakeClosed after entries left come are c moves other = moves ∙ come
+
+  -- and behind that one, where its line is written
+  pub moved_stored :
+      (count : ℕ) (after : Kept) (entries left : List Offered) → entries ≡ coming past → items_of left ≡ after.inside → Counts capacity k (PutStored count) after →
+      MovesSo (PutStored count) entries left → mark_last (line_behind past) count left ≡ coming (PutStored count ∷ past)
+  moved_stored count after entries left come are (n, inside, is, some, few, lacks, ends) (m, moves) =
+      let rest : ℕ = length k.inside - (n - count) in
+      let left_is : left ≡ take rest (coming past) =
+      first_ones m rest entries left k.inside moves (are ∙ inside_is after _ ends.1) (same_long entries come) (omega arith) ∙ ap (λ z. take rest z) come in
+      let long : length left ≡ rest = ap length left_is ∙ length-take-le rest (coming past) (omega (arith, long_coming past k a)) in
+      let place : length left - count ≡ length k.inside - n = omega (arith, long, few, ends.0.0) in
+      ap (λ z. take z left ++ map (stored_at (line_behind past)) (drop z left)) place ∙ sym (some_stored past k a n inside count is few ends.0.0 left left_is)
+
+-- ---- what is remembered
+
+-- of what a past tells
+pub next_remembers :
+    {S O T N B : Type 0} (offered : O → List Offered) (last : T → List Taken) (w next : Witness S O T N B) (capacity : Capacity) (events : List Event) (event : Event) →
+    Remembers offered last w capacity events → next.auditor.capacity ≡ w.auditor.capacity → Counts capacity (kept_of offered w) event (kept_of offered next) →
+    offered next.auditor.inside.list ≡ coming (event ∷ reverse events) → last next.taken ≡ last_of TAKEN_LIMIT (taken (event ∷ reverse events)) →
+    next.ended_at ≡ (if has_ended (event ∷ reverse events) then Some (ended_line (event ∷ reverse events)) else None) →
+    next.told_at ≡ (if has_told (event ∷ reverse events) then Some (told_closed_line (event ∷ reverse events)) else None) →
+    next.put_at ≡ line_behind (before_put (event ∷ reverse events)) → next.stored_at ≡ line_behind (before_stored (event ∷ reverse events)) →
+    Remembers offered last next capacity (events ++ event ∷ [])
+next_remembers offered last w next capacity events event r same counts inside taken_is ended told put_at stored_at_is =
+    let back : event ∷ reverse events ≡ reverse (events ++ event ∷ []) = sym (turned events event) in
+    record {
+      proper = r.proper;
+      capacity_is = ap meant same ∙ r.capacity_is;
+      counted = count_more capacity _ events event (kept_of offered w) (kept_of offered next) r.counted counts;
+      inside = subst (λ z. offered next.auditor.inside.list ≡ coming z) back inside;
+      taken = subst (λ z. last next.taken ≡ last_of TAKEN_LIMIT (taken z)) back taken_is;
+      ended = subst (λ z. next.ended_at ≡ (if has_ended z then Some (ended_line z) else None)) back ended;
+      told = subst (λ z. next.told_at ≡ (if has_told z then Some (told_closed_line z) else None)) back told;
+      put_at = subst (λ z. next.put_at ≡ line_behind (before_put z)) back put_at;
+      stored_at = subst (λ z. next.stored_at ≡ line_behind (before_stored z)) back stored_at_is;
+    }
+
+-- where the event is told otherwise
+pub told_so :
+    {S O T N B : Type 0} (offered : O → List Offered) (last : T → List Taken) (w : Witness S O T N B) (capacity : Capacity) (events : List Event) (event told : Event) → told ≡ event →
+    Remembers offered last w capacity (events ++ event ∷ []) → Remembers offered last w capacity (events ++ told ∷ [])
+told_so offered last w capacity events event told e r = subst (λ z. Remembers offered last w capacity (events ++ z ∷ [])) (sym e) r
+
+-- an event whose line no cause tells, and that takes nothing
+abbrev pub IsQuiet : Event → Type 0
+IsQuiet (PutBegin items) = ⊥
+IsQuiet (PutStored count) = ⊥
+IsQuiet CloseEnd = ⊥
+IsQuiet (TakeItems items) = ⊥
+IsQuiet TakeClosed = ⊥
+IsQuiet _ = Unit {0}
+
+pub quiet_remembers :
+    {S O T N B : Type 0} (offered : O → List Offered) (last : T → List Taken) (w next : Witness S O T N B) (capacity : Capacity) (events : List Event) (event : Event) → IsQuiet event →
+    Remembers offered last w capacity events → next.auditor.capacity ≡ w.auditor.capacity → Counts capacity (kept_of offered w) event (kept_of offered next) →
+    offered next.auditor.inside.list ≡ coming (event ∷ reverse events) → next.taken ≡ w.taken → next.ended_at ≡ w.ended_at → next.told_at ≡ w.told_at → next.put_at ≡ w.put_at →
+    next.stored_at ≡ w.stored_at → Remembers offered last next capacity (events ++ event ∷ [])
+quiet_remembers offered last w next capacity events (PutBegin items) q r same c inside t e d p s = absurd q
+quiet_remembers offered last w next capacity events (PutStored count) q r same c inside t e d p s = absurd q
+quiet_remembers offered last w next capacity events CloseEnd q r same c inside t e d p s = absurd q
+quiet_remembers offered last w next capacity events (TakeItems items) q r same c inside t e d p s = absurd q
+quiet_remembers offered last w next capacity events TakeClosed q r same c inside t e d p s = absurd q
+quiet_remembers offered last w next capacity events PutFull q r same c inside t e d p s =
+    next_remembers offered last w next capacity events PutFull r same c inside (ap last t ∙ r.taken) (e ∙ r.ended) (d ∙ r.told) (p ∙ r.put_at) (s ∙ r.stored_at)
+quiet_remembers offered last w next capacity events PutShort q r same c inside t e d p s =
+    next_remembers offered last w next capacity events PutShort r same c inside (ap last t ∙ r.taken) (e ∙ r.ended) (d ∙ r.told) (p ∙ r.put_at) (s ∙ r.stored_at)
+quiet_remembers offered last w next capacity events PutNothing q r same c inside t e d p s =
+    next_remembers offered last w next capacity events PutNothing r same c inside (ap last t ∙ r.taken) (e ∙ r.ended) (d ∙ r.told) (p ∙ r.put_at) (s ∙ r.stored_at)
+quiet_remembers offered last w next capacity events PutClosed q r same c inside t e d p s =
+    next_remembers offered last w next capacity events PutClosed r same c inside (ap last t ∙ r.taken) (e ∙ r.ended) (d ∙ r.told) (p ∙ r.put_at) (s ∙ r.stored_at)
+quiet_remembers offered last w next capacity events CloseBegin q r same c inside t e d p s =
+    next_remembers offered last w next capacity events CloseBegin r same c inside (ap last t ∙ r.taken) (e ∙ r.ended) (d ∙ r.told) (p ∙ r.put_at) (s ∙ r.stored_at)
+quiet_remembers offered last w next capacity events (TakeBegin wanted) q r same c inside t e d p s =
+    next_remembers offered last w next capacity events (TakeBegin wanted) r same c inside (ap last t ∙ r.taken) (e ∙ r.ended) (d ∙ r.told) (p ∙ r.put_at) (s ∙ r.stored_at)
+quiet_remembers offered last w next capacity events TakeEmpty q r same c inside t e d p s =
+    next_remembers offered last w next capacity events TakeEmpty r same c inside (ap last t ∙ r.taken) (e ∙ r.ended) (d ∙ r.told) (p ∙ r.put_at) (s ∙ r.stored_at)
+quiet_remembers offered last w next capacity events TakeShort q r same c inside t e d p s =
+    next_remembers offered last w next capacity events TakeShort r same c inside (ap last t ∙ r.taken) (e ∙ r.ended) (d ∙ r.told) (p ∙ r.put_at) (s ∙ r.stored_at)
+quiet_remembers offered last w next capacity events TakeNothing q r same c inside t e d p s =
+    next_remembers offered last w next capacity events TakeNothing r same c inside (ap last t ∙ r.taken) (e ∙ r.ended) (d ∙ r.told) (p ∙ r.put_at) (s ∙ r.stored_at)
+
+-- the line of the first of such events
+pub first_line : (b : Bool) (line this : ℕ) (old : Option ℕ) → old ≡ (if b then Some line else None) → option_or old (Some this) ≡ Some (if b then line else this)
+first_line true line this old e = ap (λ z. option_or z (Some this)) e
+first_line false line this old e = ap (λ z. option_or z (Some this)) e
+
+pub kept_same :
+    (inside inside' : List ℕ) (put put' : PutTurn) (take take' : TakeTurn) (shut shut' : Bool) → inside' ≡ inside → put' ≡ put → take' ≡ take → shut' ≡ shut →
+    kept inside put take shut ≡ kept inside' put' take' shut'
+kept_same inside inside' put put' take take' shut shut' i p t s =
+    ap (λ z. kept z put take shut) (sym i) ∙ ap (λ z. kept inside' z take shut) (sym p) ∙ ap (λ z. kept inside' put' z shut) (sym t) ∙ ap (λ z. kept inside' put' take' z) (sym s)
+
+-- ---- how many items are taken
+
+taken_more : (event : Event) (past : List Event) → k_of (event ∷ past) ≡ length (items_got event) + k_of past
+taken_more (TakeItems items) past = omega (arith, length-append (taken past) (map (taken_at (line_behind past)) items), length-map items (taken_at (line_behind past)))
+taken_more (PutBegin items) past = omega arith
+taken_more (PutStored count) past = omega arith
+taken_more PutFull past = omega arith
+taken_more PutShort past = omega arith
+taken_more PutNothing past = omega arith
+taken_more PutClosed past = omega arith
+taken_more CloseBegin past = omega arith
+taken_more CloseEnd past = omega arith
+taken_more (TakeBegin wanted) past = omega arith
+taken_more TakeEmpty past = omega arith
+taken_more TakeShort past = omega arith
+taken_more TakeNothing past = omega arith
+taken_more TakeClosed past = omega arith
+
+taken_behind : (events past : List Event) → k_of (reverse events ++ past) ≡ length (all_got events) + k_of past
+taken_behind [] past = omega arith
+taken_behind (event ∷ events) past =
+    ap k_of (turned_behind event events past) ∙
+    omega (arith, taken_behind events (event ∷ past), taken_more event past, length-append (items_got event) (all_got events))
+
+pub taken_all : (events : List Event) (event : Event) → length (all_got (events ++ event ∷ [])) ≡ k_of (reverse events) + length (items_got event)
+taken_all events event =
+    let F : List Event → Type 0 = λ z. k_of z ≡ length (items_got event) + k_of (reverse events) in
+    let last : k_of (reverse (events ++ event ∷ [])) ≡ length (items_got event) + k_of (reverse events) = subst F (sym (turned events event)) (taken_more event (reverse events)) in
+    let all : k_of (reverse (events ++ event ∷ []) ++ []) ≡ length (all_got (events ++ event ∷ [])) + 0 = taken_behind (events ++ event ∷ []) [] in
+    omega (arith, last, all, ap k_of (append-nil (reverse (events ++ event ∷ []))))
+
+module _ {S O T N B : Type 0} (offered : O → List Offered) (last : T → List Taken) (w : Witness S O T N B) (capacity : Capacity) (events : List Event) (r : Remembers offered last w capacity events) where
+  pub line_is : (line : ℕ) → length events + 2 ≡ line → line ≡ line_behind (reverse events)
+  line_is line number = sym number ∙ sym (ap (λ n. n + 2) (length-reverse events))
+
+  pub counted_so : (event : Event) (after : Kept) → Counts (meant w.auditor.capacity) (kept_of offered w) event after → Counts capacity (kept_of offered w) event after
+  counted_so event after c = subst (λ z. Counts z (kept_of offered w) event after) r.capacity_is c
+
+  -- the entries behind an event of this line
+  pub inside_after :
+      (event : Event) (line : ℕ) (after : Kept) (left : List Offered) → length events + 2 ≡ line → items_of left ≡ after.inside → Counts (meant w.auditor.capacity) (kept_of offered w) event after →
+      Moves (offered_at line) w.auditor.shut event (offered w.auditor.inside.list) left → ((count : ℕ) → event ≡ PutStored count → ⊥) → left ≡ coming (event ∷ reverse events)
+  inside_after event line after left number are c moves other =
+      moved (reverse events) (kept_of offered w) (agrees_of offered last w capacity events r) capacity event after (offered w.auditor.inside.list) left r.inside are (counted_so event after c)
+      (subst (λ z. Moves (offered_at z) w.auditor.shut event (offered w.auditor.inside.list) left) (line_is line number) moves) other
+
+  pub stored_after :
+      (count line : ℕ) (after : Kept) (left : List Offered) → length events + 2 ≡ line → items_of left ≡ after.inside →
+      Counts (meant w.auditor.capacity) (kept_of offered w) (PutStored count) after → Moves (offered_at line) w.auditor.shut (PutStored count) (offered w.auditor.inside.list) left →
+      mark_last line count left ≡ coming (PutStored count ∷ reverse events)
+  stored_after count line after left number are c moves =
+      ap (λ z. mark_last z count left) (line_is line number) ∙
+      moved_stored (reverse events) (kept_of offered w) (agrees_of offered last w capacity events r) capacity count after (offered w.auditor.inside.list) left r.inside are
+      (counted_so (PutStored count) after c) moves
+
+  -- what is remembered where nothing is kept of an event
+  pub still_remembers :
+      (next : Witness S O T N B) → next.auditor.capacity ≡ w.auditor.capacity → kept_of offered next ≡ kept_of offered w → offered next.auditor.inside.list ≡ offered w.auditor.inside.list →
+      next.taken ≡ w.taken → next.ended_at ≡ w.ended_at → next.told_at ≡ w.told_at → next.put_at ≡ w.put_at → next.stored_at ≡ w.stored_at → Remembers offered last next capacity events
+  still_remembers next same keeps inside t e d p s = record {
+    proper = r.proper;
+    capacity_is = ap meant same ∙ r.capacity_is;
+    counted = subst (λ z. CountTo capacity (kept [] Free Rests false) events z) (sym keeps) r.counted;
+    inside = inside ∙ r.inside;
+    taken = ap last t ∙ r.taken;
+    ended = e ∙ r.ended;
+    told = d ∙ r.told;
+    put_at = p ∙ r.put_at;
+    stored_at = s ∙ r.stored_at;
+  }
+
+  -- what is kept, as an auditor keeps it
+  pub audits : Keeps (meant w.auditor.capacity) events (items_of (offered w.auditor.inside.list)) w.auditor.put w.auditor.take w.auditor.shut
+  audits = subst (λ z. Keeps z events (items_of (offered w.auditor.inside.list)) w.auditor.put w.auditor.take w.auditor.shut) (sym r.capacity_is) (stands capacity events (kept_of offered w) r.proper r.counted)
+
+  pub refuses :
+      (next : Witness S O T N B) (o t : ℕ) (event : Event) (fault : Fault) → Remembers offered last next capacity events → RefusesEvent o fault (meant w.auditor.capacity) events event →
+      RefusesNext offered last o t next capacity events event fault
+  refuses next o t event OutOfTurn still f = (f.0, subst (λ z. ¬ IsLinearizable z (events ++ event ∷ [])) r.capacity_is f.1)
+  refuses next o t event NotLinearizable still f = (still, f.0, subst (λ z. ¬ IsLinearizable z (events ++ event ∷ [])) r.capacity_is f.1)
+  refuses next o t event OutOfMemory still f = inl (subst (λ z. HasMoreItems o z (events ++ event ∷ [])) r.capacity_is f.1)

@@ -1,0 +1,302 @@
+-- How many items a queue has, of the points that are described by what an auditor keeps; and what is told of them at each moment.
+use Rattle.std.proofs.Common.{◌≡◌, ◌⊎◌, inl, inr, ℕ, ◌+◌, ◌-◌, ◌≤◌, Bool, true, false, List, [], ◌∷◌, ◌++◌, length, take, drop, refl, sym, ap, subst, ◌∙◌, arith, length-append, length-drop, append_assoc}
+use Rattle.std.specs.Prelude.{max}
+use Rattle.std.proofs.lemmas.List.{append-nil, take-append-drop, length-take, length-take-le}
+use Rattle.queue_calls.specs.Queue.{Capacity, Unbounded, Between, Queue, queue}
+use Rattle.queue_calls.specs.Calls.{Event, PutBegin, PutStored, PutFull, PutShort, PutNothing, PutClosed, CloseBegin, CloseEnd, TakeBegin, TakeItems, TakeEmpty, TakeShort, TakeNothing, TakeClosed, Producer, Idle, Putting, FoundShut, Closing, Consumer, Resting, Taking, FoundClosed, Point, point}
+use Rattle.queue_calls.specs.Counting.{Kept, kept, without, Counts}
+use Rattle.queue_calls.specs.Reporting.{AtSome, AtEach, Surely, Perhaps, IsSurelyInside, IsPerhapsInside}
+use Rattle.queue_calls.specs.State.{IsProper, MayHold, taken_by, left_by, FitsPut, FitsTake, Describes, offered_by, asked_by, TellsPoint}
+use Rattle.queue_calls.specs.Tallying.{least_kept, most_kept, most_behind}
+use Rattle.queue_calls.specs.declared.turns.PutTurn.{PutTurn}
+use Rattle.queue_calls.specs.declared.turns.PutTurn.TheVariants.{Free, Offers, Late, Closes}
+use Rattle.queue_calls.specs.declared.turns.TakeTurn.{TakeTurn}
+use Rattle.queue_calls.specs.declared.turns.TakeTurn.TheVariants.{Rests, Waits}
+use Rattle.queue_calls.proofs.CountedHistories.{Stands}
+use Rattle.queue_calls.proofs.TakeBegins.{keeps_nothing}
+
+-- ---- the points that are described
+
+-- the take under way took no more than it may, and the put has no more left than it offered
+took_few : (turn : TakeTurn) (c : Consumer) (q : Queue) → FitsTake turn c q → length (taken_by c) ≤ asked_by turn
+took_few Rests Resting q f = omega arith
+took_few Rests (Taking lacked took left) q f = absurd f
+took_few Rests FoundClosed q f = absurd f
+took_few (Waits wanted before ended) Resting q f = absurd f
+took_few (Waits wanted before ended) (Taking lacked took left) q f = omega (arith, f.0)
+took_few (Waits wanted before ended) FoundClosed q f = omega arith
+
+left_few : (capacity : Capacity) (put : PutTurn) (shut : Bool) (p : Producer) (closed : Bool) → FitsPut capacity put shut p closed → length (left_by put p) ≤ offered_by put
+left_few capacity Free shut p closed f = omega arith
+left_few capacity (Offers offered before) shut Idle closed f = absurd f
+left_few capacity (Offers offered before) shut (Putting lacked done left) closed f = omega (arith, f.0)
+left_few capacity (Offers offered before) shut FoundShut closed f = absurd f
+left_few capacity (Offers offered before) shut (Closing done) closed f = absurd f
+left_few capacity (Late offered) shut p closed f = omega arith
+left_few capacity (Closes again) shut p closed f = omega arith
+
+-- a take under way that took these, and a put under way that has these left
+consumer_at : (turn : TakeTurn) (front : List ℕ) → length front ≤ asked_by turn → (c : Consumer) × (taken_by c ≡ front) × ((q : Queue) → FitsTake turn c q)
+consumer_at Rests [] few = (Resting, refl, (λ q. tt))
+consumer_at Rests (x ∷ front) few = absurd (omega (arith, few))
+consumer_at (Waits wanted before ended) front few = (Taking 0 front (wanted - length front), refl, (λ q. (omega (arith, few), inl refl)))
+
+abbrev HasLeft : Capacity → PutTurn → Bool → List ℕ → Type 0
+HasLeft capacity put shut back = (p : Producer) × (closed : Bool) × (left_by put p ≡ back) × FitsPut capacity put shut p closed × ((late : List ℕ) → TellsPoint late put p)
+
+producer_at : (capacity : Capacity) (put : PutTurn) (shut : Bool) (back : List ℕ) → length back ≤ offered_by put → HasLeft capacity put shut back
+producer_at capacity Free shut [] few = (Idle, shut, refl, refl, (λ late. tt))
+producer_at capacity Free shut (x ∷ back) few = absurd (omega (arith, few))
+producer_at capacity (Offers offered before) shut back few = (Putting 0 (offered - length back) back, false, refl, (omega (arith, few), refl, inl refl), (λ late. tt))
+producer_at capacity (Late offered) shut [] few = (FoundShut, true, refl, refl, (λ late. tt))
+producer_at capacity (Late offered) shut (x ∷ back) few = absurd (omega (arith, few))
+producer_at capacity (Closes again) shut [] few = (Closing true, true, refl, ((λ _. refl), (λ _. refl)), (λ late. tt))
+producer_at capacity (Closes again) shut (x ∷ back) few = absurd (omega (arith, few))
+
+-- a list in three parts
+three :
+    (xs : List ℕ) (t q : ℕ) → t + q ≤ length xs →
+    (front mid back : List ℕ) × (xs ≡ front ++ (mid ++ back)) × (length front ≡ t) × (length mid ≡ q) × (length back ≡ (length xs - t) - q)
+three xs t q few =
+    let rest : List ℕ = drop t xs in
+    let long : length rest ≡ length xs - t = length-drop t xs in (
+      take t xs,
+      take q rest,
+      drop q rest,
+      sym (take-append-drop t xs) ∙ ap (λ z. take t xs ++ z) (sym (take-append-drop q rest)),
+      length-take-le t xs (omega (arith, few)),
+      length-take-le q rest (omega (arith, few, long)),
+      length-drop q rest ∙ ap (λ z. z - q) long,
+    )
+
+module _ (capacity : Capacity) (h : List Event) (k : Kept) (j : Stands capacity h k) where
+  -- each number of items that leaves no more than the calls under way may have taken, and not have stored
+  reach : (q : ℕ) → q ≤ length k.inside → length k.inside ≤ q + (offered_by k.put + asked_by k.take) → MayHold capacity q → Perhaps capacity (λ inside. inside ≡ q) h
+  reach q less few holds =
+      let t : ℕ = (length k.inside - q) - offered_by k.put in
+      let (front, mid, back, parts, is_front, is_mid, is_back) = three k.inside t q (omega (arith, less)) in
+      let (c, took, takes) = consumer_at k.take front (omega (arith, is_front, few)) in
+      let (p, closed, left, puts, told) = producer_at capacity k.put k.shut back (omega (arith, is_back, few)) in
+      let s : Point = point (queue mid closed) p c in
+      let d : Describes capacity k.inside k.put k.take k.shut s = record {
+        items = parts ∙ (ap (λ z. front ++ (mid ++ z)) (sym left) ∙ ap (λ z. z ++ (mid ++ left_by k.put p)) (sym took));
+        room = subst (λ z. MayHold capacity z) (sym is_mid) holds;
+        producer = puts;
+        consumer = takes (queue mid closed);
+      } in
+      (s, j.sound s d (told j.late), is_mid)
+
+  long_is : (s : Point) → Describes capacity k.inside k.put k.take k.shut s → length k.inside ≡ length (taken_by s.consumer) + (length s.queue.items + length (left_by k.put s.producer))
+  long_is s d =
+      ap length d.items ∙ (length-append (taken_by s.consumer) (s.queue.items ++ left_by k.put s.producer) ∙
+      ap (λ z. length (taken_by s.consumer) + z) (length-append s.queue.items (left_by k.put s.producer)))
+
+  -- no fewer than the least, which may be
+  pub least_surely : Surely capacity (λ inside. least_kept k ≤ inside) h
+  least_surely s r =
+      let d = j.complete s r in
+      omega (arith, long_is s d, took_few k.take s.consumer s.queue d.consumer, left_few capacity k.put k.shut s.producer s.queue.closed d.producer)
+
+  few_holds : MayHold capacity (least_kept k)
+  few_holds = subst (λ z. MayHold capacity z) (omega arith) j.few
+
+  pub least_perhaps : Perhaps capacity (λ inside. inside ≡ least_kept k) h
+  least_perhaps = reach (least_kept k) (omega arith) (omega arith) few_holds
+
+  most_few : (c : Capacity) (s : Point) → length s.queue.items ≤ length k.inside → MayHold c (length s.queue.items) → length s.queue.items ≤ most_kept c k
+  most_few Unbounded s less holds = less
+  most_few (Between full most) s less holds = omega (arith, less, holds)
+
+  -- no more than the most, which may be
+  pub most_surely : Surely capacity (λ inside. inside ≤ most_kept capacity k) h
+  most_surely s r =
+      let d = j.complete s r in
+      most_few capacity s (omega (arith, long_is s d)) d.room
+
+  most_less : (c : Capacity) → most_kept c k ≤ length k.inside
+  most_less Unbounded = omega arith
+  most_less (Between full most) = omega arith
+
+  most_holds : (c : Capacity) → MayHold c (most_kept c k)
+  most_holds Unbounded = tt
+  most_holds (Between full most) = omega arith
+
+  most_far : (c : Capacity) → MayHold c (length k.inside - (offered_by k.put + asked_by k.take)) → length k.inside ≤ most_kept c k + (offered_by k.put + asked_by k.take)
+  most_far Unbounded few = omega arith
+  most_far (Between full most) few = omega (arith, few)
+
+  pub most_perhaps : Perhaps capacity (λ inside. inside ≡ most_kept capacity k) h
+  most_perhaps = reach (most_kept capacity k) (most_less capacity) (most_far capacity j.few) (most_holds capacity)
+
+-- ---- the beginnings of a history
+
+-- a beginning of a history with one event more is the whole or one of the history
+one_or_before :
+    (events before rest : List Event) (event : Event) → events ++ event ∷ [] ≡ before ++ rest → (before ≡ events ++ event ∷ []) ⊎ ((more : List Event) × (events ≡ before ++ more))
+one_or_before events [] rest event e = inr (events, refl)
+one_or_before [] (b ∷ []) rest event e = inl cc
+one_or_before [] (b ∷ c ∷ before) rest event e = absurd (omega (arith, ap length e))
+one_or_before (x ∷ events) (b ∷ before) rest event e =
+    let tails : events ++ event ∷ [] ≡ before ++ rest = cc in
+    let heads : x ≡ b = cc in
+    elim (one_or_before events before rest event tails) [
+      | inl same ↦ inl cc
+      | inr m ↦ (let (more, parts) = m in inr (more, cc))
+    ]
+
+each_more : (Holds : List Event → Type 0) (events : List Event) (event : Event) → AtEach Holds events → Holds (events ++ event ∷ []) → AtEach Holds (events ++ event ∷ [])
+each_more Holds events event each here before rest e = elim (one_or_before events before rest event e) [
+  | inl same ↦ subst Holds (sym same) here
+  | inr m ↦ each before m.0 m.1
+]
+
+some_more : (Holds : List Event → Type 0) (events : List Event) (event : Event) → AtSome Holds events → AtSome Holds (events ++ event ∷ [])
+some_more Holds events event (before, rest, parts, holds) = (before, rest ++ event ∷ [], ap (λ z. z ++ event ∷ []) parts ∙ append_assoc before rest (event ∷ []), holds)
+
+some_here : (Holds : List Event → Type 0) (events : List Event) → Holds events → AtSome Holds events
+some_here Holds events holds = (events, [], sym (append-nil events), holds)
+
+-- of a number that is no less
+perhaps_more : (capacity : Capacity) (h : List Event) (n m : ℕ) → n ≤ m → Perhaps capacity (λ inside. inside ≤ n) h → Perhaps capacity (λ inside. inside ≤ m) h
+perhaps_more capacity h n m less (s, r, few) = (s, r, omega (arith, less, few))
+
+surely_more : (capacity : Capacity) (h : List Event) (n m : ℕ) → n ≤ m → Surely capacity (λ inside. inside ≤ n) h → Surely capacity (λ inside. inside ≤ m) h
+surely_more capacity h n m less few s r = omega (arith, less, few s r)
+
+at_most_or_more : (a b : ℕ) → (a ≤ b) ⊎ (b ≤ a)
+at_most_or_more a b = grind arith
+
+-- ---- with one event more
+
+module _ (capacity : Capacity) (events : List Event) (event : Event) (before after : Kept) (j : Stands capacity events before) (j' : Stands capacity (events ++ event ∷ []) after) where
+  pub surely_follows : (n : ℕ) → IsSurelyInside capacity events n → IsSurelyInside capacity (events ++ event ∷ []) (max n (least_kept after))
+  surely_follows n (some, each) =
+      let l : ℕ = least_kept after in
+      let h : List Event = events ++ event ∷ [] in
+      let S : ℕ → Type 0 = λ z. AtSome (Surely capacity (λ inside. z ≤ inside)) h in
+      let is_some : S (max n l) = elim (at_most_or_more l n) [
+        | inl less ↦ subst S (omega (arith, less)) (some_more (Surely capacity (λ inside. n ≤ inside)) events event some)
+        | inr less ↦ subst S (omega (arith, less)) (some_here (Surely capacity (λ inside. l ≤ inside)) h (least_surely capacity h after j'))
+      ] in
+      let (s, r, is) = least_perhaps capacity h after j' in (
+        is_some,
+        each_more (Perhaps capacity (λ inside. inside ≤ max n l)) events event
+            (λ b rest e. perhaps_more capacity b n (max n l) (omega arith) (each b rest e)) (s, r, omega (arith, is)),
+      )
+
+  -- where no more came in
+  perhaps_stays : (n : ℕ) → length after.inside ≤ length before.inside → IsPerhapsInside capacity events n → IsPerhapsInside capacity (events ++ event ∷ []) n
+  perhaps_stays n less (each, some) =
+      let h : List Event = events ++ event ∷ [] in
+      let (s, r, is) = most_perhaps capacity events before j in
+      let few : most_kept capacity before ≤ n = subst (λ z. z ≤ n) is (each events [] (sym (append-nil events)) s r) in
+      let fewer : most_kept capacity after ≤ n = most_fewer capacity less few in (
+        each_more (Surely capacity (λ inside. inside ≤ n)) events event each (surely_more capacity h (most_kept capacity after) n fewer (most_surely capacity h after j')),
+        some_more (Perhaps capacity (λ inside. inside ≡ n)) events event some,
+      )
+    where
+      most_fewer : (c : Capacity) → length after.inside ≤ length before.inside → most_kept c before ≤ n → most_kept c after ≤ n
+      most_fewer Unbounded less few = omega (arith, less, few)
+      most_fewer (Between full most) less few = omega (arith, less, few)
+
+  perhaps_grows : (n : ℕ) → IsPerhapsInside capacity events n → IsPerhapsInside capacity (events ++ event ∷ []) (max n (most_kept capacity after))
+  perhaps_grows n (each, some) =
+      let m : ℕ = most_kept capacity after in
+      let h : List Event = events ++ event ∷ [] in
+      let S : ℕ → Type 0 = λ z. AtSome (Perhaps capacity (λ inside. inside ≡ z)) h in
+      let is_some : S (max n m) = elim (at_most_or_more m n) [
+        | inl less ↦ subst S (omega (arith, less)) (some_more (Perhaps capacity (λ inside. inside ≡ n)) events event some)
+        | inr less ↦ subst S (omega (arith, less)) (some_here (Perhaps capacity (λ inside. inside ≡ m)) h (most_perhaps capacity h after j'))
+      ] in (
+        each_more (Surely capacity (λ inside. inside ≤ max n m)) events event
+            (λ b rest e. surely_more capacity b n (max n m) (omega arith) (each b rest e))
+            (surely_more capacity h m (max n m) (omega arith) (most_surely capacity h after j')),
+        is_some,
+      )
+
+-- more come in where a put begins alone
+no_longer : (k after it : Kept) → after ≡ it → length it.inside ≤ length k.inside → length after.inside ≤ length k.inside
+no_longer k after it e less = omega (arith, ap (λ (z : Kept). length z.inside) e, less)
+
+without_less : (rest : ℕ) (xs : List ℕ) → length (without rest xs) ≤ length xs
+without_less rest xs = omega (arith, length-take (length xs - rest) xs)
+
+drop_less : (count : ℕ) (xs : List ℕ) → length (drop count xs) ≤ length xs
+drop_less count xs = omega (arith, length-drop count xs)
+
+abbrev IsNoLonger : Event → (after before : ℕ) → Type 0
+IsNoLonger (PutBegin items) after before = Unit {0}
+IsNoLonger _ after before = after ≤ before
+
+comes_in : (capacity : Capacity) (k : Kept) (event : Event) (after : Kept) → Counts capacity k event after → IsNoLonger event (length after.inside) (length k.inside)
+comes_in capacity k (PutBegin items) after c = tt
+comes_in capacity k (PutStored count) after (n, inside, is, some, few, lacks, fits) = no_longer k after _ fits.1 (without_less (n - count) k.inside)
+comes_in capacity k PutFull after (n, inside, is, lacks, fits) = no_longer k after _ fits.1 (without_less n k.inside)
+comes_in capacity k PutShort after (n, inside, is, several, lacks, fits) = no_longer k after _ fits.1 (without_less n k.inside)
+comes_in capacity k PutNothing after ends = elim ends [
+  | inl b ↦ (let (n, inside, is, fits) = b in no_longer k after _ fits.1 (without_less n k.inside))
+  | inr b ↦ (let (n, is, e) = b in no_longer k after _ e (omega arith))
+]
+comes_in capacity k PutClosed after (n, is, e) = no_longer k after _ e (omega arith)
+comes_in capacity k CloseBegin after (free, e) = no_longer k after _ e (omega arith)
+comes_in capacity k CloseEnd after (again, is, e) = no_longer k after _ e (omega arith)
+comes_in capacity k (TakeBegin wanted) after (rests, some, e) = no_longer k after _ e (omega arith)
+comes_in capacity k (TakeItems items) after (wanted, before, closed, is, some, few, lacks, next, fits) = no_longer k after _ fits.1 (drop_less (length items) k.inside)
+comes_in capacity k TakeEmpty after (wanted, before, is, none, fits) = no_longer k after _ fits.1 (drop_less 0 k.inside)
+comes_in capacity k TakeShort after (wanted, before, closed, is, several, less, found, fits) = no_longer k after _ fits.1 (drop_less 0 k.inside)
+comes_in capacity k TakeNothing after (wanted, before, closed, is, fits) = no_longer k after _ fits.1 (drop_less 0 k.inside)
+comes_in capacity k TakeClosed after (wanted, before, closed, is, none, begun, e) = no_longer k after _ e (omega arith)
+
+abbrev Follows : Capacity → List Event → Event → Kept → Kept → Type 0
+Follows capacity events event before after =
+    Stands capacity events before → Stands capacity (events ++ event ∷ []) after → Counts capacity before event after → (n : ℕ) → IsPerhapsInside capacity events n →
+    IsPerhapsInside capacity (events ++ event ∷ []) (most_behind event n (most_kept capacity after))
+
+pub perhaps_follows : (capacity : Capacity) (events : List Event) (event : Event) (before after : Kept) → Follows capacity events event before after
+perhaps_follows capacity events (PutBegin items) before after j j' c n is = perhaps_grows capacity events (PutBegin items) before after j j' n is
+perhaps_follows capacity events (PutStored count) before after j j' c n is = perhaps_stays capacity events (PutStored count) before after j j' n (comes_in capacity before (PutStored count) after c) is
+perhaps_follows capacity events PutFull before after j j' c n is = perhaps_stays capacity events PutFull before after j j' n (comes_in capacity before PutFull after c) is
+perhaps_follows capacity events PutShort before after j j' c n is = perhaps_stays capacity events PutShort before after j j' n (comes_in capacity before PutShort after c) is
+perhaps_follows capacity events PutNothing before after j j' c n is = perhaps_stays capacity events PutNothing before after j j' n (comes_in capacity before PutNothing after c) is
+perhaps_follows capacity events PutClosed before after j j' c n is = perhaps_stays capacity events PutClosed before after j j' n (comes_in capacity before PutClosed after c) is
+perhaps_follows capacity events CloseBegin before after j j' c n is = perhaps_stays capacity events CloseBegin before after j j' n (comes_in capacity before CloseBegin after c) is
+perhaps_follows capacity events CloseEnd before after j j' c n is = perhaps_stays capacity events CloseEnd before after j j' n (comes_in capacity before CloseEnd after c) is
+perhaps_follows capacity events (TakeBegin wanted) before after j j' c n is = perhaps_stays capacity events (TakeBegin wanted) before after j j' n (comes_in capacity before (TakeBegin wanted) after c) is
+perhaps_follows capacity events (TakeItems items) before after j j' c n is = perhaps_stays capacity events (TakeItems items) before after j j' n (comes_in capacity before (TakeItems items) after c) is
+perhaps_follows capacity events TakeEmpty before after j j' c n is = perhaps_stays capacity events TakeEmpty before after j j' n (comes_in capacity before TakeEmpty after c) is
+perhaps_follows capacity events TakeShort before after j j' c n is = perhaps_stays capacity events TakeShort before after j j' n (comes_in capacity before TakeShort after c) is
+perhaps_follows capacity events TakeNothing before after j j' c n is = perhaps_stays capacity events TakeNothing before after j j' n (comes_in capacity before TakeNothing after c) is
+perhaps_follows capacity events TakeClosed before after j j' c n is = perhaps_stays capacity events TakeClosed before after j j' n (comes_in capacity before TakeClosed after c) is
+
+-- ---- before the first event
+
+no_beginning : (before rest : List Event) → [] ≡ before ++ rest → [] ≡ before
+no_beginning [] rest e = refl
+no_beginning (b ∷ before) rest e = absurd (omega (arith, ap length e))
+
+module _ (capacity : Capacity) (proper : IsProper capacity) where
+  nothing : Stands capacity [] (kept [] Free Rests false)
+  nothing = keeps_nothing capacity proper
+
+  none_most : (c : Capacity) → most_kept c (kept [] Free Rests false) ≤ 0
+  none_most Unbounded = omega arith
+  none_most (Between full most) = omega arith
+
+  none_surely : Surely capacity (λ inside. inside ≤ 0) []
+  none_surely = surely_more capacity [] (most_kept capacity (kept [] Free Rests false)) 0 (none_most capacity) (most_surely capacity [] (kept [] Free Rests false) nothing)
+
+  none_perhaps : Perhaps capacity (λ inside. inside ≡ 0) []
+  none_perhaps = least_perhaps capacity [] (kept [] Free Rests false) nothing
+
+  pub surely_none : IsSurelyInside capacity [] 0
+  surely_none =
+      let (s, r, is) = none_perhaps in (
+        ([], [], refl, (λ s r. omega arith)),
+        (λ before rest e. subst (Perhaps capacity (λ inside. inside ≤ 0)) (no_beginning before rest e) (s, r, omega (arith, is))),
+      )
+
+  pub perhaps_none : IsPerhapsInside capacity [] 0
+  perhaps_none = (
+    (λ before rest e. subst (Surely capacity (λ inside. inside ≤ 0)) (no_beginning before rest e) none_surely),
+    ([], [], refl, none_perhaps),
+  )

@@ -1,0 +1,208 @@
+-- The loops of a witness over the items inside and those taken last.
+use Rattle.std.proofs.Common.{◌≡◌, ◌⊎◌, inl, inr, ℕ, suc, ◌+◌, ◌-◌, ◌<◌, ◌≤◌, Bool, true, false, List, [], ◌∷◌, ◌++◌, Some, None, length, get_or, set, take, drop, map, reverse, refl, sym, ap, ap₂, subst, ◌∙◌, arith, eq-eqb, append_assoc, length-append, length-drop, length-take-le}
+use Rattle.std.specs.Prelude.{◌==◌, find}
+use Rattle.std.proofs.lemmas.Bool.Decides.{nat_tests}
+use Rattle.std.proofs.lemmas.List.{drop-append-le, drop-drop, drop_all, drop_more, get_or_at, length-map, map_more, map_push, reverse-append, set_at, take_more}
+use Rattle.queue_calls.specs.declared.entries.Offered.{Offered}
+use Rattle.queue_calls.specs.declared.entries.Taken.{Taken}
+use Rattle.queue_calls.specs.Reasons.{at, last_of, offered_at, stored_at, taken_at}
+use Rattle.queue_calls.specs.Witnesses.{agreed, comes, last_taken_of}
+
+-- numbers that differ are not equal by the test
+other : (a b : ℕ) → (a ≡ b → ⊥) → a == b ≡ false
+other a b f = grind (arith, nat_tests)
+
+-- ---- the first one that passes a test, from a place on
+
+module _ {X : Type 0} (p : X → Bool) (xs : List X) (i : ℕ) (d : X) (h : i < length xs) where
+  find_here : p (get_or xs i d) ≡ true → find p (drop i xs) ≡ Some (get_or xs i d)
+  find_here e = rw (drop_more xs i d h, e) refl
+
+  find_on : p (get_or xs i d) ≡ false → find p (drop i xs) ≡ find p (drop (i + 1) xs)
+  find_on e = rw (drop_more xs i d h, e) refl
+
+  -- the last one that does, before a place
+  last_here : p (get_or xs i d) ≡ true → find p (reverse (take (i + 1) xs)) ≡ Some (get_or xs i d)
+  last_here e = rw (take_more xs i d h, reverse-append (take i xs) (get_or xs i d ∷ []), e) refl
+
+  last_on : p (get_or xs i d) ≡ false → find p (reverse (take (i + 1) xs)) ≡ find p (reverse (take i xs))
+  last_on e = rw (take_more xs i d h, reverse-append (take i xs) (get_or xs i d ∷ []), e) refl
+
+-- ---- whether an item comes, from a place on
+
+module _ (item place i : ℕ) (entries : List Offered) (same : comes item (drop place entries) ≡ comes item (drop i entries)) where
+  module _ (e : Offered) (is : e ≡ at entries i) (h : i < length entries) where
+    pub comes_here : e.item ≡ item → true ≡ comes item (drop place entries)
+    comes_here equal =
+        let t : (at entries i).item == item ≡ true = eq-eqb (at entries i).item item (ap (λ z. z.item) (sym is) ∙ equal) in
+        rw (same, find_here (λ o. o.item == item) entries i (offered_at 0 0) h t) refl
+
+    pub comes_on : (e.item ≡ item → ⊥) → comes item (drop place entries) ≡ comes item (drop (i + 1) entries)
+    comes_on differs =
+        let t : (at entries i).item == item ≡ false = other (at entries i).item item (λ s. differs (ap (λ z. z.item) is ∙ s)) in
+        rw (same, find_on (λ o. o.item == item) entries i (offered_at 0 0) h t) refl
+
+  pub comes_not : length entries ≤ i → false ≡ comes item (drop place entries)
+  comes_not h = rw (same, drop_all i entries h) refl
+
+-- ---- how many of the first items are the next ones
+
+module _ (items : List ℕ) (entries : List Offered) (i : ℕ) (same : agreed items entries ≡ agreed (drop i items) (drop i entries) + i) where
+  module _ (h : i < length items) where
+    module _ (next : Offered) (within : i < length entries) (is : next ≡ at entries i) where
+      pub agreed_on : next.item ≡ get_or items i 0 → agreed items entries ≡ agreed (drop (i + 1) items) (drop (i + 1) entries) + (i + 1)
+      agreed_on equal =
+          let t : (at entries i).item == get_or items i 0 ≡ true = eq-eqb (at entries i).item (get_or items i 0) (ap (λ z. z.item) (sym is) ∙ equal) in
+          let all : agreed (drop i items) (drop i entries) ≡ suc (agreed (drop (i + 1) items) (drop (i + 1) entries)) =
+          rw (drop_more items i 0 h, drop_more entries i (offered_at 0 0) within, t) refl in
+          omega (arith, same, all)
+
+      pub agreed_here : (next.item ≡ get_or items i 0 → ⊥) → i ≡ agreed items entries
+      agreed_here differs =
+          let t : (at entries i).item == get_or items i 0 ≡ false = other (at entries i).item (get_or items i 0) (λ s. differs (ap (λ z. z.item) is ∙ s)) in
+          let none : agreed (drop i items) (drop i entries) ≡ 0 = rw (drop_more items i 0 h, drop_more entries i (offered_at 0 0) within, t) refl in
+          omega (arith, same, none)
+
+    pub agreed_past : length entries ≤ i → i ≡ agreed items entries
+    agreed_past past =
+        let none : agreed (drop i items) (drop i entries) ≡ 0 = rw (drop_more items i 0 h, drop_all i entries past) refl in
+        omega (arith, same, none)
+
+  pub agreed_all : length items ≡ i → length items ≡ agreed items entries
+  agreed_all end =
+      let none : agreed (drop i items) (drop i entries) ≡ 0 = rw (drop_all i items (omega (arith, end))) refl in
+      omega (arith, same, none, end)
+
+-- ---- where an item is among those taken last
+
+module _ (item i : ℕ) (all : List Taken) (same : last_taken_of item all ≡ last_taken_of item (take i all)) where
+  module _ (t : Taken) (some : 0 < i) (h : i ≤ length all) (is : t ≡ get_or all (i - 1) t) where
+    from_here : last_taken_of item all ≡ last_taken_of item (take (i - 1 + 1) all)
+    from_here = let up : i ≡ i - 1 + 1 = omega arith in same ∙ ap (λ z. last_taken_of item (take z all)) up
+
+    pub last_is : t.item ≡ item → Some t ≡ last_taken_of item all
+    last_is equal =
+        let e : (get_or all (i - 1) t).item == item ≡ true = eq-eqb (get_or all (i - 1) t).item item (ap (λ z. z.item) (sym is) ∙ equal) in
+        ap Some is ∙ sym (from_here ∙ last_here (λ t. t.item == item) all (i - 1) t (omega arith) e)
+
+    pub last_before : (t.item ≡ item → ⊥) → last_taken_of item all ≡ last_taken_of item (take (i - 1) all)
+    last_before differs =
+        let e : (get_or all (i - 1) t).item == item ≡ false = other (get_or all (i - 1) t).item item (λ s. differs (ap (λ z. z.item) is ∙ s)) in
+        from_here ∙ last_on (λ t. t.item == item) all (i - 1) t (omega arith) e
+
+  pub last_none : i ≡ 0 → None ≡ last_taken_of item all
+  last_none none = sym (same ∙ ap (λ z. last_taken_of item (take z all)) none)
+
+-- ---- the last ones of a list, of which so many are kept
+
+module _ {A : Type 0} (limit : ℕ) (xs : List A) where
+  length_last : length (last_of limit xs) ≡ length xs - (length xs - limit)
+  length_last = length-drop (length xs - limit) xs
+
+  module _ (some : 0 < limit) (x : A) where
+    last_full : limit ≤ length (last_of limit xs) → last_of limit (xs ++ x ∷ []) ≡ drop 1 (last_of limit xs) ++ x ∷ []
+    last_full full =
+        let many : limit ≤ length xs = omega (arith, full, length_last) in
+        let cut : length (xs ++ x ∷ []) - limit ≡ length xs - limit + 1 = omega (arith, length-append xs (x ∷ []), many) in
+        ap (λ n. drop n (xs ++ x ∷ [])) cut
+        ∙ (drop-append-le (length xs - limit + 1) xs (x ∷ []) (omega (arith, some, many)) ∙ ap (λ l. l ++ x ∷ []) (sym (drop-drop 1 (length xs - limit) xs)))
+
+    last_room : length (last_of limit xs) < limit → last_of limit (xs ++ x ∷ []) ≡ last_of limit xs ++ x ∷ []
+    last_room room =
+        let few : length xs - limit ≡ 0 = omega (arith, room, length_last) in
+        let cut : length (xs ++ x ∷ []) - limit ≡ 0 = omega (arith, length-append xs (x ∷ []), room, length_last) in
+        ap (λ n. drop n (xs ++ x ∷ [])) cut ∙ ap (λ n. drop n xs ++ x ∷ []) (sym few)
+
+-- the first one goes where so many are kept
+abbrev pub MakesRoom : {A : Type 0} → ℕ → List A → List A → Type 0
+MakesRoom limit before kept = ((limit ≤ length before) × (kept ≡ drop 1 before)) ⊎ ((length before < limit) × (kept ≡ before))
+
+last_more :
+    {A : Type 0} (limit : ℕ) (some : 0 < limit) (xs : List A) (x : A) (kept : List A) → MakesRoom limit (last_of limit xs) kept → last_of limit (xs ++ x ∷ []) ≡ kept ++ x ∷ []
+last_more limit some xs x kept room = elim room [
+  | inl f ↦ last_full limit xs some x f.0 ∙ ap (λ l. l ++ x ∷ []) (sym f.1)
+  | inr f ↦ last_room limit xs some x f.0 ∙ ap (λ l. l ++ x ∷ []) (sym f.1)
+]
+
+-- what was taken last, behind earlier ones and these of the line
+abbrev pub taken_behind : (limit : ℕ) → (earlier : List Taken) → (line : ℕ) → List ℕ → List Taken
+taken_behind limit earlier line items = last_of limit (earlier ++ map (taken_at line) items)
+
+module _ (limit : ℕ) (some : 0 < limit) (earlier : List Taken) (line : ℕ) (items : List ℕ) (i : ℕ) (h : i < length items) (before kept : List Taken) where
+  module _ (is : before ≡ taken_behind limit earlier line (take i items)) (room : MakesRoom limit before kept) where
+    pub took_more : kept ++ taken_at line (get_or items i 0) ∷ [] ≡ taken_behind limit earlier line (take (i + 1) items)
+    took_more =
+        let F : List Taken → Type 0 = λ z. MakesRoom limit z kept in
+        let more : earlier ++ map (taken_at line) (take (i + 1) items) ≡ (earlier ++ map (taken_at line) (take i items)) ++ taken_at line (get_or items i 0) ∷ [] =
+        ap (λ l. earlier ++ l) (map_more (taken_at line) items i 0 h) ∙ sym (append_assoc earlier (map (taken_at line) (take i items)) (taken_at line (get_or items i 0) ∷ [])) in
+        sym (
+        ap (λ l. last_of limit l) more
+        ∙ last_more limit some (earlier ++ map (taken_at line) (take i items)) (taken_at line (get_or items i 0)) kept (subst F is room))
+
+    pub took_few : (length kept < limit) × (length kept < length earlier + length items)
+    took_few =
+        let long : length before ≡ length (earlier ++ map (taken_at line) (take i items)) - (length (earlier ++ map (taken_at line) (take i items)) - limit) =
+        ap length is ∙ length_last limit (earlier ++ map (taken_at line) (take i items)) in
+        let sum : length (earlier ++ map (taken_at line) (take i items)) ≡ length earlier + i =
+        length-append earlier (map (taken_at line) (take i items)) ∙ ap (λ n. length earlier + n) (length-map (take i items) (taken_at line) ∙ length-take-le i items (omega (arith, h))) in
+        elim room [
+          | inl f ↦ (
+              let less : length kept ≡ length before - 1 = ap length f.1 ∙ length-drop 1 before in
+              (omega (arith, less, long, f.0, some), omega (arith, less, long, sum, h)))
+          | inr f ↦ (
+              let same : length kept ≡ length before = ap length f.1 in
+              (omega (arith, same, f.0), omega (arith, same, long, sum, h)))
+        ]
+
+-- ---- entries changed in their places, from one on and before another
+
+abbrev pub changed : {A : Type 0} → (A → A) → (from index : ℕ) → List A → List A
+changed f from index xs = take from xs ++ (map f (drop from (take index xs)) ++ drop index xs)
+
+module _ {A : Type 0} (f : A → A) (from : ℕ) (xs : List A) (index : ℕ) (low : from ≤ index) (high : index < length xs) (d : A) where
+  before : List A
+  before = take from xs ++ map f (drop from (take index xs))
+
+  changed_parts : changed f from index xs ≡ before ++ get_or xs index d ∷ drop (index + 1) xs
+  unfolding before
+  changed_parts =
+      ap (λ l. take from xs ++ (map f (drop from (take index xs)) ++ l)) (drop_more xs index d high)
+      ∙ sym (append_assoc (take from xs) (map f (drop from (take index xs))) (get_or xs index d ∷ drop (index + 1) xs))
+
+  before_length : length before ≡ index
+  unfolding before
+  before_length =
+      omega (
+        arith,
+        length-append (take from xs) (map f (drop from (take index xs))),
+        length-map (drop from (take index xs)) f,
+        length-drop from (take index xs),
+        length-take-le index xs (omega (arith, high)),
+        length-take-le from xs (omega (arith, low, high)),
+      )
+
+  changed_at : get_or (changed f from index xs) index d ≡ get_or xs index d
+  changed_at = ap (λ l. get_or l index d) changed_parts ∙ get_or_at before (get_or xs index d) (drop (index + 1) xs) d index before_length
+
+  changed_more : set (changed f from index xs) index (f (get_or xs index d)) ≡ changed f from (index + 1) xs
+  unfolding before
+  changed_more =
+      let x = get_or xs index d in
+      let rest = drop (index + 1) xs in
+      let more : drop from (take (index + 1) xs) ≡ drop from (take index xs) ++ x ∷ [] =
+      ap (λ l. drop from l) (take_more xs index d high) ∙ drop-append-le from (take index xs) (x ∷ []) (omega (arith, length-take-le index xs (omega (arith, high)), low)) in
+      ap (λ l. set l index (f x)) changed_parts
+      ∙ (set_at before x rest (f x) index before_length
+      ∙ (append_assoc (take from xs) (map f (drop from (take index xs))) (f x ∷ rest)
+      ∙ ap (λ l. take from xs ++ l)
+      (sym (
+      ap (λ l. map f l ++ rest) more
+      ∙ (ap (λ l. l ++ rest) (map_push f (drop from (take index xs)) x) ∙ append_assoc (map f (drop from (take index xs))) (f x ∷ []) rest)))))
+
+-- one entry more, as the line stores it
+pub stores_more :
+    (line from i : ℕ) (old now after : List Offered) (entry : Offered) → from ≤ i → i < length old → now ≡ changed (stored_at line) from i old → entry ≡ at now i →
+    after ≡ set now i (stored_at line entry) → after ≡ changed (stored_at line) from (i + 1) old
+stores_more line from i old now after entry low high is e s =
+    let same : entry ≡ at old i = e ∙ (ap (λ l. at l i) is ∙ changed_at (stored_at line) from old i low high (offered_at 0 0)) in
+    s ∙ (ap₂ (λ l x. set l i (stored_at line x)) is same ∙ changed_more (stored_at line) from old i low high (offered_at 0 0))

@@ -1,0 +1,82 @@
+-- What is counted of a history agrees with its past, and stands for it.
+use Rattle.std.proofs.Common.{◌≡◌, false, List, [], ◌∷◌, ◌++◌, reverse, refl, sym, subst, append_assoc, append-nil}
+use Rattle.queue_calls.specs.Queue.{Capacity}
+use Rattle.queue_calls.specs.Calls.{Event, IsLinearizable}
+use Rattle.queue_calls.specs.Counting.{Kept, kept, Counts, CountTo}
+use Rattle.queue_calls.specs.InTurn.{CallsAreInTurn, MovesSides, NoCall, Sides, sides}
+use Rattle.queue_calls.specs.Reasons.{items_of}
+use Rattle.queue_calls.specs.State.{IsProper, sides_of}
+use Rattle.queue_calls.specs.Witnesses.{Remembers}
+use Rattle.queue_calls.specs.declared.entries.Offered.{Offered}
+use Rattle.queue_calls.specs.declared.entries.Taken.{Taken}
+use Rattle.queue_calls.specs.declared.turns.PutTurn.TheVariants.{Free}
+use Rattle.queue_calls.specs.declared.turns.TakeTurn.TheVariants.{Rests}
+use Rattle.queue_calls.specs.declared.witnesses.Witness.{Witness}
+use Rattle.queue_calls.proofs.Agrees.{Agrees}
+use Rattle.queue_calls.proofs.Agreeing.{at_first, step, turned_behind}
+use Rattle.queue_calls.proofs.CauseFound.{standing}
+use Rattle.queue_calls.proofs.CountedHistories.{Stands, counts_keeps}
+use Rattle.queue_calls.proofs.TakeBegins.{keeps_nothing}
+use Rattle.queue_calls.proofs.TurnLemmas.{last_turn, same_turns}
+
+-- one event more
+pub count_more :
+    (capacity : Capacity) (k : Kept) (events : List Event) (event : Event) (last after : Kept) → CountTo capacity k events last → Counts capacity last event after →
+    CountTo capacity k (events ++ event ∷ []) after
+count_more capacity k [] event last after e now = (after, (let F : Kept → Type 0 = λ z. Counts capacity z event after in subst F e now), refl)
+count_more capacity k (first ∷ events) event last after (next, c, more) now = (next, c, count_more capacity next events event last after more now)
+
+abbrev Both : Capacity → List Event → List Event → Kept → Type 0
+Both capacity h past k = Agrees past k × Stands capacity h k
+
+both_behind :
+    (capacity : Capacity) (h past events : List Event) (k last : Kept) → Both capacity h past k → CountTo capacity k events last →
+    Both capacity (h ++ events) (reverse events ++ past) last
+both_behind capacity h past [] k last b e =
+    let F : Kept → Type 0 = λ z. Both capacity (h ++ []) past z in
+    let G : List Event → Type 0 = λ z. Both capacity z past k in subst F (sym e) (subst G (sym (append-nil h)) b)
+both_behind capacity h past (first ∷ events) k last (a, j) (next, c, more) =
+    let F : List Event → Type 0 = λ z. Both capacity (h ++ first ∷ events) z last in
+    let G : List Event → Type 0 = λ z. Both capacity z (reverse events ++ (first ∷ past)) last in
+    subst F (sym (turned_behind first events past))
+    (subst G (append_assoc h (first ∷ []) events)
+    (both_behind capacity (h ++ first ∷ []) (first ∷ past) events next last (step past k a capacity first next c, counts_keeps capacity h k j first next c) more))
+
+module _ (capacity : Capacity) (events : List Event) (k : Kept) (proper : IsProper capacity) (counted : CountTo capacity (kept [] Free Rests false) events k) where
+  both_hold : Both capacity events (reverse events) k
+  both_hold =
+      let F : List Event → Type 0 = λ z. Both capacity events z k in
+      subst F (append-nil (reverse events)) (both_behind capacity [] [] events (kept [] Free Rests false) k (at_first, keeps_nothing capacity proper) counted)
+
+  pub agrees : Agrees (reverse events) k
+  agrees = both_hold.0
+
+  pub stands : Stands capacity events k
+  stands = both_hold.1
+
+  pub linear : IsLinearizable capacity events
+  linear = standing capacity events k stands
+
+-- what a witness keeps
+abbrev pub kept_of : {S O T N B : Type 0} → (offered : O → List Offered) → Witness S O T N B → Kept
+kept_of offered w = kept (items_of (offered w.auditor.inside.list)) w.auditor.put w.auditor.take w.auditor.shut
+
+pub agrees_of :
+    {S O T N B : Type 0} (offered : O → List Offered) (last : T → List Taken) (w : Witness S O T N B) (capacity : Capacity) (events : List Event) →
+    Remembers offered last w capacity events → Agrees (reverse events) (kept_of offered w)
+agrees_of offered last w capacity events r = agrees capacity events (kept_of offered w) r.proper r.counted
+
+pub linear_of :
+    {S O T N B : Type 0} (offered : O → List Offered) (last : T → List Taken) (w : Witness S O T N B) (capacity : Capacity) (events : List Event) →
+    Remembers offered last w capacity events → IsLinearizable capacity events
+linear_of offered last w capacity events r = linear capacity events (kept_of offered w) r.proper r.counted
+
+-- an event in its turn moves what is kept of the sides
+pub in_turn :
+    {S O T N B : Type 0} (offered : O → List Offered) (last : T → List Taken) (w : Witness S O T N B) (capacity : Capacity) (events : List Event) (event : Event) →
+    Remembers offered last w capacity events → CallsAreInTurn (events ++ event ∷ []) → (t : Sides) × MovesSides (sides_of w.auditor.put w.auditor.take) event t
+in_turn offered last w capacity events event r (t, turns) =
+    let (s, sooner, moves) = last_turn events event (sides NoCall NoCall) t turns in
+    let j = stands capacity events (kept_of offered w) r.proper r.counted in
+    let same : s ≡ sides_of w.auditor.put w.auditor.take = same_turns events (sides NoCall NoCall) s (sides_of w.auditor.put w.auditor.take) sooner j.turns in
+    (t, subst (λ z. MovesSides z event t) same moves)

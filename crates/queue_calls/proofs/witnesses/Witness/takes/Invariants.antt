@@ -1,0 +1,17 @@
+use Rattle.std.proofs.Common.{◌≡◌, List, take}
+use Rattle.queue_calls.specs.Reasons.{last_of}
+use Rattle.queue_calls.specs.declared.entries.TheConstants.{TAKEN_LIMIT}
+use Rattle.queue_calls.specs.declared.entries.Taken.{Taken}
+use Rattle.queue_calls.proofs.LastOnes.{taken_behind}
+use Rattle.queue_calls.proofs.witnesses.Witness.takes.Given as goal
+
+abbrev pub invariant-loop-item : goal.invariant-loop-item
+invariant-loop-item g l = record {
+  taken : (earlier : List Taken) → g.S.Taken.Fifo.items l.fn.self.taken ≡ last_of TAKEN_LIMIT earlier → g.S.Taken.Fifo.items l.self.taken ≡ taken_behind TAKEN_LIMIT earlier l.line (take l.item-index l.items);
+  room : g.S.Taken.Fifo.room l.self.taken ≡ g.S.Taken.Fifo.room l.fn.self.taken;
+  auditor : l.self.auditor ≡ l.fn.self.auditor;
+  ended_at : l.self.ended_at ≡ l.fn.self.ended_at;
+  told_at : l.self.told_at ≡ l.fn.self.told_at;
+  put_at : l.self.put_at ≡ l.fn.self.put_at;
+  stored_at : l.self.stored_at ≡ l.fn.self.stored_at;
+}

@@ -1,0 +1,139 @@
+-- What is told of a history that is linearizable. A past is the list of its events, the last one first.
+use Rattle.std.specs.Prelude.{◌≡◌, ℕ, suc, ◌+◌, ◌-◌, ◌^◌, ◌≤◌, Bool, true, false, ◌||◌, not, ◌&&◌, nat_lt, if◌then◌else◌, List, [], ◌∷◌, ◌++◌, length, reverse, min}
+use Rattle.queue_calls.specs.Queue.{Capacity}
+use Rattle.queue_calls.specs.Calls.{Event, PutBegin, PutStored, PutFull, PutShort, PutNothing, PutClosed, CloseBegin, CloseEnd, TakeBegin, TakeItems, TakeEmpty, TakeShort, TakeNothing, TakeClosed, Point, CanLeadTo}
+use Rattle.queue_calls.specs.Reasons.{has_told, offers, n_of, k_of}
+use Rattle.queue_calls.specs.declared.reports.Report.{Report}
+
+-- a number, or the largest that there is
+abbrev pub capped : ℕ → ℕ
+capped n = min n (2 ^ 64 - 1)
+
+abbrev pub as_number : Bool → ℕ
+as_number holds = if holds then 1 else 0
+
+-- how many calls have begun
+abbrev pub begun : List Event → ℕ
+begun [] = 0
+begun (PutBegin items ∷ past) = suc (begun past)
+begun (CloseBegin ∷ past) = suc (begun past)
+begun (TakeBegin wanted ∷ past) = suc (begun past)
+begun (_ ∷ past) = begun past
+
+-- how many puts have ended full, short, or with only some of their items stored
+abbrev pub full_ends : List Event → ℕ
+full_ends [] = 0
+full_ends (PutStored count ∷ past) = full_ends past + as_number (nat_lt count (length (offers past)))
+full_ends (PutFull ∷ past) = suc (full_ends past)
+full_ends (PutShort ∷ past) = suc (full_ends past)
+full_ends (_ ∷ past) = full_ends past
+
+-- how many takes have ended empty or short
+abbrev pub empty_ends : List Event → ℕ
+empty_ends [] = 0
+empty_ends (TakeEmpty ∷ past) = suc (empty_ends past)
+empty_ends (TakeShort ∷ past) = suc (empty_ends past)
+empty_ends (_ ∷ past) = empty_ends past
+
+-- how many calls have ended with nothing done and no reason told
+abbrev pub nothing_ends : List Event → ℕ
+nothing_ends [] = 0
+nothing_ends (PutNothing ∷ past) = suc (nothing_ends past)
+nothing_ends (TakeNothing ∷ past) = suc (nothing_ends past)
+nothing_ends (_ ∷ past) = nothing_ends past
+
+-- whether the producer has a call under way; the consumer
+abbrev pub put_is_open : List Event → Bool
+put_is_open [] = false
+put_is_open (PutBegin items ∷ past) = true
+put_is_open (CloseBegin ∷ past) = true
+put_is_open (PutStored count ∷ past) = false
+put_is_open (PutFull ∷ past) = false
+put_is_open (PutShort ∷ past) = false
+put_is_open (PutNothing ∷ past) = false
+put_is_open (PutClosed ∷ past) = false
+put_is_open (CloseEnd ∷ past) = false
+put_is_open (_ ∷ past) = put_is_open past
+
+abbrev pub take_is_open : List Event → Bool
+take_is_open [] = false
+take_is_open (TakeBegin wanted ∷ past) = true
+take_is_open (TakeItems items ∷ past) = false
+take_is_open (TakeEmpty ∷ past) = false
+take_is_open (TakeShort ∷ past) = false
+take_is_open (TakeNothing ∷ past) = false
+take_is_open (TakeClosed ∷ past) = false
+take_is_open (_ ∷ past) = take_is_open past
+
+-- whether the last call of the producer has overlapped one of the consumer: one was under way as it began, or began while it was
+abbrev pub put_overlaps : List Event → Bool
+put_overlaps [] = false
+put_overlaps (PutBegin items ∷ past) = take_is_open past
+put_overlaps (CloseBegin ∷ past) = take_is_open past
+put_overlaps (TakeBegin wanted ∷ past) = put_overlaps past || put_is_open past
+put_overlaps (_ ∷ past) = put_overlaps past
+
+-- whether that of the consumer has overlapped one of the producer
+abbrev pub take_overlaps : List Event → Bool
+take_overlaps [] = false
+take_overlaps (TakeBegin wanted ∷ past) = put_is_open past
+take_overlaps (PutBegin items ∷ past) = take_overlaps past || take_is_open past
+take_overlaps (CloseBegin ∷ past) = take_overlaps past || take_is_open past
+take_overlaps (_ ∷ past) = take_overlaps past
+
+-- how many calls overlap more where one begins: that one, where the other side has a call under way, and the other, where it has
+-- overlapped none
+abbrev pub overlap_more : (is_other has_overlapped : Bool) → ℕ
+overlap_more is_other has_overlapped = as_number (is_other && not has_overlapped) + as_number is_other
+
+-- how many calls have overlapped one of the other side
+abbrev pub overlapped : List Event → ℕ
+overlapped [] = 0
+overlapped (PutBegin items ∷ past) = overlapped past + overlap_more (take_is_open past) (take_overlaps past)
+overlapped (CloseBegin ∷ past) = overlapped past + overlap_more (take_is_open past) (take_overlaps past)
+overlapped (TakeBegin wanted ∷ past) = overlapped past + overlap_more (put_is_open past) (put_overlaps past)
+overlapped (_ ∷ past) = overlapped past
+
+-- the numbers of a report are those of a past
+pub record HasCounts (past : List Event) (report : Report) : Type 0 where
+  pub calls : report.calls ≡ capped (begun past)
+  pub stored : report.stored ≡ capped (n_of past)
+  pub taken : report.taken ≡ capped (k_of past)
+  pub full : report.full ≡ capped (full_ends past)
+  pub empty : report.empty ≡ capped (empty_ends past)
+  pub nothing : report.nothing ≡ capped (nothing_ends past)
+  pub told : report.told ≡ has_told past
+  pub overlapped : report.overlapped ≡ capped (overlapped past)
+
+-- how many calls are under way
+abbrev pub under_way : List Event → ℕ
+under_way past = as_number (put_is_open past) + as_number (take_is_open past)
+
+-- at some beginning of a history, and at each one
+abbrev pub AtSome : (List Event → Type 0) → List Event → Type 0
+AtSome Holds events = (before rest : List Event) × (events ≡ before ++ rest) × Holds before
+
+abbrev pub AtEach : (List Event → Type 0) → List Event → Type 0
+AtEach Holds events = (before rest : List Event) → events ≡ before ++ rest → Holds before
+
+-- behind events the queue has this many items, whatever the order of the operations; it may have
+abbrev pub Surely : Capacity → (ℕ → Type 0) → List Event → Type 0
+Surely capacity Holds h = (s : Point) → CanLeadTo capacity h s → Holds (length s.queue.items)
+
+abbrev pub Perhaps : Capacity → (ℕ → Type 0) → List Event → Type 0
+Perhaps capacity Holds h = (s : Point) × CanLeadTo capacity h s × Holds (length s.queue.items)
+
+-- so many items were inside at some moment, whatever the order; and of no moment can more be said
+abbrev pub IsSurelyInside : Capacity → List Event → ℕ → Type 0
+IsSurelyInside capacity events count = AtSome (Surely capacity (λ inside. count ≤ inside)) events × AtEach (Perhaps capacity (λ inside. inside ≤ count)) events
+
+-- more items than so many were never inside, whatever the order; and so many may have been
+abbrev pub IsPerhapsInside : Capacity → List Event → ℕ → Type 0
+IsPerhapsInside capacity events count = AtEach (Surely capacity (λ inside. inside ≤ count)) events × AtSome (Perhaps capacity (λ inside. inside ≡ count)) events
+
+-- what is told of a history
+pub record IsReport (capacity : Capacity) (events : List Event) (report : Report) : Type 0 where
+  pub counted : HasCounts (reverse events) report
+  pub surely : IsSurelyInside capacity events report.surely_inside
+  pub perhaps : IsPerhapsInside capacity events report.perhaps_inside
+  pub under_way : report.under_way ≡ under_way (reverse events)
