@@ -10,7 +10,7 @@ use std::process::exit;
 mod lines;
 use lines::{Kind, Line};
 
-// How many taken items are looked back over for one that comes again.
+// How many items taken by the takes before are looked back over for one that comes again.
 const BACK: usize = 65_536;
 
 // An item that a put offered and no take that ended has taken: the line at which the put began, and that at which it ended.
@@ -20,16 +20,21 @@ struct Offered {
     since: u64,
 }
 
+// A put under way: the line at which it began, and how many items it offers; at its begin, the count of taken items and whether a close
+// had ended.
+struct Put {
+    line: u64,
+    offered: u64,
+    taken: u64,
+    late: bool,
+}
+
 // What the producer is in.
 #[derive(Default)]
 enum PutTurn {
     #[default]
     Rests,
-    // the items of a put, whether a close had ended, and the count of taken items
-    Puts {
-        late: bool,
-        taken: u64,
-    },
+    Puts(Put),
     Closes,
 }
 
@@ -61,8 +66,6 @@ struct Audit {
     taken: u64,
     // the items number taken + 1 and on, up to those of the put under way
     inside: VecDeque<Offered>,
-    // those of the put under way, taken or not
-    offers: Vec<u64>,
     // the last items taken, each with the line of its take
     back: VecDeque<(u64, u64)>,
     put: PutTurn,
@@ -70,9 +73,10 @@ struct Audit {
     put_overlapped: bool,
     take_overlapped: bool,
     close_began: bool,
-    // where the first close ended
+    // where the first close ended, where a take was told so first, and where the last put ended that stored items
     closed_at: Option<u64>,
-    told: bool,
+    told_at: Option<u64>,
+    stored_at: u64,
     report: Report,
 }
 
@@ -104,9 +108,7 @@ impl Audit {
             }
             _ => match std::mem::replace(&mut self.put, PutTurn::Rests) {
                 PutTurn::Rests => out_of_turn(),
-                PutTurn::Puts { late, taken } => {
-                    self.end_put(at, kind, late, taken, numbers.first().copied())
-                }
+                PutTurn::Puts(put) => self.end_put(at, kind, &put, numbers.first().copied()),
                 PutTurn::Closes if kind == Kind::PutClosed => {
                     self.closed_at.get_or_insert(at);
                     Ok(())
@@ -131,8 +133,6 @@ impl Audit {
         } else {
             // What a put offers that began after a close can never go in: it is not there to be taken.
             let late = self.closed_at.is_some();
-            self.offers.clear();
-            self.offers.extend_from_slice(numbers);
             if !late {
                 self.inside.extend(numbers.iter().map(|value| Offered {
                     value: *value,
@@ -140,8 +140,12 @@ impl Audit {
                     since: 0,
                 }));
             }
-            let taken = self.taken;
-            self.put = PutTurn::Puts { late, taken };
+            self.put = PutTurn::Puts(Put {
+                line: at,
+                offered: numbers.len() as u64,
+                taken: self.taken,
+                late,
+            });
             let high = (self.inside.len() as u64).min(self.most);
             self.report.high = self.report.high.max(high);
         }
@@ -172,80 +176,78 @@ impl Audit {
         Ok(())
     }
 
-    // A put ends. It began after a close had ended, or not, and so many items had been taken then.
-    fn end_put(
-        &mut self,
-        at: u64,
-        kind: Kind,
-        late: bool,
-        taken: u64,
-        some: Option<u64>,
-    ) -> Verdict {
-        let offered = self.offers.len() as u64;
+    // A put ends, and stored so many of its items where that is told.
+    fn end_put(&mut self, at: u64, kind: Kind, put: &Put, some: Option<u64>) -> Verdict {
+        let offered = put.offered;
         if kind == Kind::PutShort && offered == 1 || some.is_some_and(|count| count >= offered) {
             return out_of_turn();
         }
-        let count = match kind {
-            Kind::Stored => some.unwrap_or(offered),
-            _ => 0,
-        };
         if kind == Kind::PutClosed {
-            return match late {
+            return match put.late {
                 true => Ok(()),
                 false => Err("closed, but there was no close".into()),
             };
         }
-        if late && kind != Kind::PutNothing {
-            let word = if kind == Kind::Stored {
-                "stored"
-            } else {
-                "full"
-            };
-            return Err(format!(
-                "{word}, but closed at line {}",
-                self.closed_at.unwrap()
-            ));
+        let (word, count) = match kind {
+            Kind::Stored => ("stored", some.unwrap_or(offered)),
+            Kind::Full => ("full", 0),
+            Kind::PutShort => ("short", 0),
+            _ => ("nothing", 0),
+        };
+        if put.late && kind != Kind::PutNothing {
+            let closed_at = self.closed_at.unwrap();
+            return Err(format!("{word}, but closed at line {closed_at}"));
         }
-        let stored = self.stored + count;
-        if stored < self.taken {
-            let words = if count > 0 {
-                format!("only {count} stored")
-            } else {
-                "not stored".into()
+        if self.stored + count < self.taken {
+            let (item, line) = self.back[self.back.len() - 1];
+            let words = match count {
+                0 => "not stored".into(),
+                _ => format!("only {count} stored"),
             };
-            return Err(format!(
-                "{words}, but item {} was taken",
-                self.offers[count as usize]
-            ));
+            return Err(format!("{words}, but item {item} was taken at line {line}"));
         }
         let asked = self.take.as_ref().map_or(0, |turn| turn.asked);
-        let surely = stored.saturating_sub(self.taken.saturating_add(asked));
+        let surely = (self.stored + count).saturating_sub(self.taken.saturating_add(asked));
         if count > 0 && surely > self.most {
-            return Err(format!("stored, but at least {surely} items are inside"));
+            return Err(format!("stored, but at least {surely} inside"));
         }
-        // How many items the queue has to have been able to hold at some moment of the call, where it calls itself full.
-        let found = match kind {
-            Kind::PutShort => stored + offered - 1,
-            _ => stored,
-        };
-        let says_full = some.is_some() || kind == Kind::Full || kind == Kind::PutShort;
-        if says_full && found < taken.saturating_add(self.full_from) {
-            return Err(format!(
-                "full, but at most {} items were inside",
-                stored - taken
-            ));
-        }
-        if !late {
-            self.inside.truncate((stored - self.taken) as usize);
+        self.no_room(kind, count, put)?;
+        if !put.late {
+            self.inside
+                .truncate((self.stored + count - self.taken) as usize);
             let first = self.stored.saturating_sub(self.taken) as usize;
             self.inside
                 .range_mut(first..)
                 .for_each(|item| item.since = at);
         }
-        self.stored = stored;
+        if count > 0 {
+            self.stored_at = at;
+        }
+        self.stored += count;
+        let says_full = some.is_some() || kind == Kind::Full || kind == Kind::PutShort;
         self.report.full += u64::from(says_full);
         self.report.nothing += u64::from(kind == Kind::PutNothing);
         Ok(())
+    }
+
+    // A put that stored so many says that there was no room for one more, or for all that it offered. At its begin so many were inside at most
+    // before those that it stored, and later no more.
+    fn no_room(&self, kind: Kind, count: u64, put: &Put) -> Verdict {
+        let (line, offered) = (put.line, put.offered);
+        let before = self.stored - put.taken;
+        let (more, words) = match kind {
+            Kind::Stored if count < offered => (
+                count + 1,
+                format!("only {count} stored, but before them at most"),
+            ),
+            Kind::Full => (1, "full, but at most".into()),
+            Kind::PutShort => (offered, format!("short for {offered}, but at most")),
+            _ => return Ok(()),
+        };
+        if before + more > self.full_from {
+            return Ok(());
+        }
+        Err(format!("{words} {before} inside since line {line}"))
     }
 
     fn end_take(&mut self, at: u64, kind: Kind, turn: &TakeTurn, values: &[u64]) -> Verdict {
@@ -258,7 +260,7 @@ impl Audit {
                 return Err("closed, but no close has begun".into());
             }
             self.none_since("closed", 0, self.stored)?;
-            self.told = true;
+            self.told_at.get_or_insert(at);
             return Ok(());
         }
         let word = match kind {
@@ -267,12 +269,13 @@ impl Audit {
             Kind::TakeShort => "short",
             _ => "nothing",
         };
-        if self.told && kind != Kind::TakeNothing {
-            return Err(format!("{word}, but closed was told"));
+        if let (Some(told_at), true) = (self.told_at, kind != Kind::TakeNothing) {
+            return Err(format!("{word}, but closed was told at line {told_at}"));
         }
         for value in values {
             self.take_one(at, *value)?;
         }
+        self.back.drain(..self.back.len().saturating_sub(BACK));
         match kind {
             Kind::Item if (values.len() as u64) < asked => {
                 self.none_since("no more", 0, turn.stored)?
@@ -291,7 +294,10 @@ impl Audit {
         }
         let inside = self.stored.saturating_sub(self.taken);
         if inside > self.most {
-            return Err(format!("not taken, but {inside} items are inside"));
+            let since = self.stored_at;
+            return Err(format!(
+                "not taken, but at least {inside} inside since line {since}"
+            ));
         }
         self.report.empty += u64::from(kind == Kind::Empty || kind == Kind::TakeShort);
         self.report.nothing += u64::from(kind == Kind::TakeNothing);
@@ -310,31 +316,26 @@ impl Audit {
     }
 
     fn take_one(&mut self, at: u64, value: u64) -> Verdict {
-        match self.inside.front() {
-            Some(next) if next.value == value => {}
-            Some(next) if self.inside.iter().any(|item| item.value == value) => {
-                return Err(format!(
-                    "item {value}, but item {} of line {} is next",
-                    next.value, next.of
-                ));
+        let next = match self.inside.front() {
+            Some(next) if next.value == value => {
+                self.inside.pop_front();
+                self.taken += 1;
+                self.back.push_back((value, at));
+                return Ok(());
             }
-            _ => {
-                let found = self.back.iter().rev().find(|(taken, _)| *taken == value);
-                return Err(match found {
-                    Some((_, line)) => {
-                        format!("item {value} comes again, it was taken at line {line}")
-                    }
-                    None => format!("item {value} was not put"),
-                });
+            Some(next) => format!("item {} of line {} is next", next.value, next.of),
+            None => "none is next".into(),
+        };
+        if self.inside.iter().any(|item| item.value == value) {
+            return Err(format!("item {value}, but {next}"));
+        }
+        let found = self.back.iter().rev().find(|(taken, _)| *taken == value);
+        Err(match found {
+            Some((_, line)) => {
+                format!("item {value} comes again, it was taken at line {line}; {next}")
             }
-        }
-        self.inside.pop_front();
-        self.taken += 1;
-        if self.back.len() == BACK {
-            self.back.pop_front();
-        }
-        self.back.push_back((value, at));
-        Ok(())
+            None => format!("item {value} was not inside; {next}"),
+        })
     }
 
     fn report(&self) -> String {
@@ -348,7 +349,7 @@ impl Audit {
             overlapped,
         } = self.report;
         let (stored, taken) = (self.stored, self.taken);
-        let told = if self.told { "yes" } else { "no" };
+        let told = if self.told_at.is_some() { "yes" } else { "no" };
         let open = u8::from(!matches!(self.put, PutTurn::Rests)) + u8::from(self.take.is_some());
         format!(
             "lawful\ncalls {calls}\nstored {stored}\ntaken {taken}\nfull {full}\nempty {empty}\nnothing {nothing}\n\
