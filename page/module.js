@@ -1,8 +1,6 @@
 // The calls of the proved module ring_page.wasm. A text or a script goes in as bytes; what the module tells comes out as
 // objects with names and words. Nothing is decided here. The words are those of docs/FORMATS.md.
 
-import { againstWords } from "./records.js";
-
 const EVENTS = 10000; // marks that there is room for: as many events as the module reads or plays
 const MARK = 9; // bytes of a mark
 const PAGE = 65536; // bytes by which memory grows
@@ -13,7 +11,8 @@ const FAMILIES = ["s", "r", "x", "c"];
 const KINDS = ["", "wrong side", "out of turn", "not permitted", "not of the program"];
 const WHYS = ["", "the bit is not of the shape, or this side may not do this to it"];
 const TOLD = 10 + 8 + 3 * 6; // numbers of what an audit tells: of the trace, of its programs, of three events that were due
-const CALLS_TOLD = 3 + 5 + 11; // numbers of what is told of recorded calls: the finding, what speaks against a line, the report
+const CALLS_TOLD = 5 + 11; // numbers of what is told of recorded calls: the finding with its lines and how many bytes its words have, the report
+const CAUSE_WORDS = 256; // bytes that hold the words of any cause
 const MOST_TAKEN = 65536; // items taken that the audit of recorded calls keeps
 const SHAPE_FAULTS = ["", "capacity must be from 1 to 64", "modulus must be from capacity + batch + 1 to 256",
   "width must be from 1 to 64", "batch must be from 1 to capacity"];
@@ -178,20 +177,19 @@ export async function openModule(bytes) {
     return {shape: {capacity, modulus, width, batch}, events: getEvents(marks, Math.min(count, room)), report, letters: all};
   };
 
-  // What is found of recorded calls: {refused, line}, or {words, cause, line, against, report}, where `line` is that at fault, or 0, and `against` has the
-  // numbers of what speaks against it.
+  // What is found of recorded calls: {refused, line}, or {words, cause, line, against, report}, where `line` is that at fault, or 0, `cause` has the
+  // module's words for what speaks against it, where it is in its turn, and `against` is the line that contradicts it, or 0.
   const calls = text => {
     const bytes = new TextEncoder().encode(text), [all, most, last] = spacesIn(bytes);
-    const [told, items, offered, taken, offers, numbers, rest, at] = lay([CALLS_TOLD * 8, all * 8, all * 24, Math.min(all, MOST_TAKEN) * 16, most * 8, most * 8, last, bytes.length]);
+    const [told, offered, taken, numbers, rest, said, at] = lay([CALLS_TOLD * 8, all * 24, Math.min(all, MOST_TAKEN) * 16, most * 8, last, CAUSE_WORDS, bytes.length]);
     setBytes(at, bytes);
-    call("page_calls", at, bytes.length, items, all, offered, all, taken, Math.min(all, MOST_TAKEN), offers, most, numbers, most, rest, last, told);
-    const [outcome, number, line, causeNumber, item, next, count, opposite, ...counts] = new BigUint64Array(exports.memory.buffer, told, CALLS_TOLD);
+    call("page_calls", at, bytes.length, offered, all, taken, Math.min(all, MOST_TAKEN), numbers, most, rest, last, said, CAUSE_WORDS, told);
+    const [outcome, number, line, against, saidCount, ...counts] = new BigUint64Array(exports.memory.buffer, told, CALLS_TOLD);
     if (outcome === 2n) return {refused: ["", `calls line ${line} is not a line of the format`, "calls are too many", "calls need more room than there is"][Number(number)], line: Number(line)};
     const [made, stored, gone, full, empty, nothing, isTold, surely, perhaps, overlapped, open] = counts.map(String);
-    if (outcome === 0n) return {words: "lawful", line: 0, against: null, report: {calls: made, stored, taken: gone, full, empty, nothing, told: isTold === "1", surely, perhaps, overlapped, open}};
-    const against = number === 2n ? {number: Number(causeNumber), item: String(item), next: String(next), count: String(count), line: Number(opposite)} : null;
-    const cause = against ? againstWords(against) : "out of turn";
-    return {words: `fault: line ${line}: ${cause}`, cause, line: Number(line), against, report: null};
+    if (outcome === 0n) return {words: "lawful", line: 0, against: 0, report: {calls: made, stored, taken: gone, full, empty, nothing, told: isTold === "1", surely, perhaps, overlapped, open}};
+    const cause = number === 2n ? new TextDecoder().decode(new Uint8Array(exports.memory.buffer, said, Number(saidCount))) : KINDS[2];
+    return {words: `fault: line ${line}: ${cause}`, cause, line: Number(line), against: Number(against), report: null};
   };
 
   // How many of the first marks of a history of calls can come one after the other, at a queue that may say from `full` items on that it is full

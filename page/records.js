@@ -1,5 +1,5 @@
-// The text of recorded calls: its lines, the calls that they begin and end, and the words for what the module finds of it. Whether a text is a
-// recording, and whether its history is linearizable, the module says.
+// The text of recorded calls: its lines, the calls that they begin and end, and the rows of its report. Whether a text is a recording, whether its
+// history is linearizable, and what speaks against a line, the module says.
 
 const isBegin = (text, at) => text.startsWith("put ", at + 2) || text.startsWith("take", at + 2) || text.startsWith("close", at + 2) && text[at + 7] !== "d";
 
@@ -63,35 +63,6 @@ export function capacityIn(text) {
   const [, ...given] = text.slice(0, text.indexOf("\n")).split(" "), full = given[0] ?? Infinity, most = given.at(-1) ?? Infinity;
   return {full, most};
 }
-
-// The words for a cause, in the order of their numbers.
-const CAUSES = [
-  null,
-  ({line}) => `stored, but closed at line ${line}`,
-  ({count, item}) => `only ${count} stored, but item ${item} was taken`,
-  ({count}) => `stored, but at least ${count} items are inside`,
-  ({count}) => `full, but at most ${count} items were inside`,
-  ({line}) => `full, but closed at line ${line}`,
-  ({item}) => `not stored, but item ${item} was taken`,
-  () => "closed, but there was no close",
-  () => "item, but closed was told",
-  ({item, next, line}) => `item ${item}, but item ${next} of line ${line} is next`,
-  ({item, line}) => `item ${item} comes again, it was taken at line ${line}`,
-  ({item}) => `item ${item} was not put`,
-  ({item, line}) => `no more, but item ${item} was inside since line ${line}`,
-  ({count}) => `not taken, but ${count} items are inside`,
-  () => "empty, but closed was told",
-  ({item, line}) => `empty, but item ${item} was inside since line ${line}`,
-  ({line}) => `empty, but closed at line ${line}`,
-  () => "short, but closed was told",
-  ({item, line}) => `short, but item ${item} was inside since line ${line}`,
-  ({line}) => `short, but closed at line ${line}`,
-  () => "closed, but no close has begun",
-  ({item, line}) => `closed, but item ${item} was inside since line ${line}`,
-];
-
-// The words for what speaks against a line, by the numbers of the module.
-export const againstWords = against => CAUSES[against.number](against);
 
 // What a line is: its words, and the line of the same call.
 export function lineWords(text, lines, line) {

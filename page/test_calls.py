@@ -57,9 +57,23 @@ def test_findings(page, same, _):
     same("an end of no call", titles(page), ["P put 1, from line 2, under way", "C empty, line 3: ends no call"])
     most = 2 ** 64 - 1
     page.write(f"queue {most}\nP put {most} {most - 1}\nC take {most}\nC item {most} {most - 2}\n")
-    same("the largest numbers", told(page), f"fault: line 4: item {most - 2} was not put\n")
+    same("the largest numbers", told(page), f"fault: line 4: item {most - 2} was not inside; item {most - 1} of line 2 is next\n")
     page.write(f"queue {most + 1}\n")
     same("a larger one", told(page), "refused: calls line 1 is not a line of the format\n")
+
+
+def test_long_cause(page, same, _):
+    """The words of a cause with numbers of 64 bits come whole, in the verdict and in the flag, which lies in the picture."""
+    most = 2 ** 64 - 1
+    page.open("calls=plain")
+    page.write(f"queue {most}\nP put {most}\nP stored\nC take\nC item {most}\nP put {most - 1}\nC take\nC item {most}\n")
+    cause = f"item {most} comes again, it was taken at line 5; item {most - 1} of line 6 is next"
+    same("a long cause", told(page), f"fault: line 8: {cause}\n")
+    same("its flags", flags(page), [f"line 5: C item {most}", f"line 8: {cause}"])
+    same("its line", words(page, "why"), f"contradicted by line 5: C item {most}, the end of the call of line 4")
+    same("its flag lies in the picture", page.browser.run("""const all = document.querySelector("#picture svg").getBoundingClientRect();
+        return [...document.querySelectorAll("#picture rect.flag, #picture .flagwords")].map(it => it.getBoundingClientRect()).every(it => it.left >= all.left && it.right <= all.right)"""), True)
+    same("words on words", page.browser.run(COLLISIONS), [])
 
 
 # An order of the operations of each recording: that each has one, each within its call, and that the module says so; and that it does not of
@@ -191,8 +205,8 @@ def test_million(page, same, folder):
     near = ["queue 8"] + [line for i in range(250000) for line in (f"P put {i}", "C take", "P stored", f"C item {i}")]
     near[500000] = "C item 124000"
     far = ["queue", "P put 5", "P stored"] + ["C take", "C nothing"] * 499998 + ["C take", "C empty"]
-    for name, lines, finding, against in [("near.calls", near, "fault: line 500001: item 124000 comes again, it was taken at line 496005", "C item 124000"),
-                                          ("far.calls", far, "fault: line 1000001: empty, but item 5 was inside since line 3", "P stored")]:
+    for name, lines, finding, against in [("near.calls", near, "fault: line 500001: item 124000 comes again, it was taken at line 496005; item 124999 of line 499998 is next", 496005),
+                                          ("far.calls", far, "fault: line 1000001: empty, but item 5 was inside since line 3", 3)]:
         with open(os.path.join(folder, name), "w", encoding="utf-8") as file:
             file.write("\n".join(lines) + "\n")
         page.open("calls=plain")
@@ -200,7 +214,7 @@ def test_million(page, same, folder):
         give(page, os.path.join(folder, name))
         took = time.time() - began
         same(f"{name}: its finding", words(page, "bits"), f"calls: {finding}")
-        same(f"{name}: the lines in the picture", flags(page), [f"line {finding.split('line ')[2]}: {against}", finding.removeprefix("fault: ")])
+        same(f"{name}: the lines in the picture", flags(page), [f"line {against}: {lines[against - 1]}", finding.removeprefix("fault: ")])
         same(f"{name}: rows that are not drawn are told", page.count("#picture .break"), 1)
         same(f"{name}: rows", page.count("#picture .lane"), 24)
         same(f"{name}: lines in the editor", page.text().count("\n"), 400)
@@ -225,4 +239,4 @@ def test_million(page, same, folder):
     same("a short one is edited", page.browser.run("return document.getElementById('text').readOnly"), False)
 
 
-TESTS = [test_findings, test_orders, test_steps, test_links, test_wrong_texts, test_views, test_million]
+TESTS = [test_findings, test_long_cause, test_orders, test_steps, test_links, test_wrong_texts, test_views, test_million]

@@ -90,11 +90,11 @@ export function viewsOf(module) {
     // A beginning of a recording is one of its own, and what is found of it is asked for.
     at(whole, shown) {
       const {text, lines} = whole, it = shown < lines.count - 1 ? module.calls(text.slice(0, lines.starts[shown + 2])) : whole;
-      const why = it.against?.line ? `contradicted by ${lineWords(text, lines, it.against.line)}` : "";
+      const why = it.against ? `contradicted by ${lineWords(text, lines, it.against)}` : "";
       return {...it, words: `calls: ${it.words}`, why, mood: it.line ? "bad" : "good", step: shown ? lineWords(text, lines, shown + 1) : ""};
     },
     drawing: ({text, lines, order}, it, waves, shown) => ({draw: bars, text, lines, order, words: it.words, mood: it.mood, why: it.why, count: shown,
-      fault: it.line ? it.line - 2 : null, contradicts: it.against?.line ? it.against.line - 2 : null, cause: it.cause}),
+      fault: it.line ? it.line - 2 : null, contradicts: it.against ? it.against - 2 : null, cause: it.cause}),
     place: (whole, shown) => `line ${shown + 1} / ${whole.lines.count}`,
     rows: ({report}) => report ? reportRows(report) : [],
   };
