@@ -96,8 +96,16 @@ if wait "$building"; then
     PROGRAM=$(./lamport_ring --which) || exit 1
     export PROGRAM
     say "the program: $PROGRAM"
-    try examples install
-    ! command -v python3 >/dev/null || try causes docs
+    try examples
+    examples=$!
+    try install
+    if command -v python3 >/dev/null; then
+        try docs
+        # (behind the examples, whose runs over two threads want a processor each)
+        { while kill -0 "$examples"; do sleep 1; done 2>/dev/null; exec tests/causes; } >"$room/causes" &
+        trying="$trying $!"
+        tried="$tried causes"
+    fi
 else
     failed=1
 fi
