@@ -188,8 +188,8 @@ module _ (past : List Event) (k : Kept) (a : Agrees past k) where
         steady = a.steady;
       }
 
-  stored_ends : (count n inside : ℕ) → k.put ≡ Offers n inside → count ≤ n → n - count ≤ length k.inside → Then (PutStored count) (kept (without (n - count) k.inside) Free k.take k.shut)
-  stored_ends count n inside e few some =
+  stored_ends : (count : ℕ) (why : Bool) (n inside : ℕ) → k.put ≡ Offers n inside → count ≤ n → n - count ≤ length k.inside → Then (PutStored count why) (kept (without (n - count) k.inside) Free k.take k.shut)
+  stored_ends count why n inside e few some =
       let (not_told, same) = offering n inside e in
       record {
         gone = a.gone;
@@ -306,8 +306,8 @@ module _ (past : List Event) (k : Kept) (a : Agrees past k) where
         steady = λ g. omega arith;
       }
 
-  takes : (items : List ℕ) → 0 < length items → AreNext items k.inside → Then (TakeItems items) (kept (drop (length items) k.inside) k.put Rests k.shut)
-  takes items some (rest, e) =
+  takes : (items : List ℕ) (why : Bool) → 0 < length items → AreNext items k.inside → Then (TakeItems items why) (kept (drop (length items) k.inside) k.put Rests k.shut)
+  takes items why some (rest, e) =
       let left : drop (length items) k.inside ≡ rest = ap (λ z. drop (length items) z) e ∙ drop-append_seam items rest in
       record {
         gone = a.gone ++ items;
@@ -375,7 +375,7 @@ module _ (past : List Event) (k : Kept) (a : Agrees past k) where
     | inl b ↦ to (PutBegin items) after _ b.1 (open_begins items free b.0)
     | inr b ↦ to (PutBegin items) after _ b.1 (late_begins items free b.0)
   ]
-  step capacity (PutStored count) after (n, inside, is, some, few, lacks, fits) = to (PutStored count) after _ fits.1 (stored_ends count n inside is few fits.0.0)
+  step capacity (PutStored count why) after (n, inside, is, some, few, lacks, fits) = to (PutStored count why) after _ fits.1 (stored_ends count why n inside is few fits.0.0)
   step capacity PutFull after (n, inside, is, lacks, fits) = to PutFull after _ fits.1 (none_stored PutFull n inside is fits.0.0 (inl refl))
   step capacity PutShort after (n, inside, is, several, lacks, fits) = to PutShort after _ fits.1 (none_stored PutShort n inside is fits.0.0 (inr (inl refl)))
   step capacity PutNothing after ends' = elim ends' [
@@ -386,7 +386,7 @@ module _ (past : List Event) (k : Kept) (a : Agrees past k) where
   step capacity CloseBegin after (free, e) = to CloseBegin after _ e (close_begins free)
   step capacity CloseEnd after (again, is, e) = to CloseEnd after _ e (close_ends again is)
   step capacity (TakeBegin wanted) after (rests, some, e) = to (TakeBegin wanted) after _ e (take_begins wanted)
-  step capacity (TakeItems items) after (wanted, before, closed, is, some, few, lacks, next, fits) = to (TakeItems items) after _ fits.1 (takes items some next)
+  step capacity (TakeItems items why) after (wanted, before, closed, is, some, few, lacks, next, fits) = to (TakeItems items why) after _ fits.1 (takes items why some next)
   step capacity TakeEmpty after (wanted, before, is, none, fits) = to TakeEmpty after _ fits.1 (takes_none TakeEmpty (inl refl))
   step capacity TakeShort after (wanted, before, closed, is, several, less, found, fits) = to TakeShort after _ fits.1 (takes_none TakeShort (inr (inl refl)))
   step capacity TakeNothing after (wanted, before, closed, is, fits) = to TakeNothing after _ fits.1 (takes_none TakeNothing (inr (inr refl)))

@@ -16,7 +16,7 @@ use Rattle.queue_calls.specs.declared.turns.TakeTurn.{TakeTurn}
 use Rattle.queue_calls.specs.declared.turns.TakeTurn.TheVariants.{Rests, Waits}
 use Rattle.queue_calls.proofs.Agrees.{Agrees}
 use Rattle.queue_calls.proofs.Agreeing.{both, long, offered_is, asked_is, coming_is, begun_is, as_put, as_take, closing, turned_behind, step, at_first, offers_none, ended_grows}
-use Rattle.queue_calls.proofs.CauseTests.{can_hold_tells, can_lack_tells, and_off, and_of, if_on, none_off, off, none_on, some_else, some_both, some_or}
+use Rattle.queue_calls.proofs.CauseTests.{can_hold_tells, can_lack_tells, and_off, and_of, and_told, if_on, none_off, off, none_on, some_else, some_both, some_or}
 use Rattle.queue_calls.proofs.CountedHistories.{Stands, counts_keeps}
 use Rattle.queue_calls.proofs.CountsFollow.{counts_are_exact}
 use Rattle.queue_calls.proofs.Keeping.{some as has_points}
@@ -31,7 +31,7 @@ lacks_as (Between full most) a b c d e l = omega (arith, e, l)
 -- what was stored before the take is no more than what is stored
 pub stored_grows : (past : List Event) → n_of (before_take past) ≤ n_of past
 stored_grows [] = omega arith
-stored_grows (PutStored count ∷ past) = omega (arith, stored_grows past, length-append (stored past) (map (stored_at (line_behind past)) (take count (offers past))))
+stored_grows (PutStored count why ∷ past) = omega (arith, stored_grows past, length-append (stored past) (map (stored_at (line_behind past)) (take count (offers past))))
 stored_grows (TakeBegin count ∷ past) = omega arith
 stored_grows (_ ∷ past) = stored_grows past
 
@@ -68,30 +68,30 @@ bool_or false = inr refl
 
 -- nothing speaks against items just where they are the next ones, and nothing against so few
 pub items_next :
-    (capacity : Capacity) (past : List Event) (first items : List ℕ) (rest : List Offered) → items_cause capacity past first items rest ≡ None →
-    AreNext items (items_of rest) × (fewer_cause capacity (length first + length items) past ≡ None)
-items_next capacity past first [] rest e =
-    let same : length first ≡ length first + 0 = omega arith in ((items_of rest, refl), subst (λ z. fewer_cause capacity z past ≡ None) same e)
-items_next capacity past first (item ∷ items) [] e = absurd cc
-items_next capacity past first (item ∷ items) (next ∷ rest) e =
+    (capacity : Capacity) (why : Bool) (past : List Event) (first items : List ℕ) (rest : List Offered) → items_cause capacity why past first items rest ≡ None →
+    AreNext items (items_of rest) × (fewer_cause capacity (length first + length items) why past ≡ None)
+items_next capacity why past first [] rest e =
+    let same : length first ≡ length first + 0 = omega arith in ((items_of rest, refl), subst (λ z. fewer_cause capacity z why past ≡ None) same e)
+items_next capacity why past first (item ∷ items) [] e = absurd cc
+items_next capacity why past first (item ∷ items) (next ∷ rest) e =
     let count : length (first ++ item ∷ []) + length items ≡ length first + suc (length items) = omega (arith, length-append first (item ∷ [])) in
     let (same, f) = some_else _ _ _ (λ g. some_both _ _ _ g) e in
-    let ((left, g), h) = items_next capacity past (first ++ item ∷ []) items rest f in (
+    let ((left, g), h) = items_next capacity why past (first ++ item ∷ []) items rest f in (
       (left, ap (λ z. next.item ∷ z) g ∙ ap (λ z. z ∷ (items ++ left)) (eqb-true next.item item same)),
-      subst (λ z. fewer_cause capacity z past ≡ None) count h,
+      subst (λ z. fewer_cause capacity z why past ≡ None) count h,
     )
 
 pub items_unspoken :
-    (capacity : Capacity) (past : List Event) (first items : List ℕ) (rest : List Offered) → AreNext items (items_of rest) →
-    fewer_cause capacity (length first + length items) past ≡ None → items_cause capacity past first items rest ≡ None
-items_unspoken capacity past first [] rest next e =
-    let same : length first + 0 ≡ length first = omega arith in subst (λ z. fewer_cause capacity z past ≡ None) same e
-items_unspoken capacity past first (item ∷ items) [] (left, g) e = absurd cc
-items_unspoken capacity past first (item ∷ items) (next ∷ rest) (left, g) e =
+    (capacity : Capacity) (why : Bool) (past : List Event) (first items : List ℕ) (rest : List Offered) → AreNext items (items_of rest) →
+    fewer_cause capacity (length first + length items) why past ≡ None → items_cause capacity why past first items rest ≡ None
+items_unspoken capacity why past first [] rest next e =
+    let same : length first + 0 ≡ length first = omega arith in subst (λ z. fewer_cause capacity z why past ≡ None) same e
+items_unspoken capacity why past first (item ∷ items) [] (left, g) e = absurd cc
+items_unspoken capacity why past first (item ∷ items) (next ∷ rest) (left, g) e =
     let same : next.item ≡ item = cc in
     let others : items_of rest ≡ items ++ left = cc in
     let count : length first + suc (length items) ≡ length (first ++ item ∷ []) + length items = omega (arith, length-append first (item ∷ [])) in
-    if_on _ _ _ (eq-eqb next.item item same) ∙ items_unspoken capacity past (first ++ item ∷ []) items rest (left, others) (subst (λ z. fewer_cause capacity z past ≡ None) count e)
+    if_on _ _ _ (eq-eqb next.item item same) ∙ items_unspoken capacity why past (first ++ item ∷ []) items rest (left, others) (subst (λ z. fewer_cause capacity z why past ≡ None) count e)
 
 module _ (capacity : Capacity) (past : List Event) (k : Kept) (a : Agrees past k) where
   -- the numbers that a cause tells, by what is kept
@@ -137,10 +137,10 @@ module _ (capacity : Capacity) (past : List Event) (k : Kept) (a : Agrees past k
       )
 
   -- where not all were, there may have been no room for one more
-  pub some_lack :
+  some_room :
       (n inside count : ℕ) → k.put ≡ Offers n inside →
       ((nat_lt count (length (offers past)) && not (can_lack capacity (n_of past - k_of (before_put past)) (suc count))) ≡ false) ↔ (count < n → LacksRoom capacity inside (suc count))
-  some_lack n inside count is =
+  some_room n inside count is =
       let f = as_put past k a (Offers n inside) is in
       let most : ℕ = n_of past - k_of (before_put past) in
       let same : most + suc count ≡ inside + suc count = omega (arith, most_inside n inside is) in (
@@ -152,6 +152,13 @@ module _ (capacity : Capacity) (past : List Event) (k : Kept) (a : Agrees past k
             let fewer : count < n = omega (arith, ltb-true count (length (offers past)) e, f.0) in
             not_from_true (can_lack capacity most (suc count)) ((can_lack_tells capacity most (suc count)).1 (lacks_as capacity inside (suc count) most (suc count) (sym same) (h fewer)))),
       )
+
+  -- where the put says why
+  pub some_lack :
+      (n inside count : ℕ) (why : Bool) → k.put ≡ Offers n inside →
+      ((why && (nat_lt count (length (offers past)) && not (can_lack capacity (n_of past - k_of (before_put past)) (suc count)))) ≡ false) ↔
+      (why ≡ true → count < n → LacksRoom capacity inside (suc count))
+  some_lack n inside count why is = and_told why _ _ (some_room n inside count is)
 
   -- where none was, for so many
   pub none_lack :
@@ -173,10 +180,10 @@ module _ (capacity : Capacity) (past : List Event) (k : Kept) (a : Agrees past k
       )
 
   -- where the take wanted more, it found no more
-  pub no_more :
+  none_more :
       (n inside : ℕ) (closed : Bool) (count : ℕ) → k.take ≡ Waits n inside closed →
       ((nat_lt count (wanted past) && nat_lt (k_of past + count) (n_of (before_take past))) ≡ false) ↔ (count < n → inside ≤ count)
-  no_more n inside closed count is =
+  none_more n inside closed count is =
       let f = as_take past k a (Waits n inside closed) is in
       let more : Bool = nat_lt (k_of past + count) (n_of (before_take past)) in (
         λ e. λ l.
@@ -186,6 +193,12 @@ module _ (capacity : Capacity) (past : List Event) (k : Kept) (a : Agrees past k
             let fewer : count < n = omega (arith, ltb-true count (wanted past) e, f.0) in
             le-ltb (k_of past + count) (n_of (before_take past)) (omega (arith, f.1, h fewer))),
       )
+
+  -- where it says why
+  pub no_more :
+      (n inside : ℕ) (closed : Bool) (count : ℕ) (why : Bool) → k.take ≡ Waits n inside closed →
+      ((why && (nat_lt count (wanted past) && nat_lt (k_of past + count) (n_of (before_take past)))) ≡ false) ↔ (why ≡ true → count < n → inside ≤ count)
+  no_more n inside closed count why is = and_told why _ _ (none_more n inside closed count is)
 
   -- it found none
   pub none_found : (n inside : ℕ) (closed : Bool) → k.take ≡ Waits n inside closed → (nat_lt (k_of past) (n_of (before_take past)) ≡ false) ↔ (inside ≡ 0)
@@ -224,13 +237,13 @@ module _ (capacity : Capacity) (past : List Event) (k : Kept) (a : Agrees past k
 
   -- the items are the next ones
   pub are_next :
-      (items : List ℕ) → (items_cause capacity past [] items (coming past) ≡ None) ↔ (AreNext items k.inside × (fewer_cause capacity (length items) past ≡ None))
-  are_next items =
+      (items : List ℕ) (why : Bool) → (items_cause capacity why past [] items (coming past) ≡ None) ↔ (AreNext items k.inside × (fewer_cause capacity (length items) why past ≡ None))
+  are_next items why =
       let F : List ℕ → Type 0 = λ z. AreNext items z in
-      let G : ℕ → Type 0 = λ z. fewer_cause capacity z past ≡ None in
+      let G : ℕ → Type 0 = λ z. fewer_cause capacity z why past ≡ None in
       let none : 0 + length items ≡ length items = omega arith in (
-        λ e. (let (next, f) = items_next capacity past [] items (coming past) e in (subst F (coming_is past k a) next, subst G none f)),
-        λ (next, f). items_unspoken capacity past [] items (coming past) (subst F (sym (coming_is past k a)) next) (subst G (sym none) f),
+        λ e. (let (next, f) = items_next capacity why past [] items (coming past) e in (subst F (coming_is past k a) next, subst G none f)),
+        λ (next, f). items_unspoken capacity why past [] items (coming past) (subst F (sym (coming_is past k a)) next) (subst G (sym none) f),
       )
 
   -- nothing is inside
@@ -260,10 +273,10 @@ module _ (capacity : Capacity) (past : List Event) (k : Kept) (a : Agrees past k
 
   pub unspoken : (event : Event) (after : Kept) → Counts capacity k event after → cause_of capacity event past ≡ None
   unspoken (PutBegin items) after c = refl
-  unspoken (PutStored count) after (n, inside, is, some, few, lacks, fits) =
+  unspoken (PutStored count why) after (n, inside, is, some, few, lacks, fits) =
       off _ _ _ (as_put past k a (Offers n inside) is).1
       (off _ _ _ ((rest_inside n inside count is few).1 fits.0.0)
-      (off _ _ _ ((stored_fit n inside count is few).1 fits.0.1) (off _ _ _ ((some_lack n inside count is).1 lacks) refl)))
+      (off _ _ _ ((stored_fit n inside count is few).1 fits.0.1) (off _ _ _ ((some_lack n inside count why is).1 lacks) refl)))
   unspoken PutFull after (n, inside, is, lacks, fits) =
       off _ _ _ (as_put past k a (Offers n inside) is).1 (off _ _ _ ((all_inside n inside is).1 fits.0.0) (off _ _ _ ((none_lack n inside 1 is).1 lacks) refl))
   unspoken PutShort after (n, inside, is, several, lacks, fits) =
@@ -278,10 +291,10 @@ module _ (capacity : Capacity) (past : List Event) (k : Kept) (a : Agrees past k
   unspoken CloseBegin after c = refl
   unspoken CloseEnd after c = refl
   unspoken (TakeBegin count) after c = refl
-  unspoken (TakeItems items) after (n, inside, closed, is, some, few, found, (rest, next), fits) =
+  unspoken (TakeItems items why) after (n, inside, closed, is, some, few, found, (rest, next), fits) =
       let within : 0 < length k.inside = omega (arith, some, ap length next, length-append items rest) in
       off _ _ _ (some_untold within)
-      ((are_next items).1 ((rest, next), off _ _ _ ((no_more n inside closed (length items) is).1 found) ((left_fit (length items)).1 fits.0)))
+      ((are_next items why).1 ((rest, next), off _ _ _ ((no_more n inside closed (length items) why is).1 found) ((left_fit (length items)).1 fits.0)))
   unspoken TakeEmpty after (n, inside, is, none, fits) =
       let f = as_take past k a (Waits n inside false) is in
       let (not_ended, not_told) = or_parts (has_ended (before_take past)) (has_told past) (sym f.2) in
@@ -308,8 +321,8 @@ module _ (capacity : Capacity) (past : List Event) (k : Kept) (a : Agrees past k
   early : {A : Type 0} (n : ℕ) → k.put ≡ Late n → has_ended (before_put past) ≡ false → A
   early {A} n is e = both A (has_ended (before_put past)) (as_put past k a (Late n) is).1 e
 
-  stored_counted : (count n : ℕ) → 0 < count → count ≤ n → call_of_put k.put ≡ APut n → stored_cause capacity count past ≡ None → Counted (PutStored count)
-  stored_counted count n some least is e =
+  stored_counted : (count : ℕ) (why : Bool) (n : ℕ) → 0 < count → count ≤ n → call_of_put k.put ≡ APut n → stored_cause capacity count why past ≡ None → Counted (PutStored count why)
+  stored_counted count why n some least is e =
       let (open', e1) = none_off _ _ _ e in
       let (enough, e2) = none_off _ _ _ e1 in
       let (fit, e3) = none_off _ _ _ e2 in
@@ -324,7 +337,7 @@ module _ (capacity : Capacity) (past : List Event) (k : Kept) (a : Agrees past k
                 is_put,
                 some,
                 least,
-                (some_lack capacity past k a n inside count is_put).0 lack,
+                (some_lack capacity past k a n inside count why is_put).0 lack,
                 (((rest_inside capacity past k a n inside count is_put least).0 enough, (stored_fit capacity past k a n inside count is_put least).0 fit), refl),
               ),
             ))
@@ -374,11 +387,11 @@ module _ (capacity : Capacity) (past : List Event) (k : Kept) (a : Agrees past k
     | inr late ↦ (kept k.inside Free k.take k.shut, (n, late, refl))
   ]
 
-  items_counted : (items : List ℕ) (n : ℕ) → call_of_take k.take ≡ ATake n → 0 < length items → length items ≤ n → cause_of capacity (TakeItems items) past ≡ None → Counted (TakeItems items)
-  items_counted items n is some most e =
+  items_counted : (items : List ℕ) (why : Bool) (n : ℕ) → call_of_take k.take ≡ ATake n → 0 < length items → length items ≤ n → cause_of capacity (TakeItems items why) past ≡ None → Counted (TakeItems items why)
+  items_counted items why n is some most e =
       let (inside, closed, is_take) = take_of k.take n is in
       let (not_told, e1) = none_off _ _ _ e in
-      let (next, e2) = (are_next capacity past k a items).0 e1 in
+      let (next, e2) = (are_next capacity past k a items why).0 e1 in
       let (found, e3) = none_off _ _ _ e2 in (
         kept (drop (length items) k.inside) k.put Rests k.shut,
         (
@@ -388,7 +401,7 @@ module _ (capacity : Capacity) (past : List Event) (k : Kept) (a : Agrees past k
           is_take,
           some,
           most,
-          (no_more capacity past k a n inside closed (length items) is_take).0 found,
+          (no_more capacity past k a n inside closed (length items) why is_take).0 found,
           next,
           ((left_fit capacity past k a (length items)).0 e3, refl),
         ),
@@ -448,7 +461,7 @@ module _ (capacity : Capacity) (past : List Event) (k : Kept) (a : Agrees past k
     | inl g ↦ (kept k.inside (Late (length items)) k.take true, (free_of k.put free, some, inr (g, refl)))
     | inr g ↦ (kept (k.inside ++ items) (Offers (length items) (length k.inside)) k.take false, (free_of k.put free, some, inl (g, refl)))
   ]
-  counted (PutStored count) next (n, is, some, most, m) e = stored_counted count n some most is e
+  counted (PutStored count why) next (n, is, some, most, m) e = stored_counted count why n some most is e
   counted PutFull next (n, is, m) e = full_counted n is e
   counted PutShort next (n, is, several, m) e = put_short_counted n is several e
   counted PutNothing next (n, is, m) e = put_nothing_counted n is e
@@ -457,7 +470,7 @@ module _ (capacity : Capacity) (past : List Event) (k : Kept) (a : Agrees past k
   counted CloseEnd next (is, m) e = (kept k.inside Free k.take true, (let (again, g) = close_of k.put is in (again, g, refl)))
   counted (TakeBegin count) next (rests, some, m) e =
       (kept k.inside k.put (Waits count (length k.inside - offered_by k.put) k.shut) k.shut, (rest_of k.take rests, some, refl))
-  counted (TakeItems items) next (n, is, some, most, m) e = items_counted items n is some most e
+  counted (TakeItems items why) next (n, is, some, most, m) e = items_counted items why n is some most e
   counted TakeEmpty next (n, is, m) e = empty_counted n is e
   counted TakeShort next (n, is, several, m) e = take_short_counted n is several e
   counted TakeNothing next (n, is, m) e = take_nothing_counted n is e

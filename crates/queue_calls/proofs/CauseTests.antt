@@ -33,6 +33,11 @@ pub and_of : (b c : Bool) → (b && c) ≡ false → b ≡ true → c ≡ false
 and_of true c e f = e
 and_of false c e f = absurd cc
 
+-- one of a call that says why, or says nothing of it
+pub and_told : (why b : Bool) (A : Type 0) → (b ≡ false) ↔ A → ((why && b) ≡ false) ↔ (why ≡ true → A)
+and_told true b A tells = (λ e. λ g. tells.0 e, λ h. tells.1 (h refl))
+and_told false b A tells = (λ e. λ g. absurd cc, λ h. refl)
+
 -- a value by a test
 pub if_on : {A : Type 0} (b : Bool) (x y : A) → b ≡ true → (if b then x else y) ≡ x
 if_on true x y e = refl

@@ -73,8 +73,8 @@ module _ (capacity : Capacity) (past : List Event) (k : Kept) (a : Agrees past k
   pub late_ends : (n : ℕ) → k.put ≡ Late n → has_ended past ≡ true
   late_ends n is = (as_put past k a (Late n) is).2
 
-  pub late_stored : (n count : ℕ) → k.put ≡ Late n → stored_cause capacity count past ≡ Some z → StoredAfterClose (ended_line past) ≡ z
-  late_stored n count is e = told_on _ _ _ z (as_put past k a (Late n) is).1 e
+  pub late_stored : (n count : ℕ) (why : Bool) → k.put ≡ Late n → stored_cause capacity count why past ≡ Some z → StoredAfterClose (ended_line past) ≡ z
+  late_stored n count why is e = told_on _ _ _ z (as_put past k a (Late n) is).1 e
 
   pub late_full : (n : ℕ) → k.put ≡ Late n → full_cause capacity past ≡ Some z → FullAfterClose (ended_line past) ≡ z
   late_full n is e = told_on _ _ _ z (as_put past k a (Late n) is).1 e
@@ -101,22 +101,22 @@ module _ (capacity : Capacity) (past : List Event) (k : Kept) (a : Agrees past k
     pub some_taken : (count : ℕ) → count ≤ n → length k.inside < n - count → 0 < k_of past
     some_taken count few l = omega (arith, l, long past k a, offered, few)
 
-    pub stored_gone : (count : ℕ) → count ≤ n → length k.inside < n - count → stored_cause capacity count past ≡ Some z → OnlySomeStored count (last_taken past) ≡ z
-    stored_gone count few l e = told_on _ _ _ z (gone count few l) (told_off _ _ _ z early e)
+    pub stored_gone : (count : ℕ) (why : Bool) → count ≤ n → length k.inside < n - count → stored_cause capacity count why past ≡ Some z → OnlySomeStored count (last_taken past) ≡ z
+    stored_gone count why few l e = told_on _ _ _ z (gone count few l) (told_off _ _ _ z early e)
 
     pub stored_over :
-        (count : ℕ) → count ≤ n → n - count ≤ length k.inside → ¬ MayHold capacity ((length k.inside - (n - count)) - asked_by k.take) → stored_cause capacity count past ≡ Some z →
+        (count : ℕ) (why : Bool) → count ≤ n → n - count ≤ length k.inside → ¬ MayHold capacity ((length k.inside - (n - count)) - asked_by k.take) → stored_cause capacity count why past ≡ Some z →
         StoredTooMany ((length k.inside - (n - count)) - asked_by k.take) ≡ z
-    stored_over count few l over e =
+    stored_over count why few l over e =
         let least : ℕ = (n_of past + count) - (k_of past + wanted past) in
         let same : least ≡ (length k.inside - (n - count)) - asked_by k.take = least_stored capacity past k a n inside count is few in
         let not_held : can_hold capacity least ≡ false = (cannot_hold_tells capacity least).1 (λ h. over (subst (λ y. MayHold capacity y) same h)) in
         ap StoredTooMany (sym same) ∙ told_on _ _ _ z (ap not not_held) (told_off _ _ _ z (none_gone count few l) (told_off _ _ _ z early e))
 
     pub stored_room :
-        (count : ℕ) → count ≤ n → n - count ≤ length k.inside → MayHold capacity ((length k.inside - (n - count)) - asked_by k.take) → stored_cause capacity count past ≡ Some z →
+        (count : ℕ) (why : Bool) → count ≤ n → n - count ≤ length k.inside → MayHold capacity ((length k.inside - (n - count)) - asked_by k.take) → stored_cause capacity count why past ≡ Some z →
         OnlySomeWithRoom count inside (line_behind (before_put past)) ≡ z
-    stored_room count few l fits e =
+    stored_room count why few l fits e =
         ap (λ y. OnlySomeWithRoom count y (line_behind (before_put past))) (sym (most_inside capacity past k a n inside is)) ∙
         told_last _ _ z (told_off _ _ _ z ((stored_fit capacity past k a n inside count is few).1 fits) (told_off _ _ _ z (none_gone count few l) (told_off _ _ _ z early e)))
 
@@ -153,14 +153,16 @@ module _ (capacity : Capacity) (past : List Event) (k : Kept) (a : Agrees past k
     ends : closed ≡ (has_ended (before_take past) || has_told past)
     ends = (as_take past k a (Waits n before closed) is).2
 
-    pub fewer_inside : (count : ℕ) → count < n → count < before → fewer_cause capacity count past ≡ Some z → NoMoreWhileInside (at (coming past) count) ≡ z
-    fewer_inside count l m e =
+    pub fewer_inside : (count : ℕ) (why : Bool) → why ≡ true → count < n → count < before → fewer_cause capacity count why past ≡ Some z → NoMoreWhileInside (at (coming past) count) ≡ z
+    fewer_inside count why says l m e =
         let one : nat_lt count (wanted past) ≡ true = lt-ltb count (wanted past) (omega (arith, l, wants)) in
         let two : nat_lt (k_of past + count) (n_of (before_take past)) ≡ true = lt-ltb (k_of past + count) (n_of (before_take past)) (omega (arith, m, left)) in
-        told_on _ _ _ z (ap (λ y. y && nat_lt (k_of past + count) (n_of (before_take past))) one ∙ two) e
+        told_on _ _ _ z
+        (ap (λ y. y && (nat_lt count (wanted past) && nat_lt (k_of past + count) (n_of (before_take past)))) says ∙
+        (ap (λ y. y && nat_lt (k_of past + count) (n_of (before_take past))) one ∙ two)) e
 
-    pub fewer_left : (count : ℕ) → (count < n → before ≤ count) → fewer_cause capacity count past ≡ Some z → not_taken_cause capacity count past ≡ Some z
-    fewer_left count f e = told_off _ _ _ z ((no_more capacity past k a n before closed count is).1 f) e
+    pub fewer_left : (count : ℕ) (why : Bool) → (why ≡ true → count < n → before ≤ count) → fewer_cause capacity count why past ≡ Some z → not_taken_cause capacity count past ≡ Some z
+    fewer_left count why f e = told_off _ _ _ z ((no_more capacity past k a n before closed count why is).1 f) e
 
     module _ (open' : has_told past ≡ false) where
       pub empty_inside : 0 < before → empty_cause capacity past ≡ Some z → EmptyWhileInside (at (coming past) 0) ≡ z
@@ -233,20 +235,20 @@ module _ (capacity : Capacity) (past : List Event) (k : Kept) (a : Agrees past k
 
 -- the next ones of items are passed
 pub passed :
-    (capacity : Capacity) (past : List Event) (first items : List ℕ) (rest : List Offered) →
-    items_cause capacity past first items rest ≡ items_cause capacity past (first ++ take (agreed items rest) items) (drop (agreed items rest) items) (drop (agreed items rest) rest)
-passed capacity past first [] rest = ap (λ z. items_cause capacity past z [] rest) (sym (append-nil first))
-passed capacity past first (item ∷ items) [] = ap (λ z. items_cause capacity past z (item ∷ items) []) (sym (append-nil first))
-passed capacity past first (item ∷ items) (next ∷ rest) =
-    elim (next.item == item) as (λ v. (next.item == item) ≡ v → items_cause capacity past first (item ∷ items) (next ∷ rest) ≡
-    items_cause capacity past (first ++ take (if v then suc (agreed items rest) else 0) (item ∷ items)) (drop (if v then suc (agreed items rest) else 0) (item ∷ items))
+    (capacity : Capacity) (why : Bool) (past : List Event) (first items : List ℕ) (rest : List Offered) →
+    items_cause capacity why past first items rest ≡ items_cause capacity why past (first ++ take (agreed items rest) items) (drop (agreed items rest) items) (drop (agreed items rest) rest)
+passed capacity why past first [] rest = ap (λ z. items_cause capacity why past z [] rest) (sym (append-nil first))
+passed capacity why past first (item ∷ items) [] = ap (λ z. items_cause capacity why past z (item ∷ items) []) (sym (append-nil first))
+passed capacity why past first (item ∷ items) (next ∷ rest) =
+    elim (next.item == item) as (λ v. (next.item == item) ≡ v → items_cause capacity why past first (item ∷ items) (next ∷ rest) ≡
+    items_cause capacity why past (first ++ take (if v then suc (agreed items rest) else 0) (item ∷ items)) (drop (if v then suc (agreed items rest) else 0) (item ∷ items))
     (drop (if v then suc (agreed items rest) else 0) (next ∷ rest))) [
       | true ↦ λ e.
           let p : ℕ = agreed items rest in
-          let on : items_cause capacity past first (item ∷ items) (next ∷ rest) ≡ items_cause capacity past (first ++ item ∷ []) items rest = if_on _ _ _ e in
-          on ∙ passed capacity past (first ++ item ∷ []) items rest ∙
-          ap (λ z. items_cause capacity past z (drop p items) (drop p rest)) (append_assoc first (item ∷ []) (take p items))
-      | false ↦ λ e. ap (λ z. items_cause capacity past z (item ∷ items) (next ∷ rest)) (sym (append-nil first))
+          let on : items_cause capacity why past first (item ∷ items) (next ∷ rest) ≡ items_cause capacity why past (first ++ item ∷ []) items rest = if_on _ _ _ e in
+          on ∙ passed capacity why past (first ++ item ∷ []) items rest ∙
+          ap (λ z. items_cause capacity why past z (drop p items) (drop p rest)) (append_assoc first (item ∷ []) (take p items))
+      | false ↦ λ e. ap (λ z. items_cause capacity why past z (item ∷ items) (next ∷ rest)) (sym (append-nil first))
     ] refl
 
 -- and the one behind them is not the next
@@ -291,29 +293,29 @@ taken_first line item (x ∷ first) more =
 
 -- what is told behind those that are passed
 pub behind_passed :
-    (capacity : Capacity) (past : List Event) (items : List ℕ) (rest : List Offered) (z : Cause) (q item d : ℕ) → q ≡ agreed items rest → q < length items → item ≡ get_or items q d →
-    items_cause capacity past [] items rest ≡ Some z →
-    (agreed (item ∷ []) (drop (length (take q items)) rest) ≡ 0) × (items_cause capacity past (take q items) (item ∷ drop (suc q) items) (drop (length (take q items)) rest) ≡ Some z)
-behind_passed capacity past items rest z q item d is few at_it e =
+    (capacity : Capacity) (why : Bool) (past : List Event) (items : List ℕ) (rest : List Offered) (z : Cause) (q item d : ℕ) → q ≡ agreed items rest → q < length items → item ≡ get_or items q d →
+    items_cause capacity why past [] items rest ≡ Some z →
+    (agreed (item ∷ []) (drop (length (take q items)) rest) ≡ 0) × (items_cause capacity why past (take q items) (item ∷ drop (suc q) items) (drop (length (take q items)) rest) ≡ Some z)
+behind_passed capacity why past items rest z q item d is few at_it e =
     let long : length (take q items) ≡ q = length-take-le q items (omega (arith, few)) in
     let parts : drop q items ≡ item ∷ drop (suc q) items = drop-cons items q d few ∙ ap (λ x. x ∷ drop (suc q) items) (sym at_it) in
-    let F : ℕ → Type 0 = λ n. items_cause capacity past (take n items) (drop n items) (drop n rest) ≡ Some z in
-    let told : F q = subst F (sym is) (sym (passed capacity past [] items rest) ∙ e) in
+    let F : ℕ → Type 0 = λ n. items_cause capacity why past (take n items) (drop n items) (drop n rest) ≡ Some z in
+    let told : F q = subst F (sym is) (sym (passed capacity why past [] items rest) ∙ e) in
     let G : ℕ → Type 0 = λ n. agreed (drop n items) (drop n rest) ≡ 0 in
     let none : G q = subst G (sym is) (not_passed items rest) in
     let P : List ℕ → Type 0 = λ l. agreed l (drop q rest) ≡ 0 in
-    let Q : List ℕ → Type 0 = λ l. items_cause capacity past (take q items) l (drop q rest) ≡ Some z in
-    let R : ℕ → Type 0 = λ n. (agreed (item ∷ []) (drop n rest) ≡ 0) × (items_cause capacity past (take q items) (item ∷ drop (suc q) items) (drop n rest) ≡ Some z) in
+    let Q : List ℕ → Type 0 = λ l. items_cause capacity why past (take q items) l (drop q rest) ≡ Some z in
+    let R : ℕ → Type 0 = λ n. (agreed (item ∷ []) (drop n rest) ≡ 0) × (items_cause capacity why past (take q items) (item ∷ drop (suc q) items) (drop n rest) ≡ Some z) in
     subst R (sym long) (one_not_passed item (drop (suc q) items) (drop q rest) (subst P parts none), subst Q parts told)
 
 pub all_passed :
-    (capacity : Capacity) (past : List Event) (items : List ℕ) (rest : List Offered) (z : Cause) (q : ℕ) → q ≡ agreed items rest → length items ≤ q →
-    items_cause capacity past [] items rest ≡ Some z → fewer_cause capacity (length items) past ≡ Some z
-all_passed capacity past items rest z q is many e =
+    (capacity : Capacity) (why : Bool) (past : List Event) (items : List ℕ) (rest : List Offered) (z : Cause) (q : ℕ) → q ≡ agreed items rest → length items ≤ q →
+    items_cause capacity why past [] items rest ≡ Some z → fewer_cause capacity (length items) why past ≡ Some z
+all_passed capacity why past items rest z q is many e =
     let p : ℕ = agreed items rest in
     let all : p ≡ length items = omega (arith, is, many, agreed_few items rest) in
-    let F : List ℕ → List ℕ → Type 0 = λ l m. items_cause capacity past l m (drop p rest) ≡ Some z in
-    let told : F (take p items) (drop p items) = sym (passed capacity past [] items rest) ∙ e in
+    let F : List ℕ → List ℕ → Type 0 = λ l m. items_cause capacity why past l m (drop p rest) ≡ Some z in
+    let told : F (take p items) (drop p items) = sym (passed capacity why past [] items rest) ∙ e in
     let whole : take p items ≡ items = take_all p items (omega (arith, all)) in
     let none : drop p items ≡ [] = drop_all p items (omega (arith, all)) in
     subst (λ l. F l []) whole (subst (λ m. F (take p items) m) none told)

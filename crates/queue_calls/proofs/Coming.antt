@@ -59,9 +59,9 @@ module _ (past : List Event) (k : Kept) (a : Agrees past k) where
       drop-take (k_of past) (length k.inside - (n - count)) (stored past ++ offers past)
 
   pub some_stored :
-      (n inside count : ℕ) → k.put ≡ Offers n inside → count ≤ n → n - count ≤ length k.inside → (left : List Offered) → left ≡ take (length k.inside - (n - count)) (coming past) →
-      coming (PutStored count ∷ past) ≡ take (length k.inside - n) left ++ map (stored_at (line_behind past)) (drop (length k.inside - n) left)
-  some_stored n inside count is few some left e =
+      (n inside count : ℕ) (why : Bool) → k.put ≡ Offers n inside → count ≤ n → n - count ≤ length k.inside → (left : List Offered) → left ≡ take (length k.inside - (n - count)) (coming past) →
+      coming (PutStored count why ∷ past) ≡ take (length k.inside - n) left ++ map (stored_at (line_behind past)) (drop (length k.inside - n) left)
+  some_stored n inside count why is few some left e =
       let f = as_put past k a (Offers n inside) is in
       let line = stored_at (line_behind past) in
       let rest : ℕ = length k.inside - n in
@@ -80,8 +80,8 @@ module _ (past : List Event) (k : Kept) (a : Agrees past k) where
   late_stored n is = ap (λ z. drop (k_of past) (stored past ++ z)) (sym (as_put past k a (Late n) is).0)
 
   -- the take under way ends with items
-  pub took : (items : List ℕ) → coming (TakeItems items ∷ past) ≡ drop (length items) (coming past)
-  took items =
+  pub took : (items : List ℕ) (why : Bool) → coming (TakeItems items why ∷ past) ≡ drop (length items) (coming past)
+  took items why =
       let line = taken_at (line_behind past) in
-      let count : k_of (TakeItems items ∷ past) ≡ k_of past + length items = omega (arith, length-append (taken past) (map line items), length-map items line) in
+      let count : k_of (TakeItems items why ∷ past) ≡ k_of past + length items = omega (arith, length-append (taken past) (map line items), length-map items line) in
       ap (λ z. drop z (stored past ++ offers past)) count ∙ sym (drop-drop (length items) (k_of past) (stored past ++ offers past))

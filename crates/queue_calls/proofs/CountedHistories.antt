@@ -47,9 +47,9 @@ module _ (capacity : Capacity) (h : List Event) (k : Kept) (j : Stands capacity 
         stands_as capacity (h ++ PutBegin items ∷ []) after (kept k.inside (Late (length items)) k.take true) b.1
         (late_begin capacity h k.inside items k.take (of_free true free b.0) items_come).0
   ]
-  counts_keeps (PutStored count) after (offered, before, is, stored, few, lacks, ends) =
-      stands_as capacity (h ++ PutStored count ∷ []) after _ ends.1
-      (put_stored capacity h k.inside k.take k.shut offered before (of_put (Offers offered before) is) count stored few (λ l. inr (lacks l)) ends.0).0
+  counts_keeps (PutStored count why) after (offered, before, is, stored, few, lacks, ends) =
+      stands_as capacity (h ++ PutStored count why ∷ []) after _ ends.1
+      (put_stored capacity h k.inside k.take k.shut offered before (of_put (Offers offered before) is) count why stored few (λ tells l. inr (lacks tells l)) ends.0).0
   counts_keeps PutFull after (offered, before, is, lacks, ends) =
       stands_as capacity (h ++ PutFull ∷ []) after _ ends.1 (put_full capacity h k.inside k.take k.shut offered before (of_put (Offers offered before) is) (inr lacks) ends.0).0
   counts_keeps PutShort after (offered, before, is, several, lacks, ends) =
@@ -71,9 +71,9 @@ module _ (capacity : Capacity) (h : List Event) (k : Kept) (j : Stands capacity 
       stands_as capacity (h ++ CloseEnd ∷ []) after _ e (close_end capacity h k.inside k.take again k.shut (of_put (Closes again) is)).0
   counts_keeps (TakeBegin wanted) after (rests, some_wanted, e) =
       stands_as capacity (h ++ TakeBegin wanted ∷ []) after _ e (take_begin capacity h k.inside k.shut wanted some_wanted k.put (of_take Rests rests)).0
-  counts_keeps (TakeItems items) after (wanted, before, ended, is, items_come, few, lacks, next, ends) =
-      stands_as capacity (h ++ TakeItems items ∷ []) after _ ends.1
-      (take_items capacity h k.put k.shut k.inside wanted before ended (of_take (Waits wanted before ended) is) items items_come few lacks next ends.0).0
+  counts_keeps (TakeItems items why) after (wanted, before, ended, is, items_come, few, lacks, next, ends) =
+      stands_as capacity (h ++ TakeItems items why ∷ []) after _ ends.1
+      (take_items capacity h k.put k.shut k.inside wanted before ended (of_take (Waits wanted before ended) is) items why items_come few lacks next ends.0).0
   counts_keeps TakeEmpty after (wanted, before, is, none, ends) =
       stands_as capacity (h ++ TakeEmpty ∷ []) after _ ends.1
       (take_empty capacity h k.put k.shut k.inside wanted before false (of_take (Waits wanted before false) is) refl none ends.0).0
@@ -87,11 +87,13 @@ module _ (capacity : Capacity) (h : List Event) (k : Kept) (j : Stands capacity 
       stands_as capacity (h ++ TakeClosed ∷ []) after _ e
       (take_closed capacity h k.put wanted before ended k.shut (of_none (Waits wanted before ended) is none) closed).0
 
+-- it can lead somewhere
+pub stands_linear : (capacity : Capacity) (h : List Event) (k : Kept) → Stands capacity h k → IsLinearizable capacity h
+stands_linear capacity h k j = let (t, d, told) = some capacity k.inside k.put k.take k.shut j.few in (t, j.sound t d (told j.late))
+
 -- events that can be counted behind a history
 counted : (capacity : Capacity) (events h : List Event) (k : Kept) → Stands capacity h k → AreCounted capacity k events → IsLinearizable capacity (h ++ events)
-counted capacity [] h k j c =
-    let (t, d, told) = some capacity k.inside k.put k.take k.shut j.few in
-    subst (λ z. IsLinearizable capacity z) (sym (append-nil h)) (t, j.sound t d (told j.late))
+counted capacity [] h k j c = subst (λ z. IsLinearizable capacity z) (sym (append-nil h)) (stands_linear capacity h k j)
 counted capacity (event ∷ events) h k j (after, now, later) =
     subst (λ z. IsLinearizable capacity z) (append_assoc h (event ∷ []) events)
     (counted capacity events (h ++ event ∷ []) after (counts_keeps capacity h k j event after now) later)

@@ -22,13 +22,13 @@ shut_or_not false = inl refl
 shut_or_not true = inr refl
 
 -- a reason that was found, of a put that left some of its items, and of a take that wanted more than it took
-lacks_room : (capacity : Capacity) (before count : ℕ) → 0 < count → MayLack capacity before count → LacksRoom capacity before count
+pub lacks_room : (capacity : Capacity) (before count : ℕ) → 0 < count → MayLack capacity before count → LacksRoom capacity before count
 lacks_room capacity before count l f = elim f [ inl e ↦ absurd (omega (arith, e, l)) | inr g ↦ g ]
 
 finds_fewer : (before count : ℕ) (ended : Bool) → 0 < count → MayFindFewer before ended count → (before < count) × (ended ≡ true → 0 < before)
 finds_fewer before count ended l f = elim f [ inl e ↦ absurd (omega (arith, e, l)) | inr g ↦ g ]
 
-short_of_more : (count left : ℕ) → 0 < left → short_of count left ≡ suc count
+pub short_of_more : (count left : ℕ) → 0 < left → short_of true count left ≡ suc count
 short_of_more count zero l = absurd (omega (arith, l))
 short_of_more count (suc left) l = refl
 
@@ -138,14 +138,15 @@ module _ (capacity : Capacity) (k : Kept) (sound : IsSoundPut (length k.inside) 
         | inl e ↦ (kept (k.inside ++ items) (Offers (length items) (length k.inside)) k.take false, (free ep, some, inl (e, refl)))
         | inr e ↦ (kept k.inside (Late (length items)) k.take true, (free ep, some, inr (e, refl)))
       ]
-  leads_counts (PutStored count) m =
+  leads_counts (PutStored count why) m =
       let (left, some, ep, ep') = m.producer in
-      elim (tells (short_of count (length left)) count left ep) [
+      elim (tells (short_of why count (length left)) count left ep) [
         | inl b ↦ (
             let (offered, before, is, sum, lacks, fits) = b in
             let F : ℕ → Type 0 = λ z. MayLack capacity before z in
-            let reason : count < offered → LacksRoom capacity before (suc count) =
-            λ l. lacks_room capacity before (suc count) (omega arith) (subst F (short_of_more count (length left) (omega (arith, l, sum))) lacks) in (
+            let reason : why ≡ true → count < offered → LacksRoom capacity before (suc count) =
+            λ says l. lacks_room capacity before (suc count) (omega arith)
+            (subst F (ap (λ z. short_of z count (length left)) says ∙ short_of_more count (length left) (omega (arith, l, sum))) lacks) in (
               kept (without (offered - count) k.inside) Free k.take k.shut,
               (offered, before, is, some, omega (arith, sum), reason, (ends_put (offered - count) (length left) (omega (arith, sum)) fits, refl)),
             ))
@@ -200,14 +201,16 @@ module _ (capacity : Capacity) (k : Kept) (sound : IsSoundPut (length k.inside) 
         kept k.inside k.put (Waits wanted (length k.inside - offered_by k.put) k.shut) k.shut,
         (resting_tells k.take s.queue (as_take Resting ec).consumer, some, refl),
       )
-  leads_counts (TakeItems items) m =
+  leads_counts (TakeItems items why) m =
       let (left, some, ec, ec') = m.consumer in
-      let d' = as_take (Taking (short_of (length items) left) items left) ec in
-      let (wanted, before, ended, is, sum, fewer) = taking_tells k.take s.queue (short_of (length items) left) items left d'.consumer in
-      let (next, fits) = can_end_take capacity k.inside k.put k.take k.shut s.queue s.producer (short_of (length items) left) items left d' in
+      let d' = as_take (Taking (short_of why (length items) left) items left) ec in
+      let (wanted, before, ended, is, sum, fewer) = taking_tells k.take s.queue (short_of why (length items) left) items left d'.consumer in
+      let (next, fits) = can_end_take capacity k.inside k.put k.take k.shut s.queue s.producer (short_of why (length items) left) items left d' in
       let F : ℕ → Type 0 = λ z. MayFindFewer before ended z in
-      let reason : length items < wanted → before ≤ length items =
-      λ l. let (less, _) = finds_fewer before (suc (length items)) ended (omega arith) (subst F (short_of_more (length items) left (omega (arith, l, sum))) fewer) in omega (arith, less) in
+      let reason : why ≡ true → length items < wanted → before ≤ length items =
+      λ says l.
+      let (less, _) = finds_fewer before (suc (length items)) ended (omega arith)
+      (subst F (ap (λ z. short_of z (length items) left) says ∙ short_of_more (length items) left (omega (arith, l, sum))) fewer) in omega (arith, less) in
       (kept (drop (length items) k.inside) k.put Rests k.shut, (wanted, before, ended, is, some, omega (arith, sum), reason, next, (fits, refl)))
   leads_counts TakeEmpty m =
       let (wanted, ec, ec') = m.consumer in
@@ -237,7 +240,7 @@ module _ (capacity : Capacity) (k : Kept) (sound : IsSoundPut (length k.inside) 
 abbrev LeadsOn : Capacity → Kept → Event → Type 0
 LeadsOn capacity k event = (s t : Point) × Describes capacity k.inside k.put k.take k.shut s × Leads capacity s (Happens event) t
 
-leads_on : (capacity : Capacity) (h : List Event) (k : Kept) (event : Event) → Stands capacity h k → IsLinearizable capacity (h ++ event ∷ []) → LeadsOn capacity k event
+pub leads_on : (capacity : Capacity) (h : List Event) (k : Kept) (event : Event) → Stands capacity h k → IsLinearizable capacity (h ++ event ∷ []) → LeadsOn capacity k event
 leads_on capacity h k event j (t, r) = last_event capacity h event (λ _. LeadsOn capacity k event) (λ s u e p l. p) (λ s u q l. (s, u, j.complete s q, l)) t r
 
 counts_follow : (capacity : Capacity) (events h : List Event) (k : Kept) → Stands capacity h k → IsLinearizable capacity (h ++ events) → AreCounted capacity k events

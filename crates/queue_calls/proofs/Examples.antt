@@ -56,20 +56,20 @@ drained r = r.1.1 (refl, refl)
 
 -- a put within a take: both calls have overlapped one of the other side; a second put within the same take: three have; takes that come
 -- behind a put: none have
-within_one : overlapped (PutStored 1 ∷ PutBegin (7 ∷ []) ∷ TakeBegin 1 ∷ []) ≡ 2
+within_one : overlapped (PutStored 1 true ∷ PutBegin (7 ∷ []) ∷ TakeBegin 1 ∷ []) ≡ 2
 within_one = refl
 
-within_both : overlapped (PutBegin (8 ∷ []) ∷ PutStored 1 ∷ PutBegin (7 ∷ []) ∷ TakeBegin 1 ∷ []) ≡ 3
+within_both : overlapped (PutBegin (8 ∷ []) ∷ PutStored 1 true ∷ PutBegin (7 ∷ []) ∷ TakeBegin 1 ∷ []) ≡ 3
 within_both = refl
 
-one_behind : overlapped (TakeBegin 1 ∷ TakeItems (7 ∷ []) ∷ TakeBegin 1 ∷ PutStored 1 ∷ PutBegin (7 ∷ []) ∷ []) ≡ 0
+one_behind : overlapped (TakeBegin 1 ∷ TakeItems (7 ∷ []) true ∷ TakeBegin 1 ∷ PutStored 1 true ∷ PutBegin (7 ∷ []) ∷ []) ≡ 0
 one_behind = refl
 
 -- a put of which only some items were stored ends as a full one does
-some_stored : full_ends (PutStored 1 ∷ PutBegin (7 ∷ 8 ∷ []) ∷ []) ≡ 1
+some_stored : full_ends (PutStored 1 true ∷ PutBegin (7 ∷ 8 ∷ []) ∷ []) ≡ 1
 some_stored = refl
 
-all_stored : full_ends (PutStored 2 ∷ PutBegin (7 ∷ 8 ∷ []) ∷ []) ≡ 0
+all_stored : full_ends (PutStored 2 true ∷ PutBegin (7 ∷ 8 ∷ []) ∷ []) ≡ 0
 all_stored = refl
 
 -- two calls that have begun and not ended

@@ -1,14 +1,14 @@
 -- One more line behind lines, and lines that cannot stand behind them.
-use Rattle.std.proofs.Common.{◌≡◌, ◌≢◌, ℕ, suc, ◌+◌, Option, Some, None, List, [], ◌∷◌, ◌++◌, length, refl, ap, sym, subst, ◌∙◌, arith}
+use Rattle.std.proofs.Common.{◌≡◌, ◌≢◌, ℕ, suc, ◌+◌, Bool, true, false, Option, Some, None, List, [], ◌∷◌, ◌++◌, length, refl, ap, sym, subst, ◌∙◌, arith}
 use Rattle.std.specs.Prelude.{All}
 use Rattle.std.proofs.lemmas.List.Elements.{All-append, All-cons, All-head, All-nil, All-tail}
 use Rattle.std.proofs.lemmas.Option.{none-some}
 use Rattle.queue_calls.specs.Calls.{Event}
 use Rattle.queue_calls.specs.Lines.{IsLine}
-use Rattle.queue_calls.specs.Recordings.{Line, line, IsOfFormat, IsFurther, AreLines, capacity_told, event_told, begun_after, begun_behind, and_then, events_told}
+use Rattle.queue_calls.specs.Recordings.{Line, line, first_word, IsOfFormat, IsFurther, AreLines, capacity_told, event_told, begun_after, begun_behind, and_then, events_told}
 use Rattle.queue_calls.specs.RecordingStates.{HasHeard, HeardLines, ContinuesLines}
 use Rattle.queue_calls.specs.declared.lines.Word.{Word}
-use Rattle.queue_calls.specs.declared.lines.Word.TheVariants.{Queue, Put, Stored, Full, Short, PutNothing, PutClosed, Close, Take, Item, Empty, TakeShort, TakeNothing, TakeClosed}
+use Rattle.queue_calls.specs.declared.lines.Word.TheVariants.{Queue, Cut, Put, Stored, PutSome, Full, Short, PutNothing, PutClosed, Close, Take, Item, TakeSome, Empty, TakeShort, TakeNothing, TakeClosed}
 use Rattle.queue_calls.specs.declared.recordings.Begun.{Begun}
 use Rattle.queue_calls.specs.declared.recordings.Begun.TheVariants as begun
 use Rattle.queue_calls.specs.declared.entries.Offered.{Offered}
@@ -18,11 +18,17 @@ use Rattle.queue_calls.proofs.LineLemmas.{line_same}
 
 -- ---- events
 
+-- a word of a first line
+abbrev pub IsFirst : Word → Type 0
+IsFirst w = (is_cut : Bool) × (w ≡ first_word is_cut)
+
 -- a line behind the first tells an event
-no_event : (b : Begun) (w : Word) (numbers : List ℕ) → event_told b w numbers ≡ None → w ≡ Queue
-no_event b Queue numbers e = refl
+no_event : (b : Begun) (w : Word) (numbers : List ℕ) → event_told b w numbers ≡ None → IsFirst w
+no_event b Queue numbers e = (false, refl)
+no_event b Cut numbers e = (true, refl)
 no_event b Put numbers e = absurd (none-some _ (sym e))
 no_event b Stored numbers e = absurd (none-some _ (sym e))
+no_event b PutSome numbers e = absurd (none-some _ (sym e))
 no_event b Full numbers e = absurd (none-some _ (sym e))
 no_event b Short numbers e = absurd (none-some _ (sym e))
 no_event b PutNothing numbers e = absurd (none-some _ (sym e))
@@ -30,18 +36,24 @@ no_event b PutClosed numbers e = absurd (none-some _ (sym e))
 no_event b Close numbers e = absurd (none-some _ (sym e))
 no_event b Take numbers e = absurd (none-some _ (sym e))
 no_event b Item numbers e = absurd (none-some _ (sym e))
+no_event b TakeSome numbers e = absurd (none-some _ (sym e))
 no_event b Empty numbers e = absurd (none-some _ (sym e))
 no_event b TakeShort numbers e = absurd (none-some _ (sym e))
 no_event b TakeNothing numbers e = absurd (none-some _ (sym e))
 no_event b TakeClosed numbers e = absurd (none-some _ (sym e))
 
-pub not_first : (b : Begun) (w : Word) (numbers : List ℕ) (event : Event) → event_told b w numbers ≡ Some event → w ≢ Queue
-not_first b w numbers event e is = none-some event (sym (ap (λ (v : Word). event_told b v numbers) is) ∙ e)
+-- the first line tells none
+first_tells_none : (b : Begun) (is_cut : Bool) (numbers : List ℕ) → event_told b (first_word is_cut) numbers ≡ None
+first_tells_none b true numbers = refl
+first_tells_none b false numbers = refl
+
+pub not_first : (b : Begun) (w : Word) (numbers : List ℕ) (event : Event) → event_told b w numbers ≡ Some event → (is_cut : Bool) → w ≢ first_word is_cut
+not_first b w numbers event e is_cut is = none-some event (sym (first_tells_none b is_cut numbers) ∙ sym (ap (λ (v : Word). event_told b v numbers) is) ∙ e)
 
 one_event : (b : Begun) (l : Line) → IsFurther l → (events : List Event) → length (and_then (event_told b l.word l.numbers) events) ≡ suc (length events)
 one_event b l further events =
     elim (event_told b l.word l.numbers) as (λ o. event_told b l.word l.numbers ≡ o → length (and_then o events) ≡ suc (length events)) [
-      | None ↦ λ e. absurd (further.0 (no_event b l.word l.numbers e))
+      | None ↦ λ e. let first = no_event b l.word l.numbers e in absurd (further.0 first.0 first.1)
       | Some event ↦ λ e. refl
     ] refl
 
@@ -90,47 +102,48 @@ same_word : (before : List Line) (bytes numbers : List ℕ) (w : Word) (l : Line
 same_word before bytes numbers w l is on = (line_same bytes w l.word numbers l.numbers is (is_line before bytes l on)).0
 
 -- no line that goes on with none has another word than the first
-pub not_the_first : (before : List Line) (bytes numbers : List ℕ) (w : Word) (l : Line) → before ≡ [] → w ≢ Queue → IsLine bytes w numbers → ¬ (ContinuesLines before bytes l)
-not_the_first [] bytes numbers w l none other is on = other (same_word [] bytes numbers w l is on ∙ on.0.0)
+pub not_the_first : (before : List Line) (bytes numbers : List ℕ) (w : Word) (l : Line) → before ≡ [] → ¬ IsFirst w → IsLine bytes w numbers → ¬ (ContinuesLines before bytes l)
+not_the_first [] bytes numbers w l none other is on = other (on.0.0.0, same_word [] bytes numbers w l is on ∙ on.0.0.1)
 not_the_first (x ∷ before) bytes numbers w l none other is on = absurd (omega (arith, ap length none))
 
 -- no line that goes on with others tells no event
 pub not_further : (before : List Line) (bytes numbers told : List ℕ) (b : Begun) (w : Word) (l : Line) → before ≢ [] → event_told b w told ≡ None → IsLine bytes w numbers → ¬ (ContinuesLines before bytes l)
 not_further [] bytes numbers told b w l some none is on = some refl
 not_further (x ∷ further) bytes numbers told b w l some none is on =
-    (All-last further l on.0.2).0 (sym (same_word (x ∷ further) bytes numbers w l is on) ∙ no_event b w told none)
+    let first = no_event b w told none in
+    (All-last further l on.0.2).0 first.0 (sym (same_word (x ∷ further) bytes numbers w l is on) ∙ first.1)
 
 -- the first line
-pub first_line : (before : List Line) (bytes numbers : List ℕ) → before ≡ [] → IsLine bytes Queue numbers → ContinuesLines before bytes (line Queue numbers)
-first_line [] bytes numbers none is = ((refl, (is.allowed, is.small), All-nil IsFurther), is.text)
-first_line (l ∷ before) bytes numbers none is = absurd (omega (arith, ap length none))
+pub first_line : (before : List Line) (bytes numbers : List ℕ) (is_cut : Bool) → before ≡ [] → IsLine bytes (first_word is_cut) numbers → ContinuesLines before bytes (line (first_word is_cut) numbers)
+first_line [] bytes numbers is_cut none is = (((is_cut, refl), (is.allowed, is.small), All-nil IsFurther), is.text)
+first_line (l ∷ before) bytes numbers is_cut none is = absurd (omega (arith, ap length none))
 
-pub first_heard : {S O T N B : Type 0} (offered : O → List Offered) (last : T → List Taken) (hearing : Hearing S O T N B) (before : List Line) (numbers : List ℕ) → before ≡ [] → hearing.begun ≡ begun.Nothing → HasHeard offered last hearing (capacity_told numbers) []
-    → HeardLines offered last hearing (before ++ line Queue numbers ∷ [])
-first_heard offered last hearing [] numbers none rests heard = (numbers, [], refl, rests, heard)
-first_heard offered last hearing (l ∷ before) numbers none rests heard = absurd (omega (arith, ap length none))
+pub first_heard : {S O T N B : Type 0} (offered : O → List Offered) (last : T → List Taken) (hearing : Hearing S O T N B) (before : List Line) (is_cut : Bool) (numbers : List ℕ) → before ≡ [] → hearing.begun ≡ begun.Nothing → HasHeard offered last hearing (capacity_told numbers) []
+    → HeardLines offered last hearing is_cut (before ++ line (first_word is_cut) numbers ∷ [])
+first_heard offered last hearing [] is_cut numbers none rests heard = (numbers, [], refl, rests, heard)
+first_heard offered last hearing (l ∷ before) is_cut numbers none rests heard = absurd (omega (arith, ap length none))
 
 -- a further line
-pub further_line : (before : List Line) (bytes first : List ℕ) (further : List Line) (b : Begun) (w : Word) (numbers : List ℕ) (event : Event) → before ≡ line Queue first ∷ further → AreLines before
+pub further_line : (before : List Line) (is_cut : Bool) (bytes first : List ℕ) (further : List Line) (b : Begun) (w : Word) (numbers : List ℕ) (event : Event) → before ≡ line (first_word is_cut) first ∷ further → AreLines before
     → IsLine bytes w numbers → event_told b w numbers ≡ Some event → ContinuesLines before bytes (line w numbers)
-further_line before bytes first further b w numbers event parts are is tells =
-    let were : AreLines (line Queue first ∷ further) = subst AreLines parts are in
+further_line before is_cut bytes first further b w numbers event parts are is tells =
+    let were : AreLines (line (first_word is_cut) first ∷ further) = subst AreLines parts are in
     let last : IsFurther (line w numbers) = (not_first b w numbers event tells, (is.allowed, is.small)) in
-    let all : AreLines (line Queue first ∷ (further ++ line w numbers ∷ [])) = (refl, were.1, All-append IsFurther further (line w numbers ∷ []) were.2 (All-cons IsFurther (line w numbers) [] last (All-nil IsFurther))) in
+    let all : AreLines (line (first_word is_cut) first ∷ (further ++ line w numbers ∷ [])) = (were.0, were.1, All-append IsFurther further (line w numbers ∷ []) were.2 (All-cons IsFurther (line w numbers) [] last (All-nil IsFurther))) in
     (subst (λ (lines : List Line). AreLines (lines ++ line w numbers ∷ [])) (sym parts) all, is.text)
 
-pub count_is : (before : List Line) (first : List ℕ) (further : List Line) (b : Begun) (count line_number : ℕ) → before ≡ line Queue first ∷ further → AreLines before → count ≡ length before → line_number ≡ count + 1
+pub count_is : (before : List Line) (is_cut : Bool) (first : List ℕ) (further : List Line) (b : Begun) (count line_number : ℕ) → before ≡ line (first_word is_cut) first ∷ further → AreLines before → count ≡ length before → line_number ≡ count + 1
     → length (events_told b further) + 2 ≡ line_number
-count_is before first further b count line_number parts are is next =
-    let were : AreLines (line Queue first ∷ further) = subst AreLines parts are in
+count_is before is_cut first further b count line_number parts are is next =
+    let were : AreLines (line (first_word is_cut) first ∷ further) = subst AreLines parts are in
     let many : length (events_told b further) ≡ length further = as_many b further were.2 in
     let all : length before ≡ length further + 1 = ap length parts ∙ omega arith in
     omega (arith, many, all, is, next)
 
-pub further_heard : {S O T N B : Type 0} (offered : O → List Offered) (last : T → List Taken) (hearing : Hearing S O T N B) (before : List Line) (first : List ℕ) (further : List Line) (w : Word) (numbers : List ℕ) (event : Event) → before ≡ line Queue first ∷ further
+pub further_heard : {S O T N B : Type 0} (offered : O → List Offered) (last : T → List Taken) (hearing : Hearing S O T N B) (before : List Line) (is_cut : Bool) (first : List ℕ) (further : List Line) (w : Word) (numbers : List ℕ) (event : Event) → before ≡ line (first_word is_cut) first ∷ further
     → event_told (begun_behind begun.Nothing further) w numbers ≡ Some event → hearing.begun ≡ begun_after (begun_behind begun.Nothing further) w numbers
-    → HasHeard offered last hearing (capacity_told first) (events_told begun.Nothing further ++ event ∷ []) → HeardLines offered last hearing (before ++ line w numbers ∷ [])
-further_heard offered last hearing before first further w numbers event parts tells behind heard =
+    → HasHeard offered last hearing (capacity_told first) (events_told begun.Nothing further ++ event ∷ []) → HeardLines offered last hearing is_cut (before ++ line w numbers ∷ [])
+further_heard offered last hearing before is_cut first further w numbers event parts tells behind heard =
     let more : events_told begun.Nothing further ++ event ∷ [] ≡ events_told begun.Nothing (further ++ line w numbers ∷ []) =
     sym (events_more begun.Nothing further (line w numbers) ∙ ap (λ (o : Option Event). events_told begun.Nothing further ++ and_then o []) tells) in (
       first,

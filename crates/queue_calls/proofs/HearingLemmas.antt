@@ -6,14 +6,13 @@ use Rattle.queue_calls.specs.Queue.{Capacity}
 use Rattle.queue_calls.specs.Calls.{Event, IsLinearizable}
 use Rattle.queue_calls.specs.Counting.{Kept, kept}
 use Rattle.queue_calls.specs.State.{IsProper, offered_by}
-use Rattle.queue_calls.specs.Lines.{Allows}
-use Rattle.queue_calls.specs.Recordings.{capacity_told, StopsAt}
+use Rattle.queue_calls.specs.Lines.{AllowsQueue}
+use Rattle.queue_calls.specs.Recordings.{capacity_told, IsFoundOf, StopsAt}
 use Rattle.queue_calls.specs.RecordingStates.{IsFaultSoFar}
 use Rattle.queue_calls.specs.Reporting.{as_number, IsReport, IsSurelyInside, IsPerhapsInside}
 use Rattle.queue_calls.specs.Tallying.{HaveNumbersOf, IsTallied, IsToldOf, Tallies, least_kept, most_behind, most_kept, has_put, has_take}
 use Rattle.queue_calls.specs.Told.{meant}
 use Rattle.queue_calls.specs.Witnesses.{Remembers}
-use Rattle.queue_calls.specs.declared.lines.Word.TheVariants as word
 use Rattle.queue_calls.specs.declared.entries.Offered.{Offered}
 use Rattle.queue_calls.specs.declared.entries.Taken.{Taken}
 use Rattle.queue_calls.specs.declared.reports.Report.{Report}
@@ -29,10 +28,10 @@ use Rattle.queue_calls.proofs.Remembering.{kept_of, linear, stands}
 use Rattle.queue_calls.proofs.TalliesFollow.{last_count, sides_fit, tells}
 
 -- the numbers of a first line tell a capacity that a queue may have
-pub proper_told : (numbers : List ℕ) → Allows word.Queue numbers → IsProper (capacity_told numbers)
+pub proper_told : (numbers : List ℕ) → AllowsQueue numbers → IsProper (capacity_told numbers)
 proper_told [] allowed = tt
 proper_told (most ∷ []) allowed = (omega (arith, allowed), omega arith)
-proper_told (full ∷ most ∷ []) allowed = (omega (arith, allowed.0), omega (arith, allowed.1))
+proper_told (full ∷ most ∷ []) allowed = (omega (arith, allowed), omega (arith, allowed))
 proper_told (full ∷ most ∷ n ∷ more) allowed = absurd allowed
 
 -- a fault stays the first one
@@ -61,6 +60,24 @@ stops_here capacity events event number Says so_far stops says is = record {
   stops = stops;
   says = says;
 }
+
+-- the report of what was counted, where these calls are under way
+pub report_of : {S O T N B : Type 0} → Witness S O T N B → Tally → Report
+report_of w tally =
+    let r = tally.report in
+    record {
+      calls = r.calls;
+      stored = r.stored;
+      taken = r.taken;
+      full = r.full;
+      empty = r.empty;
+      nothing = r.nothing;
+      told = r.told;
+      surely_inside = r.surely_inside;
+      perhaps_inside = r.perhaps_inside;
+      overlapped = r.overlapped;
+      under_way = as_number (has_put w.auditor.put) + as_number (has_take w.auditor.take);
+    }
 
 module _ {S O T N B : Type 0} (offered : O → List Offered) (last : T → List Taken) (capacity : Capacity) (events : List Event) where
   -- what is remembered is linearizable
@@ -130,3 +147,15 @@ module _ {S O T N B : Type 0} (offered : O → List Offered) (last : T → List 
         perhaps = subst (IsPerhapsInside capacity events) (sym numbers.others.perhaps_inside) t.perhaps;
         under_way = omega (arith, under, ap as_number fit.0, ap as_number fit.1);
       }
+
+  -- where no fault was heard, it is linearizable, and this is told of it
+  pub heard_lawful : (w : Witness S O T N B) (tally : Tally) → Remembers offered last w capacity events → IsTallied capacity events tally → IsFoundOf capacity events (Lawful (report_of w tally))
+  unfolding report_of
+  heard_lawful w tally r t = (
+    heard_linear w r,
+    reported w tally (report_of w tally) r t refl (record {
+      calls = refl;
+      overlapped = refl;
+      others = record { stored = refl; taken = refl; full = refl; empty = refl; nothing = refl; told = refl; surely_inside = refl; perhaps_inside = refl };
+    }),
+  )

@@ -90,14 +90,14 @@ module _ (past : List Event) (k : Kept) (a : Agrees past k) (capacity : Capacity
   -- what comes next behind an event, but for the end of a put that stored some
   pub moved :
       (event : Event) (after : Kept) (entries left : List Offered) → entries ≡ coming past → items_of left ≡ after.inside → Counts capacity k event after → MovesSo event entries left →
-      ((count : ℕ) → event ≡ PutStored count → ⊥) → left ≡ coming (event ∷ past)
+      ((count : ℕ) (why : Bool) → event ≡ PutStored count why → ⊥) → left ≡ coming (event ∷ past)
   moved (PutBegin items) after entries left come are (free, some, begins) moves other = elim begins [
     | inl b ↦
         moves ∙ ap (λ z. if z then entries else entries ++ map (offered_at (line_behind past)) items) b.0 ∙ ap (λ z. z ++ map (offered_at (line_behind past)) items) come ∙
         sym (open_begins past k a items free b.0)
     | inr b ↦ moves ∙ ap (λ z. if z then entries else entries ++ map (offered_at (line_behind past)) items) b.0 ∙ come ∙ sym (late_begins past k a items free b.0)
   ]
-  moved (PutStored count) after entries left come are c moves other = absurd (other count refl)
+  moved (PutStored count why) after entries left come are c moves other = absurd (other count why refl)
   moved PutFull after entries left come are (n, inside, is, lacks, ends) moves other =
       none_left n inside entries left after.inside is ends.0.0 (inside_is after _ ends.1) come are moves ∙ sym (none_stored past k a n inside is ends.0.0)
   moved PutShort after entries left come are (n, inside, is, several, lacks, ends) moves other =
@@ -109,7 +109,7 @@ module _ (past : List Event) (k : Kept) (a : Agrees past k) (capacity : Capacity
     | inr b ↦ (let (n, is, e) = b in all_left entries left come (are ∙ inside_is after _ e) moves ∙ sym (late_stored past k a n is))
   ]
   moved PutClosed after entries left come are (n, is, e) moves other = moves ∙ come ∙ sym (late_stored past k a n is)
-  moved (TakeItems items) after entries left come are c moves other = moves ∙ ap (λ z. drop (length items) z) come ∙ sym (took past k a items)
+  moved (TakeItems items why) after entries left come are c moves other = moves ∙ ap (λ z. drop (length items) z) come ∙ sym (took past k a items why)
   moved CloseBegin after entries left come are c moves other = moves ∙ come
   moved CloseEnd after entries left come are c moves other = moves ∙ come
   moved (TakeBegin wanted) after entries left come are c moves other = moves ∙ come
@@ -120,15 +120,15 @@ module _ (past : List Event) (k : Kept) (a : Agrees past k) (capacity : Capacity
 
   -- and behind that one, where its line is written
   pub moved_stored :
-      (count : ℕ) (after : Kept) (entries left : List Offered) → entries ≡ coming past → items_of left ≡ after.inside → Counts capacity k (PutStored count) after →
-      MovesSo (PutStored count) entries left → mark_last (line_behind past) count left ≡ coming (PutStored count ∷ past)
-  moved_stored count after entries left come are (n, inside, is, some, few, lacks, ends) (m, moves) =
+      (count : ℕ) (why : Bool) (after : Kept) (entries left : List Offered) → entries ≡ coming past → items_of left ≡ after.inside → Counts capacity k (PutStored count why) after →
+      MovesSo (PutStored count why) entries left → mark_last (line_behind past) count left ≡ coming (PutStored count why ∷ past)
+  moved_stored count why after entries left come are (n, inside, is, some, few, lacks, ends) (m, moves) =
       let rest : ℕ = length k.inside - (n - count) in
       let left_is : left ≡ take rest (coming past) =
       first_ones m rest entries left k.inside moves (are ∙ inside_is after _ ends.1) (same_long entries come) (omega arith) ∙ ap (λ z. take rest z) come in
       let long : length left ≡ rest = ap length left_is ∙ length-take-le rest (coming past) (omega (arith, long_coming past k a)) in
       let place : length left - count ≡ length k.inside - n = omega (arith, long, few, ends.0.0) in
-      ap (λ z. take z left ++ map (stored_at (line_behind past)) (drop z left)) place ∙ sym (some_stored past k a n inside count is few ends.0.0 left left_is)
+      ap (λ z. take z left ++ map (stored_at (line_behind past)) (drop z left)) place ∙ sym (some_stored past k a n inside count why is few ends.0.0 left left_is)
 
 -- ---- what is remembered
 
@@ -164,9 +164,9 @@ told_so offered last w capacity events event told e r = subst (λ z. Remembers o
 -- an event whose line no cause tells, and that takes nothing
 abbrev pub IsQuiet : Event → Type 0
 IsQuiet (PutBegin items) = ⊥
-IsQuiet (PutStored count) = ⊥
+IsQuiet (PutStored count why) = ⊥
 IsQuiet CloseEnd = ⊥
-IsQuiet (TakeItems items) = ⊥
+IsQuiet (TakeItems items why) = ⊥
 IsQuiet TakeClosed = ⊥
 IsQuiet _ = Unit {0}
 
@@ -176,9 +176,9 @@ pub quiet_remembers :
     offered next.auditor.inside.list ≡ coming (event ∷ reverse events) → next.taken ≡ w.taken → next.ended_at ≡ w.ended_at → next.told_at ≡ w.told_at → next.put_at ≡ w.put_at →
     next.stored_at ≡ w.stored_at → Remembers offered last next capacity (events ++ event ∷ [])
 quiet_remembers offered last w next capacity events (PutBegin items) q r same c inside t e d p s = absurd q
-quiet_remembers offered last w next capacity events (PutStored count) q r same c inside t e d p s = absurd q
+quiet_remembers offered last w next capacity events (PutStored count why) q r same c inside t e d p s = absurd q
 quiet_remembers offered last w next capacity events CloseEnd q r same c inside t e d p s = absurd q
-quiet_remembers offered last w next capacity events (TakeItems items) q r same c inside t e d p s = absurd q
+quiet_remembers offered last w next capacity events (TakeItems items why) q r same c inside t e d p s = absurd q
 quiet_remembers offered last w next capacity events TakeClosed q r same c inside t e d p s = absurd q
 quiet_remembers offered last w next capacity events PutFull q r same c inside t e d p s =
     next_remembers offered last w next capacity events PutFull r same c inside (ap last t ∙ r.taken) (e ∙ r.ended) (d ∙ r.told) (p ∙ r.put_at) (s ∙ r.stored_at)
@@ -213,9 +213,9 @@ kept_same inside inside' put put' take take' shut shut' i p t s =
 -- ---- how many items are taken
 
 taken_more : (event : Event) (past : List Event) → k_of (event ∷ past) ≡ length (items_got event) + k_of past
-taken_more (TakeItems items) past = omega (arith, length-append (taken past) (map (taken_at (line_behind past)) items), length-map items (taken_at (line_behind past)))
+taken_more (TakeItems items why) past = omega (arith, length-append (taken past) (map (taken_at (line_behind past)) items), length-map items (taken_at (line_behind past)))
 taken_more (PutBegin items) past = omega arith
-taken_more (PutStored count) past = omega arith
+taken_more (PutStored count why) past = omega arith
 taken_more PutFull past = omega arith
 taken_more PutShort past = omega arith
 taken_more PutNothing past = omega arith
@@ -251,19 +251,19 @@ module _ {S O T N B : Type 0} (offered : O → List Offered) (last : T → List 
   -- the entries behind an event of this line
   pub inside_after :
       (event : Event) (line : ℕ) (after : Kept) (left : List Offered) → length events + 2 ≡ line → items_of left ≡ after.inside → Counts (meant w.auditor.capacity) (kept_of offered w) event after →
-      Moves (offered_at line) w.auditor.shut event (offered w.auditor.inside.list) left → ((count : ℕ) → event ≡ PutStored count → ⊥) → left ≡ coming (event ∷ reverse events)
+      Moves (offered_at line) w.auditor.shut event (offered w.auditor.inside.list) left → ((count : ℕ) (why : Bool) → event ≡ PutStored count why → ⊥) → left ≡ coming (event ∷ reverse events)
   inside_after event line after left number are c moves other =
       moved (reverse events) (kept_of offered w) (agrees_of offered last w capacity events r) capacity event after (offered w.auditor.inside.list) left r.inside are (counted_so event after c)
       (subst (λ z. Moves (offered_at z) w.auditor.shut event (offered w.auditor.inside.list) left) (line_is line number) moves) other
 
   pub stored_after :
-      (count line : ℕ) (after : Kept) (left : List Offered) → length events + 2 ≡ line → items_of left ≡ after.inside →
-      Counts (meant w.auditor.capacity) (kept_of offered w) (PutStored count) after → Moves (offered_at line) w.auditor.shut (PutStored count) (offered w.auditor.inside.list) left →
-      mark_last line count left ≡ coming (PutStored count ∷ reverse events)
-  stored_after count line after left number are c moves =
+      (count : ℕ) (why : Bool) (line : ℕ) (after : Kept) (left : List Offered) → length events + 2 ≡ line → items_of left ≡ after.inside →
+      Counts (meant w.auditor.capacity) (kept_of offered w) (PutStored count why) after → Moves (offered_at line) w.auditor.shut (PutStored count why) (offered w.auditor.inside.list) left →
+      mark_last line count left ≡ coming (PutStored count why ∷ reverse events)
+  stored_after count why line after left number are c moves =
       ap (λ z. mark_last z count left) (line_is line number) ∙
-      moved_stored (reverse events) (kept_of offered w) (agrees_of offered last w capacity events r) capacity count after (offered w.auditor.inside.list) left r.inside are
-      (counted_so (PutStored count) after c) moves
+      moved_stored (reverse events) (kept_of offered w) (agrees_of offered last w capacity events r) capacity count why after (offered w.auditor.inside.list) left r.inside are
+      (counted_so (PutStored count why) after c) moves
 
   -- what is remembered where nothing is kept of an event
   pub still_remembers :

@@ -230,7 +230,7 @@ IsNoLonger _ after before = after ≤ before
 
 comes_in : (capacity : Capacity) (k : Kept) (event : Event) (after : Kept) → Counts capacity k event after → IsNoLonger event (length after.inside) (length k.inside)
 comes_in capacity k (PutBegin items) after c = tt
-comes_in capacity k (PutStored count) after (n, inside, is, some, few, lacks, fits) = no_longer k after _ fits.1 (without_less (n - count) k.inside)
+comes_in capacity k (PutStored count why) after (n, inside, is, some, few, lacks, fits) = no_longer k after _ fits.1 (without_less (n - count) k.inside)
 comes_in capacity k PutFull after (n, inside, is, lacks, fits) = no_longer k after _ fits.1 (without_less n k.inside)
 comes_in capacity k PutShort after (n, inside, is, several, lacks, fits) = no_longer k after _ fits.1 (without_less n k.inside)
 comes_in capacity k PutNothing after ends = elim ends [
@@ -241,7 +241,7 @@ comes_in capacity k PutClosed after (n, is, e) = no_longer k after _ e (omega ar
 comes_in capacity k CloseBegin after (free, e) = no_longer k after _ e (omega arith)
 comes_in capacity k CloseEnd after (again, is, e) = no_longer k after _ e (omega arith)
 comes_in capacity k (TakeBegin wanted) after (rests, some, e) = no_longer k after _ e (omega arith)
-comes_in capacity k (TakeItems items) after (wanted, before, closed, is, some, few, lacks, next, fits) = no_longer k after _ fits.1 (drop_less (length items) k.inside)
+comes_in capacity k (TakeItems items why) after (wanted, before, closed, is, some, few, lacks, next, fits) = no_longer k after _ fits.1 (drop_less (length items) k.inside)
 comes_in capacity k TakeEmpty after (wanted, before, is, none, fits) = no_longer k after _ fits.1 (drop_less 0 k.inside)
 comes_in capacity k TakeShort after (wanted, before, closed, is, several, less, found, fits) = no_longer k after _ fits.1 (drop_less 0 k.inside)
 comes_in capacity k TakeNothing after (wanted, before, closed, is, fits) = no_longer k after _ fits.1 (drop_less 0 k.inside)
@@ -254,7 +254,7 @@ Follows capacity events event before after =
 
 pub perhaps_follows : (capacity : Capacity) (events : List Event) (event : Event) (before after : Kept) → Follows capacity events event before after
 perhaps_follows capacity events (PutBegin items) before after j j' c n is = perhaps_grows capacity events (PutBegin items) before after j j' n is
-perhaps_follows capacity events (PutStored count) before after j j' c n is = perhaps_stays capacity events (PutStored count) before after j j' n (comes_in capacity before (PutStored count) after c) is
+perhaps_follows capacity events (PutStored count why) before after j j' c n is = perhaps_stays capacity events (PutStored count why) before after j j' n (comes_in capacity before (PutStored count why) after c) is
 perhaps_follows capacity events PutFull before after j j' c n is = perhaps_stays capacity events PutFull before after j j' n (comes_in capacity before PutFull after c) is
 perhaps_follows capacity events PutShort before after j j' c n is = perhaps_stays capacity events PutShort before after j j' n (comes_in capacity before PutShort after c) is
 perhaps_follows capacity events PutNothing before after j j' c n is = perhaps_stays capacity events PutNothing before after j j' n (comes_in capacity before PutNothing after c) is
@@ -262,7 +262,7 @@ perhaps_follows capacity events PutClosed before after j j' c n is = perhaps_sta
 perhaps_follows capacity events CloseBegin before after j j' c n is = perhaps_stays capacity events CloseBegin before after j j' n (comes_in capacity before CloseBegin after c) is
 perhaps_follows capacity events CloseEnd before after j j' c n is = perhaps_stays capacity events CloseEnd before after j j' n (comes_in capacity before CloseEnd after c) is
 perhaps_follows capacity events (TakeBegin wanted) before after j j' c n is = perhaps_stays capacity events (TakeBegin wanted) before after j j' n (comes_in capacity before (TakeBegin wanted) after c) is
-perhaps_follows capacity events (TakeItems items) before after j j' c n is = perhaps_stays capacity events (TakeItems items) before after j j' n (comes_in capacity before (TakeItems items) after c) is
+perhaps_follows capacity events (TakeItems items why) before after j j' c n is = perhaps_stays capacity events (TakeItems items why) before after j j' n (comes_in capacity before (TakeItems items why) after c) is
 perhaps_follows capacity events TakeEmpty before after j j' c n is = perhaps_stays capacity events TakeEmpty before after j j' n (comes_in capacity before TakeEmpty after c) is
 perhaps_follows capacity events TakeShort before after j j' c n is = perhaps_stays capacity events TakeShort before after j j' n (comes_in capacity before TakeShort after c) is
 perhaps_follows capacity events TakeNothing before after j j' c n is = perhaps_stays capacity events TakeNothing before after j j' n (comes_in capacity before TakeNothing after c) is

@@ -111,10 +111,6 @@ some capacity inside put (Waits wanted before ended) shut l = elim (at_most_or_a
 abbrev pub Accepts : Capacity → List Event → Event → List ℕ → PutTurn → TakeTurn → Bool → Type 0
 Accepts capacity h e inside put take shut = Keeps capacity (h ++ e ∷ []) inside put take shut × IsLinearizable capacity (h ++ e ∷ [])
 
--- it refuses an event that is in turn, where no point follows; or one that is out of turn
-abbrev pub Refused : Capacity → List Event → Event → List ℕ → PutTurn → TakeTurn → Bool → Type 0
-Refused capacity h e inside put take shut = Keeps capacity h inside put take shut × (CallsAreInTurn (h ++ e ∷ []) × ¬ IsLinearizable capacity (h ++ e ∷ []))
-
 abbrev pub TurnedAway : Capacity → List Event → Event → List ℕ → PutTurn → TakeTurn → Bool → Type 0
 TurnedAway capacity h e inside put take shut = Keeps capacity h inside put take shut × (¬ CallsAreInTurn (h ++ e ∷ []) × ¬ IsLinearizable capacity (h ++ e ∷ []))
 
@@ -143,18 +139,6 @@ accept capacity h e inside inside' put put' take take' shut shut' late k turn fe
   (let (s, d, told) = some capacity inside' put' take' shut' few in (s, before s d (told late))),
 )
 
-pub refuse :
-    (capacity : Capacity) (h : List Event) (e : Event) (inside : List ℕ) (put : PutTurn) (take : TakeTurn) (shut : Bool) (next : Sides) →
-    Keeps capacity h inside put take shut → MovesSides (sides_of put take) e next →
-    ((s t : Point) → Describes capacity inside put take shut s → Leads capacity s (Happens e) t → ⊥) → Refused capacity h e inside put take shut
-refuse capacity h e inside put take shut next k turn none = (
-  k,
-  (
-    (next, one_turn_more h e (sides NoCall NoCall) (sides_of put take) next k.turns turn),
-    (λ z. let (t, r) = z in last_event capacity h e (λ _. ⊥) (λ s t' d p l. p) (λ s t' r' l. none s t' (k.complete s r') l) t r),
-  ),
-)
-
 pub turn_away :
     (capacity : Capacity) (h : List Event) (e : Event) (inside : List ℕ) (put : PutTurn) (take : TakeTurn) (shut : Bool) →
     Keeps capacity h inside put take shut → ((next : Sides) → MovesSides (sides_of put take) e next → ⊥) → TurnedAway capacity h e inside put take shut
@@ -165,15 +149,3 @@ turn_away capacity h e inside put take shut k none =
     let same : s ≡ sides_of put take = same_turns h (sides NoCall NoCall) s (sides_of put take) before k.turns in
     none t (subst (λ x. MovesSides x e t) same last) in
     (k, (never, (λ l. never (linearizable_in_turn capacity (h ++ e ∷ []) l))))
-
--- what is kept, where its parts are told otherwise
-pub kept_as :
-    (capacity capacity' : Capacity) (h : List Event) (inside inside' : List ℕ) (put put' : PutTurn) (take take' : TakeTurn) (shut shut' : Bool) →
-    capacity' ≡ capacity → inside' ≡ inside → put' ≡ put → take' ≡ take → shut' ≡ shut → Keeps capacity h inside put take shut → Keeps capacity' h inside' put' take' shut'
-kept_as capacity capacity' h inside inside' put put' take take' shut shut' ec ei ep et es k =
-    let K : Capacity → List ℕ → PutTurn → TakeTurn → Bool → Type 0 = λ c i p t s. Keeps c h i p t s in
-    let k1 : K capacity inside put take shut' = subst (λ z. K capacity inside put take z) (sym es) k in
-    let k2 : K capacity inside put take' shut' = subst (λ z. K capacity inside put z shut') (sym et) k1 in
-    let k3 : K capacity inside put' take' shut' = subst (λ z. K capacity inside z take' shut') (sym ep) k2 in
-    let k4 : K capacity inside' put' take' shut' = subst (λ z. K capacity z put' take' shut') (sym ei) k3 in
-    subst (λ z. K z inside' put' take' shut') (sym ec) k4

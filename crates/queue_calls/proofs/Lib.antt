@@ -11,8 +11,6 @@ pub mod TakeEnds
 pub mod Batches
 pub mod PutBegins
 pub mod TakeBegins
-pub mod Reading
-pub mod OutOfTurn
 pub mod OrderOf
 pub mod MomentsOf
 mod Examples
@@ -29,6 +27,8 @@ pub mod RecordingLemmas
 pub mod RecordingLaws
 pub mod CountedHistories
 pub mod CountsFollow
+pub mod EndLemmas
+pub mod Decided
 pub mod Tellings
 mod Stretches
 pub mod Agrees

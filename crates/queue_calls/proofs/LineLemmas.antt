@@ -7,7 +7,7 @@ use Rattle.std.proofs.lemmas.List.Elements.{All-append, All-cons, All-head, All-
 use Rattle.std.proofs.lemmas.Fmt.{decimal_by_steps}
 use Rattle.std.proofs.lemmas.Option.{none-some, same_Some}
 use Rattle.queue_calls.specs.declared.lines.Word.{Word}
-use Rattle.queue_calls.specs.declared.lines.Word.TheVariants.{Queue, Put, Stored, Full, Short, PutNothing, PutClosed, Close, Take, Item, Empty, TakeShort, TakeNothing, TakeClosed}
+use Rattle.queue_calls.specs.declared.lines.Word.TheVariants.{Queue, Cut, Put, Stored, PutSome, Full, Short, PutNothing, PutClosed, Close, Take, Item, TakeSome, Empty, TakeShort, TakeNothing, TakeClosed}
 use Rattle.queue_calls.specs.Lines.{word_text, numbers_text, line_text, Allows, AreSmall, IsLine}
 use Rattle.queue_calls.specs.Rooms.{BeginsWithNumbers}
 use Rattle.queue_calls.specs.LineReading.{bytes_behind, then_or_else, word_or, put_word_at, take_word_at, line_word_at, spaced_number}
@@ -34,16 +34,16 @@ no_word front bytes x e = absurd (none-some x e)
 put_word_at-text : (bytes : List ℕ) (x : Word × List ℕ) → put_word_at bytes ≡ Some x → Tells (codes "P ") bytes x
 put_word_at-text bytes x =
     let P : List ℕ = codes "P " in
-    named-text P Put (codes "put") bytes _ x refl (named-text P Stored (codes "stored") bytes _ x refl (named-text P Full (codes "full") bytes _ x refl
+    named-text P Put (codes "put") bytes _ x refl (named-text P Stored (codes "stored") bytes _ x refl (named-text P PutSome (codes "some") bytes _ x refl (named-text P Full (codes "full") bytes _ x refl
     (named-text P Short (codes "short") bytes _ x refl (named-text P PutNothing (codes "nothing") bytes _ x refl (named-text P PutClosed (codes "closed") bytes _ x refl
-    (named-text P Close (codes "close") bytes None x refl (no_word P bytes x)))))))
+    (named-text P Close (codes "close") bytes None x refl (no_word P bytes x))))))))
 
 take_word_at-text : (bytes : List ℕ) (x : Word × List ℕ) → take_word_at bytes ≡ Some x → Tells (codes "C ") bytes x
 take_word_at-text bytes x =
     let C : List ℕ = codes "C " in
-    named-text C Take (codes "take") bytes _ x refl (named-text C Item (codes "item") bytes _ x refl (named-text C Empty (codes "empty") bytes _ x refl
+    named-text C Take (codes "take") bytes _ x refl (named-text C Item (codes "item") bytes _ x refl (named-text C TakeSome (codes "some") bytes _ x refl (named-text C Empty (codes "empty") bytes _ x refl
     (named-text C TakeShort (codes "short") bytes _ x refl (named-text C TakeNothing (codes "nothing") bytes _ x refl
-    (named-text C TakeClosed (codes "closed") bytes None x refl (no_word C bytes x))))))
+    (named-text C TakeClosed (codes "closed") bytes None x refl (no_word C bytes x)))))))
 
 -- the words of a side
 side-text : (front bytes : List ℕ) (reads : List ℕ → Option (Word × List ℕ)) (other : Option (Word × List ℕ)) (x : Word × List ℕ)
@@ -56,14 +56,16 @@ side-text front bytes reads other x is later e =
 
 word_at-text : (bytes : List ℕ) (x : Word × List ℕ) → line_word_at bytes ≡ Some x → bytes ≡ word_text x.0 ++ x.1
 word_at-text bytes x =
-    named-text [] Queue (codes "queue") bytes _ x refl
+    named-text [] Queue (codes "queue") bytes _ x refl (named-text [] Cut (codes "cut queue") bytes _ x refl
     (side-text (codes "P ") bytes put_word_at _ x (λ rest. put_word_at-text rest x)
-    (side-text (codes "C ") bytes take_word_at None x (λ rest. take_word_at-text rest x) (no_word [] bytes x)))
+    (side-text (codes "C ") bytes take_word_at None x (λ rest. take_word_at-text rest x) (no_word [] bytes x))))
 
 word_at-again : (w : Word) (numbers : List ℕ) → line_word_at (line_text w numbers) ≡ Some (w, numbers_text numbers)
 word_at-again Queue numbers = refl
+word_at-again Cut numbers = refl
 word_at-again Put numbers = refl
 word_at-again Stored numbers = refl
+word_at-again PutSome numbers = refl
 word_at-again Full numbers = refl
 word_at-again Short numbers = refl
 word_at-again PutNothing numbers = refl
@@ -72,6 +74,7 @@ word_at-again Close [] = refl
 word_at-again Close (n ∷ numbers) = refl
 word_at-again Take numbers = refl
 word_at-again Item numbers = refl
+word_at-again TakeSome numbers = refl
 word_at-again Empty numbers = refl
 word_at-again TakeShort numbers = refl
 word_at-again TakeNothing numbers = refl
@@ -156,8 +159,10 @@ no_feed_text (b ∷ text) e =
 
 no_feed_word : (w : Word) → All IsOther (word_text w)
 no_feed_word Queue = no_feed_text (word_text Queue) refl
+no_feed_word Cut = no_feed_text (word_text Cut) refl
 no_feed_word Put = no_feed_text (word_text Put) refl
 no_feed_word Stored = no_feed_text (word_text Stored) refl
+no_feed_word PutSome = no_feed_text (word_text PutSome) refl
 no_feed_word Full = no_feed_text (word_text Full) refl
 no_feed_word Short = no_feed_text (word_text Short) refl
 no_feed_word PutNothing = no_feed_text (word_text PutNothing) refl
@@ -165,6 +170,7 @@ no_feed_word PutClosed = no_feed_text (word_text PutClosed) refl
 no_feed_word Close = no_feed_text (word_text Close) refl
 no_feed_word Take = no_feed_text (word_text Take) refl
 no_feed_word Item = no_feed_text (word_text Item) refl
+no_feed_word TakeSome = no_feed_text (word_text TakeSome) refl
 no_feed_word Empty = no_feed_text (word_text Empty) refl
 no_feed_word TakeShort = no_feed_text (word_text TakeShort) refl
 no_feed_word TakeNothing = no_feed_text (word_text TakeNothing) refl

@@ -9,7 +9,7 @@ use Rattle.queue_calls.proofs.Points.{start, goes, happens}
 -- what one side does leaves the other as it is
 producer_idle : (e : Event) (p : Producer) → side_of e ≡ C → ProducerStep p (Happens e) p
 producer_idle (PutBegin items) p s = absurd (cc)
-producer_idle (PutStored count) p s = absurd (cc)
+producer_idle (PutStored count why) p s = absurd (cc)
 producer_idle PutFull p s = absurd (cc)
 producer_idle PutShort p s = absurd (cc)
 producer_idle PutNothing p s = absurd (cc)
@@ -17,7 +17,7 @@ producer_idle PutClosed p s = absurd (cc)
 producer_idle CloseBegin p s = absurd (cc)
 producer_idle CloseEnd p s = absurd (cc)
 producer_idle (TakeBegin wanted) p s = refl
-producer_idle (TakeItems items) p s = refl
+producer_idle (TakeItems items why) p s = refl
 producer_idle TakeEmpty p s = refl
 producer_idle TakeShort p s = refl
 producer_idle TakeNothing p s = refl
@@ -25,7 +25,7 @@ producer_idle TakeClosed p s = refl
 
 consumer_idle : (e : Event) (c : Consumer) → side_of e ≡ P → ConsumerStep c (Happens e) c
 consumer_idle (PutBegin items) c s = refl
-consumer_idle (PutStored count) c s = refl
+consumer_idle (PutStored count why) c s = refl
 consumer_idle PutFull c s = refl
 consumer_idle PutShort c s = refl
 consumer_idle PutNothing c s = refl
@@ -33,7 +33,7 @@ consumer_idle PutClosed c s = refl
 consumer_idle CloseBegin c s = refl
 consumer_idle CloseEnd c s = refl
 consumer_idle (TakeBegin wanted) c s = absurd (cc)
-consumer_idle (TakeItems items) c s = absurd (cc)
+consumer_idle (TakeItems items why) c s = absurd (cc)
 consumer_idle TakeEmpty c s = absurd (cc)
 consumer_idle TakeShort c s = absurd (cc)
 consumer_idle TakeNothing c s = absurd (cc)

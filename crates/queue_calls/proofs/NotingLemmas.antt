@@ -1,13 +1,12 @@
 -- Where a list of a recording is too short: for a line, and for the text.
-use Rattle.std.proofs.Common.{◌≡◌, ◌⊎◌, inl, inr, ℕ, Option, Some, List, [], ◌∷◌, ◌++◌, refl, sym, ap, subst, ◌∙◌, append_assoc}
+use Rattle.std.proofs.Common.{◌≡◌, ◌⊎◌, inl, inr, Bool, ℕ, Option, Some, List, [], ◌∷◌, ◌++◌, refl, sym, ap, subst, ◌∙◌, append_assoc}
 use Rattle.std.proofs.lemmas.List.{append-nil}
 use Rattle.queue_calls.specs.Calls.{Event}
 use Rattle.queue_calls.specs.Noting.{OutgrowsLists}
 use Rattle.queue_calls.specs.Lines.{line_text}
-use Rattle.queue_calls.specs.Recordings.{Line, line, lines_text, AreLines, and_then, begun_behind, capacity_told, event_told, events_told}
+use Rattle.queue_calls.specs.Recordings.{Line, line, first_word, lines_text, AreLines, and_then, begun_behind, capacity_told, event_told, events_told}
 use Rattle.queue_calls.specs.Rooms.{AreTooShort, BeginsWithNumbers, HasLongHistory, HasLongLine, HasManyNumbers, Rooms}
 use Rattle.queue_calls.specs.declared.lines.Word.{Word}
-use Rattle.queue_calls.specs.declared.lines.Word.TheVariants.{Queue}
 use Rattle.queue_calls.specs.declared.recordings.Begun.TheVariants as begun
 use Rattle.queue_calls.proofs.HeardLines.{events_more}
 use Rattle.queue_calls.proofs.RecordingLemmas.{lines_more}
@@ -58,11 +57,11 @@ too_short_on rooms text more (inr (inr has)) = inr (inr (long_line_on rooms.byte
 
 -- a line that tells the event for which a list is too short
 pub line_long :
-    (offered taken : ℕ) (before : List Line) (bytes first : List ℕ) (further : List Line) (w : Word) (numbers : List ℕ) (event : Event) → before ≡ line Queue first ∷ further →
+    (offered taken : ℕ) (before : List Line) (is_cut : Bool) (bytes first : List ℕ) (further : List Line) (w : Word) (numbers : List ℕ) (event : Event) → before ≡ line (first_word is_cut) first ∷ further →
     AreLines (before ++ line w numbers ∷ []) → bytes ≡ line_text w numbers → event_told (begun_behind begun.Nothing further) w numbers ≡ Some event →
     OutgrowsLists offered taken (capacity_told first) (events_told begun.Nothing further ++ event ∷ []) →
     HasLongHistory offered taken (lines_text before ++ (bytes ++ 10 ∷ []))
-line_long offered taken before bytes first further w numbers event parts are text tells needs =
+line_long offered taken before is_cut bytes first further w numbers event parts are text tells needs =
     let l : Line = line w numbers in record {
       first = lines_text (before ++ l ∷ []);
       rest = [];
@@ -70,6 +69,7 @@ line_long offered taken before bytes first further w numbers event parts are tex
       events = events_told begun.Nothing further ++ event ∷ [];
       parts = ap (λ (t : List ℕ). lines_text before ++ (t ++ 10 ∷ [])) text ∙ sym (lines_more before l) ∙ sym (append-nil (lines_text (before ++ l ∷ [])));
       recording = record {
+        is_cut = is_cut;
         first = first;
         further = further ++ l ∷ [];
         text = ap (λ (lines : List Line). lines_text (lines ++ l ∷ [])) parts;

@@ -59,7 +59,7 @@ own_are s n (Effect d ∷ w) = by_side s (doer_of d) (own_are s n w)
 -- what the other side does leaves a side as it is
 pub producer_stays : (e : Event) (p after : Producer) → side_of e ≡ C → ProducerStep p (Happens e) after → after ≡ p
 producer_stays (PutBegin items) p after s f = absurd (cc)
-producer_stays (PutStored count) p after s f = absurd (cc)
+producer_stays (PutStored count why) p after s f = absurd (cc)
 producer_stays PutFull p after s f = absurd (cc)
 producer_stays PutShort p after s f = absurd (cc)
 producer_stays PutNothing p after s f = absurd (cc)
@@ -67,7 +67,7 @@ producer_stays PutClosed p after s f = absurd (cc)
 producer_stays CloseBegin p after s f = absurd (cc)
 producer_stays CloseEnd p after s f = absurd (cc)
 producer_stays (TakeBegin wanted) p after s f = f
-producer_stays (TakeItems items) p after s f = f
+producer_stays (TakeItems items why) p after s f = f
 producer_stays TakeEmpty p after s f = f
 producer_stays TakeShort p after s f = f
 producer_stays TakeNothing p after s f = f
@@ -84,7 +84,7 @@ producer_keeps FindClosed p after s f = f
 
 pub consumer_stays : (e : Event) (c after : Consumer) → side_of e ≡ P → ConsumerStep c (Happens e) after → after ≡ c
 consumer_stays (PutBegin items) c after s f = f
-consumer_stays (PutStored count) c after s f = f
+consumer_stays (PutStored count why) c after s f = f
 consumer_stays PutFull c after s f = f
 consumer_stays PutShort c after s f = f
 consumer_stays PutNothing c after s f = f
@@ -92,7 +92,7 @@ consumer_stays PutClosed c after s f = f
 consumer_stays CloseBegin c after s f = f
 consumer_stays CloseEnd c after s f = f
 consumer_stays (TakeBegin wanted) c after s f = absurd (cc)
-consumer_stays (TakeItems items) c after s f = absurd (cc)
+consumer_stays (TakeItems items why) c after s f = absurd (cc)
 consumer_stays TakeEmpty c after s f = absurd (cc)
 consumer_stays TakeShort c after s f = absurd (cc)
 consumer_stays TakeNothing c after s f = absurd (cc)

@@ -1,5 +1,5 @@
 -- The puts: how they end.
-use Rattle.std.proofs.Common.{◌≡◌, ◌⊎◌, inl, inr, ℕ, zero, suc, ◌+◌, ◌-◌, ◌<◌, ◌≤◌, Bool, true, false, List, [], ◌++◌, length, take, drop, refl, sym, ap, subst, ◌∙◌, arith, length-append, length-drop, append_assoc}
+use Rattle.std.proofs.Common.{◌≡◌, inl, ℕ, zero, suc, ◌+◌, ◌-◌, ◌<◌, ◌≤◌, Bool, true, false, List, [], ◌++◌, length, take, drop, refl, sym, ap, subst, ◌∙◌, arith, length-append, length-drop, append_assoc}
 use Rattle.std.proofs.lemmas.List.{append-nil, take-append-drop, length-take-le}
 use Rattle.std.proofs.Math.Seq.{take-append_seam}
 use Rattle.queue_calls.specs.Queue.{Capacity, Queue}
@@ -12,7 +12,7 @@ use Rattle.queue_calls.specs.InTurn.{NoCall, APut, sides, MovesSides}
 use Rattle.queue_calls.proofs.Rooms.{holds_fewer}
 use Rattle.queue_calls.proofs.Points.{happens}
 use Rattle.queue_calls.proofs.Effects.{described_at}
-use Rattle.queue_calls.proofs.Keeping.{Accepts, Refused, accept, refuse}
+use Rattle.queue_calls.proofs.Keeping.{Accepts, accept}
 use Rattle.queue_calls.proofs.Sides.{free_idle, with_producer}
 
 -- of a list in three parts, the front without the last
@@ -42,8 +42,8 @@ record Ends (e : Event) (done : ℕ) (lack : ℕ → ℕ) : Type 0 where
   idle : (c c' : Consumer) → ConsumerStep c (Happens e) c' → c' ≡ c
   rests : (c : Consumer) → ConsumerStep c (Happens e) c
 
-stored_ends : (count : ℕ) → Ends (PutStored count) count (short_of count)
-stored_ends count = record { ends = λ p p' m. (m.0, m.2, m.3); idle = λ c c' m. m; rests = λ c. refl }
+stored_ends : (count : ℕ) (why : Bool) → Ends (PutStored count why) count (short_of why count)
+stored_ends count why = record { ends = λ p p' m. (m.0, m.2, m.3); idle = λ c c' m. m; rests = λ c. refl }
 
 full_ends : Ends PutFull 0 (λ _. 1)
 full_ends = record { ends = λ p p' m. m; idle = λ c c' m. m; rests = λ c. refl }
@@ -95,65 +95,27 @@ module _ (capacity : Capacity) (h : List Event) (inside : List ℕ) (take' : Tak
         }) tt)
         (record { queue = refl; producer = step; consumer = ends.rests t.consumer }))
 
-    refuses :
-        MovesSides (sides (APut offered) (call_of_take take')) e (sides NoCall (call_of_take take')) →
-        (MayLack capacity before (lack rest) → ⊥) ⊎ (CanEndPut capacity (length inside) (asked_by take') rest → ⊥) → Refused capacity h e inside (Offers offered before) take' shut
-    refuses turn bad =
-        refuse capacity h e inside (Offers offered before) take' shut (sides NoCall (call_of_take take')) k turn
-        (λ s t d m.
-        let (left, ep, ep') = ends.ends s.producer t.producer m.producer in
-        let d' = with_producer capacity inside (Offers offered before) take' shut s d (Putting (lack (length left)) done left) ep in
-        let all : length left ≡ rest = omega (arith, sum, d'.producer.0) in
-        let long : length inside ≡ length (taken_by s.consumer) + (length s.queue.items + length left) =
-        omega (arith, ap length d'.items, length-append (taken_by s.consumer) (s.queue.items ++ left), length-append s.queue.items left) in
-        elim bad [
-          | inl n ↦ n (subst (λ z. MayLack capacity before (lack z)) all d'.producer.2)
-          | inr n ↦ n (
-            omega (arith, all, long),
-            holds_fewer capacity ((length inside - rest) - asked_by take') (length s.queue.items)
-                (omega (arith, all, long, few_taken take' s.consumer s.queue d'.consumer)) d'.room,
-          )
-        ])
-
   -- a put of which items are left found no room for one more than it stored, and one of which none is left has no reason to tell
-  reason : (before offered count : ℕ) → count ≤ offered → (count < offered → MayLack capacity before (suc count)) → MayLack capacity before (short_of count (offered - count))
-  reason before offered count l f = by_rest (offered - count) refl
+  reason : (before offered count : ℕ) (why : Bool) → count ≤ offered → (why ≡ true → count < offered → MayLack capacity before (suc count)) → MayLack capacity before (short_of why count (offered - count))
+  reason before offered count why l f = by_rest why (offered - count) refl f
     where
-      by_rest : (n : ℕ) → n ≡ offered - count → MayLack capacity before (short_of count n)
-      by_rest zero e = inl refl
-      by_rest (suc n) e = f (omega (arith, e))
-
-  no_reason : (before offered count : ℕ) → count < offered → MayLack capacity before (short_of count (offered - count)) → MayLack capacity before (suc count)
-  no_reason before offered count l f = by_rest (offered - count) refl f
-    where
-      by_rest : (n : ℕ) → n ≡ offered - count → MayLack capacity before (short_of count n) → MayLack capacity before (suc count)
-      by_rest zero e g = absurd (omega (arith, e, l))
-      by_rest (suc n) e g = g
+      by_rest : (why : Bool) (n : ℕ) → n ≡ offered - count → (why ≡ true → count < offered → MayLack capacity before (suc count)) → MayLack capacity before (short_of why count n)
+      by_rest why zero e g = inl refl
+      by_rest false (suc n) e g = inl refl
+      by_rest true (suc n) e g = g refl (omega (arith, e))
 
   module _ (offered before : ℕ) (k : Keeps capacity h inside (Offers offered before) take' shut) where
     pub put_stored :
-        (count : ℕ) → 0 < count → count ≤ offered → (count < offered → MayLack capacity before (suc count)) →
+        (count : ℕ) (why : Bool) → 0 < count → count ≤ offered → (why ≡ true → count < offered → MayLack capacity before (suc count)) →
         CanEndPut capacity (length inside) (asked_by take') (offered - count) →
-        Accepts capacity h (PutStored count) (take (length inside - (offered - count)) inside) Free take' shut
-    put_stored count some few lacks fits =
-        accepts (PutStored count) offered before count (offered - count) (short_of count) (stored_ends count) k (omega (arith, few)) (offered, refl, some, few, refl)
-        (λ left all. (left, some, refl, refl)) (reason before offered count few lacks) fits
-
-    pub not_stored :
-        (count : ℕ) → 0 < count → count ≤ offered →
-        ((count < offered) × (MayLack capacity before (suc count) → ⊥)) ⊎ (CanEndPut capacity (length inside) (asked_by take') (offered - count) → ⊥) →
-        Refused capacity h (PutStored count) inside (Offers offered before) take' shut
-    not_stored count some few bad =
-        refuses (PutStored count) offered before count (offered - count) (short_of count) (stored_ends count) k (omega (arith, few)) (offered, refl, some, few, refl)
-        (elim bad [ inl n ↦ inl (λ f. n.1 (no_reason before offered count n.0 f)) | inr n ↦ inr n ])
+        Accepts capacity h (PutStored count why) (take (length inside - (offered - count)) inside) Free take' shut
+    put_stored count why some few lacks fits =
+        accepts (PutStored count why) offered before count (offered - count) (short_of why count) (stored_ends count why) k (omega (arith, few)) (offered, refl, some, few, refl)
+        (λ left all. (left, some, refl, refl)) (reason before offered count why few lacks) fits
 
     pub put_full : MayLack capacity before 1 → CanEndPut capacity (length inside) (asked_by take') offered → Accepts capacity h PutFull (take (length inside - offered) inside) Free take' shut
     put_full lacks fits =
         accepts PutFull offered before 0 offered (λ _. 1) full_ends k (omega arith) (offered, refl, refl) (λ left all. (left, refl, refl)) lacks fits
-
-    pub not_full :
-        (MayLack capacity before 1 → ⊥) ⊎ (CanEndPut capacity (length inside) (asked_by take') offered → ⊥) → Refused capacity h PutFull inside (Offers offered before) take' shut
-    not_full bad = refuses PutFull offered before 0 offered (λ _. 1) full_ends k (omega arith) (offered, refl, refl) bad
 
     pub put_short :
         1 < offered → MayLack capacity before offered → CanEndPut capacity (length inside) (asked_by take') offered → Accepts capacity h PutShort (take (length inside - offered) inside) Free take' shut
@@ -161,22 +123,9 @@ module _ (capacity : Capacity) (h : List Event) (inside : List ℕ) (take' : Tak
         accepts PutShort offered before 0 offered (λ n. n) short_ends k (omega arith) (offered, refl, several, refl)
         (λ left all. (left, omega (arith, all, several), refl, refl)) lacks fits
 
-    pub not_short :
-        1 < offered → (MayLack capacity before offered → ⊥) ⊎ (CanEndPut capacity (length inside) (asked_by take') offered → ⊥) →
-        Refused capacity h PutShort inside (Offers offered before) take' shut
-    not_short several bad = refuses PutShort offered before 0 offered (λ n. n) short_ends k (omega arith) (offered, refl, several, refl) bad
-
     pub put_nothing : CanEndPut capacity (length inside) (asked_by take') offered → Accepts capacity h PutNothing (take (length inside - offered) inside) Free take' shut
     put_nothing fits =
         accepts PutNothing offered before 0 offered (λ _. 0) nothing_ends k (omega arith) (offered, refl, refl) (λ left all. (left, refl, refl)) (inl refl) fits
-
-    pub not_nothing : (CanEndPut capacity (length inside) (asked_by take') offered → ⊥) → Refused capacity h PutNothing inside (Offers offered before) take' shut
-    not_nothing bad = refuses PutNothing offered before 0 offered (λ _. 0) nothing_ends k (omega arith) (offered, refl, refl) (inr bad)
-
-    pub not_closed : Refused capacity h PutClosed inside (Offers offered before) take' shut
-    not_closed =
-        refuse capacity h PutClosed inside (Offers offered before) take' shut (sides NoCall (call_of_take take')) k (offered, refl, refl)
-        (λ s t d m. (with_producer capacity inside (Offers offered before) take' shut s d FoundShut m.producer.0).producer)
 
   -- a put that began after a close had ended
   module _ (offered : ℕ) (k : Keeps capacity h inside (Late offered) take' shut) where
@@ -209,28 +158,3 @@ module _ (capacity : Capacity) (h : List Event) (inside : List ℕ) (take' : Tak
         happens capacity h (point t.queue (Putting 0 0 k.late) t.consumer) t PutNothing
         (k.sound (point t.queue (Putting 0 0 k.late) t.consumer) (record { items = d'.items; room = d.room; producer = (refl, refl, ec ∙ k.put_ok); consumer = d.consumer }) refl)
         (record { queue = refl; producer = (k.late, refl, ep); consumer = refl }))
-
-    -- it stores nothing, and finds no want of room
-    pub late_not_stored : (count : ℕ) → 0 < count → count ≤ offered → Refused capacity h (PutStored count) inside (Late offered) take' shut
-    late_not_stored count some few =
-        refuse capacity h (PutStored count) inside (Late offered) take' shut (sides NoCall (call_of_take take')) k (offered, refl, some, few, refl)
-        (λ s t d m.
-        let (left, pos, ep, ep') = m.producer in
-        let none : count ≡ 0 = (with_producer capacity inside (Late offered) take' shut s d (Putting (short_of count (length left)) count left) ep).producer.1 in
-        omega (arith, none, pos))
-
-    pub late_not_full : Refused capacity h PutFull inside (Late offered) take' shut
-    late_not_full =
-        refuse capacity h PutFull inside (Late offered) take' shut (sides NoCall (call_of_take take')) k (offered, refl, refl)
-        (λ s t d m.
-        let (items, ep, ep') = m.producer in
-        let none : 1 ≡ 0 = (with_producer capacity inside (Late offered) take' shut s d (Putting 1 0 items) ep).producer.0 in
-        omega (arith, none))
-
-    pub late_not_short : 1 < offered → Refused capacity h PutShort inside (Late offered) take' shut
-    late_not_short several =
-        refuse capacity h PutShort inside (Late offered) take' shut (sides NoCall (call_of_take take')) k (offered, refl, several, refl)
-        (λ s t d m.
-        let (items, more, ep, ep') = m.producer in
-        let none : length items ≡ 0 = (with_producer capacity inside (Late offered) take' shut s d (Putting (length items) 0 items) ep).producer.0 in
-        omega (arith, none, more))

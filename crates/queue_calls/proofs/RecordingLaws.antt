@@ -1,15 +1,23 @@
 -- The lines of a text are one list of lines.
-use Rattle.std.proofs.Common.{◌≡◌, ◌≢◌, ℕ, ◌+◌, List, [], ◌∷◌, ◌++◌, length, drop, refl, ap, ap₂, sym, subst, ◌∙◌, append_assoc, length-append, arith}
+use Rattle.std.proofs.Common.{◌≡◌, ◌≢◌, Bool, true, false, ℕ, ◌+◌, List, [], ◌∷◌, ◌++◌, length, drop, refl, ap, ap₂, sym, subst, ◌∙◌, append_assoc, length-append, arith}
 use Rattle.std.specs.Prelude.{All}
 use Rattle.std.proofs.lemmas.List.{append-nil}
 use Rattle.std.proofs.lemmas.List.Elements.{All-cons, All-head, All-nil, All-tail}
 use Rattle.queue_calls.specs.Lines.{line_text, IsLine}
-use Rattle.queue_calls.specs.Recordings.{Line, line, text_of, lines_text, IsOfFormat, IsFurther, AreLines, capacity_told, events_told, IsBadLine}
+use Rattle.queue_calls.specs.Recordings.{Line, line, first_word, text_of, lines_text, IsOfFormat, IsFurther, AreLines, capacity_told, events_told, IsRecording, IsBadLine}
+use Rattle.queue_calls.specs.RecordingStates.{HasNoFeed, HasRead, HeardLines}
 use Rattle.queue_calls.specs.RecordingLaws.{RecordingIsOne, RecordingHasNoBadLine}
-use Rattle.queue_calls.specs.declared.lines.Word.TheVariants.{Queue}
+use Rattle.queue_calls.specs.Calls.{Event}
+use Rattle.queue_calls.specs.Queue.{Capacity}
+use Rattle.queue_calls.specs.declared.entries.Offered.{Offered}
+use Rattle.queue_calls.specs.declared.entries.Taken.{Taken}
+use Rattle.queue_calls.specs.declared.lines.Word.{Word}
+use Rattle.queue_calls.specs.declared.lines.Word.TheVariants as word
 use Rattle.queue_calls.specs.declared.recordings.Begun.TheVariants.{Nothing}
+use Rattle.queue_calls.specs.declared.recordings.Hearing.{Hearing}
+use Rattle.queue_calls.specs.declared.recordings.RecordingIn.{RecordingIn}
 use Rattle.queue_calls.proofs.LineLemmas.{line_same, line_no_feed}
-use Rattle.queue_calls.proofs.RecordingLemmas.{cut_same, line_and}
+use Rattle.queue_calls.proofs.RecordingLemmas.{cut_same, feedless, line_and}
 
 -- lines as they have to be are of the format
 are_of_format : (lines : List Line) → AreLines lines → All IsOfFormat lines
@@ -61,13 +69,50 @@ numbers_of_first (l ∷ lines) = l.numbers
 pub recording_is_one : RecordingIsOne
 unfolding numbers_of_first
 recording_is_one bytes capacity other events others one two =
-    let all : List Line = line Queue one.first ∷ one.further in
-    let too : List Line = line Queue two.first ∷ two.further in
+    let all : List Line = line (first_word one.is_cut) one.first ∷ one.further in
+    let too : List Line = line (first_word two.is_cut) two.first ∷ two.further in
     let parts = first_ones all too [] (are_of_format all one.are) (are_of_format too two.are) (append-nil (lines_text all) ∙ sym one.text ∙ two.text) in
     let same : too ≡ all = parts.1 ∙ ap (λ (t : List Line). all ++ t) (no_lines parts.0 parts.2) ∙ append-nil all in
     let firsts : two.first ≡ one.first = ap numbers_of_first same in
     let furthers : two.further ≡ one.further = ap (drop 1) same in
     (one.tells_capacity ∙ ap capacity_told (sym firsts) ∙ sym two.tells_capacity, one.tells_events ∙ ap (events_told Nothing) (sym furthers) ∙ sym two.tells_events)
+
+-- ---- the first line
+
+-- whether the first of lines tells that calls are missing
+cut_of : Word → Bool
+cut_of word.Cut = true
+cut_of _ = false
+
+cut_first : List Line → Bool
+cut_first [] = false
+cut_first (l ∷ lines) = cut_of l.word
+
+cut_is : (is_cut : Bool) → cut_of (first_word is_cut) ≡ is_cut
+unfolding cut_of
+cut_is true = refl
+cut_is false = refl
+
+module _ {S O T N B : Type 0} (offered : O → List Offered) (last : T → List Taken) (hearing : Hearing S O T N B) where
+  one_cut :
+      (lacks is_cut : Bool) (ended more further : List Line) (first cut : List ℕ) → (ended ≢ [] → HeardLines offered last hearing lacks ended) →
+      line (first_word is_cut) first ∷ further ≡ ended ++ more → cut ≡ lines_text more → HasNoFeed cut → lacks ≡ is_cut
+  unfolding cut_first
+  one_cut lacks is_cut [] more further first cut heard parts rest none =
+      let l : Line = line (first_word is_cut) first in
+      absurd (feedless cut (line_text l.word l.numbers) (lines_text further) none (rest ∙ ap lines_text (sym parts) ∙ line_and l (lines_text further)))
+  one_cut lacks is_cut (l ∷ ended) more further first cut heard parts rest none =
+      let lines = heard (λ e. absurd (omega (arith, ap length e))) in
+      sym (cut_is lacks) ∙ sym (ap cut_first lines.2) ∙ sym (ap cut_first parts) ∙ cut_is is_cut
+
+-- it tells what every recording that the bytes are says
+pub told_cut :
+    {S O T N B : Type 0} (offered : O → List Offered) (last : T → List Taken) (bytes_of : B → List ℕ) (recording : RecordingIn S O T N B) (bytes : List ℕ) → HasRead offered last bytes_of recording bytes →
+    (capacity : Capacity) (events : List Event) (is : IsRecording bytes capacity events) → recording.lines.lacks_calls ≡ is.is_cut
+told_cut offered last bytes_of recording bytes has capacity events is =
+    let all : List Line = line (first_word is.is_cut) is.first ∷ is.further in
+    let parts = first_ones has.ended all (bytes_of recording.cut) (are_of_format has.ended has.lines.are) (are_of_format all is.are) (sym has.text ∙ is.text) in
+    one_cut offered last recording.lines.hearing recording.lines.lacks_calls is.is_cut has.ended parts.0 is.further is.first (bytes_of recording.cut) has.lines.heard parts.1 parts.2 has.no_feed
 
 -- ---- no bad line
 
@@ -87,6 +132,6 @@ no_more bytes number all bad (l ∷ more) are some parts rest =
 
 pub recording_has_no_bad_line : RecordingHasNoBadLine
 recording_has_no_bad_line bytes capacity events number is bad =
-    let all : List Line = line Queue is.first ∷ is.further in
+    let all : List Line = line (first_word is.is_cut) is.first ∷ is.further in
     let parts = first_ones bad.before all bad.rest (are_of_format bad.before bad.are) (are_of_format all is.are) (sym bad.text ∙ is.text) in
     no_more bytes number all bad parts.0 is.are (λ none. absurd (omega (arith, ap length none))) parts.1 parts.2

@@ -1,23 +1,26 @@
 -- The text of a recording, line by line: where a line ends, and what its end shows.
-use Rattle.std.proofs.Common.{◌≡◌, ◌≢◌, ℕ, ◌+◌, ◌-◌, ◌^◌, ◌≤◌, List, [], ◌∷◌, ◌++◌, length, get_or, drop, refl, ap, ap₂, sym, subst, ◌∙◌, append_assoc, length-append, arith}
+use Rattle.std.proofs.Common.{◌≡◌, ◌≢◌, Bool, Option, Some, None, ℕ, ◌+◌, ◌-◌, ◌^◌, ◌≤◌, List, [], ◌∷◌, ◌++◌, length, get_or, drop, refl, ap, ap₂, sym, subst, ◌∙◌, append_assoc, length-append, arith}
 use Rattle.std.proofs.lemmas.Grind.{flat_map-append}
 use Rattle.std.proofs.lemmas.List.{append-nil}
 use Rattle.std.proofs.lemmas.List.Elements.{All-append, All-head, All-nil, All-tail}
 use Rattle.queue_calls.specs.Lines.{line_text}
 use Rattle.queue_calls.specs.Queue.{Capacity}
 use Rattle.queue_calls.specs.Calls.{Event}
-use Rattle.queue_calls.specs.Recordings.{Line, text_of, lines_text, AreLines, capacity_told, events_told, IsBadLine, RefusesText, IsFoundOf, IsFindingOf}
-use Rattle.queue_calls.specs.RecordingStates.{HasNoFeed, HasLines, HasRead, HeardLines, HasHeard, RefusesLine}
+use Rattle.queue_calls.specs.Recordings.{Line, text_of, lines_text, AreLines, capacity_told, events_told, IsBadLine, RefusesText, IsFoundOf, IsFindingOf, IsFaultOf}
+use Rattle.queue_calls.specs.RecordingStates.{HasNoFeed, HasLines, HasRead, HeardLines, HasHeard, IsFaultSoFar, RefusesLine}
 use Rattle.queue_calls.specs.declared.recordings.Begun.TheVariants.{Nothing}
 use Rattle.queue_calls.specs.declared.recordings.CallsFinding.{CallsFinding}
+use Rattle.queue_calls.specs.declared.recordings.CallsFinding.TheVariants.{Lawful, OutOfTurn, NotLinearizable}
 use Rattle.queue_calls.specs.declared.entries.Offered.{Offered}
 use Rattle.queue_calls.specs.declared.entries.Taken.{Taken}
 use Rattle.queue_calls.specs.declared.recordings.Hearing.{Hearing}
+use Rattle.queue_calls.specs.declared.recordings.Lines.{Lines}
 use Rattle.queue_calls.specs.declared.recordings.RecordingIn.{RecordingIn}
 use Rattle.queue_calls.specs.declared.recordings.RecordingFault.{RecordingFault}
 use Rattle.queue_calls.specs.declared.recordings.RecordingFault.TheVariants.{BadLine, TooLong, OutOfMemory}
 use Rattle.queue_calls.proofs.LineLemmas.{line_no_feed}
 use Rattle.queue_calls.proofs.HeardLines.{is_line}
+use Rattle.queue_calls.proofs.HearingLemmas.{report_of, heard_lawful}
 
 -- ---- line feeds
 
@@ -30,7 +33,7 @@ cut_same (x ∷ xs) (y ∷ ys) a b none free e =
     let later = cut_same xs ys a b (All-tail (λ c. c ≢ 10) x xs none) (All-tail (λ c. c ≢ 10) y ys free) (ap (λ (t : List ℕ). drop 1 t) e) in
     (ap₂ (λ (c : ℕ) (t : List ℕ). c ∷ t) (ap (λ (t : List ℕ). get_or t 0 0) e) later.0, later.1)
 
-feedless : (xs ys b : List ℕ) → HasNoFeed xs → xs ≢ ys ++ 10 ∷ b
+pub feedless : (xs ys b : List ℕ) → HasNoFeed xs → xs ≢ ys ++ 10 ∷ b
 feedless [] [] b none e = absurd (omega (arith, ap length e))
 feedless [] (y ∷ ys) b none e = absurd (omega (arith, ap length e))
 feedless (x ∷ xs) [] b none e = All-head (λ c. c ≢ 10) x xs none (ap (λ (t : List ℕ). get_or t 0 0) e)
@@ -108,12 +111,13 @@ cut_refused before bytes cut number text are none is there = record {
 
 -- ---- findings
 
-pub found : {S O T N B : Type 0} (offered : O → List Offered) (last : T → List Taken) (hearing : Hearing S O T N B) (finding : CallsFinding) (ended : List Line) (bytes cut : List ℕ) → bytes ≡ lines_text ended ++ cut → cut ≡ [] → AreLines ended → HeardLines offered last hearing ended
+pub found : {S O T N B : Type 0} (offered : O → List Offered) (last : T → List Taken) (hearing : Hearing S O T N B) (is_cut : Bool) (finding : CallsFinding) (ended : List Line) (bytes cut : List ℕ) → bytes ≡ lines_text ended ++ cut → cut ≡ [] → AreLines ended → HeardLines offered last hearing is_cut ended
     → ((capacity : Capacity) (events : List Event) → HasHeard offered last hearing capacity events → IsFoundOf capacity events finding) → IsFindingOf bytes finding
-found offered last hearing finding ended bytes cut text none are heard finds = (
+found offered last hearing is_cut finding ended bytes cut text none are heard finds = (
   capacity_told heard.0,
   events_told Nothing heard.1,
   record {
+    is_cut = is_cut;
     first = heard.0;
     further = heard.1;
     text = text ∙ ap (λ (t : List ℕ). lines_text ended ++ t) none ∙ append-nil (lines_text ended) ∙ ap lines_text heard.2;
@@ -123,3 +127,30 @@ found offered last hearing finding ended bytes cut text none are heard finds = (
   },
   finds (capacity_told heard.0) (events_told Nothing heard.1) heard.4,
 )
+
+-- the first fault of lines that have ended, or none
+fault_is :
+    {S O T N B : Type 0} (offered : O → List Offered) (last : T → List Taken) (hearing : Hearing S O T N B) (is_cut : Bool) (ended : List Line) → AreLines ended →
+    HeardLines offered last hearing is_cut ended → (fault : Option CallsFinding) → hearing.fault ≡ fault → IsFaultOf (lines_text ended) fault
+fault_is offered last hearing is_cut ended are heard fault is =
+    let SoFar : Capacity → List Event → Option CallsFinding → Type 0 = λ capacity events f. IsFaultSoFar offered last f hearing.witness hearing.tally capacity events in
+    let finds : (finding : CallsFinding) → ((capacity : Capacity) (events : List Event) → SoFar capacity events fault → IsFoundOf capacity events finding) → IsFindingOf (lines_text ended) finding =
+    λ finding holds. found offered last hearing is_cut finding ended (lines_text ended) [] (sym (append-nil (lines_text ended))) refl are heard (λ capacity events h. holds capacity events (subst (SoFar capacity events) is h)) in
+    elim fault as (λ f. f ≡ fault → IsFaultOf (lines_text ended) f) [
+      | None ↦ λ same some. (
+        report_of hearing.witness hearing.tally,
+        finds (Lawful (report_of hearing.witness hearing.tally)) (λ capacity events h.
+            let (remembers, tallied) = subst (SoFar capacity events) (sym same) h in
+            heard_lawful offered last capacity events hearing.witness hearing.tally remembers tallied),
+      )
+      | Some (Lawful report) ↦ λ same. subst (SoFar (capacity_told heard.0) (events_told Nothing heard.1)) (is ∙ sym same) heard.4
+      | Some (OutOfTurn number) ↦ λ same. finds (OutOfTurn number) (λ capacity events h. subst (SoFar capacity events) (sym same) h)
+      | Some (NotLinearizable number cause) ↦ λ same. finds (NotLinearizable number cause) (λ capacity events h. subst (SoFar capacity events) (sym same) h)
+    ] refl
+
+pub fault_found :
+    {S O T N B : Type 0} (offered : O → List Offered) (last : T → List Taken) (lines : Lines S O T N B) (ended : List Line) → HasLines offered last lines ended →
+    IsFaultOf (lines_text ended) lines.hearing.fault
+fault_found offered last lines [] has = subst (IsFaultOf []) (sym (has.unheard refl)) (λ some. absurd (some refl))
+fault_found offered last lines (l ∷ more) has =
+    fault_is offered last lines.hearing lines.lacks_calls (l ∷ more) has.are (has.heard (λ none. absurd (omega (arith, ap length none)))) lines.hearing.fault refl

@@ -1,5 +1,5 @@
 -- The takes: how they end.
-use Rattle.std.proofs.Common.{◌≡◌, ◌⊎◌, inl, inr, ℕ, zero, suc, ◌+◌, ◌-◌, ◌<◌, ◌≤◌, Bool, true, false, List, [], ◌∷◌, ◌++◌, length, take, drop, slice_index_or, refl, sym, ap, subst, ◌∙◌, arith, length-append, append_assoc}
+use Rattle.std.proofs.Common.{◌≡◌, inl, inr, ℕ, zero, suc, ◌+◌, ◌-◌, ◌<◌, ◌≤◌, Bool, true, false, List, [], ◌∷◌, ◌++◌, length, take, drop, slice_index_or, refl, sym, ap, subst, ◌∙◌, arith, length-append, append_assoc}
 use Rattle.std.proofs.lemmas.List.{length-take-le, take_more}
 use Rattle.std.proofs.Math.Seq.{drop-append_seam, get_or-append_seam}
 use Rattle.queue_calls.specs.Queue.{Capacity}
@@ -11,8 +11,8 @@ use Rattle.queue_calls.specs.State.{MayHold, left_by, has_closed, FitsPut, offer
 use Rattle.queue_calls.specs.InTurn.{NoCall, ATake, sides, MovesSides}
 use Rattle.queue_calls.proofs.Rooms.{holds_fewer, holds_none}
 use Rattle.queue_calls.proofs.Points.{happens}
-use Rattle.queue_calls.proofs.Effects.{described_at, few_left, shut_closed}
-use Rattle.queue_calls.proofs.Keeping.{Accepts, Refused, accept, refuse}
+use Rattle.queue_calls.proofs.Effects.{described_at, shut_closed}
+use Rattle.queue_calls.proofs.Keeping.{Accepts, accept}
 use Rattle.queue_calls.proofs.Sides.{rests_resting, with_consumer}
 
 -- what comes behind the same items is the same
@@ -26,8 +26,8 @@ record Ends (e : Event) (took : List ℕ) (lack : ℕ → ℕ) : Type 0 where
   idle : (p p' : Producer) → ProducerStep p (Happens e) p' → p' ≡ p
   rests : (p : Producer) → ProducerStep p (Happens e) p
 
-items_ends : (items : List ℕ) → Ends (TakeItems items) items (short_of (length items))
-items_ends items = record { ends = λ c c' m. (m.0, m.2, m.3); idle = λ p p' m. m; rests = λ p. refl }
+items_ends : (items : List ℕ) (why : Bool) → Ends (TakeItems items why) items (short_of why (length items))
+items_ends items why = record { ends = λ c c' m. (m.0, m.2, m.3); idle = λ p p' m. m; rests = λ p. refl }
 
 empty_ends : Ends TakeEmpty [] (λ _. 1)
 empty_ends = record { ends = λ c c' m. m; idle = λ p p' m. m; rests = λ p. refl }
@@ -69,91 +69,39 @@ module _ (capacity : Capacity) (h : List Event) (put : PutTurn) (shut : Bool) wh
         (record { items = ap (λ z. took ++ z) d'.items; room = d.room; producer = d.producer; consumer = (sum, lacks) }) told)
         (record { queue = refl; producer = ends.rests t.producer; consumer = step }))
 
-  module _ (e : Event) (wanted before : ℕ) (ended : Bool) (took inside : List ℕ) (rest : ℕ) (lack : ℕ → ℕ) (ends : Ends e took lack)
-      (k : Keeps capacity h inside put (Waits wanted before ended) shut) (sum : length took + rest ≡ wanted) where
-    refuses :
-        MovesSides (sides (call_of_put put) (ATake wanted)) e (sides (call_of_put put) NoCall) →
-        (MayFindFewer before ended (lack rest) → AreNext took inside → CanEndTake capacity (length inside) (offered_by put) (length took) → ⊥) →
-        Refused capacity h e inside put (Waits wanted before ended) shut
-    refuses turn bad =
-        refuse capacity h e inside put (Waits wanted before ended) shut (sides (call_of_put put) NoCall) k turn
-        (λ s t d m.
-        let (left, ec, ec') = ends.ends s.consumer t.consumer m.consumer in
-        let d' = with_consumer capacity inside put (Waits wanted before ended) shut s d (Taking (lack left) took left) ec in
-        let same : left ≡ rest = omega (arith, sum, d'.consumer.0) in
-        let F : ℕ → Type 0 = λ z. MayFindFewer before ended (lack z) in
-        let few : length (left_by put s.producer) ≤ offered_by put =
-        few_left capacity inside (Waits wanted before ended) shut put s.producer s.queue.closed d.producer in
-        bad (subst F same d'.consumer.1) (s.queue.items ++ left_by put s.producer, d'.items)
-        (holds_fewer capacity ((length inside - length took) - offered_by put) (length s.queue.items)
-        (omega (arith, ap length d'.items, length-append took (s.queue.items ++ left_by put s.producer), length-append s.queue.items (left_by put s.producer), few)) d.room))
-
   -- a take that took fewer than it wanted found fewer than one more, and one that took all has no reason to tell
-  reason : (before count wanted : ℕ) (ended : Bool) → count ≤ wanted → (count < wanted → MayFindFewer before ended (suc count)) → MayFindFewer before ended (short_of count (wanted - count))
-  reason before count wanted ended l f = by_rest (wanted - count) refl
+  reason :
+      (before count wanted : ℕ) (ended why : Bool) → count ≤ wanted → (why ≡ true → count < wanted → MayFindFewer before ended (suc count)) →
+      MayFindFewer before ended (short_of why count (wanted - count))
+  reason before count wanted ended why l f = by_rest why (wanted - count) refl f
     where
-      by_rest : (n : ℕ) → n ≡ wanted - count → MayFindFewer before ended (short_of count n)
-      by_rest zero e = inl refl
-      by_rest (suc n) e = f (omega (arith, e))
-
-  no_reason : (before count wanted : ℕ) (ended : Bool) → count < wanted → MayFindFewer before ended (short_of count (wanted - count)) → MayFindFewer before ended (suc count)
-  no_reason before count wanted ended l f = by_rest (wanted - count) refl f
-    where
-      by_rest : (n : ℕ) → n ≡ wanted - count → MayFindFewer before ended (short_of count n) → MayFindFewer before ended (suc count)
-      by_rest zero e g = absurd (omega (arith, e, l))
-      by_rest (suc n) e g = g
-
-  -- where fewer were inside than so many, which is not 0
-  fewer : (before count : ℕ) (ended : Bool) → 0 < count → MayFindFewer before ended count → (before < count) × (ended ≡ true → 0 < before)
-  fewer before count ended l f = elim f [ inl e ↦ absurd (omega (arith, e, l)) | inr g ↦ g ]
+      by_rest : (why : Bool) (n : ℕ) → n ≡ wanted - count → (why ≡ true → count < wanted → MayFindFewer before ended (suc count)) → MayFindFewer before ended (short_of why count n)
+      by_rest why zero e g = inl refl
+      by_rest false (suc n) e g = inl refl
+      by_rest true (suc n) e g = g refl (omega (arith, e))
 
   module _ (inside : List ℕ) (wanted before : ℕ) (ended : Bool) (k : Keeps capacity h inside put (Waits wanted before ended) shut) where
     all_fit : CanEndTake capacity (length inside) (offered_by put) 0 → MayHold capacity (length inside - offered_by put)
     all_fit fits = holds_fewer capacity (length inside - offered_by put) ((length inside - 0) - offered_by put) (omega arith) fits
 
     pub take_items :
-        (items : List ℕ) → 0 < length items → length items ≤ wanted → (length items < wanted → before ≤ length items) → AreNext items inside →
-        CanEndTake capacity (length inside) (offered_by put) (length items) → Accepts capacity h (TakeItems items) (drop (length items) inside) put Rests shut
-    take_items items some few lacks (rest, next) fits =
+        (items : List ℕ) (why : Bool) → 0 < length items → length items ≤ wanted → (why ≡ true → length items < wanted → before ≤ length items) → AreNext items inside →
+        CanEndTake capacity (length inside) (offered_by put) (length items) → Accepts capacity h (TakeItems items why) (drop (length items) inside) put Rests shut
+    take_items items why some few lacks (rest, next) fits =
         let long : length inside ≡ length items + length rest = omega (arith, ap length next, length-append items rest) in
         let K : List ℕ → Type 0 = λ z. Keeps capacity h z put (Waits wanted before ended) shut in
-        let A : List ℕ → Type 0 = λ z. Accepts capacity h (TakeItems items) z put Rests shut in
-        let reasons : length items < wanted → MayFindFewer before ended (suc (length items)) =
-        λ l. inr (omega (arith, lacks l), λ e. let (s, all) = k.take_ok.1 e in omega (arith, all, some, long)) in
+        let A : List ℕ → Type 0 = λ z. Accepts capacity h (TakeItems items why) z put Rests shut in
+        let reasons : why ≡ true → length items < wanted → MayFindFewer before ended (suc (length items)) =
+        λ tells l. inr (omega (arith, lacks tells l), λ e. let (s, all) = k.take_ok.1 e in omega (arith, all, some, long)) in
         subst A (sym (ap (λ z. drop (length items) z) next ∙ drop-append_seam items rest))
-        (accepts (TakeItems items) wanted before ended items rest (wanted - length items) (short_of (length items)) (items_ends items) (subst K next k) (omega (arith, few))
-        (wanted, refl, some, few, refl) (wanted - length items, some, refl, refl) (reason before (length items) wanted ended few reasons)
+        (accepts (TakeItems items why) wanted before ended items rest (wanted - length items) (short_of why (length items)) (items_ends items why) (subst K next k) (omega (arith, few))
+        (wanted, refl, some, few, refl) (wanted - length items, some, refl, refl) (reason before (length items) wanted ended why few reasons)
         (holds_fewer capacity (length rest - offered_by put) ((length inside - length items) - offered_by put) (omega (arith, long)) fits))
-
-    pub not_items :
-        (items : List ℕ) → 0 < length items → length items ≤ wanted →
-        ((length items < wanted) × (length items < before)) ⊎ ((AreNext items inside → ⊥) ⊎ (CanEndTake capacity (length inside) (offered_by put) (length items) → ⊥)) →
-        Refused capacity h (TakeItems items) inside put (Waits wanted before ended) shut
-    not_items items some few bad =
-        refuses (TakeItems items) wanted before ended items inside (wanted - length items) (short_of (length items)) (items_ends items) k (omega (arith, few))
-        (wanted, refl, some, few, refl)
-        (λ lacks next fits. elim bad [
-          | inl b ↦ (
-              let (less, _) = fewer before (suc (length items)) ended (omega arith) (no_reason before (length items) wanted ended b.0 lacks) in
-              omega (arith, less, b.1))
-          | inr r ↦ elim r [ inl n ↦ n next | inr n ↦ n fits ]
-        ])
 
     pub take_empty : ended ≡ false → before ≡ 0 → CanEndTake capacity (length inside) (offered_by put) 0 → Accepts capacity h TakeEmpty inside put Rests shut
     take_empty open_then none fits =
         accepts TakeEmpty wanted before ended [] inside wanted (λ _. 1) empty_ends k (omega arith) (wanted, refl, refl) (wanted, refl, refl)
         (inr (omega (arith, none), λ e. absurd (cc))) (all_fit fits)
-
-    pub not_empty :
-        (ended ≡ true) ⊎ ((0 < before) ⊎ (CanEndTake capacity (length inside) (offered_by put) 0 → ⊥)) → Refused capacity h TakeEmpty inside put (Waits wanted before ended) shut
-    not_empty bad =
-        refuses TakeEmpty wanted before ended [] inside wanted (λ _. 1) empty_ends k (omega arith) (wanted, refl, refl)
-        (λ lacks next fits.
-        let (less, some) = fewer before 1 ended (omega arith) lacks in
-        elim bad [
-          | inl e ↦ omega (arith, less, some e)
-          | inr r ↦ elim r [ inl l ↦ omega (arith, less, l) | inr n ↦ n fits ]
-        ])
 
     pub take_short :
         1 < wanted → before < wanted → (ended ≡ true → 0 < before) → CanEndTake capacity (length inside) (offered_by put) 0 → Accepts capacity h TakeShort inside put Rests shut
@@ -161,25 +109,9 @@ module _ (capacity : Capacity) (h : List Event) (put : PutTurn) (shut : Bool) wh
         accepts TakeShort wanted before ended [] inside wanted (λ n. n) short_ends k (omega arith) (wanted, refl, several, refl) (wanted, several, refl, refl)
         (inr (less, some)) (all_fit fits)
 
-    pub not_short :
-        1 < wanted → (wanted ≤ before) ⊎ (((ended ≡ true) × (before ≡ 0)) ⊎ (CanEndTake capacity (length inside) (offered_by put) 0 → ⊥)) →
-        Refused capacity h TakeShort inside put (Waits wanted before ended) shut
-    not_short several bad =
-        refuses TakeShort wanted before ended [] inside wanted (λ n. n) short_ends k (omega arith) (wanted, refl, several, refl)
-        (λ lacks next fits.
-        let (less, some) = fewer before wanted ended (omega (arith, several)) lacks in
-        elim bad [
-          | inl l ↦ omega (arith, less, l)
-          | inr r ↦ elim r [ inl e ↦ omega (arith, some e.0, e.1) | inr n ↦ n fits ]
-        ])
-
     pub take_nothing : CanEndTake capacity (length inside) (offered_by put) 0 → Accepts capacity h TakeNothing inside put Rests shut
     take_nothing fits =
         accepts TakeNothing wanted before ended [] inside wanted (λ _. 0) nothing_ends k (omega arith) (wanted, refl, refl) (wanted, refl, refl) (inl refl) (all_fit fits)
-
-    pub not_nothing : (CanEndTake capacity (length inside) (offered_by put) 0 → ⊥) → Refused capacity h TakeNothing inside put (Waits wanted before ended) shut
-    not_nothing bad =
-        refuses TakeNothing wanted before ended [] inside wanted (λ _. 0) nothing_ends k (omega arith) (wanted, refl, refl) (λ lacks next fits. bad fits)
 
 -- a close has begun, so the queue may be closed
 put_shut : (shut : Bool) (p : PutTurn) → has_closed p shut ≡ true → IsSoundPut 0 p shut → IsSoundPut 0 p true
@@ -265,24 +197,6 @@ module _ (capacity : Capacity) (h : List Event) (put : PutTurn) (wanted before :
         consumer = (none_of t.queue.items (left_by put t.producer) d'.items, is_closed);
       }) told)
       (record { queue = refl; producer = refl; consumer = (refl, ec) }))
-
-  pub not_closed :
-      (inside : List ℕ) → Keeps capacity h inside put (Waits wanted before ended) shut → (0 < length inside) ⊎ (has_closed put shut ≡ false) →
-      Refused capacity h TakeClosed inside put (Waits wanted before ended) shut
-  not_closed inside k bad =
-      refuse capacity h TakeClosed inside put (Waits wanted before ended) shut (sides (call_of_put put) NoCall) k (wanted, refl, refl)
-      (λ s t d m.
-      let d' = with_consumer capacity inside put (Waits wanted before ended) shut s d FoundClosed m.consumer.0 in
-      let (none, closed) = d'.consumer in
-      let (left, begun) = closed_left capacity shut s.queue.closed put s.producer (length inside) k.put_ok d.producer closed in
-      elim bad [
-        | inl l ↦ omega (arith, l, ap length d'.items, length-append s.queue.items (left_by put s.producer), ap length none, ap length left)
-        | inr e ↦ cc
-      ])
-
-pub no_more : (inside : List ℕ) → length inside ≡ 0 → inside ≡ []
-no_more [] e = refl
-no_more (x ∷ inside) e = absurd (omega (arith, e))
 
 -- one item more is next
 pub next_one :

@@ -29,7 +29,7 @@ module _ (capacity : Capacity) (past : List Event) (k : Kept) (f : SidesFit past
     | inl b ↦ put_is after _ b.1 refl
     | inr b ↦ put_is after _ b.1 refl
   ]
-  sides_step (PutStored count) after (n, inside, is, some, few, lacks, fits) = put_is after _ fits.1 refl
+  sides_step (PutStored count why) after (n, inside, is, some, few, lacks, fits) = put_is after _ fits.1 refl
   sides_step PutFull after (n, inside, is, lacks, fits) = put_is after _ fits.1 refl
   sides_step PutShort after (n, inside, is, several, lacks, fits) = put_is after _ fits.1 refl
   sides_step PutNothing after ends = elim ends [
@@ -40,7 +40,7 @@ module _ (capacity : Capacity) (past : List Event) (k : Kept) (f : SidesFit past
   sides_step CloseBegin after (free, e) = put_is after _ e refl
   sides_step CloseEnd after (again, is, e) = put_is after _ e refl
   sides_step (TakeBegin wanted) after (rests, some, e) = take_is after _ e refl
-  sides_step (TakeItems items) after (wanted, before, closed, is, some, few, lacks, next, fits) = take_is after _ fits.1 refl
+  sides_step (TakeItems items why) after (wanted, before, closed, is, some, few, lacks, next, fits) = take_is after _ fits.1 refl
   sides_step TakeEmpty after (wanted, before, is, none, fits) = take_is after _ fits.1 refl
   sides_step TakeShort after (wanted, before, closed, is, several, less, found, fits) = take_is after _ fits.1 refl
   sides_step TakeNothing after (wanted, before, closed, is, fits) = take_is after _ fits.1 refl
@@ -63,7 +63,7 @@ last_count capacity k (first ∷ events) event last (next, c, more) =
 -- a put that ends stored no more than it offered
 within : (capacity : Capacity) (past : List Event) (k : Kept) (a : Agrees past k) (event : Event) (after : Kept) → Counts capacity k event after → StoresWithin event past
 within capacity past k a (PutBegin items) after c = tt
-within capacity past k a (PutStored count) after (n, inside, is, some, few, lacks, fits) = omega (arith, few, ap offered_by is, offered_is past k a)
+within capacity past k a (PutStored count why) after (n, inside, is, some, few, lacks, fits) = omega (arith, few, ap offered_by is, offered_is past k a)
 within capacity past k a PutFull after c = tt
 within capacity past k a PutShort after c = tt
 within capacity past k a PutNothing after c = tt
@@ -71,7 +71,7 @@ within capacity past k a PutClosed after c = tt
 within capacity past k a CloseBegin after c = tt
 within capacity past k a CloseEnd after c = tt
 within capacity past k a (TakeBegin wanted) after c = tt
-within capacity past k a (TakeItems items) after c = tt
+within capacity past k a (TakeItems items why) after c = tt
 within capacity past k a TakeEmpty after c = tt
 within capacity past k a TakeShort after c = tt
 within capacity past k a TakeNothing after c = tt

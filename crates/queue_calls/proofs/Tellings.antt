@@ -5,8 +5,8 @@ use Rattle.std.proofs.lemmas.Bool.{ltb-true, ltb-false}
 use Rattle.std.proofs.lemmas.List.Elements.{All-cons, All-nil}
 use Rattle.queue_calls.specs.Calls.{Event, PutBegin, PutStored, PutFull, PutShort, PutNothing, PutClosed, CloseBegin, CloseEnd, TakeBegin, TakeItems, TakeEmpty, TakeShort, TakeNothing, TakeClosed}
 use Rattle.queue_calls.specs.InTurn.{UnderWay, NoCall, APut, AClose, ATake, Sides, sides, MovesSides, Turns}
-use Rattle.queue_calls.specs.Lines.{AreSmall}
-use Rattle.queue_calls.specs.Recordings.{Line, line, IsOfFormat, IsFurther, event_told, begun_after, and_then, events_told}
+use Rattle.queue_calls.specs.Lines.{Allows, AreSmall}
+use Rattle.queue_calls.specs.Recordings.{first_word, Line, line, IsOfFormat, IsFurther, event_told, begun_after, and_then, events_told}
 use Rattle.queue_calls.specs.Tellings.{line_of, lines_of, numbers_in, TellsSmall, HistoryHasARecording}
 use Rattle.queue_calls.specs.declared.lines.Word.TheVariants as word
 use Rattle.queue_calls.specs.declared.recordings.Begun.{Begun}
@@ -29,15 +29,16 @@ none_small = All-nil (λ n. n < 2 ^ 64)
 
 -- ---- one event
 
--- a put that stored so many: the line tells how many only where they are fewer than it offered
-stored_tells : (count offered : ℕ) → 0 < count → count ≤ offered → AreSmall (count ∷ []) → Tells (begun.Put offered) (line_of (begun.Put offered) (PutStored count)) (PutStored count)
-stored_tells count offered some most small =
-    elim (nat_lt count offered) as (λ t. nat_lt count offered ≡ t → Tells (begun.Put offered) (line word.Stored (if t then count ∷ [] else [])) (PutStored count)) [
-      | true ↦ λ fewer. (ap (λ (t : Bool). Some (PutStored (if t then count else 0))) fewer, (some, small))
+-- a put that stored so many: where it tells why they are no more, the line tells how many only where they are fewer than it offered
+stored_tells : (count offered : ℕ) (why : Bool) → 0 < count → count ≤ offered → AreSmall (count ∷ []) → Tells (begun.Put offered) (line_of (begun.Put offered) (PutStored count why)) (PutStored count why)
+stored_tells count offered false some most small = (refl, (some, small))
+stored_tells count offered true some most small =
+    elim (nat_lt count offered) as (λ t. nat_lt count offered ≡ t → Tells (begun.Put offered) (line word.Stored (if t then count ∷ [] else [])) (PutStored count true)) [
+      | true ↦ λ fewer. (ap (λ (t : Bool). Some (PutStored (if t then count else 0) true)) fewer, (some, small))
       | false ↦ λ whole.
           let least : offered ≤ count = ltb-false count offered whole in
           let all : offered ≡ count = omega (arith, most, least) in
-          (ap (λ (n : ℕ). Some (PutStored n)) all, (tt, none_small))
+          (ap (λ (n : ℕ). Some (PutStored n true)) all, (tt, none_small))
     ] refl
 
 -- a take: the line tells how many it wants only where they are several
@@ -55,9 +56,9 @@ take_tells b wanted some small =
 line_tells : (b : Begun) (event : Event) (s t : Sides) → BeganLast b s.producer → MovesSides s event t → AreSmall (numbers_in event) → Tells b (line_of b event) event
 line_tells b (PutBegin []) s t began turn small = absurd (omega (arith, turn.1))
 line_tells b (PutBegin (item ∷ items)) s t began turn small = (refl, (tt, small))
-line_tells b (PutStored count) s t began turn small =
+line_tells b (PutStored count why) s t began turn small =
     let put : b ≡ begun.Put turn.0 = subst (BeganLast b) turn.1 began in
-    subst (λ (x : Begun). Tells x (line_of x (PutStored count)) (PutStored count)) (sym put) (stored_tells count turn.0 turn.2 turn.3 small)
+    subst (λ (x : Begun). Tells x (line_of x (PutStored count why)) (PutStored count why)) (sym put) (stored_tells count turn.0 why turn.2 turn.3 small)
 line_tells b PutFull s t began turn small = (refl, (tt, none_small))
 line_tells b PutShort s t began turn small = (refl, (tt, none_small))
 line_tells b PutNothing s t began turn small = (refl, (tt, none_small))
@@ -69,8 +70,9 @@ line_tells b CloseEnd s t began turn small =
     let close : b ≡ begun.Close = subst (BeganLast b) turn.0 began in
     subst (λ (x : Begun). Tells x (line_of x CloseEnd) CloseEnd) (sym close) (refl, (tt, none_small))
 line_tells b (TakeBegin wanted) s t began turn small = take_tells b wanted turn.1 small
-line_tells b (TakeItems []) s t began turn small = absurd (omega (arith, turn.2))
-line_tells b (TakeItems (item ∷ items)) s t began turn small = (refl, (tt, small))
+line_tells b (TakeItems [] why) s t began turn small = absurd (omega (arith, turn.2))
+line_tells b (TakeItems (item ∷ items) true) s t began turn small = (refl, (tt, small))
+line_tells b (TakeItems (item ∷ items) false) s t began turn small = (refl, (tt, small))
 line_tells b TakeEmpty s t began turn small = (refl, (tt, none_small))
 line_tells b TakeShort s t began turn small = (refl, (tt, none_small))
 line_tells b TakeNothing s t began turn small = (refl, (tt, none_small))
@@ -79,7 +81,8 @@ line_tells b TakeClosed s t began turn small = (refl, (tt, none_small))
 -- behind it the producer again began last what it has under way
 began_behind : (b : Begun) (event : Event) (s t : Sides) → BeganLast b s.producer → MovesSides s event t → BeganLast (begun_after b (line_of b event).word (line_of b event).numbers) t.producer
 began_behind b (PutBegin items) s t began turn = subst (λ (x : Sides). BeganLast (begun.Put (length items)) x.producer) (sym turn.2) refl
-began_behind b (PutStored count) s t began turn = subst (λ (x : Sides). BeganLast b x.producer) (sym turn.4) tt
+began_behind b (PutStored count true) s t began turn = subst (λ (x : Sides). BeganLast b x.producer) (sym turn.4) tt
+began_behind b (PutStored count false) s t began turn = subst (λ (x : Sides). BeganLast b x.producer) (sym turn.4) tt
 began_behind b PutFull s t began turn = subst (λ (x : Sides). BeganLast b x.producer) (sym turn.2) tt
 began_behind b PutShort s t began turn = subst (λ (x : Sides). BeganLast b x.producer) (sym turn.3) tt
 began_behind b PutNothing s t began turn = subst (λ (x : Sides). BeganLast b x.producer) (sym turn.2) tt
@@ -87,7 +90,8 @@ began_behind b PutClosed s t began turn = subst (λ (x : Sides). BeganLast b x.p
 began_behind b CloseBegin s t began turn = subst (λ (x : Sides). BeganLast begun.Close x.producer) (sym turn.1) refl
 began_behind b CloseEnd s t began turn = subst (λ (x : Sides). BeganLast b x.producer) (sym turn.1) tt
 began_behind b (TakeBegin wanted) s t began turn = subst (λ (x : Sides). BeganLast b x.producer) (sym turn.2) began
-began_behind b (TakeItems items) s t began turn = subst (λ (x : Sides). BeganLast b x.producer) (sym turn.4) began
+began_behind b (TakeItems items true) s t began turn = subst (λ (x : Sides). BeganLast b x.producer) (sym turn.4) began
+began_behind b (TakeItems items false) s t began turn = subst (λ (x : Sides). BeganLast b x.producer) (sym turn.4) began
 began_behind b TakeEmpty s t began turn = subst (λ (x : Sides). BeganLast b x.producer) (sym turn.2) began
 began_behind b TakeShort s t began turn = subst (λ (x : Sides). BeganLast b x.producer) (sym turn.3) began
 began_behind b TakeNothing s t began turn = subst (λ (x : Sides). BeganLast b x.producer) (sym turn.2) began
@@ -106,14 +110,21 @@ lines_tell b (event ∷ h) s t began (next, turn, turns) small =
       All-cons IsFurther l (lines_of after h) (not_first b l.word l.numbers event tells.0, tells.1) later.1,
     )
 
+first_allowed : (is_cut : Bool) (most : ℕ) → 0 < most → Allows (first_word is_cut) (most ∷ [])
+first_allowed true most some = some
+first_allowed false most some = some
+
 pub history_has_a_recording : HistoryHasARecording
-history_has_a_recording most h some fits (t, turns) small =
-    let told = lines_tell begun.Nothing h (sides NoCall NoCall) t tt turns small in
-    record {
-      first = most ∷ [];
-      further = lines_of begun.Nothing h;
-      text = refl;
-      are = (refl, (some, All-cons (λ n. n < 2 ^ 64) most [] fits none_small), told.1);
-      tells_capacity = refl;
-      tells_events = told.0;
-    }
+history_has_a_recording is_cut most h some fits (t, turns) small =
+    let told = lines_tell begun.Nothing h (sides NoCall NoCall) t tt turns small in (
+      record {
+        is_cut = is_cut;
+        first = most ∷ [];
+        further = lines_of begun.Nothing h;
+        text = refl;
+        are = ((is_cut, refl), (first_allowed is_cut most some, All-cons (λ n. n < 2 ^ 64) most [] fits none_small), told.1);
+        tells_capacity = refl;
+        tells_events = told.0;
+      },
+      refl,
+    )

@@ -14,7 +14,7 @@ last_turn (x ∷ h) e s u (n, f, r) = let (t, a, b) = last_turn h e n u r in (t,
 
 same_turn : (e : Event) (s t u : Sides) → MovesSides s e t → MovesSides s e u → t ≡ u
 same_turn (PutBegin items) s t u a b = a.2 ∙ sym b.2
-same_turn (PutStored count) s t u a b = a.4 ∙ sym b.4
+same_turn (PutStored count why) s t u a b = a.4 ∙ sym b.4
 same_turn PutFull s t u a b = a.2 ∙ sym b.2
 same_turn PutShort s t u a b = a.3 ∙ sym b.3
 same_turn PutNothing s t u a b = a.2 ∙ sym b.2
@@ -22,7 +22,7 @@ same_turn PutClosed s t u a b = a.2 ∙ sym b.2
 same_turn CloseBegin s t u a b = a.1 ∙ sym b.1
 same_turn CloseEnd s t u a b = a.1 ∙ sym b.1
 same_turn (TakeBegin wanted) s t u a b = a.2 ∙ sym b.2
-same_turn (TakeItems items) s t u a b = a.4 ∙ sym b.4
+same_turn (TakeItems items why) s t u a b = a.4 ∙ sym b.4
 same_turn TakeEmpty s t u a b = a.2 ∙ sym b.2
 same_turn TakeShort s t u a b = a.3 ∙ sym b.3
 same_turn TakeNothing s t u a b = a.2 ∙ sym b.2
@@ -120,9 +120,9 @@ module _ (s : Sides) (p p' : Producer) (c c' : Consumer) (hp : HasPut p s.produc
   in_turn : (e : Event) → ProducerStep p (Happens e) p' → ConsumerStep c (Happens e) c' → Next e s p' c'
   in_turn (PutBegin items) (a, some, b) f =
       by_put (PutBegin items) (APut (length items)) (idle_has s.producer (has_p Idle a), some, refl) (left_p (Putting 0 0 items) (APut (length items)) b (omega arith)) f
-  in_turn (PutStored count) (left, some, a, b) f =
-      by_put (PutStored count) NoCall
-      (count + length left, putting_has (short_of count (length left)) count left s.producer (has_p (Putting (short_of count (length left)) count left) a), some, omega arith, refl) (left_p Idle NoCall b tt) f
+  in_turn (PutStored count why) (left, some, a, b) f =
+      by_put (PutStored count why) NoCall
+      (count + length left, putting_has (short_of why count (length left)) count left s.producer (has_p (Putting (short_of why count (length left)) count left) a), some, omega arith, refl) (left_p Idle NoCall b tt) f
   in_turn PutFull (items, a, b) f = by_put PutFull NoCall (0 + length items, putting_has 1 0 items s.producer (has_p (Putting 1 0 items) a), refl) (left_p Idle NoCall b tt) f
   in_turn PutShort (items, some, a, b) f =
       by_put PutShort NoCall (0 + length items, putting_has (length items) 0 items s.producer (has_p (Putting (length items) 0 items) a), omega (arith, some), refl) (left_p Idle NoCall b tt) f
@@ -132,9 +132,9 @@ module _ (s : Sides) (p p' : Producer) (c c' : Consumer) (hp : HasPut p s.produc
   in_turn CloseEnd (a, b) f = by_put CloseEnd NoCall (closing_has true s.producer (has_p (Closing true) a), refl) (left_p Idle NoCall b tt) f
   in_turn (TakeBegin wanted) f (a, some, b) =
       by_take (TakeBegin wanted) (ATake wanted) (resting_has s.consumer (has_c Resting a), some, refl) (left_c (Taking 0 [] wanted) (ATake wanted) b (omega arith)) f
-  in_turn (TakeItems items) f (left, some, a, b) =
-      by_take (TakeItems items) NoCall
-      (length items + left, taking_has (short_of (length items) left) items left s.consumer (has_c (Taking (short_of (length items) left) items left) a), some, omega arith, refl) (left_c Resting NoCall b tt) f
+  in_turn (TakeItems items why) f (left, some, a, b) =
+      by_take (TakeItems items why) NoCall
+      (length items + left, taking_has (short_of why (length items) left) items left s.consumer (has_c (Taking (short_of why (length items) left) items left) a), some, omega arith, refl) (left_c Resting NoCall b tt) f
   in_turn TakeEmpty f (wanted, a, b) = by_take TakeEmpty NoCall (0 + wanted, taking_has 1 [] wanted s.consumer (has_c (Taking 1 [] wanted) a), refl) (left_c Resting NoCall b tt) f
   in_turn TakeShort f (wanted, some, a, b) =
       by_take TakeShort NoCall (0 + wanted, taking_has wanted [] wanted s.consumer (has_c (Taking wanted [] wanted) a), omega (arith, some), refl) (left_c Resting NoCall b tt) f

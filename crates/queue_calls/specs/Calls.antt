@@ -3,12 +3,14 @@
 use Rattle.std.specs.Prelude.{◌≡◌, ℕ, zero, suc, ◌<◌, Bool, true, false, List, [], ◌∷◌, ◌++◌, length}
 use Rattle.queue_calls.specs.Queue.{Capacity, Does, Enqueue, FindNoRoom, FindShut, Close, Dequeue, FindFewer, FindClosed, Queue, queue, Step}
 
--- an event of a history: a call begins, or it ends with an answer. A put offers items. Of these so many of the first are stored; or
--- none, as there is no room for one, no room for all of them, without a reason, or as the queue is closed. A take wants so many items.
--- It takes these; or none, as there is none, fewer than it wants, without a reason, or as there is none and the queue is closed.
+-- an event of a history: a call begins, or it ends with an answer. A put offers items. Of these so many of the first are stored, and
+-- where some are left, it says that there was no room for one more or says nothing of why; or none is stored, as there is no room for
+-- one, no room for all of them, without a reason, or as the queue is closed. A take wants so many items. It takes these, and where
+-- they are fewer, it says that there were no more or says nothing of why; or it takes none, as there is none, fewer than it wants,
+-- without a reason, or as there is none and the queue is closed.
 pub data Event : Type 0 where
   PutBegin : (items : List ℕ) → Event
-  PutStored : (count : ℕ) → Event
+  PutStored : (count : ℕ) (why : Bool) → Event
   PutFull : Event
   PutShort : Event
   PutNothing : Event
@@ -16,7 +18,7 @@ pub data Event : Type 0 where
   CloseBegin : Event
   CloseEnd : Event
   TakeBegin : (wanted : ℕ) → Event
-  TakeItems : (items : List ℕ) → Event
+  TakeItems : (items : List ℕ) (why : Bool) → Event
   TakeEmpty : Event
   TakeShort : Event
   TakeNothing : Event
@@ -42,16 +44,17 @@ pub data Consumer : Type 0 where
   Taking : (lacked : ℕ) (took : List ℕ) (left : ℕ) → Consumer
   FoundClosed : Consumer
 
--- the reason why a call passed so many items and left so many: where it left some, it found no room for one item more than it passed,
--- or fewer items than one more
-abbrev pub short_of : ℕ → ℕ → ℕ
-short_of count zero = 0
-short_of count (suc left) = suc count
+-- the reason why a call passed so many items and left so many: where it left some and says why, it found no room for one item more than
+-- it passed, or fewer items than one more
+abbrev pub short_of : Bool → ℕ → ℕ → ℕ
+short_of why count zero = 0
+short_of false count (suc left) = 0
+short_of true count (suc left) = suc count
 
 -- the calls of the producer: each mark needs it to be in one thing, and leaves it in another
 abbrev pub ProducerStep : Producer → Mark → Producer → Type 0
 ProducerStep p (Happens (PutBegin items)) after = (p ≡ Idle) × (0 < length items) × (after ≡ Putting 0 0 items)
-ProducerStep p (Happens (PutStored count)) after = (left : List ℕ) × (0 < count) × (p ≡ Putting (short_of count (length left)) count left) × (after ≡ Idle)
+ProducerStep p (Happens (PutStored count why)) after = (left : List ℕ) × (0 < count) × (p ≡ Putting (short_of why count (length left)) count left) × (after ≡ Idle)
 ProducerStep p (Happens PutFull) after = (items : List ℕ) × (p ≡ Putting 1 0 items) × (after ≡ Idle)
 ProducerStep p (Happens PutShort) after = (items : List ℕ) × (1 < length items) × (p ≡ Putting (length items) 0 items) × (after ≡ Idle)
 ProducerStep p (Happens PutNothing) after = (items : List ℕ) × (p ≡ Putting 0 0 items) × (after ≡ Idle)
@@ -59,7 +62,7 @@ ProducerStep p (Happens PutClosed) after = (p ≡ FoundShut) × (after ≡ Idle)
 ProducerStep p (Happens CloseBegin) after = (p ≡ Idle) × (after ≡ Closing false)
 ProducerStep p (Happens CloseEnd) after = (p ≡ Closing true) × (after ≡ Idle)
 ProducerStep p (Happens (TakeBegin wanted)) after = after ≡ p
-ProducerStep p (Happens (TakeItems items)) after = after ≡ p
+ProducerStep p (Happens (TakeItems items why)) after = after ≡ p
 ProducerStep p (Happens TakeEmpty) after = after ≡ p
 ProducerStep p (Happens TakeShort) after = after ≡ p
 ProducerStep p (Happens TakeNothing) after = after ≡ p
@@ -76,13 +79,13 @@ ProducerStep p (Effect FindClosed) after = after ≡ p
 -- the calls of the consumer
 abbrev pub ConsumerStep : Consumer → Mark → Consumer → Type 0
 ConsumerStep c (Happens (TakeBegin wanted)) after = (c ≡ Resting) × (0 < wanted) × (after ≡ Taking 0 [] wanted)
-ConsumerStep c (Happens (TakeItems items)) after = (left : ℕ) × (0 < length items) × (c ≡ Taking (short_of (length items) left) items left) × (after ≡ Resting)
+ConsumerStep c (Happens (TakeItems items why)) after = (left : ℕ) × (0 < length items) × (c ≡ Taking (short_of why (length items) left) items left) × (after ≡ Resting)
 ConsumerStep c (Happens TakeEmpty) after = (wanted : ℕ) × (c ≡ Taking 1 [] wanted) × (after ≡ Resting)
 ConsumerStep c (Happens TakeShort) after = (wanted : ℕ) × (1 < wanted) × (c ≡ Taking wanted [] wanted) × (after ≡ Resting)
 ConsumerStep c (Happens TakeNothing) after = (wanted : ℕ) × (c ≡ Taking 0 [] wanted) × (after ≡ Resting)
 ConsumerStep c (Happens TakeClosed) after = (c ≡ FoundClosed) × (after ≡ Resting)
 ConsumerStep c (Happens (PutBegin items)) after = after ≡ c
-ConsumerStep c (Happens (PutStored count)) after = after ≡ c
+ConsumerStep c (Happens (PutStored count why)) after = after ≡ c
 ConsumerStep c (Happens PutFull) after = after ≡ c
 ConsumerStep c (Happens PutShort) after = after ≡ c
 ConsumerStep c (Happens PutNothing) after = after ≡ c

@@ -1,12 +1,10 @@
 -- Lawful by counting: what an auditor keeps of a history, and what each event needs it to be and makes of it. It keeps the items that
 -- are inside, with those offered by the put under way, which may have been stored; a history is lawful where each event can be counted.
-use Rattle.std.specs.Prelude.{◌≡◌, ◌⊎◌, ℕ, suc, ◌-◌, ◌<◌, ◌≤◌, Bool, true, false, List, [], ◌∷◌, ◌++◌, length, take, drop, ◌↔◌, Result, MatchResult}
+use Rattle.std.specs.Prelude.{◌≡◌, ◌⊎◌, ℕ, suc, ◌-◌, ◌<◌, ◌≤◌, Bool, true, false, List, [], ◌∷◌, ◌++◌, length, take, drop, ◌↔◌}
 use Rattle.queue_calls.specs.Queue.{Capacity, LacksRoom}
 use Rattle.queue_calls.specs.Calls.{Event, PutBegin, PutStored, PutFull, PutShort, PutNothing, PutClosed, CloseBegin, CloseEnd, TakeBegin, TakeItems, TakeEmpty, TakeShort, TakeNothing, TakeClosed, IsLinearizable}
 use Rattle.queue_calls.specs.State.{IsProper, AreNext, CanEndPut, CanEndTake, offered_by, asked_by, has_closed}
-use Rattle.queue_calls.specs.Told.{meant}
 use Rattle.queue_calls.specs.declared.auditors.CallAuditor.{CallAuditor}
-use Rattle.queue_calls.specs.declared.faults.Fault.{Fault}
 use Rattle.queue_calls.specs.declared.turns.PutTurn.{PutTurn}
 use Rattle.queue_calls.specs.declared.turns.PutTurn.TheVariants.{Free, Offers, Late, Closes}
 use Rattle.queue_calls.specs.declared.turns.TakeTurn.{TakeTurn}
@@ -44,8 +42,8 @@ Counts capacity k (PutBegin items) after =
     (k.put ≡ Free) × (0 < length items) ×
     (((k.shut ≡ false) × (after ≡ kept (k.inside ++ items) (Offers (length items) (length k.inside)) k.take false)) ⊎
     ((k.shut ≡ true) × (after ≡ kept k.inside (Late (length items)) k.take true)))
-Counts capacity k (PutStored count) after =
-    (offered before : ℕ) × (k.put ≡ Offers offered before) × (0 < count) × (count ≤ offered) × (count < offered → LacksRoom capacity before (suc count)) ×
+Counts capacity k (PutStored count why) after =
+    (offered before : ℕ) × (k.put ≡ Offers offered before) × (0 < count) × (count ≤ offered) × (why ≡ true → count < offered → LacksRoom capacity before (suc count)) ×
     EndsPut capacity k (offered - count) after
 Counts capacity k PutFull after = (offered before : ℕ) × (k.put ≡ Offers offered before) × LacksRoom capacity before 1 × EndsPut capacity k offered after
 Counts capacity k PutShort after =
@@ -58,9 +56,9 @@ Counts capacity k CloseBegin after = (k.put ≡ Free) × (after ≡ kept k.insid
 Counts capacity k CloseEnd after = (again : Bool) × (k.put ≡ Closes again) × (after ≡ kept k.inside Free k.take true)
 Counts capacity k (TakeBegin wanted) after =
     (k.take ≡ Rests) × (0 < wanted) × (after ≡ kept k.inside k.put (Waits wanted (length k.inside - offered_by k.put) k.shut) k.shut)
-Counts capacity k (TakeItems items) after =
+Counts capacity k (TakeItems items why) after =
     (wanted before : ℕ) × (ended : Bool) × (k.take ≡ Waits wanted before ended) × (0 < length items) × (length items ≤ wanted) ×
-    (length items < wanted → before ≤ length items) × AreNext items k.inside × EndsTake capacity k (length items) after
+    (why ≡ true → length items < wanted → before ≤ length items) × AreNext items k.inside × EndsTake capacity k (length items) after
 Counts capacity k TakeEmpty after =
     (wanted before : ℕ) × (k.take ≡ Waits wanted before false) × (before ≡ 0) × EndsTake capacity k 0 after
 Counts capacity k TakeShort after =
@@ -69,11 +67,6 @@ Counts capacity k TakeNothing after = (wanted before : ℕ) × (ended : Bool) ×
 Counts capacity k TakeClosed after =
     (wanted before : ℕ) × (ended : Bool) × (k.take ≡ Waits wanted before ended) × (k.inside ≡ []) × (has_closed k.put k.shut ≡ true) ×
     (after ≡ kept [] k.put Rests true)
-
--- an auditor counts an event that it accepts; of a refused one nothing is kept
-abbrev pub CountsOrKeeps : {Q E : Type 0} → (items : Q → List ℕ) → CallAuditor Q E → Event → Result Unit Fault → CallAuditor Q E → Type 0
-CountsOrKeeps items old event result new =
-    MatchResult result (λ _. Counts (meant old.capacity) (kept_by items old) event (kept_by items new)) (λ _. kept_by items new ≡ kept_by items old)
 
 -- the events of a history can be counted, one after the other
 abbrev pub AreCounted : Capacity → Kept → List Event → Type 0

@@ -21,7 +21,7 @@ sides p c = record { producer = p; consumer = c }
 -- an event in its turn: it needs the one side to have this under way, and leaves it that; the other side stays as it is
 abbrev pub MovesSides : Sides → Event → Sides → Type 0
 MovesSides s (PutBegin items) t = (s.producer ≡ NoCall) × (0 < length items) × (t ≡ sides (APut (length items)) s.consumer)
-MovesSides s (PutStored count) t = (offered : ℕ) × (s.producer ≡ APut offered) × (0 < count) × (count ≤ offered) × (t ≡ sides NoCall s.consumer)
+MovesSides s (PutStored count why) t = (offered : ℕ) × (s.producer ≡ APut offered) × (0 < count) × (count ≤ offered) × (t ≡ sides NoCall s.consumer)
 MovesSides s PutFull t = (offered : ℕ) × (s.producer ≡ APut offered) × (t ≡ sides NoCall s.consumer)
 MovesSides s PutShort t = (offered : ℕ) × (s.producer ≡ APut offered) × (1 < offered) × (t ≡ sides NoCall s.consumer)
 MovesSides s PutNothing t = (offered : ℕ) × (s.producer ≡ APut offered) × (t ≡ sides NoCall s.consumer)
@@ -29,7 +29,7 @@ MovesSides s PutClosed t = (offered : ℕ) × (s.producer ≡ APut offered) × (
 MovesSides s CloseBegin t = (s.producer ≡ NoCall) × (t ≡ sides AClose s.consumer)
 MovesSides s CloseEnd t = (s.producer ≡ AClose) × (t ≡ sides NoCall s.consumer)
 MovesSides s (TakeBegin wanted) t = (s.consumer ≡ NoCall) × (0 < wanted) × (t ≡ sides s.producer (ATake wanted))
-MovesSides s (TakeItems items) t =
+MovesSides s (TakeItems items why) t =
     (wanted : ℕ) × (s.consumer ≡ ATake wanted) × (0 < length items) × (length items ≤ wanted) × (t ≡ sides s.producer NoCall)
 MovesSides s TakeEmpty t = (wanted : ℕ) × (s.consumer ≡ ATake wanted) × (t ≡ sides s.producer NoCall)
 MovesSides s TakeShort t = (wanted : ℕ) × (s.consumer ≡ ATake wanted) × (1 < wanted) × (t ≡ sides s.producer NoCall)

@@ -8,11 +8,11 @@ use Rattle.queue_calls.specs.declared.faults.Fault.{Fault}
 -- so many of the first; a take that ends takes as many away as it took
 abbrev pub Moves : {E : Type 0} → (entry : ℕ → E) → Bool → Event → List E → List E → Type 0
 Moves entry shut (PutBegin items) before after = after ≡ (if shut then before else before ++ map entry items)
-Moves entry shut (PutStored count) before after = (kept : ℕ) × (after ≡ take kept before)
+Moves entry shut (PutStored count why) before after = (kept : ℕ) × (after ≡ take kept before)
 Moves entry shut PutFull before after = (kept : ℕ) × (after ≡ take kept before)
 Moves entry shut PutShort before after = (kept : ℕ) × (after ≡ take kept before)
 Moves entry shut PutNothing before after = (kept : ℕ) × (after ≡ take kept before)
-Moves entry shut (TakeItems items) before after = after ≡ drop (length items) before
+Moves entry shut (TakeItems items why) before after = after ≡ drop (length items) before
 Moves entry shut _ before after = after ≡ before
 
 -- and of a refused one nothing

@@ -12,6 +12,7 @@ pub mod Steps
 pub mod Moments
 pub mod Order
 pub mod Counting
+pub mod Deciding
 pub mod Laws
 pub mod Lines
 pub mod LineReading

@@ -3,7 +3,7 @@ use Rattle.std.specs.Prelude.{◌≡◌, ℕ, ◌+◌, ◌-◌, ◌*◌, ◌^◌
 use Rattle.std.specs.Char.{is_ascii_digit}
 use Rattle.std.specs.Str.{bytes_eq}
 use Rattle.queue_calls.specs.declared.lines.Word.{Word}
-use Rattle.queue_calls.specs.declared.lines.Word.TheVariants.{Queue, Put, Stored, Full, Short, PutNothing, PutClosed, Close, Take, Item, Empty, TakeShort, TakeNothing, TakeClosed}
+use Rattle.queue_calls.specs.declared.lines.Word.TheVariants.{Queue, Cut, Put, Stored, PutSome, Full, Short, PutNothing, PutClosed, Close, Take, Item, TakeSome, Empty, TakeShort, TakeNothing, TakeClosed}
 use Rattle.queue_calls.specs.Lines.{numbers_text, AreSmall}
 
 -- the bytes behind a text
@@ -20,15 +20,17 @@ abbrev pub word_or : Word → List ℕ → List ℕ → Option (Word × List ℕ
 word_or word text bytes other = then_or_else (bytes_behind text bytes) (λ rest. Some (word, rest)) other
 
 abbrev pub put_word_at : List ℕ → Option (Word × List ℕ)
-put_word_at bytes = word_or Put (codes "put") bytes (word_or Stored (codes "stored") bytes (word_or Full (codes "full") bytes (word_or Short (codes "short") bytes
-    (word_or PutNothing (codes "nothing") bytes (word_or PutClosed (codes "closed") bytes (word_or Close (codes "close") bytes None))))))
+put_word_at bytes = word_or Put (codes "put") bytes (word_or Stored (codes "stored") bytes (word_or PutSome (codes "some") bytes (word_or Full (codes "full") bytes (word_or Short (codes "short") bytes
+    (word_or PutNothing (codes "nothing") bytes (word_or PutClosed (codes "closed") bytes (word_or Close (codes "close") bytes None)))))))
 
 abbrev pub take_word_at : List ℕ → Option (Word × List ℕ)
-take_word_at bytes = word_or Take (codes "take") bytes (word_or Item (codes "item") bytes (word_or Empty (codes "empty") bytes
-    (word_or TakeShort (codes "short") bytes (word_or TakeNothing (codes "nothing") bytes (word_or TakeClosed (codes "closed") bytes None)))))
+take_word_at bytes = word_or Take (codes "take") bytes (word_or Item (codes "item") bytes (word_or TakeSome (codes "some") bytes (word_or Empty (codes "empty") bytes
+    (word_or TakeShort (codes "short") bytes (word_or TakeNothing (codes "nothing") bytes (word_or TakeClosed (codes "closed") bytes None))))))
 
 abbrev pub line_word_at : List ℕ → Option (Word × List ℕ)
-line_word_at bytes = word_or Queue (codes "queue") bytes (then_or_else (bytes_behind (codes "P ") bytes) put_word_at (then_or_else (bytes_behind (codes "C ") bytes) take_word_at None))
+line_word_at bytes =
+    word_or Queue (codes "queue") bytes (word_or Cut (codes "cut queue") bytes
+    (then_or_else (bytes_behind (codes "P ") bytes) put_word_at (then_or_else (bytes_behind (codes "C ") bytes) take_word_at None)))
 
 -- whether bytes were read as numbers, and which these are
 abbrev pub ReadsNumbers : List ℕ → Bool → List ℕ → Type 0

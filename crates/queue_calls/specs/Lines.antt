@@ -1,12 +1,14 @@
 -- The lines of a recording's text: a word, and numbers in decimal, with one space between two of them.
 use Rattle.std.specs.Prelude.{◌≡◌, ℕ, ◌≤◌, ◌<◌, ◌^◌, List, [], ◌∷◌, ◌++◌, codes, decimal, All, flat_map}
 use Rattle.queue_calls.specs.declared.lines.Word.{Word}
-use Rattle.queue_calls.specs.declared.lines.Word.TheVariants.{Queue, Put, Stored, Full, Short, PutNothing, PutClosed, Close, Take, Item, Empty, TakeShort, TakeNothing, TakeClosed}
+use Rattle.queue_calls.specs.declared.lines.Word.TheVariants.{Queue, Cut, Put, Stored, PutSome, Full, Short, PutNothing, PutClosed, Close, Take, Item, TakeSome, Empty, TakeShort, TakeNothing, TakeClosed}
 
 abbrev pub word_text : Word → List ℕ
 word_text Queue = codes "queue"
+word_text Cut = codes "cut queue"
 word_text Put = codes "P put"
 word_text Stored = codes "P stored"
+word_text PutSome = codes "P some"
 word_text Full = codes "P full"
 word_text Short = codes "P short"
 word_text PutNothing = codes "P nothing"
@@ -14,6 +16,7 @@ word_text PutClosed = codes "P closed"
 word_text Close = codes "P close"
 word_text Take = codes "C take"
 word_text Item = codes "C item"
+word_text TakeSome = codes "C some"
 word_text Empty = codes "C empty"
 word_text TakeShort = codes "C short"
 word_text TakeNothing = codes "C nothing"
@@ -27,15 +30,22 @@ numbers_text numbers = flat_map (λ n. codes " " ++ decimal n) numbers
 abbrev pub line_text : Word → List ℕ → List ℕ
 line_text word numbers = word_text word ++ numbers_text numbers
 
--- the numbers that may follow a word: of a queue none, its capacity, or two that its capacity lies between; of a put and of a
--- take that gives items, the items; of a put that ends, how many were stored; of a take, how many are asked for, where more than one
+-- the numbers that may tell a queue: none, its capacity, or two that its capacity lies between
+abbrev pub AllowsQueue : List ℕ → Type 0
+AllowsQueue [] = Unit {0}
+AllowsQueue (most ∷ []) = 1 ≤ most
+AllowsQueue (full ∷ most ∷ []) = full < most
+AllowsQueue (full ∷ most ∷ other ∷ more) = ⊥
+
+-- the numbers that may follow a word: of a queue those above; of a put and of a take that gives items, the items; of a put that ends,
+-- how many were stored; of a take, how many are asked for, where more than one
 abbrev pub Allows : Word → List ℕ → Type 0
-Allows Queue [] = Unit {0}
-Allows Queue (most ∷ []) = 1 ≤ most
-Allows Queue (least ∷ most ∷ []) = (1 ≤ least) × (least < most)
+Allows Queue numbers = AllowsQueue numbers
+Allows Cut numbers = AllowsQueue numbers
 Allows Put (item ∷ more) = Unit {0}
 Allows Stored [] = Unit {0}
 Allows Stored (count ∷ []) = 1 ≤ count
+Allows PutSome (count ∷ []) = 1 ≤ count
 Allows Full [] = Unit {0}
 Allows Short [] = Unit {0}
 Allows PutNothing [] = Unit {0}
@@ -44,6 +54,7 @@ Allows Close [] = Unit {0}
 Allows Take [] = Unit {0}
 Allows Take (count ∷ []) = 2 ≤ count
 Allows Item (item ∷ more) = Unit {0}
+Allows TakeSome (item ∷ more) = Unit {0}
 Allows Empty [] = Unit {0}
 Allows TakeShort [] = Unit {0}
 Allows TakeNothing [] = Unit {0}

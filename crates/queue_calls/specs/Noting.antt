@@ -7,7 +7,7 @@ use Rattle.queue_calls.specs.declared.entries.TheConstants.{TAKEN_LIMIT}
 
 -- the items that an event takes
 abbrev pub items_got : Event → List ℕ
-items_got (TakeItems items) = items
+items_got (TakeItems items why) = items
 items_got _ = []
 
 -- those that the events of a history take

@@ -17,7 +17,7 @@ pick C C same other = same
 -- the side of an event, and of an operation
 abbrev pub side_of : Event → Side
 side_of (PutBegin items) = P
-side_of (PutStored count) = P
+side_of (PutStored count why) = P
 side_of PutFull = P
 side_of PutShort = P
 side_of PutNothing = P
@@ -25,7 +25,7 @@ side_of PutClosed = P
 side_of CloseBegin = P
 side_of CloseEnd = P
 side_of (TakeBegin wanted) = C
-side_of (TakeItems items) = C
+side_of (TakeItems items why) = C
 side_of TakeEmpty = C
 side_of TakeShort = C
 side_of TakeNothing = C

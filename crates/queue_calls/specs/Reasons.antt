@@ -57,7 +57,7 @@ before_take (_ ∷ past) = before_take past
 
 abbrev pub before_stored : List Event → List Event
 before_stored [] = []
-before_stored (PutStored count ∷ past) = past
+before_stored (PutStored count why ∷ past) = past
 before_stored (_ ∷ past) = before_stored past
 
 -- an item that this line offers; as that line stores it; one that that line takes
@@ -77,7 +77,7 @@ items_of entries = map (λ o. o.item) entries
 abbrev pub offers : List Event → List Offered
 offers [] = []
 offers (PutBegin items ∷ past) = if has_ended past then [] else map (offered_at (line_behind past)) items
-offers (PutStored count ∷ past) = []
+offers (PutStored count why ∷ past) = []
 offers (PutFull ∷ past) = []
 offers (PutShort ∷ past) = []
 offers (PutNothing ∷ past) = []
@@ -87,20 +87,20 @@ offers (_ ∷ past) = offers past
 -- what puts that have ended stored, in order
 abbrev pub stored : List Event → List Offered
 stored [] = []
-stored (PutStored count ∷ past) = stored past ++ map (stored_at (line_behind past)) (take count (offers past))
+stored (PutStored count why ∷ past) = stored past ++ map (stored_at (line_behind past)) (take count (offers past))
 stored (_ ∷ past) = stored past
 
 -- what takes that have ended took, in order
 abbrev pub taken : List Event → List Taken
 taken [] = []
-taken (TakeItems items ∷ past) = taken past ++ map (taken_at (line_behind past)) items
+taken (TakeItems items why ∷ past) = taken past ++ map (taken_at (line_behind past)) items
 taken (_ ∷ past) = taken past
 
 -- how many items the take under way wants; 0 where none is
 abbrev pub wanted : List Event → ℕ
 wanted [] = 0
 wanted (TakeBegin count ∷ past) = count
-wanted (TakeItems items ∷ past) = 0
+wanted (TakeItems items why ∷ past) = 0
 wanted (TakeEmpty ∷ past) = 0
 wanted (TakeShort ∷ past) = 0
 wanted (TakeNothing ∷ past) = 0
@@ -143,14 +143,14 @@ can_lack (Between full most) inside count = nat_lt full (inside + count)
 
 -- ---- what speaks against an event behind a past
 
-abbrev pub stored_cause : Capacity → ℕ → List Event → Option Cause
-stored_cause capacity count past =
+abbrev pub stored_cause : Capacity → ℕ → Bool → List Event → Option Cause
+stored_cause capacity count why past =
     let inside : ℕ = n_of past - k_of (before_put past) in
     let least : ℕ = (n_of past + count) - (k_of past + wanted past) in
     if has_ended (before_put past) then Some (StoredAfterClose (ended_line past)) else
     if nat_lt (n_of past + count) (k_of past) then Some (OnlySomeStored count (last_taken past)) else
     if not (can_hold capacity least) then Some (StoredTooMany least) else
-    if nat_lt count (length (offers past)) && not (can_lack capacity inside (suc count)) then Some (OnlySomeWithRoom count inside (line_behind (before_put past))) else
+    if why && (nat_lt count (length (offers past)) && not (can_lack capacity inside (suc count))) then Some (OnlySomeWithRoom count inside (line_behind (before_put past))) else
     None
 
 abbrev pub full_cause : Capacity → List Event → Option Cause
@@ -176,10 +176,10 @@ not_taken_cause capacity count past =
     let least : ℕ = n_of past - (k_of past + count) in
     if can_hold capacity least then None else Some (NotTaken least (line_behind (before_stored past)))
 
--- of a take that gave so many items, the next ones
-abbrev pub fewer_cause : Capacity → ℕ → List Event → Option Cause
-fewer_cause capacity count past =
-    if nat_lt count (wanted past) && nat_lt (k_of past + count) (n_of (before_take past)) then Some (NoMoreWhileInside (at (coming past) count)) else
+-- of a take that gave so many items, the next ones, and says why it gave no more, or not
+abbrev pub fewer_cause : Capacity → ℕ → Bool → List Event → Option Cause
+fewer_cause capacity count why past =
+    if why && (nat_lt count (wanted past) && nat_lt (k_of past + count) (n_of (before_take past))) then Some (NoMoreWhileInside (at (coming past) count)) else
     not_taken_cause capacity count past
 
 -- of one that gave an item that does not come any more, behind others, where this is next
@@ -192,11 +192,11 @@ gone_cause past first item next =
     again_cause past item (find (λ t. t.item == item) (map (taken_at (line_behind past)) first ++ reverse (last_of TAKEN_LIMIT (taken past)))) next
 
 -- of one that gave these items behind others, the next ones, where these are next
-abbrev pub items_cause : Capacity → List Event → (first items : List ℕ) → (rest : List Offered) → Option Cause
-items_cause capacity past first [] rest = fewer_cause capacity (length first) past
-items_cause capacity past first (item ∷ items) [] = Some (gone_cause past first item None)
-items_cause capacity past first (item ∷ items) (next ∷ rest) =
-    if next.item == item then items_cause capacity past (first ++ item ∷ []) items rest else
+abbrev pub items_cause : Capacity → Bool → List Event → (first items : List ℕ) → (rest : List Offered) → Option Cause
+items_cause capacity why past first [] rest = fewer_cause capacity (length first) why past
+items_cause capacity why past first (item ∷ items) [] = Some (gone_cause past first item None)
+items_cause capacity why past first (item ∷ items) (next ∷ rest) =
+    if next.item == item then items_cause capacity why past (first ++ item ∷ []) items rest else
     if is_some (find (λ o. o.item == item) rest) then Some (NotNext item next) else
     Some (gone_cause past first item (Some next))
 
@@ -220,12 +220,12 @@ closed_cause [] = None
 closed_cause (next ∷ rest) = Some (ClosedWhileInside next)
 
 abbrev pub cause_of : Capacity → Event → List Event → Option Cause
-cause_of capacity (PutStored count) past = stored_cause capacity count past
+cause_of capacity (PutStored count why) past = stored_cause capacity count why past
 cause_of capacity PutFull past = full_cause capacity past
 cause_of capacity PutShort past = put_short_cause capacity past
 cause_of capacity PutNothing past = if nat_lt (n_of past) (k_of past) then Some (NotStoredButTaken (last_taken past)) else None
 cause_of capacity PutClosed past = if has_ended (before_put past) then None else Some ClosedWithoutClose
-cause_of capacity (TakeItems items) past = if has_told past then Some (ItemAfterTold (told_closed_line past)) else items_cause capacity past [] items (coming past)
+cause_of capacity (TakeItems items why) past = if has_told past then Some (ItemAfterTold (told_closed_line past)) else items_cause capacity why past [] items (coming past)
 cause_of capacity TakeEmpty past = empty_cause capacity past
 cause_of capacity TakeShort past = take_short_cause capacity past
 cause_of capacity TakeNothing past = not_taken_cause capacity 0 past

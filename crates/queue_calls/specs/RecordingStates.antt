@@ -1,12 +1,11 @@
 -- What is kept of a recording that is being read.
-use Rattle.std.specs.Prelude.{◌≡◌, ◌≢◌, ℕ, ◌+◌, ◌-◌, ◌^◌, List, [], ◌∷◌, ◌++◌, Option, Some, None, length, All}
+use Rattle.std.specs.Prelude.{◌≡◌, ◌≢◌, ℕ, ◌+◌, ◌-◌, ◌^◌, List, [], ◌∷◌, ◌++◌, Bool, Option, Some, None, length, All}
 use Rattle.queue_calls.specs.Queue.{Capacity}
 use Rattle.queue_calls.specs.Calls.{Event}
 use Rattle.queue_calls.specs.Lines.{line_text}
 use Rattle.queue_calls.specs.Witnesses.{Remembers}
 use Rattle.queue_calls.specs.Tallying.{IsTallied}
-use Rattle.queue_calls.specs.Recordings.{Line, line, lines_text, AreLines, capacity_told, events_told, begun_behind, IsFoundOf}
-use Rattle.queue_calls.specs.declared.lines.Word.TheVariants.{Queue}
+use Rattle.queue_calls.specs.Recordings.{Line, line, first_word, lines_text, AreLines, capacity_told, events_told, begun_behind, IsFoundOf}
 use Rattle.queue_calls.specs.declared.entries.Offered.{Offered}
 use Rattle.queue_calls.specs.declared.entries.Taken.{Taken}
 use Rattle.queue_calls.specs.declared.reports.Tally.{Tally}
@@ -34,16 +33,17 @@ IsFaultSoFar offered last (Some fault) w tally capacity events = IsFoundOf capac
 abbrev pub HasHeard : {S O T N B : Type 0} → (offered : O → List Offered) → (last : T → List Taken) → Hearing S O T N B → Capacity → List Event → Type 0
 HasHeard offered last hearing capacity events = IsFaultSoFar offered last hearing.fault hearing.witness hearing.tally capacity events
 
--- lines were heard, a first one and others
-abbrev pub HeardLines : {S O T N B : Type 0} → (offered : O → List Offered) → (last : T → List Taken) → Hearing S O T N B → List Line → Type 0
-HeardLines offered last hearing lines = (first : List ℕ) × (further : List Line) × (lines ≡ line Queue first ∷ further)
+-- lines were heard, a first one, of a recording that lacks calls or does not, and others
+abbrev pub HeardLines : {S O T N B : Type 0} → (offered : O → List Offered) → (last : T → List Taken) → Hearing S O T N B → Bool → List Line → Type 0
+HeardLines offered last hearing is_cut lines = (first : List ℕ) × (further : List Line) × (lines ≡ line (first_word is_cut) first ∷ further)
     × (hearing.begun ≡ begun_behind Nothing further) × HasHeard offered last hearing (capacity_told first) (events_told Nothing further)
 
--- these lines have ended
+-- these lines have ended; where there are none, there is no fault of them
 pub record HasLines {S O T N B : Type 0} (offered : O → List Offered) (last : T → List Taken) (lines : Lines S O T N B) (ended : List Line) : Type 0 where
   pub are : AreLines ended
   pub count : lines.count ≡ length ended
-  pub heard : ended ≢ [] → HeardLines offered last lines.hearing ended
+  pub unheard : ended ≡ [] → lines.hearing.fault ≡ None
+  pub heard : ended ≢ [] → HeardLines offered last lines.hearing lines.lacks_calls ended
 
 -- bytes without a line feed are a line that goes on with lines
 abbrev pub ContinuesLines : List Line → List ℕ → Line → Type 0

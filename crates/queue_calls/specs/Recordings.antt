@@ -1,5 +1,5 @@
 -- The text of recorded calls, and what is found of it: a first line that tells the capacity, and further lines that tell the events.
-use Rattle.std.specs.Prelude.{◌≡◌, ◌≢◌, ℕ, ◌+◌, ◌-◌, ◌^◌, ◌≤◌, nat_lt, if◌then◌else◌, List, [], ◌∷◌, ◌++◌, Option, Some, None, length, codes, decimal, All, flat_map}
+use Rattle.std.specs.Prelude.{◌≡◌, ◌≢◌, ℕ, ◌+◌, ◌-◌, ◌^◌, ◌≤◌, nat_lt, if◌then◌else◌, List, [], ◌∷◌, ◌++◌, Bool, true, false, Option, Some, None, length, codes, decimal, All, flat_map}
 use Rattle.queue_calls.specs.Queue.{Capacity, Unbounded, Between, exactly}
 use Rattle.queue_calls.specs.Calls.{Event, PutBegin, PutStored, PutFull, PutShort, PutNothing, PutClosed, CloseBegin, CloseEnd, TakeBegin, TakeItems, TakeEmpty, TakeShort, TakeNothing, TakeClosed, IsLinearizable}
 use Rattle.queue_calls.specs.InTurn.{CallsAreInTurn}
@@ -13,6 +13,7 @@ use Rattle.queue_calls.specs.declared.recordings.Begun.TheVariants as begun
 use Rattle.queue_calls.specs.declared.recordings.CallsFinding.{CallsFinding}
 use Rattle.queue_calls.specs.declared.recordings.CallsFinding.TheVariants.{Lawful, OutOfTurn, NotLinearizable}
 use Rattle.queue_calls.specs.declared.recordings.RecordingFault.{RecordingFault}
+use Rattle.queue_calls.specs.declared.reports.Report.{Report}
 use Rattle.queue_calls.specs.declared.recordings.RecordingFault.TheVariants.{BadLine, TooLong, OutOfMemory}
 
 -- the words of each fault
@@ -40,14 +41,19 @@ lines_text lines = flat_map text_of lines
 abbrev pub IsOfFormat : Line → Type 0
 IsOfFormat l = Allows l.word l.numbers × AreSmall l.numbers
 
+-- the word of the first line, of a recording that lacks the later calls or does not
+abbrev pub first_word : Bool → Word
+first_word true = word.Cut
+first_word false = word.Queue
+
 -- it may stand behind the first line
 abbrev pub IsFurther : Line → Type 0
-IsFurther l = (l.word ≢ word.Queue) × IsOfFormat l
+IsFurther l = ((is_cut : Bool) → l.word ≢ first_word is_cut) × IsOfFormat l
 
 -- lines as they have to be: the first one tells the capacity, and no other one does
 abbrev pub AreLines : List Line → Type 0
 AreLines [] = Unit {0}
-AreLines (first ∷ further) = (first.word ≡ word.Queue) × IsOfFormat first × All IsFurther further
+AreLines (first ∷ further) = ((is_cut : Bool) × (first.word ≡ first_word is_cut)) × IsOfFormat first × All IsFurther further
 
 -- the capacity that the numbers of the first line tell
 abbrev pub capacity_told : List ℕ → Capacity
@@ -62,6 +68,11 @@ stored_told (begun.Put offered) [] = offered
 stored_told (begun.Put offered) (count ∷ more) = if nat_lt count offered then count else 0
 stored_told _ _ = 0
 
+-- how many a put stored that does not say whether these are all
+abbrev pub some_told : List ℕ → ℕ
+some_told [] = 0
+some_told (count ∷ more) = count
+
 -- how many items a take wants
 abbrev pub wanted_told : List ℕ → ℕ
 wanted_told [] = 1
@@ -75,15 +86,18 @@ closed_told _ = PutClosed
 -- the event that a line behind the first tells, where the producer began this last
 abbrev pub event_told : Begun → Word → List ℕ → Option Event
 event_told b word.Queue numbers = None
+event_told b word.Cut numbers = None
 event_told b word.Put numbers = Some (PutBegin numbers)
-event_told b word.Stored numbers = Some (PutStored (stored_told b numbers))
+event_told b word.Stored numbers = Some (PutStored (stored_told b numbers) true)
+event_told b word.PutSome numbers = Some (PutStored (some_told numbers) false)
 event_told b word.Full numbers = Some PutFull
 event_told b word.Short numbers = Some PutShort
 event_told b word.PutNothing numbers = Some PutNothing
 event_told b word.PutClosed numbers = Some (closed_told b)
 event_told b word.Close numbers = Some CloseBegin
 event_told b word.Take numbers = Some (TakeBegin (wanted_told numbers))
-event_told b word.Item numbers = Some (TakeItems numbers)
+event_told b word.Item numbers = Some (TakeItems numbers true)
+event_told b word.TakeSome numbers = Some (TakeItems numbers false)
 event_told b word.Empty numbers = Some TakeEmpty
 event_told b word.TakeShort numbers = Some TakeShort
 event_told b word.TakeNothing numbers = Some TakeNothing
@@ -112,10 +126,11 @@ events_told b (l ∷ lines) = and_then (event_told b l.word l.numbers) (events_t
 
 -- the text is a recording of this history of a queue of this capacity
 pub record IsRecording (bytes : List ℕ) (capacity : Capacity) (events : List Event) : Type 0 where
+  pub is_cut : Bool
   pub first : List ℕ
   pub further : List Line
-  pub text : bytes ≡ lines_text (line word.Queue first ∷ further)
-  pub are : AreLines (line word.Queue first ∷ further)
+  pub text : bytes ≡ lines_text (line (first_word is_cut) first ∷ further)
+  pub are : AreLines (line (first_word is_cut) first ∷ further)
   pub tells_capacity : capacity ≡ capacity_told first
   pub tells_events : events ≡ events_told begun.Nothing further
 
@@ -158,3 +173,9 @@ IsFoundOf capacity events (NotLinearizable number cause) =
 -- what is found of a text
 abbrev pub IsFindingOf : List ℕ → CallsFinding → Type 0
 IsFindingOf bytes finding = (capacity : Capacity) × (events : List Event) × IsRecording bytes capacity events × IsFoundOf capacity events finding
+
+-- the first fault that is found of a text of lines that have ended, or none: it is linearizable, or there is no line
+abbrev pub IsFaultOf : List ℕ → Option CallsFinding → Type 0
+IsFaultOf bytes None = bytes ≢ [] → (report : Report) × IsFindingOf bytes (Lawful report)
+IsFaultOf bytes (Some (Lawful report)) = ⊥
+IsFaultOf bytes (Some fault) = IsFindingOf bytes fault

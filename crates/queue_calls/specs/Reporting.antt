@@ -20,10 +20,10 @@ begun (CloseBegin ∷ past) = suc (begun past)
 begun (TakeBegin wanted ∷ past) = suc (begun past)
 begun (_ ∷ past) = begun past
 
--- how many puts have ended full, short, or with only some of their items stored
+-- how many puts have ended full, short, or with only some of their items stored for want of room
 abbrev pub full_ends : List Event → ℕ
 full_ends [] = 0
-full_ends (PutStored count ∷ past) = full_ends past + as_number (nat_lt count (length (offers past)))
+full_ends (PutStored count why ∷ past) = full_ends past + as_number (why && nat_lt count (length (offers past)))
 full_ends (PutFull ∷ past) = suc (full_ends past)
 full_ends (PutShort ∷ past) = suc (full_ends past)
 full_ends (_ ∷ past) = full_ends past
@@ -47,7 +47,7 @@ abbrev pub put_is_open : List Event → Bool
 put_is_open [] = false
 put_is_open (PutBegin items ∷ past) = true
 put_is_open (CloseBegin ∷ past) = true
-put_is_open (PutStored count ∷ past) = false
+put_is_open (PutStored count why ∷ past) = false
 put_is_open (PutFull ∷ past) = false
 put_is_open (PutShort ∷ past) = false
 put_is_open (PutNothing ∷ past) = false
@@ -58,7 +58,7 @@ put_is_open (_ ∷ past) = put_is_open past
 abbrev pub take_is_open : List Event → Bool
 take_is_open [] = false
 take_is_open (TakeBegin wanted ∷ past) = true
-take_is_open (TakeItems items ∷ past) = false
+take_is_open (TakeItems items why ∷ past) = false
 take_is_open (TakeEmpty ∷ past) = false
 take_is_open (TakeShort ∷ past) = false
 take_is_open (TakeNothing ∷ past) = false

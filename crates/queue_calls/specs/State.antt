@@ -8,10 +8,10 @@ use Rattle.queue_calls.specs.declared.turns.PutTurn.TheVariants.{Free, Offers, L
 use Rattle.queue_calls.specs.declared.turns.TakeTurn.{TakeTurn}
 use Rattle.queue_calls.specs.declared.turns.TakeTurn.TheVariants.{Rests, Waits}
 
--- a capacity that a queue may have: it holds one item at least, and the most is no fewer than the full number
+-- a capacity that a queue may have: it may hold one item, and the most is no fewer than the full number
 abbrev pub IsProper : Capacity → Type 0
 IsProper Unbounded = Unit {0}
-IsProper (Between full most) = (0 < full) × (full ≤ most)
+IsProper (Between full most) = (0 < most) × (full ≤ most)
 
 -- a queue may have so many items inside
 abbrev pub MayHold : Capacity → ℕ → Type 0

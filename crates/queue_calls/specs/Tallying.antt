@@ -60,7 +60,7 @@ pub record Tallies (past : List Event) (tally : Tally) : Type 0 where
 
 -- a put that ends stored no more than it offered
 abbrev pub StoresWithin : Event → List Event → Type 0
-StoresWithin (PutStored count) past = count ≤ length (offers past)
+StoresWithin (PutStored count why) past = count ≤ length (offers past)
 StoresWithin _ past = Unit {0}
 
 -- what is told of an event behind a past: how many items were offered before it, and which sides have a call under way then

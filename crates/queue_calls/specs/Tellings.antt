@@ -1,10 +1,10 @@
 -- The lines that tell a history: each well-formed history has a recording.
-use Rattle.std.specs.Prelude.{ℕ, ◌^◌, ◌<◌, nat_lt, if◌then◌else◌, List, [], ◌∷◌}
+use Rattle.std.specs.Prelude.{◌≡◌, ℕ, Bool, true, false, ◌^◌, ◌<◌, nat_lt, if◌then◌else◌, List, [], ◌∷◌}
 use Rattle.queue_calls.specs.Queue.{Capacity, exactly}
 use Rattle.queue_calls.specs.Calls.{Event, PutBegin, PutStored, PutFull, PutShort, PutNothing, PutClosed, CloseBegin, CloseEnd, TakeBegin, TakeItems, TakeEmpty, TakeShort, TakeNothing, TakeClosed, IsLinearizable}
 use Rattle.queue_calls.specs.InTurn.{CallsAreInTurn}
 use Rattle.queue_calls.specs.Lines.{AreSmall}
-use Rattle.queue_calls.specs.Recordings.{Line, line, lines_text, begun_after, IsRecording}
+use Rattle.queue_calls.specs.Recordings.{Line, line, first_word, lines_text, begun_after, IsRecording}
 use Rattle.queue_calls.specs.declared.lines.Word.TheVariants as word
 use Rattle.queue_calls.specs.declared.recordings.Begun.{Begun}
 use Rattle.queue_calls.specs.declared.recordings.Begun.TheVariants as begun
@@ -25,7 +25,8 @@ if_several count = (if nat_lt 1 count then count ∷ [] else [])
 -- the line that tells an event, where the producer began this last
 abbrev pub line_of : Begun → Event → Line
 line_of b (PutBegin items) = line word.Put items
-line_of b (PutStored count) = line word.Stored (if_fewer count (offered_last b))
+line_of b (PutStored count true) = line word.Stored (if_fewer count (offered_last b))
+line_of b (PutStored count false) = line word.PutSome (count ∷ [])
 line_of b PutFull = line word.Full []
 line_of b PutShort = line word.Short []
 line_of b PutNothing = line word.PutNothing []
@@ -33,7 +34,8 @@ line_of b PutClosed = line word.PutClosed []
 line_of b CloseBegin = line word.Close []
 line_of b CloseEnd = line word.PutClosed []
 line_of b (TakeBegin wanted) = line word.Take (if_several wanted)
-line_of b (TakeItems items) = line word.Item items
+line_of b (TakeItems items true) = line word.Item items
+line_of b (TakeItems items false) = line word.TakeSome items
 line_of b TakeEmpty = line word.Empty []
 line_of b TakeShort = line word.TakeShort []
 line_of b TakeNothing = line word.TakeNothing []
@@ -47,9 +49,9 @@ lines_of b (event ∷ h) = line_of b event ∷ lines_of (begun_after b (line_of 
 -- the numbers that an event tells
 abbrev pub numbers_in : Event → List ℕ
 numbers_in (PutBegin items) = items
-numbers_in (PutStored count) = count ∷ []
+numbers_in (PutStored count why) = count ∷ []
 numbers_in (TakeBegin wanted) = wanted ∷ []
-numbers_in (TakeItems items) = items
+numbers_in (TakeItems items why) = items
 numbers_in _ = []
 
 -- those of a history fit 64 bits
@@ -57,11 +59,11 @@ abbrev pub TellsSmall : List Event → Type 0
 TellsSmall [] = Unit {0}
 TellsSmall (event ∷ h) = AreSmall (numbers_in event) × TellsSmall h
 
--- a well-formed history of a queue of just so many is told by a recording
+-- a well-formed history of a queue of just so many is told by a recording, whether it lacks the later calls or not
 abbrev pub HistoryHasARecording : Type 0
 HistoryHasARecording =
-    (most : ℕ) (h : List Event) → 0 < most → most < 2 ^ 64 → CallsAreInTurn h → TellsSmall h →
-    IsRecording (lines_text (line word.Queue (most ∷ []) ∷ lines_of begun.Nothing h)) (exactly most) h
+    (is_cut : Bool) (most : ℕ) (h : List Event) → 0 < most → most < 2 ^ 64 → CallsAreInTurn h → TellsSmall h →
+    (is : IsRecording (lines_text (line (first_word is_cut) (most ∷ []) ∷ lines_of begun.Nothing h)) (exactly most) h) × (is.is_cut ≡ is_cut)
 
 -- a linearizable history is well formed
 abbrev pub LinearizableIsInTurn : Type 0

@@ -18,7 +18,7 @@ use std::collections::VecDeque;
 /// ([`beginning_is_linearizable`](crate::laws::beginning_is_linearizable)). A put of several items stores
 /// them one by one, and a take of several takes them one by one; a second close changes nothing. A put that stores
 /// fewer items than it offered found no room for one more before it stored the first, and a take that takes fewer than
-/// it wanted found no more than these before it took the first.
+/// it wanted found no more than these before it took the first; but for one that tells no reason.
 ///
 /// An event takes constant time, amortized, for each item that it tells, and the memory is that of the
 /// items inside and of those offered by the put under way: of an allocator, or slots that the caller gives.
@@ -26,13 +26,13 @@ use std::collections::VecDeque;
 /// In use: `uses::calls::first_at_fault`.
 #[derive(Drop)]
 pub struct CallAuditor<Q: Inside> {
-    capacity: Capacity,
+    pub(crate) capacity: Capacity,
     // the items stored or offered and not yet taken, in order
     pub(crate) inside: Q,
     pub(crate) put: PutTurn,
     pub(crate) take: TakeTurn,
     // a close has ended, or a take was told that the queue is closed
-    shut: bool,
+    pub(crate) shut: bool,
 }
 
 impl<A: Allocator> CallAuditor<VecDeque<u64, A>> {
@@ -40,8 +40,8 @@ impl<A: Allocator> CallAuditor<VecDeque<u64, A>> {
     ghost use Rattle.queue_calls.specs.Audits.{Audits};
     ghost use Rattle.queue_calls.specs.Told.{meant};
 
-    /// An auditor of a queue of this capacity that has read no event yet. A capacity between two numbers has a first one of
-    /// at least 1, and a second one that is no less.
+    /// An auditor of a queue of this capacity that has read no event yet. A capacity between two numbers has a second one of
+    /// at least 1, and a first one that is no more.
     pub fn new(alloc: A, capacity: Capacity) -> CallAuditor<VecDeque<u64, A>>
         requires { IsProper (meant capacity) }
         ensures capacity { result.capacity ≡ capacity }
@@ -52,13 +52,12 @@ impl<A: Allocator> CallAuditor<VecDeque<u64, A>> {
 }
 
 impl<Q: Inside> CallAuditor<Q> {
-    ghost use Rattle.queue_calls.specs.Queue.{LacksRoom};
-    ghost use Rattle.queue_calls.specs.Calls.{Event as AnEvent, IsLinearizable, PutBegin, PutStored, PutFull, PutShort, PutNothing, PutClosed, CloseBegin, CloseEnd, TakeBegin, TakeItems, TakeEmpty, TakeShort, TakeNothing, TakeClosed};
-    ghost use Rattle.queue_calls.specs.State.{IsProper, MayHold, offered_by, asked_by, has_closed, AreNext, CanEndPut, CanEndTake};
+    ghost use Rattle.queue_calls.specs.Calls.{Event as AnEvent, IsLinearizable, PutBegin, PutClosed, CloseBegin, CloseEnd, TakeBegin, TakeClosed};
+    ghost use Rattle.queue_calls.specs.State.{IsProper, offered_by, asked_by, AreNext, CanEndPut, CanEndTake};
     ghost use Rattle.queue_calls.specs.Audits.{Audits, Reads};
     ghost use Rattle.queue_calls.specs.Insides.{MovesEntries};
-    ghost use Rattle.queue_calls.specs.Counting.{CountsOrKeeps, kept_by};
-    ghost use Rattle.queue_calls.specs.Tallying.{least_kept, most_kept, has_put, has_take};
+    ghost use Rattle.queue_calls.specs.Deciding.{Decides, EndsAPut, EndsATake};
+    ghost use Rattle.queue_calls.specs.Noting.{items_got};
     ghost use Rattle.queue_calls.specs.Told.{meant, told};
     ghost use Rattle.queue_calls.specs.declared.turns.PutTurn.TheVariants.{Free, Offers};
     ghost use Rattle.queue_calls.specs.declared.turns.TakeTurn.TheVariants.{Rests};
@@ -117,35 +116,32 @@ impl<Q: Inside> CallAuditor<Q> {
 
     // As `feed`, of an event of this line, which is kept with each item that the event offers.
     pub(crate) fn feed_at(&mut self, line: u64, event: Event<'_>) -> Result<(), Fault>
-        ensures reads { Reads Q.items Q.room self.old (told event.entry) result self.new }
+        ensures decides { Decides Q.items Q.room self.old (told event.entry) result self.new }
         ensures room { Q.room self.new.inside ≡ Q.room self.old.inside }
         ensures entries { MovesEntries Q.entries (λ item. Q.entry item line) self.old (told event.entry) result self.new }
-        ensures counts { CountsOrKeeps Q.items self.old (told event.entry) result self.new }
     {
         match event {
             Event::PutBegins(items) => self.put_begins(line, items),
-            Event::PutStored(count) => self.put_stored(count),
-            Event::PutFull => self.put_full(),
-            Event::PutShort => self.put_short(),
-            Event::PutNothing => self.put_nothing(),
+            Event::PutStored(_)
+            | Event::PutSome(_)
+            | Event::PutFull
+            | Event::PutShort
+            | Event::PutNothing => self.put_ends(event),
             Event::PutClosed => self.put_closed(),
             Event::CloseBegins => self.close_begins(),
             Event::CloseEnds => self.close_ends(),
             Event::TakeBegins(wanted) => self.take_begins(wanted),
-            Event::TakeItems(items) => self.take_items(items),
-            Event::TakeEmpty => self.take_empty(),
-            Event::TakeShort => self.take_short(),
-            Event::TakeNothing => self.take_nothing(),
+            Event::TakeItems(items) | Event::TakeSome(items) => self.take_ends(event, items),
+            Event::TakeEmpty | Event::TakeShort | Event::TakeNothing => self.take_ends(event, &[]),
             Event::TakeClosed => self.take_closed(),
         }
     }
 
     // A put of these items begins, of one at least.
     fn put_begins(&mut self, line: u64, items: &[u64]) -> Result<(), Fault>
-        ensures reads { Reads Q.items Q.room self.old (PutBegin items.now) result self.new }
+        ensures decides { Decides Q.items Q.room self.old (PutBegin items.now) result self.new }
         ensures room { Q.room self.new.inside ≡ Q.room self.old.inside }
         ensures entries { MovesEntries Q.entries (λ item. Q.entry item line) self.old (PutBegin items.now) result self.new }
-        ensures counts { CountsOrKeeps Q.items self.old (PutBegin items.now) result self.new }
     {
         match self.put {
             PutTurn::Free => {}
@@ -194,121 +190,37 @@ impl<Q: Inside> CallAuditor<Q> {
         true
     }
 
-    // The put ends: so many of its first items were stored, one at least and no more than it offered.
-    fn put_stored(&mut self, count: usize) -> Result<(), Fault>
-        ensures reads { Reads Q.items Q.room self.old (PutStored count) result self.new }
+    // The put ends so, with some of its first items stored or none.
+    fn put_ends(&mut self, event: Event<'_>) -> Result<(), Fault>
+        requires { EndsAPut (told event) }
+        ensures decides { Decides Q.items Q.room self.old (told event.entry) result self.new }
         ensures room { Q.room self.new.inside ≡ Q.room self.old.inside }
-        ensures entries { MovesEntries Q.entries (λ item. Q.entry item 0) self.old (PutStored count) result self.new }
-        ensures counts { CountsOrKeeps Q.items self.old (PutStored count) result self.new }
+        ensures entries { MovesEntries Q.entries (λ item. Q.entry item 0) self.old (told event.entry) result self.new }
     {
         match self.put {
             PutTurn::Offers { offered, before } => {
-                if count == 0 || offered < count {
+                let Some((stored, lacked)) = event.outcome(offered) else {
                     return Err(Fault::OutOfTurn);
-                }
-                if count < offered && !self.may_lack(before, count + 1) {
+                };
+                if lacked > 0 && !self.may_lack(before, lacked) {
                     return Err(Fault::NotLinearizable);
                 }
-                if !self.ends_put(offered - count) {
+                if !self.ends_put(offered - stored) {
                     return Err(Fault::NotLinearizable);
                 }
                 Ok(())
             }
             PutTurn::Late { offered } => {
-                if count == 0 || offered < count {
+                let Some((stored, lacked)) = event.outcome(offered) else {
                     return Err(Fault::OutOfTurn);
-                }
-                Err(Fault::NotLinearizable)
-            }
-            PutTurn::Free | PutTurn::Closes { .. } => Err(Fault::OutOfTurn),
-        }
-    }
-
-    // The put ends: the queue had no room for one item, and none was stored.
-    fn put_full(&mut self) -> Result<(), Fault>
-        ensures reads { Reads Q.items Q.room self.old PutFull result self.new }
-        ensures room { Q.room self.new.inside ≡ Q.room self.old.inside }
-        ensures entries { MovesEntries Q.entries (λ item. Q.entry item 0) self.old PutFull result self.new }
-        ensures counts { CountsOrKeeps Q.items self.old PutFull result self.new }
-    {
-        match self.put {
-            PutTurn::Offers { offered, before } => {
-                if !self.may_lack(before, 1) || !self.ends_put(offered) {
+                };
+                if stored > 0 || lacked > 0 {
                     return Err(Fault::NotLinearizable);
                 }
-                Ok(())
-            }
-            PutTurn::Late { .. } => Err(Fault::NotLinearizable),
-            PutTurn::Free | PutTurn::Closes { .. } => Err(Fault::OutOfTurn),
-        }
-    }
-
-    // The put of several items ends: the queue had no room for all of them, and none was stored.
-    fn put_short(&mut self) -> Result<(), Fault>
-        ensures reads { Reads Q.items Q.room self.old PutShort result self.new }
-        ensures room { Q.room self.new.inside ≡ Q.room self.old.inside }
-        ensures entries { MovesEntries Q.entries (λ item. Q.entry item 0) self.old PutShort result self.new }
-        ensures counts { CountsOrKeeps Q.items self.old PutShort result self.new }
-    {
-        match self.put {
-            PutTurn::Offers { offered, before } => {
-                if offered <= 1 {
-                    return Err(Fault::OutOfTurn);
-                }
-                if !self.may_lack(before, offered) || !self.ends_put(offered) {
-                    return Err(Fault::NotLinearizable);
-                }
-                Ok(())
-            }
-            PutTurn::Late { offered } => {
-                if offered <= 1 {
-                    return Err(Fault::OutOfTurn);
-                }
-                Err(Fault::NotLinearizable)
-            }
-            PutTurn::Free | PutTurn::Closes { .. } => Err(Fault::OutOfTurn),
-        }
-    }
-
-    // The put ends: none of its items was stored, and no reason is told.
-    fn put_nothing(&mut self) -> Result<(), Fault>
-        ensures reads { Reads Q.items Q.room self.old PutNothing result self.new }
-        ensures room { Q.room self.new.inside ≡ Q.room self.old.inside }
-        ensures entries { MovesEntries Q.entries (λ item. Q.entry item 0) self.old PutNothing result self.new }
-        ensures counts { CountsOrKeeps Q.items self.old PutNothing result self.new }
-    {
-        match self.put {
-            PutTurn::Offers { offered, .. } => {
-                if !self.ends_put(offered) {
-                    return Err(Fault::NotLinearizable);
-                }
-                Ok(())
-            }
-            PutTurn::Late { .. } => {
                 self.put = PutTurn::Free;
                 Ok(())
             }
             PutTurn::Free | PutTurn::Closes { .. } => Err(Fault::OutOfTurn),
-        }
-    }
-
-    // Whether a queue with so many items inside may tell that it has no room for so many more.
-    fn may_lack(&self, inside: usize, count: usize) -> bool
-        ensures { IsTrue result ↔ LacksRoom (meant self.now.capacity) inside count }
-    {
-        match self.capacity {
-            Capacity::Unbounded => false,
-            Capacity::Between { full, most: _ } => full < inside || full - inside < count,
-        }
-    }
-
-    // Whether a queue may have so many items inside.
-    pub(crate) fn may_hold(&self, inside: usize) -> bool
-        ensures { IsTrue result ↔ MayHold (meant self.now.capacity) inside }
-    {
-        match self.capacity {
-            Capacity::Unbounded => true,
-            Capacity::Between { full: _, most } => inside <= most,
         }
     }
 
@@ -337,10 +249,9 @@ impl<Q: Inside> CallAuditor<Q> {
 
     // The put ends: the queue was closed, and none of its items was stored.
     fn put_closed(&mut self) -> Result<(), Fault>
-        ensures reads { Reads Q.items Q.room self.old PutClosed result self.new }
+        ensures decides { Decides Q.items Q.room self.old PutClosed result self.new }
         ensures room { Q.room self.new.inside ≡ Q.room self.old.inside }
         ensures entries { MovesEntries Q.entries (λ item. Q.entry item 0) self.old PutClosed result self.new }
-        ensures counts { CountsOrKeeps Q.items self.old PutClosed result self.new }
     {
         match self.put {
             PutTurn::Late { .. } => {
@@ -354,10 +265,9 @@ impl<Q: Inside> CallAuditor<Q> {
 
     // A close begins.
     fn close_begins(&mut self) -> Result<(), Fault>
-        ensures reads { Reads Q.items Q.room self.old CloseBegin result self.new }
+        ensures decides { Decides Q.items Q.room self.old CloseBegin result self.new }
         ensures room { Q.room self.new.inside ≡ Q.room self.old.inside }
         ensures entries { MovesEntries Q.entries (λ item. Q.entry item 0) self.old CloseBegin result self.new }
-        ensures counts { CountsOrKeeps Q.items self.old CloseBegin result self.new }
     {
         match self.put {
             PutTurn::Free => {
@@ -372,10 +282,9 @@ impl<Q: Inside> CallAuditor<Q> {
 
     // The close ends.
     fn close_ends(&mut self) -> Result<(), Fault>
-        ensures reads { Reads Q.items Q.room self.old CloseEnd result self.new }
+        ensures decides { Decides Q.items Q.room self.old CloseEnd result self.new }
         ensures room { Q.room self.new.inside ≡ Q.room self.old.inside }
         ensures entries { MovesEntries Q.entries (λ item. Q.entry item 0) self.old CloseEnd result self.new }
-        ensures counts { CountsOrKeeps Q.items self.old CloseEnd result self.new }
     {
         match self.put {
             PutTurn::Closes { .. } => {
@@ -389,10 +298,9 @@ impl<Q: Inside> CallAuditor<Q> {
 
     // A take of up to so many items begins, of one at least.
     fn take_begins(&mut self, wanted: usize) -> Result<(), Fault>
-        ensures reads { Reads Q.items Q.room self.old (TakeBegin wanted) result self.new }
+        ensures decides { Decides Q.items Q.room self.old (TakeBegin wanted) result self.new }
         ensures room { Q.room self.new.inside ≡ Q.room self.old.inside }
         ensures entries { MovesEntries Q.entries (λ item. Q.entry item 0) self.old (TakeBegin wanted) result self.new }
-        ensures counts { CountsOrKeeps Q.items self.old (TakeBegin wanted) result self.new }
     {
         match self.take {
             TakeTurn::Rests => {
@@ -411,28 +319,35 @@ impl<Q: Inside> CallAuditor<Q> {
         }
     }
 
-    // The take ends: it took these items, one at least and no more than it wanted.
-    fn take_items(&mut self, items: &[u64]) -> Result<(), Fault>
-        ensures reads { Reads Q.items Q.room self.old (TakeItems items.now) result self.new }
+    // The take ends so, with these items.
+    fn take_ends(&mut self, event: Event<'_>, items: &[u64]) -> Result<(), Fault>
+        requires { EndsATake (told event) × (items.now ≡ items_got (told event)) }
+        ensures decides { Decides Q.items Q.room self.old (told event.entry) result self.new }
         ensures room { Q.room self.new.inside ≡ Q.room self.old.inside }
-        ensures entries { MovesEntries Q.entries (λ item. Q.entry item 0) self.old (TakeItems items.now) result self.new }
-        ensures counts { CountsOrKeeps Q.items self.old (TakeItems items.now) result self.new }
+        ensures entries { MovesEntries Q.entries (λ item. Q.entry item 0) self.old (told event.entry) result self.new }
     {
-        match self.take {
-            TakeTurn::Rests => Err(Fault::OutOfTurn),
-            TakeTurn::Waits { wanted, before, .. } => {
-                if items.is_empty() || wanted < items.len() {
-                    return Err(Fault::OutOfTurn);
-                }
-                if items.len() < wanted && items.len() < before {
-                    return Err(Fault::NotLinearizable);
-                }
-                if !self.are_next(items) || !self.ends_take(items.len()) {
-                    return Err(Fault::NotLinearizable);
-                }
-                Ok(())
-            }
+        let TakeTurn::Waits {
+            wanted,
+            before,
+            ended,
+        } = self.take
+        else {
+            return Err(Fault::OutOfTurn);
+        };
+        let Some((taken, lacked)) = event.outcome(wanted) else {
+            return Err(Fault::OutOfTurn);
+        };
+        if lacked > 0 && lacked <= before {
+            return Err(Fault::NotLinearizable);
         }
+        // (it found none, where a close had ended)
+        if lacked > 0 && taken == 0 && ended && before == 0 {
+            return Err(Fault::NotLinearizable);
+        }
+        if !self.are_next(items) || !self.ends_take(items.len()) {
+            return Err(Fault::NotLinearizable);
+        }
+        Ok(())
     }
 
     // Whether these items are the next ones to be taken.
@@ -474,74 +389,11 @@ impl<Q: Inside> CallAuditor<Q> {
         true
     }
 
-    // The take ends: the queue had no item, and some may come.
-    fn take_empty(&mut self) -> Result<(), Fault>
-        ensures reads { Reads Q.items Q.room self.old TakeEmpty result self.new }
-        ensures room { Q.room self.new.inside ≡ Q.room self.old.inside }
-        ensures entries { MovesEntries Q.entries (λ item. Q.entry item 0) self.old TakeEmpty result self.new }
-        ensures counts { CountsOrKeeps Q.items self.old TakeEmpty result self.new }
-    {
-        match self.take {
-            TakeTurn::Rests => Err(Fault::OutOfTurn),
-            TakeTurn::Waits { before, ended, .. } => {
-                if ended || before > 0 || !self.ends_take(0) {
-                    return Err(Fault::NotLinearizable);
-                }
-                Ok(())
-            }
-        }
-    }
-
-    // The take of several items ends: the queue had fewer than it wanted, though it was not empty and closed, and none was
-    // taken.
-    fn take_short(&mut self) -> Result<(), Fault>
-        ensures reads { Reads Q.items Q.room self.old TakeShort result self.new }
-        ensures room { Q.room self.new.inside ≡ Q.room self.old.inside }
-        ensures entries { MovesEntries Q.entries (λ item. Q.entry item 0) self.old TakeShort result self.new }
-        ensures counts { CountsOrKeeps Q.items self.old TakeShort result self.new }
-    {
-        match self.take {
-            TakeTurn::Rests => Err(Fault::OutOfTurn),
-            TakeTurn::Waits {
-                wanted,
-                before,
-                ended,
-            } => {
-                if wanted <= 1 {
-                    return Err(Fault::OutOfTurn);
-                }
-                if wanted <= before || ended && before == 0 || !self.ends_take(0) {
-                    return Err(Fault::NotLinearizable);
-                }
-                Ok(())
-            }
-        }
-    }
-
-    // The take ends: no item was taken, and no reason is told.
-    fn take_nothing(&mut self) -> Result<(), Fault>
-        ensures reads { Reads Q.items Q.room self.old TakeNothing result self.new }
-        ensures room { Q.room self.new.inside ≡ Q.room self.old.inside }
-        ensures entries { MovesEntries Q.entries (λ item. Q.entry item 0) self.old TakeNothing result self.new }
-        ensures counts { CountsOrKeeps Q.items self.old TakeNothing result self.new }
-    {
-        match self.take {
-            TakeTurn::Rests => Err(Fault::OutOfTurn),
-            TakeTurn::Waits { .. } => {
-                if !self.ends_take(0) {
-                    return Err(Fault::NotLinearizable);
-                }
-                Ok(())
-            }
-        }
-    }
-
     // The take ends: the queue was empty and closed.
     fn take_closed(&mut self) -> Result<(), Fault>
-        ensures reads { Reads Q.items Q.room self.old TakeClosed result self.new }
+        ensures decides { Decides Q.items Q.room self.old TakeClosed result self.new }
         ensures room { Q.room self.new.inside ≡ Q.room self.old.inside }
         ensures entries { MovesEntries Q.entries (λ item. Q.entry item 0) self.old TakeClosed result self.new }
-        ensures counts { CountsOrKeeps Q.items self.old TakeClosed result self.new }
     {
         match self.take {
             TakeTurn::Rests => Err(Fault::OutOfTurn),
@@ -553,83 +405,6 @@ impl<Q: Inside> CallAuditor<Q> {
                 self.take = TakeTurn::Rests;
                 Ok(())
             }
-        }
-    }
-
-    // Whether a close has begun.
-    pub(crate) fn is_closed(&self) -> bool
-        ensures { result ≡ has_closed self.now.put self.now.shut }
-    {
-        match self.put {
-            PutTurn::Closes { .. } => true,
-            PutTurn::Free | PutTurn::Offers { .. } | PutTurn::Late { .. } => self.shut,
-        }
-    }
-
-    // How many items the put under way offered, where it began before a close had ended.
-    pub(crate) fn offered(&self) -> usize
-        ensures { result ≡ offered_by self.now.put }
-    {
-        match self.put {
-            PutTurn::Offers { offered, .. } => offered,
-            PutTurn::Free | PutTurn::Late { .. } | PutTurn::Closes { .. } => 0,
-        }
-    }
-
-    // Whether the producer has a call under way; the consumer.
-    pub(crate) fn is_putting(&self) -> bool
-        ensures { result ≡ has_put self.now.put }
-    {
-        match self.put {
-            PutTurn::Free => false,
-            PutTurn::Offers {
-                offered: _,
-                before: _,
-            }
-            | PutTurn::Late { offered: _ }
-            | PutTurn::Closes { again: _ } => true,
-        }
-    }
-
-    pub(crate) fn is_taking(&self) -> bool
-        ensures { result ≡ has_take self.now.take }
-    {
-        match self.take {
-            TakeTurn::Rests => false,
-            TakeTurn::Waits {
-                wanted: _,
-                before: _,
-                ended: _,
-            } => true,
-        }
-    }
-
-    // How many items are inside whatever the calls under way have done; and at most.
-    pub(crate) fn least_inside(&self) -> usize
-        ensures { result ≡ least_kept (kept_by Q.items self.now) }
-    {
-        self.inside
-            .len()
-            .saturating_sub(self.offered())
-            .saturating_sub(self.asked())
-    }
-
-    pub(crate) fn most_inside(&self) -> usize
-        ensures { result ≡ most_kept (meant self.now.capacity) (kept_by Q.items self.now) }
-    {
-        match self.capacity {
-            Capacity::Unbounded => self.inside.len(),
-            Capacity::Between { full: _, most } => self.inside.len().min(most),
-        }
-    }
-
-    // How many items the take under way may have taken.
-    pub(crate) fn asked(&self) -> usize
-        ensures { result ≡ asked_by self.now.take }
-    {
-        match self.take {
-            TakeTurn::Rests => 0,
-            TakeTurn::Waits { wanted, .. } => wanted,
         }
     }
 }

@@ -1,4 +1,7 @@
 //! The events of a history.
+ghost use Rattle.std.specs.Prelude.{◌≡◌};
+ghost use Rattle.queue_calls.specs.Deciding.{outcome_of, passed};
+ghost use Rattle.queue_calls.specs.Told.{told};
 
 /// An event of a history of calls: a call begins, or it ends with an answer.
 ///
@@ -11,6 +14,8 @@ pub enum Event<'a> {
     /// The put ends: so many of its first items were stored. Where these are fewer than it offered, the queue had no room
     /// for one more before the first of them.
     PutStored(usize),
+    /// The put ends: so many of its first items were stored, and no reason is told where these are fewer than it offered.
+    PutSome(usize),
     /// The put ends: the queue had no room for one item, and none was stored.
     PutFull,
     /// The put of several items ends: the queue had no room for all of them, and none was stored.
@@ -28,6 +33,8 @@ pub enum Event<'a> {
     /// The take ends: it took these items. Where these are fewer than it wanted, the queue had no more than these before
     /// the first of them.
     TakeItems(&'a [u64]),
+    /// The take ends: it took these items, and no reason is told where they are fewer than it wanted.
+    TakeSome(&'a [u64]),
     /// The take ends: the queue had no item, and some may come.
     TakeEmpty,
     /// The take of several items ends: the queue had fewer than it wanted, though it was not empty and closed, and none was
@@ -37,4 +44,47 @@ pub enum Event<'a> {
     TakeNothing,
     /// The take ends: the queue was empty and closed.
     TakeClosed,
+}
+
+// A call of so many items passed so many of them, and says why not more or does not: these, and the number for which it found no room or
+// no items, 0 where it tells none. `None` where it cannot have passed them.
+fn passed(why: bool, count: usize, most: usize) -> Option<(usize, usize)>
+    ensures { result ≡ passed why count most }
+{
+    if count == 0 || most < count {
+        return None;
+    }
+    if why && count < most {
+        Some((count, count + 1))
+    } else {
+        Some((count, 0))
+    }
+}
+
+impl Event<'_> {
+    // The same of the end of a put or a take of so many items.
+    pub(crate) fn outcome(self, most: usize) -> Option<(usize, usize)>
+        ensures { result ≡ outcome_of (told self.entry) most }
+    {
+        match self {
+            Event::PutStored(count) => passed(true, count, most),
+            Event::PutSome(count) => passed(false, count, most),
+            Event::TakeItems(items) => passed(true, items.len(), most),
+            Event::TakeSome(items) => passed(false, items.len(), most),
+            Event::PutFull | Event::TakeEmpty => Some((0, 1)),
+            Event::PutShort | Event::TakeShort => {
+                if most <= 1 {
+                    return None;
+                }
+                Some((0, most))
+            }
+            Event::PutNothing | Event::TakeNothing => Some((0, 0)),
+            Event::PutBegins(_)
+            | Event::PutClosed
+            | Event::CloseBegins
+            | Event::CloseEnds
+            | Event::TakeBegins(_)
+            | Event::TakeClosed => None,
+        }
+    }
 }

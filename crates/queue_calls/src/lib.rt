@@ -4,6 +4,7 @@
 #![tactic(auto)]
 
 mod auditors;
+mod bounds;
 mod capacities;
 mod causes;
 mod entries;

@@ -14,10 +14,14 @@ use std::alloc::AllocError;
 pub enum Word {
     /// `queue`: what queue it is.
     Queue,
+    /// `cut queue`: what queue it is, of a recording that lacks the later calls.
+    Cut,
     /// `P put`: a put begins.
     Put,
     /// `P stored`: the put ends.
     Stored,
+    /// `P some`: the put ends.
+    PutSome,
     /// `P full`: the put ends.
     Full,
     /// `P short`: the put ends.
@@ -32,6 +36,8 @@ pub enum Word {
     Take,
     /// `C item`: the take ends.
     Item,
+    /// `C some`: the take ends.
+    TakeSome,
     /// `C empty`: the take ends.
     Empty,
     /// `C short`: the take ends.
@@ -49,8 +55,10 @@ impl Word {
     {
         match self {
             Word::Queue => "queue",
+            Word::Cut => "cut queue",
             Word::Put => "P put",
             Word::Stored => "P stored",
+            Word::PutSome => "P some",
             Word::Full => "P full",
             Word::Short => "P short",
             Word::PutNothing => "P nothing",
@@ -58,6 +66,7 @@ impl Word {
             Word::Close => "P close",
             Word::Take => "C take",
             Word::Item => "C item",
+            Word::TakeSome => "C some",
             Word::Empty => "C empty",
             Word::TakeShort => "C short",
             Word::TakeNothing => "C nothing",
@@ -92,6 +101,9 @@ fn word_at(bytes: &[u8]) -> Option<(Word, &[u8])>
     if let Some(rest) = after(bytes, "queue") {
         return Some((Word::Queue, rest));
     }
+    if let Some(rest) = after(bytes, "cut queue") {
+        return Some((Word::Cut, rest));
+    }
     if let Some(rest) = after(bytes, "P ") {
         return put_word_at(rest);
     }
@@ -107,6 +119,9 @@ fn put_word_at(bytes: &[u8]) -> Option<(Word, &[u8])>
     }
     if let Some(rest) = after(bytes, "stored") {
         return Some((Word::Stored, rest));
+    }
+    if let Some(rest) = after(bytes, "some") {
+        return Some((Word::PutSome, rest));
     }
     if let Some(rest) = after(bytes, "full") {
         return Some((Word::Full, rest));
@@ -132,6 +147,9 @@ fn take_word_at(bytes: &[u8]) -> Option<(Word, &[u8])>
     }
     if let Some(rest) = after(bytes, "item") {
         return Some((Word::Item, rest));
+    }
+    if let Some(rest) = after(bytes, "some") {
+        return Some((Word::TakeSome, rest));
     }
     if let Some(rest) = after(bytes, "empty") {
         return Some((Word::Empty, rest));
@@ -208,12 +226,12 @@ fn allows(word: Word, numbers: &[u64]) -> bool
     ensures { IsTrue result ↔ Allows word numbers.now }
 {
     match (word, numbers) {
-        (Word::Queue, [most]) => 1 <= *most,
-        (Word::Queue, [least, most]) => 1 <= *least && least < most,
-        (Word::Put | Word::Item, [_, ..]) => true,
-        (Word::Stored, [count]) => 1 <= *count,
+        (Word::Queue | Word::Cut, [most]) => 1 <= *most,
+        (Word::Queue | Word::Cut, [full, most]) => full < most,
+        (Word::Put | Word::Item | Word::TakeSome, [_, ..]) => true,
+        (Word::Stored | Word::PutSome, [count]) => 1 <= *count,
         (Word::Take, [count]) => 2 <= *count,
-        (Word::Put | Word::Item, []) => false,
+        (Word::Put | Word::PutSome | Word::Item | Word::TakeSome, []) => false,
         (_, numbers) => numbers.is_empty(),
     }
 }

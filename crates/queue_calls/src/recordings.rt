@@ -1,10 +1,10 @@
 //! The text of recorded calls, read in pieces, and what is found.
-ghost use Rattle.std.specs.Prelude.{◌≡◌, ◌≢◌, ◌+◌, ◌⊎◌, List, [], ◌∷◌, ℕ, ◌++◌, IfErr, IfOk, OnOk, MatchOption, length, option_map};
+ghost use Rattle.std.specs.Prelude.{◌≡◌, ◌≢◌, ◌+◌, ◌⊎◌, List, [], ◌∷◌, ℕ, ◌++◌, None, IfErr, IfOk, OnOk, MatchOption, length, option_map};
 ghost use Rattle.queue_calls.specs.Calls.{Event as AnEvent};
 ghost use Rattle.queue_calls.specs.Queue.{Capacity as ACapacity};
 ghost use Rattle.queue_calls.specs.Told.{meant, told};
-ghost use Rattle.queue_calls.specs.Lines.{Allows};
-ghost use Rattle.queue_calls.specs.Recordings.{IsFindingOf, IsFoundOf, Line, RefusesText, lines_text, begun_after, capacity_told, event_told, stored_told, wanted_told};
+ghost use Rattle.queue_calls.specs.Lines.{AllowsQueue};
+ghost use Rattle.queue_calls.specs.Recordings.{IsFaultOf, IsFindingOf, IsFoundOf, IsRecording, Line, RefusesText, lines_text, begun_after, capacity_told, event_told, some_told, stored_told, wanted_told};
 ghost use Rattle.queue_calls.specs.RecordingStates.{ContinuesLines, HasHeard, HasLines, HasNoFeed, HasRead, RefusesLine};
 ghost use Rattle.queue_calls.specs.Rooms.{AreTooShort, BeginsWithNumbers, HasLongHistory, rooms_in, rooms_of};
 ghost use Rattle.queue_calls.specs.Noting.{OutgrowsLists};
@@ -136,9 +136,10 @@ fn event_told(begun: Begun, word: Word, numbers: &[u64]) -> Option<Event<'_>>
     ensures { option_map told result ≡ event_told begun word numbers.now }
 {
     Some(match word {
-        Word::Queue => return None,
+        Word::Queue | Word::Cut => return None,
         Word::Put => Event::PutBegins(numbers),
         Word::Stored => Event::PutStored(stored_told(begun, numbers)),
+        Word::PutSome => Event::PutSome(some_told(numbers)),
         Word::Full => Event::PutFull,
         Word::Short => Event::PutShort,
         Word::PutNothing => Event::PutNothing,
@@ -149,6 +150,7 @@ fn event_told(begun: Begun, word: Word, numbers: &[u64]) -> Option<Event<'_>>
         Word::Close => Event::CloseBegins,
         Word::Take => Event::TakeBegins(wanted_told(numbers)),
         Word::Item => Event::TakeItems(numbers),
+        Word::TakeSome => Event::TakeSome(numbers),
         Word::Empty => Event::TakeEmpty,
         Word::TakeShort => Event::TakeShort,
         Word::TakeNothing => Event::TakeNothing,
@@ -168,6 +170,16 @@ fn stored_told(begun: Begun, numbers: &[u64]) -> usize
         None => offered,
         Some(number) if (*number as usize) < offered => *number as usize,
         Some(_) => 0,
+    }
+}
+
+// How many items a put stored that does not say whether these are all.
+fn some_told(numbers: &[u64]) -> usize
+    ensures { result ≡ some_told numbers.now }
+{
+    match numbers.first() {
+        None => 0,
+        Some(number) => *number as usize,
     }
 }
 
@@ -198,6 +210,7 @@ impl<S: Storage> Hearing<S> {
 
     // Nothing was heard, and of what queue is not told.
     fn new(offered: S::Offered, taken: S::Taken) -> Hearing<S>
+        ensures no_fault { result.fault ≡ None }
         ensures rooms { (S.Offered.room result.witness.auditor.inside.list ≡ S.Offered.room offered) × (S.Taken.room result.witness.taken ≡ S.Taken.room taken) }
     {
         Hearing {
@@ -210,7 +223,7 @@ impl<S: Storage> Hearing<S> {
 
     // Forgets all, and hears of a queue of the capacity that these numbers of a first line tell.
     fn begins(&mut self, numbers: &[u64])
-        requires { Allows word.Queue numbers.now }
+        requires { AllowsQueue numbers.now }
         ensures heard { HasHeard S.Offered.items S.Taken.items self.new (capacity_told numbers.now) [] }
         ensures begun { self.new.begun ≡ Nothing }
         ensures rooms { (S.Offered.room self.new.witness.auditor.inside.list ≡ S.Offered.room self.old.witness.auditor.inside.list) × (S.Taken.room self.new.witness.taken ≡ S.Taken.room self.old.witness.taken) }
@@ -271,6 +284,8 @@ struct Lines<S: Storage> {
     numbers: S::Numbers,
     // how many there are
     count: u64,
+    // whether the first one tells that later calls are missing
+    lacks_calls: bool,
     // what was heard of those behind the first one, which tells of what queue it is
     hearing: Hearing<S>,
 }
@@ -295,13 +310,12 @@ impl<S: Storage> Lines<S> {
         };
         let numbers = self.numbers.as_slice();
         if count == 1 {
-            return match word {
-                Word::Queue => {
-                    self.hearing.begins(numbers);
-                    Ok(())
-                }
-                _ => Err(RecordingFault::BadLine(count)),
-            };
+            if word != Word::Queue && word != Word::Cut {
+                return Err(RecordingFault::BadLine(count));
+            }
+            self.lacks_calls = word == Word::Cut;
+            self.hearing.begins(numbers);
+            return Ok(());
         }
         let Some(event) = event_told(self.hearing.begun, word, numbers) else {
             return Err(RecordingFault::BadLine(count));
@@ -372,6 +386,7 @@ impl<S: Storage> RecordingIn<S> {
             lines: Lines {
                 numbers,
                 count: 0,
+                lacks_calls: false,
                 hearing: Hearing::new(offered, taken),
             },
             cut,
@@ -408,12 +423,41 @@ impl<S: Storage> RecordingIn<S> {
         ensures rooms { (S.Offered.room self.new.lines.hearing.witness.auditor.inside.list ≡ S.Offered.room self.old.lines.hearing.witness.auditor.inside.list) × (S.Taken.room self.new.lines.hearing.witness.taken ≡ S.Taken.room self.old.lines.hearing.witness.taken) × (S.Numbers.room self.new.lines.numbers ≡ S.Numbers.room self.old.lines.numbers) × (S.Bytes.room self.new.cut ≡ S.Bytes.room self.old.cut) }
     {
         if self.cut.is_empty() {
-            return self.lines.read(end);
+            return match self.lines.read(end) {
+                Ok(()) => Ok(()),
+                Err(fault) => {
+                    // (kept to be shown, where there is room)
+                    let _ = self.cut.extend_from_slice(end);
+                    Err(fault)
+                }
+            };
         }
         self.cut.extend_from_slice(end)?;
         self.lines.read(self.cut.as_slice())?;
         self.cut.clear();
         Ok(())
+    }
+
+    /// The bytes of the line that has not ended; behind a `BadLine` those of the bad line, as far as there was room for them.
+    pub fn line(&self) -> &[u8]
+        ensures { result.now ≡ S.Bytes.items self.now.cut }
+    {
+        self.cut.as_slice()
+    }
+
+    /// Whether its first line tells that the calls behind the last line are missing, as a log was full. It is told of a text that has a
+    /// first line.
+    pub fn is_cut(&self) -> bool
+        ensures { (bytes : List ℕ) → HasRead S.Offered.items S.Taken.items S.Bytes.items self.now bytes → (capacity : ACapacity) (events : List AnEvent) (is : IsRecording bytes capacity events) → result ≡ is.is_cut }
+    {
+        self.lines.lacks_calls
+    }
+
+    /// The first fault of the lines that have ended, if there is one.
+    pub fn fault(&self) -> Option<CallsFinding>
+        ensures { (bytes : List ℕ) → HasRead S.Offered.items S.Taken.items S.Bytes.items self.now bytes → (ended : List ℕ) × (rest : List ℕ) × (bytes ≡ ended ++ rest) × HasNoFeed rest × IsFaultOf ended result }
+    {
+        self.lines.hearing.fault
     }
 
     /// What is found, where the text ends here: `BadLine` where its last line has not ended, or there is none. No memory is taken.

@@ -112,10 +112,11 @@ impl Tally {
                 let is_short = count < offered;
                 self.report.full = self.report.full.saturating_add(usize::from(is_short));
             }
+            Event::PutSome(count) => self.report.stored = self.report.stored.saturating_add(count),
             Event::PutFull | Event::PutShort => {
                 self.report.full = self.report.full.saturating_add(1);
             }
-            Event::TakeItems(items) => {
+            Event::TakeItems(items) | Event::TakeSome(items) => {
                 self.report.taken = self.report.taken.saturating_add(items.len());
             }
             Event::TakeEmpty | Event::TakeShort => {

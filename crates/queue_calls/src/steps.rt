@@ -47,11 +47,12 @@ pub enum Taker {
     FoundClosed,
 }
 
-// Whether so many is the reason for which a call passed so many items and left so many: one more than it passed, where it left some.
-fn is_short_of(lacked: usize, count: usize, left: usize) -> bool
-    ensures { IsTrue result ↔ (lacked ≡ short_of count left) }
+// Whether so many is the reason for which a call passed so many items and left so many: one more than it passed, where it left some
+// and tells why.
+fn is_short_of(lacked: usize, why: bool, count: usize, left: usize) -> bool
+    ensures { IsTrue result ↔ (lacked ≡ short_of why count left) }
 {
-    if left == 0 {
+    if left == 0 || !why {
         lacked == 0
     } else {
         lacked > 0 && lacked - 1 == count
@@ -70,9 +71,11 @@ pub fn put_event<'a>(put: Putter<'a>, event: Event<'a>) -> Option<Putter<'a>>
         (Event::PutStored(count), Putter::Putting(lacked, stored, items))
             if count > 0
                 && stored == count
-                && is_short_of(lacked, count, items.len().saturating_sub(count)) => Some(
+                && is_short_of(lacked, true, count, items.len().saturating_sub(count)) => Some(
             Putter::Idle,
         ),
+        (Event::PutSome(count), Putter::Putting(0, stored, _)) if count > 0 && stored == count =>
+            Some(Putter::Idle),
         (Event::PutFull, Putter::Putting(1, 0, _)) => Some(Putter::Idle),
         (Event::PutShort, Putter::Putting(lacked, 0, items))
             if items.len() > 1 && lacked == items.len() => Some(Putter::Idle),
@@ -83,6 +86,7 @@ pub fn put_event<'a>(put: Putter<'a>, event: Event<'a>) -> Option<Putter<'a>>
         (
             Event::TakeBegins(_)
             | Event::TakeItems(_)
+            | Event::TakeSome(_)
             | Event::TakeEmpty
             | Event::TakeShort
             | Event::TakeNothing
@@ -125,19 +129,20 @@ fn items_event(
     row: &[u64],
     head: usize,
     items: &[u64],
+    why: bool,
     lacked: usize,
     from: usize,
     left: usize,
 ) -> Option<Taker>
     requires began { from ≤ head }
     requires within { head ≤ length row.now }
-    ensures step { IfSome result (λ after. ConsumerStep (Taking lacked (stretch row.now from head) left) (Happens (TakeItems items.now)) (consumer_of row.now head after)) }
-    ensures exact { IsNone result → (after : Consumer) → ¬ ConsumerStep (Taking lacked (stretch row.now from head) left) (Happens (TakeItems items.now)) after }
+    ensures step { IfSome result (λ after. ConsumerStep (Taking lacked (stretch row.now from head) left) (Happens (TakeItems items.now why)) (consumer_of row.now head after)) }
+    ensures exact { IsNone result → (after : Consumer) → ¬ ConsumerStep (Taking lacked (stretch row.now from head) left) (Happens (TakeItems items.now why)) after }
     ensures began { IfSome result (λ after. began_at after ≤ head) }
 {
     if items.is_empty()
         || stretch(row, from, head) != items
-        || !is_short_of(lacked, items.len(), left)
+        || !is_short_of(lacked, why, items.len(), left)
     {
         return None;
     }
@@ -157,7 +162,10 @@ pub fn take_event(row: &[u64], head: usize, take: Taker, event: Event<'_>) -> Op
             0, head, wanted,
         )),
         (Event::TakeItems(items), Taker::Taking(lacked, from, left)) => items_event(
-            row, head, items, lacked, from, left,
+            row, head, items, true, lacked, from, left,
+        ),
+        (Event::TakeSome(items), Taker::Taking(lacked, from, left)) => items_event(
+            row, head, items, false, lacked, from, left,
         ),
         (Event::TakeEmpty, Taker::Taking(1, from, _)) if stretch(row, from, head).is_empty() =>
             Some(Taker::Resting),
@@ -171,6 +179,7 @@ pub fn take_event(row: &[u64], head: usize, take: Taker, event: Event<'_>) -> Op
         (
             Event::PutBegins(_)
             | Event::PutStored(_)
+            | Event::PutSome(_)
             | Event::PutFull
             | Event::PutShort
             | Event::PutNothing

@@ -1,5 +1,5 @@
 //! What is kept of a history to judge the next event, and to say what speaks against it.
-ghost use Rattle.std.specs.Prelude.{◌≡◌, ℕ, ◌<◌, ◌≤◌, ◌+◌, ◌-◌, ◌++◌, ◌∷◌, [], List, IfErr, OnOk, Some, length, map, drop, get_or, reverse, unwrap_or};
+ghost use Rattle.std.specs.Prelude.{◌≡◌, ℕ, Bool, ◌<◌, ◌≤◌, ◌+◌, ◌-◌, ◌++◌, ◌∷◌, [], List, IfErr, OnOk, Some, length, map, drop, get_or, reverse, unwrap_or};
 ghost use Rattle.queue_calls.specs.Queue.{Capacity as ACapacity};
 ghost use Rattle.queue_calls.specs.Calls.{Event as AnEvent, TakeItems, TakeClosed, IsLinearizable};
 ghost use Rattle.queue_calls.specs.InTurn.{APut, ATake, CallsAreInTurn};
@@ -73,9 +73,9 @@ impl<S: Storage> Witness<S> {
         self.auditor.feed_at(line, event)?;
         match event {
             Event::PutBegins(_) => self.put_at = line,
-            Event::PutStored(count) => self.stores(line, count),
+            Event::PutStored(count) | Event::PutSome(count) => self.stores(line, count),
             Event::CloseEnds => self.ended_at = self.ended_at.or(Some(line)),
-            Event::TakeItems(items) => return self.takes(line, items),
+            Event::TakeItems(items) | Event::TakeSome(items) => return self.takes(line, items),
             Event::TakeClosed => self.told_at = self.told_at.or(Some(line)),
             Event::PutFull
             | Event::PutShort
@@ -165,12 +165,14 @@ impl<S: Storage> Witness<S> {
         ensures { (capacity : ACapacity) (events : List AnEvent) → Remembers S.Offered.items S.Taken.items self.now capacity events → length events + 2 ≡ line → CallsAreInTurn (events ++ told event.entry ∷ []) → ¬ IsLinearizable capacity (events ++ told event.entry ∷ []) → IsCause capacity events (told event.entry) result }
     {
         match event {
-            Event::PutStored(count) => self.stored_cause(count),
+            Event::PutStored(count) => self.stored_cause(count, true),
+            Event::PutSome(count) => self.stored_cause(count, false),
             Event::PutFull => self.full_cause(),
             Event::PutShort => self.put_short_cause(),
             Event::PutNothing => Cause::NotStoredButTaken(self.last_taken()),
             Event::PutClosed => Cause::ClosedWithoutClose,
-            Event::TakeItems(items) => self.items_cause(line, items),
+            Event::TakeItems(items) => self.items_cause(line, items, true),
+            Event::TakeSome(items) => self.items_cause(line, items, false),
             Event::TakeEmpty => self.empty_cause(),
             Event::TakeShort => self.take_short_cause(),
             Event::TakeNothing => self.not_taken_cause(0),
@@ -188,8 +190,8 @@ impl<S: Storage> Witness<S> {
         self.ended_at.unwrap_or(0)
     }
 
-    fn stored_cause(&self, count: usize) -> Cause
-        ensures { (capacity : ACapacity) (events : List AnEvent) (cause : Cause) → Remembers S.Offered.items S.Taken.items self.now capacity events → (n : ℕ) → call_of_put self.now.auditor.put ≡ APut n → count ≤ n → stored_cause capacity count (reverse events) ≡ Some cause → result ≡ cause }
+    fn stored_cause(&self, count: usize, why: bool) -> Cause
+        ensures { (capacity : ACapacity) (events : List AnEvent) (cause : Cause) → Remembers S.Offered.items S.Taken.items self.now capacity events → (n : ℕ) → call_of_put self.now.auditor.put ≡ APut n → count ≤ n → stored_cause capacity count why (reverse events) ≡ Some cause → result ≡ cause }
     {
         let PutTurn::Offers { offered, before } = self.auditor.put else {
             return Cause::StoredAfterClose(self.ended_line());
@@ -244,8 +246,8 @@ impl<S: Storage> Witness<S> {
         }
     }
 
-    fn items_cause(&self, line: u64, items: &[u64]) -> Cause
-        ensures { (capacity : ACapacity) (events : List AnEvent) (cause : Cause) → Remembers S.Offered.items S.Taken.items self.now capacity events → length events + 2 ≡ line → (n : ℕ) → call_of_take self.now.auditor.take ≡ ATake n → cause_of capacity (TakeItems items.now) (reverse events) ≡ Some cause → result ≡ cause }
+    fn items_cause(&self, line: u64, items: &[u64], why: bool) -> Cause
+        ensures { (capacity : ACapacity) (events : List AnEvent) (cause : Cause) → Remembers S.Offered.items S.Taken.items self.now capacity events → length events + 2 ≡ line → (n : ℕ) → call_of_take self.now.auditor.take ≡ ATake n → cause_of capacity (TakeItems items.now why) (reverse events) ≡ Some cause → result ≡ cause }
     {
         if let Some(told) = self.told_at {
             return Cause::ItemAfterTold(told);
@@ -253,7 +255,7 @@ impl<S: Storage> Witness<S> {
         let place = self.next_ones(items);
         match items.get(place) {
             Some(item) => self.astray_cause(line, &items[..place], *item),
-            None => self.fewer_cause(items.len()),
+            None => self.fewer_cause(items.len(), why),
         }
     }
 
@@ -276,7 +278,7 @@ impl<S: Storage> Witness<S> {
 
     // Of an item that is not the next behind these, which are.
     fn astray_cause(&self, line: u64, first: &[u64], item: u64) -> Cause
-        ensures { (capacity : ACapacity) (events : List AnEvent) (cause : Cause) (items : List ℕ) → Remembers S.Offered.items S.Taken.items self.now capacity events → length events + 2 ≡ line → agreed (item ∷ []) (drop (length first.now) (coming (reverse events))) ≡ 0 → items_cause capacity (reverse events) first.now (item ∷ items) (drop (length first.now) (coming (reverse events))) ≡ Some cause → result ≡ cause }
+        ensures { (capacity : ACapacity) (events : List AnEvent) (cause : Cause) (items : List ℕ) (why : Bool) → Remembers S.Offered.items S.Taken.items self.now capacity events → length events + 2 ≡ line → agreed (item ∷ []) (drop (length first.now) (coming (reverse events))) ≡ 0 → items_cause capacity why (reverse events) first.now (item ∷ items) (drop (length first.now) (coming (reverse events))) ≡ Some cause → result ≡ cause }
     {
         match self.auditor.inside.list.get(first.len()) {
             Some(next) => {
@@ -335,14 +337,14 @@ impl<S: Storage> Witness<S> {
         None
     }
 
-    // Of a take that gave the next items, so many.
-    fn fewer_cause(&self, count: usize) -> Cause
-        ensures { (capacity : ACapacity) (events : List AnEvent) (cause : Cause) → Remembers S.Offered.items S.Taken.items self.now capacity events → (n : ℕ) → call_of_take self.now.auditor.take ≡ ATake n → fewer_cause capacity count (reverse events) ≡ Some cause → result ≡ cause }
+    // Of a take that gave the next items, so many, and tells why they are not more, or not.
+    fn fewer_cause(&self, count: usize, why: bool) -> Cause
+        ensures { (capacity : ACapacity) (events : List AnEvent) (cause : Cause) → Remembers S.Offered.items S.Taken.items self.now capacity events → (n : ℕ) → call_of_take self.now.auditor.take ≡ ATake n → fewer_cause capacity count why (reverse events) ≡ Some cause → result ≡ cause }
     {
         let TakeTurn::Waits { wanted, before, .. } = self.auditor.take else {
             return self.not_taken_cause(count);
         };
-        if count < wanted && count < before {
+        if why && count < wanted && count < before {
             return Cause::NoMoreWhileInside(self.at(count));
         }
         self.not_taken_cause(count)

@@ -24,7 +24,7 @@ one_by_one = events_of P (put_program one_cell put_and_close) ++ events_of C (ta
 
 one_by_one-recorded :
     recorded one_cell two_items one_by_one put_and_close second_scan ≡
-    PutBegin (1 ∷ 0 ∷ []) ∷ PutStored 1 ∷ CloseBegin ∷ CloseEnd ∷ TakeBegin 1 ∷ TakeItems (1 ∷ []) ∷ TakeBegin 1 ∷ TakeClosed ∷ []
+    PutBegin (1 ∷ 0 ∷ []) ∷ PutStored 1 true ∷ CloseBegin ∷ CloseEnd ∷ TakeBegin 1 ∷ TakeItems (1 ∷ []) true ∷ TakeBegin 1 ∷ TakeClosed ∷ []
 unfolding one_cell
 one_by_one-recorded = refl
 
@@ -41,6 +41,6 @@ cut_short = take 11 (events_of P (put_program one_cell full_after_one)) ++ take 
 
 cut_short-recorded :
     recorded one_cell then_one cut_short full_after_one second_scan ≡
-    PutBegin (1 ∷ 0 ∷ []) ∷ PutStored 1 ∷ PutBegin (1 ∷ []) ∷ PutFull ∷ CloseBegin ∷ TakeBegin 1 ∷ []
+    PutBegin (1 ∷ 0 ∷ []) ∷ PutStored 1 true ∷ PutBegin (1 ∷ []) ∷ PutFull ∷ CloseBegin ∷ TakeBegin 1 ∷ []
 unfolding one_cell
 cut_short-recorded = refl

@@ -277,7 +277,7 @@ module _ (facts : OwnFacts) (shape : Shape) (offers : ℕ → List ℕ) (h : Lis
       Stepped shape offers h puts takes t p q rest k (put_answer x ∷ [])
   put_told_end t p q rest k stored left c start before (Stored seen items) more b offered some few lacks r = record {
     after = kept (without (length left - length items) k.inside) Free k.take k.shut;
-    moves = (length left, before, offered, b.are.0.2.some, few, (λ l. omega (arith, lacks l)), r.ends);
+    moves = (length left, before, offered, b.are.0.2.some, few, (λ says l. omega (arith, lacks l)), r.ends);
     now = r.now;
   }
   put_told_end t p q rest k stored left c start before (Full seen) more b offered some few lacks r =

@@ -221,12 +221,12 @@ module _ (facts : OwnFacts) (shape : Shape) (offers : ℕ → List ℕ) (h : Lis
       Stepped shape offers h puts takes t p q rest k (take_answer x ∷ [])
   take_told_end t p q rest k before shut (Item seen item) waits none r = record {
     after = kept (drop 1 k.inside) k.put Rests k.shut;
-    moves = (1, before, shut, waits, omega arith, omega arith, (λ l. absurd (omega (arith, l))), (r.more, r.next), r.ends);
+    moves = (1, before, shut, waits, omega arith, omega arith, (λ says l. absurd (omega (arith, l))), (r.more, r.next), r.ends);
     now = r.now;
   }
   take_told_end t p q rest k before shut (ItemAfterClose seen again item) waits none r = record {
     after = kept (drop 1 k.inside) k.put Rests k.shut;
-    moves = (1, before, shut, waits, omega arith, omega arith, (λ l. absurd (omega (arith, l))), (r.more, r.next), r.ends);
+    moves = (1, before, shut, waits, omega arith, omega arith, (λ says l. absurd (omega (arith, l))), (r.more, r.next), r.ends);
     now = r.now;
   }
   take_told_end t p q rest k before shut (Empty seen) waits none r = record {

@@ -17,12 +17,12 @@ use Rattle.ring_core.specs.RingLaw.{IsRun}
 
 -- how a put ends, and how a take does
 abbrev pub put_answer : Put → calls.Event
-put_answer (Stored seen items) = PutStored (length items)
+put_answer (Stored seen items) = PutStored (length items) true
 put_answer (Full seen) = PutFull
 
 abbrev pub take_answer : Take → calls.Event
-take_answer (Item seen item) = TakeItems (item ∷ [])
-take_answer (ItemAfterClose seen again item) = TakeItems (item ∷ [])
+take_answer (Item seen item) = TakeItems (item ∷ []) true
+take_answer (ItemAfterClose seen again item) = TakeItems (item ∷ []) true
 take_answer (Empty seen) = TakeEmpty
 
 -- what event number i of a call tells, counted from 0, of a call that has so many

@@ -1,8 +1,10 @@
 -- What the page is told of recorded calls.
-use Rattle.std.specs.Prelude.{◌≡◌, ◌⊎◌, ℕ, ◌≤◌, List, length, min, unwrap_or}
+use Rattle.std.specs.Prelude.{◌≡◌, ◌⊎◌, ℕ, ◌≤◌, Bool, List, length, min, unwrap_or}
+use Rattle.queue_calls.specs.Calls.{Event}
 use Rattle.queue_calls.specs.Causes.{cause_line, cause_words}
+use Rattle.queue_calls.specs.Queue.{Capacity}
 use Rattle.queue_calls.specs.Rooms.{AreTooShort, Rooms}
-use Rattle.queue_calls.specs.Recordings.{IsFindingOf, RefusesText}
+use Rattle.queue_calls.specs.Recordings.{IsFoundOf, IsRecording, RefusesText}
 use Rattle.queue_calls.specs.declared.recordings.CallsFinding.{CallsFinding}
 use Rattle.queue_calls.specs.declared.recordings.CallsFinding.TheVariants.{Lawful, OutOfTurn, NotLinearizable}
 use Rattle.queue_calls.specs.declared.recordings.RecordingFault.{RecordingFault}
@@ -45,20 +47,21 @@ no_counts = record {
   under_way = 0;
 }
 
-abbrev pub told_as : (outcome number line against words : ℕ) → Counts → CallsTold
-told_as outcome number line against words counts = record { outcome = outcome; number = number; line = line; against = against; words = words; counts = counts }
+abbrev pub told_as : (outcome number line against words cut : ℕ) → Counts → CallsTold
+told_as outcome number line against words cut counts = record { outcome = outcome; number = number; line = line; against = against; words = words; cut = cut; counts = counts }
 
--- a finding, as numbers, where there is room for so many bytes of its words
-abbrev pub told_of_finding : ℕ → CallsFinding → CallsTold
-told_of_finding room (Lawful report) = told_as 0 0 0 0 0 (counts_of report)
-told_of_finding room (OutOfTurn line) = told_as 1 1 line 0 0 no_counts
-told_of_finding room (NotLinearizable line cause) = told_as 1 2 line (unwrap_or (cause_line cause) 0) (min (length (cause_words cause)) room) no_counts
+-- a finding, and whether later calls are missing, as numbers, where there is room for so many bytes of its words
+abbrev pub told_of_finding : ℕ → CallsFinding → (is_cut : Bool) → CallsTold
+told_of_finding room (Lawful report) is_cut = told_as 0 0 0 0 0 (bit_number is_cut) (counts_of report)
+told_of_finding room (OutOfTurn line) is_cut = told_as 1 1 line 0 0 (bit_number is_cut) no_counts
+told_of_finding room (NotLinearizable line cause) is_cut =
+    told_as 1 2 line (unwrap_or (cause_line cause) 0) (min (length (cause_words cause)) room) (bit_number is_cut) no_counts
 
 -- a refusal, as numbers
 abbrev pub told_of_refusal : RecordingFault → CallsTold
-told_of_refusal (BadLine line) = told_as 2 1 line 0 0 no_counts
-told_of_refusal TooLong = told_as 2 2 0 0 0 no_counts
-told_of_refusal OutOfMemory = told_as 2 3 0 0 0 no_counts
+told_of_refusal (BadLine line) = told_as 2 1 line 0 0 0 no_counts
+told_of_refusal TooLong = told_as 2 2 0 0 0 0 no_counts
+told_of_refusal OutOfMemory = told_as 2 3 0 0 0 0 no_counts
 
 -- the slots for words behind a finding: its words at the front, where it has a cause
 abbrev pub words_told : CallsFinding → List ℕ → List ℕ
@@ -74,9 +77,14 @@ HasShortWords _ = Unit {0}
 abbrev pub slots_for : (offered taken numbers bytes : ℕ) → Rooms
 slots_for offered taken numbers bytes = record { offered = offered; taken = taken; numbers = numbers; bytes = bytes }
 
--- what is told of a text, and the slots for words before and after: what is found of it; or why it is refused, that a list has too few slots only
--- where one is too short for it
+-- what is found of a text, and whether its first line tells that later calls are missing
+abbrev pub IsFindingIn : List ℕ → CallsFinding → (is_cut : Bool) → Type 0
+IsFindingIn text finding is_cut =
+    (capacity : Capacity) × (events : List Event) × (recording : IsRecording text capacity events) × IsFoundOf capacity events finding × (is_cut ≡ recording.is_cut)
+
+-- what is told of a text, and the slots for words before and after: what is found of it, and whether it is cut; or why it is refused, that a list
+-- has too few slots only where one is too short for it
 abbrev pub TellsRecording : Rooms → List ℕ → (before after : List ℕ) → CallsTold → Type 0
 TellsRecording slots text before after told =
-    ((finding : CallsFinding) × IsFindingOf text finding × HasShortWords finding × (after ≡ words_told finding before) × (told ≡ told_of_finding (length before) finding)) ⊎
+    ((finding : CallsFinding) × (is_cut : Bool) × IsFindingIn text finding is_cut × HasShortWords finding × (after ≡ words_told finding before) × (told ≡ told_of_finding (length before) finding is_cut)) ⊎
     ((fault : RecordingFault) × RefusesText fault text × (fault ≡ OutOfMemory → AreTooShort slots text) × (after ≡ before) × (told ≡ told_of_refusal fault))

@@ -1,5 +1,5 @@
 -- What the page is told of the order in which the operations of calls take effect.
-use Rattle.std.specs.Prelude.{◌≡◌, ℕ, List, [], ◌∷◌, Some, nat_eq, if◌then◌else◌, reverse, slice_get, take, drop, length, ◌≤◌, ◌+◌}
+use Rattle.std.specs.Prelude.{◌≡◌, ℕ, List, [], ◌∷◌, true, false, Some, nat_eq, if◌then◌else◌, reverse, slice_get, take, drop, length, ◌≤◌, ◌+◌}
 use Rattle.queue_calls.specs.Queue.{Capacity, Unbounded, Between, Enqueue, FindNoRoom, FindShut, Close, Dequeue, FindFewer, FindClosed}
 use Rattle.queue_calls.specs.Calls.{Mark, Happens, Effect, PutBegin, PutStored, PutFull, PutShort, PutNothing, PutClosed, CloseBegin, CloseEnd, TakeBegin, TakeItems, TakeEmpty, TakeShort, TakeNothing, TakeClosed, Point, Leads, LeadTo}
 use Rattle.queue_calls.specs.declared.moments.Moments.{Moments}
@@ -19,26 +19,28 @@ StandsAt numbers place count items = (items ≡ take count (drop place numbers))
 -- numbers tell a mark
 abbrev pub TellsMark : List ℕ → Came → Mark → Type 0
 TellsMark numbers came (Happens (PutBegin items)) = (came.kind ≡ 0) × StandsAt numbers came.value came.count items
-TellsMark numbers came (Happens (PutStored count)) = (came.kind ≡ 1) × (came.count ≡ count)
-TellsMark numbers came (Happens PutFull) = came.kind ≡ 2
-TellsMark numbers came (Happens PutShort) = came.kind ≡ 3
-TellsMark numbers came (Happens PutNothing) = came.kind ≡ 4
-TellsMark numbers came (Happens PutClosed) = came.kind ≡ 5
-TellsMark numbers came (Happens CloseBegin) = came.kind ≡ 6
-TellsMark numbers came (Happens CloseEnd) = came.kind ≡ 7
-TellsMark numbers came (Happens (TakeBegin wanted)) = (came.kind ≡ 8) × (came.count ≡ wanted)
-TellsMark numbers came (Happens (TakeItems items)) = (came.kind ≡ 9) × StandsAt numbers came.value came.count items
-TellsMark numbers came (Happens TakeEmpty) = came.kind ≡ 10
-TellsMark numbers came (Happens TakeShort) = came.kind ≡ 11
-TellsMark numbers came (Happens TakeNothing) = came.kind ≡ 12
-TellsMark numbers came (Happens TakeClosed) = came.kind ≡ 13
-TellsMark numbers came (Effect (Enqueue item)) = (came.kind ≡ 14) × (came.value ≡ item)
-TellsMark numbers came (Effect (FindNoRoom count)) = (came.kind ≡ 15) × (came.count ≡ count)
-TellsMark numbers came (Effect FindShut) = came.kind ≡ 16
-TellsMark numbers came (Effect Close) = came.kind ≡ 17
-TellsMark numbers came (Effect (Dequeue item)) = (came.kind ≡ 18) × (came.value ≡ item)
-TellsMark numbers came (Effect (FindFewer count)) = (came.kind ≡ 19) × (came.count ≡ count)
-TellsMark numbers came (Effect FindClosed) = came.kind ≡ 20
+TellsMark numbers came (Happens (PutStored count true)) = (came.kind ≡ 1) × (came.count ≡ count)
+TellsMark numbers came (Happens (PutStored count false)) = (came.kind ≡ 2) × (came.count ≡ count)
+TellsMark numbers came (Happens PutFull) = came.kind ≡ 3
+TellsMark numbers came (Happens PutShort) = came.kind ≡ 4
+TellsMark numbers came (Happens PutNothing) = came.kind ≡ 5
+TellsMark numbers came (Happens PutClosed) = came.kind ≡ 6
+TellsMark numbers came (Happens CloseBegin) = came.kind ≡ 7
+TellsMark numbers came (Happens CloseEnd) = came.kind ≡ 8
+TellsMark numbers came (Happens (TakeBegin wanted)) = (came.kind ≡ 9) × (came.count ≡ wanted)
+TellsMark numbers came (Happens (TakeItems items true)) = (came.kind ≡ 10) × StandsAt numbers came.value came.count items
+TellsMark numbers came (Happens (TakeItems items false)) = (came.kind ≡ 11) × StandsAt numbers came.value came.count items
+TellsMark numbers came (Happens TakeEmpty) = came.kind ≡ 12
+TellsMark numbers came (Happens TakeShort) = came.kind ≡ 13
+TellsMark numbers came (Happens TakeNothing) = came.kind ≡ 14
+TellsMark numbers came (Happens TakeClosed) = came.kind ≡ 15
+TellsMark numbers came (Effect (Enqueue item)) = (came.kind ≡ 16) × (came.value ≡ item)
+TellsMark numbers came (Effect (FindNoRoom count)) = (came.kind ≡ 17) × (came.count ≡ count)
+TellsMark numbers came (Effect FindShut) = came.kind ≡ 18
+TellsMark numbers came (Effect Close) = came.kind ≡ 19
+TellsMark numbers came (Effect (Dequeue item)) = (came.kind ≡ 20) × (came.value ≡ item)
+TellsMark numbers came (Effect (FindFewer count)) = (came.kind ≡ 21) × (came.count ≡ count)
+TellsMark numbers came (Effect FindClosed) = came.kind ≡ 22
 
 -- and marks, one after the other
 abbrev pub TellMarks : List ℕ → List Came → List Mark → Type 0

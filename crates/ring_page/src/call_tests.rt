@@ -38,6 +38,7 @@ fn calls_with(text: &str, room: usize, word_room: usize) -> (CallsTold, [u8; CAU
         line: 9,
         against: 9,
         words: 9,
+        cut: 9,
         counts: NO_COUNTS,
     };
     page_calls(
@@ -69,6 +70,7 @@ fn a_lawful_recording_is_told_with_its_report(rt: HostRuntime) {
         line: 0,
         against: 0,
         words: 0,
+        cut: 0,
         counts: Counts {
             calls: 8,
             stored: 3,
@@ -148,6 +150,7 @@ fn a_fault_of_a_recording_is_told_with_its_cause(rt: HostRuntime) {
                 line: *line,
                 against: *against,
                 words: count as u64,
+                cut: 0,
                 counts: NO_COUNTS,
             };
             assert!(rt; told == wanted);
@@ -164,6 +167,7 @@ fn no_cause_has_no_words(rt: HostRuntime) {
         line: 3,
         against: 0,
         words: 0,
+        cut: 0,
         counts: NO_COUNTS,
     };
     let (told, slots) = calls_with("queue 8\nC take\nC take\n", 8, CAUSE_WORDS);
@@ -181,6 +185,7 @@ fn no_recording_and_no_room_are_told(rt: HostRuntime) {
         line,
         against: 0,
         words: 0,
+        cut: 0,
         counts: NO_COUNTS,
     };
     assert!(rt; calls("", 8) == refused(1, 1));
@@ -188,4 +193,62 @@ fn no_recording_and_no_room_are_told(rt: HostRuntime) {
     assert!(rt; calls("queue 8\nC take", 8) == refused(1, 2));
     assert!(rt; calls("queue 8\nC take", 5) == refused(3, 0));
     assert!(rt; calls("queue 8\nP put 1 2 3\n", 2) == refused(3, 0));
+}
+
+#[test]
+fn calls_that_do_not_say_why_not_more_are_told(rt: HostRuntime) {
+    let text = "queue 0 8\nP put 5 6 7\nP some 2\nC take 3\nC some 5\nC take 3\nC some 6\n";
+    let told = CallsTold {
+        outcome: 0,
+        number: 0,
+        line: 0,
+        against: 0,
+        words: 0,
+        cut: 0,
+        counts: Counts {
+            calls: 3,
+            stored: 2,
+            taken: 2,
+            surely_inside: 2,
+            perhaps_inside: 3,
+            ..NO_COUNTS
+        },
+    };
+    assert!(rt; calls(text, 8) == told);
+    let (told, slots) = calls_with(
+        "queue 8\nP put 1 2\nP some 1\nC take 2\nC some 2\n",
+        8,
+        CAUSE_WORDS,
+    );
+    assert_eq!(rt; (told.outcome, told.line, told.against), (1, 5, 2));
+    assert!(rt;
+        are_words(
+            &slots,
+            "item 2 was not inside; item 1 of line 2 is next",
+            CAUSE_WORDS
+        )
+    );
+}
+
+// A recording whose first line says that later calls are missing, and the outcome, the number and the line that are told.
+static CUT: [(&str, [u64; 3]); 4] = [
+    ("cut queue 2\nP put 1\n", [0, 0, 0]),
+    ("cut queue\n", [0, 0, 0]),
+    ("cut queue 2\nC take\nC take\n", [1, 1, 3]),
+    ("cut queue 2\nC take\nC closed\n", [1, 2, 3]),
+];
+
+#[test]
+fn that_later_calls_are_missing_is_told(rt: HostRuntime) {
+    for (text, numbers) in CUT.iter() {
+        let told = calls(text, 8);
+        assert!(rt; [told.outcome, told.number, told.line] == *numbers);
+        assert!(rt; told.cut == 1);
+        // the same without the word `cut`
+        let (_, whole) = text.split_at(4);
+        assert!(rt; calls(whole, 8) == CallsTold { cut: 0, ..told });
+    }
+    let told = calls("cut queue 2\nP put 01\n", 8);
+    assert_eq!(rt; (told.outcome, told.line, told.cut), (2, 2, 0));
+    assert!(rt; calls("cut queue 2\nC take", 5).cut == 0);
 }

@@ -1,9 +1,9 @@
 //! The audit of recorded calls.
 ghost use Rattle.std.specs.Prelude.{◌≡◌, IfErr, IfOk, length};
-ghost use Rattle.queue_calls.specs.Recordings.{IsFindingOf, RefusesText};
+ghost use Rattle.queue_calls.specs.Recordings.{RefusesText};
 ghost use Rattle.queue_calls.specs.Rooms.{AreTooShort};
 ghost use Rattle.queue_calls.specs.declared.recordings.RecordingFault.TheVariants.{OutOfMemory};
-ghost use Rattle.ring_page.specs.Calls.{HasShortWords, TellsRecording, slots_for, counts_of, no_counts, told_of_finding, told_of_refusal, words_told};
+ghost use Rattle.ring_page.specs.Calls.{HasShortWords, IsFindingIn, TellsRecording, slots_for, counts_of, no_counts, told_of_finding, told_of_refusal, words_told};
 
 use crate::marks::bit_number;
 use crate::words::write_cause;
@@ -43,6 +43,8 @@ pub struct CallsTold {
     pub against: u64,
     /// How many bytes hold the words of the cause.
     pub words: u64,
+    /// 1 where the first line says that later calls are missing, of a recording that is lawful or has a fault of the history.
+    pub cut: u64,
     /// The report.
     pub counts: Counts,
 }
@@ -84,9 +86,9 @@ fn no_counts() -> Counts
     }
 }
 
-// What is told of a finding, with the words of its cause at the front of the slots.
-fn told_finding(finding: CallsFinding, words: &mut [u8]) -> CallsTold
-    ensures told { result ≡ told_of_finding (length words.old) finding }
+// What is told of a finding, and whether later calls are missing, with the words of its cause at the front of the slots.
+fn told_finding(finding: CallsFinding, is_cut: bool, words: &mut [u8]) -> CallsTold
+    ensures told { result ≡ told_of_finding (length words.old) finding is_cut }
     ensures words { words.new ≡ words_told finding words.old }
     ensures enough { HasShortWords finding }
 {
@@ -104,6 +106,7 @@ fn told_finding(finding: CallsFinding, words: &mut [u8]) -> CallsTold
         line,
         against,
         words: count as u64,
+        cut: bit_number(is_cut),
         counts,
     }
 }
@@ -122,23 +125,25 @@ fn told_refusal(fault: RecordingFault) -> CallsTold
         line,
         against: 0,
         words: 0,
+        cut: 0,
         counts: no_counts(),
     }
 }
 
-// What is found of the text, in these lists.
-fn found_in(text: &[u8], lists: Lists<Lent<'_>>) -> Result<CallsFinding, RecordingFault>
-    ensures found { IfOk result (IsFindingOf text.now) }
+// What is found of the text, in these lists, and whether its first line says that later calls are missing.
+fn found_in(text: &[u8], lists: Lists<Lent<'_>>) -> Result<(CallsFinding, bool), RecordingFault>
+    ensures found { IfOk result (λ x. IsFindingIn text.now x.0 x.1) }
     ensures refused { IfErr result (λ e. RefusesText e text.now) }
     ensures full { IfErr result (λ e. e ≡ OutOfMemory → AreTooShort (slots_for (length lists.entry.offered.slots.now) (length lists.entry.taken.slots.now) (length lists.entry.numbers.slots.now) (length lists.entry.bytes.slots.now)) text.now) }
 {
     let mut recording = RecordingIn::within(lists);
     recording.read(text)?;
-    recording.finding()
+    let finding = recording.finding()?;
+    Ok((finding, recording.is_cut()))
 }
 
-/// Tells what is found of the text of recorded calls, which is what `audit --calls` finds, with the words of the cause; or why it is
-/// none, or that one of the lists has too few slots. It takes no memory.
+/// Tells what is found of the text of recorded calls, which is what `audit --calls` finds, with the words of the cause, and whether later
+/// calls are missing; or why it is none, or that one of the lists has too few slots. It takes no memory.
 ///
 /// Enough are: of `offered` as many as there are items inside at most, with those that a put offers; of `taken` as many as are
 /// taken, or [`TAKEN_LIMIT`](queue_calls::TAKEN_LIMIT); of `numbers` as many as a line has; of `bytes` as many as stand behind the
@@ -163,7 +168,7 @@ pub extern "C" fn page_calls(
         bytes: Front::new(bytes),
     };
     *told = match found_in(text, lists) {
-        Ok(finding) => told_finding(finding, words),
+        Ok((finding, is_cut)) => told_finding(finding, is_cut, words),
         Err(fault) => told_refusal(fault),
     };
 }

@@ -14,7 +14,7 @@ use queue_calls::{Capacity, Does, Event, Moments};
 #[repr(C)]
 #[derive(Clone, Copy, PartialEq, Eq, Debug)]
 pub struct Came {
-    /// From 0 to 13 an event, in the order of `queue_calls::Event`; from 14 to 20 an operation, in that of `queue_calls::Does`.
+    /// From 0 to 15 an event, in the order of `queue_calls::Event`; from 16 to 22 an operation, in that of `queue_calls::Does`.
     pub kind: u64,
     /// The item of an operation; where in the list of numbers those of a put that begins, or of a take that ends, begin.
     pub value: u64,
@@ -56,18 +56,20 @@ fn event_in<'a>(numbers: &'a [u64], came: &Came) -> Option<Event<'a>>
     match came.kind {
         0 => Some(Event::PutBegins(numbers.get(from..)?.get(..count)?)),
         1 => Some(Event::PutStored(count)),
-        2 => Some(Event::PutFull),
-        3 => Some(Event::PutShort),
-        4 => Some(Event::PutNothing),
-        5 => Some(Event::PutClosed),
-        6 => Some(Event::CloseBegins),
-        7 => Some(Event::CloseEnds),
-        8 => Some(Event::TakeBegins(count)),
-        9 => Some(Event::TakeItems(numbers.get(from..)?.get(..count)?)),
-        10 => Some(Event::TakeEmpty),
-        11 => Some(Event::TakeShort),
-        12 => Some(Event::TakeNothing),
-        13 => Some(Event::TakeClosed),
+        2 => Some(Event::PutSome(count)),
+        3 => Some(Event::PutFull),
+        4 => Some(Event::PutShort),
+        5 => Some(Event::PutNothing),
+        6 => Some(Event::PutClosed),
+        7 => Some(Event::CloseBegins),
+        8 => Some(Event::CloseEnds),
+        9 => Some(Event::TakeBegins(count)),
+        10 => Some(Event::TakeItems(numbers.get(from..)?.get(..count)?)),
+        11 => Some(Event::TakeSome(numbers.get(from..)?.get(..count)?)),
+        12 => Some(Event::TakeEmpty),
+        13 => Some(Event::TakeShort),
+        14 => Some(Event::TakeNothing),
+        15 => Some(Event::TakeClosed),
         _ => None,
     }
 }
@@ -79,13 +81,13 @@ fn does_in(numbers: &[u64], came: &Came) -> Option<Does>
 {
     let count = came.count as usize;
     match came.kind {
-        14 => Some(Does::Enqueue(came.value)),
-        15 => Some(Does::FindNoRoom(count)),
-        16 => Some(Does::FindShut),
-        17 => Some(Does::Close),
-        18 => Some(Does::Dequeue(came.value)),
-        19 => Some(Does::FindFewer(count)),
-        20 => Some(Does::FindClosed),
+        16 => Some(Does::Enqueue(came.value)),
+        17 => Some(Does::FindNoRoom(count)),
+        18 => Some(Does::FindShut),
+        19 => Some(Does::Close),
+        20 => Some(Does::Dequeue(came.value)),
+        21 => Some(Does::FindFewer(count)),
+        22 => Some(Does::FindClosed),
         _ => None,
     }
 }

@@ -112,7 +112,7 @@ module _ (law : PutsTellByOne) (script : Content) (puts : Puts) (i : ℕ) (asked
   -- a put goes on, or it ends, by what is counted
   pub put_goes :
       (stored full stored' full' : ℕ) → IsPutStage put.Putting script puts i → stored ≡ stored_in 0 before → full ≡ fulls before → stored' ≡ stored_in 0 after → full' ≡ fulls after →
-      ((stored < stored') × (calls.PutStored (stored' - stored) ∷ [] ≡ told) × IsPutStage put.Between script puts (suc i)) ⊎
+      ((stored < stored') × (calls.PutStored (stored' - stored) true ∷ [] ≡ told) × IsPutStage put.Between script puts (suc i)) ⊎
       (((stored' ≤ stored) × (full < full') × (calls.PutFull ∷ [] ≡ told) × IsPutStage put.Between script puts (suc i)) ⊎
       ((stored' ≤ stored) × (full' ≤ full) × ([] ≡ told) × IsPutStage put.Putting script puts (suc i)))
   put_goes stored full stored' full' at is_stored is_full now_stored now_full = elim tells [
@@ -138,13 +138,13 @@ module _ (law : PutsTellByOne) (script : Content) (puts : Puts) (i : ℕ) (asked
 
       by_put :
           (x : Put) → after ≡ before ++ x ∷ [] → suc i ≡ events_of_puts shape after → told ≡ put_answer x ∷ [] → IsPut shape (stored_in 0 before) x →
-          ((stored < stored') × (calls.PutStored (stored' - stored) ∷ [] ≡ told) × IsPutStage put.Between script puts (suc i)) ⊎
+          ((stored < stored') × (calls.PutStored (stored' - stored) true ∷ [] ≡ told) × IsPutStage put.Between script puts (suc i)) ⊎
           (((stored' ≤ stored) × (full < full') × (calls.PutFull ∷ [] ≡ told) × IsPutStage put.Between script puts (suc i)) ⊎
           ((stored' ≤ stored) × (full' ≤ full) × ([] ≡ told) × IsPutStage put.Putting script puts (suc i)))
       by_put (Stored seen items) is ends t p =
           let more : stored' ≡ stored + length items =
           omega (arith, now_stored, ap (stored_in 0) is, stored-more 0 before (Stored seen items), past_is (stored_in 0 before) items, is_stored) in
-          inl (omega (arith, more, p.2.some), ap (λ n. calls.PutStored n ∷ []) (omega (arith, more)) ∙ sym t, sym ends)
+          inl (omega (arith, more, p.2.some), ap (λ n. calls.PutStored n true ∷ []) (omega (arith, more)) ∙ sym t, sym ends)
       by_put (Full seen) is ends t p =
           inr (inl (
             omega (arith, now_stored, ap (stored_in 0) is, stored-more 0 before (Full seen), is_stored),
@@ -204,7 +204,7 @@ module _ (law : TakesTellByOne) (script : Content) (takes : Takes) (i : ℕ) (fe
   -- the items taken with one take more
   abbrev Ends : List ℕ → List ℕ → ℕ → ℕ → Type 0
   Ends taken taken' empty empty' =
-      ((item : ℕ) × (taken' ≡ taken ++ item ∷ []) × (calls.TakeItems (item ∷ []) ∷ [] ≡ told_of) × IsTakeStage taking.Between script takes (suc i)) ⊎
+      ((item : ℕ) × (taken' ≡ taken ++ item ∷ []) × (calls.TakeItems (item ∷ []) true ∷ [] ≡ told_of) × IsTakeStage taking.Between script takes (suc i)) ⊎
       ((taken' ≡ taken) × (empty < empty') × (calls.TakeEmpty ∷ [] ≡ told_of) × IsTakeStage taking.Between script takes (suc i))
 
   -- a take goes on, or it ends, by what is counted

@@ -41,12 +41,12 @@ TellsCalls script h events = (puts : Puts) (takes : Takes) → IsReadingAsked sc
 -- what is told, as an event of calls
 abbrev pub event_of : Content → Told → calls.Event
 event_of script (PutBegins stored) = calls.PutBegin (offered script stored)
-event_of script (PutStored count) = calls.PutStored count
+event_of script (PutStored count) = calls.PutStored count true
 event_of script PutFull = calls.PutFull
 event_of script CloseBegins = calls.CloseBegin
 event_of script CloseEnds = calls.CloseEnd
 event_of script TakeBegins = calls.TakeBegin 1
-event_of script (TakeItem item) = calls.TakeItems (item ∷ [])
+event_of script (TakeItem item) = calls.TakeItems (item ∷ []) true
 event_of script TakeEmpty = calls.TakeEmpty
 event_of script TakeClosed = calls.TakeClosed
 

@@ -2,7 +2,7 @@
 use Rattle.std.proofs.Common.{◌≡◌, ℕ, Bool, List, Option, Some, None, Result, Ok, Err, IfErr, IfOk, IfSome, inl, inr}
 use Rattle.std.specs.Prelude.{OnErr}
 use Rattle.std.specs.Io.KnownBytes.{Appends}
-use Rattle.ring_program.specs.Answers.{AnswersCalls, AnswersLongBits, EndsBy, EndsCalls, EndsLongBits, IsCallsCause, IsLongBitsCause, Refused, RefusedCalls, RefusedLongBits, status_of, ending_words}
+use Rattle.ring_program.specs.Answers.{AnswersCallsBy, AnswersLongBits, EndsBy, EndsCalls, EndsLongBits, IsCallsCause, IsLongBitsCause, Refused, RefusedCalls, RefusedLongBits, status_of, ending_words}
 use Rattle.ring_program.specs.Faults.{Gains, SaysRefusal, refusal_line}
 use Rattle.ring_program.proofs.Gains.{tells_line}
 use Rattle.ring_program.specs.declared.answers.Ending.{Ending}
@@ -37,13 +37,13 @@ pub concluded : (before after : Option (List ℕ)) (is_told : Bool) (r : Result 
 concluded before after is_told r status ok told err refused = record { ok = ok; told = told; err = err; refused = by_lines before after is_told r refused }
 
 -- the same, where it is known of each input that the reader may have
-pub ends_calls : (input before after : Option (List ℕ)) (Tells : List ℕ → Type 0) (r : Result Ending Refusal) (status : ℕ)
-    → IfSome input (λ bytes. IfOk r (IsWritten (AnswersCalls bytes) before after))
-    → IfSome input (λ bytes. IfErr r (RefusedCalls bytes before after))
-    → Concluded Tells r status → IfSome input (λ bytes. EndsCalls bytes before after Tells status)
-ends_calls None before after Tells r status written refused done = tt
-ends_calls (Some bytes) before after Tells r status written refused done =
-    ends_by (AnswersCalls bytes) (IsCallsCause bytes) before after Tells r status written refused done
+pub ends_calls : (stop : Bool) (input before after : Option (List ℕ)) (Tells : List ℕ → Type 0) (r : Result Ending Refusal) (status : ℕ)
+    → IfSome input (λ bytes. IfOk r (IsWritten (AnswersCallsBy stop bytes) before after))
+    → IfSome input (λ bytes. IfErr r (RefusedCalls stop bytes before after))
+    → Concluded Tells r status → IfSome input (λ bytes. EndsCalls stop bytes before after Tells status)
+ends_calls stop None before after Tells r status written refused done = tt
+ends_calls stop (Some bytes) before after Tells r status written refused done =
+    ends_by (AnswersCallsBy stop bytes) (IsCallsCause bytes) before after Tells r status written refused done
 
 pub ends_long_bits : (input before after : Option (List ℕ)) (Tells : List ℕ → Type 0) (r : Result Ending Refusal) (status : ℕ)
     → IfSome input (λ bytes. IfOk r (IsWritten (AnswersLongBits bytes) before after))

@@ -1,8 +1,10 @@
 pub mod CommandLemmas
 mod PlayLemmas
 mod Endings
+mod FirstFaults
 mod Gains
 mod InlineLines
+mod ReadingLemmas
 mod RecordingText
 mod RunItems
 mod RunTelling

@@ -29,7 +29,7 @@ front_items items taken left same is =
     sym (take-append-drop (length items) taken) ∙ ap₂ (λ (a : List ℕ) (b : List ℕ). a ++ b) (same_items (take (length items) taken) items same) (sym is)
 
 -- a take ended with the next items
-pub took : (u : Untold) (items : List ℕ) (left : Bor (List ℕ)) → u.taken.now ≡ items ++ left.now → TakesOff u (TakeItems items) (record u { taken = left })
+pub took : (u : Untold) (items : List ℕ) (left : Bor (List ℕ)) → u.taken.now ≡ items ++ left.now → TakesOff u (TakeItems items true) (record u { taken = left })
 took u items left is = record {
   items = refl;
   tells = record {

@@ -1,5 +1,5 @@
 -- The recording of a run, as far as it is written.
-use Rattle.std.proofs.Common.{◌≡◌, ◌∙◌, ℕ, ◌-◌, ◌<◌, ◌≤◌, List, [], ◌∷◌, ◌++◌, drop, refl, ap, ap₂, sym, subst, arith}
+use Rattle.std.proofs.Common.{◌≡◌, ◌∙◌, ℕ, Bool, false, ◌-◌, ◌<◌, ◌≤◌, List, [], ◌∷◌, ◌++◌, drop, refl, ap, ap₂, sym, subst, arith}
 use Rattle.std.proofs.lemmas.List.{append-nil, drop-drop}
 use Rattle.std.proofs.lemmas.List.Sums.{sum_by_push}
 use Rattle.std.proofs.lemmas.Grind.{flat_map-append}
@@ -11,13 +11,12 @@ use Rattle.queue_calls.specs.Calls.{Event, IsLinearizable}
 use Rattle.queue_calls.specs.Lines.{AreSmall, word_text}
 use Rattle.queue_calls.specs.Order.{P, C}
 use Rattle.queue_calls.specs.Queue.{exactly}
-use Rattle.queue_calls.specs.Recordings.{Line, begun_after, begun_behind, line, lines_text, text_of}
+use Rattle.queue_calls.specs.Recordings.{Line, begun_after, begun_behind, first_word, line, lines_text, text_of}
 use Rattle.queue_calls.specs.Tellings.{HistoryHasARecording, LinearizableIsInTurn, TellsSmall, line_of, lines_of, numbers_in, offered_last}
 use Rattle.queue_calls.specs.Told.{meant}
 use Rattle.queue_calls.specs.declared.auditors.CallAuditor.{CallAuditor}
 use Rattle.queue_calls.specs.declared.capacities.Capacity.{Capacity}
 use Rattle.queue_calls.specs.declared.capacities.Capacity.TheVariants.{Between}
-use Rattle.queue_calls.specs.declared.lines.Word.TheVariants.{Queue}
 use Rattle.queue_calls.specs.declared.recordings.Begun.{Begun}
 use Rattle.queue_calls.specs.declared.recordings.Begun.TheVariants as begun
 use Rattle.ring_program.specs.RunRecordings.{AreOfRun, IsOfRun, RecordsRun, RunCounts, TellAllBut, nothing_left, room_with, stored_with}
@@ -61,9 +60,9 @@ text_more lines l = flat_map-append text_of lines (l ∷ []) ∙ ap (λ (t : Lis
 
 -- ---- what is told so far
 
--- the text has a first line that tells the capacity, and the lines of these events
-pub record IsWritten (capacity offers : ℕ) (text : List ℕ) (events : List Event) : Type 0 where
-  pub text_is : text ≡ lines_text (line Queue (capacity ∷ []) ∷ lines_of begun.Nothing events)
+-- the text has a first line that tells the capacity, and whether later calls are missing, and the lines of these events
+pub record IsWritten (is_cut : Bool) (capacity offers : ℕ) (text : List ℕ) (events : List Event) : Type 0 where
+  pub text_is : text ≡ lines_text (line (first_word is_cut) (capacity ∷ []) ∷ lines_of begun.Nothing events)
   pub offers_is : offers ≡ offered_last (begun_behind begun.Nothing (lines_of begun.Nothing events))
   pub small : TellsSmall events
 
@@ -81,25 +80,25 @@ pub record IsAudited {Q E : Type 0} (items_of : Q → List ℕ) (capacity : ℕ)
   pub capacity_is : meant auditor.capacity ≡ exactly capacity
   pub linearizable : IsLinearizable (exactly capacity) events
 
-pub record HasTold {Q E : Type 0} (items_of : Q → List ℕ) (capacity batch : ℕ) (items : List ℕ) (all : RunCounts) (text : List ℕ) (auditor : CallAuditor Q E) (untold : Untold)
+pub record HasTold {Q E : Type 0} (items_of : Q → List ℕ) (is_cut : Bool) (capacity batch : ℕ) (items : List ℕ) (all : RunCounts) (text : List ℕ) (auditor : CallAuditor Q E) (untold : Untold)
     (room : Room) (offers : ℕ) : Type 0 where
   pub events : List Event
-  pub is_written : IsWritten capacity offers text events
+  pub is_written : IsWritten is_cut capacity offers text events
   pub is_audited : IsAudited items_of capacity auditor events
   pub is_left : IsLeft batch items all untold room events
 
-pub writes_more : (capacity offers after_offers : ℕ) (text after : List ℕ) (events : List Event) (event : Event)
+pub writes_more : (is_cut : Bool) (capacity offers after_offers : ℕ) (text after : List ℕ) (events : List Event) (event : Event)
     → ((b : Begun) → offers ≡ offered_last b → after ≡ text ++ text_of (line_of b event))
     → ((b : Begun) → offers ≡ offered_last b → after_offers ≡ offered_last (begun_after b (line_of b event).word (line_of b event).numbers))
-    → AreSmall (numbers_in event) → IsWritten capacity offers text events → IsWritten capacity after_offers after (events ++ event ∷ [])
-writes_more capacity offers after_offers text after events event pushed offers_are small w =
+    → AreSmall (numbers_in event) → IsWritten is_cut capacity offers text events → IsWritten is_cut capacity after_offers after (events ++ event ∷ [])
+writes_more is_cut capacity offers after_offers text after events event pushed offers_are small w =
     let lines = lines_of begun.Nothing events in
     let b = begun_behind begun.Nothing lines in
     let l = line_of b event in
     let more = lines_more begun.Nothing events event in
     record {
-      text_is = pushed b w.offers_is ∙ ap (λ (t : List ℕ). t ++ text_of l) w.text_is ∙ sym (text_more (line Queue (capacity ∷ []) ∷ lines) l)
-          ∙ ap (λ (ls : List Line). lines_text (line Queue (capacity ∷ []) ∷ ls)) (sym more);
+      text_is = pushed b w.offers_is ∙ ap (λ (t : List ℕ). t ++ text_of l) w.text_is ∙ sym (text_more (line (first_word is_cut) (capacity ∷ []) ∷ lines) l)
+          ∙ ap (λ (ls : List Line). lines_text (line (first_word is_cut) (capacity ∷ []) ∷ ls)) (sym more);
       offers_is = offers_are b w.offers_is ∙ ap offered_last (sym (begun_more begun.Nothing lines l) ∙ ap (λ (ls : List Line). begun_behind begun.Nothing ls) (sym more));
       small = small_more events event w.small small;
     }
@@ -137,15 +136,15 @@ audits_more {Q} items_of capacity auditor after events event same reads a =
 pub meant_exactly : (told : Capacity) (n capacity : ℕ) → told ≡ Between n n → n ≡ capacity → meant told ≡ exactly capacity
 meant_exactly told n capacity is same = ap meant is ∙ ap exactly same
 
-pub begins_run : {Q E : Type 0} (items_of : Q → List ℕ) (capacity batch : ℕ) (items : List ℕ) (all : RunCounts) (text before word : List ℕ) (n : ℕ) (auditor : CallAuditor Q E)
-    (untold : Untold) → before ≡ [] → word ≡ word_text Queue → n ≡ capacity → text ≡ before ++ list_line word (n ∷ []) → Audits items_of auditor []
+pub begins_run : {Q E : Type 0} (items_of : Q → List ℕ) (is_cut : Bool) (capacity batch : ℕ) (items : List ℕ) (all : RunCounts) (text before word : List ℕ) (n : ℕ) (auditor : CallAuditor Q E)
+    (untold : Untold) → before ≡ [] → word ≡ word_text (first_word is_cut) → n ≡ capacity → text ≡ before ++ list_line word (n ∷ []) → Audits items_of auditor []
     → meant auditor.capacity ≡ exactly capacity → IsLinearizable (meant auditor.capacity) [] → untold.items.now ≡ items → left_of untold ≡ all
-    → HasTold items_of capacity batch items all text auditor untold (record { puts = RECORDED; takes = RECORDED }) 0
-begins_run {Q} items_of capacity batch items all text before word n auditor untold none word_is same is audits capacity_is linearizable items_are left_is = record {
+    → HasTold items_of is_cut capacity batch items all text auditor untold (record { puts = RECORDED; takes = RECORDED }) 0
+begins_run {Q} items_of is_cut capacity batch items all text before word n auditor untold none word_is same is audits capacity_is linearizable items_are left_is = record {
   events = [];
   is_written = record {
-    text_is = is ∙ ap₂ (λ (a : List ℕ) (b : List ℕ). a ++ b) none (ap₂ list_line word_is (ap (λ (k : ℕ). k ∷ []) same) ∙ line_is Queue (capacity ∷ []))
-        ∙ sym (append-nil (text_of (line Queue (capacity ∷ []))));
+    text_is = is ∙ ap₂ (λ (a : List ℕ) (b : List ℕ). a ++ b) none (ap₂ list_line word_is (ap (λ (k : ℕ). k ∷ []) same) ∙ line_is (first_word is_cut) (capacity ∷ []))
+        ∙ sym (append-nil (text_of (line (first_word is_cut) (capacity ∷ []))));
     offers_is = refl;
     small = tt;
   };
@@ -163,18 +162,20 @@ begins_run {Q} items_of capacity batch items all text before word n auditor unto
   };
 }
 
-pub records_run : {Q E : Type 0} (items_of : Q → List ℕ) (shape : Shape) (n : ℕ) (items : List ℕ) (all : RunCounts) (text : List ℕ) (auditor : CallAuditor Q E) (untold : Untold)
+pub records_run : {Q E : Type 0} (items_of : Q → List ℕ) (is_cut : Bool) (shape : Shape) (n : ℕ) (items : List ℕ) (all : RunCounts) (text : List ℕ) (auditor : CallAuditor Q E) (untold : Untold)
     (room : Room) (offers : ℕ) → HistoryHasARecording → LinearizableIsInTurn → n ≡ capacity_of shape → 0 < n → n ≤ 64
-    → (batch_of shape ≤ room.puts → 0 < room.takes → left_of untold ≡ nothing_left)
-    → HasTold items_of (capacity_of shape) (batch_of shape) items all text auditor untold room offers → RecordsRun shape items all text
-records_run {Q} items_of shape n items all text auditor untold room offers law in_turn same some few whole t =
+    → (is_cut ≡ false → left_of untold ≡ nothing_left) → (batch_of shape ≤ room.puts → 0 < room.takes → left_of untold ≡ nothing_left)
+    → HasTold items_of is_cut (capacity_of shape) (batch_of shape) items all text auditor untold room offers → RecordsRun shape items all text
+records_run {Q} items_of is_cut shape n items all text auditor untold room offers law in_turn same some few cut whole t =
     let linearizable : IsLinearizable (exactly (capacity_of shape)) t.events = t.is_audited.linearizable in
+    let recording = told_is_recording is_cut (capacity_of shape) n t.events text same some few law (in_turn (exactly (capacity_of shape)) t.events linearizable) t.is_written.small t.is_written.text_is in
     record {
       events = t.events;
-      is_recording = told_is_recording (capacity_of shape) n t.events text same some few law (in_turn (exactly (capacity_of shape)) t.events linearizable) t.is_written.small t.is_written.text_is;
+      is_recording = recording.0;
       linearizable = linearizable;
       in_order = t.is_left.in_order;
       left = left_of untold;
       tells = t.is_left.tells;
+      cut = λ uncut. cut (sym recording.1 ∙ uncut);
       whole = λ room_left. whole (omega (arith, t.is_left.puts, room_left.0)) (omega (arith, t.is_left.takes, room_left.1));
     }

@@ -1,11 +1,11 @@
 -- The text of the calls that a play told, line by line.
-use Rattle.std.proofs.Common.{◌≡◌, ◌∙◌, ℕ, ◌<◌, ◌≤◌, List, [], ◌∷◌, ◌++◌, refl, ap, ap₂, sym, subst, append_assoc, arith}
+use Rattle.std.proofs.Common.{◌≡◌, ◌∙◌, ℕ, Bool, ◌<◌, ◌≤◌, List, [], ◌∷◌, ◌++◌, refl, ap, ap₂, sym, subst, append_assoc, arith}
 use Rattle.std.proofs.lemmas.List.{append-nil}
 use Rattle.queue_calls.specs.Calls.{Event}
 use Rattle.queue_calls.specs.InTurn.{CallsAreInTurn}
 use Rattle.queue_calls.specs.Lines.{AreSmall, word_text}
 use Rattle.queue_calls.specs.Queue.{exactly}
-use Rattle.queue_calls.specs.Recordings.{IsRecording, begun_after, line, lines_text, text_of}
+use Rattle.queue_calls.specs.Recordings.{IsRecording, begun_after, first_word, line, lines_text, text_of}
 use Rattle.queue_calls.specs.Tellings.{HistoryHasARecording, TellsSmall, line_of, lines_of, numbers_in, offered_last}
 use Rattle.queue_calls.specs.declared.lines.Word.TheVariants.{Queue}
 use Rattle.queue_calls.specs.declared.recordings.Begun.{Begun}
@@ -50,7 +50,8 @@ telling_is_told capacity h offers text (b, is, whole, smalls) = sym (whole ∙ a
 pub telling_is_small : (capacity : ℕ) (h : List Event) (offers : ℕ) (text : List ℕ) → IsToldSoFar capacity h [] offers text → TellsSmall h
 telling_is_small capacity h offers text (b, is, whole, smalls) = smalls tt
 
-pub told_is_recording : (capacity n : ℕ) (h : List Event) (text : List ℕ) → n ≡ capacity → 0 < n → n ≤ 64 → HistoryHasARecording → CallsAreInTurn h → TellsSmall h
-    → text ≡ lines_text (line Queue (capacity ∷ []) ∷ lines_of begun.Nothing h) → IsRecording text (exactly capacity) h
-told_is_recording capacity n h text same some few law in_turn small is =
-    subst (λ (t : List ℕ). IsRecording t (exactly capacity) h) (sym is) (law capacity h (omega (arith, same, some)) (omega (arith, same, few)) in_turn small)
+pub told_is_recording : (is_cut : Bool) (capacity n : ℕ) (h : List Event) (text : List ℕ) → n ≡ capacity → 0 < n → n ≤ 64 → HistoryHasARecording → CallsAreInTurn h → TellsSmall h
+    → text ≡ lines_text (line (first_word is_cut) (capacity ∷ []) ∷ lines_of begun.Nothing h) → (is : IsRecording text (exactly capacity) h) × (is.is_cut ≡ is_cut)
+told_is_recording is_cut capacity n h text same some few law in_turn small is =
+    subst (λ (t : List ℕ). (r : IsRecording t (exactly capacity) h) × (r.is_cut ≡ is_cut)) (sym is)
+    (law is_cut capacity h (omega (arith, same, some)) (omega (arith, same, few)) in_turn small)

@@ -1,5 +1,5 @@
 -- What the program answers to a request on an input, and how it ends.
-use Rattle.std.specs.Prelude.{◌≡◌, ◌≢◌, ◌⊎◌, ◌<◌, ◌≤◌, ◌+◌, ◌++◌, ℕ, Bool, true, false, List, [], Option, Some, None, IfSome, codes, length, take}
+use Rattle.std.specs.Prelude.{◌≡◌, ◌≢◌, ◌⊎◌, ◌<◌, ◌≤◌, ◌+◌, ◌++◌, ℕ, Bool, true, false, List, [], ◌∷◌, Option, Some, None, IfSome, codes, length, take}
 use Rattle.std.specs.Io.KnownBytes.{Appends, Keeps}
 use Rattle.clap.specs.Kinds.{IsAmong, Kinds}
 use Rattle.clap.specs.declared.error.kind.ErrorKind.{ErrorKind}
@@ -16,8 +16,9 @@ use Rattle.bits_core.specs.Made.{IsBeginning}
 use Rattle.bits_core.specs.declared.traces.TraceFault.{TraceFault}
 use Rattle.bits_core.specs.declared.traces.TraceFault.TheVariants as trace
 use Rattle.near_misses.specs.NearPlays.{IsNearPlay}
-use Rattle.queue_calls.specs.Queue.{exactly}
-use Rattle.queue_calls.specs.Recordings.{IsFindingOf, IsRecording, RefusesText}
+use Rattle.queue_calls.specs.Calls as call
+use Rattle.queue_calls.specs.Queue.{Capacity, exactly}
+use Rattle.queue_calls.specs.Recordings.{IsFaultOf, IsFoundOf, IsRecording, RefusesText}
 use Rattle.queue_calls.specs.declared.recordings.CallsFinding.{CallsFinding}
 use Rattle.queue_calls.specs.declared.recordings.CallsFinding.TheVariants as calls
 use Rattle.queue_calls.specs.declared.recordings.RecordingFault.{RecordingFault}
@@ -90,12 +91,35 @@ calls_ending_of (calls.Lawful report) = Done
 calls_ending_of (calls.OutOfTurn line) = FaultFound
 calls_ending_of (calls.NotLinearizable line cause) = FaultFound
 
--- the input is a recording of calls, and the text and the ending are those of what is found of it
+-- the input is a recording of calls, and the text and the ending are those of what is found of it; the text says whether the recording
+-- says that the later calls are missing
 pub record AnswersCalls (input text : List ℕ) (ending : Ending) : Type 0 where
+  pub capacity : Capacity
+  pub events : List call.Event
+  pub recording : IsRecording input capacity events
   pub found : CallsFinding
-  pub is_finding : IsFindingOf input found
-  pub words : text ≡ calls_text_of found
+  pub is_found : IsFoundOf capacity events found
+  pub words : text ≡ calls_text_of recording.is_cut found
   pub ends : ending ≡ calls_ending_of found
+
+-- bytes in which no line feed stands before the last byte
+abbrev pub IsOneLine : List ℕ → Type 0
+IsOneLine bytes = (a b : List ℕ) → bytes ≡ a ++ 10 ∷ b → b ≡ []
+
+-- a recording goes no further than its first fault: the lines before its last one have none
+abbrev pub EndsAtFirstFault : List ℕ → Type 0
+EndsAtFirstFault bytes = (before : List ℕ) × (last : List ℕ) × (bytes ≡ before ++ last) × IsFaultOf before None × IsOneLine last
+
+-- the same of a front of the input: of all of it where no fault is found, and else up to the line of the first fault
+abbrev pub AnswersFirstFault : List ℕ → List ℕ → Ending → Type 0
+AnswersFirstFault input text ending =
+    (front : List ℕ) × (rest : List ℕ) × (input ≡ front ++ rest) × AnswersCalls front text ending × (ending ≡ Done → rest ≡ [])
+    × (ending ≡ FaultFound → EndsAtFirstFault front)
+
+-- by whether the reading stops at the first fault
+abbrev pub AnswersCallsBy : (stop : Bool) → List ℕ → List ℕ → Ending → Type 0
+AnswersCallsBy false input text ending = AnswersCalls input text ending
+AnswersCallsBy true input text ending = AnswersFirstFault input text ending
 
 -- the text of a verdict; and that with lines behind it which say why the event at fault is
 abbrev pub WritesVerdict : Shape → List Event → Verdict → List ℕ → Type 0
@@ -362,11 +386,11 @@ abbrev pub EndsRun : Run → Option (List ℕ) → Option (List ℕ) → (List �
 EndsRun run = EndsBy (AnswersRun run) (IsRunCause run)
 
 -- how it ends on recorded calls
-abbrev pub RefusedCalls : List ℕ → Option (List ℕ) → Option (List ℕ) → Refusal → Type 0
-RefusedCalls input = Refused (AnswersCalls input) (IsCallsCause input)
+abbrev pub RefusedCalls : (stop : Bool) → List ℕ → Option (List ℕ) → Option (List ℕ) → Refusal → Type 0
+RefusedCalls stop input = Refused (AnswersCallsBy stop input) (IsCallsCause input)
 
-abbrev pub EndsCalls : List ℕ → Option (List ℕ) → Option (List ℕ) → (List ℕ → Type 0) → ℕ → Type 0
-EndsCalls input = EndsBy (AnswersCalls input) (IsCallsCause input)
+abbrev pub EndsCalls : (stop : Bool) → List ℕ → Option (List ℕ) → Option (List ℕ) → (List ℕ → Type 0) → ℕ → Type 0
+EndsCalls stop input = EndsBy (AnswersCallsBy stop input) (IsCallsCause input)
 
 -- how it ends on a trace of any length
 abbrev pub RefusedLongBits : List ℕ → Option (List ℕ) → Option (List ℕ) → Refusal → Type 0
@@ -378,7 +402,7 @@ EndsLongBits input = EndsBy (AnswersLongBits input) (IsLongBitsCause input)
 -- how it ends on a request, where the reader tells that this is its input
 abbrev pub Ends : Request → Option (List ℕ) → Option (List ℕ) → Option (List ℕ) → (List ℕ → Type 0) → ℕ → Type 0
 Ends (OnInput question) input before after Tells status = IfSome input (λ bytes. EndsOn question bytes before after Tells status)
-Ends request.Calls input before after Tells status = IfSome input (λ bytes. EndsCalls bytes before after Tells status)
+Ends (request.Calls stop) input before after Tells status = IfSome input (λ bytes. EndsCalls stop bytes before after Tells status)
 Ends request.LongBits input before after Tells status = IfSome input (λ bytes. EndsLongBits bytes before after Tells status)
 Ends (request.Run run) input before after Tells status = EndsRun run before after Tells status
 
@@ -435,7 +459,7 @@ IsStatusOn (WrongCalls miss) status = (status ≡ 0) ⊎ (status ≡ 1)
 -- of a request
 abbrev pub IsStatusOf : Request → ℕ → Type 0
 IsStatusOf (OnInput question) status = IsStatusOn question status
-IsStatusOf request.Calls status = (status ≡ 0) ⊎ ((status ≡ 1) ⊎ (status ≡ 3))
+IsStatusOf (request.Calls stop) status = (status ≡ 0) ⊎ ((status ≡ 1) ⊎ (status ≡ 3))
 IsStatusOf request.LongBits status = (status ≡ 0) ⊎ ((status ≡ 1) ⊎ (status ≡ 3))
 IsStatusOf (request.Run run) status = (status ≡ 0) ⊎ (status ≡ 1)
 
@@ -447,7 +471,7 @@ IsStatus None status = (status ≡ 0) ⊎ ((status ≡ 1) ⊎ (status ≡ 2))
 -- the words ask nothing of an input
 abbrev pub AsksNoInput : Option Request → Type 0
 AsksNoInput (Some (OnInput question)) = ⊥
-AsksNoInput (Some request.Calls) = ⊥
+AsksNoInput (Some (request.Calls stop)) = ⊥
 AsksNoInput (Some request.LongBits) = ⊥
 AsksNoInput (Some (request.Run run)) = Unit {0}
 AsksNoInput None = Unit {0}

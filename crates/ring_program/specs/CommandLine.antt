@@ -34,11 +34,11 @@ HasOption rule old new = (app : App) → IsCommand old app → IsCommand new (wi
 abbrev pub flag_rule : Text → Rule
 flag_rule id = record (new_rule id) { long = Some id; action = Some SetTrue }
 
--- `audit [--bits] [--why]`, `audit --bits --long` and `audit --calls`
+-- `audit [--bits] [--why]`, `audit --bits --long` and `audit --calls [--stop]`
 abbrev pub audit_command : App
 audit_command =
-    with_rule (with_rule (with_rule (with_rule (new_app (codes "audit"))
-    (flag_rule (codes "bits"))) (flag_rule (codes "long"))) (flag_rule (codes "calls"))) (flag_rule (codes "why"))
+    with_rule (with_rule (with_rule (with_rule (with_rule (new_app (codes "audit"))
+    (flag_rule (codes "bits"))) (flag_rule (codes "long"))) (flag_rule (codes "calls"))) (flag_rule (codes "stop"))) (flag_rule (codes "why"))
 
 -- an option with a value
 abbrev pub value_rule : Text → Rule
@@ -99,19 +99,21 @@ application = with_subcommand (with_subcommand (with_subcommand program_alone au
 abbrev pub is_flag_given : Text → List Row → Bool
 is_flag_given id rows = option_map_or (λ t. bytes_eq t (codes "true")) (first_of id rows) false
 
--- an audit is of bits or of calls, and not of both; of bits alone it may be long; where it keeps the trace it may say why
-abbrev pub audit_request : Bool → Bool → Bool → Bool → Option Request
-audit_request true false false false = Some (OnInput AuditBits)
-audit_request true false false true = Some (OnInput AuditBitsWhy)
-audit_request true true false false = Some request.LongBits
-audit_request false false true false = Some request.Calls
-audit_request false false false false = Some (OnInput Audit)
-audit_request false false false true = Some (OnInput AuditWhy)
-audit_request _ _ _ _ = None
+-- an audit is of bits or of calls, and not of both; of bits alone it may be long, and of calls it may stop at the first fault; where it
+-- keeps the trace it may say why
+abbrev pub audit_request : (bits long calls stop why : Bool) → Option Request
+audit_request true false false false false = Some (OnInput AuditBits)
+audit_request true false false false true = Some (OnInput AuditBitsWhy)
+audit_request true true false false false = Some request.LongBits
+audit_request false false true stop false = Some (request.Calls stop)
+audit_request false false false false false = Some (OnInput Audit)
+audit_request false false false false true = Some (OnInput AuditWhy)
+audit_request _ _ _ _ _ = None
 
 abbrev pub audit_request_of : List Row → Option Request
 audit_request_of rows =
-    audit_request (is_flag_given (codes "bits") rows) (is_flag_given (codes "long") rows) (is_flag_given (codes "calls") rows) (is_flag_given (codes "why") rows)
+    audit_request (is_flag_given (codes "bits") rows) (is_flag_given (codes "long") rows) (is_flag_given (codes "calls") rows)
+    (is_flag_given (codes "stop") rows) (is_flag_given (codes "why") rows)
 
 -- a play prints a trace or its calls, and not both
 abbrev pub play_request : Bool → Bool → Option Request

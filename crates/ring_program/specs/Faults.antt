@@ -5,6 +5,7 @@ use Rattle.bits_core.specs.Shape.{shape_fault_words}
 use Rattle.bits_core.specs.Trace.{trace_fault_words}
 use Rattle.bits_core.specs.declared.traces.TraceFault.TheVariants as trace
 use Rattle.queue_calls.specs.Recordings.{recording_fault_words}
+use Rattle.queue_calls.specs.declared.recordings.RecordingFault.TheVariants as calls
 use Rattle.ring_script.specs.Faults.{script_fault_words}
 use Rattle.ring_script.specs.declared.faults.ScriptFault.{ScriptFault}
 use Rattle.ring_program.specs.declared.faults.AppFault.{AppFault}
@@ -43,9 +44,10 @@ refusal_words (refusal.Run fault) = codes "out of memory"
 abbrev pub refusal_line : Refusal → List ℕ
 refusal_line e = codes "refused: " ++ (refusal_words e ++ codes "\n")
 
--- it refuses a script, or a line of a trace, of which a second line may say what is wrong there
+-- it refuses a script, or a line of a trace or of recorded calls, of which a second line may say what is wrong there
 abbrev pub IsInText : Refusal → Type 0
-IsInText e = ((line : ℕ) × (e ≡ refusal.Trace (trace.BadLine line))) ⊎ ((fault : ScriptFault) × (e ≡ refusal.Script fault))
+IsInText e = ((line : ℕ) × (e ≡ refusal.Trace (trace.BadLine line)))
+    ⊎ (((line : ℕ) × (e ≡ refusal.Calls (calls.BadLine line))) ⊎ ((fault : ScriptFault) × (e ≡ refusal.Script fault)))
 
 -- a writer gained the text, where it was told whole, and else a front of it
 abbrev pub Gains : Option (List ℕ) → Option (List ℕ) → Bool → List ℕ → Type 0

@@ -1,5 +1,6 @@
--- What the recording of a run tells of the run: calls as the run makes them, linearizable, and all of them where its logs had room.
-use Rattle.std.specs.Prelude.{◌≡◌, ℕ, ◌+◌, ◌<◌, ◌≤◌, ◌==◌, Bool, List, [], ◌∷◌, ◌++◌, length, take, drop, if◌then◌else◌}
+-- What the recording of a run tells of the run: calls as the run makes them, linearizable, and all of them where it does not say that
+-- some are missing, and where its logs had room.
+use Rattle.std.specs.Prelude.{◌≡◌, ℕ, ◌+◌, ◌<◌, ◌≤◌, ◌==◌, Bool, false, List, [], ◌∷◌, ◌++◌, length, take, drop, if◌then◌else◌}
 use Rattle.std.specs.List.{flat_map, sum_by}
 use Rattle.bits_core.specs.Shape.{batch_of, capacity_of}
 use Rattle.bits_core.specs.declared.shapes.Shape.{Shape}
@@ -13,12 +14,12 @@ use Rattle.ring_program.specs.declared.run_recordings.TheConstants.{RECORDED}
 
 -- the items that a take ends with
 abbrev pub taken_with : Event → List ℕ
-taken_with (TakeItems items) = items
+taken_with (TakeItems items why) = items
 taken_with _ = []
 
 -- how many items a put ends with as stored
 abbrev pub stored_with : Event → ℕ
-stored_with (PutStored count) = count
+stored_with (PutStored count why) = count
 stored_with _ = 0
 
 -- 1 for a put that begins, one that ends as the ring is full, a close that ends, a take that begins, one that ends as the ring is
@@ -60,9 +61,11 @@ abbrev pub IsOfRun : (batch : ℕ) → (left : List ℕ) → Event → Type 0
 IsOfRun batch left (PutBegin items) = items ≡ take batch left
 IsOfRun batch left CloseBegin = left ≡ []
 IsOfRun batch left (TakeBegin wanted) = wanted ≡ 1
+IsOfRun batch left (PutStored count false) = ⊥
 IsOfRun batch left PutShort = ⊥
 IsOfRun batch left PutNothing = ⊥
 IsOfRun batch left PutClosed = ⊥
+IsOfRun batch left (TakeItems items false) = ⊥
 IsOfRun batch left TakeShort = ⊥
 IsOfRun batch left TakeNothing = ⊥
 IsOfRun batch left _ = Unit {0}
@@ -118,7 +121,8 @@ abbrev pub HasRoomLeft : (batch : ℕ) → List Event → Type 0
 HasRoomLeft batch events = (sum_by (room_with P) events + batch ≤ RECORDED) × (sum_by (room_with C) events < RECORDED)
 
 -- The text is a recording of calls of a queue of the ring's capacity, which are linearizable: puts of the run's items in order, and takes
--- of those that were taken, from the first on; none but those of the run, and all of them where the logs had room
+-- of those that were taken, from the first on; none but those of the run, and all of them where the text does not say that some are
+-- missing, and where the logs had room
 pub record RecordsRun (shape : Shape) (items : List ℕ) (all : RunCounts) (text : List ℕ) : Type 0 where
   pub events : List Event
   pub is_recording : IsRecording text (exactly (capacity_of shape)) events
@@ -126,4 +130,5 @@ pub record RecordsRun (shape : Shape) (items : List ℕ) (all : RunCounts) (text
   pub in_order : AreOfRun (batch_of shape) items events
   pub left : RunCounts
   pub tells : TellAllBut left all events
+  pub cut : is_recording.is_cut ≡ false → left ≡ nothing_left
   pub whole : HasRoomLeft (batch_of shape) events → left ≡ nothing_left

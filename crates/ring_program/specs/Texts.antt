@@ -76,10 +76,16 @@ calls_report_text_of r = lawful_line ++ (count_line (codes "calls") r.calls ++ (
 abbrev pub calls_fault_line : ℕ → List ℕ → List ℕ
 calls_fault_line line words = codes "fault: line " ++ (decimal line ++ (codes ": " ++ (words ++ codes "\n")))
 
-abbrev pub calls_text_of : CallsFinding → List ℕ
-calls_text_of (calls.Lawful report) = calls_report_text_of report
-calls_text_of (calls.OutOfTurn line) = calls_fault_line line (codes "out of turn")
-calls_text_of (calls.NotLinearizable line cause) = calls_fault_line line (cause_words cause)
+-- the line of a recording that says that the later calls are missing; there is none of another one
+abbrev pub cut_line : Bool → List ℕ
+cut_line true = codes "cut yes\n"
+cut_line false = []
+
+-- what was found of a recording, by whether it says so
+abbrev pub calls_text_of : Bool → CallsFinding → List ℕ
+calls_text_of is_cut (calls.Lawful report) = calls_report_text_of report ++ cut_line is_cut
+calls_text_of is_cut (calls.OutOfTurn line) = calls_fault_line line (codes "out of turn")
+calls_text_of is_cut (calls.NotLinearizable line cause) = calls_fault_line line (cause_words cause)
 
 -- ---- the text of a report
 

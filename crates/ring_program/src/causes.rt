@@ -3,25 +3,31 @@ ghost use Rattle.std.specs.Prelude.{IfSome};
 ghost use Rattle.ring_program.specs.Faults.{IsInText};
 
 use crate::faults::Refusal;
-use crate::trace_lines::{LineFault, Shown, fault_of_line, line_at, looks_like_script};
+use crate::trace_lines::{
+    Line, LineFault, Shown, fault_of_call, fault_of_line, line_at, looks_like_script,
+    looks_like_trace,
+};
 use bits_core::TraceFault;
+use queue_calls::RecordingFault;
 use ring_script::{Field, JsonFault, ScriptFault, byte_of_text, json_fault};
 use std::alloc::Global;
 use std::fmt;
 
-/// What is wrong in the text of a trace or of a script. It is printed in one line, with no line feed.
+/// What is wrong in the text of a trace, of recorded calls or of a script. It is printed in one line, with no line feed.
 #[derive(Drop)]
 pub enum Cause<'a> {
     /// The text of the trace is empty.
     NoTrace,
-    /// The text is to be a trace, and looks like a script.
-    ScriptForTrace,
-    /// This line of the trace has this fault.
+    /// The text of the recorded calls is empty.
+    NoCalls,
+    /// The text is to be another one, and looks like a script.
+    LooksLikeScript,
+    /// The text is to be another one, and looks like a trace.
+    LooksLikeTrace,
+    /// This line of the trace or of the recorded calls has this fault.
     Line(u64, LineFault, Shown<'a>),
     /// The text of the script is empty.
     NoScript,
-    /// The text is to be a script, and looks like a trace.
-    TraceForScript,
     /// The script is no JSON.
     NotJson(JsonFault),
     /// The script has an unknown field.
@@ -38,16 +44,17 @@ impl fmt::Display for Cause<'_> {
             Cause::NoTrace => {
                 f.write_str("there is no text: line 1 is to be: shape CAPACITY MODULUS WIDTH")
             }
-            Cause::ScriptForTrace => {
+            Cause::NoCalls => f.write_str("there is no text: line 1 is to be: queue CAPACITY"),
+            Cause::LooksLikeScript => {
                 f.write_str("it looks like a script: lamport_ring play reads it")
+            }
+            Cause::LooksLikeTrace => {
+                f.write_str("it looks like a trace: lamport_ring audit reads it")
             }
             Cause::Line(number, fault, shown) => write!(f, "line {number} {fault}: {shown}"),
             Cause::NoScript => f.write_str(
                 "there is no text: a script is a JSON object, lamport_ring play --help shows one",
             ),
-            Cause::TraceForScript => {
-                f.write_str("it looks like a trace: lamport_ring audit reads it")
-            }
             Cause::NotJson(fault) => write!(f, "{fault}"),
             Cause::UnknownField => f.write_str(
                 "the fields are capacity, modulus, width, items, takes, close, schedule, oracle and batch",
@@ -79,10 +86,27 @@ fn cause_in_trace(bytes: &[u8], number: u64) -> Cause<'_> {
         return Cause::NoTrace;
     }
     if number == 1 && looks_like_script(bytes) {
-        return Cause::ScriptForTrace;
+        return Cause::LooksLikeScript;
     }
     let line = line_at(bytes, number);
     let fault = fault_of_line(&line, number == 1);
+    Cause::Line(number, fault, Shown { line: line.text })
+}
+
+// What is wrong in recorded calls whose line of this number is bad.
+fn cause_in_calls(line: Line<'_>, number: u64) -> Cause<'_> {
+    if number == 1 {
+        if line.text.is_empty() && !line.has_feed {
+            return Cause::NoCalls;
+        }
+        if looks_like_script(line.text) {
+            return Cause::LooksLikeScript;
+        }
+        if looks_like_trace(line.text) {
+            return Cause::LooksLikeTrace;
+        }
+    }
+    let fault = fault_of_call(&line, number == 1);
     Cause::Line(number, fault, Shown { line: line.text })
 }
 
@@ -91,8 +115,8 @@ fn cause_in_json<'a>(json: Global, bytes: &'a [u8]) -> Option<Cause<'a>> {
     if bytes.is_empty() {
         return Some(Cause::NoScript);
     }
-    if bytes.starts_with(b"shape ") {
-        return Some(Cause::TraceForScript);
+    if looks_like_trace(bytes) {
+        return Some(Cause::LooksLikeTrace);
     }
     Some(Cause::NotJson(json_fault(json, bytes)?))
 }
@@ -115,15 +139,29 @@ fn cause_in_script<'a>(json: Global, bytes: &'a [u8], fault: ScriptFault) -> Opt
     }
 }
 
-/// What is wrong in the bytes that were refused so. `None` where the refusal says it all, where it is not the text
+/// What is known of a text that was refused.
+#[derive(Clone, Copy)]
+pub enum Source<'a> {
+    /// All of it.
+    Input(&'a [u8]),
+    /// The bad line of recorded calls, which are not kept.
+    Line(Line<'a>),
+}
+
+/// What is wrong in the text that was refused so. `None` where the refusal says it all, where it is not the text
 /// that was refused, and where memory ran out.
-pub fn cause_of<'a>(json: Global, bytes: &'a [u8], refusal: Refusal) -> Option<Cause<'a>>
+pub fn cause_of<'a>(json: Global, source: Source<'a>, refusal: Refusal) -> Option<Cause<'a>>
     // It is the text that was refused.
     ensures { IfSome result (λ _. IsInText refusal) }
 {
-    match refusal {
-        Refusal::Trace(TraceFault::BadLine(number)) => Some(cause_in_trace(bytes, number)),
-        Refusal::Script(fault) => cause_in_script(json, bytes, fault),
+    match (source, refusal) {
+        (Source::Input(bytes), Refusal::Trace(TraceFault::BadLine(number))) => {
+            Some(cause_in_trace(bytes, number))
+        }
+        (Source::Input(bytes), Refusal::Script(fault)) => cause_in_script(json, bytes, fault),
+        (Source::Line(line), Refusal::Calls(RecordingFault::BadLine(number))) => {
+            Some(cause_in_calls(line, number))
+        }
         _ => None,
     }
 }

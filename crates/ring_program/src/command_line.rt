@@ -18,7 +18,7 @@ const VERSION: &str = "0.1.0";
 // The usage, which is also told where a word of `audit` is wrong, such as the name of a file.
 const AUDIT_USAGE: &str = "lamport_ring audit [--bits] [--why] < TRACE
        lamport_ring audit --bits --long < TRACE
-       lamport_ring audit --calls < CALLS";
+       lamport_ring audit --calls [--stop] < CALLS";
 
 const AUDIT_HELP: &str = "\
 A trace has a line `shape CAPACITY MODULUS WIDTH`, with the batch behind these
@@ -59,7 +59,8 @@ begins and one where it ends, in the order in which they happened:
 
 The answer is `lawful` where the history is linearizable, with what it reached;
 else the first line with which it is not, and what speaks against it. The input
-may have any length. docs/FORMATS.md has the whole format.
+may have any length. With --stop a fault is told as soon as its line is read,
+and nothing is read behind it. docs/FORMATS.md has the whole format.
 
 Examples:
   lamport_ring audit < examples/plain_path.trace
@@ -160,8 +161,8 @@ pub enum Question {
 pub enum Request {
     /// To read an input, and to answer of it.
     OnInput(Question),
-    /// `audit --calls`, which reads its input in pieces.
-    Calls,
+    /// `audit --calls`, which reads its input in pieces; with `--stop` up to the first fault.
+    Calls(bool),
     /// `audit --bits --long`, which reads its input in pieces.
     LongBits,
     /// `run`, which reads no input.
@@ -180,6 +181,8 @@ fn audit<'a>(alloc: Global) -> Result<Command<'a>, AllocError>
     let command = with_flag(alloc, command, "long", help)?;
     let help = "Audit a recording of the calls of any queue";
     let command = with_flag(alloc, command, "calls", help)?;
+    let help = "With --calls: stop at the first fault, and read no further";
+    let command = with_flag(alloc, command, "stop", help)?;
     let help = "Tell of a fault what was due, in further lines";
     with_flag(alloc, command, "why", help)
 }
@@ -251,13 +254,14 @@ fn audit_request(matches: &ArgMatches<'_>) -> Option<Request>
     let bits = is_given(matches, "bits");
     let long = is_given(matches, "long");
     let calls = is_given(matches, "calls");
-    match (bits, long, calls, is_given(matches, "why")) {
-        (true, false, false, false) => Some(Request::OnInput(Question::AuditBits)),
-        (true, false, false, true) => Some(Request::OnInput(Question::AuditBitsWhy)),
-        (true, true, false, false) => Some(Request::LongBits),
-        (false, false, true, false) => Some(Request::Calls),
-        (false, false, false, false) => Some(Request::OnInput(Question::Audit)),
-        (false, false, false, true) => Some(Request::OnInput(Question::AuditWhy)),
+    let stop = is_given(matches, "stop");
+    match (bits, long, calls, stop, is_given(matches, "why")) {
+        (true, false, false, false, false) => Some(Request::OnInput(Question::AuditBits)),
+        (true, false, false, false, true) => Some(Request::OnInput(Question::AuditBitsWhy)),
+        (true, true, false, false, false) => Some(Request::LongBits),
+        (false, false, true, stop, false) => Some(Request::Calls(stop)),
+        (false, false, false, false, false) => Some(Request::OnInput(Question::Audit)),
+        (false, false, false, false, true) => Some(Request::OnInput(Question::AuditWhy)),
         _ => None,
     }
 }
@@ -329,7 +333,11 @@ pub fn read_words<'a>(alloc: Global, words: &'a [&'a str]) -> Result<Option<Requ
 pub fn command_lines()
     ensures audit { (name : List ℕ) → request_of (name ∷ codes "audit" ∷ []) ≡ Some (Request.OnInput Question.Audit) }
     ensures audit_bits { (name : List ℕ) → request_of (name ∷ codes "audit" ∷ codes "--bits" ∷ []) ≡ Some (Request.OnInput Question.AuditBits) }
-    ensures audit_calls { (name : List ℕ) → request_of (name ∷ codes "audit" ∷ codes "--calls" ∷ []) ≡ Some Request.Calls }
+    ensures audit_calls { (name : List ℕ) → request_of (name ∷ codes "audit" ∷ codes "--calls" ∷ []) ≡ Some (Request.Calls false) }
+    ensures calls_stop { (name : List ℕ) → request_of (name ∷ codes "audit" ∷ codes "--calls" ∷ codes "--stop" ∷ []) ≡ Some (Request.Calls true) }
+    ensures stop_alone { (name : List ℕ) → request_of (name ∷ codes "audit" ∷ codes "--stop" ∷ []) ≡ None }
+    ensures bits_stop { (name : List ℕ) → request_of (name ∷ codes "audit" ∷ codes "--bits" ∷ codes "--stop" ∷ []) ≡ None }
+    ensures stop_why { (name : List ℕ) → request_of (name ∷ codes "audit" ∷ codes "--calls" ∷ codes "--stop" ∷ codes "--why" ∷ []) ≡ None }
     ensures audit_both { (name : List ℕ) → request_of (name ∷ codes "audit" ∷ codes "--bits" ∷ codes "--calls" ∷ []) ≡ None }
     ensures audit_long { (name : List ℕ) → request_of (name ∷ codes "audit" ∷ codes "--bits" ∷ codes "--long" ∷ []) ≡ Some Request.LongBits }
     ensures long_alone { (name : List ℕ) → request_of (name ∷ codes "audit" ∷ codes "--long" ∷ []) ≡ None }

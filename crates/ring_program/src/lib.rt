@@ -3,6 +3,7 @@
 #![tactic(auto)]
 
 mod answers;
+mod call_lines;
 mod causes;
 mod command_line;
 mod faults;

@@ -104,6 +104,11 @@ fn asks_why_of_pieces(words: &[&str]) -> bool {
         && (gives(words, "--long") || gives(words, "--calls"))
 }
 
+// The words ask to stop at the first fault, and not of recorded calls.
+fn asks_stop_alone(words: &[&str]) -> bool {
+    names(words, "audit") && gives(words, "--stop") && !gives(words, "--calls")
+}
+
 // The words ask for a play by a near miss, and not for just one of its texts.
 fn asks_wrong_alone(words: &[&str]) -> bool {
     names(words, "play")
@@ -146,6 +151,11 @@ fn clash(words: &[&str]) -> Option<&'static str> {
     if asks_why_of_pieces(words) {
         return Some(
             "error: --why goes with a trace that is kept, so neither with --long nor with --calls\n\nFor more information, try '--help'.\n",
+        );
+    }
+    if asks_stop_alone(words) {
+        return Some(
+            "error: an audit of recorded calls may stop at the first fault: --stop goes with --calls\n\nFor more information, try '--help'.\n",
         );
     }
     None

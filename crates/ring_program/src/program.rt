@@ -2,29 +2,31 @@
 ghost use Rattle.std.specs.Prelude.{◌≡◌, ◌≢◌, ◌≤◌, ◌⊎◌, [], List, ℕ, None, true, IfOk, IfErr, IfSome, IfNone, OnOk, OnErr, length, map, string_bytes, take};
 ghost use Rattle.std.specs.Io.KnownBytes.{Appends, Keeps};
 ghost use Rattle.clap.specs.Words.{fault_of, kind_of};
-ghost use Rattle.ring_program.specs.Answers.{Answers, AnswersWithin, AsksNoInput, AuditsBits, AuditsBitsWhy, AuditsPrograms, AuditsProgramsWhy, Ends, EndsOn, EndsUnasked, Explains, IsTrueCause, IsOutOfMemory, IsShortage, IsStatus, IsStatusOn, MayEnd, PlaysScript, RecordsScript, RecordsWrong, RefusedOn, Refuses, RefusesScript, RefusesTrace, TracesScript, TracesWrong, WasWritten, ending_words, finding_ending_of, status_of, verdict_ending_of};
+ghost use Rattle.ring_program.specs.Answers.{Answers, AnswersWithin, AsksNoInput, AuditsBits, AuditsBitsWhy, AuditsPrograms, AuditsProgramsWhy, Ends, EndsCalls, EndsOn, EndsUnasked, Explains, IsTrueCause, IsOutOfMemory, IsShortage, IsStatus, IsStatusOn, MayEnd, PlaysScript, RecordsScript, RecordsWrong, RefusedOn, Refuses, RefusesScript, RefusesTrace, TracesScript, TracesWrong, WasWritten, ending_words, finding_ending_of, status_of, verdict_ending_of};
 ghost use Rattle.ring_program.specs.Faults.{Gains, IsInText, SaysRefusal};
 ghost use Rattle.ring_audit.specs.Audit.{statement};
 ghost use Rattle.ring_program.specs.declared.inputs.TheConstants.{INPUT_LIMIT};
 ghost use Rattle.ring_program.specs.CommandLine.{application, request_of};
 
 use crate::answers::{Answer, Ending, Exit, finish, refuse, tell, write_whole};
-use crate::causes::cause_of;
+use crate::causes::{Source, cause_of};
 use crate::command_line::{Question, Request, read_words};
 use crate::faults::{AppFault, Refusal};
 use crate::inputs::load;
 use crate::long_bits::answer_long_bits;
 use crate::mistakes::{tell_mistake, unnamed};
-use crate::recordings::answer_calls;
+use crate::recordings::calls_out;
 use crate::reports::report_text;
 use crate::runs::answer_run;
 use crate::tellings::{calls_text, told_text};
 use crate::texts::{audit_text, verdict_text};
+use crate::trace_lines::Line;
 use crate::why::{push_why, verdict_of};
 use bits_core::{Verdict, audit_bits, read_trace, write_trace};
 use clap::Error;
 use clap::error::ErrorKind;
 use near_misses::{NearMiss, play_near};
+use queue_calls::Recording;
 use ring_audit::{Finding, audit};
 use ring_player::{Script, play, play_calls};
 use std::alloc::{AllocGlobal, Allocator, Global};
@@ -267,10 +269,10 @@ pub fn respond<A: Allocator + Copy, O: Write>(
 }
 
 // Says what is wrong in a text that was refused, where there is something to say, and tells whether that was told.
-fn tell_cause<E: Write>(json: Global, input: &[u8], refusal: Refusal, err: &mut E) -> bool
+fn tell_cause<E: Write>(json: Global, source: Source<'_>, refusal: Refusal, err: &mut E) -> bool
     ensures { (more : List ℕ) × ((more ≡ []) ⊎ IsInText refusal) × Gains (E.contents err.old) (E.contents err.new) result more }
 {
-    match cause_of(json, input, refusal) {
+    match cause_of(json, source, refusal) {
         Some(cause) => {
             let line = InlineText::<CAUSE_LINE>::of(format_args!("  {cause}\n"));
             tell(err, line.as_str().as_bytes())
@@ -279,8 +281,8 @@ fn tell_cause<E: Write>(json: Global, input: &[u8], refusal: Refusal, err: &mut 
     }
 }
 
-// Says why a question on this input is refused, and what is wrong in its text.
-fn refuse_on<E: Write>(json: Global, input: &[u8], refusal: Refusal, err: &mut E) -> Exit
+// Says why a question on an input is refused, and what is wrong in its text.
+fn refuse_on<E: Write>(json: Global, source: Source<'_>, refusal: Refusal, err: &mut E) -> Exit
     ensures status { result.status ≡ 1 }
     ensures told { SaysRefusal (Gains (E.contents err.old) (E.contents err.new) result.is_told) refusal }
 {
@@ -290,14 +292,14 @@ fn refuse_on<E: Write>(json: Global, input: &[u8], refusal: Refusal, err: &mut E
     }
     Exit {
         status: 1,
-        is_told: tell_cause(json, input, refusal, err),
+        is_told: tell_cause(json, source, refusal, err),
     }
 }
 
-// How the program ends on what came of a question on this input, with what the standard error is told.
+// How the program ends on what came of a question on an input, with what the standard error is told.
 fn conclude_on<E: Write>(
     json: Global,
-    input: &[u8],
+    source: Source<'_>,
     ended: Result<Ending, Refusal>,
     err: &mut E,
 ) -> Exit
@@ -309,7 +311,7 @@ fn conclude_on<E: Write>(
 {
     match ended {
         Ok(ending) => finish(ending, err),
-        Err(refusal) => refuse_on(json, input, refusal, err),
+        Err(refusal) => refuse_on(json, source, refusal, err),
     }
 }
 
@@ -328,7 +330,7 @@ fn answer_input<A: Allocator + Copy, O: Write, E: Write>(
     ensures statuses { IsStatusOn question result.status }
 {
     let ended = respond(alloc, json, question, input, out);
-    conclude_on(json, input, ended, err)
+    conclude_on(json, Source::Input(input), ended, err)
 }
 
 // The program on a question.
@@ -349,6 +351,30 @@ fn answer_question<A: Allocator + Copy, I: Read, O: Write, E: Write>(
         Ok(bytes) => answer_input(alloc, json, question, bytes.as_slice(), out, err),
         Err(fault) => refuse(Refusal::App(fault), err),
     }
+}
+
+// The program on recorded calls.
+fn answer_calls<A: Allocator + Copy, I: Read, O: Write, E: Write>(
+    alloc: A,
+    json: Global,
+    stop: bool,
+    input: &mut I,
+    out: &mut O,
+    err: &mut E,
+) -> Exit
+    ensures asked { IfSome (I.remaining input.old) (λ bytes. EndsCalls stop bytes (O.contents out.old) (O.contents out.new)
+        (Gains (E.contents err.old) (E.contents err.new) result.is_told) result.status) }
+    ensures quiet { (result.status ≡ 1) ⊎ ((result.status ≡ 2) ⊎ ((err.new ≡ err.old) × (result.is_told ≡ true))) }
+    ensures statuses { (result.status ≡ 0) ⊎ ((result.status ≡ 1) ⊎ (result.status ≡ 3)) }
+{
+    let mut recording = Recording::new(alloc);
+    let mut at_end = false;
+    let ended = calls_out(alloc, &mut recording, &mut at_end, stop, input, out);
+    let line = Line {
+        text: recording.line(),
+        has_feed: !at_end,
+    };
+    conclude_on(json, Source::Line(line), ended, err)
 }
 
 // Writes help that was asked for.
@@ -429,7 +455,7 @@ pub fn execute<
         Request::OnInput(question) => {
             answer_question(alloc, rt.alloc(), question, input, out, err)
         }
-        Request::Calls => answer_calls(alloc, input, out, err),
+        Request::Calls(stop) => answer_calls(alloc, rt.alloc(), stop, input, out, err),
         Request::LongBits => answer_long_bits(alloc, input, out, err),
         Request::Run(run) => answer_run(rt, alloc, run, out, err),
     }

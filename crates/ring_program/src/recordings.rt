@@ -1,15 +1,17 @@
 //! The audit of recorded calls.
-ghost use Rattle.std.specs.Prelude.{◌≡◌, ◌≢◌, ◌⊎◌, List, ℕ, IfOk, IfErr, IfSome, string_bytes, true};
+ghost use Rattle.std.specs.Prelude.{◌≡◌, ◌≢◌, ◌⊎◌, ◌<◌, ◌++◌, List, [], ◌∷◌, ℕ, IfOk, IfErr, IfSome, MatchOption, length, string_bytes, true};
 ghost use Rattle.std.specs.Io.KnownBytes.{Appends};
 ghost use Rattle.queue_calls.specs.Causes.{cause_words};
-ghost use Rattle.queue_calls.specs.Recordings.{IsFindingOf};
-ghost use Rattle.ring_program.specs.Answers.{AnswersCalls, EndsCalls, IsCallsCause, RefusedCalls, calls_ending_of};
-ghost use Rattle.ring_program.specs.Faults.{Gains};
-ghost use Rattle.ring_program.specs.Texts.{calls_report_text_of, calls_text_of};
+ghost use Rattle.queue_calls.specs.RecordingStates.{HasNoFeed, HasRead};
+ghost use Rattle.queue_calls.specs.Recordings.{RefusesText};
+ghost use Rattle.ring_program.specs.Answers.{AnswersCallsBy, IsCallsCause, IsOneLine, RefusedCalls, calls_ending_of};
+ghost use Rattle.ring_program.specs.Readings.{IsFaultAhead, IsFaultless, IsFoundBy, IsFoundIn};
+ghost use Rattle.ring_program.specs.Texts.{calls_report_text_of, calls_text_of, cut_line};
 
-use crate::answers::{Answer, Ending, Exit, conclude, write_whole};
+use crate::answers::{Answer, Ending, write_whole};
 use crate::faults::{AppFault, Refusal};
 use crate::lines::{push_count, push_list, told_words};
+use memchr::memchr;
 use queue_calls::{CallsFinding, Recording, RecordingFault, Report};
 use std::alloc::Allocator;
 use std::io::{Read, Write};
@@ -17,17 +19,101 @@ use std::io::{Read, Write};
 // How many bytes are read at once.
 const PIECE: usize = 65_536;
 
-// Reads the input to its end, in pieces, and tells what is found.
+// What is found of a recording, and whether it says that the later calls are missing; of one with a fault that is not told.
+#[derive(Clone, Copy)]
+struct Found {
+    finding: CallsFinding,
+    is_cut: bool,
+}
+
+// The bytes before the first line feed, and those behind it.
+fn at_feed(bytes: &[u8]) -> Option<(&[u8], &[u8])>
+    ensures { MatchOption result (HasNoFeed bytes.now) (λ x. HasNoFeed x.0.now × (bytes.now ≡ x.0.now ++ 10 ∷ x.1.now)) }
+{
+    let end = memchr(b'\n', bytes)?;
+    Some((&bytes[..end], &bytes[end + 1..]))
+}
+
+// The bytes to the first line feed, with it, and those behind it.
+fn split_line(bytes: &[u8]) -> (&[u8], &[u8])
+    ensures parts { bytes.now ≡ result.0.now ++ result.1.now }
+    ensures line { IsOneLine result.0.now }
+    ensures less { bytes.now ≢ [] → length result.1.now < length bytes.now }
+{
+    match at_feed(bytes) {
+        Some((front, _)) => bytes.split_at(front.len() + 1),
+        None => (bytes, &[]),
+    }
+}
+
+// Reads a piece line by line, to the first fault.
+fn read_lines<A: Allocator + Copy>(
+    recording: &mut Recording<A>,
+    piece: &[u8],
+) -> Result<Option<CallsFinding>, RecordingFault>
+    ensures read { IfOk result (λ fault. MatchOption fault
+        (((bytes : List ℕ) → HasRead (λ q. q.items) (λ q. q.items) (λ v. v.items) recording.old bytes → HasRead (λ q. q.items) (λ q. q.items) (λ v. v.items) recording.new (bytes ++ piece.now))
+        × ((bytes : List ℕ) → HasRead (λ q. q.items) (λ q. q.items) (λ v. v.items) recording.old bytes → IsFaultless bytes → IsFaultless (bytes ++ piece.now)))
+        (λ found. (bytes more : List ℕ) → HasRead (λ q. q.items) (λ q. q.items) (λ v. v.items) recording.old bytes → IsFaultless bytes → IsFaultAhead (bytes ++ (piece.now ++ more)) found)) }
+    ensures refused { IfErr result (λ e. (bytes more : List ℕ) → HasRead (λ q. q.items) (λ q. q.items) (λ v. v.items) recording.old bytes → RefusesText e (bytes ++ (piece.now ++ more))) }
+{
+    let mut rest = piece;
+    while !rest.is_empty() {
+        let (line, more) = split_line(rest);
+        recording.read(line)?;
+        if let Some(fault) = recording.fault() {
+            return Ok(Some(fault));
+        }
+        rest = more;
+    }
+    Ok(None)
+}
+
+// Reads a piece, and where it is to stop there, to the first fault.
+fn read_piece<A: Allocator + Copy>(
+    recording: &mut Recording<A>,
+    stop: bool,
+    piece: &[u8],
+) -> Result<Option<CallsFinding>, RecordingFault>
+    ensures read { IfOk result (λ fault. MatchOption fault
+        (((bytes : List ℕ) → HasRead (λ q. q.items) (λ q. q.items) (λ v. v.items) recording.old bytes → HasRead (λ q. q.items) (λ q. q.items) (λ v. v.items) recording.new (bytes ++ piece.now))
+        × (stop ≡ true → (bytes : List ℕ) → HasRead (λ q. q.items) (λ q. q.items) (λ v. v.items) recording.old bytes → IsFaultless bytes → IsFaultless (bytes ++ piece.now)))
+        (λ found. (stop ≡ true) × ((bytes more : List ℕ) → HasRead (λ q. q.items) (λ q. q.items) (λ v. v.items) recording.old bytes → IsFaultless bytes → IsFaultAhead (bytes ++ (piece.now ++ more)) found))) }
+    ensures refused { IfErr result (λ e. (bytes more : List ℕ) → HasRead (λ q. q.items) (λ q. q.items) (λ v. v.items) recording.old bytes → RefusesText e (bytes ++ (piece.now ++ more))) }
+{
+    if stop {
+        return read_lines(recording, piece);
+    }
+    recording.read(piece)?;
+    Ok(None)
+}
+
+// What is found of a recording whose text ends here.
+fn found_at_end<A: Allocator + Copy>(recording: &Recording<A>) -> Result<Found, RecordingFault>
+    ensures found { IfOk result (λ found. (bytes : List ℕ) → HasRead (λ q. q.items) (λ q. q.items) (λ v. v.items) recording.now bytes → IsFoundIn bytes found.is_cut found.finding) }
+    ensures refused { IfErr result (λ e. (bytes : List ℕ) → HasRead (λ q. q.items) (λ q. q.items) (λ v. v.items) recording.now bytes → RefusesText e bytes) }
+{
+    let finding = recording.finding()?;
+    Ok(Found {
+        finding,
+        is_cut: recording.is_cut(),
+    })
+}
+
+// Reads the input in pieces, to its end, or where it is to stop there, to the first fault; and tells what is found. It notes where
+// it comes to the end.
 #[tactic(auto, unfolding(crate::specs::Answers::IsCallsCause))]
 fn read_calls<A: Allocator + Copy, I: Read>(
-    alloc: A,
+    recording: &mut Recording<A>,
+    at_end: &mut bool,
+    stop: bool,
     input: &mut I,
-) -> Result<CallsFinding, Refusal>
-    ensures found { IfSome (I.remaining input.old) (λ bytes. IfOk result (IsFindingOf bytes)) }
+) -> Result<Found, Refusal>
+    requires begins { HasRead (λ q. q.items) (λ q. q.items) (λ v. v.items) recording.old [] }
+    ensures found { IfSome (I.remaining input.old) (λ bytes. IfOk result (λ found. IsFoundBy stop bytes found.is_cut found.finding)) }
     ensures refused { IfSome (I.remaining input.old) (λ bytes. IfErr result (IsCallsCause bytes)) }
     ensures unwritten { IfErr result (λ e. e ≢ Refusal.App AppFault.WriteFailed) }
 {
-    let mut recording = Recording::new(alloc);
     let mut piece = [0u8; PIECE];
     for _ in 0..u64::MAX {
         let count = match input.read(&mut piece) {
@@ -35,9 +121,15 @@ fn read_calls<A: Allocator + Copy, I: Read>(
             Err(_) => return Err(Refusal::App(AppFault::ReadFailed)),
         };
         if count == 0 {
-            return Ok(recording.finding()?);
+            *at_end = true;
+            return Ok(found_at_end(recording)?);
         }
-        recording.read(&piece[..count])?;
+        if let Some(finding) = read_piece(recording, stop, &piece[..count])? {
+            return Ok(Found {
+                finding,
+                is_cut: false,
+            });
+        }
     }
     Err(Refusal::Calls(RecordingFault::TooLong))
 }
@@ -62,13 +154,35 @@ fn report_text<A: Allocator>(alloc: A, report: &Report) -> Result<String<A>, App
     Ok(text)
 }
 
-/// The text of a finding: `lawful`, with a line for each number of the report; or the one line of the fault.
-pub fn calls_text<A: Allocator>(alloc: A, finding: &CallsFinding) -> Result<String<A>, AppFault>
-    ensures text { IfOk result (λ text. string_bytes text ≡ calls_text_of finding.now) }
+// The line that says that the later calls are missing, where they are.
+fn cut_words(is_cut: bool) -> &'static str
+    ensures { result.now ≡ cut_line is_cut }
+{
+    if is_cut { "cut yes\n" } else { "" }
+}
+
+// The text of a report, and whether the later calls are missing.
+fn lawful_text<A: Allocator>(alloc: A, is_cut: bool, report: &Report) -> Result<String<A>, AppFault>
+    ensures text { IfOk result (λ text. string_bytes text ≡ calls_report_text_of report.now ++ cut_line is_cut) }
+    ensures memory { IfErr result (λ e. e ≡ AppFault.OutOfMemory) }
+{
+    let mut text = report_text(alloc, report)?;
+    text.push_str(cut_words(is_cut))?;
+    Ok(text)
+}
+
+/// The text of a finding: `lawful`, with a line for each number of the report, and one where the recording says that the later calls
+/// are missing; or the one line of the fault.
+pub fn calls_text<A: Allocator>(
+    alloc: A,
+    is_cut: bool,
+    finding: &CallsFinding,
+) -> Result<String<A>, AppFault>
+    ensures text { IfOk result (λ text. string_bytes text ≡ calls_text_of is_cut finding.now) }
     ensures memory { IfErr result (λ e. e ≡ AppFault.OutOfMemory) }
 {
     match *finding {
-        CallsFinding::Lawful(report) => report_text(alloc, &report),
+        CallsFinding::Lawful(report) => lawful_text(alloc, is_cut, &report),
         CallsFinding::OutOfTurn { line } => {
             Ok(format!(in alloc; "fault: line {line}: out of turn\n")?)
         }
@@ -90,45 +204,41 @@ fn calls_ending(finding: &CallsFinding) -> Ending
 
 // The answer of `audit --calls`.
 #[tactic(auto, unfolding(crate::specs::Answers::IsCallsCause))]
-fn calls_answer<A: Allocator + Copy, I: Read>(alloc: A, input: &mut I) -> Result<Answer<A>, Refusal>
-    ensures answered { IfSome (I.remaining input.old) (λ bytes. IfOk result (λ answer. AnswersCalls bytes (string_bytes answer.text) answer.ending)) }
+fn calls_answer<A: Allocator + Copy, I: Read>(
+    alloc: A,
+    recording: &mut Recording<A>,
+    at_end: &mut bool,
+    stop: bool,
+    input: &mut I,
+) -> Result<Answer<A>, Refusal>
+    requires begins { HasRead (λ q. q.items) (λ q. q.items) (λ v. v.items) recording.old [] }
+    ensures answered { IfSome (I.remaining input.old) (λ bytes. IfOk result (λ answer. AnswersCallsBy stop bytes (string_bytes answer.text) answer.ending)) }
     ensures refused { IfSome (I.remaining input.old) (λ bytes. IfErr result (IsCallsCause bytes)) }
     ensures unwritten { IfErr result (λ e. e ≢ Refusal.App AppFault.WriteFailed) }
     ensures ends { IfOk result (λ answer. (answer.ending ≡ Ending.Done) ⊎ (answer.ending ≡ Ending.FaultFound)) }
 {
-    let finding = read_calls(alloc, input)?;
-    let text = calls_text(alloc, &finding)?;
-    let ending = calls_ending(&finding);
+    let found = read_calls(recording, at_end, stop, input)?;
+    let text = calls_text(alloc, found.is_cut, &found.finding)?;
+    let ending = calls_ending(&found.finding);
     Ok(Answer { text, ending })
 }
 
-// Audits the recorded calls, and writes the answer after it is complete.
-fn calls_out<A: Allocator + Copy, I: Read, O: Write>(
+/// Audits the recorded calls, by a recording of which nothing was read, and writes the answer after it is complete. It notes where it
+/// comes to the end of the input.
+pub fn calls_out<A: Allocator + Copy, I: Read, O: Write>(
     alloc: A,
+    recording: &mut Recording<A>,
+    at_end: &mut bool,
+    stop: bool,
     input: &mut I,
     out: &mut O,
 ) -> Result<Ending, Refusal>
-    ensures answered { IfSome (I.remaining input.old) (λ bytes. IfOk result (λ ending. (text : List ℕ) × AnswersCalls bytes text ending × Appends (O.contents out.old) (O.contents out.new) text)) }
-    ensures refused { IfSome (I.remaining input.old) (λ bytes. IfErr result (RefusedCalls bytes (O.contents out.old) (O.contents out.new))) }
+    requires begins { HasRead (λ q. q.items) (λ q. q.items) (λ v. v.items) recording.old [] }
+    ensures answered { IfSome (I.remaining input.old) (λ bytes. IfOk result (λ ending. (text : List ℕ) × AnswersCallsBy stop bytes text ending × Appends (O.contents out.old) (O.contents out.new) text)) }
+    ensures refused { IfSome (I.remaining input.old) (λ bytes. IfErr result (RefusedCalls stop bytes (O.contents out.old) (O.contents out.new))) }
     ensures ends { IfOk result (λ ending. (ending ≡ Ending.Done) ⊎ (ending ≡ Ending.FaultFound)) }
 {
-    let answer = calls_answer(alloc, input)?;
+    let answer = calls_answer(alloc, recording, at_end, stop, input)?;
     write_whole(out, answer.text.as_bytes())?;
     Ok(answer.ending)
-}
-
-/// The program on recorded calls.
-pub fn answer_calls<A: Allocator + Copy, I: Read, O: Write, E: Write>(
-    alloc: A,
-    input: &mut I,
-    out: &mut O,
-    err: &mut E,
-) -> Exit
-    ensures asked { IfSome (I.remaining input.old) (λ bytes. EndsCalls bytes (O.contents out.old) (O.contents out.new)
-        (Gains (E.contents err.old) (E.contents err.new) result.is_told) result.status) }
-    ensures quiet { (result.status ≡ 1) ⊎ ((result.status ≡ 2) ⊎ ((err.new ≡ err.old) × (result.is_told ≡ true))) }
-    ensures statuses { (result.status ≡ 0) ⊎ ((result.status ≡ 1) ⊎ (result.status ≡ 3)) }
-{
-    let ended = calls_out(alloc, input, out);
-    conclude(ended, err)
 }

@@ -3,16 +3,13 @@ ghost use Rattle.std.specs.Prelude.{◌≡◌, ◌⊎◌, false, ◌+◌, ◌-�
 ghost use Rattle.bits_core.specs.Shape.{capacity_of};
 ghost use Rattle.queue_calls.specs.Audits.{Audits};
 ghost use Rattle.queue_calls.specs.Calls.{Event as ACall, IsLinearizable, PutBegin};
-ghost use Rattle.queue_calls.specs.Lines.{AreSmall};
 ghost use Rattle.queue_calls.specs.Order.{C, P};
-ghost use Rattle.queue_calls.specs.Recordings.{begun_after, text_of};
-ghost use Rattle.queue_calls.specs.Tellings.{line_of, numbers_in, offered_last};
+ghost use Rattle.queue_calls.specs.Recordings.{first_word};
 ghost use Rattle.queue_calls.specs.Told.{meant, told};
-ghost use Rattle.queue_calls.specs.declared.recordings.Begun.{Begun};
 ghost use Rattle.ring_program.specs.RunRecordings.{IsOfRun, RecordsRun, nothing_left, room_with, run_counts};
-ghost use Rattle.ring_program.specs.Texts.{list_line};
 ghost use Rattle.ring_program.specs.Untold.{TakesOff, left_of};
 
+use crate::call_lines::{offers_behind, push_event};
 use crate::faults::AppFault;
 use crate::lines::push_list;
 use bits_core::Shape;
@@ -124,9 +121,11 @@ impl<'r> Untold<'r> {
                 let told = self.told.checked_sub(1)?;
                 Some(Untold { told, ..self })
             }
-            Event::PutShort
+            Event::PutSome(_)
+            | Event::PutShort
             | Event::PutNothing
             | Event::PutClosed
+            | Event::TakeSome(_)
             | Event::TakeShort
             | Event::TakeNothing => None,
         }
@@ -146,11 +145,13 @@ impl<'r> Untold<'r> {
             && self.taken.is_empty()
     }
 
-    // Whether something is left, though the logs had room for one more line.
-    fn lacks_lines(&self, batch: usize, room: Room) -> bool
-        ensures { result ≡ false → batch ≤ room.puts → 0 < room.takes → left_of self.now ≡ nothing_left }
+    // Whether something is left, though no log was full, or the logs had room for one more line.
+    fn lacks_lines(&self, is_cut: bool, batch: usize, room: Room) -> bool
+        ensures cut { result ≡ false → is_cut ≡ false → left_of self.now ≡ nothing_left }
+        ensures whole { result ≡ false → batch ≤ room.puts → 0 < room.takes → left_of self.now ≡ nothing_left }
     {
-        batch <= room.puts && 0 < room.takes && !self.is_nothing()
+        let had_room = batch <= room.puts && 0 < room.takes;
+        (!is_cut || had_room) && !self.is_nothing()
     }
 }
 
@@ -179,6 +180,7 @@ impl Room {
         match event {
             Event::PutBegins(items) => self.less(items.len(), 0),
             Event::PutStored(_)
+            | Event::PutSome(_)
             | Event::PutFull
             | Event::PutShort
             | Event::PutNothing
@@ -187,6 +189,7 @@ impl Room {
             | Event::CloseEnds => self.less(1, 0),
             Event::TakeBegins(_)
             | Event::TakeItems(_)
+            | Event::TakeSome(_)
             | Event::TakeEmpty
             | Event::TakeShort
             | Event::TakeNothing
@@ -207,73 +210,15 @@ fn event_of(word: Word, offers: usize, numbers: &[u64]) -> Option<Event<'_>> {
         Word::Item => Event::TakeItems(numbers),
         Word::Empty => Event::TakeEmpty,
         Word::TakeClosed => Event::TakeClosed,
-        Word::Queue | Word::Short | Word::PutNothing | Word::TakeShort | Word::TakeNothing => {
-            return None;
-        }
+        Word::Queue
+        | Word::Cut
+        | Word::PutSome
+        | Word::Short
+        | Word::PutNothing
+        | Word::TakeSome
+        | Word::TakeShort
+        | Word::TakeNothing => return None,
     })
-}
-
-// The word of the line that tells an event.
-fn word_of(event: Event<'_>) -> Word
-    ensures { (b : Begun) → result ≡ (line_of b (told event.entry)).word }
-{
-    match event {
-        Event::PutBegins(_) => Word::Put,
-        Event::PutStored(_) => Word::Stored,
-        Event::PutFull => Word::Full,
-        Event::PutShort => Word::Short,
-        Event::PutNothing => Word::PutNothing,
-        Event::PutClosed | Event::CloseEnds => Word::PutClosed,
-        Event::CloseBegins => Word::Close,
-        Event::TakeBegins(_) => Word::Take,
-        Event::TakeItems(_) => Word::Item,
-        Event::TakeEmpty => Word::Empty,
-        Event::TakeShort => Word::TakeShort,
-        Event::TakeNothing => Word::TakeNothing,
-        Event::TakeClosed => Word::TakeClosed,
-    }
-}
-
-// How many items the put offered that begins with this event, or began last before it; none, where a close did.
-fn offers_behind(offers: usize, event: Event<'_>) -> usize
-    ensures { (b : Begun) → offers ≡ offered_last b →
-        let line = line_of b (told event.entry) in result ≡ offered_last (begun_after b line.word line.numbers) }
-{
-    match event {
-        Event::PutBegins(items) => items.len(),
-        Event::CloseBegins => 0,
-        _ => offers,
-    }
-}
-
-// A line of a word and items.
-fn push_items<A: Allocator>(text: &mut String<A>, word: &str, items: &[u64]) -> Result<(), AppFault>
-    ensures line { OnOk result (string_bytes text.new ≡ string_bytes text.old ++ list_line word.now items.now) }
-    ensures small { AreSmall items.now }
-    ensures err { IfErr result (λ e. e ≡ AppFault.OutOfMemory) }
-{
-    push_list(text, word, items)
-}
-
-// The line that tells an event, where the put that began last offered so many items.
-fn push_event<A: Allocator>(
-    text: &mut String<A>,
-    offers: usize,
-    event: Event<'_>,
-) -> Result<(), AppFault>
-    ensures line { OnOk result ((b : Begun) → offers ≡ offered_last b →
-        string_bytes text.new ≡ string_bytes text.old ++ text_of (line_of b (told event.entry))) }
-    ensures small { AreSmall (numbers_in (told event.entry)) }
-    ensures err { IfErr result (λ e. e ≡ AppFault.OutOfMemory) }
-{
-    let word = word_of(event).text();
-    match event {
-        Event::PutBegins(items) => push_items(text, word, items),
-        Event::TakeItems(items) => push_items(text, word, items),
-        Event::PutStored(count) if count < offers => push_list(text, word, &[count as u64]),
-        Event::TakeBegins(wanted) if 1 < wanted => push_list(text, word, &[wanted as u64]),
-        _ => push_list(text, word, &[]),
-    }
 }
 
 // Audits an event.
@@ -293,7 +238,15 @@ fn audit<A: Allocator>(
     }
 }
 
-/// The recording of a run, as one of a queue of the ring's capacity: the lines of its recorder, where these tell calls of the run.
+// The word of the first line, of a recording that lacks the later calls or does not.
+fn first_word(is_cut: bool) -> Word
+    ensures { result ≡ first_word is_cut }
+{
+    if is_cut { Word::Cut } else { Word::Queue }
+}
+
+/// The recording of a run, as one of a queue of the ring's capacity: the lines of its recorder, where these tell calls of the run. It
+/// says whether a log was full, so that the later calls are missing.
 ///
 /// `NotOfRun` where they do not, or tell too few, which does not occur by the argument of [`Recorder`].
 pub fn recording_text<A: Allocator + Copy, B: Allocator>(
@@ -312,8 +265,9 @@ pub fn recording_text<A: Allocator + Copy, B: Allocator>(
     history_has_a_recording();
     let capacity = shape.capacity();
     let batch = shape.batch() as usize;
+    let is_cut = recorder.is_cut();
     let mut text = String::new(alloc);
-    push_list(&mut text, Word::Queue.text(), &[capacity])?;
+    push_list(&mut text, first_word(is_cut).text(), &[capacity])?;
     let mut auditor = CallAuditor::new(alloc, exactly(capacity as usize));
     auditor.has_read();
     let mut untold = Untold::all(items, outcome);
@@ -340,7 +294,7 @@ pub fn recording_text<A: Allocator + Copy, B: Allocator>(
         room = room.behind(event);
         offers = offers_behind(offers, event);
     }
-    if untold.lacks_lines(batch, room) {
+    if untold.lacks_lines(is_cut, batch, room) {
         return Err(AppFault::NotOfRun);
     }
     Ok(text)

@@ -1,4 +1,4 @@
-//! The lines of a text that is no trace, and what is wrong with one of them.
+//! The lines of a text that is no trace or no recorded calls, and what is wrong with one of them.
 
 use std::fmt;
 use thiserror::Error;
@@ -13,7 +13,7 @@ pub struct Line<'a> {
     pub has_feed: bool,
 }
 
-/// What is wrong with a line of a trace.
+/// What is wrong with a line of a trace or of recorded calls.
 #[derive(Clone, Copy, Debug, Error)]
 pub enum LineFault {
     #[error("begins with a byte order mark")]
@@ -36,6 +36,16 @@ pub enum LineFault {
     NoShape,
     #[error("is none of: S read BIT, S got BIT V, S write BIT V, S wrote BIT")]
     NoEvent,
+    #[error("is none of: [cut] queue, [cut] queue B, [cut] queue A B")]
+    NoQueue,
+    #[error("has a number that is not from 0 to 18446744073709551615, or begins with 0")]
+    BadNumber,
+    #[error("is none of: P put ITEM.., P stored [COUNT], P some COUNT, P full, P short, P nothing, P close, P closed")]
+    NoPut,
+    #[error("is none of: C take [COUNT], C item ITEM.., C some ITEM.., C empty, C short, C nothing, C closed")]
+    NoTake,
+    #[error("begins with neither P nor C")]
+    NoSide,
 }
 
 /// A line as it is shown: between quotes, each byte that is no printable ASCII escaped, and cut behind
@@ -102,29 +112,80 @@ pub fn looks_like_script(bytes: &[u8]) -> bool {
     bytes.trim_ascii_start().starts_with(b"{")
 }
 
-/// What is wrong with a line that is none of a trace's, the first line or a further one.
-pub fn fault_of_line(line: &Line<'_>, is_first: bool) -> LineFault {
+/// Whether the text begins as a trace does.
+pub fn looks_like_trace(bytes: &[u8]) -> bool {
+    bytes.starts_with(b"shape ")
+}
+
+// What is wrong with the ends of a line, the first line or a further one.
+fn fault_of_ends(line: &Line<'_>, is_first: bool) -> Option<LineFault> {
     let text = line.text;
     if is_first && text.starts_with(b"\xef\xbb\xbf") {
-        LineFault::ByteOrderMark
+        Some(LineFault::ByteOrderMark)
     } else if is_first && (text.starts_with(b"\xff\xfe") || text.starts_with(b"\xfe\xff")) {
-        LineFault::Utf16
+        Some(LineFault::Utf16)
     } else if text.ends_with(b"\r") {
-        LineFault::CarriageReturn
+        Some(LineFault::CarriageReturn)
     } else if text.is_empty() {
-        LineFault::Empty
+        Some(LineFault::Empty)
     } else if text.ends_with(b" ") {
-        LineFault::SpaceAtEnd
+        Some(LineFault::SpaceAtEnd)
     } else if text.starts_with(b" ") {
-        LineFault::SpaceAtFront
+        Some(LineFault::SpaceAtFront)
     } else if !line.has_feed {
-        LineFault::NoLineFeed
-    } else if is_first {
+        Some(LineFault::NoLineFeed)
+    } else {
+        None
+    }
+}
+
+/// What is wrong with a line that is none of a trace's, the first line or a further one.
+pub fn fault_of_line(line: &Line<'_>, is_first: bool) -> LineFault {
+    if let Some(fault) = fault_of_ends(line, is_first) {
+        return fault;
+    }
+    if is_first {
         LineFault::NoShape
-    } else if has_event_words(text) {
+    } else if has_event_words(line.text) {
         LineFault::BitOfNoShape
     } else {
         LineFault::NoEvent
+    }
+}
+
+/// What is wrong with a line that is none of recorded calls, the first line or a further one.
+pub fn fault_of_call(line: &Line<'_>, is_first: bool) -> LineFault {
+    if let Some(fault) = fault_of_ends(line, is_first) {
+        return fault;
+    }
+    if has_bad_number(line.text) {
+        LineFault::BadNumber
+    } else if is_first {
+        LineFault::NoQueue
+    } else if line.text.starts_with(b"P ") {
+        LineFault::NoPut
+    } else if line.text.starts_with(b"C ") {
+        LineFault::NoTake
+    } else {
+        LineFault::NoSide
+    }
+}
+
+// Whether a word has digits alone, and is no number as it is written.
+fn has_bad_number(text: &[u8]) -> bool {
+    text.split(|byte| *byte == b' ').any(is_bad_number)
+}
+
+fn is_bad_number(word: &[u8]) -> bool {
+    let is_number = !word.is_empty() && word.iter().all(|digit| digit.is_ascii_digit());
+    is_number && !(is_index(word) && is_small(word))
+}
+
+// Whether digits are a number of 64 bits.
+fn is_small(digits: &[u8]) -> bool {
+    match std::str::from_utf8(digits) {
+        Ok(text) => text.parse::<u64>().is_ok(),
+        Err(_) => false,
     }
 }
 

@@ -77,11 +77,16 @@ impl<'a> Log<'a> {
         }
     }
 
+    // Whether there was no room for a line.
+    fn has_lost(&self) -> bool {
+        self.lost.load(Ordering::SeqCst) != NEVER
+    }
+
     // Records a line with these numbers, one at least, where there is room for it and was for all before it.
     fn add(&self, ticket: u64, code: u64, numbers: &[u64]) {
         let used = self.used.load(Ordering::SeqCst);
         let free = self.slots.get(used as usize..).unwrap_or(&[]);
-        let whole = self.lost.load(Ordering::SeqCst) == NEVER;
+        let whole = !self.has_lost();
         if !whole || free.len() < numbers.len() {
             if whole {
                 self.lost.store(ticket, Ordering::SeqCst);
@@ -146,6 +151,11 @@ impl<'a> Recorder<'a> {
     // Records a line of the consumer.
     fn takes(&self, code: u64, number: u64) {
         self.takes.add(self.ticket(), code, &[number]);
+    }
+
+    /// Whether the recording lacks the later calls, as a side had no room for a line. It is for when the relay has ended.
+    pub fn is_cut(&self) -> bool {
+        self.puts.has_lost() || self.takes.has_lost()
     }
 
     /// The lines that were recorded, from the first on. It is for when the relay has ended.

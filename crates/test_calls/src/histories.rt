@@ -436,7 +436,83 @@ const TAKES_MORE: Case = Case {
     fault: Some(Fault::OutOfTurn),
 };
 
-static CASES: [Case; 37] = [
+// A queue that may tell at any time that it is full, and holds one item at most.
+const NONE_OR_ONE: Capacity = Capacity::Between { full: 0, most: 1 };
+
+// With room for more, and with more inside: neither call says why it does not pass more.
+const SOME: Case = Case {
+    capacity: THREE,
+    events: &[
+        Event::PutBegins(&[1, 2]),
+        Event::PutSome(1),
+        Event::PutBegins(&[2, 3]),
+        Event::PutSome(2),
+        Event::TakeBegins(3),
+        Event::TakeSome(&[1]),
+        Event::TakeBegins(2),
+        Event::TakeSome(&[2, 3]),
+    ],
+    fault: None,
+};
+
+const SOME_OF_TOO_MANY: Case = Case {
+    capacity: ONE,
+    events: &[Event::PutBegins(&[1, 2]), Event::PutSome(2)],
+    fault: Some(Fault::NotLinearizable),
+};
+
+const SOME_OF_NONE: Case = Case {
+    capacity: ONE,
+    events: &[Event::PutBegins(&[1]), Event::PutSome(0)],
+    fault: Some(Fault::OutOfTurn),
+};
+
+const SOME_MORE: Case = Case {
+    capacity: TWO,
+    events: &[Event::PutBegins(&[1]), Event::PutSome(2)],
+    fault: Some(Fault::OutOfTurn),
+};
+
+const TAKES_SOME_OTHER: Case = Case {
+    capacity: TWO,
+    events: &[
+        Event::PutBegins(&[1, 2]),
+        Event::PutStored(2),
+        Event::TakeBegins(2),
+        Event::TakeSome(&[2]),
+    ],
+    fault: Some(Fault::NotLinearizable),
+};
+
+const TAKES_SOME_MORE: Case = Case {
+    capacity: TWO,
+    events: &[
+        Event::PutBegins(&[1, 2]),
+        Event::PutStored(2),
+        Event::TakeBegins(1),
+        Event::TakeSome(&[1, 2]),
+    ],
+    fault: Some(Fault::OutOfTurn),
+};
+
+const FULL_FROM_NONE: Case = Case {
+    capacity: NONE_OR_ONE,
+    events: &[
+        Event::PutBegins(&[1]),
+        Event::PutFull,
+        Event::PutBegins(&[1]),
+        Event::PutStored(1),
+    ],
+    fault: None,
+};
+
+const TWO_IN_NONE_OR_ONE: Case = Case {
+    capacity: NONE_OR_ONE,
+    events: &[Event::PutBegins(&[1, 2]), Event::PutStored(2)],
+    fault: Some(Fault::NotLinearizable),
+};
+
+static CASES: [Case; 45] = [
     ALL_ANSWERS,
     EMPTY_OF_FULL,
     EMPTY_OF_ONE,
@@ -474,6 +550,14 @@ static CASES: [Case; 37] = [
     WANTS_NONE,
     TAKES_NONE,
     TAKES_MORE,
+    SOME,
+    SOME_OF_TOO_MANY,
+    SOME_OF_NONE,
+    SOME_MORE,
+    TAKES_SOME_OTHER,
+    TAKES_SOME_MORE,
+    FULL_FROM_NONE,
+    TWO_IN_NONE_OR_ONE,
 ];
 
 // A queue may be of this capacity.
@@ -482,7 +566,7 @@ fn is_proper(capacity: Capacity) -> bool
 {
     match capacity {
         Capacity::Unbounded => true,
-        Capacity::Between { full, most } => 0 < full && full <= most,
+        Capacity::Between { full, most } => 0 < most && full <= most,
     }
 }
 

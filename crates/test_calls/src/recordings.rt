@@ -40,14 +40,22 @@ pub const REPORT: Report = Report {
 };
 
 // A text that is refused, and at which line.
-pub static REFUSED: [(&[u8], u64); 29] = [
+pub static REFUSED: [(&[u8], u64); 37] = [
     (b"", 1),
     (b"\n", 1),
     (b"queue 8", 1),
     (b"queue 0\n", 1),
     (b"queue 08\n", 1),
     (b"queue 2 2\n", 1),
-    (b"queue 0 2\n", 1),
+    (b"queue 0 0\n", 1),
+    (b"queue 3 2\n", 1),
+    (b"cut queue 0\n", 1),
+    (b"cut\n", 1),
+    (b"queue 8\ncut queue 8\n", 2),
+    (b"queue 8\nP put 1\nP some\n", 3),
+    (b"queue 8\nP put 1\nP some 0\n", 3),
+    (b"queue 8\nP put 1\nP some 1 1\n", 3),
+    (b"queue 8\nC some\n", 2),
     (b"queue 1 2 3\n", 1),
     (b"queue  8\n", 1),
     (b" queue 8\n", 1),
@@ -132,6 +140,54 @@ fn a_bad_line_is_refused_behind_a_fault(rt: HostRuntime) -> Result<(), Fail> {
     assert!(rt; found_in_two(rt.alloc(), text, 9) == fault);
     let text = b"queue 8\nC take\nC take\n";
     assert!(rt; found_in_two(rt.alloc(), text, 9) == Ok(CallsFinding::OutOfTurn { line: 3 }));
+    Ok(())
+}
+
+#[test]
+fn the_first_line_says_what_queue_it_is(rt: HostRuntime) -> Result<(), Fail> {
+    let texts: [(&[u8], bool); 4] = [
+        (b"queue 1\nP put 5\n", false),
+        (b"cut queue 1\nP put 5\n", true),
+        (b"cut queue 0 1\nP put 5\nP full\n", true),
+        (b"cut queue\n", true),
+    ];
+    for (text, is_cut) in texts.iter() {
+        let mut recording = Recording::new(rt.alloc());
+        assert!(rt; recording.read(text).is_ok());
+        assert!(rt; recording.is_cut() == *is_cut);
+        assert!(rt; matches!(recording.finding(), Ok(CallsFinding::Lawful(_))));
+    }
+    Ok(())
+}
+
+#[test]
+fn the_first_fault_is_told_with_its_line(rt: HostRuntime) -> Result<(), Fail> {
+    let mut recording = Recording::new(rt.alloc());
+    assert!(rt; recording.fault().is_none());
+    assert!(rt; recording.read(b"queue 8\nC take\nC item 1").is_ok());
+    assert!(rt; recording.fault().is_none());
+    assert!(rt; recording.read(b"\nC take\nC take\n").is_ok());
+    let fault = CallsFinding::NotLinearizable {
+        line: 3,
+        cause: Cause::NotInside {
+            item: 1,
+            next: None,
+        },
+    };
+    assert!(rt; recording.fault() == Some(fault));
+    Ok(())
+}
+
+#[test]
+fn a_bad_line_is_kept(rt: HostRuntime) -> Result<(), Fail> {
+    let text = b"queue 8\nP stor\nP put 1\n";
+    for at in 0..text.len() {
+        let mut recording = Recording::new(rt.alloc());
+        let (front, rest) = text.split_at(at);
+        let read = recording.read(front).and_then(|()| recording.read(rest));
+        assert!(rt; read == Err(RecordingFault::BadLine(2)));
+        assert!(rt; recording.line() == b"P stor".as_slice());
+    }
     Ok(())
 }
 

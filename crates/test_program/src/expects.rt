@@ -18,6 +18,10 @@ pub const LONG: &[&str] = &["lamport_ring", "audit", "--bits", "--long"];
 
 pub const AUDIT: &[&str] = &["lamport_ring", "audit"];
 
+pub const AUDIT_CALLS: &[&str] = &["lamport_ring", "audit", "--calls"];
+
+pub const STOP: &[&str] = &["lamport_ring", "audit", "--calls", "--stop"];
+
 pub const PLAY: &[&str] = &["lamport_ring", "play"];
 
 pub const TRACE: &[&str] = &["lamport_ring", "play", "--trace"];

@@ -1,3 +1,4 @@
+use crate::expects::AUDIT_CALLS;
 use crate::failure_expects::{
     AUDIT, BITS, CALLS, Growing, PLAY, TRACE, Told, Unheard, expect_failed_reads,
     expect_failed_writes, expect_read, expect_refused_finding, expect_refused_growths,
@@ -164,7 +165,12 @@ fn says_that_standard_error_failed(rt: HostRuntime) {
     expect_unflushed(&rt, &UNHEARD[6]);
 }
 
-static TOLD: [Told; 3] = [
+static TOLD: [Told; 4] = [
+    (
+        AUDIT_CALLS,
+        "queue 1\nP put 1",
+        "refused: calls line 2 is not a line of the format\n  line 2 has no line feed at its end: \"P put 1\"\n",
+    ),
     (
         AUDIT,
         "shape 1 3 1\nP read r0\nP got r0\n",

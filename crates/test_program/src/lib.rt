@@ -14,6 +14,8 @@ mod fakes;
 #[cfg(test)]
 mod plays;
 #[cfg(test)]
+mod recorded;
+#[cfg(test)]
 mod refusals;
 #[cfg(test)]
 mod run_words;

@@ -67,11 +67,15 @@ fn tells_the_verdict_of_a_trace_of_any_length(rt: HostRuntime) {
 }
 
 // What the words ask for decides the status.
-static STATUSES: [(&[&str], u8); 28] = [
+static STATUSES: [(&[&str], u8); 32] = [
     (&["lamport_ring", "audit", "--long"], 2),
     (&["lamport_ring", "audit", "--calls", "--long"], 2),
     (&["lamport_ring", "audit", "--bits", "--calls", "--long"], 2),
     (&["lamport_ring", "audit", "--bits", "--bits"], 2),
+    (&["lamport_ring", "audit", "--stop"], 2),
+    (&["lamport_ring", "audit", "--bits", "--stop"], 2),
+    (&["lamport_ring", "audit", "--calls", "--stop", "--why"], 2),
+    (&["lamport_ring", "audit", "--calls", "--stop=true"], 2),
     (&["lamport_ring", "audit", "--bits=true"], 2),
     (&["lamport_ring", "audit", "x"], 2),
     (&["lamport_ring", "audit", "--trace"], 2),
@@ -118,7 +122,7 @@ const PLAY_EXAMPLE: &str = "  lamport_ring play < examples/plain_path.json\n";
 const CALLS_EXAMPLE: &str =
     "  lamport_ring play --calls < examples/plain_path.json | lamport_ring audit --calls\n";
 
-static WORDS: [(&[&str], u8, &str); 29] = [
+static WORDS: [(&[&str], u8, &str); 31] = [
     (HELP, 0, EXAMPLE),
     (HELP, 0, PLAY_EXAMPLE),
     (HELP, 0, AUDIT_EXAMPLE),
@@ -140,6 +144,16 @@ static WORDS: [(&[&str], u8, &str); 29] = [
         AUDIT_HELP,
         0,
         "Usage: lamport_ring audit [--bits] [--why] < TRACE\n",
+    ),
+    (
+        AUDIT_HELP,
+        0,
+        "       lamport_ring audit --calls [--stop] < CALLS\n",
+    ),
+    (
+        AUDIT_HELP,
+        0,
+        "With --stop a fault is told as soon as its line is read,\nand nothing is read behind it.",
     ),
     (AUDIT_HELP, 0, "from standard input\n"),
     (AUDIT_HELP, 0, "  2  the command line is wrong\n"),

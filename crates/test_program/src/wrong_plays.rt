@@ -21,7 +21,7 @@ fn plays_a_script_by_a_near_miss(rt: HostRuntime) {
 }
 
 // Words behind the program's name that do not go together.
-static CLASHES: [(&[&str], u8, &str, &str); 6] = [
+static CLASHES: [(&[&str], u8, &str, &str); 9] = [
     (
         &["play", "--wrong", "torus", "--calls"],
         2,
@@ -51,6 +51,24 @@ static CLASHES: [(&[&str], u8, &str, &str); 6] = [
         2,
         "",
         "error: --why goes with a trace that is kept, so neither with --long nor with --calls\n\nFor more information, try '--help'.\n",
+    ),
+    (
+        &["audit", "--calls", "--stop", "--why"],
+        2,
+        "",
+        "error: --why goes with a trace that is kept, so neither with --long nor with --calls\n\nFor more information, try '--help'.\n",
+    ),
+    (
+        &["audit", "--stop"],
+        2,
+        "",
+        "error: an audit of recorded calls may stop at the first fault: --stop goes with --calls\n\nFor more information, try '--help'.\n",
+    ),
+    (
+        &["audit", "--stop", "--bits", "--why"],
+        2,
+        "",
+        "error: an audit of recorded calls may stop at the first fault: --stop goes with --calls\n\nFor more information, try '--help'.\n",
     ),
     (
         &["play", "--trace", "--calls"],

@@ -118,12 +118,13 @@ fn tell_both(recorder: &Recorder<'_>) {
     }
 }
 
-// With room for so many lines of each side, these lines of both are recorded.
+// With room for so many lines of each side, these lines of both are recorded, and whether later ones are missing is told.
 fn expect_both(rt: &(impl Abort + AllocGlobal), room: (usize, usize), expected: &[(Word, &[u64])]) {
     let (puts, takes) = (slots(rt, room.0), slots(rt, room.1));
     let recorder = Recorder::new(puts.as_slice(), takes.as_slice());
     tell_both(&recorder);
-    let is_so = are_recorded(rt, recorder.lines(), expected);
+    let is_so = are_recorded(rt, recorder.lines(), expected)
+        && recorder.is_cut() == (expected.len() < BOTH.len());
     assert!(rt; is_so, "{} lines", expected.len());
 }
 

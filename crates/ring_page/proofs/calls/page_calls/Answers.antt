@@ -1,4 +1,4 @@
-use Rattle.std.proofs.Common.{◌≡◌, inl, inr, length, refl, subst}
+use Rattle.std.proofs.Common.{◌≡◌, inr, length, refl, subst}
 use Rattle.queue_calls.specs.Rooms.{AreTooShort, Rooms}
 use Rattle.ring_page.specs.Calls.{slots_for}
 use Rattle.ring_page.proofs.calls.page_calls.Goals as goal

@@ -14,7 +14,7 @@ returns-then-taken-taken_now c script takes i kept taken empty few at before now
     elim (take_goes c.events_tell_by_one.ensures.takes script takes i few kept.taken c.args.taken_now.now kept.empty c.args.empty_now
     (subst (λ s. IsTakeStage s script takes i) c.in-Taking.is at) before.0 before.1 now.0 now.1) [
       | inl e ↦ elim e [
-        | inl z ↦ (let (item, is, t, s) = z in (ap (λ n. calls.TakeItems (n ∷ []) ∷ []) (last_is kept.taken c.args.taken_now.now c.args.taken item taken is) ∙ t, s))
+        | inl z ↦ (let (item, is, t, s) = z in (ap (λ n. calls.TakeItems (n ∷ []) true ∷ []) (last_is kept.taken c.args.taken_now.now c.args.taken item taken is) ∙ t, s))
         | inr z ↦ absurd (omega (arith, taken, ap length z.0, c.if-taken-taken_now.true))
       ]
       | inr z ↦ absurd (omega (arith, taken, ap length z.0, c.if-taken-taken_now.true))

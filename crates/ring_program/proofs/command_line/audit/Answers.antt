@@ -9,4 +9,5 @@ returns c =
     let bits = c.in_ok-command.ensures _ c.new_command-command.ensures in
     let long = c.in_ok-command-2.ensures _ bits in
     let calls = c.in_ok-command-3.ensures _ long in
-    one_more c.with_flag-4.result (flag_rule (codes "why")) c.in_ok-command-3.command _ calls c.with_flag-4.ensures
+    let stop = c.in_ok-command-4.ensures _ calls in
+    one_more c.with_flag-5.result (flag_rule (codes "why")) c.in_ok-command-4.command _ stop c.with_flag-5.ensures

@@ -118,3 +118,19 @@ returns-clause-wrong_report c name = refl
 pub returns-clause-wrong_name : goal.returns-clause-wrong_name
 unfolding clap_on_literals application request_of
 returns-clause-wrong_name c name = refl
+
+pub returns-clause-calls_stop : goal.returns-clause-calls_stop
+unfolding clap_on_literals application request_of
+returns-clause-calls_stop c name = refl
+
+pub returns-clause-stop_alone : goal.returns-clause-stop_alone
+unfolding clap_on_literals application request_of
+returns-clause-stop_alone c name = refl
+
+pub returns-clause-bits_stop : goal.returns-clause-bits_stop
+unfolding clap_on_literals application request_of
+returns-clause-bits_stop c name = refl
+
+pub returns-clause-stop_why : goal.returns-clause-stop_why
+unfolding clap_on_literals application request_of
+returns-clause-stop_why c name = refl

@@ -32,8 +32,8 @@ short_of : (r : Request) (input before after : Option (List ℕ)) (Tells : List 
 unfolding IsCallsCause IsLongBitsCause IsOutOfMemory IsShortage
 short_of (OnInput question) None before after Tells status short = tt
 short_of (OnInput question) (Some bytes) before after Tells status short = inr (short.0, refusal.App app.OutOfMemory, inl (inl (inl (inl refl)), short.1), tells_short Tells short.2)
-short_of Calls None before after Tells status short = tt
-short_of Calls (Some bytes) before after Tells status short = inr (short.0, refusal.App app.OutOfMemory, inl (inl refl, short.1), tells_short Tells short.2)
+short_of (Calls stop) None before after Tells status short = tt
+short_of (Calls stop) (Some bytes) before after Tells status short = inr (short.0, refusal.App app.OutOfMemory, inl (inl refl, short.1), tells_short Tells short.2)
 short_of LongBits None before after Tells status short = tt
 short_of LongBits (Some bytes) before after Tells status short = inr (short.0, refusal.App app.OutOfMemory, inl (inl refl, short.1), tells_short Tells short.2)
 short_of (Run run) input before after Tells status short = inr (short.0, refusal.App app.OutOfMemory, inl (inl (inl refl), short.1), tells_short Tells short.2)
@@ -79,7 +79,7 @@ refused_on (WrongCalls miss) status is = inr is
 
 refused_status : (r : Request) (status : ℕ) → status ≡ 1 → IsStatusOf r status
 refused_status (OnInput question) status is = refused_on question status is
-refused_status Calls status is = inr (inl is)
+refused_status (Calls stop) status is = inr (inl is)
 refused_status LongBits status is = inr (inl is)
 refused_status (Run run) status is = inr is
 
@@ -124,11 +124,11 @@ returns-in-OnInput-clause-statuses g c = status_so _ (OnInput c.in-OnInput.quest
 
 pub returns-in-Calls-clause-asked : goal.returns-in-Calls-clause-asked
 returns-in-Calls-clause-asked g c =
-    asked_so _ Calls (g.I.Read.remaining c.args.input.now) _ _ _ c.answer_calls.result.status (read_so c.in-Ok-Some.request Calls c.in-Ok-Some.field-0 _ c.in-Calls.is c.in-Ok-Some.field-0-is c.in-Ok-Some.ensures.asked)
+    asked_so _ (Calls c.in-Calls.stop) (g.I.Read.remaining c.args.input.now) _ _ _ c.answer_calls.result.status (read_so c.in-Ok-Some.request (Calls c.in-Calls.stop) c.in-Ok-Some.field-0 _ c.in-Calls.is c.in-Ok-Some.field-0-is c.in-Ok-Some.ensures.asked)
     c.answer_calls.ensures.asked
 
 pub returns-in-Calls-clause-statuses : goal.returns-in-Calls-clause-statuses
-returns-in-Calls-clause-statuses g c = status_so _ Calls c.answer_calls.result.status (read_so c.in-Ok-Some.request Calls c.in-Ok-Some.field-0 _ c.in-Calls.is c.in-Ok-Some.field-0-is c.in-Ok-Some.ensures.asked) c.answer_calls.ensures.statuses
+returns-in-Calls-clause-statuses g c = status_so _ (Calls c.in-Calls.stop) c.answer_calls.result.status (read_so c.in-Ok-Some.request (Calls c.in-Calls.stop) c.in-Ok-Some.field-0 _ c.in-Calls.is c.in-Ok-Some.field-0-is c.in-Ok-Some.ensures.asked) c.answer_calls.ensures.statuses
 
 pub returns-in-LongBits-clause-asked : goal.returns-in-LongBits-clause-asked
 returns-in-LongBits-clause-asked g c =

@@ -1,15 +1,20 @@
-use Rattle.std.proofs.Common.{rules, arith, ◌≡◌, ◌≢◌, ◌≤◌, ◌+◌, ◌-◌, ◌^◌, length-append, ℕ, zero, suc, List, [], ◌++◌, Option, Some, None, Result, Ok, Err, IfErr, IfSome, inl, inr, subst, sym, refl, take, length, append_assoc}
+use Rattle.std.proofs.Common.{rules, arith, false, ◌≡◌, ◌≢◌, ◌≤◌, ◌+◌, ◌-◌, ◌^◌, length-append, ℕ, zero, suc, List, [], ◌++◌, Option, Some, None, Result, Ok, Err, IfErr, IfSome, inl, inr, subst, sym, refl, take, length, append_assoc}
 use Rattle.std.specs.Result.{IsErrAnd}
+use Rattle.std.specs.Prelude.{MatchOption}
+use Rattle.std.proofs.lemmas.Option.{none-some, same_Some}
 use Rattle.std.proofs.KnownBytes.{Consumes-nil, Consumes-trans, Consumes-whole}
 use Rattle.std.proofs.lemmas.List.{append-nil, length-take-le}
 use Rattle.std.specs.Io.KnownBytes.{Consumes}
 use Rattle.queue_calls.specs.Recordings.{RefusesText}
-use Rattle.queue_calls.specs.declared.recordings.CallsFinding.{CallsFinding}
 use Rattle.queue_calls.specs.declared.recordings.RecordingFault.{RecordingFault}
 use Rattle.ring_program.specs.Answers.{IsCallsCause}
+use Rattle.ring_program.specs.Readings.{IsFoundBy}
 use Rattle.ring_program.specs.declared.faults.AppFault.TheVariants as app
 use Rattle.ring_program.specs.declared.faults.Refusal.{Refusal}
 use Rattle.ring_program.specs.declared.faults.Refusal.TheVariants as refusal
+use Rattle.ring_program.specs.declared.recordings.Found.{Found}
+use Rattle.ring_program.proofs.FirstFaults.{nothing_is_faultless}
+use Rattle.ring_program.proofs.ReadingLemmas.{at_end, at_fault}
 use Rattle.ring_program.proofs.recordings.read_calls.Goals as goal
 
 -- what holds of the bytes that came, whatever comes behind them, holds of the input
@@ -23,7 +28,7 @@ none_more zero piece came same = append-nil came
 none_more (suc count) piece came same = cc
 
 -- a fault of the text, of these bytes
-told : (result : Result CallsFinding Refusal) (fault : RecordingFault) (bytes : List ℕ) → IsErrAnd result (λ e. e ≡ refusal.Calls fault) → RefusesText fault bytes → IfErr result (IsCallsCause bytes)
+told : (result : Result Found Refusal) (fault : RecordingFault) (bytes : List ℕ) → IsErrAnd result (λ e. e ≡ refusal.Calls fault) → RefusesText fault bytes → IfErr result (IsCallsCause bytes)
 unfolding IsCallsCause
 told (Ok finding) fault bytes is refuses = tt
 told (Err e) fault bytes is refuses = inr (inr (fault, is, refuses))
@@ -37,7 +42,7 @@ all_turns : (turns : ℕ) (came more : List ℕ) → turns ≤ length came → 1
 all_turns turns came more read over = omega (arith, read, over, length-append came more)
 
 -- a fault of the text is no fault of the output
-not_written : (result : Result CallsFinding Refusal) (fault : RecordingFault) → IsErrAnd result (λ e. e ≡ refusal.Calls fault) → IfErr result (λ e. e ≢ refusal.App app.WriteFailed)
+not_written : (result : Result Found Refusal) (fault : RecordingFault) → IsErrAnd result (λ e. e ≡ refusal.Calls fault) → IfErr result (λ e. e ≢ refusal.App app.WriteFailed)
 not_written (Ok finding) fault is = tt
 not_written (Err e) fault is = λ written. cc
 
@@ -45,36 +50,54 @@ of_any : (input : Option (List ℕ)) (P : List ℕ → Type 0) → ((bytes : Lis
 of_any None P holds = tt
 of_any (Some bytes) P holds = holds bytes
 
+-- what holds where something was found, and where nothing was
+one_found : {X : Type 0} (o : Option X) (A : Type 0) (B : X → Type 0) (x : X) → o ≡ Some x → MatchOption o A B → B x
+one_found None A B x is holds = absurd (none-some x is)
+one_found (Some y) A B x is holds = subst B (same_Some y x is) holds
+
+none_found : {X : Type 0} (o : Option X) (A : Type 0) (B : X → Type 0) → ((x : X) → o ≢ Some x) → MatchOption o A B → A
+none_found None A B none holds = holds
+none_found (Some x) A B none holds = absurd (none x refl)
+
 pub loop-init : goal.loop-init
-loop-init g c = ([], Consumes-nil _, c.new-recording.ensures, search rules)
+loop-init g c = ([], Consumes-nil _, c.requires.begins, search rules, λ stop. nothing_is_faultless)
 
 pub loop-preserved : goal.loop-preserved
 loop-preserved g c = (
   _,
   Consumes-trans _ _ _ _ _ c.loop.invariant.1 c.in-Ok.ensures.bytes.0,
-  c.in_ok-read.ensures.read _ c.loop.invariant.2,
+  (none_found _ _ _ c.in_default.not-Some c.in_ok-finding.ensures.read).0 _ c.loop.invariant.2,
   one_more _ _ _ _ c.loop.invariant.3 c.if-count-eq0.false c.in-Ok.ensures.bound.0,
+  λ stop. (none_found _ _ _ c.in_default.not-Some c.in_ok-finding.ensures.read).1 stop _ c.loop.invariant.2 (c.loop.invariant.4 stop),
 )
 
 pub returns-then-count-eq0-clause-found : goal.returns-then-count-eq0-clause-found
 returns-then-count-eq0-clause-found g c =
     let came = c.loop.invariant.0 in
     let all = subst (Consumes _ _) (none_more c.in-Ok.count _ came c.if-count-eq0.true) (Consumes-trans _ _ _ _ _ c.loop.invariant.1 c.in-Ok.ensures.bytes.0) in
-    Consumes-whole _ _ came _ all (c.in-Ok.ensures.bytes.1 c.if-count-eq0.true (search rules)) (c.in_ok-finding.ensures.found came c.loop.invariant.2)
+    Consumes-whole _ _ came _ all (c.in-Ok.ensures.bytes.1 c.if-count-eq0.true (search rules)) (at_end c.args.stop came _ _ c.loop.invariant.4 (c.in_ok-found_at_end.ensures.found came c.loop.invariant.2))
+
+pub returns-in_err-found_at_end-clause-refused : goal.returns-in_err-found_at_end-clause-refused
+returns-in_err-found_at_end-clause-refused g c =
+    let came = c.loop.invariant.0 in
+    let all = subst (Consumes _ _) (none_more c.in-Ok.count _ came c.if-count-eq0.true) (Consumes-trans _ _ _ _ _ c.loop.invariant.1 c.in-Ok.ensures.bytes.0) in
+    Consumes-whole _ _ came _ all (c.in-Ok.ensures.bytes.1 c.if-count-eq0.true (search rules))
+    (told c.from_residual.result c.in_err-found_at_end.field-0.0 came c.from_residual.ensures.1 (c.in_err-found_at_end.ensures.refused came c.loop.invariant.2))
 
 pub returns-in_err-finding-clause-refused : goal.returns-in_err-finding-clause-refused
 returns-in_err-finding-clause-refused g c =
     let came = c.loop.invariant.0 in
-    let all = subst (Consumes _ _) (none_more c.in-Ok.count _ came c.if-count-eq0.true) (Consumes-trans _ _ _ _ _ c.loop.invariant.1 c.in-Ok.ensures.bytes.0) in
-    Consumes-whole _ _ came _ all (c.in-Ok.ensures.bytes.1 c.if-count-eq0.true (search rules))
-    (told c.from_residual.result c.in_err-finding.field-0.0 came c.from_residual.ensures.1 (c.in_err-finding.ensures.refused came c.loop.invariant.2))
-
-pub returns-in_err-read-clause-refused : goal.returns-in_err-read-clause-refused
-returns-in_err-read-clause-refused g c =
-    let came = c.loop.invariant.0 in
     of_front _ _ _ _ (Consumes-trans _ _ _ _ _ c.loop.invariant.1 c.in-Ok.ensures.bytes.0)
-    (λ more. told c.from_residual-in_err-read.result c.in_err-read.field-0.0 _ c.from_residual-in_err-read.ensures.1
-    (subst (RefusesText c.in_err-read.field-0.0) (sym (append_assoc came _ more)) (c.in_err-read.ensures.refused came more c.loop.invariant.2)))
+    (λ more. told c.from_residual-in_err-finding.result c.in_err-finding.field-0.0 _ c.from_residual-in_err-finding.ensures.1
+    (subst (RefusesText c.in_err-finding.field-0.0) (sym (append_assoc came _ more)) (c.in_err-finding.ensures.refused came more c.loop.invariant.2)))
+
+pub returns-in-Some-clause-found : goal.returns-in-Some-clause-found
+returns-in-Some-clause-found g c =
+    let came = c.loop.invariant.0 in
+    let found = one_found _ _ _ c.in-Some.finding c.in-Some.is c.in_ok-finding.ensures.read in
+    of_front _ _ _ _ (Consumes-trans _ _ _ _ _ c.loop.invariant.1 c.in-Ok.ensures.bytes.0)
+    (λ more. subst (λ t. IsFoundBy c.args.stop t false c.in-Some.finding) (sym (append_assoc came _ more))
+    (at_fault c.args.stop _ c.in-Some.finding found.0 (found.1 came more c.loop.invariant.2 (c.loop.invariant.4 found.0))))
 
 pub returns-clause-refused : goal.returns-clause-refused
 unfolding IsCallsCause
@@ -86,8 +109,8 @@ pub returns-in-Err-clause-refused : goal.returns-in-Err-clause-refused
 unfolding IsCallsCause
 returns-in-Err-clause-refused g c = of_any _ _ (λ bytes. inr (inl refl))
 
-pub returns-in_err-finding-clause-unwritten : goal.returns-in_err-finding-clause-unwritten
-returns-in_err-finding-clause-unwritten g c = not_written c.from_residual.result c.in_err-finding.field-0.0 c.from_residual.ensures.1
+pub returns-in_err-found_at_end-clause-unwritten : goal.returns-in_err-found_at_end-clause-unwritten
+returns-in_err-found_at_end-clause-unwritten g c = not_written c.from_residual.result c.in_err-found_at_end.field-0.0 c.from_residual.ensures.1
 
-pub returns-in_err-read-clause-unwritten : goal.returns-in_err-read-clause-unwritten
-returns-in_err-read-clause-unwritten g c = not_written c.from_residual-in_err-read.result c.in_err-read.field-0.0 c.from_residual-in_err-read.ensures.1
+pub returns-in_err-finding-clause-unwritten : goal.returns-in_err-finding-clause-unwritten
+returns-in_err-finding-clause-unwritten g c = not_written c.from_residual-in_err-finding.result c.in_err-finding.field-0.0 c.from_residual-in_err-finding.ensures.1

@@ -1,15 +1,16 @@
-use Rattle.std.proofs.Common.{◌≢◌, ℕ, ◌<◌, ◌^◌, List, [], ◌∷◌, ◌++◌, sym, subst}
+use Rattle.std.proofs.Common.{◌≢◌, Bool, true, false, ℕ, ◌<◌, ◌^◌, List, [], ◌∷◌, ◌++◌, sym, subst}
 use Rattle.std.proofs.lemmas.List.Elements.{All-append, All-cons, All-nil}
 use Rattle.queue_calls.specs.Lines.{AreSmall}
-use Rattle.queue_calls.specs.Recordings.{IsFurther, line}
-use Rattle.queue_calls.specs.declared.lines.Word.TheVariants.{Put, Queue}
+use Rattle.queue_calls.specs.Recordings.{IsFurther, first_word, line}
+use Rattle.queue_calls.specs.declared.lines.Word.TheVariants.{Put}
 use Rattle.ring_run.proofs.recorders.read_slots.Goals as goal
 
 one_small : (n : ℕ) → n < 2 ^ 64 → AreSmall (n ∷ [])
 one_small n small = All-cons (λ m. m < 2 ^ 64) n [] small (All-nil (λ m. m < 2 ^ 64))
 
-put_is_other : Put ≢ Queue
-put_is_other e = absurd (cc)
+put_is_other : (is_cut : Bool) → Put ≢ first_word is_cut
+put_is_other true e = absurd (cc)
+put_is_other false e = absurd (cc)
 
 one_item : (n : ℕ) → n < 2 ^ 64 → IsFurther (line Put (n ∷ []))
 one_item n small = (put_is_other, (tt, one_small n small))

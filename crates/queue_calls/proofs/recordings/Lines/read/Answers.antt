@@ -1,15 +1,15 @@
-use Rattle.std.proofs.Common.{◌≡◌, ◌≢◌, ap, ◌∙◌, ℕ, ◌+◌, List, [], ◌∷◌, ◌++◌, length, Option, Some, Result, Ok, Err, OnOk, IfErr, IfSome, inl, length-append, ap₂, sym, subst, arith}
+use Rattle.std.proofs.Common.{◌≡◌, ◌≢◌, true, false, ap, ◌∙◌, ℕ, ◌+◌, List, [], ◌∷◌, ◌++◌, length, Option, Some, Result, Ok, Err, OnOk, IfErr, IfSome, inl, length-append, ap₂, sym, subst, arith}
 use Rattle.std.proofs.lemmas.List.{nil_from_length}
 use Rattle.queue_calls.specs.Lines.{IsLine}
-use Rattle.queue_calls.specs.Recordings.{Line, line, begun_after, begun_behind, capacity_told, event_told, events_told}
+use Rattle.queue_calls.specs.Recordings.{Line, line, first_word, begun_after, begun_behind, capacity_told, event_told, events_told}
 use Rattle.queue_calls.specs.RecordingStates.{HasHeard}
 use Rattle.queue_calls.specs.Told.{told}
 use Rattle.queue_calls.specs.declared.lines.Word.{Word}
-use Rattle.queue_calls.specs.declared.lines.Word.TheVariants.{Queue}
 use Rattle.queue_calls.specs.declared.recordings.Begun.TheVariants as begun
-use Rattle.queue_calls.proofs.HeardLines.{first_line, is_line, first_heard, further_line, count_is, further_heard, not_the_first, not_further}
+use Rattle.queue_calls.proofs.HeardLines.{IsFirst, first_line, is_line, first_heard, further_line, count_is, further_heard, not_the_first, not_further}
 use Rattle.queue_calls.proofs.NotingLemmas.{line_long}
 use Rattle.queue_calls.proofs.recordings.Lines.read.Goals as goal
+use Rattle.queue_calls.proofs.recordings.Lines.read.Goals.{else-ne-via-then-ne+else-ne-2, else-ne-via-else-ne}
 
 -- what holds on success follows from what else holds on success
 then_ok : {T E P Q : Type 0} (r : Result T E) → OnOk r P → (P → Q) → OnOk r Q
@@ -23,6 +23,9 @@ read_is bytes numbers r w is h = let P : Option Word → Type 0 = λ o. IfSome o
 counted : (before : List Line) (l : Line) (old count : ℕ) → old ≡ length before → count ≡ old + 1 → count ≡ length (before ++ l ∷ [])
 counted before l old count is next = let all : length (before ++ l ∷ []) ≡ length before + 1 = length-append before (l ∷ []) in omega (arith, is, next, all)
 
+some_lines : (before : List Line) (l : Line) → before ++ l ∷ [] ≢ []
+some_lines before l none = omega (arith, ap length none, length-append before (l ∷ []))
+
 pub returns-clause-read : goal.returns-clause-read
 returns-clause-read g c = then_ok c.hear.result c.hear.ensures.heard (λ heard before has.
     let numbers : List ℕ = g.S.Numbers.Row.items c.read_line.new.numbers in
@@ -33,31 +36,38 @@ returns-clause-read g c = then_ok c.hear.result c.hear.ensures.heard (λ heard b
     let begun_is = lines.3 in
     let tells : event_told (begun_behind begun.Nothing lines.1) c.in-Some-2.word numbers ≡ Some (told c.in-Some-event_told.event) =
     ap₂ (λ b ns. event_told b c.in-Some-2.word ns) (sym begun_is) (sym same) ∙ sym c.in-Some-event_told.ensures in
-    let on = further_line before c.args.line.now lines.0 lines.1 (begun_behind begun.Nothing lines.1) c.in-Some-2.word numbers (told c.in-Some-event_told.event) lines.2 has.are is tells in (
+    let on = further_line before c.args.self.now.lacks_calls c.args.line.now lines.0 lines.1 (begun_behind begun.Nothing lines.1) c.in-Some-2.word numbers (told c.in-Some-event_told.event) lines.2 has.are is tells in (
       line c.in-Some-2.word numbers,
       on,
       record {
         are = on.0;
         count = counted before _ c.args.self.now.count c.in-Some.count has.count c.in-Some.ensures.1;
-        heard = λ _. further_heard g.S.Offered.Fifo.items g.S.Taken.Fifo.items c.hear.new.self before lines.0 lines.1 c.in-Some-2.word numbers (told c.in-Some-event_told.event) lines.2 tells
+        unheard = λ none. absurd (some_lines before _ none);
+        heard = λ _. further_heard g.S.Offered.Fifo.items g.S.Taken.Fifo.items c.hear.new.self before c.args.self.now.lacks_calls lines.0 lines.1 c.in-Some-2.word numbers (told c.in-Some-event_told.event) lines.2 tells
             (c.hear.ensures.begun ∙ c.begun_after-self.ensures ∙ ap₂ (λ b ns. begun_after b c.in-Some-2.word ns) begun_is same)
             (heard (capacity_told lines.0) (events_told begun.Nothing lines.1) lines.4
-            (count_is before lines.0 lines.1 begun.Nothing c.args.self.now.count c.in-Some.count lines.2 has.are has.count c.in-Some.ensures.1));
+            (count_is before c.args.self.now.lacks_calls lines.0 lines.1 begun.Nothing c.args.self.now.count c.in-Some.count lines.2 has.are has.count c.in-Some.ensures.1));
       },
     ))
 
-pub returns-in-Queue-clause-read : goal.returns-in-Queue-clause-read
-returns-in-Queue-clause-read g c before has =
+pub returns-then-count-eq1-clause-read : goal.returns-then-count-eq1-clause-read
+returns-then-count-eq1-clause-read g c before has =
     let numbers : List ℕ = g.S.Numbers.Row.items c.read_line.new.numbers in
-    let is = subst (λ w. IsLine c.args.line.now w numbers) c.in-Queue.is (read_is _ _ _ _ c.in-Some-2.is c.in_ok-word.ensures.line) in
+    let is_cut = c.eq-self.result in
+    let word_is : c.in-Some-2.word ≡ first_word is_cut = elim c.else-ne.branch [
+      | else-ne-via-then-ne+else-ne-2 w ↦ grind (arith, c.eq-self.ensures, w.ne-then-ne.ensures, w.if-ne-2.false)
+      | else-ne-via-else-ne w ↦ grind (arith, c.eq-self.ensures, c.ne.ensures, w.if-ne.false)
+    ] in
+    let is = subst (λ w. IsLine c.args.line.now w numbers) word_is (read_is _ _ _ _ c.in-Some-2.is c.in_ok-word.ensures.line) in
     let none : before ≡ [] = nil_from_length before (omega (arith, has.count, c.in-Some.ensures.1, c.if-count-eq1.true)) in
-    let on = first_line before c.args.line.now numbers none is in (
-      line Queue numbers,
+    let on = first_line before c.args.line.now numbers is_cut none is in (
+      line (first_word is_cut) numbers,
       on,
       record {
         are = on.0;
         count = counted before _ c.args.self.now.count c.in-Some.count has.count c.in-Some.ensures.1;
-        heard = λ _. first_heard g.S.Offered.Fifo.items g.S.Taken.Fifo.items c.begins.new.self before numbers none c.begins.ensures.begun
+        unheard = λ none. absurd (some_lines before _ none);
+        heard = λ _. first_heard g.S.Offered.Fifo.items g.S.Taken.Fifo.items c.begins.new.self before is_cut numbers none c.begins.ensures.begun
             (subst (λ ns. HasHeard g.S.Offered.Fifo.items g.S.Taken.Fifo.items c.begins.new.self (capacity_told ns) []) c.as_slice-numbers.ensures c.begins.ensures.heard);
       },
     )
@@ -66,11 +76,15 @@ pub returns-in_default-2-clause-refused : goal.returns-in_default-2-clause-refus
 returns-in_default-2-clause-refused g c before has =
     (omega (arith, has.count, c.in-Some.ensures.1), λ l on. c.in_ok-word.ensures.none c.in_default-2.is l.word l.numbers (is_line before c.args.line.now l on))
 
-pub returns-in_default-word-clause-refused : goal.returns-in_default-word-clause-refused
-returns-in_default-word-clause-refused g c before has =
+pub returns-then-ne-2-clause-refused : goal.returns-then-ne-2-clause-refused
+returns-then-ne-2-clause-refused g c before has =
     let none : before ≡ [] = nil_from_length before (omega (arith, has.count, c.in-Some.ensures.1, c.if-count-eq1.true)) in
     let is = read_is _ _ _ _ c.in-Some-2.is c.in_ok-word.ensures.line in
-    (omega (arith, has.count, c.in-Some.ensures.1), λ l. not_the_first before c.args.line.now _ c.in-Some-2.word l none c.in_default-word.not-Queue is)
+    let other : ¬ IsFirst c.in-Some-2.word = λ first. elim first.0 as (λ t. c.in-Some-2.word ≡ first_word t → ⊥) [
+      | true ↦ λ e. grind (arith, e, c.ne-then-ne.ensures, c.if-ne-2.true)
+      | false ↦ λ e. grind (arith, e, c.ne.ensures, c.if-ne.true)
+    ] first.1 in
+    (omega (arith, has.count, c.in-Some.ensures.1), λ l. not_the_first before c.args.line.now _ c.in-Some-2.word l none other is)
 
 pub returns-in_default-event_told-clause-refused : goal.returns-in_default-event_told-clause-refused
 returns-in_default-event_told-clause-refused g c before has =
@@ -92,7 +106,7 @@ returns-clause-full g c = then_err c.hear.result c.hear.ensures.full (λ e needs
     let same : c.as_slice-numbers.result.now ≡ numbers = c.as_slice-numbers.ensures in
     let tells : event_told (begun_behind begun.Nothing lines.1) c.in-Some-2.word numbers ≡ Some (told c.in-Some-event_told.event) =
     ap₂ (λ b ns. event_told b c.in-Some-2.word ns) (sym lines.3) (sym same) ∙ sym c.in-Some-event_told.ensures in
-    let on = further_line before c.args.line.now lines.0 lines.1 (begun_behind begun.Nothing lines.1) c.in-Some-2.word numbers (told c.in-Some-event_told.event) lines.2 has.are is tells in
+    let on = further_line before c.args.self.now.lacks_calls c.args.line.now lines.0 lines.1 (begun_behind begun.Nothing lines.1) c.in-Some-2.word numbers (told c.in-Some-event_told.event) lines.2 has.are is tells in
     let s = c.args.self.now in
     inl (line_long (g.S.Offered.Fifo.room s.hearing.witness.auditor.inside.list) (g.S.Taken.Fifo.room s.hearing.witness.taken)
-    before c.args.line.now lines.0 lines.1 c.in-Some-2.word numbers (told c.in-Some-event_told.event) lines.2 on.0 on.1 tells (needs (capacity_told lines.0) (events_told begun.Nothing lines.1) lines.4)))
+    before s.lacks_calls c.args.line.now lines.0 lines.1 c.in-Some-2.word numbers (told c.in-Some-event_told.event) lines.2 on.0 on.1 tells (needs (capacity_told lines.0) (events_told begun.Nothing lines.1) lines.4)))

@@ -9,7 +9,7 @@ pub returns-then-is_empty-clause-found : goal.returns-then-is_empty-clause-found
 returns-then-is_empty-clause-found g c bytes has =
     let cut : List ℕ = g.S.Bytes.Row.items c.args.self.now.cut in
     let some : has.ended ≢ [] = λ none. absurd (omega (arith, c.if-self-gt0.true, has.lines.count, ap length none)) in
-    found g.S.Offered.Fifo.items g.S.Taken.Fifo.items c.args.self.now.lines.hearing c.finding.result has.ended bytes cut has.text
+    found g.S.Offered.Fifo.items g.S.Taken.Fifo.items c.args.self.now.lines.hearing c.args.self.now.lines.lacks_calls c.finding.result has.ended bytes cut has.text
     (nil_from_length cut (eqb-true _ 0 (sym c.is_empty.ensures ∙ c.if-is_empty.true))) has.lines.are (has.lines.heard some) c.finding.ensures
 
 pub returns-in-Some-clause-refused : goal.returns-in-Some-clause-refused

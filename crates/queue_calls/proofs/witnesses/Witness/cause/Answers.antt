@@ -27,6 +27,15 @@ returns-in-PutStored g c capacity events r number turn never =
     same_cause capacity events (told c.args.event) c.stored_cause.result cause
     (c.stored_cause.ensures capacity events cause r n put few (subst (λ z. cause_of capacity (told z) (reverse events) ≡ Some cause) c.in-PutStored.is is)) is
 
+pub returns-in-PutSome : goal.returns-in-PutSome
+returns-in-PutSome g c capacity events r number turn never =
+    let s = c.args.self.now in
+    let (cause, is) = fault_has_a_cause capacity events (told c.args.event) r.proper (linear_of g.S.Offered.Fifo.items g.S.Taken.Fifo.items s capacity events r) turn never in
+    let (t, moves) = in_turn g.S.Offered.Fifo.items g.S.Taken.Fifo.items s capacity events (told c.args.event) r turn in
+    let (n, put, some, few, e) = subst (λ z. MovesSides (sides_of s.auditor.put s.auditor.take) (told z) t) c.in-PutSome.is moves in
+    same_cause capacity events (told c.args.event) c.stored_cause-in-PutSome.result cause
+    (c.stored_cause-in-PutSome.ensures capacity events cause r n put few (subst (λ z. cause_of capacity (told z) (reverse events) ≡ Some cause) c.in-PutSome.is is)) is
+
 pub returns-in-PutFull : goal.returns-in-PutFull
 returns-in-PutFull g c capacity events r number turn never =
     let s = c.args.self.now in
@@ -80,6 +89,15 @@ returns-in-TakeItems g c capacity events r number turn never =
     let (n, take, some, few, e) = subst (λ z. MovesSides (sides_of s.auditor.put s.auditor.take) (told z) t) c.in-TakeItems.is moves in
     same_cause capacity events (told c.args.event) c.items_cause.result cause
     (c.items_cause.ensures capacity events cause r number n take (subst (λ z. cause_of capacity (told z) (reverse events) ≡ Some cause) c.in-TakeItems.is is)) is
+
+pub returns-in-TakeSome : goal.returns-in-TakeSome
+returns-in-TakeSome g c capacity events r number turn never =
+    let s = c.args.self.now in
+    let (cause, is) = fault_has_a_cause capacity events (told c.args.event) r.proper (linear_of g.S.Offered.Fifo.items g.S.Taken.Fifo.items s capacity events r) turn never in
+    let (t, moves) = in_turn g.S.Offered.Fifo.items g.S.Taken.Fifo.items s capacity events (told c.args.event) r turn in
+    let (n, take, some, few, e) = subst (λ z. MovesSides (sides_of s.auditor.put s.auditor.take) (told z) t) c.in-TakeSome.is moves in
+    same_cause capacity events (told c.args.event) c.items_cause-in-TakeSome.result cause
+    (c.items_cause-in-TakeSome.ensures capacity events cause r number n take (subst (λ z. cause_of capacity (told z) (reverse events) ≡ Some cause) c.in-TakeSome.is is)) is
 
 pub returns-in-TakeEmpty : goal.returns-in-TakeEmpty
 returns-in-TakeEmpty g c capacity events r number turn never =

@@ -1,4 +1,4 @@
-use Rattle.std.proofs.Common.{rules, ◌≡◌, inl, inr, ℕ, ◌<◌, if◌then◌else◌, Some, List, [], ◌∷◌, ◌++◌, map, length, refl, ap, sym, subst, ◌∙◌, reverse, arith, Result, Ok, Err, OnOk, IfErr}
+use Rattle.std.proofs.Common.{rules, ◌≡◌, ◌⊎◌, inl, inr, ℕ, ◌<◌, Bool, true, false, Bor, if◌then◌else◌, Some, List, [], ◌∷◌, ◌++◌, map, length, refl, ap, sym, subst, ◌∙◌, reverse, arith, Result, Ok, Err, OnOk, IfErr}
 use Rattle.queue_calls.specs.Queue.{Capacity}
 use Rattle.queue_calls.specs.Calls.{Event, PutBegin, PutStored, PutFull, PutShort, PutNothing, PutClosed, CloseBegin, CloseEnd, TakeBegin, TakeItems, TakeEmpty, TakeShort, TakeNothing, TakeClosed}
 use Rattle.queue_calls.specs.Counting.{Counts, kept}
@@ -7,10 +7,14 @@ use Rattle.queue_calls.specs.Noting.{OutgrowsLists, all_got}
 use Rattle.queue_calls.specs.Reasons.{ended_line, has_ended, has_told, items_of, last_of, offered_at, taken, taken_at, told_closed_line}
 use Rattle.queue_calls.specs.Told.{meant, told}
 use Rattle.queue_calls.specs.Witnesses.{RefusesNext, Remembers}
+use Rattle.queue_calls.specs.declared.events.Event.{Event as Told}
+use Rattle.queue_calls.specs.declared.events.Event.TheVariants as said
 use Rattle.queue_calls.specs.declared.witnesses.Witness.{Witness}
 use Rattle.queue_calls.proofs.Hears.{IsQuiet, audits, counted_so, first_line, inside_after, kept_same, line_is, mark_items, next_remembers, quiet_remembers, refuses, still_remembers, stored_after, taken_all, told_so}
 use Rattle.queue_calls.proofs.Remembering.{kept_of}
+use Rattle.queue_calls.proofs.Decided.{decides_reads}
 use Rattle.queue_calls.proofs.witnesses.Witness.hear.Goals as goal
+use Rattle.queue_calls.proofs.witnesses.Witness.hear.Goals.{in-PutStored, in-PutStored-2, in-TakeItems, in-TakeItems-2}
 
 pub returns-in-PutBegins-clause-kept : goal.returns-in-PutBegins-clause-kept
 returns-in-PutBegins-clause-kept g c capacity events r number =
@@ -23,11 +27,11 @@ returns-in-PutBegins-clause-kept g c capacity events r number =
     let after = kept (items_of left) n.put n.take n.shut in
     let e = c.in_ok-feed_at.ensures in
     let is : told c.args.event ≡ PutBegin c.in-PutBegins.field-0.now = ap told c.in-PutBegins.is in
-    let counts : Counts (meant s.auditor.capacity) (kept_of O s) (PutBegin c.in-PutBegins.field-0.now) after = subst (λ z. Counts (meant s.auditor.capacity) (kept_of O s) z after) is e.counts in
+    let counts : Counts (meant s.auditor.capacity) (kept_of O s) (PutBegin c.in-PutBegins.field-0.now) after = subst (λ z. Counts (meant s.auditor.capacity) (kept_of O s) z after) is e.decides.1 in
     let moves : Moves (offered_at c.args.line) s.auditor.shut (PutBegin c.in-PutBegins.field-0.now) (O s.auditor.inside.list) left = subst (λ z. Moves (offered_at c.args.line) s.auditor.shut z (O s.auditor.inside.list) left) is e.entries in
     told_so O T _ capacity events _ (told c.args.event) is
-    (next_remembers O T s _ capacity events (PutBegin c.in-PutBegins.field-0.now) r e.reads.0 (counted_so O T s capacity events r (PutBegin c.in-PutBegins.field-0.now) after counts)
-    (inside_after O T s capacity events r (PutBegin c.in-PutBegins.field-0.now) c.args.line after left number refl counts moves (λ count f. absurd cc)) r.taken r.ended r.told (line_is O T s capacity events r c.args.line number) r.stored_at)
+    (next_remembers O T s _ capacity events (PutBegin c.in-PutBegins.field-0.now) r e.decides.0 (counted_so O T s capacity events r (PutBegin c.in-PutBegins.field-0.now) after counts)
+    (inside_after O T s capacity events r (PutBegin c.in-PutBegins.field-0.now) c.args.line after left number refl counts moves (λ count why f. absurd cc)) r.taken r.ended r.told (line_is O T s capacity events r c.args.line number) r.stored_at)
 
 pub returns-in-CloseEnds-clause-kept : goal.returns-in-CloseEnds-clause-kept
 returns-in-CloseEnds-clause-kept g c capacity events r number =
@@ -40,12 +44,12 @@ returns-in-CloseEnds-clause-kept g c capacity events r number =
     let after = kept (items_of left) n.put n.take n.shut in
     let e = c.in_ok-feed_at.ensures in
     let is : told c.args.event ≡ CloseEnd = ap told c.in-CloseEnds.is in
-    let counts : Counts (meant s.auditor.capacity) (kept_of O s) (CloseEnd) after = subst (λ z. Counts (meant s.auditor.capacity) (kept_of O s) z after) is e.counts in
+    let counts : Counts (meant s.auditor.capacity) (kept_of O s) (CloseEnd) after = subst (λ z. Counts (meant s.auditor.capacity) (kept_of O s) z after) is e.decides.1 in
     let moves : Moves (offered_at c.args.line) s.auditor.shut (CloseEnd) (O s.auditor.inside.list) left = subst (λ z. Moves (offered_at c.args.line) s.auditor.shut z (O s.auditor.inside.list) left) is e.entries in
     let first = c.or-self.ensures ∙ first_line (has_ended past) (ended_line past) c.args.line s.ended_at r.ended in
     told_so O T _ capacity events _ (told c.args.event) is
-    (next_remembers O T s _ capacity events (CloseEnd) r e.reads.0 (counted_so O T s capacity events r (CloseEnd) after counts)
-    (inside_after O T s capacity events r (CloseEnd) c.args.line after left number refl counts moves (λ count f. absurd cc)) r.taken (first ∙ ap (λ z. Some (if has_ended past then ended_line past else z)) (line_is O T s capacity events r c.args.line number)) r.told r.put_at r.stored_at)
+    (next_remembers O T s _ capacity events (CloseEnd) r e.decides.0 (counted_so O T s capacity events r (CloseEnd) after counts)
+    (inside_after O T s capacity events r (CloseEnd) c.args.line after left number refl counts moves (λ count why f. absurd cc)) r.taken (first ∙ ap (λ z. Some (if has_ended past then ended_line past else z)) (line_is O T s capacity events r c.args.line number)) r.told r.put_at r.stored_at)
 
 pub returns-in-TakeClosed-clause-kept : goal.returns-in-TakeClosed-clause-kept
 returns-in-TakeClosed-clause-kept g c capacity events r number =
@@ -58,12 +62,21 @@ returns-in-TakeClosed-clause-kept g c capacity events r number =
     let after = kept (items_of left) n.put n.take n.shut in
     let e = c.in_ok-feed_at.ensures in
     let is : told c.args.event ≡ TakeClosed = ap told c.in-TakeClosed.is in
-    let counts : Counts (meant s.auditor.capacity) (kept_of O s) (TakeClosed) after = subst (λ z. Counts (meant s.auditor.capacity) (kept_of O s) z after) is e.counts in
+    let counts : Counts (meant s.auditor.capacity) (kept_of O s) (TakeClosed) after = subst (λ z. Counts (meant s.auditor.capacity) (kept_of O s) z after) is e.decides.1 in
     let moves : Moves (offered_at c.args.line) s.auditor.shut (TakeClosed) (O s.auditor.inside.list) left = subst (λ z. Moves (offered_at c.args.line) s.auditor.shut z (O s.auditor.inside.list) left) is e.entries in
     let first = c.or-self-in-TakeClosed.ensures ∙ first_line (has_told past) (told_closed_line past) c.args.line s.told_at r.told in
     told_so O T _ capacity events _ (told c.args.event) is
-    (next_remembers O T s _ capacity events (TakeClosed) r e.reads.0 (counted_so O T s capacity events r (TakeClosed) after counts)
-    (inside_after O T s capacity events r (TakeClosed) c.args.line after left number refl counts moves (λ count f. absurd cc)) r.taken r.ended (first ∙ ap (λ z. Some (if has_told past then told_closed_line past else z)) (line_is O T s capacity events r c.args.line number)) r.put_at r.stored_at)
+    (next_remembers O T s _ capacity events (TakeClosed) r e.decides.0 (counted_so O T s capacity events r (TakeClosed) after counts)
+    (inside_after O T s capacity events r (TakeClosed) c.args.line after left number refl counts moves (λ count why f. absurd cc)) r.taken r.ended (first ∙ ap (λ z. Some (if has_told past then told_closed_line past else z)) (line_is O T s capacity events r c.args.line number)) r.put_at r.stored_at)
+
+-- an end of a put or of a take, which says why or not
+stored_so : (event : Told) (count other : ℕ) → count ≡ other → (event ≡ said.PutStored other) ⊎ (event ≡ said.PutSome other) → (why : Bool) × (told event ≡ PutStored count why)
+stored_so event count other same (inl is) = (true, ap told is ∙ ap (λ n. PutStored n true) (sym same))
+stored_so event count other same (inr is) = (false, ap told is ∙ ap (λ n. PutStored n false) (sym same))
+
+took_so : (event : Told) (items other : Bor (List ℕ)) → items ≡ other → (event ≡ said.TakeItems other) ⊎ (event ≡ said.TakeSome other) → (why : Bool) × (told event ≡ TakeItems items.now why)
+took_so event items other same (inl is) = (true, ap told is ∙ ap (λ l. TakeItems l.now true) (sym same))
+took_so event items other same (inr is) = (false, ap told is ∙ ap (λ l. TakeItems l.now false) (sym same))
 
 pub returns-in-PutStored-clause-kept : goal.returns-in-PutStored-clause-kept
 returns-in-PutStored-clause-kept g c capacity events r number =
@@ -75,17 +88,21 @@ returns-in-PutStored-clause-kept g c capacity events r number =
     let left = O n.inside.list in
     let after = kept (items_of left) n.put n.take n.shut in
     let e = c.in_ok-feed_at.ensures in
-    let is : told c.args.event ≡ PutStored c.in-PutStored.count = ap told c.in-PutStored.is in
-    let counts : Counts (meant s.auditor.capacity) (kept_of O s) (PutStored c.in-PutStored.count) after = subst (λ z. Counts (meant s.auditor.capacity) (kept_of O s) z after) is e.counts in
-    let moves : Moves (offered_at c.args.line) s.auditor.shut (PutStored c.in-PutStored.count) (O s.auditor.inside.list) left = subst (λ z. Moves (offered_at c.args.line) s.auditor.shut z (O s.auditor.inside.list) left) is e.entries in
+    let count = c.in-PutStored-1.count in
+    let (why, is) = elim c.in-PutStored-1.branch as (λ _. (why : Bool) × (told c.args.event ≡ PutStored count why)) [
+      | in-PutStored w ↦ stored_so c.args.event count w.in-PutStored.count w.count-is w.in-PutStored.is
+      | in-PutStored-2 w ↦ stored_so c.args.event count w.in-PutStored.count w.count-is w.in-PutStored.is
+    ] in
+    let counts : Counts (meant s.auditor.capacity) (kept_of O s) (PutStored count why) after = subst (λ z. Counts (meant s.auditor.capacity) (kept_of O s) z after) is e.decides.1 in
+    let moves : Moves (offered_at c.args.line) s.auditor.shut (PutStored count why) (O s.auditor.inside.list) left = subst (λ z. Moves (offered_at c.args.line) s.auditor.shut z (O s.auditor.inside.list) left) is e.entries in
     let x = c.stores.ensures in
     let m = c.stores.new.self in
     let same : after ≡ kept_of O m = kept_same (items_of left) (items_of (O m.auditor.inside.list)) n.put m.auditor.put n.take m.auditor.take n.shut m.auditor.shut
-    (ap items_of x.inside ∙ mark_items c.args.line c.in-PutStored.count left) x.auditor.1 x.auditor.2 x.auditor.3 in
+    (ap items_of x.inside ∙ mark_items c.args.line count left) x.auditor.1 x.auditor.2 x.auditor.3 in
     told_so O T _ capacity events _ (told c.args.event) is
-    (next_remembers O T s _ capacity events (PutStored c.in-PutStored.count) r (x.auditor.0 ∙ e.reads.0)
-    (subst (λ z. Counts capacity (kept_of O s) (PutStored c.in-PutStored.count) z) same (counted_so O T s capacity events r (PutStored c.in-PutStored.count) after counts))
-    (x.inside ∙ stored_after O T s capacity events r c.in-PutStored.count c.args.line after left number refl counts moves) (ap T x.taken ∙ r.taken) (x.lines.1 ∙ r.ended) (x.lines.2 ∙ r.told) (x.lines.3 ∙ r.put_at)
+    (next_remembers O T s _ capacity events (PutStored count why) r (x.auditor.0 ∙ e.decides.0)
+    (subst (λ z. Counts capacity (kept_of O s) (PutStored count why) z) same (counted_so O T s capacity events r (PutStored count why) after counts))
+    (x.inside ∙ stored_after O T s capacity events r count why c.args.line after left number refl counts moves) (ap T x.taken ∙ r.taken) (x.lines.1 ∙ r.ended) (x.lines.2 ∙ r.told) (x.lines.3 ∙ r.put_at)
     (x.lines.0 ∙ line_is O T s capacity events r c.args.line number))
 
 -- what holds on success follows from what else holds on success, and of an error from what else holds of it
@@ -107,16 +124,19 @@ returns-in-TakeItems-clause-kept g c = then_ok c.takes.result c.takes.ensures.ta
     let left = O n.inside.list in
     let after = kept (items_of left) n.put n.take n.shut in
     let e = c.in_ok-feed_at.ensures in
-    let is : told c.args.event ≡ TakeItems c.in-TakeItems.items.now = ap told c.in-TakeItems.is in
-    let counts : Counts (meant s.auditor.capacity) (kept_of O s) (TakeItems c.in-TakeItems.items.now) after = subst (λ z. Counts (meant s.auditor.capacity) (kept_of O s) z after) is e.counts in
-    let moves : Moves (offered_at c.args.line) s.auditor.shut (TakeItems c.in-TakeItems.items.now) (O s.auditor.inside.list) left = subst (λ z. Moves (offered_at c.args.line) s.auditor.shut z (O s.auditor.inside.list) left) is e.entries in
+    let items = c.in-TakeItems-1.items.now in
+    let (why, is) = elim c.in-TakeItems-1.branch as (λ _. (why : Bool) × (told c.args.event ≡ TakeItems c.in-TakeItems-1.items.now why)) [
+      | in-TakeItems w ↦ took_so c.args.event c.in-TakeItems-1.items w.in-TakeItems.items w.items-is w.in-TakeItems.is
+      | in-TakeItems-2 w ↦ took_so c.args.event c.in-TakeItems-1.items w.in-TakeItems.items w.items-is w.in-TakeItems.is
+    ] in
+    let counts : Counts (meant s.auditor.capacity) (kept_of O s) (TakeItems items why) after = subst (λ z. Counts (meant s.auditor.capacity) (kept_of O s) z after) is e.decides.1 in
+    let moves : Moves (offered_at c.args.line) s.auditor.shut (TakeItems items why) (O s.auditor.inside.list) left = subst (λ z. Moves (offered_at c.args.line) s.auditor.shut z (O s.auditor.inside.list) left) is e.entries in
     let x = c.takes.ensures.others in
     let m = c.takes.new.self in
-    let items = c.in-TakeItems.items.now in
     told_so O T _ capacity events _ (told c.args.event) is
-    (next_remembers O T s _ capacity events (TakeItems items) r (ap (λ z. z.capacity) x.0 ∙ e.reads.0)
-    (subst (λ z. Counts capacity (kept_of O s) (TakeItems items) (kept (items_of (O z.inside.list)) z.put z.take z.shut)) (sym x.0) (counted_so O T s capacity events r (TakeItems items) after counts))
-    (ap (λ z. O z.inside.list) x.0 ∙ inside_after O T s capacity events r (TakeItems items) c.args.line after left number refl counts moves (λ count f. absurd cc))
+    (next_remembers O T s _ capacity events (TakeItems items why) r (ap (λ z. z.capacity) x.0 ∙ e.decides.0)
+    (subst (λ z. Counts capacity (kept_of O s) (TakeItems items why) (kept (items_of (O z.inside.list)) z.put z.take z.shut)) (sym x.0) (counted_so O T s capacity events r (TakeItems items why) after counts))
+    (ap (λ z. O z.inside.list) x.0 ∙ inside_after O T s capacity events r (TakeItems items why) c.args.line after left number refl counts moves (λ count why f. absurd cc))
     (took (taken past) r.taken ∙ ap (λ z. last_of 65536 (taken past ++ map (taken_at z) items)) (line_is O T s capacity events r c.args.line number)) (x.1 ∙ r.ended) (x.2 ∙ r.told) (x.3 ∙ r.put_at)
     (x.4 ∙ r.stored_at)))
 
@@ -126,9 +146,13 @@ returns-in-TakeItems-clause-refused g c = then_err c.takes.result c.takes.ensure
     let past = reverse events in
     let O = g.S.Offered.Fifo.items in
     let T = g.S.Taken.Fifo.items in
-    let is : told c.args.event ≡ TakeItems c.in-TakeItems.items.now = ap told c.in-TakeItems.is in
+    let items = c.in-TakeItems-1.items.now in
+    let (why, is) = elim c.in-TakeItems-1.branch as (λ _. (why : Bool) × (told c.args.event ≡ TakeItems c.in-TakeItems-1.items.now why)) [
+      | in-TakeItems w ↦ took_so c.args.event c.in-TakeItems-1.items w.in-TakeItems.items w.items-is w.in-TakeItems.is
+      | in-TakeItems-2 w ↦ took_so c.args.event c.in-TakeItems-1.items w.in-TakeItems.items w.items-is w.in-TakeItems.is
+    ] in
     let (short, many) = full.1 (taken past) r.taken in
-    let got : g.S.Taken.Fifo.room s.taken < length (all_got (events ++ TakeItems c.in-TakeItems.items.now ∷ [])) = omega (arith, many, taken_all events (TakeItems c.in-TakeItems.items.now)) in
+    let got : g.S.Taken.Fifo.room s.taken < length (all_got (events ++ TakeItems items why ∷ [])) = omega (arith, many, taken_all events (TakeItems items why)) in
     let needs : OutgrowsLists (g.S.Offered.Fifo.room s.auditor.inside.list) (g.S.Taken.Fifo.room s.taken) capacity (events ++ told c.args.event ∷ []) =
     subst (λ z. OutgrowsLists (g.S.Offered.Fifo.room s.auditor.inside.list) (g.S.Taken.Fifo.room s.taken) capacity (events ++ z ∷ [])) (sym is) (inr (short, got)) in
     subst (λ z. RefusesNext O T (g.S.Offered.Fifo.room s.auditor.inside.list) (g.S.Taken.Fifo.room s.taken) c.takes.new.self capacity events (told c.args.event) z) (sym full.0) needs)
@@ -169,9 +193,9 @@ returns-in-PutFull-clause-kept g c capacity events r number =
         ]
       ]
     ] in
-    let not_stored : (count : ℕ) → told c.args.event ≡ PutStored count → ⊥ = λ count f. subst (λ z. IsQuiet z) f silent in
-    quiet_remembers O T s _ capacity events (told c.args.event) silent r e.reads.0 (counted_so O T s capacity events r (told c.args.event) after e.counts)
-    (inside_after O T s capacity events r (told c.args.event) c.args.line after left number refl e.counts e.entries not_stored) refl refl refl refl refl
+    let not_stored : (count : ℕ) (why : Bool) → told c.args.event ≡ PutStored count why → ⊥ = λ count why f. subst (λ z. IsQuiet z) f silent in
+    quiet_remembers O T s _ capacity events (told c.args.event) silent r e.decides.0 (counted_so O T s capacity events r (told c.args.event) after e.decides.1)
+    (inside_after O T s capacity events r (told c.args.event) c.args.line after left number refl e.decides.1 e.entries not_stored) refl refl refl refl refl
 
 pub returns-in_err-feed_at-clause-refused : goal.returns-in_err-feed_at-clause-refused
 returns-in_err-feed_at-clause-refused g c =
@@ -188,6 +212,7 @@ returns-in_err-feed_at-clause-refused g c =
     RefusesNext O g.S.Taken.Fifo.items o t next capacity events (told c.args.event) c.in_err-feed_at.field-0.0 =
     λ capacity events r.
     refuses O g.S.Taken.Fifo.items s capacity events r next o t (told c.args.event) c.in_err-feed_at.field-0.0
-    (still_remembers O g.S.Taken.Fifo.items s capacity events r next e.reads.0 e.counts e.entries refl refl refl refl refl)
-    (e.reads.1 events (audits O g.S.Taken.Fifo.items s capacity events r)).1 in
+    (still_remembers O g.S.Taken.Fifo.items s capacity events r next e.decides.0 e.decides.1.0 e.entries refl refl refl refl refl)
+    ((decides_reads (λ q. items_of (O q.list)) (λ q. g.S.Offered.Fifo.room q.list) s.auditor (told c.args.event) n (Err c.in_err-feed_at.field-0.0) e.decides).1 events
+    (audits O g.S.Taken.Fifo.items s capacity events r)).1 in
     search (rules, refused)

@@ -16,7 +16,7 @@ returns-in_default g c capacity events cause r n turn few e =
       | inl o ↦ absurd (c.in_default.not-Offers n o.0 o.1)
       | inr is ↦
           ap StoredAfterClose (c.ended_line.ensures ∙ is_line _ _ s.ended_at r.ended (late_ends capacity (reverse events) k a cause n is)) ∙
-          late_stored capacity (reverse events) k a cause n c.args.count is e
+          late_stored capacity (reverse events) k a cause n c.args.count c.args.why is e
     ]
 
 pub returns-then-inside-rest : goal.returns-then-inside-rest
@@ -30,7 +30,7 @@ returns-then-inside-rest g c capacity events cause r n turn few e =
     let some : 0 < 65536 = omega arith in
     ap (λ z. OnlySomeStored c.args.count z) (c.last_taken.ensures ∙ last_is_last 65536 (reverse events) _ some r.taken
     (some_taken capacity (reverse events) k a cause c.in-Offers.offered c.in-Offers.before c.in-Offers.is c.args.count most less)) ∙
-    stored_gone capacity (reverse events) k a cause c.in-Offers.offered c.in-Offers.before c.in-Offers.is c.args.count most less e
+    stored_gone capacity (reverse events) k a cause c.in-Offers.offered c.in-Offers.before c.in-Offers.is c.args.count c.args.why most less e
 
 pub returns-then-not-may_hold : goal.returns-then-not-may_hold
 returns-then-not-may_hold g c capacity events cause r n turn few e =
@@ -45,7 +45,7 @@ returns-then-not-may_hold g c capacity events cause r n turn few e =
     let over : ¬ MayHold capacity ((length k.inside - (c.in-Offers.offered - c.args.count)) - asked_by k.take) =
     λ h. (let held : false ≡ true = sym c.if-not-may_hold.true ∙ c.may_hold.ensures.1 (subst (λ z. MayHold z c.saturating_sub-least.result) (sym r.capacity_is) (subst (λ z. MayHold capacity z) (sym least) h)) in cc) in
     ap StoredTooMany least ∙
-    stored_over capacity (reverse events) k a cause c.in-Offers.offered c.in-Offers.before c.in-Offers.is c.args.count most enough over e
+    stored_over capacity (reverse events) k a cause c.in-Offers.offered c.in-Offers.before c.in-Offers.is c.args.count c.args.why most enough over e
 
 pub returns : goal.returns
 returns g c capacity events cause r n turn few e =
@@ -60,4 +60,4 @@ returns g c capacity events cause r n turn few e =
     let fits : MayHold capacity ((length k.inside - (c.in-Offers.offered - c.args.count)) - asked_by k.take) =
     subst (λ z. MayHold capacity z) least (subst (λ z. MayHold z c.saturating_sub-least.result) r.capacity_is (c.may_hold.ensures.0 c.if-not-may_hold.false)) in
     ap (λ z. OnlySomeWithRoom c.args.count c.in-Offers.before z) r.put_at ∙
-    stored_room capacity (reverse events) k a cause c.in-Offers.offered c.in-Offers.before c.in-Offers.is c.args.count most enough fits e
+    stored_room capacity (reverse events) k a cause c.in-Offers.offered c.in-Offers.before c.in-Offers.is c.args.count c.args.why most enough fits e

@@ -1,0 +1,133 @@
+-- Where the first fault of recorded calls is, line by line.
+use Rattle.std.proofs.Common.{◌≡◌, ◌≢◌, ◌∙◌, ◌⊎◌, ℕ, ◌+◌, take, length-append, List, [], ◌∷◌, ◌++◌, None, inl, inr, append_assoc, ap, ap₂, length, refl, sym, subst, arith}
+use Rattle.std.proofs.Math.ListN.{get_or}
+use Rattle.std.proofs.Math.Seq.{take-append_seam}
+use Rattle.std.specs.Prelude.{drop}
+use Rattle.std.proofs.lemmas.List.{append-nil}
+use Rattle.std.proofs.lemmas.List.Elements.{All-cons, All-head, All-nil, All-tail}
+use Rattle.queue_calls.specs.Calls.{Event}
+use Rattle.queue_calls.specs.Lines.{line_text}
+use Rattle.queue_calls.specs.Queue.{Capacity}
+use Rattle.queue_calls.specs.Recordings.{IsFaultOf, IsRecording, Line, first_word, line, lines_text, text_of}
+use Rattle.queue_calls.specs.RecordingStates.{HasNoFeed}
+use Rattle.queue_calls.proofs.RecordingLemmas.{feedless}
+use Rattle.ring_program.specs.Answers.{EndsAtFirstFault, IsOneLine}
+use Rattle.ring_program.specs.Readings.{IsFaultless}
+
+head_is : (x y : ℕ) (xs ys : List ℕ) → x ∷ xs ≡ y ∷ ys → x ≡ y
+head_is x y xs ys e = ap (λ (t : List ℕ). get_or t 0 0) e
+
+tail_is : (x y : ℕ) (xs ys : List ℕ) → x ∷ xs ≡ y ∷ ys → xs ≡ ys
+tail_is x y xs ys e = ap (λ (t : List ℕ). drop 1 t) e
+
+no_cons : (x : ℕ) (xs : List ℕ) → [] ≢ x ∷ xs
+no_cons x xs e = absurd (omega (arith, ap length e))
+
+none_behind : (xs ys : List ℕ) → xs ++ ys ≡ [] → xs ≡ []
+none_behind [] ys e = refl
+none_behind (x ∷ xs) ys e = absurd (no_cons x (xs ++ ys) (sym e))
+
+-- ---- two parts of one list
+
+abbrev Overlap : List ℕ → List ℕ → List ℕ → List ℕ → Type 0
+Overlap xs ys zs ws = ((d : List ℕ) × (zs ≡ xs ++ d) × (ys ≡ d ++ ws)) ⊎ ((d : List ℕ) × (xs ≡ zs ++ d) × (ws ≡ d ++ ys))
+
+overlap : (xs ys zs ws : List ℕ) → xs ++ ys ≡ zs ++ ws → Overlap xs ys zs ws
+overlap [] ys zs ws e = inl (zs, refl, e)
+overlap (x ∷ xs) ys [] ws e = inr (x ∷ xs, refl, sym e)
+overlap (x ∷ xs) ys (z ∷ zs) ws e = cons (overlap xs ys zs ws (tail_is x z (xs ++ ys) (zs ++ ws) e))
+  where
+    same : x ≡ z
+    same = head_is x z (xs ++ ys) (zs ++ ws) e
+
+    cons : Overlap xs ys zs ws → Overlap (x ∷ xs) ys (z ∷ zs) ws
+    cons (inl (d, longer, rest)) = inl (d, ap₂ (λ (c : ℕ) (t : List ℕ). c ∷ t) (sym same) longer, rest)
+    cons (inr (d, longer, rest)) = inr (d, ap₂ (λ (c : ℕ) (t : List ℕ). c ∷ t) same longer, rest)
+
+-- ---- line feeds
+
+pub one_line : (xs : List ℕ) → HasNoFeed xs → IsOneLine xs
+one_line xs none a b e = absurd (feedless xs a b none e)
+
+pub line_behind : (xs ys : List ℕ) → HasNoFeed xs → IsOneLine ys → IsOneLine (xs ++ ys)
+line_behind [] ys none one a b e = one a b e
+line_behind (x ∷ xs) ys none one [] b e = absurd (All-head (λ c. c ≢ 10) x xs none (head_is x 10 (xs ++ ys) b e))
+line_behind (x ∷ xs) ys none one (c ∷ a) b e = line_behind xs ys (All-tail (λ c. c ≢ 10) x xs none) one a b (tail_is x c (xs ++ ys) (a ++ 10 ∷ b) e)
+
+feed_alone : IsOneLine (10 ∷ [])
+feed_alone [] b e = sym (tail_is 10 10 [] b e)
+feed_alone (c ∷ a) b e = absurd (feedless [] a b (All-nil (λ c. c ≢ 10)) (tail_is 10 c [] (a ++ 10 ∷ b) e))
+
+-- the bytes before a line feed, and it
+pub front_line : (bytes front more line : List ℕ) → HasNoFeed front → bytes ≡ front ++ 10 ∷ more → line ≡ take (length front + 1) bytes → IsOneLine line
+front_line bytes front more line none is cut =
+    let whole = front ++ 10 ∷ [] in
+    let many : length front + 1 ≡ length whole = omega (arith, length-append front (10 ∷ [])) in
+    let same : line ≡ whole =
+    cut ∙ ap₂ (λ (n : ℕ) (t : List ℕ). take n t) many (is ∙ sym (append_assoc front (10 ∷ []) more)) ∙ take-append_seam whole more in
+    subst IsOneLine (sym same) (line_behind front (10 ∷ []) none feed_alone)
+
+-- a text of lines ends in a line feed
+ends_in_feed : (l : Line) (ls : List Line) → (t : List ℕ) × (lines_text (l ∷ ls) ≡ t ++ 10 ∷ [])
+ends_in_feed l [] = (line_text l.word l.numbers, append-nil (text_of l))
+ends_in_feed l (m ∷ ls) =
+    let later = ends_in_feed m ls in
+    (text_of l ++ later.0, ap (λ (t : List ℕ). text_of l ++ t) later.1 ∙ sym (append_assoc (text_of l) later.0 (10 ∷ [])))
+
+recording_ends : (bytes : List ℕ) (capacity : Capacity) (events : List Event) → IsRecording bytes capacity events → (t : List ℕ) × (bytes ≡ t ++ 10 ∷ [])
+recording_ends bytes capacity events is =
+    let ends = ends_in_feed (line (first_word is.is_cut) is.first) is.further in
+    (ends.0, is.text ∙ ends.1)
+
+-- what stands behind a front, and has no line feed, is nothing where the whole ends in one
+nothing_behind : (front d t : List ℕ) → HasNoFeed d → t ++ 10 ∷ [] ≡ front ++ d → d ≡ []
+nothing_behind front d t none e = by (overlap t (10 ∷ []) front d e)
+  where
+    by : Overlap t (10 ∷ []) front d → d ≡ []
+    by (inl ([], longer, rest)) = absurd (feedless d [] [] none (sym rest))
+    by (inl (x ∷ more, longer, rest)) = short more (tail_is 10 x [] (more ++ d) rest)
+      where
+        short : (more : List ℕ) → [] ≡ more ++ d → d ≡ []
+        short [] e = sym e
+        short (y ∷ ys) e = absurd (no_cons y (ys ++ d) e)
+    by (inr (more, longer, rest)) = absurd (feedless d more [] none rest)
+
+-- ---- the first fault
+
+-- lines that have no fault, and then some of a line
+ends_at_shorter : (ended d front : List ℕ) → ended ≡ front ++ d → HasNoFeed d → IsFaultOf ended None → EndsAtFirstFault front
+ends_at_shorter [] d front is none faultless =
+    let nothing : front ≡ [] = none_behind front d (sym is) in
+    ([], [], nothing, faultless, one_line [] (All-nil (λ c. c ≢ 10)))
+ends_at_shorter (x ∷ ended) d front is none faultless =
+    let found = faultless (λ e. no_cons x ended (sym e)) in
+    let feed = recording_ends (x ∷ ended) found.1.0 found.1.1 found.1.2 in
+    let nothing : d ≡ [] = nothing_behind front d feed.0 none (sym feed.1 ∙ is) in
+    let same : front ≡ x ∷ ended = sym (is ∙ ap (λ (t : List ℕ). front ++ t) nothing ∙ append-nil front) in
+    (x ∷ ended, [], same ∙ sym (append-nil (x ∷ ended)), faultless, one_line [] (All-nil (λ c. c ≢ 10)))
+
+-- a line was read behind bytes whose lines have no fault; lines of these all go no further than the first fault
+pub ends_at : (bytes line front rest : List ℕ) → IsFaultless bytes → IsOneLine line → bytes ++ line ≡ front ++ rest → HasNoFeed rest → EndsAtFirstFault front
+ends_at bytes line front rest (ended, left, parts, none, faultless) one is free =
+    by (overlap ended (left ++ line) front rest (sym (append_assoc ended left line) ∙ ap (λ (t : List ℕ). t ++ line) (sym parts) ∙ is))
+  where
+    by : Overlap ended (left ++ line) front rest → EndsAtFirstFault front
+    by (inl (d, longer, more)) = (
+      ended,
+      d,
+      longer,
+      faultless,
+      λ a b e. none_behind b rest (line_behind left line none one a (b ++ rest) (more ∙ ap (λ (t : List ℕ). t ++ rest) e ∙ append_assoc a (10 ∷ b) rest)),
+    )
+    by (inr (d, longer, more)) = ends_at_shorter ended d front longer (front_free d (left ++ line) (subst HasNoFeed more free)) faultless
+      where
+        front_free : (xs ys : List ℕ) → HasNoFeed (xs ++ ys) → HasNoFeed xs
+        front_free [] ys none = All-nil (λ c. c ≢ 10)
+        front_free (x ∷ xs) ys none = All-cons (λ c. c ≢ 10) x xs (All-head (λ c. c ≢ 10) x (xs ++ ys) none) (front_free xs ys (All-tail (λ c. c ≢ 10) x (xs ++ ys) none))
+
+-- bytes whose lines have no fault go no further than one
+pub faultless_ends : (bytes : List ℕ) → IsFaultless bytes → EndsAtFirstFault bytes
+faultless_ends bytes (ended, rest, parts, none, faultless) = (ended, rest, parts, faultless, one_line rest none)
+
+pub nothing_is_faultless : IsFaultless []
+nothing_is_faultless = ([], [], refl, All-nil (λ c. c ≢ 10), λ some. absurd (some refl))
