@@ -9,9 +9,12 @@ pub enum Kind {
     Start,
     Producer,
     Consumer,
+    Cut,
     Queue,
+    CutQueue,
     Put,
     Stored,
+    PutSome,
     Full,
     PutShort,
     PutNothing,
@@ -19,6 +22,7 @@ pub enum Kind {
     Close,
     Take,
     Item,
+    TakeSome,
     Empty,
     TakeShort,
     TakeNothing,
@@ -31,10 +35,13 @@ impl Kind {
     fn with(self, word: &[u8]) -> Self {
         match (self, word) {
             (Kind::Start, b"queue") => Kind::Queue,
+            (Kind::Start, b"cut") => Kind::Cut,
+            (Kind::Cut, b"queue") => Kind::CutQueue,
             (Kind::Start, b"P") => Kind::Producer,
             (Kind::Start, b"C") => Kind::Consumer,
             (Kind::Producer, b"put") => Kind::Put,
             (Kind::Producer, b"stored") => Kind::Stored,
+            (Kind::Producer, b"some") => Kind::PutSome,
             (Kind::Producer, b"full") => Kind::Full,
             (Kind::Producer, b"short") => Kind::PutShort,
             (Kind::Producer, b"nothing") => Kind::PutNothing,
@@ -42,6 +49,7 @@ impl Kind {
             (Kind::Producer, b"close") => Kind::Close,
             (Kind::Consumer, b"take") => Kind::Take,
             (Kind::Consumer, b"item") => Kind::Item,
+            (Kind::Consumer, b"some") => Kind::TakeSome,
             (Kind::Consumer, b"empty") => Kind::Empty,
             (Kind::Consumer, b"short") => Kind::TakeShort,
             (Kind::Consumer, b"nothing") => Kind::TakeNothing,
@@ -53,12 +61,18 @@ impl Kind {
     // How many numbers a line of this kind may have, at least and at most.
     fn numbers(self) -> (usize, usize) {
         match self {
-            Kind::Queue => (0, 2),
-            Kind::Put | Kind::Item => (1, usize::MAX),
+            Kind::Queue | Kind::CutQueue => (0, 2),
+            Kind::Put | Kind::Item | Kind::TakeSome => (1, usize::MAX),
             Kind::Stored | Kind::Take => (0, 1),
-            Kind::Start | Kind::Producer | Kind::Consumer | Kind::Bad => (1, 0),
+            Kind::PutSome => (1, 1),
+            Kind::Start | Kind::Cut | Kind::Producer | Kind::Consumer | Kind::Bad => (1, 0),
             _ => (0, 0),
         }
+    }
+
+    // Whether its numbers are items.
+    fn has_items(self) -> bool {
+        matches!(self, Kind::Put | Kind::Item | Kind::TakeSome)
     }
 }
 
@@ -152,17 +166,14 @@ impl Line {
     }
 
     pub fn word(&mut self, word: &[u8], keeps: bool) {
-        if !matches!(
-            self.kind,
-            Kind::Queue | Kind::Put | Kind::Stored | Kind::Take | Kind::Item
-        ) {
+        if self.kind.numbers().1 == 0 {
             self.kind = self.kind.with(word);
             return;
         }
         match number(word) {
             Some(value) if self.counted < self.kind.numbers().1 => {
                 self.counted += 1;
-                if keeps || !matches!(self.kind, Kind::Put | Kind::Item) {
+                if keeps || !self.kind.has_items() {
                     self.numbers.push(value);
                 }
             }
@@ -173,12 +184,12 @@ impl Line {
     // Whether this is a line of the format, as the first of a text or further on.
     pub fn is_good(&self, first: bool) -> bool {
         let (least, most) = self.kind.numbers();
-        first == (self.kind == Kind::Queue)
+        first == matches!(self.kind, Kind::Queue | Kind::CutQueue)
             && (least..=most).contains(&self.counted)
             && match (self.kind, &self.numbers[..]) {
-                (Kind::Queue, [capacity]) => *capacity >= 1,
-                (Kind::Queue, [low, high]) => 1 <= *low && low < high,
-                (Kind::Stored, [count]) => *count >= 1,
+                (Kind::Queue | Kind::CutQueue, [capacity]) => *capacity >= 1,
+                (Kind::Queue | Kind::CutQueue, [low, high]) => low < high,
+                (Kind::Stored | Kind::PutSome, [count]) => *count >= 1,
                 (Kind::Take, [count]) => *count >= 2,
                 _ => true,
             }

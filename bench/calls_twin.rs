@@ -100,12 +100,15 @@ impl Audit {
         match kind {
             Kind::Put | Kind::Close => self.begin_put(at, kind, numbers),
             Kind::Take => self.begin_take(numbers),
-            Kind::Item | Kind::Empty | Kind::TakeShort | Kind::TakeNothing | Kind::TakeClosed => {
-                match self.take.take() {
-                    Some(turn) => self.end_take(at, kind, &turn, numbers),
-                    None => out_of_turn(),
-                }
-            }
+            Kind::Item
+            | Kind::TakeSome
+            | Kind::Empty
+            | Kind::TakeShort
+            | Kind::TakeNothing
+            | Kind::TakeClosed => match self.take.take() {
+                Some(turn) => self.end_take(at, kind, &turn, numbers),
+                None => out_of_turn(),
+            },
             _ => match std::mem::replace(&mut self.put, PutTurn::Rests) {
                 PutTurn::Rests => out_of_turn(),
                 PutTurn::Puts(put) => self.end_put(at, kind, &put, numbers.first().copied()),
@@ -179,7 +182,12 @@ impl Audit {
     // A put ends, and stored so many of its items where that is told.
     fn end_put(&mut self, at: u64, kind: Kind, put: &Put, some: Option<u64>) -> Verdict {
         let offered = put.offered;
-        if kind == Kind::PutShort && offered == 1 || some.is_some_and(|count| count >= offered) {
+        let is_of_another = match kind {
+            Kind::PutShort => offered == 1,
+            Kind::PutSome => some > Some(offered),
+            _ => some >= Some(offered),
+        };
+        if is_of_another {
             return out_of_turn();
         }
         if kind == Kind::PutClosed {
@@ -189,7 +197,7 @@ impl Audit {
             };
         }
         let (word, count) = match kind {
-            Kind::Stored => ("stored", some.unwrap_or(offered)),
+            Kind::Stored | Kind::PutSome => ("stored", some.unwrap_or(offered)),
             Kind::Full => ("full", 0),
             Kind::PutShort => ("short", 0),
             _ => ("nothing", 0),
@@ -224,7 +232,10 @@ impl Audit {
             self.stored_at = at;
         }
         self.stored += count;
-        let says_full = some.is_some() || kind == Kind::Full || kind == Kind::PutShort;
+        let says_full = match kind {
+            Kind::Stored => some.is_some(),
+            _ => kind == Kind::Full || kind == Kind::PutShort,
+        };
         self.report.full += u64::from(says_full);
         self.report.nothing += u64::from(kind == Kind::PutNothing);
         Ok(())
@@ -264,7 +275,7 @@ impl Audit {
             return Ok(());
         }
         let word = match kind {
-            Kind::Item => "item",
+            Kind::Item | Kind::TakeSome => "item",
             Kind::Empty => "empty",
             Kind::TakeShort => "short",
             _ => "nothing",
@@ -368,6 +379,7 @@ pub struct Reading {
     line: Line,
     at: u64,
     audit: Option<Audit>,
+    is_cut: bool,
     fault: Option<String>,
 }
 
@@ -377,6 +389,7 @@ impl Reading {
             line: Line::default(),
             at: 1,
             audit: None,
+            is_cut: false,
             fault: None,
         }
     }
@@ -399,13 +412,17 @@ impl Reading {
             line,
             at,
             audit,
+            is_cut,
             fault,
         } = self;
         if !line.is_good(*at == 1) {
             return Err(refusal(*at));
         }
         match audit {
-            None => *audit = Some(Audit::new(&line.numbers)),
+            None => {
+                *audit = Some(Audit::new(&line.numbers));
+                *is_cut = line.kind == Kind::CutQueue;
+            }
             Some(audit) if fault.is_none() => {
                 let verdict = audit.line(*at, line.kind, &line.numbers);
                 *fault = verdict
@@ -426,7 +443,7 @@ impl Reading {
             (Some(_), _) if self.line.begun => refusal(self.at),
             (None, _) => refusal(self.at),
             (Some(_), Some(fault)) => (3, fault.clone()),
-            (Some(audit), None) => (0, audit.report()),
+            (Some(audit), None) => (0, audit.report() + if self.is_cut { "\ncut yes" } else { "" }),
         }
     }
 }

@@ -18,11 +18,11 @@ import java.util.concurrent.atomic.AtomicLong;
  * interval is only ever widened. getAndIncrement is sequentially consistent: where the ticket of an end is below that of a begin, the one
  * call happens before the other, and a right queue has to respect that. All other calls overlap in the recording. While recording nothing
  * is allocated (but by the boxing of your own items) and nothing locked; where a side has no more room the history is cut there, for
- * both sides. Items are longs, written without a sign: -1 is 18446744073709551615.
+ * both sides, and its first line begins with {@code cut}. Items are longs, written without a sign: -1 is 18446744073709551615.
  */
 public final class RingCalls {
-    private static final String[] WORDS = { "P put", "P close", "C take", "P stored", "P full", "P short", "P nothing", "P closed",
-        "C item", "C empty", "C short", "C nothing", "C closed" };
+    private static final String[] WORDS = { "P put", "P close", "C take", "P stored", "P some", "P full", "P short", "P nothing",
+        "P closed", "C item", "C some", "C empty", "C short", "C nothing", "C closed" };
 
     /** Of each event its kind and how many numbers it has, its ticket, the numbers. */
     private static final class Log {
@@ -82,30 +82,34 @@ public final class RingCalls {
     public void storedOf(int stored, int offered) {
         if (stored == 0) full(); else if (stored == offered) stored(); else one(puts, 3, stored);
     }
-    public void full() { begin(puts, 4, 0); }
+    /** The first ones were stored, so many, and the call does not say why not more. */
+    public void some(int stored) { if (stored == 0) putNothing(); else one(puts, 4, stored); }
+    public void full() { begin(puts, 5, 0); }
     /** A put of all or nothing: of two items or more none was stored, there was not room for all. */
-    public void putShort() { begin(puts, 5, 0); }
+    public void putShort() { begin(puts, 6, 0); }
     /** None was stored, and the call does not say why. */
-    public void putNothing() { begin(puts, 6, 0); }
+    public void putNothing() { begin(puts, 7, 0); }
     /** A close ends, or a put that found the queue closed. */
-    public void closed() { begin(puts, 7, 0); }
+    public void closed() { begin(puts, 8, 0); }
 
     public void take() { begin(takes, 2, 0); }
     /** At most so many items, from 1. */
     public void takeAll(int most) { if (most > 1) one(takes, 2, most); else take(); }
-    public void item(long item) { one(takes, 8, item); }
-    public void items(long[] items, int n) { if (n == 0) empty(); else all(takes, 8, items, n); }
-    public void empty() { begin(takes, 9, 0); }
+    public void item(long item) { one(takes, 9, item); }
+    public void items(long[] items, int n) { if (n == 0) empty(); else all(takes, 9, items, n); }
+    /** So many items, and the call does not say why not more. */
+    public void someItems(long[] items, int n) { if (n == 0) takeNothing(); else all(takes, 10, items, n); }
+    public void empty() { begin(takes, 11, 0); }
     /** A take of all or nothing: of two items or more there were not enough. */
-    public void takeShort() { begin(takes, 10, 0); }
-    public void takeNothing() { begin(takes, 11, 0); }
+    public void takeShort() { begin(takes, 12, 0); }
+    public void takeNothing() { begin(takes, 13, 0); }
     /** Empty, and closed. */
-    public void told() { begin(takes, 12, 0); }
+    public void told() { begin(takes, 14, 0); }
 
     /** Writes the recording; head is its first line: "queue 8", "queue 1 512" or "queue". */
     public void write(String head, Writer out) throws IOException {
         long cut = Math.min(puts.cut, takes.cut);
-        out.write(head + "\n");
+        out.write((cut == Long.MAX_VALUE ? "" : "cut ") + head + "\n");
         int i = 0;
         int j = 0;
         while (Math.min(puts.next(i, cut), takes.next(j, cut)) != Long.MAX_VALUE) {

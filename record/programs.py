@@ -24,7 +24,7 @@ def kinds_in_c(name, compiler):
                    f"{compiler} -O2 -Wall -Wextra -Wpedantic -Werror -I. kinds/kinds.c -o $ROOM/kinds_{name}", f"$ROOM/kinds_{name}")
 
 
-# Each records every kind of event once.
+# Each records every kind of event.
 KINDS = [
     kinds_in_c("c11", "gcc -std=c11"),
     kinds_in_c("cpp11", "g++ -x c++ -std=c++11"),

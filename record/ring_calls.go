@@ -11,7 +11,8 @@ package main
 // Why there is no false alarm: each begin takes the next ticket of one counter before the call, each end after it, so an interval
 // is only ever widened. Atomic operations of Go are sequentially consistent: where the ticket of an end is below that of a begin, the one
 // call happens before the other, and a right queue has to respect that. All other calls overlap in the recording. While recording nothing
-// is allocated and nothing locked; where a side has no more room the history is cut there, for both sides.
+// is allocated and nothing locked; where a side has no more room the history is cut there, for both sides, and its first line begins
+// with `cut`.
 
 import (
 	"bufio"
@@ -22,8 +23,8 @@ import (
 )
 
 // How a line of each kind begins; the first three are begins.
-var ringWords = [...]string{"P put", "P close", "C take", "P stored", "P full", "P short", "P nothing", "P closed",
-	"C item", "C empty", "C short", "C nothing", "C closed"}
+var ringWords = [...]string{"P put", "P close", "C take", "P stored", "P some", "P full", "P short", "P nothing", "P closed",
+	"C item", "C some", "C empty", "C short", "C nothing", "C closed"}
 
 // Of each event its kind and how many numbers it has, its ticket, the numbers.
 type ringLog struct {
@@ -71,7 +72,7 @@ func (r *RingCalls) event(l *ringLog, kind uint64, numbers ...uint64) {
 func (r *RingCalls) Put(items ...uint64) { r.event(&r.p, 0, items...) }
 func (r *RingCalls) Close()              { r.event(&r.p, 1) }
 func (r *RingCalls) Stored()             { r.event(&r.p, 3) }
-func (r *RingCalls) Full()               { r.event(&r.p, 4) }
+func (r *RingCalls) Full()               { r.event(&r.p, 5) }
 
 // StoredOf: of the items offered the first ones were stored, as many as there was room for.
 func (r *RingCalls) StoredOf(stored, offered uint64) {
@@ -84,14 +85,23 @@ func (r *RingCalls) StoredOf(stored, offered uint64) {
 	}
 }
 
+// Some: the first ones were stored, so many, and the call does not say why not more.
+func (r *RingCalls) Some(stored uint64) {
+	if stored == 0 {
+		r.PutNothing()
+	} else {
+		r.event(&r.p, 4, stored)
+	}
+}
+
 // PutShort: a put of all or nothing; of two items or more none was stored, there was not room for all.
-func (r *RingCalls) PutShort() { r.event(&r.p, 5) }
+func (r *RingCalls) PutShort() { r.event(&r.p, 6) }
 
 // PutNothing: none was stored, and the call does not say why.
-func (r *RingCalls) PutNothing() { r.event(&r.p, 6) }
+func (r *RingCalls) PutNothing() { r.event(&r.p, 7) }
 
 // Closed: a close ends, or a put that found the queue closed.
-func (r *RingCalls) Closed() { r.event(&r.p, 7) }
+func (r *RingCalls) Closed() { r.event(&r.p, 8) }
 
 // The consumer's.
 func (r *RingCalls) Take() { r.event(&r.c, 2) }
@@ -104,15 +114,24 @@ func (r *RingCalls) TakeAll(most uint64) {
 		r.Take()
 	}
 }
-func (r *RingCalls) Item(items ...uint64) { r.event(&r.c, 8, items...) }
-func (r *RingCalls) Empty()               { r.event(&r.c, 9) }
+func (r *RingCalls) Item(items ...uint64) { r.event(&r.c, 9, items...) }
+func (r *RingCalls) Empty()               { r.event(&r.c, 11) }
+
+// SomeItems: these items, and the call does not say why not more.
+func (r *RingCalls) SomeItems(items ...uint64) {
+	if len(items) == 0 {
+		r.TakeNothing()
+	} else {
+		r.event(&r.c, 10, items...)
+	}
+}
 
 // TakeShort: a take of all or nothing; of two items or more there were not enough.
-func (r *RingCalls) TakeShort()   { r.event(&r.c, 10) }
-func (r *RingCalls) TakeNothing() { r.event(&r.c, 11) }
+func (r *RingCalls) TakeShort()   { r.event(&r.c, 12) }
+func (r *RingCalls) TakeNothing() { r.event(&r.c, 13) }
 
 // Told: empty, and closed.
-func (r *RingCalls) Told() { r.event(&r.c, 12) }
+func (r *RingCalls) Told() { r.event(&r.c, 14) }
 
 // Write writes the recording; head is its first line: "queue 8", "queue 1 512" or "queue".
 func (r *RingCalls) Write(head string, to io.Writer) error {
@@ -123,6 +142,9 @@ func (r *RingCalls) Write(head string, to io.Writer) error {
 			return l.words[at+1]
 		}
 		return math.MaxUint64
+	}
+	if cut != math.MaxUint64 {
+		fmt.Fprint(out, "cut ")
 	}
 	fmt.Fprintln(out, head)
 	for i, j := 0, 0; min64(next(&r.p, i), next(&r.c, j)) != math.MaxUint64; {

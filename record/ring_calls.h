@@ -18,7 +18,8 @@
  * between calls that do not overlap can go unseen.
  *
  * While recording nothing is allocated and nothing locked. Where a side has no more room the history is cut, for both sides, at the
- * ticket of the first event that was not kept: a first part of what happened, and a first part of a lawful history is lawful.
+ * ticket of the first event that was not kept: a first part of what happened, and a first part of a lawful history is lawful. The first
+ * line then begins with `cut`.
  *
  * RING_CALLS_TSC (x86, an invariant counter of cycles that all cores share) takes time stamps for tickets: no shared counter. The
  * fences are needed: without mfence a store of the call may still wait in the store buffer at its end's stamp, without lfence a load of
@@ -44,8 +45,8 @@ typedef _Atomic uint64_t ring_calls_counter;
 
 enum {
     RING_PUT, RING_CLOSE, RING_TAKE, RING_ENDS,
-    RING_STORED = RING_ENDS, RING_FULL, RING_PUT_SHORT, RING_PUT_NOTHING, RING_CLOSED,
-    RING_ITEM, RING_EMPTY, RING_TAKE_SHORT, RING_TAKE_NOTHING, RING_TOLD
+    RING_STORED = RING_ENDS, RING_PUT_SOME, RING_FULL, RING_PUT_SHORT, RING_PUT_NOTHING, RING_CLOSED,
+    RING_ITEM, RING_TAKE_SOME, RING_EMPTY, RING_TAKE_SHORT, RING_TAKE_NOTHING, RING_TOLD
 };
 
 /* The log of a side: of each event its kind and how many numbers it has, its ticket, the numbers. */
@@ -102,6 +103,8 @@ static inline void ring_calls_full(ring_calls *r) { ring_calls_event(r, &r->p, R
 static inline void ring_calls_stored_of(ring_calls *r, uint64_t m, uint64_t n) {
     if (m == 0) ring_calls_full(r); else ring_calls_event(r, &r->p, RING_STORED, &m, m < n);
 }
+/* the first m were stored, and the call does not say why not more */
+static inline void ring_calls_some(ring_calls *r, uint64_t m) { ring_calls_event(r, &r->p, m ? RING_PUT_SOME : RING_PUT_NOTHING, &m, m > 0); }
 /* a put of all or nothing: of two items or more none was stored, there was not room for all */
 static inline void ring_calls_put_short(ring_calls *r) { ring_calls_event(r, &r->p, RING_PUT_SHORT, NULL, 0); }
 /* none was stored, and the call does not say why */
@@ -116,6 +119,8 @@ static inline void ring_calls_take(ring_calls *r) { ring_calls_take_all(r, 1); }
 static inline void ring_calls_items(ring_calls *r, const uint64_t *items, size_t n) { ring_calls_event(r, &r->c, n ? RING_ITEM : RING_EMPTY, items, n); }
 static inline void ring_calls_item(ring_calls *r, uint64_t item) { ring_calls_items(r, &item, 1); }
 static inline void ring_calls_empty(ring_calls *r) { ring_calls_event(r, &r->c, RING_EMPTY, NULL, 0); }
+/* n items, and the call does not say why not more */
+static inline void ring_calls_some_items(ring_calls *r, const uint64_t *items, size_t n) { ring_calls_event(r, &r->c, n ? RING_TAKE_SOME : RING_TAKE_NOTHING, items, n); }
 /* a take of all or nothing: of two items or more there were not enough */
 static inline void ring_calls_take_short(ring_calls *r) { ring_calls_event(r, &r->c, RING_TAKE_SHORT, NULL, 0); }
 static inline void ring_calls_take_nothing(ring_calls *r) { ring_calls_event(r, &r->c, RING_TAKE_NOTHING, NULL, 0); }
@@ -124,11 +129,11 @@ static inline void ring_calls_told(ring_calls *r) { ring_calls_event(r, &r->c, R
 
 /* Writes the recording; head is its first line: "queue 8", "queue 1 512" or "queue". Answers 0 where not all was written. */
 static inline int ring_calls_write(ring_calls *r, const char *head, FILE *out) {
-    static const char *const words[] = { "P put", "P close", "C take", "P stored", "P full", "P short", "P nothing", "P closed",
-                                         "C item", "C empty", "C short", "C nothing", "C closed" };
+    static const char *const words[] = { "P put", "P close", "C take", "P stored", "P some", "P full", "P short", "P nothing", "P closed",
+                                         "C item", "C some", "C empty", "C short", "C nothing", "C closed" };
     uint64_t cut = r->p.cut < r->c.cut ? r->p.cut : r->c.cut;
     size_t i = 0, j = 0;
-    fprintf(out, "%s\n", head);
+    fprintf(out, "%s%s\n", cut == UINT64_MAX ? "" : "cut ", head);
     for (;;) {
         const uint64_t *p = i < r->p.used && r->p.words[i + 1] < cut ? r->p.words + i : NULL;
         const uint64_t *c = j < r->c.used && r->c.words[j + 1] < cut ? r->c.words + j : NULL;

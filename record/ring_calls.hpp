@@ -42,6 +42,14 @@ public:
         return stored;
     }
 
+    // The call answers how many of the items were stored, and does not say why not more.
+    template <class Call> std::size_t put_some(const uint64_t* items, std::size_t n, Call call) {
+        ring_calls_put_all(&rec, items, n);
+        std::size_t stored = call();
+        ring_calls_some(&rec, stored);
+        return stored;
+    }
+
     // The call answers whether all of the items were stored; else none was.
     template <class Call> bool put_all_or_none(const uint64_t* items, std::size_t n, Call call) {
         ring_calls_put_all(&rec, items, n);
@@ -67,6 +75,8 @@ public:
     public:
         void item(uint64_t v) { ring_calls_item(rec, v); }
         void items(const uint64_t* v, std::size_t n) { ring_calls_items(rec, v, n); }
+        // the call does not say why not more
+        void some_items(const uint64_t* v, std::size_t n) { ring_calls_some_items(rec, v, n); }
         void empty() { ring_calls_empty(rec); }
         // a take of all or nothing that asked for so many
         void too_few(std::size_t asked) { if (asked > 1) ring_calls_take_short(rec); else ring_calls_empty(rec); }

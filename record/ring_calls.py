@@ -10,13 +10,13 @@ Why there is no false alarm: each begin takes the next ticket of one counter bef
 ever widened. next() of a count is one step of C under the interpreter's lock, and that lock orders the threads: where the ticket of an end
 is below that of a begin, the one call happens before the other. (A build without that lock needs a lock round next.) The logs are there
 before the recording begins, but CPython allocates its numbers as it goes. Where a side has no more room the history is cut there,
-for both sides: a first part of what happened."""
+for both sides: a first part of what happened, whose first line begins with `cut`."""
 import array
 import heapq
 import itertools
 
-WORDS = ("P put", "P close", "C take", "P stored", "P full", "P short", "P nothing", "P closed",
-         "C item", "C empty", "C short", "C nothing", "C closed")
+WORDS = ("P put", "P close", "C take", "P stored", "P some", "P full", "P short", "P nothing", "P closed",
+         "C item", "C some", "C empty", "C short", "C nothing", "C closed")
 NEVER = 2**64 - 1
 
 
@@ -73,44 +73,52 @@ class Recorder:
         else:
             self._p(3, (stored,) if stored < offered else ())
 
+    def some(self, stored):
+        """The first ones were stored, so many, and the call does not say why not more."""
+        self._p(4, (stored,)) if stored else self.put_nothing()
+
     def full(self):
-        self._p(4)
+        self._p(5)
 
     def put_short(self):
         """A put of all or nothing: of two items or more none was stored, there was not room for all."""
-        self._p(5)
+        self._p(6)
 
     def put_nothing(self):
         """None was stored, and the call does not say why."""
-        self._p(6)
+        self._p(7)
 
     def closed(self):
         """A close ends, or a put that found the queue closed."""
-        self._p(7)
+        self._p(8)
 
     def take(self, most=1):
         self._c(2, (most,) if most > 1 else ())
 
     def item(self, *items):
-        self._c(8, items) if items else self.empty()
+        self._c(9, items) if items else self.empty()
+
+    def some_items(self, *items):
+        """These items, and the call does not say why not more."""
+        self._c(10, items) if items else self.take_nothing()
 
     def empty(self):
-        self._c(9)
+        self._c(11)
 
     def take_short(self):
         """A take of all or nothing: of two items or more there were not enough."""
-        self._c(10)
+        self._c(12)
 
     def take_nothing(self):
-        self._c(11)
+        self._c(13)
 
     def told(self):
         """Empty, and closed."""
-        self._c(12)
+        self._c(14)
 
     def write(self, head, out):
         """Writes the recording; head is its first line: "queue 8", "queue 1 512" or "queue"."""
         cut = min(self.puts.cut, self.takes.cut)
-        out.write(head + "\n")
+        out.write(("" if cut == NEVER else "cut ") + head + "\n")
         for _, words, numbers in heapq.merge(self.puts.events(cut), self.takes.events(cut), key=lambda event: event[0]):
             out.write(" ".join([words, *map(str, numbers)]) + "\n")

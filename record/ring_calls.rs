@@ -12,7 +12,8 @@
 //! Why there is no false alarm: each begin takes the next ticket of one counter before the call, each end after it. Where the
 //! ticket of an end is below that of a begin, the begin's `fetch_add` (Acquire) reads from the release sequence that the end's (Release)
 //! heads: the one call happens before the other, and a right queue has to respect that. All other calls overlap in the recording. While
-//! recording nothing is allocated and nothing locked; where a side has no more room the history is cut there, for both sides.
+//! recording nothing is allocated and nothing locked; where a side has no more room the history is cut there, for both sides, and its
+//! first line begins with `cut`.
 #![allow(dead_code)]
 use std::io::{self, Write};
 use std::sync::atomic::{AtomicU64, Ordering};
@@ -29,9 +30,9 @@ impl Clock {
 }
 
 // How a line of each kind begins; the first three are begins.
-const WORDS: [&str; 13] = [
-    "P put", "P close", "C take", "P stored", "P full", "P short", "P nothing", "P closed", "C item",
-    "C empty", "C short", "C nothing", "C closed",
+const WORDS: [&str; 15] = [
+    "P put", "P close", "C take", "P stored", "P some", "P full", "P short", "P nothing", "P closed", "C item",
+    "C some", "C empty", "C short", "C nothing", "C closed",
 ];
 const ENDS: u64 = 3;
 
@@ -81,13 +82,15 @@ impl<'a> PutLog<'a> {
             _ => self.0.event(3, &[stored as u64]),
         }
     }
-    pub fn full(&mut self) { self.0.event(4, &[]) }
+    /// The first ones were stored, so many, and the call does not say why not more.
+    pub fn some(&mut self, stored: usize) { if stored > 0 { self.0.event(4, &[stored as u64]) } else { self.nothing() } }
+    pub fn full(&mut self) { self.0.event(5, &[]) }
     /// A put of all or nothing: of two items or more none was stored, there was not room for all.
-    pub fn short(&mut self) { self.0.event(5, &[]) }
+    pub fn short(&mut self) { self.0.event(6, &[]) }
     /// None was stored, and the call does not say why.
-    pub fn nothing(&mut self) { self.0.event(6, &[]) }
+    pub fn nothing(&mut self) { self.0.event(7, &[]) }
     /// A close ends, or a put that found the queue closed.
-    pub fn closed(&mut self) { self.0.event(7, &[]) }
+    pub fn closed(&mut self) { self.0.event(8, &[]) }
 }
 
 /// The consumer's log.
@@ -98,14 +101,16 @@ impl<'a> TakeLog<'a> {
     pub fn take(&mut self) { self.0.event(2, &[]) }
     /// At most so many items, from 1.
     pub fn take_all(&mut self, most: usize) { if most > 1 { self.0.event(2, &[most as u64]) } else { self.take() } }
-    pub fn item(&mut self, item: u64) { self.0.event(8, &[item]) }
-    pub fn items(&mut self, items: &[u64]) { if items.is_empty() { self.empty() } else { self.0.event(8, items) } }
-    pub fn empty(&mut self) { self.0.event(9, &[]) }
+    pub fn item(&mut self, item: u64) { self.0.event(9, &[item]) }
+    pub fn items(&mut self, items: &[u64]) { if items.is_empty() { self.empty() } else { self.0.event(9, items) } }
+    /// These items, and the call does not say why not more.
+    pub fn some(&mut self, items: &[u64]) { if items.is_empty() { self.nothing() } else { self.0.event(10, items) } }
+    pub fn empty(&mut self) { self.0.event(11, &[]) }
     /// A take of all or nothing: of two items or more there were not enough.
-    pub fn short(&mut self) { self.0.event(10, &[]) }
-    pub fn nothing(&mut self) { self.0.event(11, &[]) }
+    pub fn short(&mut self) { self.0.event(12, &[]) }
+    pub fn nothing(&mut self) { self.0.event(13, &[]) }
     /// Empty, and closed.
-    pub fn closed(&mut self) { self.0.event(12, &[]) }
+    pub fn closed(&mut self) { self.0.event(14, &[]) }
 }
 
 /// Writes the recording; head is its first line: "queue 8", "queue 1 512" or "queue".
@@ -113,7 +118,7 @@ pub fn write_calls(head: &str, p: &PutLog, c: &TakeLog, out: &mut impl Write) ->
     let cut = p.0.cut.min(c.0.cut);
     let (mut puts, mut takes) = (&p.0.words[..], &c.0.words[..]);
     let next = |words: &[u64]| words.get(1).copied().filter(|ticket| *ticket < cut).unwrap_or(u64::MAX);
-    writeln!(out, "{head}")?;
+    writeln!(out, "{}{head}", if cut == u64::MAX { "" } else { "cut " })?;
     while next(puts).min(next(takes)) != u64::MAX {
         let log = if next(puts) < next(takes) { &mut puts } else { &mut takes };
         let end = 2 + (log[0] >> 8) as usize;

@@ -1,7 +1,7 @@
 import java.io.OutputStreamWriter;
 import java.io.Writer;
 
-/** Kinds WORDS: each kind of event once, logs of so many words. */
+/** Kinds WORDS: each kind of event, logs of so many words. */
 final class Kinds {
     public static void main(String[] args) throws Exception {
         RingCalls rec = new RingCalls(Integer.parseInt(args[0]));
@@ -25,6 +25,14 @@ final class Kinds {
         rec.empty();
         rec.take();
         rec.takeNothing();
+        rec.putAll(new long[] { 1, 2, 3 }, 3);
+        rec.some(2);
+        rec.put(6);
+        rec.some(0);
+        rec.takeAll(3);
+        rec.someItems(new long[] { 1, 2 }, 2);
+        rec.take();
+        rec.someItems(new long[0], 0);
         rec.close();
         rec.closed();
         rec.putAll(new long[] { 7, -1 }, 2);

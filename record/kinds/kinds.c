@@ -1,4 +1,4 @@
-/* kinds.c: kinds WORDS: each kind of event once, logs of so many words. As C11 and as C++11. */
+/* kinds.c: kinds WORDS: each kind of event, logs of so many words. As C11 and as C++11. */
 #include "ring_calls.h"
 
 int main(int argc, char **argv) {
@@ -25,6 +25,14 @@ int main(int argc, char **argv) {
     ring_calls_empty(&r);
     ring_calls_take(&r);
     ring_calls_take_nothing(&r);
+    ring_calls_put_all(&r, a, 3);
+    ring_calls_some(&r, 2);
+    ring_calls_put(&r, 6);
+    ring_calls_some(&r, 0);
+    ring_calls_take_all(&r, 3);
+    ring_calls_some_items(&r, a, 2);
+    ring_calls_take(&r);
+    ring_calls_some_items(&r, a, 0);
     ring_calls_close(&r);
     ring_calls_closed(&r);
     ring_calls_put_all(&r, c, 2);

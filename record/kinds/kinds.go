@@ -1,4 +1,4 @@
-// kinds WORDS: each kind of event once, logs of so many words.
+// kinds WORDS: each kind of event, logs of so many words.
 package main
 
 import (
@@ -30,6 +30,14 @@ func main() {
 	rec.Empty()
 	rec.Take()
 	rec.TakeNothing()
+	rec.Put(1, 2, 3)
+	rec.Some(2)
+	rec.Put(6)
+	rec.Some(0)
+	rec.TakeAll(3)
+	rec.SomeItems(1, 2)
+	rec.Take()
+	rec.SomeItems()
 	rec.Close()
 	rec.Closed()
 	rec.Put(7, math.MaxUint64)

@@ -1,4 +1,4 @@
-"""kinds WORDS: each kind of event once, logs of so many words."""
+"""kinds WORDS: each kind of event, logs of so many words."""
 import os
 import sys
 
@@ -26,6 +26,14 @@ rec.take()
 rec.empty()
 rec.take()
 rec.take_nothing()
+rec.put(1, 2, 3)
+rec.some(2)
+rec.put(6)
+rec.some(0)
+rec.take(3)
+rec.some_items(1, 2)
+rec.take()
+rec.some_items()
 rec.close()
 rec.closed()
 rec.put(7, 2**64 - 1)

@@ -1,4 +1,4 @@
-//! kinds WORDS: each kind of event once, logs of so many words.
+//! kinds WORDS: each kind of event, logs of so many words.
 #[path = "../ring_calls.rs"]
 mod ring_calls;
 use ring_calls::{Clock, PutLog, TakeLog, write_calls};
@@ -27,6 +27,14 @@ fn main() -> std::io::Result<()> {
     c.empty();
     c.take();
     c.nothing();
+    p.put_all(&[1, 2, 3]);
+    p.some(2);
+    p.put(6);
+    p.some(0);
+    c.take_all(3);
+    c.some(&[1, 2]);
+    c.take();
+    c.some(&[]);
     p.close();
     p.closed();
     p.put_all(&[7, u64::MAX]);
