@@ -11,7 +11,7 @@ const FAMILIES = ["s", "r", "x", "c"];
 const KINDS = ["", "wrong side", "out of turn", "not permitted", "not of the program"];
 const WHYS = ["", "the bit is not of the shape, or this side may not do this to it"];
 const TOLD = 10 + 8 + 3 * 6; // numbers of what an audit tells: of the trace, of its programs, of three events that were due
-const CALLS_TOLD = 5 + 11; // numbers of what is told of recorded calls: the finding with its lines and how many bytes its words have, the report
+const CALLS_TOLD = 6 + 11; // numbers of what is told of recorded calls: the finding with its lines, how many bytes its words have and whether it is cut, the report
 const CAUSE_WORDS = 256; // bytes that hold the words of any cause
 const MOST_TAKEN = 65536; // items taken that the audit of recorded calls keeps
 const SHAPE_FAULTS = ["", "capacity must be from 1 to 64", "modulus must be from capacity + batch + 1 to 256",
@@ -177,19 +177,20 @@ export async function openModule(bytes) {
     return {shape: {capacity, modulus, width, batch}, events: getEvents(marks, Math.min(count, room)), report, letters: all};
   };
 
-  // What is found of recorded calls: {refused, line}, or {words, cause, line, against, report}, where `line` is that at fault, or 0, `cause` has the
-  // module's words for what speaks against it, where it is in its turn, and `against` is the line that contradicts it, or 0.
+  // What is found of recorded calls: {refused, line}, or {words, cause, line, against, isCut, report}, where `line` is that at fault, or 0, `cause` has
+  // the module's words for what speaks against it, where it is in its turn, `against` is the line that contradicts it, or 0, and it `isCut` where the
+  // first line says that later calls are missing.
   const calls = text => {
     const bytes = new TextEncoder().encode(text), [all, most, last] = spacesIn(bytes);
     const [told, offered, taken, numbers, rest, said, at] = lay([CALLS_TOLD * 8, all * 24, Math.min(all, MOST_TAKEN) * 16, most * 8, last, CAUSE_WORDS, bytes.length]);
     setBytes(at, bytes);
     call("page_calls", at, bytes.length, offered, all, taken, Math.min(all, MOST_TAKEN), numbers, most, rest, last, said, CAUSE_WORDS, told);
-    const [outcome, number, line, against, saidCount, ...counts] = new BigUint64Array(exports.memory.buffer, told, CALLS_TOLD);
+    const [outcome, number, line, against, saidCount, cut, ...counts] = new BigUint64Array(exports.memory.buffer, told, CALLS_TOLD);
     if (outcome === 2n) return {refused: ["", `calls line ${line} is not a line of the format`, "calls are too many", "calls need more room than there is"][Number(number)], line: Number(line)};
-    const [made, stored, gone, full, empty, nothing, isTold, surely, perhaps, overlapped, open] = counts.map(String);
-    if (outcome === 0n) return {words: "lawful", line: 0, against: 0, report: {calls: made, stored, taken: gone, full, empty, nothing, told: isTold === "1", surely, perhaps, overlapped, open}};
+    const isCut = cut === 1n, [made, stored, gone, full, empty, nothing, isTold, surely, perhaps, overlapped, open] = counts.map(String);
+    if (outcome === 0n) return {words: "lawful", line: 0, against: 0, isCut, report: {calls: made, stored, taken: gone, full, empty, nothing, told: isTold === "1", surely, perhaps, overlapped, open}};
     const cause = number === 2n ? new TextDecoder().decode(new Uint8Array(exports.memory.buffer, said, Number(saidCount))) : KINDS[2];
-    return {words: `fault: line ${line}: ${cause}`, cause, line: Number(line), against: Number(against), report: null};
+    return {words: `fault: line ${line}: ${cause}`, cause, line: Number(line), against: Number(against), isCut, report: null};
   };
 
   // How many of the first marks of a history of calls can come one after the other, at a queue that may say from `full` items on that it is full

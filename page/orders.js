@@ -2,9 +2,9 @@
 // the other, the module tells.
 
 // The numbers of the module: of events, by the reply of their call, and of operations.
-const BEGINS = {put: 0, close: 6, take: 8}, CLOSED = 7;
-const ENDS = {P: {stored: 1, full: 2, short: 3, nothing: 4, closed: 5}, C: {item: 9, empty: 10, short: 11, nothing: 12, closed: 13}};
-const DOES = {in: 14, "no room": 15, "found closed": 16, close: 17, out: 18, "found fewer": 19, "found drained": 20};
+const BEGINS = {put: 0, close: 7, take: 9}, CLOSED = 8;
+const ENDS = {P: {stored: 1, some: 2, full: 3, short: 4, nothing: 5, closed: 6}, C: {item: 10, some: 11, empty: 12, short: 13, nothing: 14, closed: 15}};
+const DOES = {in: 16, "no room": 17, "found closed": 18, close: 19, out: 20, "found fewer": 21, "found drained": 22};
 
 // The marks of the history of these calls, at a queue that holds so many at most: {marks, items, numbers} in the numbers of the module, and the
 // `effects` among them, {at, side, does, item, call}, each at its place between two events. A call is {side, kind, begin, end, reply, items,
@@ -37,7 +37,8 @@ export function orderOf(calls, most) {
     const {side, kind, items, offered = items, wanted = 1, reply} = call, all = side === "P" ? offered.length : wanted;
     open[side] = {call, passed: 0};
     marks.push([BEGINS[kind], kind === "put" ? listed(offered) : 0, kind === "close" ? 0 : all]);
-    const lacked = reply === "full" || reply === "empty" ? 1 : reply === "short" ? all : reply && items.length && items.length < all ? items.length + 1 : 0;
+    const saysWhy = reply === "stored" || reply === "item"; // it has no more than its items, since there was no room for more, or no more was inside
+    const lacked = reply === "full" || reply === "empty" ? 1 : reply === "short" ? all : saysWhy && items.length < all ? items.length + 1 : 0;
     if (lacked) effect(side, at, side === "P" ? "no room" : "found fewer", 0, lacked);
   };
   const end = (call, at) => {
@@ -45,7 +46,7 @@ export function orderOf(calls, most) {
     while (pass(side, at));
     if (kind === "close" || reply === "closed" && !isClosed) close(at);
     if (kind !== "close" && reply === "closed") effect(side, at, side === "P" ? "found closed" : "found drained");
-    marks.push([kind === "close" ? CLOSED : ENDS[side][reply], reply === "item" ? listed(items) : 0, items.length]);
+    marks.push([kind === "close" ? CLOSED : ENDS[side][reply], side === "C" ? listed(items) : 0, items.length]);
     open[side] = null;
   };
   const come = calls.flatMap(call => [[call.begin, () => begin(call, call.begin + 0.5)], [call.end, () => end(call, call.end - 0.5)]]);

@@ -235,8 +235,8 @@ function setMode(mode) {
   if (mode === "script") $("text").style.height = inGutter = "";
 }
 
-// What kind of text it is: a script begins with a brace, and recorded calls with the line of their queue.
-const kindOf = text => /^\s*\{/.test(text) ? "script" : /^queue[ \n]/.test(text) ? "calls" : "trace";
+// What kind of text it is: a script begins with a brace, and recorded calls with the line of their queue, cut or not.
+const kindOf = text => /^\s*\{/.test(text) ? "script" : /^(cut )?queue[ \n]/.test(text) ? "calls" : "trace";
 
 // Puts a text into the editor, that of an example or another's; `isNew` where the browser's Back is to bring back what was there. Of recorded
 // calls that are too long for it the editor shows some lines.

@@ -40,7 +40,7 @@ function lineAt(text, line) {
 
 // What the first line of a text is to be, and what the further ones.
 const LINES = {trace: {first: "shape CAPACITY MODULUS WIDTH", further: ": S read BIT, S got BIT V, S write BIT V, S wrote BIT; or its bit is not in the shape"},
-  calls: {first: "queue B, queue A B or queue", further: " the lines of recorded calls, with numbers below 2^64 that begin with no 0"}};
+  calls: {first: "queue B, queue A B or queue, or one of these behind cut", further: " the lines of recorded calls, with numbers below 2^64 that begin with no 0"}};
 
 // The cause, of a trace in the words of docs/FORMATS.md, "What a refusal says".
 function causeIn(mode, text, line) {
@@ -48,7 +48,7 @@ function causeIn(mode, text, line) {
   if (text === "") return `there is no text: line 1 is to be: ${first}`;
   if (line === 1 && /^\s*\{/.test(text)) return "it looks like a script";
   if (line === 1 && /^shape /.test(text) && mode === "calls") return "it looks like a trace";
-  if (line === 1 && /^queue\b/.test(text) && mode === "trace") return "it looks like recorded calls";
+  if (line === 1 && /^(cut )?queue\b/.test(text) && mode === "trace") return "it looks like recorded calls";
   const cause = it === "" ? "is empty" : it.endsWith(" ") ? "ends in a space" : it.startsWith(" ") ? "begins with a space"
     : to === text.length ? "has no line feed at its end, or is not a line of the format"
     : line === 1 ? `is not: ${first}` : `is none of${further}`;
@@ -66,7 +66,7 @@ export function placeOf(mode, text, {refused, line}) {
   if (mode !== "script") return line ? {...lineAt(text, line), cause: causeIn(mode, text, line)} : null;
   if (refused === "script is not JSON") {
     const {from, to, due} = jsonStop(text);
-    const cause = text.trim() === "" ? "there is no text" : text.startsWith("shape ") ? "it looks like a trace" : /^queue\b/.test(text) ? "it looks like recorded calls" : `here was to come: ${due}`;
+    const cause = text.trim() === "" ? "there is no text" : text.startsWith("shape ") ? "it looks like a trace" : /^(cut )?queue\b/.test(text) ? "it looks like recorded calls" : `here was to come: ${due}`;
     return {from, to, cause};
   }
   const name = /^field (\w+) (?!is missing)|^(capacity|modulus|width|batch) must|^(item|schedule|oracle)\b/.exec(refused);

@@ -33,7 +33,8 @@ export const lineIn = (text, {starts}, line) => text.slice(starts[line], starts[
 function callAt(text, lines, line) {
   const [side, ...asks] = lineIn(text, lines, line).split(" "), [kind, ...given] = asks, end = lines.mates[line];
   const [, ...says] = end ? lineIn(text, lines, end).split(" ") : [], [reply = "", ...got] = says;
-  const items = reply === "stored" ? given.slice(0, Number(got[0] ?? given.length)) : reply === "item" ? got : [];
+  const hasItems = side === "P" ? reply === "stored" || reply === "some" : reply === "item" || reply === "some";
+  const items = !hasItems ? [] : side === "P" ? given.slice(0, Number(got[0] ?? given.length)) : got;
   return {side, kind, begin: line - 2, end: end ? end - 2 : Infinity, reply, items, offered: kind === "put" ? given : [],
     wanted: kind === "take" ? BigInt(given[0] ?? 1) : 0, asks: asks.join(" "), says: says.join(" ")};
 }
@@ -58,9 +59,9 @@ export function callsFor(text, lines, until) {
   return all.map(it => it.kind === "take" && it.end === Infinity ? {...it, items: next.slice(0, Number(it.wanted))} : it);
 }
 
-// Where a queue of these first words may say that it is full, and how many items it holds at most.
+// Where a queue of this first line, behind its word `cut` where it has that, may say that it is full, and how many items it holds at most.
 export function capacityIn(text) {
-  const [, ...given] = text.slice(0, text.indexOf("\n")).split(" "), full = given[0] ?? Infinity, most = given.at(-1) ?? Infinity;
+  const [, ...given] = text.slice(0, text.indexOf("\n")).replace(/^cut /, "").split(" "), full = given[0] ?? Infinity, most = given.at(-1) ?? Infinity;
   return {full, most};
 }
 
@@ -71,10 +72,14 @@ export function lineWords(text, lines, line) {
   return mate < line ? `${words}, the end of the call of line ${mate}` : words;
 }
 
-// The report on a recording, as the command prints it: [name, value, what it counts].
-export const reportRows = ({calls, stored, taken, full, empty, nothing, told, surely, perhaps, overlapped, open}) => [
+// What is said of a recording whose first line tells so, beside its verdict.
+export const CUT = "cut: later calls are missing";
+
+// The report on a recording, as the command prints it: [name, value, what it counts]; `isCut` where later calls are missing.
+export const reportRows = ({calls, stored, taken, full, empty, nothing, told, surely, perhaps, overlapped, open}, isCut) => [
   ["calls", calls, "calls that have begun"], ["stored", stored, "items, by puts that have ended"], ["taken", taken, "items, by takes that have ended"],
-  ["full", full, "puts that ended full, short or stored in part"], ["empty", empty, "takes that ended empty or short"],
+  ["full", full, "puts that ended full, short or stored in part for want of room"], ["empty", empty, "takes that ended empty or short"],
   ["nothing", nothing, "calls that ended with nothing"], ["told", told ? "yes" : "no", "whether a take was told that the queue is closed"],
   ["inside", `${surely} ${perhaps}`, "at some moment surely so many items were inside; never can more have been"],
-  ["overlapped", overlapped, "calls that overlapped one of the other side"], ["open", open, "calls under way at the end"]];
+  ["overlapped", overlapped, "calls that overlapped one of the other side"], ["open", open, "calls under way at the end"],
+  ...isCut ? [["cut", "yes", "calls behind the last line are missing: a log was full"]] : []];

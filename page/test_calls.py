@@ -27,6 +27,12 @@ def flags(page):
     return page.browser.run("return [...document.querySelectorAll('#picture .flagwords')].map(it => it.textContent)")
 
 
+def order(page):
+    """The operations in the picture, in their order."""
+    titles_ = page.browser.run("return [...document.querySelectorAll('#picture .operation title')].map(it => it.textContent)")
+    return [it.removesuffix(" takes effect") for it in titles_]
+
+
 def titles(page):
     return page.browser.run("return [...document.querySelectorAll('#picture .bar title')].map(it => it.textContent)")
 
@@ -93,7 +99,7 @@ for (const [name, text] of Object.entries(args[0])) {
   const items = does => effects.filter(it => it.does === does).map(it => it.item).join();
   if (!items("in").startsWith(items("out"))) wrong.push(`${name}: ${items("in")} in, ${items("out")} out`);
   operations += effects.length;
-  const made = orderOf(calls, Number(holds.most)), at = made.marks.findIndex(([kind], i) => kind === 14 && made.marks[i + 1]?.[0] === 18);
+  const made = orderOf(calls, Number(holds.most)), at = made.marks.findIndex(([kind], i) => kind === 16 && made.marks[i + 1]?.[0] === 20);
   if (at >= 0) {
     [made.marks[at], made.marks[at + 1]] = [made.marks[at + 1], made.marks[at]];
     if (effects.length && order(made, holds) === made.marks.length && Number(holds.most) === 1) wrong.push(`${name}: an item comes out before it is in`);
@@ -112,8 +118,62 @@ def test_orders(page, same, _):
     for name, words_ in [("overlapped", ["5 in", "5 out", "found fewer", "6 in"]), ("pending_put_taken", ["1 in", "1 out"]), ("put_after_close", ["close", "found closed", "close"]),
                          ("order", ["1 in", "2 in"])]:
         page.write(text_of(os.path.join(EXAMPLES, "calls", f"{name}.calls")))
-        effects = page.browser.run("return [...document.querySelectorAll('#picture .operation title')].map(it => it.textContent)")
-        same(f"the order of {name}", effects, [f"{it} takes effect" for it in words_])
+        same(f"the order of {name}", order(page), words_)
+
+
+# Calls that do not say why they have not more, and what is told of them.
+SOME = "queue 0 4\nP put 5 6 7\nC take 3\nP some 2\nC some 5 6\nP put 8\nP some 1\nC take 2\nC some 8\n"
+SOME_TOLD = "lawful\ncalls 4\nstored 3\ntaken 3\nfull 0\nempty 0\nnothing 0\ntold no\ninside 1 3\noverlapped 2\nopen 0\n"
+
+
+def test_some(page, same, _):
+    """A call that does not say why it has not more: its bar, its order of operations, and what speaks against it."""
+    page.open("calls=plain")
+    page.write(SOME)
+    same("some: its verdict", told(page), SOME_TOLD)
+    same("some: its queue", page.browser.run("return document.querySelector('#picture .title').textContent"), "a queue that may be full at any time, and holds 4 at most")
+    same("some: its bars", titles(page), ["P put 5 6 7: some 2, lines 2 to 4", "C take 3: some 5 6, lines 3 to 5", "P put 8: some 1, lines 6 to 7", "C take 2: some 8, lines 8 to 9"])
+    same("some: words in them", page.browser.run("return [...document.querySelectorAll('#picture .says')].map(it => it.textContent)"), ["some 2", "some 5 6", "some 1", "some 8"])
+    same("some: the order", order(page), ["5 in", "6 in", "5 out", "6 out", "8 in", "8 out"])
+    page.write(SOME.replace("P some 2", "P stored 2").replace("C some 5 6", "C item 5 6"))
+    same("the order where they say why", order(page), ["no room", "found fewer", "5 in", "6 in", "5 out", "6 out", "8 in", "8 out"])
+    same("its verdict", [words(page, "bits"), told(page).splitlines()[4]], ["calls: lawful", "full 1"])
+    page.write("queue 4\nP put 5 6 7\nP some 2\nC take 3\nC some 6\n")
+    same("some, but not the next", told(page), "fault: line 5: item 6, but item 5 of line 2 is next\n")
+    same("its order", order(page), ["5 in", "6 in"])
+    same("its flags", flags(page), ["line 2: P put 5 6 7", "line 5: item 6, but item 5 of line 2 is next"])
+    page.write("queue 4\nP put 5 6\nP some 3\n")
+    same("more than were offered", [told(page), titles(page)], ["fault: line 3: out of turn\n", ["P put 5 6: some 3, lines 2 to 3"]])
+    page.write("queue 4\nP put 5 6\nP some 0\n")
+    same("some of none", told(page), "refused: calls line 3 is not a line of the format\n")
+
+
+def test_cut(page, same, folder):
+    """A recording whose first line says that later calls are missing: the page says so beside its verdict and in its report."""
+    text, said = "cut queue 2\nP put 1\nC take\nP stored\n", "cut: later calls are missing"
+    page.open("calls=plain")
+    same("not cut", [page.verdicts()[1], told(page).splitlines()[-1]], ["", "open 0"])
+    page.write(text)
+    same("cut: its verdicts", [page.verdicts(), page.browser.run("return [document.getElementById('ring').className, document.title]")],
+         [["calls: lawful", said], ["dim", f"calls: lawful, {said}"]])
+    same("cut: its report", told(page).splitlines()[-2:], ["open 1", "cut yes"])
+    same("cut: its queue", [page.browser.run("return document.querySelector('#picture .title').textContent"), order(page)], ["a queue of 2", ["1 in"]])
+    page.browser.run("document.getElementById('shown').focus()")
+    page.browser.press("home")
+    same("cut: its first line", [words(page, "place"), page.verdicts()], ["line 1 / 4", ["calls: lawful", said]])
+    page.write(text.removeprefix("cut "))
+    same("the same, not cut", [page.verdicts(), told(page).splitlines()[-1]], [["calls: lawful", ""], "open 1"])
+    page.write("cut queue\nC take\nC closed\n")
+    same("cut, with a fault", [page.verdicts(), told(page)], [["calls: fault: line 3: closed, but no close has begun", said], "fault: line 3: closed, but no close has begun\n"])
+    page.write("cut queue 2\nC take")
+    same("cut, and refused", page.verdicts(), ["refused: calls line 2 is not a line of the format", ""])
+    page.open("recording=" + urllib.parse.quote(text))
+    same("a link with a cut recording", [page.text(), page.verdicts()[1]], [text, said])
+    with open(os.path.join(folder, "cut.calls"), "w", encoding="utf-8") as file:
+        file.write(text)
+    page.open("example=plain_path")
+    give(page, os.path.join(folder, "cut.calls"))
+    same("a file of a cut recording", [page.text(), page.browser.run("return document.querySelector('input[name=mode]:checked').value")], [text, "calls"])
 
 
 def test_steps(page, same, _):
@@ -158,8 +218,8 @@ def test_links(page, same, folder):
 
 def test_wrong_texts(page, same, _):
     page.open("calls=plain")
-    for text, why in [("", "there is no text: line 1 is to be: queue B, queue A B or queue"), ("shape 1 3 1\n", "it looks like a trace"), ("{", "it looks like a script"),
-                      ("queue 0\n", "line 1 is not: queue B, queue A B or queue"), ("queue 8\nP put 1 \n", "line 2 ends in a space"), ("queue 8\n\n", "line 2 is empty"),
+    for text, why in [("", "there is no text: line 1 is to be: queue B, queue A B or queue, or one of these behind cut"), ("shape 1 3 1\n", "it looks like a trace"), ("{", "it looks like a script"),
+                      ("queue 0\n", "line 1 is not: queue B, queue A B or queue, or one of these behind cut"), ("cut\n", "line 1 is not: queue B, queue A B or queue, or one of these behind cut"), ("queue 8\nP put 1 \n", "line 2 ends in a space"), ("queue 8\n\n", "line 2 is empty"),
                       ("queue 8\nP put 01\n", "line 2 is none of the lines of recorded calls, with numbers below 2^64 that begin with no 0"),
                       ("queue 8\nC take", "line 2 has no line feed at its end, or is not a line of the format")]:
         page.write(text)
@@ -169,11 +229,13 @@ def test_wrong_texts(page, same, _):
     page.click("find")
     same("the place", page.browser.run("const it = document.getElementById('text'); return it.value.slice(it.selectionStart, it.selectionEnd)"), "P putt 1")
     page.open("example=plain_path")
-    page.write("queue 8\nP put 1\n")
-    same("calls as a trace", words(page, "why"), "it looks like recorded calls")
+    for text in ("queue 8\nP put 1\n", "cut queue 8\nP put 1\n"):
+        page.write(text)
+        same(f"{text!r} as a trace", words(page, "why"), "it looks like recorded calls")
     page.open("script=plain_path")
-    page.write("queue 8\nP put 1\n")
-    same("calls as a script", words(page, "why"), "it looks like recorded calls")
+    for text in ("queue 8\nP put 1\n", "cut queue 8\nP put 1\n"):
+        page.write(text)
+        same(f"{text!r} as a script", words(page, "why"), "it looks like recorded calls")
 
 
 def test_views(page, same, _):
@@ -239,4 +301,4 @@ def test_million(page, same, folder):
     same("a short one is edited", page.browser.run("return document.getElementById('text').readOnly"), False)
 
 
-TESTS = [test_findings, test_long_cause, test_orders, test_steps, test_links, test_wrong_texts, test_views, test_million]
+TESTS = [test_findings, test_long_cause, test_orders, test_some, test_cut, test_steps, test_links, test_wrong_texts, test_views, test_million]

@@ -8,7 +8,7 @@ import { traceOf } from "./module.js";
 import { effectsOf, effectsOfRun } from "./orders.js";
 import { picture } from "./picture.js";
 import { lettersOf, momentsOf } from "./plays.js";
-import { callsFor, capacityIn, lineWords, linesOf, reportRows } from "./records.js";
+import { CUT, callsFor, capacityIn, lineWords, linesOf, reportRows } from "./records.js";
 import { readScript } from "./script.js";
 import { breakOf, dueOf, ringVerdict, whyOf } from "./verdicts.js";
 
@@ -91,12 +91,12 @@ export function viewsOf(module) {
     at(whole, shown) {
       const {text, lines} = whole, it = shown < lines.count - 1 ? module.calls(text.slice(0, lines.starts[shown + 2])) : whole;
       const why = it.against ? `contradicted by ${lineWords(text, lines, it.against)}` : "";
-      return {...it, words: `calls: ${it.words}`, why, mood: it.line ? "bad" : "good", step: shown ? lineWords(text, lines, shown + 1) : ""};
+      return {...it, words: `calls: ${it.words}`, ring: it.isCut ? {words: CUT, mood: "dim"} : null, why, mood: it.line ? "bad" : "good", step: shown ? lineWords(text, lines, shown + 1) : ""};
     },
-    drawing: ({text, lines, order}, it, waves, shown) => ({draw: bars, text, lines, order, words: it.words, mood: it.mood, why: it.why, count: shown,
+    drawing: ({text, lines, order}, it, waves, shown) => ({draw: bars, text, lines, order, words: it.words, mood: it.mood, ring: it.ring, why: it.why, count: shown,
       fault: it.line ? it.line - 2 : null, contradicts: it.against ? it.against - 2 : null, cause: it.cause}),
     place: (whole, shown) => `line ${shown + 1} / ${whole.lines.count}`,
-    rows: ({report}) => report ? reportRows(report) : [],
+    rows: ({report, isCut}) => report ? reportRows(report, isCut) : [],
   };
 
   return {trace, script, calls};
