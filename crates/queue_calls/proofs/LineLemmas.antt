@@ -34,16 +34,16 @@ no_word front bytes x e = absurd (none-some x e)
 put_word_at-text : (bytes : List ℕ) (x : Word × List ℕ) → put_word_at bytes ≡ Some x → Tells (codes "P ") bytes x
 put_word_at-text bytes x =
     let P : List ℕ = codes "P " in
-    named-text P Put (codes "put") bytes _ x refl (named-text P Stored (codes "stored") bytes _ x refl (named-text P PutSome (codes "some") bytes _ x refl (named-text P Full (codes "full") bytes _ x refl
+    named-text P Put (codes "put") bytes _ x refl (named-text P Stored (codes "stored") bytes _ x refl (named-text P Full (codes "full") bytes _ x refl
     (named-text P Short (codes "short") bytes _ x refl (named-text P PutNothing (codes "nothing") bytes _ x refl (named-text P PutClosed (codes "closed") bytes _ x refl
-    (named-text P Close (codes "close") bytes None x refl (no_word P bytes x))))))))
+    (named-text P Close (codes "close") bytes _ x refl (named-text P PutSome (codes "some") bytes None x refl (no_word P bytes x))))))))
 
 take_word_at-text : (bytes : List ℕ) (x : Word × List ℕ) → take_word_at bytes ≡ Some x → Tells (codes "C ") bytes x
 take_word_at-text bytes x =
     let C : List ℕ = codes "C " in
-    named-text C Take (codes "take") bytes _ x refl (named-text C Item (codes "item") bytes _ x refl (named-text C TakeSome (codes "some") bytes _ x refl (named-text C Empty (codes "empty") bytes _ x refl
+    named-text C Take (codes "take") bytes _ x refl (named-text C Item (codes "item") bytes _ x refl (named-text C Empty (codes "empty") bytes _ x refl
     (named-text C TakeShort (codes "short") bytes _ x refl (named-text C TakeNothing (codes "nothing") bytes _ x refl
-    (named-text C TakeClosed (codes "closed") bytes None x refl (no_word C bytes x)))))))
+    (named-text C TakeClosed (codes "closed") bytes _ x refl (named-text C TakeSome (codes "some") bytes None x refl (no_word C bytes x)))))))
 
 -- the words of a side
 side-text : (front bytes : List ℕ) (reads : List ℕ → Option (Word × List ℕ)) (other : Option (Word × List ℕ)) (x : Word × List ℕ)
@@ -56,9 +56,9 @@ side-text front bytes reads other x is later e =
 
 word_at-text : (bytes : List ℕ) (x : Word × List ℕ) → line_word_at bytes ≡ Some x → bytes ≡ word_text x.0 ++ x.1
 word_at-text bytes x =
-    named-text [] Queue (codes "queue") bytes _ x refl (named-text [] Cut (codes "cut queue") bytes _ x refl
-    (side-text (codes "P ") bytes put_word_at _ x (λ rest. put_word_at-text rest x)
-    (side-text (codes "C ") bytes take_word_at None x (λ rest. take_word_at-text rest x) (no_word [] bytes x))))
+    side-text (codes "P ") bytes put_word_at _ x (λ rest. put_word_at-text rest x)
+    (side-text (codes "C ") bytes take_word_at _ x (λ rest. take_word_at-text rest x)
+    (named-text [] Queue (codes "queue") bytes _ x refl (named-text [] Cut (codes "cut queue") bytes None x refl (no_word [] bytes x))))
 
 word_at-again : (w : Word) (numbers : List ℕ) → line_word_at (line_text w numbers) ≡ Some (w, numbers_text numbers)
 word_at-again Queue numbers = refl

@@ -20,17 +20,17 @@ abbrev pub word_or : Word → List ℕ → List ℕ → Option (Word × List ℕ
 word_or word text bytes other = then_or_else (bytes_behind text bytes) (λ rest. Some (word, rest)) other
 
 abbrev pub put_word_at : List ℕ → Option (Word × List ℕ)
-put_word_at bytes = word_or Put (codes "put") bytes (word_or Stored (codes "stored") bytes (word_or PutSome (codes "some") bytes (word_or Full (codes "full") bytes (word_or Short (codes "short") bytes
-    (word_or PutNothing (codes "nothing") bytes (word_or PutClosed (codes "closed") bytes (word_or Close (codes "close") bytes None)))))))
+put_word_at bytes = word_or Put (codes "put") bytes (word_or Stored (codes "stored") bytes (word_or Full (codes "full") bytes (word_or Short (codes "short") bytes
+    (word_or PutNothing (codes "nothing") bytes (word_or PutClosed (codes "closed") bytes (word_or Close (codes "close") bytes (word_or PutSome (codes "some") bytes None)))))))
 
 abbrev pub take_word_at : List ℕ → Option (Word × List ℕ)
-take_word_at bytes = word_or Take (codes "take") bytes (word_or Item (codes "item") bytes (word_or TakeSome (codes "some") bytes (word_or Empty (codes "empty") bytes
-    (word_or TakeShort (codes "short") bytes (word_or TakeNothing (codes "nothing") bytes (word_or TakeClosed (codes "closed") bytes None))))))
+take_word_at bytes = word_or Take (codes "take") bytes (word_or Item (codes "item") bytes (word_or Empty (codes "empty") bytes
+    (word_or TakeShort (codes "short") bytes (word_or TakeNothing (codes "nothing") bytes (word_or TakeClosed (codes "closed") bytes (word_or TakeSome (codes "some") bytes None))))))
 
 abbrev pub line_word_at : List ℕ → Option (Word × List ℕ)
 line_word_at bytes =
-    word_or Queue (codes "queue") bytes (word_or Cut (codes "cut queue") bytes
-    (then_or_else (bytes_behind (codes "P ") bytes) put_word_at (then_or_else (bytes_behind (codes "C ") bytes) take_word_at None)))
+    then_or_else (bytes_behind (codes "P ") bytes) put_word_at (then_or_else (bytes_behind (codes "C ") bytes) take_word_at
+    (word_or Queue (codes "queue") bytes (word_or Cut (codes "cut queue") bytes None)))
 
 -- whether bytes were read as numbers, and which these are
 abbrev pub ReadsNumbers : List ℕ → Bool → List ℕ → Type 0

@@ -191,6 +191,7 @@ impl<Q: Inside> CallAuditor<Q> {
     }
 
     // The put ends so, with some of its first items stored or none.
+    #[inline(always)]
     fn put_ends(&mut self, event: Event<'_>) -> Result<(), Fault>
         requires { EndsAPut (told event) }
         ensures decides { Decides Q.items Q.room self.old (told event.entry) result self.new }
@@ -320,6 +321,7 @@ impl<Q: Inside> CallAuditor<Q> {
     }
 
     // The take ends so, with these items.
+    #[inline(always)]
     fn take_ends(&mut self, event: Event<'_>, items: &[u64]) -> Result<(), Fault>
         requires { EndsATake (told event) × (items.now ≡ items_got (told event)) }
         ensures decides { Decides Q.items Q.room self.old (told event.entry) result self.new }

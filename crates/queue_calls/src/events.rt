@@ -48,6 +48,7 @@ pub enum Event<'a> {
 
 // A call of so many items passed so many of them, and says why not more or does not: these, and the number for which it found no room or
 // no items, 0 where it tells none. `None` where it cannot have passed them.
+#[inline(always)]
 fn passed(why: bool, count: usize, most: usize) -> Option<(usize, usize)>
     ensures { result ≡ passed why count most }
 {
@@ -63,6 +64,7 @@ fn passed(why: bool, count: usize, most: usize) -> Option<(usize, usize)>
 
 impl Event<'_> {
     // The same of the end of a put or a take of so many items.
+    #[inline(always)]
     pub(crate) fn outcome(self, most: usize) -> Option<(usize, usize)>
         ensures { result ≡ outcome_of (told self.entry) most }
     {

@@ -98,17 +98,17 @@ pub fn read_line<R: Row<u64>>(bytes: &[u8], numbers: &mut R) -> Result<Option<Wo
 fn word_at(bytes: &[u8]) -> Option<(Word, &[u8])>
     ensures { option_map (λ x. (x.0, x.1.now)) result ≡ line_word_at bytes.now }
 {
-    if let Some(rest) = after(bytes, "queue") {
-        return Some((Word::Queue, rest));
-    }
-    if let Some(rest) = after(bytes, "cut queue") {
-        return Some((Word::Cut, rest));
-    }
     if let Some(rest) = after(bytes, "P ") {
         return put_word_at(rest);
     }
-    let rest = after(bytes, "C ")?;
-    take_word_at(rest)
+    if let Some(rest) = after(bytes, "C ") {
+        return take_word_at(rest);
+    }
+    if let Some(rest) = after(bytes, "queue") {
+        return Some((Word::Queue, rest));
+    }
+    let rest = after(bytes, "cut queue")?;
+    Some((Word::Cut, rest))
 }
 
 fn put_word_at(bytes: &[u8]) -> Option<(Word, &[u8])>
@@ -119,9 +119,6 @@ fn put_word_at(bytes: &[u8]) -> Option<(Word, &[u8])>
     }
     if let Some(rest) = after(bytes, "stored") {
         return Some((Word::Stored, rest));
-    }
-    if let Some(rest) = after(bytes, "some") {
-        return Some((Word::PutSome, rest));
     }
     if let Some(rest) = after(bytes, "full") {
         return Some((Word::Full, rest));
@@ -135,8 +132,11 @@ fn put_word_at(bytes: &[u8]) -> Option<(Word, &[u8])>
     if let Some(rest) = after(bytes, "closed") {
         return Some((Word::PutClosed, rest));
     }
-    let rest = after(bytes, "close")?;
-    Some((Word::Close, rest))
+    if let Some(rest) = after(bytes, "close") {
+        return Some((Word::Close, rest));
+    }
+    let rest = after(bytes, "some")?;
+    Some((Word::PutSome, rest))
 }
 
 fn take_word_at(bytes: &[u8]) -> Option<(Word, &[u8])>
@@ -148,9 +148,6 @@ fn take_word_at(bytes: &[u8]) -> Option<(Word, &[u8])>
     if let Some(rest) = after(bytes, "item") {
         return Some((Word::Item, rest));
     }
-    if let Some(rest) = after(bytes, "some") {
-        return Some((Word::TakeSome, rest));
-    }
     if let Some(rest) = after(bytes, "empty") {
         return Some((Word::Empty, rest));
     }
@@ -160,11 +157,15 @@ fn take_word_at(bytes: &[u8]) -> Option<(Word, &[u8])>
     if let Some(rest) = after(bytes, "nothing") {
         return Some((Word::TakeNothing, rest));
     }
-    let rest = after(bytes, "closed")?;
-    Some((Word::TakeClosed, rest))
+    if let Some(rest) = after(bytes, "closed") {
+        return Some((Word::TakeClosed, rest));
+    }
+    let rest = after(bytes, "some")?;
+    Some((Word::TakeSome, rest))
 }
 
 // The bytes behind a text that stands at the front.
+#[inline(always)]
 fn after<'a>(bytes: &'a [u8], text: &str) -> Option<&'a [u8]>
     ensures { option_map (λ rest. rest.now) result ≡ bytes_behind text.now bytes.now }
 {
