@@ -59,3 +59,8 @@ REAL = [
 ]
 
 BROKEN = Program("broken", "command -v g++", "apt-get install build-essential", f"{CPP} broken/ring.cpp -o $ROOM/ring", "$ROOM/ring")
+
+# The ring that does not wait in the middle of a call, and what is hard on a hunt.
+HUNT = Program("hunt", "command -v g++ && command -v cc", "apt-get install build-essential",
+               f"{CPP} -DNO_HOLD broken/ring.cpp -o $ROOM/ring_that_runs && {C} hunt_test.c -o $ROOM/hunt_test && {C} -static hunt_test.c -o $ROOM/hunt_test_static",
+               "$ROOM/ring_that_runs")

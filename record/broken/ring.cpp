@@ -11,7 +11,7 @@ static void rest(Random& g, bool longer) {
 
 template <int BUG, class R> int record(u64 calls, u64 seed, const char* head) {
     R* ring = new R(seed);
-    ring_calls_recorder rec(calls * 24 + 4096);
+    ring_calls_recorder rec(calls * 24 + (1 << 17));
     std::atomic<int> here{0}, over{0};
     auto meet = [&] { for (here++; here < 2;) std::this_thread::yield(); };
     std::thread producer([&] {

@@ -1,7 +1,7 @@
 // ring.hpp: a small ring for one producer and one consumer, right where BUG is 0, and 20 ways to have it wrong; README.md tells them.
 //
 // Its words are sequentially consistent, so each bug is one of logic, and each processor shows it. hold() waits for a while now and
-// then, as a thread does that is preempted: it widens the windows that a race needs.
+// then, as a thread does that is preempted: it widens the windows that a race needs. With -DNO_HOLD it does nothing.
 #pragma once
 #include <atomic>
 #include <cstddef>
@@ -16,10 +16,14 @@ struct Random {
     bool once_in(u64 n) { return (*this)() % n == 0; }
 };
 
+#ifdef NO_HOLD
+inline void hold(Random&, u64 = 0) {}
+#else
 inline void hold(Random& g, u64 often = 16) {
     if (!g.once_in(often)) return;
     for (volatile u64 n = g.once_in(256) ? g() % 10000 : g() % 200; n > 0;) { n = n - 1; }
 }
+#endif
 
 enum { NONE, ITEM, CLOSED };
 
