@@ -34,3 +34,28 @@ runs_here() {
     say "here is $(uname -s) on $(uname -m) with $(getconf GNU_LIBC_VERSION 2>/dev/null || echo "no glibc")${told:+; it said: $(echo "$told" | head -n 1)}"
     return 1
 }
+
+# The same of the library for C, dist/libring_audit.a and libring_audit.so.1, and dist/LIBRARY.
+
+# library_sum: the sum of the sources that the library is built from, as they stand.
+library_sum() {
+    # shellcheck disable=SC2046
+    sources_sum $(crates_below queue_calls_c)
+}
+
+# library_of WORD: what dist/LIBRARY says behind the word.
+library_of() {
+    while read -r word said; do
+        [ "$word" != "$1" ] || echo "$said"
+    done <"$top/dist/LIBRARY"
+} 2>/dev/null
+
+# is_library_of SUM: whether dist/LIBRARY says that the library was built of the sources with this sum.
+is_library_of() { [ "$(library_of sources)" = "$1" ]; }
+
+# is_library_whole: whether both files have the bytes that dist/LIBRARY names.
+is_library_whole() {
+    for file in libring_audit.a libring_audit.so.1; do
+        [ "$(library_of "$file")" = "$(sha_of "$top/dist/$file")" ] || return
+    done
+} 2>/dev/null

@@ -68,30 +68,30 @@ bool_or false = inr refl
 
 -- nothing speaks against items just where they are the next ones, and nothing against so few
 pub items_next :
-    (capacity : Capacity) (why : Bool) (past : List Event) (first items : List ℕ) (rest : List Offered) → items_cause capacity why past first items rest ≡ None →
+    (limit : ℕ) (capacity : Capacity) (why : Bool) (past : List Event) (first items : List ℕ) (rest : List Offered) → items_cause limit capacity why past first items rest ≡ None →
     AreNext items (items_of rest) × (fewer_cause capacity (length first + length items) why past ≡ None)
-items_next capacity why past first [] rest e =
+items_next limit capacity why past first [] rest e =
     let same : length first ≡ length first + 0 = omega arith in ((items_of rest, refl), subst (λ z. fewer_cause capacity z why past ≡ None) same e)
-items_next capacity why past first (item ∷ items) [] e = absurd cc
-items_next capacity why past first (item ∷ items) (next ∷ rest) e =
+items_next limit capacity why past first (item ∷ items) [] e = absurd cc
+items_next limit capacity why past first (item ∷ items) (next ∷ rest) e =
     let count : length (first ++ item ∷ []) + length items ≡ length first + suc (length items) = omega (arith, length-append first (item ∷ [])) in
     let (same, f) = some_else _ _ _ (λ g. some_both _ _ _ g) e in
-    let ((left, g), h) = items_next capacity why past (first ++ item ∷ []) items rest f in (
+    let ((left, g), h) = items_next limit capacity why past (first ++ item ∷ []) items rest f in (
       (left, ap (λ z. next.item ∷ z) g ∙ ap (λ z. z ∷ (items ++ left)) (eqb-true next.item item same)),
       subst (λ z. fewer_cause capacity z why past ≡ None) count h,
     )
 
 pub items_unspoken :
-    (capacity : Capacity) (why : Bool) (past : List Event) (first items : List ℕ) (rest : List Offered) → AreNext items (items_of rest) →
-    fewer_cause capacity (length first + length items) why past ≡ None → items_cause capacity why past first items rest ≡ None
-items_unspoken capacity why past first [] rest next e =
+    (limit : ℕ) (capacity : Capacity) (why : Bool) (past : List Event) (first items : List ℕ) (rest : List Offered) → AreNext items (items_of rest) →
+    fewer_cause capacity (length first + length items) why past ≡ None → items_cause limit capacity why past first items rest ≡ None
+items_unspoken limit capacity why past first [] rest next e =
     let same : length first + 0 ≡ length first = omega arith in subst (λ z. fewer_cause capacity z why past ≡ None) same e
-items_unspoken capacity why past first (item ∷ items) [] (left, g) e = absurd cc
-items_unspoken capacity why past first (item ∷ items) (next ∷ rest) (left, g) e =
+items_unspoken limit capacity why past first (item ∷ items) [] (left, g) e = absurd cc
+items_unspoken limit capacity why past first (item ∷ items) (next ∷ rest) (left, g) e =
     let same : next.item ≡ item = cc in
     let others : items_of rest ≡ items ++ left = cc in
     let count : length first + suc (length items) ≡ length (first ++ item ∷ []) + length items = omega (arith, length-append first (item ∷ [])) in
-    if_on _ _ _ (eq-eqb next.item item same) ∙ items_unspoken capacity why past (first ++ item ∷ []) items rest (left, others) (subst (λ z. fewer_cause capacity z why past ≡ None) count e)
+    if_on _ _ _ (eq-eqb next.item item same) ∙ items_unspoken limit capacity why past (first ++ item ∷ []) items rest (left, others) (subst (λ z. fewer_cause capacity z why past ≡ None) count e)
 
 module _ (capacity : Capacity) (past : List Event) (k : Kept) (a : Agrees past k) where
   -- the numbers that a cause tells, by what is kept
@@ -237,13 +237,13 @@ module _ (capacity : Capacity) (past : List Event) (k : Kept) (a : Agrees past k
 
   -- the items are the next ones
   pub are_next :
-      (items : List ℕ) (why : Bool) → (items_cause capacity why past [] items (coming past) ≡ None) ↔ (AreNext items k.inside × (fewer_cause capacity (length items) why past ≡ None))
-  are_next items why =
+      (limit : ℕ) (items : List ℕ) (why : Bool) → (items_cause limit capacity why past [] items (coming past) ≡ None) ↔ (AreNext items k.inside × (fewer_cause capacity (length items) why past ≡ None))
+  are_next limit items why =
       let F : List ℕ → Type 0 = λ z. AreNext items z in
       let G : ℕ → Type 0 = λ z. fewer_cause capacity z why past ≡ None in
       let none : 0 + length items ≡ length items = omega arith in (
-        λ e. (let (next, f) = items_next capacity why past [] items (coming past) e in (subst F (coming_is past k a) next, subst G none f)),
-        λ (next, f). items_unspoken capacity why past [] items (coming past) (subst F (sym (coming_is past k a)) next) (subst G (sym none) f),
+        λ e. (let (next, f) = items_next limit capacity why past [] items (coming past) e in (subst F (coming_is past k a) next, subst G none f)),
+        λ (next, f). items_unspoken limit capacity why past [] items (coming past) (subst F (sym (coming_is past k a)) next) (subst G (sym none) f),
       )
 
   -- nothing is inside
@@ -271,40 +271,40 @@ module _ (capacity : Capacity) (past : List Event) (k : Kept) (a : Agrees past k
 
   -- ---- against an event that can be counted nothing speaks
 
-  pub unspoken : (event : Event) (after : Kept) → Counts capacity k event after → cause_of capacity event past ≡ None
-  unspoken (PutBegin items) after c = refl
-  unspoken (PutStored count why) after (n, inside, is, some, few, lacks, fits) =
+  pub unspoken : (limit : ℕ) (event : Event) (after : Kept) → Counts capacity k event after → cause_of limit capacity event past ≡ None
+  unspoken limit (PutBegin items) after c = refl
+  unspoken limit (PutStored count why) after (n, inside, is, some, few, lacks, fits) =
       off _ _ _ (as_put past k a (Offers n inside) is).1
       (off _ _ _ ((rest_inside n inside count is few).1 fits.0.0)
       (off _ _ _ ((stored_fit n inside count is few).1 fits.0.1) (off _ _ _ ((some_lack n inside count why is).1 lacks) refl)))
-  unspoken PutFull after (n, inside, is, lacks, fits) =
+  unspoken limit PutFull after (n, inside, is, lacks, fits) =
       off _ _ _ (as_put past k a (Offers n inside) is).1 (off _ _ _ ((all_inside n inside is).1 fits.0.0) (off _ _ _ ((none_lack n inside 1 is).1 lacks) refl))
-  unspoken PutShort after (n, inside, is, several, lacks, fits) =
+  unspoken limit PutShort after (n, inside, is, several, lacks, fits) =
       let f = as_put past k a (Offers n inside) is in
       let lacks_all : LacksRoom capacity inside (length (offers past)) = subst (λ z. LacksRoom capacity inside z) (sym f.0) lacks in
       off _ _ _ f.1 (off _ _ _ ((all_inside n inside is).1 fits.0.0) (off _ _ _ ((none_lack n inside (length (offers past)) is).1 lacks_all) refl))
-  unspoken PutNothing after c = elim c [
+  unspoken limit PutNothing after c = elim c [
     | inl b ↦ (let (n, inside, is, fits) = b in off _ _ _ ((all_inside n inside is).1 fits.0.0) refl)
     | inr b ↦ (let (n, is, e) = b in off _ _ _ (late_inside n is) refl)
   ]
-  unspoken PutClosed after (n, is, e) = if_on _ _ _ (as_put past k a (Late n) is).1
-  unspoken CloseBegin after c = refl
-  unspoken CloseEnd after c = refl
-  unspoken (TakeBegin count) after c = refl
-  unspoken (TakeItems items why) after (n, inside, closed, is, some, few, found, (rest, next), fits) =
+  unspoken limit PutClosed after (n, is, e) = if_on _ _ _ (as_put past k a (Late n) is).1
+  unspoken limit CloseBegin after c = refl
+  unspoken limit CloseEnd after c = refl
+  unspoken limit (TakeBegin count) after c = refl
+  unspoken limit (TakeItems items why) after (n, inside, closed, is, some, few, found, (rest, next), fits) =
       let within : 0 < length k.inside = omega (arith, some, ap length next, length-append items rest) in
       off _ _ _ (some_untold within)
-      ((are_next items why).1 ((rest, next), off _ _ _ ((no_more n inside closed (length items) why is).1 found) ((left_fit (length items)).1 fits.0)))
-  unspoken TakeEmpty after (n, inside, is, none, fits) =
+      ((are_next limit items why).1 ((rest, next), off _ _ _ ((no_more n inside closed (length items) why is).1 found) ((left_fit (length items)).1 fits.0)))
+  unspoken limit TakeEmpty after (n, inside, is, none, fits) =
       let f = as_take past k a (Waits n inside false) is in
       let (not_ended, not_told) = or_parts (has_ended (before_take past)) (has_told past) (sym f.2) in
       off _ _ _ not_told (off _ _ _ ((none_found n inside false is).1 none) (off _ _ _ not_ended ((left_fit 0).1 fits.0)))
-  unspoken TakeShort after (n, inside, closed, is, several, less, found, fits) =
+  unspoken limit TakeShort after (n, inside, closed, is, several, less, found, fits) =
       let not_told = found_untold n inside closed is found in
       off _ _ _ not_told
       (off _ _ _ ((fewer_found n inside closed is (omega (arith, several))).1 less) (off _ _ _ ((drained n inside closed is not_told).1 found) ((left_fit 0).1 fits.0)))
-  unspoken TakeNothing after (n, inside, closed, is, fits) = (left_fit 0).1 fits.0
-  unspoken TakeClosed after (n, inside, closed, is, none, begun, e) = if_on _ _ _ (begun_is past k a begun) ∙ none_inside.1 none
+  unspoken limit TakeNothing after (n, inside, closed, is, fits) = (left_fit 0).1 fits.0
+  unspoken limit TakeClosed after (n, inside, closed, is, none, begun, e) = if_on _ _ _ (begun_is past k a begun) ∙ none_inside.1 none
 
 module _ (capacity : Capacity) (past : List Event) (k : Kept) (a : Agrees past k) (few : MayHold capacity (length k.inside - (offered_by k.put + asked_by k.take))) where
   abbrev pub Counted : Event → Type 0
@@ -372,26 +372,26 @@ module _ (capacity : Capacity) (past : List Event) (k : Kept) (a : Agrees past k
         | inr late ↦ early n late open'
       ]
 
-  put_nothing_counted : (n : ℕ) → call_of_put k.put ≡ APut n → cause_of capacity PutNothing past ≡ None → Counted PutNothing
-  put_nothing_counted n is e =
+  put_nothing_counted : (limit n : ℕ) → call_of_put k.put ≡ APut n → cause_of limit capacity PutNothing past ≡ None → Counted PutNothing
+  put_nothing_counted limit n is e =
       let (enough, e1) = none_off _ _ _ e in
       elim (put_of k.put n is) [
         | inl o ↦ (let (inside, is_put) = o in (kept (without n k.inside) Free k.take k.shut, inl (n, inside, is_put, (can_end n inside is_put enough, refl))))
         | inr late ↦ (kept k.inside Free k.take k.shut, inr (n, late, refl))
       ]
 
-  put_closed_counted : (n : ℕ) → call_of_put k.put ≡ APut n → cause_of capacity PutClosed past ≡ None → Counted PutClosed
-  put_closed_counted n is e = elim (put_of k.put n is) [
+  put_closed_counted : (limit n : ℕ) → call_of_put k.put ≡ APut n → cause_of limit capacity PutClosed past ≡ None → Counted PutClosed
+  put_closed_counted limit n is e = elim (put_of k.put n is) [
     | inl o ↦ (
         let (inside, is_put) = o in both (Counted PutClosed) (has_ended (before_put past)) (none_on _ _ _ e).0 (as_put past k a (Offers n inside) is_put).1)
     | inr late ↦ (kept k.inside Free k.take k.shut, (n, late, refl))
   ]
 
-  items_counted : (items : List ℕ) (why : Bool) (n : ℕ) → call_of_take k.take ≡ ATake n → 0 < length items → length items ≤ n → cause_of capacity (TakeItems items why) past ≡ None → Counted (TakeItems items why)
-  items_counted items why n is some most e =
+  items_counted : (limit : ℕ) (items : List ℕ) (why : Bool) (n : ℕ) → call_of_take k.take ≡ ATake n → 0 < length items → length items ≤ n → cause_of limit capacity (TakeItems items why) past ≡ None → Counted (TakeItems items why)
+  items_counted limit items why n is some most e =
       let (inside, closed, is_take) = take_of k.take n is in
       let (not_told, e1) = none_off _ _ _ e in
-      let (next, e2) = (are_next capacity past k a items why).0 e1 in
+      let (next, e2) = (are_next capacity past k a limit items why).0 e1 in
       let (found, e3) = none_off _ _ _ e2 in (
         kept (drop (length items) k.inside) k.put Rests k.shut,
         (
@@ -448,37 +448,37 @@ module _ (capacity : Capacity) (past : List Event) (k : Kept) (a : Agrees past k
   take_nothing_counted n is e =
       let (inside, closed, is_take) = take_of k.take n is in (kept (drop 0 k.inside) k.put Rests k.shut, (n, inside, closed, is_take, ((left_fit capacity past k a 0).0 e, refl)))
 
-  take_closed_counted : (n : ℕ) → call_of_take k.take ≡ ATake n → cause_of capacity TakeClosed past ≡ None → Counted TakeClosed
-  take_closed_counted n is e =
+  take_closed_counted : (limit n : ℕ) → call_of_take k.take ≡ ATake n → cause_of limit capacity TakeClosed past ≡ None → Counted TakeClosed
+  take_closed_counted limit n is e =
       let (inside, closed, is_take) = take_of k.take n is in
       let (begun, e1) = none_on _ _ _ e in
       (kept [] k.put Rests true, (n, inside, closed, is_take, (none_inside capacity past k a).0 e1, closing past k a begun, refl))
 
   -- ---- an event in its turn, against which nothing speaks, can be counted
 
-  pub counted : (event : Event) (next : Sides) → MovesSides (sides_of k.put k.take) event next → cause_of capacity event past ≡ None → Counted event
-  counted (PutBegin items) next (free, some, m) e = elim (bool_or k.shut) [
+  pub counted : (limit : ℕ) (event : Event) (next : Sides) → MovesSides (sides_of k.put k.take) event next → cause_of limit capacity event past ≡ None → Counted event
+  counted limit (PutBegin items) next (free, some, m) e = elim (bool_or k.shut) [
     | inl g ↦ (kept k.inside (Late (length items)) k.take true, (free_of k.put free, some, inr (g, refl)))
     | inr g ↦ (kept (k.inside ++ items) (Offers (length items) (length k.inside)) k.take false, (free_of k.put free, some, inl (g, refl)))
   ]
-  counted (PutStored count why) next (n, is, some, most, m) e = stored_counted count why n some most is e
-  counted PutFull next (n, is, m) e = full_counted n is e
-  counted PutShort next (n, is, several, m) e = put_short_counted n is several e
-  counted PutNothing next (n, is, m) e = put_nothing_counted n is e
-  counted PutClosed next (n, is, m) e = put_closed_counted n is e
-  counted CloseBegin next (free, m) e = (kept k.inside (Closes k.shut) k.take k.shut, (free_of k.put free, refl))
-  counted CloseEnd next (is, m) e = (kept k.inside Free k.take true, (let (again, g) = close_of k.put is in (again, g, refl)))
-  counted (TakeBegin count) next (rests, some, m) e =
+  counted limit (PutStored count why) next (n, is, some, most, m) e = stored_counted count why n some most is e
+  counted limit PutFull next (n, is, m) e = full_counted n is e
+  counted limit PutShort next (n, is, several, m) e = put_short_counted n is several e
+  counted limit PutNothing next (n, is, m) e = put_nothing_counted limit n is e
+  counted limit PutClosed next (n, is, m) e = put_closed_counted limit n is e
+  counted limit CloseBegin next (free, m) e = (kept k.inside (Closes k.shut) k.take k.shut, (free_of k.put free, refl))
+  counted limit CloseEnd next (is, m) e = (kept k.inside Free k.take true, (let (again, g) = close_of k.put is in (again, g, refl)))
+  counted limit (TakeBegin count) next (rests, some, m) e =
       (kept k.inside k.put (Waits count (length k.inside - offered_by k.put) k.shut) k.shut, (rest_of k.take rests, some, refl))
-  counted (TakeItems items why) next (n, is, some, most, m) e = items_counted items why n is some most e
-  counted TakeEmpty next (n, is, m) e = empty_counted n is e
-  counted TakeShort next (n, is, several, m) e = take_short_counted n is several e
-  counted TakeNothing next (n, is, m) e = take_nothing_counted n is e
-  counted TakeClosed next (n, is, m) e = take_closed_counted n is e
+  counted limit (TakeItems items why) next (n, is, some, most, m) e = items_counted limit items why n is some most e
+  counted limit TakeEmpty next (n, is, m) e = empty_counted n is e
+  counted limit TakeShort next (n, is, several, m) e = take_short_counted n is several e
+  counted limit TakeNothing next (n, is, m) e = take_nothing_counted n is e
+  counted limit TakeClosed next (n, is, m) e = take_closed_counted limit n is e
 
   -- against one that cannot be counted something speaks
-  pub spoken : (event : Event) (next : Sides) → MovesSides (sides_of k.put k.take) event next → (Counted event → ⊥) → (cause : Cause) × (cause_of capacity event past ≡ Some cause)
-  spoken event next moves never = some_or (cause_of capacity event past) (λ e. never (counted event next moves e))
+  pub spoken : (limit : ℕ) (event : Event) (next : Sides) → MovesSides (sides_of k.put k.take) event next → (Counted event → ⊥) → (cause : Cause) × (cause_of limit capacity event past ≡ Some cause)
+  spoken limit event next moves never = some_or (cause_of limit capacity event past) (λ e. never (counted limit event next moves e))
 
 -- a history whose events are counted, and what is then kept
 abbrev pub Arrived : Capacity → List Event → List Event → Type 0
@@ -519,17 +519,17 @@ reach capacity event (first ∷ events) past k a (after, now, later) =
 -- ---- the laws
 
 pub cause_is_reason : CauseIsReason
-cause_is_reason capacity before event cause proper is linear =
+cause_is_reason limit capacity before event cause proper is linear =
     let F : List Event → Type 0 = λ z. Reached capacity z event in
     let (k, a, (after, now)) = subst F (append-nil (reverse before))
     (reach capacity event before [] (kept [] Free Rests false) at_first ((counts_are_exact capacity (before ++ event ∷ []) proper).1 linear)) in
-    none-some cause (sym (unspoken capacity (reverse before) k a event after now) ∙ is)
+    none-some cause (sym (unspoken capacity (reverse before) k a limit event after now) ∙ is)
 
 pub fault_has_a_cause : FaultHasACause
-fault_has_a_cause capacity before event proper linear turn never =
+fault_has_a_cause limit capacity before event proper linear turn never =
     let (k, a, j) = arrived capacity before proper linear in
     let (t, r) = turn in
     let (s, sooner, last) = last_turn before event (sides NoCall NoCall) t r in
     let same : s ≡ sides_of k.put k.take = same_turns before (sides NoCall NoCall) s (sides_of k.put k.take) sooner j.turns in
-    spoken capacity (reverse before) k a j.few event t (subst (λ x. MovesSides x event t) same last)
+    spoken capacity (reverse before) k a j.few limit event t (subst (λ x. MovesSides x event t) same last)
     (λ c. let (after, now) = c in never (standing capacity (before ++ event ∷ []) after (counts_keeps capacity before k j event after now)))

@@ -1,5 +1,5 @@
 -- What is told by what is kept is what the past tells.
-use Rattle.std.proofs.Common.{◌≡◌, ◌≢◌, ◌⊎◌, inl, inr, ℕ, zero, suc, ◌+◌, ◌-◌, ◌<◌, ◌≤◌, nat_lt, Bool, true, false, ◌==◌, not, ◌&&◌, ◌||◌, if◌then◌else◌, Option, Some, None, List, [], ◌∷◌, ◌++◌, length, take, drop, get_or, refl, sym, ap, subst, ◌∙◌, arith, append_assoc, append-nil}
+use Rattle.std.proofs.Common.{◌≡◌, ◌≢◌, ◌⊎◌, inl, inr, ℕ, suc, ◌+◌, ◌-◌, ◌<◌, ◌≤◌, nat_lt, Bool, true, false, ◌==◌, not, ◌&&◌, ◌||◌, if◌then◌else◌, Option, Some, None, List, [], ◌∷◌, ◌++◌, length, take, drop, get_or, refl, sym, ap, subst, ◌∙◌, arith, append_assoc, append-nil}
 use Rattle.std.specs.List.{list_any}
 use Rattle.std.specs.Prelude.{unwrap_or, find, map, nat_eq}
 use Rattle.std.proofs.Math.Seq.{drop-cons}
@@ -9,7 +9,7 @@ use Rattle.queue_calls.specs.Queue.{Capacity}
 use Rattle.queue_calls.specs.Calls.{Event}
 use Rattle.queue_calls.specs.Counting.{Kept}
 use Rattle.queue_calls.specs.State.{MayHold, offered_by, asked_by, has_closed}
-use Rattle.queue_calls.specs.Reasons.{at, before_put, before_stored, before_take, can_hold, closed_cause, coming, empty_cause, ended_line, fewer_cause, full_cause, has_begun, has_ended, has_told, items_cause, k_of, last_of, last_taken, line_behind, n_of, not_taken_cause, offers, put_short_cause, stored_cause, take_short_cause, taken, taken_at, wanted}
+use Rattle.queue_calls.specs.Reasons.{at, before_put, before_stored, before_take, can_hold, closed_cause, coming, empty_cause, ended_line, fewer_cause, full_cause, has_begun, has_ended, has_told, items_cause, k_of, last_taken, line_behind, n_of, not_taken_cause, offers, put_short_cause, stored_cause, take_short_cause, taken_at, wanted}
 use Rattle.queue_calls.specs.Witnesses.{agreed}
 use Rattle.queue_calls.specs.declared.causes.Cause.{Cause}
 use Rattle.queue_calls.specs.declared.causes.Cause.TheVariants.{StoredAfterClose, OnlySomeStored, StoredTooMany, OnlySomeWithRoom, FullWithRoom, FullAfterClose, NotStoredButTaken, ShortWithRoom, NoMoreWhileInside, NotTaken, EmptyWhileInside, EmptyAfterClose, ShortWhileInside, ShortAfterClose, ClosedBeforeClose, ClosedWhileInside}
@@ -54,19 +54,6 @@ pub no_line : (b : Bool) (line : ℕ) (told : Option ℕ) → told ≡ (if b the
 no_line true line told e none = absurd (none line e)
 no_line false line told e none = refl
 
--- the last item of the last ones is the last one
-get_last : {A : Type 0} (d : A) (n : ℕ) (xs : List A) → n < length xs → get_or (drop n xs) (length (drop n xs) - 1) d ≡ get_or xs (length xs - 1) d
-get_last d zero xs l = refl
-get_last d (suc n) [] l = absurd (omega (arith, l))
-get_last d (suc n) (x ∷ []) l = absurd (omega (arith, l))
-get_last d (suc n) (x ∷ y ∷ xs) l =
-    let F : suc (suc (length xs)) - 1 ≡ suc (suc (length xs) - 1) = omega arith in
-    get_last d n (y ∷ xs) (omega (arith, l)) ∙ ap (λ m. get_or (x ∷ y ∷ xs) m d) (sym F)
-
-pub last_is_last : (limit : ℕ) (past : List Event) (all : List Taken) → 0 < limit → all ≡ last_of limit (taken past) → 0 < k_of past → get_or all (length all - 1) (taken_at 0 0) ≡ last_taken past
-last_is_last limit past all some e l =
-    ap (λ z. get_or z (length z - 1) (taken_at 0 0)) e ∙ get_last (taken_at 0 0) (length (taken past) - limit) (taken past) (omega (arith, some, l))
-
 module _ (capacity : Capacity) (past : List Event) (k : Kept) (a : Agrees past k) (z : Cause) where
   -- ---- puts
 
@@ -97,9 +84,6 @@ module _ (capacity : Capacity) (past : List Event) (k : Kept) (a : Agrees past k
 
     pub all_gone : length k.inside < n → nat_lt (n_of past) (k_of past) ≡ true
     all_gone l = lt-ltb (n_of past) (k_of past) (omega (arith, l, long past k a, offered))
-
-    pub some_taken : (count : ℕ) → count ≤ n → length k.inside < n - count → 0 < k_of past
-    some_taken count few l = omega (arith, l, long past k a, offered, few)
 
     pub stored_gone : (count : ℕ) (why : Bool) → count ≤ n → length k.inside < n - count → stored_cause capacity count why past ≡ Some z → OnlySomeStored count (last_taken past) ≡ z
     stored_gone count why few l e = told_on _ _ _ z (gone count few l) (told_off _ _ _ z early e)
@@ -235,20 +219,20 @@ module _ (capacity : Capacity) (past : List Event) (k : Kept) (a : Agrees past k
 
 -- the next ones of items are passed
 pub passed :
-    (capacity : Capacity) (why : Bool) (past : List Event) (first items : List ℕ) (rest : List Offered) →
-    items_cause capacity why past first items rest ≡ items_cause capacity why past (first ++ take (agreed items rest) items) (drop (agreed items rest) items) (drop (agreed items rest) rest)
-passed capacity why past first [] rest = ap (λ z. items_cause capacity why past z [] rest) (sym (append-nil first))
-passed capacity why past first (item ∷ items) [] = ap (λ z. items_cause capacity why past z (item ∷ items) []) (sym (append-nil first))
-passed capacity why past first (item ∷ items) (next ∷ rest) =
-    elim (next.item == item) as (λ v. (next.item == item) ≡ v → items_cause capacity why past first (item ∷ items) (next ∷ rest) ≡
-    items_cause capacity why past (first ++ take (if v then suc (agreed items rest) else 0) (item ∷ items)) (drop (if v then suc (agreed items rest) else 0) (item ∷ items))
+    (limit : ℕ) (capacity : Capacity) (why : Bool) (past : List Event) (first items : List ℕ) (rest : List Offered) →
+    items_cause limit capacity why past first items rest ≡ items_cause limit capacity why past (first ++ take (agreed items rest) items) (drop (agreed items rest) items) (drop (agreed items rest) rest)
+passed limit capacity why past first [] rest = ap (λ z. items_cause limit capacity why past z [] rest) (sym (append-nil first))
+passed limit capacity why past first (item ∷ items) [] = ap (λ z. items_cause limit capacity why past z (item ∷ items) []) (sym (append-nil first))
+passed limit capacity why past first (item ∷ items) (next ∷ rest) =
+    elim (next.item == item) as (λ v. (next.item == item) ≡ v → items_cause limit capacity why past first (item ∷ items) (next ∷ rest) ≡
+    items_cause limit capacity why past (first ++ take (if v then suc (agreed items rest) else 0) (item ∷ items)) (drop (if v then suc (agreed items rest) else 0) (item ∷ items))
     (drop (if v then suc (agreed items rest) else 0) (next ∷ rest))) [
       | true ↦ λ e.
           let p : ℕ = agreed items rest in
-          let on : items_cause capacity why past first (item ∷ items) (next ∷ rest) ≡ items_cause capacity why past (first ++ item ∷ []) items rest = if_on _ _ _ e in
-          on ∙ passed capacity why past (first ++ item ∷ []) items rest ∙
-          ap (λ z. items_cause capacity why past z (drop p items) (drop p rest)) (append_assoc first (item ∷ []) (take p items))
-      | false ↦ λ e. ap (λ z. items_cause capacity why past z (item ∷ items) (next ∷ rest)) (sym (append-nil first))
+          let on : items_cause limit capacity why past first (item ∷ items) (next ∷ rest) ≡ items_cause limit capacity why past (first ++ item ∷ []) items rest = if_on _ _ _ e in
+          on ∙ passed limit capacity why past (first ++ item ∷ []) items rest ∙
+          ap (λ z. items_cause limit capacity why past z (drop p items) (drop p rest)) (append_assoc first (item ∷ []) (take p items))
+      | false ↦ λ e. ap (λ z. items_cause limit capacity why past z (item ∷ items) (next ∷ rest)) (sym (append-nil first))
     ] refl
 
 -- and the one behind them is not the next
@@ -293,29 +277,29 @@ taken_first line item (x ∷ first) more =
 
 -- what is told behind those that are passed
 pub behind_passed :
-    (capacity : Capacity) (why : Bool) (past : List Event) (items : List ℕ) (rest : List Offered) (z : Cause) (q item d : ℕ) → q ≡ agreed items rest → q < length items → item ≡ get_or items q d →
-    items_cause capacity why past [] items rest ≡ Some z →
-    (agreed (item ∷ []) (drop (length (take q items)) rest) ≡ 0) × (items_cause capacity why past (take q items) (item ∷ drop (suc q) items) (drop (length (take q items)) rest) ≡ Some z)
-behind_passed capacity why past items rest z q item d is few at_it e =
+    (limit : ℕ) (capacity : Capacity) (why : Bool) (past : List Event) (items : List ℕ) (rest : List Offered) (z : Cause) (q item d : ℕ) → q ≡ agreed items rest → q < length items → item ≡ get_or items q d →
+    items_cause limit capacity why past [] items rest ≡ Some z →
+    (agreed (item ∷ []) (drop (length (take q items)) rest) ≡ 0) × (items_cause limit capacity why past (take q items) (item ∷ drop (suc q) items) (drop (length (take q items)) rest) ≡ Some z)
+behind_passed limit capacity why past items rest z q item d is few at_it e =
     let long : length (take q items) ≡ q = length-take-le q items (omega (arith, few)) in
     let parts : drop q items ≡ item ∷ drop (suc q) items = drop-cons items q d few ∙ ap (λ x. x ∷ drop (suc q) items) (sym at_it) in
-    let F : ℕ → Type 0 = λ n. items_cause capacity why past (take n items) (drop n items) (drop n rest) ≡ Some z in
-    let told : F q = subst F (sym is) (sym (passed capacity why past [] items rest) ∙ e) in
+    let F : ℕ → Type 0 = λ n. items_cause limit capacity why past (take n items) (drop n items) (drop n rest) ≡ Some z in
+    let told : F q = subst F (sym is) (sym (passed limit capacity why past [] items rest) ∙ e) in
     let G : ℕ → Type 0 = λ n. agreed (drop n items) (drop n rest) ≡ 0 in
     let none : G q = subst G (sym is) (not_passed items rest) in
     let P : List ℕ → Type 0 = λ l. agreed l (drop q rest) ≡ 0 in
-    let Q : List ℕ → Type 0 = λ l. items_cause capacity why past (take q items) l (drop q rest) ≡ Some z in
-    let R : ℕ → Type 0 = λ n. (agreed (item ∷ []) (drop n rest) ≡ 0) × (items_cause capacity why past (take q items) (item ∷ drop (suc q) items) (drop n rest) ≡ Some z) in
+    let Q : List ℕ → Type 0 = λ l. items_cause limit capacity why past (take q items) l (drop q rest) ≡ Some z in
+    let R : ℕ → Type 0 = λ n. (agreed (item ∷ []) (drop n rest) ≡ 0) × (items_cause limit capacity why past (take q items) (item ∷ drop (suc q) items) (drop n rest) ≡ Some z) in
     subst R (sym long) (one_not_passed item (drop (suc q) items) (drop q rest) (subst P parts none), subst Q parts told)
 
 pub all_passed :
-    (capacity : Capacity) (why : Bool) (past : List Event) (items : List ℕ) (rest : List Offered) (z : Cause) (q : ℕ) → q ≡ agreed items rest → length items ≤ q →
-    items_cause capacity why past [] items rest ≡ Some z → fewer_cause capacity (length items) why past ≡ Some z
-all_passed capacity why past items rest z q is many e =
+    (limit : ℕ) (capacity : Capacity) (why : Bool) (past : List Event) (items : List ℕ) (rest : List Offered) (z : Cause) (q : ℕ) → q ≡ agreed items rest → length items ≤ q →
+    items_cause limit capacity why past [] items rest ≡ Some z → fewer_cause capacity (length items) why past ≡ Some z
+all_passed limit capacity why past items rest z q is many e =
     let p : ℕ = agreed items rest in
     let all : p ≡ length items = omega (arith, is, many, agreed_few items rest) in
-    let F : List ℕ → List ℕ → Type 0 = λ l m. items_cause capacity why past l m (drop p rest) ≡ Some z in
-    let told : F (take p items) (drop p items) = sym (passed capacity why past [] items rest) ∙ e in
+    let F : List ℕ → List ℕ → Type 0 = λ l m. items_cause limit capacity why past l m (drop p rest) ≡ Some z in
+    let told : F (take p items) (drop p items) = sym (passed limit capacity why past [] items rest) ∙ e in
     let whole : take p items ≡ items = take_all p items (omega (arith, all)) in
     let none : drop p items ≡ [] = drop_all p items (omega (arith, all)) in
     subst (λ l. F l []) whole (subst (λ m. F (take p items) m) none told)

@@ -9,11 +9,11 @@ use Rattle.queue_calls.specs.Recordings.{Line, line, first_word, IsOfFormat, IsF
 use Rattle.queue_calls.specs.RecordingStates.{HasHeard, HeardLines, ContinuesLines}
 use Rattle.queue_calls.specs.declared.lines.Word.{Word}
 use Rattle.queue_calls.specs.declared.lines.Word.TheVariants.{Queue, Cut, Put, Stored, PutSome, Full, Short, PutNothing, PutClosed, Close, Take, Item, TakeSome, Empty, TakeShort, TakeNothing, TakeClosed}
-use Rattle.queue_calls.specs.declared.recordings.Begun.{Begun}
-use Rattle.queue_calls.specs.declared.recordings.Begun.TheVariants as begun
+use Rattle.queue_calls.specs.declared.hearings.Begun.{Begun}
+use Rattle.queue_calls.specs.declared.hearings.Begun.TheVariants as begun
 use Rattle.queue_calls.specs.declared.entries.Offered.{Offered}
 use Rattle.queue_calls.specs.declared.entries.Taken.{Taken}
-use Rattle.queue_calls.specs.declared.recordings.Hearing.{Hearing}
+use Rattle.queue_calls.specs.declared.hearings.Hearing.{Hearing}
 use Rattle.queue_calls.proofs.LineLemmas.{line_same}
 
 -- ---- events

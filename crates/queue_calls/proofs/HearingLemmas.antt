@@ -7,7 +7,7 @@ use Rattle.queue_calls.specs.Calls.{Event, IsLinearizable}
 use Rattle.queue_calls.specs.Counting.{Kept, kept}
 use Rattle.queue_calls.specs.State.{IsProper, offered_by}
 use Rattle.queue_calls.specs.Lines.{AllowsQueue}
-use Rattle.queue_calls.specs.Recordings.{capacity_told, IsFoundOf, StopsAt}
+use Rattle.queue_calls.specs.Recordings.{capacity_told, IsFoundWithin, StopsAt}
 use Rattle.queue_calls.specs.RecordingStates.{IsFaultSoFar}
 use Rattle.queue_calls.specs.Reporting.{as_number, IsReport, IsSurelyInside, IsPerhapsInside}
 use Rattle.queue_calls.specs.Tallying.{HaveNumbersOf, IsTallied, IsToldOf, Tallies, least_kept, most_behind, most_kept, has_put, has_take}
@@ -149,9 +149,9 @@ module _ {S O T N B : Type 0} (offered : O → List Offered) (last : T → List 
       }
 
   -- where no fault was heard, it is linearizable, and this is told of it
-  pub heard_lawful : (w : Witness S O T N B) (tally : Tally) → Remembers offered last w capacity events → IsTallied capacity events tally → IsFoundOf capacity events (Lawful (report_of w tally))
+  pub heard_lawful : (limit : ℕ) (w : Witness S O T N B) (tally : Tally) → Remembers offered last w capacity events → IsTallied capacity events tally → IsFoundWithin limit capacity events (Lawful (report_of w tally))
   unfolding report_of
-  heard_lawful w tally r t = (
+  heard_lawful limit w tally r t = (
     heard_linear w r,
     reported w tally (report_of w tally) r t refl (record {
       calls = refl;

@@ -8,11 +8,10 @@ use Rattle.queue_calls.specs.Audits.{HasMoreItems, RefusesEvent}
 use Rattle.queue_calls.specs.Counting.{Kept, kept, without, Counts, CountTo}
 use Rattle.queue_calls.specs.Insides.{Moves}
 use Rattle.queue_calls.specs.Noting.{all_got, items_got}
-use Rattle.queue_calls.specs.Reasons.{before_put, before_stored, coming, ended_line, has_ended, has_told, items_of, k_of, last_of, line_behind, offered_at, stored_at, taken, taken_at, told_closed_line}
+use Rattle.queue_calls.specs.Reasons.{before_put, before_stored, coming, ended_line, has_ended, has_told, items_of, k_of, last_of, last_taken, line_behind, offered_at, stored_at, taken, taken_at, told_closed_line}
 use Rattle.queue_calls.specs.State.{Keeps}
 use Rattle.queue_calls.specs.Told.{meant}
 use Rattle.queue_calls.specs.Witnesses.{Remembers, RefusesNext, mark_last}
-use Rattle.queue_calls.specs.declared.entries.TheConstants.{TAKEN_LIMIT}
 use Rattle.queue_calls.specs.declared.entries.Offered.{Offered}
 use Rattle.queue_calls.specs.declared.entries.Taken.{Taken}
 use Rattle.queue_calls.specs.declared.faults.Fault.{Fault}
@@ -136,19 +135,21 @@ module _ (past : List Event) (k : Kept) (a : Agrees past k) (capacity : Capacity
 pub next_remembers :
     {S O T N B : Type 0} (offered : O → List Offered) (last : T → List Taken) (w next : Witness S O T N B) (capacity : Capacity) (events : List Event) (event : Event) →
     Remembers offered last w capacity events → next.auditor.capacity ≡ w.auditor.capacity → Counts capacity (kept_of offered w) event (kept_of offered next) →
-    offered next.auditor.inside.list ≡ coming (event ∷ reverse events) → last next.taken ≡ last_of TAKEN_LIMIT (taken (event ∷ reverse events)) →
+    offered next.auditor.inside.list ≡ coming (event ∷ reverse events) → last next.taken ≡ last_of next.limit (taken (event ∷ reverse events)) →
+    next.last_taken ≡ last_taken (event ∷ reverse events) →
     next.ended_at ≡ (if has_ended (event ∷ reverse events) then Some (ended_line (event ∷ reverse events)) else None) →
     next.told_at ≡ (if has_told (event ∷ reverse events) then Some (told_closed_line (event ∷ reverse events)) else None) →
     next.put_at ≡ line_behind (before_put (event ∷ reverse events)) → next.stored_at ≡ line_behind (before_stored (event ∷ reverse events)) →
     Remembers offered last next capacity (events ++ event ∷ [])
-next_remembers offered last w next capacity events event r same counts inside taken_is ended told put_at stored_at_is =
+next_remembers offered last w next capacity events event r same counts inside taken_is taken_last ended told put_at stored_at_is =
     let back : event ∷ reverse events ≡ reverse (events ++ event ∷ []) = sym (turned events event) in
     record {
       proper = r.proper;
       capacity_is = ap meant same ∙ r.capacity_is;
       counted = count_more capacity _ events event (kept_of offered w) (kept_of offered next) r.counted counts;
       inside = subst (λ z. offered next.auditor.inside.list ≡ coming z) back inside;
-      taken = subst (λ z. last next.taken ≡ last_of TAKEN_LIMIT (taken z)) back taken_is;
+      taken = subst (λ z. last next.taken ≡ last_of next.limit (taken z)) back taken_is;
+      taken_last = subst (λ z. next.last_taken ≡ last_taken z) back taken_last;
       ended = subst (λ z. next.ended_at ≡ (if has_ended z then Some (ended_line z) else None)) back ended;
       told = subst (λ z. next.told_at ≡ (if has_told z then Some (told_closed_line z) else None)) back told;
       put_at = subst (λ z. next.put_at ≡ line_behind (before_put z)) back put_at;
@@ -160,6 +161,14 @@ pub told_so :
     {S O T N B : Type 0} (offered : O → List Offered) (last : T → List Taken) (w : Witness S O T N B) (capacity : Capacity) (events : List Event) (event told : Event) → told ≡ event →
     Remembers offered last w capacity (events ++ event ∷ []) → Remembers offered last w capacity (events ++ told ∷ [])
 told_so offered last w capacity events event told e r = subst (λ z. Remembers offered last w capacity (events ++ z ∷ [])) (sym e) r
+
+-- what is kept of the items taken last is as it was
+abbrev pub KeepsTaken : {S O T N B : Type 0} → Witness S O T N B → Witness S O T N B → Type 0
+KeepsTaken w next = (next.taken ≡ w.taken) × (next.limit ≡ w.limit) × (next.last_taken ≡ w.last_taken)
+
+pub taken_kept :
+    {S O T N B : Type 0} (last : T → List Taken) (w next : Witness S O T N B) (all : List Taken) → KeepsTaken w next → last w.taken ≡ last_of w.limit all → last next.taken ≡ last_of next.limit all
+taken_kept last w next all t is = ap last t.0 ∙ is ∙ ap (λ n. last_of n all) (sym t.1)
 
 -- an event whose line no cause tells, and that takes nothing
 abbrev pub IsQuiet : Event → Type 0
@@ -173,7 +182,7 @@ IsQuiet _ = Unit {0}
 pub quiet_remembers :
     {S O T N B : Type 0} (offered : O → List Offered) (last : T → List Taken) (w next : Witness S O T N B) (capacity : Capacity) (events : List Event) (event : Event) → IsQuiet event →
     Remembers offered last w capacity events → next.auditor.capacity ≡ w.auditor.capacity → Counts capacity (kept_of offered w) event (kept_of offered next) →
-    offered next.auditor.inside.list ≡ coming (event ∷ reverse events) → next.taken ≡ w.taken → next.ended_at ≡ w.ended_at → next.told_at ≡ w.told_at → next.put_at ≡ w.put_at →
+    offered next.auditor.inside.list ≡ coming (event ∷ reverse events) → KeepsTaken w next → next.ended_at ≡ w.ended_at → next.told_at ≡ w.told_at → next.put_at ≡ w.put_at →
     next.stored_at ≡ w.stored_at → Remembers offered last next capacity (events ++ event ∷ [])
 quiet_remembers offered last w next capacity events (PutBegin items) q r same c inside t e d p s = absurd q
 quiet_remembers offered last w next capacity events (PutStored count why) q r same c inside t e d p s = absurd q
@@ -181,23 +190,23 @@ quiet_remembers offered last w next capacity events CloseEnd q r same c inside t
 quiet_remembers offered last w next capacity events (TakeItems items why) q r same c inside t e d p s = absurd q
 quiet_remembers offered last w next capacity events TakeClosed q r same c inside t e d p s = absurd q
 quiet_remembers offered last w next capacity events PutFull q r same c inside t e d p s =
-    next_remembers offered last w next capacity events PutFull r same c inside (ap last t ∙ r.taken) (e ∙ r.ended) (d ∙ r.told) (p ∙ r.put_at) (s ∙ r.stored_at)
+    next_remembers offered last w next capacity events PutFull r same c inside (taken_kept last w next (taken (reverse events)) t r.taken) (t.2 ∙ r.taken_last) (e ∙ r.ended) (d ∙ r.told) (p ∙ r.put_at) (s ∙ r.stored_at)
 quiet_remembers offered last w next capacity events PutShort q r same c inside t e d p s =
-    next_remembers offered last w next capacity events PutShort r same c inside (ap last t ∙ r.taken) (e ∙ r.ended) (d ∙ r.told) (p ∙ r.put_at) (s ∙ r.stored_at)
+    next_remembers offered last w next capacity events PutShort r same c inside (taken_kept last w next (taken (reverse events)) t r.taken) (t.2 ∙ r.taken_last) (e ∙ r.ended) (d ∙ r.told) (p ∙ r.put_at) (s ∙ r.stored_at)
 quiet_remembers offered last w next capacity events PutNothing q r same c inside t e d p s =
-    next_remembers offered last w next capacity events PutNothing r same c inside (ap last t ∙ r.taken) (e ∙ r.ended) (d ∙ r.told) (p ∙ r.put_at) (s ∙ r.stored_at)
+    next_remembers offered last w next capacity events PutNothing r same c inside (taken_kept last w next (taken (reverse events)) t r.taken) (t.2 ∙ r.taken_last) (e ∙ r.ended) (d ∙ r.told) (p ∙ r.put_at) (s ∙ r.stored_at)
 quiet_remembers offered last w next capacity events PutClosed q r same c inside t e d p s =
-    next_remembers offered last w next capacity events PutClosed r same c inside (ap last t ∙ r.taken) (e ∙ r.ended) (d ∙ r.told) (p ∙ r.put_at) (s ∙ r.stored_at)
+    next_remembers offered last w next capacity events PutClosed r same c inside (taken_kept last w next (taken (reverse events)) t r.taken) (t.2 ∙ r.taken_last) (e ∙ r.ended) (d ∙ r.told) (p ∙ r.put_at) (s ∙ r.stored_at)
 quiet_remembers offered last w next capacity events CloseBegin q r same c inside t e d p s =
-    next_remembers offered last w next capacity events CloseBegin r same c inside (ap last t ∙ r.taken) (e ∙ r.ended) (d ∙ r.told) (p ∙ r.put_at) (s ∙ r.stored_at)
+    next_remembers offered last w next capacity events CloseBegin r same c inside (taken_kept last w next (taken (reverse events)) t r.taken) (t.2 ∙ r.taken_last) (e ∙ r.ended) (d ∙ r.told) (p ∙ r.put_at) (s ∙ r.stored_at)
 quiet_remembers offered last w next capacity events (TakeBegin wanted) q r same c inside t e d p s =
-    next_remembers offered last w next capacity events (TakeBegin wanted) r same c inside (ap last t ∙ r.taken) (e ∙ r.ended) (d ∙ r.told) (p ∙ r.put_at) (s ∙ r.stored_at)
+    next_remembers offered last w next capacity events (TakeBegin wanted) r same c inside (taken_kept last w next (taken (reverse events)) t r.taken) (t.2 ∙ r.taken_last) (e ∙ r.ended) (d ∙ r.told) (p ∙ r.put_at) (s ∙ r.stored_at)
 quiet_remembers offered last w next capacity events TakeEmpty q r same c inside t e d p s =
-    next_remembers offered last w next capacity events TakeEmpty r same c inside (ap last t ∙ r.taken) (e ∙ r.ended) (d ∙ r.told) (p ∙ r.put_at) (s ∙ r.stored_at)
+    next_remembers offered last w next capacity events TakeEmpty r same c inside (taken_kept last w next (taken (reverse events)) t r.taken) (t.2 ∙ r.taken_last) (e ∙ r.ended) (d ∙ r.told) (p ∙ r.put_at) (s ∙ r.stored_at)
 quiet_remembers offered last w next capacity events TakeShort q r same c inside t e d p s =
-    next_remembers offered last w next capacity events TakeShort r same c inside (ap last t ∙ r.taken) (e ∙ r.ended) (d ∙ r.told) (p ∙ r.put_at) (s ∙ r.stored_at)
+    next_remembers offered last w next capacity events TakeShort r same c inside (taken_kept last w next (taken (reverse events)) t r.taken) (t.2 ∙ r.taken_last) (e ∙ r.ended) (d ∙ r.told) (p ∙ r.put_at) (s ∙ r.stored_at)
 quiet_remembers offered last w next capacity events TakeNothing q r same c inside t e d p s =
-    next_remembers offered last w next capacity events TakeNothing r same c inside (ap last t ∙ r.taken) (e ∙ r.ended) (d ∙ r.told) (p ∙ r.put_at) (s ∙ r.stored_at)
+    next_remembers offered last w next capacity events TakeNothing r same c inside (taken_kept last w next (taken (reverse events)) t r.taken) (t.2 ∙ r.taken_last) (e ∙ r.ended) (d ∙ r.told) (p ∙ r.put_at) (s ∙ r.stored_at)
 
 -- the line of the first of such events
 pub first_line : (b : Bool) (line this : ℕ) (old : Option ℕ) → old ≡ (if b then Some line else None) → option_or old (Some this) ≡ Some (if b then line else this)
@@ -268,13 +277,14 @@ module _ {S O T N B : Type 0} (offered : O → List Offered) (last : T → List 
   -- what is remembered where nothing is kept of an event
   pub still_remembers :
       (next : Witness S O T N B) → next.auditor.capacity ≡ w.auditor.capacity → kept_of offered next ≡ kept_of offered w → offered next.auditor.inside.list ≡ offered w.auditor.inside.list →
-      next.taken ≡ w.taken → next.ended_at ≡ w.ended_at → next.told_at ≡ w.told_at → next.put_at ≡ w.put_at → next.stored_at ≡ w.stored_at → Remembers offered last next capacity events
+      KeepsTaken w next → next.ended_at ≡ w.ended_at → next.told_at ≡ w.told_at → next.put_at ≡ w.put_at → next.stored_at ≡ w.stored_at → Remembers offered last next capacity events
   still_remembers next same keeps inside t e d p s = record {
     proper = r.proper;
     capacity_is = ap meant same ∙ r.capacity_is;
     counted = subst (λ z. CountTo capacity (kept [] Free Rests false) events z) (sym keeps) r.counted;
     inside = inside ∙ r.inside;
-    taken = ap last t ∙ r.taken;
+    taken = taken_kept last w next (taken (reverse events)) t r.taken;
+    taken_last = t.2 ∙ r.taken_last;
     ended = e ∙ r.ended;
     told = d ∙ r.told;
     put_at = p ∙ r.put_at;
@@ -288,6 +298,6 @@ module _ {S O T N B : Type 0} (offered : O → List Offered) (last : T → List 
   pub refuses :
       (next : Witness S O T N B) (o t : ℕ) (event : Event) (fault : Fault) → Remembers offered last next capacity events → RefusesEvent o fault (meant w.auditor.capacity) events event →
       RefusesNext offered last o t next capacity events event fault
-  refuses next o t event OutOfTurn still f = (f.0, subst (λ z. ¬ IsLinearizable z (events ++ event ∷ [])) r.capacity_is f.1)
+  refuses next o t event OutOfTurn still f = (still, f.0, subst (λ z. ¬ IsLinearizable z (events ++ event ∷ [])) r.capacity_is f.1)
   refuses next o t event NotLinearizable still f = (still, f.0, subst (λ z. ¬ IsLinearizable z (events ++ event ∷ [])) r.capacity_is f.1)
   refuses next o t event OutOfMemory still f = inl (subst (λ z. HasMoreItems o z (events ++ event ∷ [])) r.capacity_is f.1)

@@ -1,11 +1,11 @@
 -- The loops of a witness over the items inside and those taken last.
-use Rattle.std.proofs.Common.{◌≡◌, ◌⊎◌, inl, inr, ℕ, suc, ◌+◌, ◌-◌, ◌<◌, ◌≤◌, Bool, true, false, List, [], ◌∷◌, ◌++◌, Some, None, length, get_or, set, take, drop, map, reverse, refl, sym, ap, ap₂, subst, ◌∙◌, arith, eq-eqb, append_assoc, length-append, length-drop, length-take-le}
+use Rattle.std.proofs.Common.{◌≡◌, ◌⊎◌, inl, inr, ℕ, suc, ◌+◌, ◌-◌, ◌<◌, ◌≤◌, Bool, true, false, List, [], ◌∷◌, ◌++◌, Some, None, length, get_or, set, take, drop, map, reverse, refl, sym, ap, ap₂, subst, ◌∙◌, arith, eq-eqb, append-nil, append_assoc, length-append, length-drop, length-take-le}
 use Rattle.std.specs.Prelude.{◌==◌, find}
 use Rattle.std.proofs.lemmas.Bool.Decides.{nat_tests}
-use Rattle.std.proofs.lemmas.List.{drop-append-le, drop-drop, drop_all, drop_more, get_or_at, length-map, map_more, map_push, reverse-append, set_at, take_more}
+use Rattle.std.proofs.lemmas.List.{drop-append-le, drop-drop, drop_all, drop_more, get_or-append_right, get_or-map, get_or_at, length-map, map_more, map_push, nil_from_length, reverse-append, set_at, take_more}
 use Rattle.queue_calls.specs.declared.entries.Offered.{Offered}
 use Rattle.queue_calls.specs.declared.entries.Taken.{Taken}
-use Rattle.queue_calls.specs.Reasons.{at, last_of, offered_at, stored_at, taken_at}
+use Rattle.queue_calls.specs.Reasons.{at, last_in, last_of, offered_at, stored_at, taken_at}
 use Rattle.queue_calls.specs.Witnesses.{agreed, comes, last_taken_of}
 
 -- numbers that differ are not equal by the test
@@ -112,6 +112,28 @@ module _ {A : Type 0} (limit : ℕ) (xs : List A) where
         let few : length xs - limit ≡ 0 = omega (arith, room, length_last) in
         let cut : length (xs ++ x ∷ []) - limit ≡ 0 = omega (arith, length-append xs (x ∷ []), room, length_last) in
         ap (λ n. drop n (xs ++ x ∷ [])) cut ∙ ap (λ n. drop n xs ++ x ∷ []) (sym few)
+
+-- where none is kept there are none
+pub last_none_kept : {A : Type 0} (limit : ℕ) (xs : List A) → limit ≡ 0 → last_of limit xs ≡ []
+last_none_kept limit xs none = drop_all (length xs - limit) xs (omega (arith, none))
+
+-- the last one of earlier ones and those of a line is the last of the line, where this has one
+module _ (earlier : List Taken) (line : ℕ) (items : List ℕ) where
+  pub last_in_line : (item : ℕ) → 0 < length items → item ≡ get_or items (length items - 1) 0 → taken_at line item ≡ last_in (earlier ++ map (taken_at line) items)
+  last_in_line item some is =
+      let more : List Taken = map (taken_at line) items in
+      let place : ℕ = length (earlier ++ more) - 1 in
+      let sum : length (earlier ++ more) ≡ length earlier + length items = length-append earlier more ∙ ap (λ n. length earlier + n) (length-map items (taken_at line)) in
+      let behind : place - length earlier ≡ length items - 1 = omega (arith, sum, some) in
+      sym (get_or-append_right earlier more (length earlier) place (taken_at 0 0) refl (omega (arith, sum, some))
+      ∙ ap (λ n. get_or more n (taken_at 0 0)) behind
+      ∙ get_or-map (taken_at line) items (length items - 1) 0 (taken_at 0 0) (omega (arith, some))
+      ∙ ap (taken_at line) (sym is))
+
+  pub last_in_none : (last : Taken) → length items ≤ 0 → last ≡ last_in earlier → last ≡ last_in (earlier ++ map (taken_at line) items)
+  last_in_none last none is =
+      let all : earlier ++ map (taken_at line) items ≡ earlier = ap (λ l. earlier ++ map (taken_at line) l) (nil_from_length items (omega (arith, none))) ∙ append-nil earlier in
+      is ∙ ap last_in (sym all)
 
 -- the first one goes where so many are kept
 abbrev pub MakesRoom : {A : Type 0} → ℕ → List A → List A → Type 0

@@ -25,6 +25,7 @@ pub mod NotingLemmas
 pub mod HeardLines
 pub mod RecordingLemmas
 pub mod RecordingLaws
+pub mod NextLines
 pub mod CountedHistories
 pub mod CountsFollow
 pub mod EndLemmas
@@ -40,3 +41,5 @@ pub mod CauseTold
 pub mod Remembering
 pub mod Hears
 mod LastOnes
+pub mod Writes
+pub mod Shortness

@@ -6,15 +6,16 @@ use Rattle.queue_calls.specs.Noting.{OutgrowsLists}
 use Rattle.queue_calls.specs.Lines.{line_text}
 use Rattle.queue_calls.specs.Recordings.{Line, line, first_word, lines_text, AreLines, and_then, begun_behind, capacity_told, event_told, events_told}
 use Rattle.queue_calls.specs.Rooms.{AreTooShort, BeginsWithNumbers, HasLongHistory, HasLongLine, HasManyNumbers, Rooms}
+use Rattle.queue_calls.specs.declared.entries.TheConstants.{TAKEN_LIMIT}
 use Rattle.queue_calls.specs.declared.lines.Word.{Word}
-use Rattle.queue_calls.specs.declared.recordings.Begun.TheVariants as begun
+use Rattle.queue_calls.specs.declared.hearings.Begun.TheVariants as begun
 use Rattle.queue_calls.proofs.HeardLines.{events_more}
 use Rattle.queue_calls.proofs.RecordingLemmas.{lines_more}
 
 -- ---- a text that goes on
 
-pub long_on : (offered taken : ℕ) (text more : List ℕ) → HasLongHistory offered taken text → HasLongHistory offered taken (text ++ more)
-long_on offered taken text more has = record {
+pub long_on : (limit offered taken : ℕ) (text more : List ℕ) → HasLongHistory limit offered taken text → HasLongHistory limit offered taken (text ++ more)
+long_on limit offered taken text more has = record {
   first = has.first;
   rest = has.rest ++ more;
   capacity = has.capacity;
@@ -49,7 +50,7 @@ long_line_on room text more has = record {
 }
 
 pub too_short_on : (rooms : Rooms) (text more : List ℕ) → AreTooShort rooms text → AreTooShort rooms (text ++ more)
-too_short_on rooms text more (inl has) = inl (long_on rooms.offered rooms.taken text more has)
+too_short_on rooms text more (inl has) = inl (long_on TAKEN_LIMIT rooms.offered rooms.taken text more has)
 too_short_on rooms text more (inr (inl has)) = inr (inl (many_on rooms.numbers text more has))
 too_short_on rooms text more (inr (inr has)) = inr (inr (long_line_on rooms.bytes text more has))
 
@@ -57,11 +58,11 @@ too_short_on rooms text more (inr (inr has)) = inr (inr (long_line_on rooms.byte
 
 -- a line that tells the event for which a list is too short
 pub line_long :
-    (offered taken : ℕ) (before : List Line) (is_cut : Bool) (bytes first : List ℕ) (further : List Line) (w : Word) (numbers : List ℕ) (event : Event) → before ≡ line (first_word is_cut) first ∷ further →
+    (limit offered taken : ℕ) (before : List Line) (is_cut : Bool) (bytes first : List ℕ) (further : List Line) (w : Word) (numbers : List ℕ) (event : Event) → before ≡ line (first_word is_cut) first ∷ further →
     AreLines (before ++ line w numbers ∷ []) → bytes ≡ line_text w numbers → event_told (begun_behind begun.Nothing further) w numbers ≡ Some event →
-    OutgrowsLists offered taken (capacity_told first) (events_told begun.Nothing further ++ event ∷ []) →
-    HasLongHistory offered taken (lines_text before ++ (bytes ++ 10 ∷ []))
-line_long offered taken before is_cut bytes first further w numbers event parts are text tells needs =
+    OutgrowsLists limit offered taken (capacity_told first) (events_told begun.Nothing further ++ event ∷ []) →
+    HasLongHistory limit offered taken (lines_text before ++ (bytes ++ 10 ∷ []))
+line_long limit offered taken before is_cut bytes first further w numbers event parts are text tells needs =
     let l : Line = line w numbers in record {
       first = lines_text (before ++ l ∷ []);
       rest = [];
@@ -82,8 +83,8 @@ line_long offered taken before is_cut bytes first further w numbers event parts 
 
 pub line_short :
     (rooms : Rooms) (before : List Line) (bytes text : List ℕ) → text ≡ lines_text before ++ (bytes ++ 10 ∷ []) →
-    HasLongHistory rooms.offered rooms.taken (lines_text before ++ (bytes ++ 10 ∷ [])) ⊎ BeginsWithNumbers rooms.numbers bytes → AreTooShort rooms text
-line_short rooms before bytes text parts (inl long) = inl (subst (HasLongHistory rooms.offered rooms.taken) (sym parts) long)
+    HasLongHistory TAKEN_LIMIT rooms.offered rooms.taken (lines_text before ++ (bytes ++ 10 ∷ [])) ⊎ BeginsWithNumbers rooms.numbers bytes → AreTooShort rooms text
+line_short rooms before bytes text parts (inl long) = inl (subst (HasLongHistory TAKEN_LIMIT rooms.offered rooms.taken) (sym parts) long)
 line_short rooms before bytes text parts (inr many) = inr (inl (before, bytes ++ 10 ∷ [], parts, numbers_on rooms.numbers bytes (10 ∷ []) many))
 
 pub rooms_same :

@@ -13,8 +13,8 @@ use Rattle.queue_calls.specs.declared.entries.Offered.{Offered}
 use Rattle.queue_calls.specs.declared.entries.Taken.{Taken}
 use Rattle.queue_calls.specs.declared.lines.Word.{Word}
 use Rattle.queue_calls.specs.declared.lines.Word.TheVariants as word
-use Rattle.queue_calls.specs.declared.recordings.Begun.TheVariants.{Nothing}
-use Rattle.queue_calls.specs.declared.recordings.Hearing.{Hearing}
+use Rattle.queue_calls.specs.declared.hearings.Begun.TheVariants.{Nothing}
+use Rattle.queue_calls.specs.declared.hearings.Hearing.{Hearing}
 use Rattle.queue_calls.specs.declared.recordings.RecordingIn.{RecordingIn}
 use Rattle.queue_calls.proofs.LineLemmas.{line_same, line_no_feed}
 use Rattle.queue_calls.proofs.RecordingLemmas.{cut_same, feedless, line_and}

@@ -6,14 +6,15 @@ use Rattle.std.proofs.lemmas.List.Elements.{All-append, All-head, All-nil, All-t
 use Rattle.queue_calls.specs.Lines.{line_text}
 use Rattle.queue_calls.specs.Queue.{Capacity}
 use Rattle.queue_calls.specs.Calls.{Event}
-use Rattle.queue_calls.specs.Recordings.{Line, text_of, lines_text, AreLines, capacity_told, events_told, IsBadLine, RefusesText, IsFoundOf, IsFindingOf, IsFaultOf}
+use Rattle.queue_calls.specs.Recordings.{Line, text_of, lines_text, AreLines, capacity_told, events_told, IsBadLine, RefusesText, IsFoundWithin, IsFindingOf, IsFindingWithin, IsFaultOf}
 use Rattle.queue_calls.specs.RecordingStates.{HasNoFeed, HasLines, HasRead, HeardLines, HasHeard, IsFaultSoFar, RefusesLine}
-use Rattle.queue_calls.specs.declared.recordings.Begun.TheVariants.{Nothing}
+use Rattle.queue_calls.specs.declared.entries.TheConstants.{TAKEN_LIMIT}
+use Rattle.queue_calls.specs.declared.hearings.Begun.TheVariants.{Nothing}
 use Rattle.queue_calls.specs.declared.recordings.CallsFinding.{CallsFinding}
 use Rattle.queue_calls.specs.declared.recordings.CallsFinding.TheVariants.{Lawful, OutOfTurn, NotLinearizable}
 use Rattle.queue_calls.specs.declared.entries.Offered.{Offered}
 use Rattle.queue_calls.specs.declared.entries.Taken.{Taken}
-use Rattle.queue_calls.specs.declared.recordings.Hearing.{Hearing}
+use Rattle.queue_calls.specs.declared.hearings.Hearing.{Hearing}
 use Rattle.queue_calls.specs.declared.recordings.Lines.{Lines}
 use Rattle.queue_calls.specs.declared.recordings.RecordingIn.{RecordingIn}
 use Rattle.queue_calls.specs.declared.recordings.RecordingFault.{RecordingFault}
@@ -111,9 +112,9 @@ cut_refused before bytes cut number text are none is there = record {
 
 -- ---- findings
 
-pub found : {S O T N B : Type 0} (offered : O → List Offered) (last : T → List Taken) (hearing : Hearing S O T N B) (is_cut : Bool) (finding : CallsFinding) (ended : List Line) (bytes cut : List ℕ) → bytes ≡ lines_text ended ++ cut → cut ≡ [] → AreLines ended → HeardLines offered last hearing is_cut ended
-    → ((capacity : Capacity) (events : List Event) → HasHeard offered last hearing capacity events → IsFoundOf capacity events finding) → IsFindingOf bytes finding
-found offered last hearing is_cut finding ended bytes cut text none are heard finds = (
+pub found : {S O T N B : Type 0} (offered : O → List Offered) (last : T → List Taken) (limit : ℕ) (hearing : Hearing S O T N B) (is_cut : Bool) (finding : CallsFinding) (ended : List Line) (bytes cut : List ℕ) → bytes ≡ lines_text ended ++ cut → cut ≡ [] → AreLines ended → HeardLines offered last hearing is_cut ended
+    → ((capacity : Capacity) (events : List Event) → HasHeard offered last hearing capacity events → IsFoundWithin limit capacity events finding) → IsFindingWithin limit bytes finding
+found offered last limit hearing is_cut finding ended bytes cut text none are heard finds = (
   capacity_told heard.0,
   events_told Nothing heard.1,
   record {
@@ -130,18 +131,20 @@ found offered last hearing is_cut finding ended bytes cut text none are heard fi
 
 -- the first fault of lines that have ended, or none
 fault_is :
-    {S O T N B : Type 0} (offered : O → List Offered) (last : T → List Taken) (hearing : Hearing S O T N B) (is_cut : Bool) (ended : List Line) → AreLines ended →
+    {S O T N B : Type 0} (offered : O → List Offered) (last : T → List Taken) (hearing : Hearing S O T N B) (is_cut : Bool) (ended : List Line) → hearing.witness.limit ≡ TAKEN_LIMIT → AreLines ended →
     HeardLines offered last hearing is_cut ended → (fault : Option CallsFinding) → hearing.fault ≡ fault → IsFaultOf (lines_text ended) fault
-fault_is offered last hearing is_cut ended are heard fault is =
+fault_is offered last hearing is_cut ended limit are heard fault is =
     let SoFar : Capacity → List Event → Option CallsFinding → Type 0 = λ capacity events f. IsFaultSoFar offered last f hearing.witness hearing.tally capacity events in
-    let finds : (finding : CallsFinding) → ((capacity : Capacity) (events : List Event) → SoFar capacity events fault → IsFoundOf capacity events finding) → IsFindingOf (lines_text ended) finding =
-    λ finding holds. found offered last hearing is_cut finding ended (lines_text ended) [] (sym (append-nil (lines_text ended))) refl are heard (λ capacity events h. holds capacity events (subst (SoFar capacity events) is h)) in
+    let finds : (finding : CallsFinding) → ((capacity : Capacity) (events : List Event) → SoFar capacity events fault → IsFoundWithin hearing.witness.limit capacity events finding) → IsFindingOf (lines_text ended) finding =
+    λ finding holds.
+    subst (λ n. IsFindingWithin n (lines_text ended) finding) limit
+    (found offered last hearing.witness.limit hearing is_cut finding ended (lines_text ended) [] (sym (append-nil (lines_text ended))) refl are heard (λ capacity events h. holds capacity events (subst (SoFar capacity events) is h))) in
     elim fault as (λ f. f ≡ fault → IsFaultOf (lines_text ended) f) [
       | None ↦ λ same some. (
         report_of hearing.witness hearing.tally,
         finds (Lawful (report_of hearing.witness hearing.tally)) (λ capacity events h.
             let (remembers, tallied) = subst (SoFar capacity events) (sym same) h in
-            heard_lawful offered last capacity events hearing.witness hearing.tally remembers tallied),
+            heard_lawful offered last capacity events hearing.witness.limit hearing.witness hearing.tally remembers tallied),
       )
       | Some (Lawful report) ↦ λ same. subst (SoFar (capacity_told heard.0) (events_told Nothing heard.1)) (is ∙ sym same) heard.4
       | Some (OutOfTurn number) ↦ λ same. finds (OutOfTurn number) (λ capacity events h. subst (SoFar capacity events) (sym same) h)
@@ -153,4 +156,4 @@ pub fault_found :
     IsFaultOf (lines_text ended) lines.hearing.fault
 fault_found offered last lines [] has = subst (IsFaultOf []) (sym (has.unheard refl)) (λ some. absurd (some refl))
 fault_found offered last lines (l ∷ more) has =
-    fault_is offered last lines.hearing lines.lacks_calls (l ∷ more) has.are (has.heard (λ none. absurd (omega (arith, ap length none)))) lines.hearing.fault refl
+    fault_is offered last lines.hearing lines.lacks_calls (l ∷ more) has.limit has.are (has.heard (λ none. absurd (omega (arith, ap length none)))) lines.hearing.fault refl

@@ -9,8 +9,8 @@ use Rattle.queue_calls.specs.Lines.{Allows, AreSmall}
 use Rattle.queue_calls.specs.Recordings.{first_word, Line, line, IsOfFormat, IsFurther, event_told, begun_after, and_then, events_told}
 use Rattle.queue_calls.specs.Tellings.{line_of, lines_of, numbers_in, TellsSmall, HistoryHasARecording}
 use Rattle.queue_calls.specs.declared.lines.Word.TheVariants as word
-use Rattle.queue_calls.specs.declared.recordings.Begun.{Begun}
-use Rattle.queue_calls.specs.declared.recordings.Begun.TheVariants as begun
+use Rattle.queue_calls.specs.declared.hearings.Begun.{Begun}
+use Rattle.queue_calls.specs.declared.hearings.Begun.TheVariants as begun
 use Rattle.queue_calls.proofs.HeardLines.{not_first}
 
 -- what the producer has under way it began last

@@ -26,3 +26,5 @@ pub mod Tallying
 pub mod RecordingStates
 pub mod RecordingLaws
 pub mod Tellings
+pub mod Words
+pub mod Hearings

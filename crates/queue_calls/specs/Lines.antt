@@ -1,5 +1,5 @@
 -- The lines of a recording's text: a word, and numbers in decimal, with one space between two of them.
-use Rattle.std.specs.Prelude.{◌≡◌, ℕ, ◌≤◌, ◌<◌, ◌^◌, List, [], ◌∷◌, ◌++◌, codes, decimal, All, flat_map}
+use Rattle.std.specs.Prelude.{◌≡◌, ◌==◌, ℕ, ◌≤◌, ◌<◌, ◌^◌, if◌then◌else◌, Option, Some, None, List, [], ◌∷◌, ◌++◌, codes, decimal, All, flat_map}
 use Rattle.queue_calls.specs.declared.lines.Word.{Word}
 use Rattle.queue_calls.specs.declared.lines.Word.TheVariants.{Queue, Cut, Put, Stored, PutSome, Full, Short, PutNothing, PutClosed, Close, Take, Item, TakeSome, Empty, TakeShort, TakeNothing, TakeClosed}
 
@@ -21,6 +21,28 @@ word_text Empty = codes "C empty"
 word_text TakeShort = codes "C short"
 word_text TakeNothing = codes "C nothing"
 word_text TakeClosed = codes "C closed"
+
+-- the word of a number, by which a program tells it: as the recorders number them, and then those of a first line
+abbrev pub word_of : ℕ → Option Word
+word_of n =
+    if n == 0 then Some Put else
+    if n == 1 then Some Close else
+    if n == 2 then Some Take else
+    if n == 3 then Some Stored else
+    if n == 4 then Some PutSome else
+    if n == 5 then Some Full else
+    if n == 6 then Some Short else
+    if n == 7 then Some PutNothing else
+    if n == 8 then Some PutClosed else
+    if n == 9 then Some Item else
+    if n == 10 then Some TakeSome else
+    if n == 11 then Some Empty else
+    if n == 12 then Some TakeShort else
+    if n == 13 then Some TakeNothing else
+    if n == 14 then Some TakeClosed else
+    if n == 15 then Some Queue else
+    if n == 16 then Some Cut else
+    None
 
 -- numbers, with a space before each of them
 abbrev pub numbers_text : List ℕ → List ℕ

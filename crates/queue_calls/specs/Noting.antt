@@ -3,7 +3,6 @@ use Rattle.std.specs.Prelude.{◌⊎◌, ℕ, ◌<◌, List, [], length, flat_ma
 use Rattle.queue_calls.specs.Queue.{Capacity}
 use Rattle.queue_calls.specs.Calls.{Event, TakeItems}
 use Rattle.queue_calls.specs.Audits.{HasMoreItems}
-use Rattle.queue_calls.specs.declared.entries.TheConstants.{TAKEN_LIMIT}
 
 -- the items that an event takes
 abbrev pub items_got : Event → List ℕ
@@ -14,6 +13,6 @@ items_got _ = []
 abbrev pub all_got : List Event → List ℕ
 all_got h = flat_map items_got h
 
--- a history for which a list is too short: that of the items inside or offered; or that of the items taken last
-abbrev pub OutgrowsLists : (offered taken : ℕ) → Capacity → List Event → Type 0
-OutgrowsLists offered taken capacity h = HasMoreItems offered capacity h ⊎ ((taken < TAKEN_LIMIT) × (taken < length (all_got h)))
+-- a history for which a list is too short: that of the items inside or offered; or that of the items taken last, of which so many are kept
+abbrev pub OutgrowsLists : (limit offered taken : ℕ) → Capacity → List Event → Type 0
+OutgrowsLists limit offered taken capacity h = HasMoreItems offered capacity h ⊎ ((taken < limit) × (taken < length (all_got h)))

@@ -5,7 +5,6 @@ use Rattle.queue_calls.specs.Queue.{Capacity, Unbounded, Between}
 use Rattle.queue_calls.specs.Calls.{Event, PutBegin, PutStored, PutFull, PutShort, PutNothing, PutClosed, CloseBegin, CloseEnd, TakeBegin, TakeItems, TakeEmpty, TakeShort, TakeNothing, TakeClosed, IsLinearizable}
 use Rattle.queue_calls.specs.InTurn.{CallsAreInTurn}
 use Rattle.queue_calls.specs.State.{IsProper}
-use Rattle.queue_calls.specs.declared.entries.TheConstants.{TAKEN_LIMIT}
 use Rattle.queue_calls.specs.declared.entries.Offered.{Offered}
 use Rattle.queue_calls.specs.declared.entries.Taken.{Taken}
 use Rattle.queue_calls.specs.declared.causes.Cause.{Cause}
@@ -122,9 +121,13 @@ coming past = drop (k_of past) (stored past ++ offers past)
 abbrev pub at : List Offered → ℕ → Offered
 at entries place = get_or entries place (offered_at 0 0)
 
+-- the last one of such entries; where there is none item 0 of line 0
+abbrev pub last_in : List Taken → Taken
+last_in all = get_or all (length all - 1) (taken_at 0 0)
+
 -- the item taken last
 abbrev pub last_taken : List Event → Taken
-last_taken past = get_or (taken past) (k_of past - 1) (taken_at 0 0)
+last_taken past = last_in (taken past)
 
 -- the last so many of a list
 abbrev pub last_of : {A : Type 0} → ℕ → List A → List A
@@ -187,18 +190,19 @@ abbrev pub again_cause : List Event → ℕ → Option Taken → Option Offered 
 again_cause past item (Some t) next = ComesAgain t next
 again_cause past item None next = NotInside item next
 
-abbrev pub gone_cause : List Event → List ℕ → ℕ → Option Offered → Cause
-gone_cause past first item next =
-    again_cause past item (find (λ t. t.item == item) (map (taken_at (line_behind past)) first ++ reverse (last_of TAKEN_LIMIT (taken past)))) next
+-- which is looked for in the line, and among so many of those taken last
+abbrev pub gone_cause : (limit : ℕ) → List Event → List ℕ → ℕ → Option Offered → Cause
+gone_cause limit past first item next =
+    again_cause past item (find (λ t. t.item == item) (map (taken_at (line_behind past)) first ++ reverse (last_of limit (taken past)))) next
 
 -- of one that gave these items behind others, the next ones, where these are next
-abbrev pub items_cause : Capacity → Bool → List Event → (first items : List ℕ) → (rest : List Offered) → Option Cause
-items_cause capacity why past first [] rest = fewer_cause capacity (length first) why past
-items_cause capacity why past first (item ∷ items) [] = Some (gone_cause past first item None)
-items_cause capacity why past first (item ∷ items) (next ∷ rest) =
-    if next.item == item then items_cause capacity why past (first ++ item ∷ []) items rest else
+abbrev pub items_cause : (limit : ℕ) → Capacity → Bool → List Event → (first items : List ℕ) → (rest : List Offered) → Option Cause
+items_cause limit capacity why past first [] rest = fewer_cause capacity (length first) why past
+items_cause limit capacity why past first (item ∷ items) [] = Some (gone_cause limit past first item None)
+items_cause limit capacity why past first (item ∷ items) (next ∷ rest) =
+    if next.item == item then items_cause limit capacity why past (first ++ item ∷ []) items rest else
     if is_some (find (λ o. o.item == item) rest) then Some (NotNext item next) else
-    Some (gone_cause past first item (Some next))
+    Some (gone_cause limit past first item (Some next))
 
 abbrev pub empty_cause : Capacity → List Event → Option Cause
 empty_cause capacity past =
@@ -219,31 +223,31 @@ abbrev pub closed_cause : List Offered → Option Cause
 closed_cause [] = None
 closed_cause (next ∷ rest) = Some (ClosedWhileInside next)
 
-abbrev pub cause_of : Capacity → Event → List Event → Option Cause
-cause_of capacity (PutStored count why) past = stored_cause capacity count why past
-cause_of capacity PutFull past = full_cause capacity past
-cause_of capacity PutShort past = put_short_cause capacity past
-cause_of capacity PutNothing past = if nat_lt (n_of past) (k_of past) then Some (NotStoredButTaken (last_taken past)) else None
-cause_of capacity PutClosed past = if has_ended (before_put past) then None else Some ClosedWithoutClose
-cause_of capacity (TakeItems items why) past = if has_told past then Some (ItemAfterTold (told_closed_line past)) else items_cause capacity why past [] items (coming past)
-cause_of capacity TakeEmpty past = empty_cause capacity past
-cause_of capacity TakeShort past = take_short_cause capacity past
-cause_of capacity TakeNothing past = not_taken_cause capacity 0 past
-cause_of capacity TakeClosed past = if has_begun past then closed_cause (coming past) else Some ClosedBeforeClose
-cause_of capacity _ past = None
+abbrev pub cause_of : (limit : ℕ) → Capacity → Event → List Event → Option Cause
+cause_of limit capacity (PutStored count why) past = stored_cause capacity count why past
+cause_of limit capacity PutFull past = full_cause capacity past
+cause_of limit capacity PutShort past = put_short_cause capacity past
+cause_of limit capacity PutNothing past = if nat_lt (n_of past) (k_of past) then Some (NotStoredButTaken (last_taken past)) else None
+cause_of limit capacity PutClosed past = if has_ended (before_put past) then None else Some ClosedWithoutClose
+cause_of limit capacity (TakeItems items why) past = if has_told past then Some (ItemAfterTold (told_closed_line past)) else items_cause limit capacity why past [] items (coming past)
+cause_of limit capacity TakeEmpty past = empty_cause capacity past
+cause_of limit capacity TakeShort past = take_short_cause capacity past
+cause_of limit capacity TakeNothing past = not_taken_cause capacity 0 past
+cause_of limit capacity TakeClosed past = if has_begun past then closed_cause (coming past) else Some ClosedBeforeClose
+cause_of limit capacity _ past = None
 
--- this speaks against an event behind others
-abbrev pub IsCause : Capacity → List Event → Event → Cause → Type 0
-IsCause capacity before event cause = cause_of capacity event (reverse before) ≡ Some cause
+-- this speaks against an event behind others, where so many of the items taken last are looked through
+abbrev pub IsCause : (limit : ℕ) → Capacity → List Event → Event → Cause → Type 0
+IsCause limit capacity before event cause = cause_of limit capacity event (reverse before) ≡ Some cause
 
--- a cause is a reason: the history with the event that it speaks against is not linearizable
+-- a cause is a reason, whatever the limit: the history with the event that it speaks against is not linearizable
 abbrev pub CauseIsReason : Type 0
 CauseIsReason =
-    (capacity : Capacity) (before : List Event) (event : Event) (cause : Cause) → IsProper capacity → IsCause capacity before event cause →
+    (limit : ℕ) (capacity : Capacity) (before : List Event) (event : Event) (cause : Cause) → IsProper capacity → IsCause limit capacity before event cause →
     ¬ IsLinearizable capacity (before ++ event ∷ [])
 
 -- and where a history stops being linearizable, at an event that comes in its turn, there is one
 abbrev pub FaultHasACause : Type 0
 FaultHasACause =
-    (capacity : Capacity) (before : List Event) (event : Event) → IsProper capacity → IsLinearizable capacity before → CallsAreInTurn (before ++ event ∷ []) →
-    ¬ IsLinearizable capacity (before ++ event ∷ []) → (cause : Cause) × IsCause capacity before event cause
+    (limit : ℕ) (capacity : Capacity) (before : List Event) (event : Event) → IsProper capacity → IsLinearizable capacity before → CallsAreInTurn (before ++ event ∷ []) →
+    ¬ IsLinearizable capacity (before ++ event ∷ []) → (cause : Cause) × IsCause limit capacity before event cause

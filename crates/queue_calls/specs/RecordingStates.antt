@@ -5,17 +5,18 @@ use Rattle.queue_calls.specs.Calls.{Event}
 use Rattle.queue_calls.specs.Lines.{line_text}
 use Rattle.queue_calls.specs.Witnesses.{Remembers}
 use Rattle.queue_calls.specs.Tallying.{IsTallied}
-use Rattle.queue_calls.specs.Recordings.{Line, line, first_word, lines_text, AreLines, capacity_told, events_told, begun_behind, IsFoundOf}
+use Rattle.queue_calls.specs.Recordings.{Line, line, first_word, lines_text, AreLines, capacity_told, events_told, begun_behind, IsFoundWithin}
+use Rattle.queue_calls.specs.declared.entries.TheConstants.{TAKEN_LIMIT}
 use Rattle.queue_calls.specs.declared.entries.Offered.{Offered}
 use Rattle.queue_calls.specs.declared.entries.Taken.{Taken}
 use Rattle.queue_calls.specs.declared.reports.Tally.{Tally}
 use Rattle.queue_calls.specs.declared.witnesses.Witness.{Witness}
-use Rattle.queue_calls.specs.declared.recordings.Begun.TheVariants.{Nothing}
+use Rattle.queue_calls.specs.declared.hearings.Begun.TheVariants.{Nothing}
 use Rattle.queue_calls.specs.declared.recordings.CallsFinding.{CallsFinding}
 use Rattle.queue_calls.specs.declared.recordings.CallsFinding.TheVariants.{Lawful}
 use Rattle.queue_calls.specs.declared.recordings.RecordingFault.{RecordingFault}
 use Rattle.queue_calls.specs.declared.recordings.RecordingFault.TheVariants.{BadLine, TooLong, OutOfMemory}
-use Rattle.queue_calls.specs.declared.recordings.Hearing.{Hearing}
+use Rattle.queue_calls.specs.declared.hearings.Hearing.{Hearing}
 use Rattle.queue_calls.specs.declared.recordings.Lines.{Lines}
 use Rattle.queue_calls.specs.declared.recordings.RecordingIn.{RecordingIn}
 
@@ -27,7 +28,7 @@ HasNoFeed bytes = All (λ b. b ≢ 10) bytes
 abbrev pub IsFaultSoFar : {S O T N B : Type 0} → (offered : O → List Offered) → (last : T → List Taken) → Option CallsFinding → Witness S O T N B → Tally → Capacity → List Event → Type 0
 IsFaultSoFar offered last None w tally capacity events = Remembers offered last w capacity events × IsTallied capacity events tally
 IsFaultSoFar offered last (Some (Lawful report)) w tally capacity events = ⊥
-IsFaultSoFar offered last (Some fault) w tally capacity events = IsFoundOf capacity events fault
+IsFaultSoFar offered last (Some fault) w tally capacity events = IsFoundWithin w.limit capacity events fault
 
 -- these events were heard, of a queue of this capacity
 abbrev pub HasHeard : {S O T N B : Type 0} → (offered : O → List Offered) → (last : T → List Taken) → Hearing S O T N B → Capacity → List Event → Type 0
@@ -38,10 +39,12 @@ abbrev pub HeardLines : {S O T N B : Type 0} → (offered : O → List Offered) 
 HeardLines offered last hearing is_cut lines = (first : List ℕ) × (further : List Line) × (lines ≡ line (first_word is_cut) first ∷ further)
     × (hearing.begun ≡ begun_behind Nothing further) × HasHeard offered last hearing (capacity_told first) (events_told Nothing further)
 
--- these lines have ended; where there are none, there is no fault of them
+-- these lines have ended; where there are none, there is no fault of them; and as many of the items taken last are kept
+-- as a recording keeps
 pub record HasLines {S O T N B : Type 0} (offered : O → List Offered) (last : T → List Taken) (lines : Lines S O T N B) (ended : List Line) : Type 0 where
   pub are : AreLines ended
   pub count : lines.count ≡ length ended
+  pub limit : lines.hearing.witness.limit ≡ TAKEN_LIMIT
   pub unheard : ended ≡ [] → lines.hearing.fault ≡ None
   pub heard : ended ≢ [] → HeardLines offered last lines.hearing lines.lacks_calls ended
 

@@ -6,10 +6,11 @@ use Rattle.queue_calls.specs.InTurn.{CallsAreInTurn}
 use Rattle.queue_calls.specs.Reasons.{IsCause}
 use Rattle.queue_calls.specs.Reporting.{IsReport}
 use Rattle.queue_calls.specs.Lines.{line_text, Allows, AreSmall}
+use Rattle.queue_calls.specs.declared.entries.TheConstants.{TAKEN_LIMIT}
 use Rattle.queue_calls.specs.declared.lines.Word.{Word}
 use Rattle.queue_calls.specs.declared.lines.Word.TheVariants as word
-use Rattle.queue_calls.specs.declared.recordings.Begun.{Begun}
-use Rattle.queue_calls.specs.declared.recordings.Begun.TheVariants as begun
+use Rattle.queue_calls.specs.declared.hearings.Begun.{Begun}
+use Rattle.queue_calls.specs.declared.hearings.Begun.TheVariants as begun
 use Rattle.queue_calls.specs.declared.recordings.CallsFinding.{CallsFinding}
 use Rattle.queue_calls.specs.declared.recordings.CallsFinding.TheVariants.{Lawful, OutOfTurn, NotLinearizable}
 use Rattle.queue_calls.specs.declared.recordings.RecordingFault.{RecordingFault}
@@ -162,17 +163,24 @@ pub record StopsAt (capacity : Capacity) (events : List Event) (number : ℕ) (S
   pub stops : ¬ (IsLinearizable capacity (before ++ event ∷ []))
   pub says : Says before event
 
--- what is found of a history: it is linearizable, and what is told of it; or its first fault is out of turn, or in its turn, with what
--- speaks against it
-abbrev pub IsFoundOf : Capacity → List Event → CallsFinding → Type 0
-IsFoundOf capacity events (Lawful report) = IsLinearizable capacity events × IsReport capacity events report
-IsFoundOf capacity events (OutOfTurn number) = StopsAt capacity events number (λ before event. ¬ CallsAreInTurn (before ++ event ∷ []))
-IsFoundOf capacity events (NotLinearizable number cause) =
-    StopsAt capacity events number (λ before event. CallsAreInTurn (before ++ event ∷ []) × IsCause capacity before event cause)
+-- what is found of a history, with so many of the items taken last kept: it is linearizable, and what is told of it; or its first fault is
+-- out of turn, or in its turn, with what speaks against it
+abbrev pub IsFoundWithin : (limit : ℕ) → Capacity → List Event → CallsFinding → Type 0
+IsFoundWithin limit capacity events (Lawful report) = IsLinearizable capacity events × IsReport capacity events report
+IsFoundWithin limit capacity events (OutOfTurn number) = StopsAt capacity events number (λ before event. ¬ CallsAreInTurn (before ++ event ∷ []))
+IsFoundWithin limit capacity events (NotLinearizable number cause) =
+    StopsAt capacity events number (λ before event. CallsAreInTurn (before ++ event ∷ []) × IsCause limit capacity before event cause)
 
 -- what is found of a text
+abbrev pub IsFindingWithin : (limit : ℕ) → List ℕ → CallsFinding → Type 0
+IsFindingWithin limit bytes finding = (capacity : Capacity) × (events : List Event) × IsRecording bytes capacity events × IsFoundWithin limit capacity events finding
+
+-- where as many are kept as a recording keeps
+abbrev pub IsFoundOf : Capacity → List Event → CallsFinding → Type 0
+IsFoundOf = IsFoundWithin TAKEN_LIMIT
+
 abbrev pub IsFindingOf : List ℕ → CallsFinding → Type 0
-IsFindingOf bytes finding = (capacity : Capacity) × (events : List Event) × IsRecording bytes capacity events × IsFoundOf capacity events finding
+IsFindingOf = IsFindingWithin TAKEN_LIMIT
 
 -- the first fault that is found of a text of lines that have ended, or none: it is linearizable, or there is no line
 abbrev pub IsFaultOf : List ℕ → Option CallsFinding → Type 0

@@ -6,18 +6,19 @@ use Rattle.queue_calls.specs.Noting.{OutgrowsLists}
 use Rattle.queue_calls.specs.Lines.{line_text, AreSmall}
 use Rattle.queue_calls.specs.Recordings.{Line, lines_text, IsRecording}
 use Rattle.queue_calls.specs.RecordingStates.{HasNoFeed}
+use Rattle.queue_calls.specs.declared.entries.TheConstants.{TAKEN_LIMIT}
 use Rattle.queue_calls.specs.declared.lines.Word.{Word}
 use Rattle.queue_calls.specs.declared.recordings.RecordingIn.{RecordingIn}
 
 -- the text begins with the recording of such a history
-pub record HasLongHistory (offered taken : ℕ) (text : List ℕ) : Type 0 where
+pub record HasLongHistory (limit offered taken : ℕ) (text : List ℕ) : Type 0 where
   pub first : List ℕ
   pub rest : List ℕ
   pub capacity : Capacity
   pub events : List Event
   pub parts : text ≡ first ++ rest
   pub recording : IsRecording first capacity events
-  pub needs : OutgrowsLists offered taken capacity events
+  pub needs : OutgrowsLists limit offered taken capacity events
 
 -- bytes begin with a word and more numbers than there is room for
 pub record BeginsWithNumbers (room : ℕ) (bytes : List ℕ) : Type 0 where
@@ -57,4 +58,4 @@ rooms_in o t n b r = rooms_of o t n b r.lines.hearing.witness.auditor.inside.lis
 
 -- a list is too short for what a text has
 abbrev pub AreTooShort : Rooms → List ℕ → Type 0
-AreTooShort rooms text = HasLongHistory rooms.offered rooms.taken text ⊎ (HasManyNumbers rooms.numbers text ⊎ HasLongLine rooms.bytes text)
+AreTooShort rooms text = HasLongHistory TAKEN_LIMIT rooms.offered rooms.taken text ⊎ (HasManyNumbers rooms.numbers text ⊎ HasLongLine rooms.bytes text)

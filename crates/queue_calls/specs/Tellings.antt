@@ -6,8 +6,8 @@ use Rattle.queue_calls.specs.InTurn.{CallsAreInTurn}
 use Rattle.queue_calls.specs.Lines.{AreSmall}
 use Rattle.queue_calls.specs.Recordings.{Line, line, first_word, lines_text, begun_after, IsRecording}
 use Rattle.queue_calls.specs.declared.lines.Word.TheVariants as word
-use Rattle.queue_calls.specs.declared.recordings.Begun.{Begun}
-use Rattle.queue_calls.specs.declared.recordings.Begun.TheVariants as begun
+use Rattle.queue_calls.specs.declared.hearings.Begun.{Begun}
+use Rattle.queue_calls.specs.declared.hearings.Begun.TheVariants as begun
 
 -- how many items the put that began last offered
 abbrev pub offered_last : Begun → ℕ

@@ -4,11 +4,10 @@ use Rattle.queue_calls.specs.Queue.{Capacity}
 use Rattle.queue_calls.specs.Calls.{Event, IsLinearizable}
 use Rattle.queue_calls.specs.Counting.{CountTo, kept}
 use Rattle.queue_calls.specs.InTurn.{CallsAreInTurn}
-use Rattle.queue_calls.specs.Reasons.{before_put, before_stored, coming, ended_line, has_ended, has_told, items_of, last_of, line_behind, stored_at, taken, told_closed_line}
+use Rattle.queue_calls.specs.Reasons.{before_put, before_stored, coming, ended_line, has_ended, has_told, items_of, last_of, last_taken, line_behind, stored_at, taken, told_closed_line}
 use Rattle.queue_calls.specs.Noting.{OutgrowsLists}
 use Rattle.queue_calls.specs.State.{IsProper}
 use Rattle.queue_calls.specs.Told.{meant}
-use Rattle.queue_calls.specs.declared.entries.TheConstants.{TAKEN_LIMIT}
 use Rattle.queue_calls.specs.declared.entries.Offered.{Offered}
 use Rattle.queue_calls.specs.declared.entries.Taken.{Taken}
 use Rattle.queue_calls.specs.declared.faults.Fault.{Fault}
@@ -17,14 +16,15 @@ use Rattle.queue_calls.specs.declared.turns.PutTurn.TheVariants.{Free}
 use Rattle.queue_calls.specs.declared.turns.TakeTurn.TheVariants.{Rests}
 use Rattle.queue_calls.specs.declared.witnesses.Witness.{Witness}
 
--- what is kept of a history: what its events counted one after the other leave; what comes next; the items taken last; and the lines that
--- a cause tells
+-- what is kept of a history: what its events counted one after the other leave; what comes next; so many of the items taken last as
+-- its limit says, and the last one in any case; and the lines that a cause tells
 pub record Remembers {S O T N B : Type 0} (offered : O → List Offered) (last : T → List Taken) (w : Witness S O T N B) (capacity : Capacity) (events : List Event) : Type 0 where
   pub proper : IsProper capacity
   pub capacity_is : meant w.auditor.capacity ≡ capacity
   pub counted : CountTo capacity (kept [] Free Rests false) events (kept (items_of (offered w.auditor.inside.list)) w.auditor.put w.auditor.take w.auditor.shut)
   pub inside : offered w.auditor.inside.list ≡ coming (reverse events)
-  pub taken : last w.taken ≡ last_of TAKEN_LIMIT (taken (reverse events))
+  pub taken : last w.taken ≡ last_of w.limit (taken (reverse events))
+  pub taken_last : w.last_taken ≡ last_taken (reverse events)
   pub ended : w.ended_at ≡ (if has_ended (reverse events) then Some (ended_line (reverse events)) else None)
   pub told : w.told_at ≡ (if has_told (reverse events) then Some (told_closed_line (reverse events)) else None)
   pub put_at : w.put_at ≡ line_behind (before_put (reverse events))
@@ -32,10 +32,11 @@ pub record Remembers {S O T N B : Type 0} (offered : O → List Offered) (last :
 
 -- what a refusal says of an event behind those that are remembered, where the lists have room for so many
 abbrev pub RefusesNext : {S O T N B : Type 0} → (offered : O → List Offered) → (last : T → List Taken) → (offered_room taken_room : ℕ) → Witness S O T N B → Capacity → List Event → Event → Fault → Type 0
-RefusesNext offered last o t w capacity events event OutOfTurn = ¬ CallsAreInTurn (events ++ event ∷ []) × ¬ IsLinearizable capacity (events ++ event ∷ [])
+RefusesNext offered last o t w capacity events event OutOfTurn =
+    Remembers offered last w capacity events × ¬ CallsAreInTurn (events ++ event ∷ []) × ¬ IsLinearizable capacity (events ++ event ∷ [])
 RefusesNext offered last o t w capacity events event NotLinearizable =
     Remembers offered last w capacity events × CallsAreInTurn (events ++ event ∷ []) × ¬ IsLinearizable capacity (events ++ event ∷ [])
-RefusesNext offered last o t w capacity events event OutOfMemory = OutgrowsLists o t capacity (events ++ event ∷ [])
+RefusesNext offered last o t w capacity events event OutOfMemory = OutgrowsLists w.limit o t capacity (events ++ event ∷ [])
 
 -- the last so many entries, as this line stores them
 abbrev pub mark_last : (line count : ℕ) → List Offered → List Offered

@@ -35,6 +35,21 @@ pub struct CallAuditor<Q: Inside> {
     pub(crate) shut: bool,
 }
 
+/// What an auditor keeps beside its list.
+///
+/// For example, `CallAuditor::resume` goes on from it, as `queue_calls_c` does between two calls of C.
+#[derive(Clone, Copy, PartialEq, Eq, Debug)]
+pub struct AuditorState {
+    /// How many items the queue may hold.
+    pub capacity: Capacity,
+    /// What the producer has under way.
+    pub put: PutTurn,
+    /// What the consumer has under way.
+    pub take: TakeTurn,
+    /// A close has ended, or a take was told that the queue is closed.
+    pub shut: bool,
+}
+
 impl<A: Allocator> CallAuditor<VecDeque<u64, A>> {
     ghost use Rattle.queue_calls.specs.State.{IsProper};
     ghost use Rattle.queue_calls.specs.Audits.{Audits};
@@ -55,6 +70,7 @@ impl<Q: Inside> CallAuditor<Q> {
     ghost use Rattle.queue_calls.specs.Calls.{Event as AnEvent, IsLinearizable, PutBegin, PutClosed, CloseBegin, CloseEnd, TakeBegin, TakeClosed};
     ghost use Rattle.queue_calls.specs.State.{IsProper, offered_by, asked_by, AreNext, CanEndPut, CanEndTake};
     ghost use Rattle.queue_calls.specs.Audits.{Audits, Reads};
+    ghost use Rattle.queue_calls.specs.Hearings.{auditor_of};
     ghost use Rattle.queue_calls.specs.Insides.{MovesEntries};
     ghost use Rattle.queue_calls.specs.Deciding.{Decides, EndsAPut, EndsATake};
     ghost use Rattle.queue_calls.specs.Noting.{items_got};
@@ -95,6 +111,32 @@ impl<Q: Inside> CallAuditor<Q> {
         self.put = PutTurn::Free;
         self.take = TakeTurn::Rests;
         self.shut = false;
+    }
+
+    /// An auditor that goes on from what one kept, and from what its list held then.
+    pub fn resume(state: AuditorState, inside: Q) -> CallAuditor<Q>
+        ensures { result ≡ auditor_of state inside }
+    {
+        CallAuditor {
+            capacity: state.capacity,
+            inside,
+            put: state.put,
+            take: state.take,
+            shut: state.shut,
+        }
+    }
+
+    /// What it keeps beside its list, and this.
+    pub fn keep(self) -> (AuditorState, Q)
+        ensures { self ≡ auditor_of result.0 result.1 }
+    {
+        let state = AuditorState {
+            capacity: self.capacity,
+            put: self.put,
+            take: self.take,
+            shut: self.shut,
+        };
+        (state, self.inside)
     }
 
     /// What it has read is linearizable.

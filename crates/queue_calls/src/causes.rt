@@ -55,8 +55,8 @@ pub enum Cause {
         item: u64,
         next: Offered,
     },
-    /// A take gave an item that was taken before, among the last [`TAKEN_LIMIT`](crate::TAKEN_LIMIT) or earlier in the same line;
-    /// and what is next in its place, where something is.
+    /// A take gave an item that was taken before, among the last ones that are kept, of a recording of text
+    /// [`TAKEN_LIMIT`](crate::TAKEN_LIMIT), or earlier in the same line; and what is next in its place, where something is.
     ComesAgain {
         taken: Taken,
         next: Option<Offered>,

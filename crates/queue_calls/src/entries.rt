@@ -1,6 +1,6 @@
 //! What is kept of items, with the lines that tell of them.
 
-/// How many of the items taken last are looked through for one that comes again.
+/// How many of the items taken last are looked through for one that comes again, in a recording of text.
 ///
 /// For example, where so many others were taken in between, an item that comes again is told as one that was not inside.
 pub const TAKEN_LIMIT: usize = 65_536;

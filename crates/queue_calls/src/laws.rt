@@ -64,13 +64,14 @@ pub fn history_has_a_recording()
     ensures { HistoryHasARecording }
 {}
 
-/// A cause is a reason: the history with the event that it speaks against is not linearizable.
+/// A cause is a reason: the history with the event that it speaks against is not linearizable, however many of the items taken last
+/// are looked through.
 pub fn cause_is_reason()
     ensures { CauseIsReason }
 {}
 
 /// Where a history stops being linearizable, at an event that comes in its turn, there is a cause: something speaks against the
-/// event.
+/// event, however many of the items taken last are looked through.
 pub fn fault_has_a_cause()
     ensures { FaultHasACause }
 {}

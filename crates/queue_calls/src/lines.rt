@@ -1,6 +1,6 @@
 //! The lines of a recording's text.
 ghost use Rattle.std.specs.Prelude.{◌≡◌, ◌↔◌, ◌<◌, ◌++◌, IsTrue, None, IfOk, OnErr, IfSome, ℕ, List, length, option_map};
-ghost use Rattle.queue_calls.specs.Lines.{Allows, AreSmall, IsLine, numbers_text, word_text};
+ghost use Rattle.queue_calls.specs.Lines.{Allows, AreSmall, IsLine, numbers_text, word_of, word_text};
 ghost use Rattle.queue_calls.specs.Rooms.{BeginsWithNumbers};
 ghost use Rattle.queue_calls.specs.LineReading.{ReadsNumbers, bytes_behind, digits_behind, spaced_number, put_word_at, take_word_at, line_word_at};
 
@@ -71,6 +71,35 @@ impl Word {
             Word::TakeShort => "C short",
             Word::TakeNothing => "C nothing",
             Word::TakeClosed => "C closed",
+        }
+    }
+
+    /// The word of this number, by which a program tells it: 0 to 14 as `record/` numbers the kinds of events, 15 `queue` and 16
+    /// `cut queue`.
+    ///
+    /// In use: `queue_calls_c`, by which C tells its lines.
+    pub fn of_number(number: u32) -> Option<Word>
+        ensures { result ≡ word_of number }
+    {
+        match number {
+            0 => Some(Word::Put),
+            1 => Some(Word::Close),
+            2 => Some(Word::Take),
+            3 => Some(Word::Stored),
+            4 => Some(Word::PutSome),
+            5 => Some(Word::Full),
+            6 => Some(Word::Short),
+            7 => Some(Word::PutNothing),
+            8 => Some(Word::PutClosed),
+            9 => Some(Word::Item),
+            10 => Some(Word::TakeSome),
+            11 => Some(Word::Empty),
+            12 => Some(Word::TakeShort),
+            13 => Some(Word::TakeNothing),
+            14 => Some(Word::TakeClosed),
+            15 => Some(Word::Queue),
+            16 => Some(Word::Cut),
+            _ => None,
         }
     }
 }
@@ -222,8 +251,10 @@ fn number_after(begun: u64, bytes: &[u8]) -> Option<(u64, &[u8])>
     Some((number, &[]))
 }
 
-// Whether these numbers may stand behind the word.
-fn allows(word: Word, numbers: &[u64]) -> bool
+/// Whether these numbers may stand behind the word.
+///
+/// In use: `uses::hearings::of_queue`.
+pub fn allows(word: Word, numbers: &[u64]) -> bool
     ensures { IsTrue result ↔ Allows word numbers.now }
 {
     match (word, numbers) {

@@ -1,24 +1,20 @@
 //! The text of recorded calls, read in pieces, and what is found.
-ghost use Rattle.std.specs.Prelude.{◌≡◌, ◌≢◌, ◌+◌, ◌⊎◌, List, [], ◌∷◌, ℕ, ◌++◌, None, IfErr, IfOk, OnOk, MatchOption, length, option_map};
+ghost use Rattle.std.specs.Prelude.{◌≡◌, ◌≢◌, ◌+◌, ◌⊎◌, List, [], ◌∷◌, ℕ, ◌++◌, None, IfErr, IfOk, OnOk, MatchOption};
 ghost use Rattle.queue_calls.specs.Calls.{Event as AnEvent};
 ghost use Rattle.queue_calls.specs.Queue.{Capacity as ACapacity};
-ghost use Rattle.queue_calls.specs.Told.{meant, told};
-ghost use Rattle.queue_calls.specs.Lines.{AllowsQueue};
-ghost use Rattle.queue_calls.specs.Recordings.{IsFaultOf, IsFindingOf, IsFoundOf, IsRecording, Line, RefusesText, lines_text, begun_after, capacity_told, event_told, some_told, stored_told, wanted_told};
-ghost use Rattle.queue_calls.specs.RecordingStates.{ContinuesLines, HasHeard, HasLines, HasNoFeed, HasRead, RefusesLine};
+ghost use Rattle.queue_calls.specs.Told.{told};
+ghost use Rattle.queue_calls.specs.Recordings.{IsFaultOf, IsFindingOf, IsRecording, Line, RefusesText, lines_text};
+ghost use Rattle.queue_calls.specs.RecordingStates.{ContinuesLines, HasLines, HasNoFeed, HasRead, RefusesLine};
 ghost use Rattle.queue_calls.specs.Rooms.{AreTooShort, BeginsWithNumbers, HasLongHistory, rooms_in, rooms_of};
-ghost use Rattle.queue_calls.specs.Noting.{OutgrowsLists};
-ghost use Rattle.queue_calls.specs.declared.lines.Word.TheVariants as word;
+ghost use Rattle.queue_calls.specs.declared.entries.TheConstants.{TAKEN_LIMIT};
 
-use crate::capacities::{Capacity, exactly};
 use crate::causes::Cause;
-use crate::events::Event;
-use crate::faults::Fault;
+use crate::entries::TAKEN_LIMIT;
 use crate::fifos::Row;
+use crate::hearings::{Hearing, begun_after, event_told};
 use crate::lines::{Word, read_line};
-use crate::reports::{Report, Tally};
+use crate::reports::Report;
 use crate::storage::{Lists, Memory, Storage};
-use crate::witnesses::Witness;
 use memchr::memchr;
 use std::alloc::{AllocError, Allocator};
 use std::collections::VecDeque;
@@ -98,185 +94,6 @@ impl From<AllocError> for RecordingFault {
     }
 }
 
-// What the producer began last: it tells apart the two ends `P closed`, and how many items `P stored` says.
-#[derive(Clone, Copy)]
-pub enum Begun {
-    Nothing,
-    // a put of so many items
-    Put(usize),
-    Close,
-}
-
-// The history that the lines tell, with what is found of it so far.
-#[derive(Drop)]
-struct Hearing<S: Storage> {
-    witness: Witness<S>,
-    tally: Tally,
-    begun: Begun,
-    // the first fault
-    fault: Option<CallsFinding>,
-}
-
-// The capacity that the first line tells.
-fn capacity_told(numbers: &[u64]) -> Capacity
-    ensures { meant result ≡ capacity_told numbers.now }
-{
-    match numbers {
-        [] => Capacity::Unbounded,
-        [full] => exactly(*full as usize),
-        [full, most, ..] => Capacity::Between {
-            full: *full as usize,
-            most: *most as usize,
-        },
-    }
-}
-
-// The event that a line behind the first tells, where the producer began this last.
-fn event_told(begun: Begun, word: Word, numbers: &[u64]) -> Option<Event<'_>>
-    ensures { option_map told result ≡ event_told begun word numbers.now }
-{
-    Some(match word {
-        Word::Queue | Word::Cut => return None,
-        Word::Put => Event::PutBegins(numbers),
-        Word::Stored => Event::PutStored(stored_told(begun, numbers)),
-        Word::PutSome => Event::PutSome(some_told(numbers)),
-        Word::Full => Event::PutFull,
-        Word::Short => Event::PutShort,
-        Word::PutNothing => Event::PutNothing,
-        Word::PutClosed => match begun {
-            Begun::Close => Event::CloseEnds,
-            Begun::Nothing | Begun::Put(_) => Event::PutClosed,
-        },
-        Word::Close => Event::CloseBegins,
-        Word::Take => Event::TakeBegins(wanted_told(numbers)),
-        Word::Item => Event::TakeItems(numbers),
-        Word::TakeSome => Event::TakeSome(numbers),
-        Word::Empty => Event::TakeEmpty,
-        Word::TakeShort => Event::TakeShort,
-        Word::TakeNothing => Event::TakeNothing,
-        Word::TakeClosed => Event::TakeClosed,
-    })
-}
-
-// How many items were stored: all that the put offered, or fewer; a number that says not fewer is out of turn, as 0 is.
-fn stored_told(begun: Begun, numbers: &[u64]) -> usize
-    ensures { result ≡ stored_told begun numbers.now }
-{
-    let offered = match begun {
-        Begun::Put(offered) => offered,
-        Begun::Nothing | Begun::Close => 0,
-    };
-    match numbers.first() {
-        None => offered,
-        Some(number) if (*number as usize) < offered => *number as usize,
-        Some(_) => 0,
-    }
-}
-
-// How many items a put stored that does not say whether these are all.
-fn some_told(numbers: &[u64]) -> usize
-    ensures { result ≡ some_told numbers.now }
-{
-    match numbers.first() {
-        None => 0,
-        Some(number) => *number as usize,
-    }
-}
-
-// How many items a take wants: 1 where the line has no number.
-fn wanted_told(numbers: &[u64]) -> usize
-    ensures { result ≡ wanted_told numbers.now }
-{
-    match numbers.first() {
-        None => 1,
-        Some(number) => *number as usize,
-    }
-}
-
-// What the producer began last, behind this line.
-fn begun_after(begun: Begun, word: Word, numbers: &[u64]) -> Begun
-    ensures { result ≡ begun_after begun word numbers.now }
-{
-    match word {
-        Word::Put => Begun::Put(numbers.len()),
-        Word::Close => Begun::Close,
-        _ => begun,
-    }
-}
-
-impl<S: Storage> Hearing<S> {
-    ghost use Rattle.queue_calls.specs.declared.recordings.Begun.TheVariants.{Nothing};
-    ghost use Rattle.queue_calls.specs.declared.recordings.RecordingFault.TheVariants.{OutOfMemory};
-
-    // Nothing was heard, and of what queue is not told.
-    fn new(offered: S::Offered, taken: S::Taken) -> Hearing<S>
-        ensures no_fault { result.fault ≡ None }
-        ensures rooms { (S.Offered.room result.witness.auditor.inside.list ≡ S.Offered.room offered) × (S.Taken.room result.witness.taken ≡ S.Taken.room taken) }
-    {
-        Hearing {
-            witness: Witness::new(offered, taken),
-            tally: Tally::new(),
-            begun: Begun::Nothing,
-            fault: None,
-        }
-    }
-
-    // Forgets all, and hears of a queue of the capacity that these numbers of a first line tell.
-    fn begins(&mut self, numbers: &[u64])
-        requires { AllowsQueue numbers.now }
-        ensures heard { HasHeard S.Offered.items S.Taken.items self.new (capacity_told numbers.now) [] }
-        ensures begun { self.new.begun ≡ Nothing }
-        ensures rooms { (S.Offered.room self.new.witness.auditor.inside.list ≡ S.Offered.room self.old.witness.auditor.inside.list) × (S.Taken.room self.new.witness.taken ≡ S.Taken.room self.old.witness.taken) }
-    {
-        self.witness.restart(capacity_told(numbers));
-        self.tally = Tally::new();
-        self.begun = Begun::Nothing;
-        self.fault = None;
-    }
-
-    // Hears the event of a line; behind a fault nothing is asked of it.
-    fn hear(&mut self, line: u64, event: Event<'_>) -> Result<(), RecordingFault>
-        ensures heard { OnOk result ((capacity : ACapacity) (events : List AnEvent) → HasHeard S.Offered.items S.Taken.items self.old capacity events → length events + 2 ≡ line
-            → HasHeard S.Offered.items S.Taken.items self.new capacity (events ++ told event.entry ∷ [])) }
-        ensures refused { IfErr result (λ e. e ≡ OutOfMemory) }
-        ensures begun { self.new.begun ≡ self.old.begun }
-        ensures full { IfErr result (λ e. (capacity : ACapacity) (events : List AnEvent) → HasHeard S.Offered.items S.Taken.items self.old capacity events
-            → OutgrowsLists (S.Offered.room self.old.witness.auditor.inside.list) (S.Taken.room self.old.witness.taken) capacity (events ++ told event.entry ∷ [])) }
-        ensures rooms { (S.Offered.room self.new.witness.auditor.inside.list ≡ S.Offered.room self.old.witness.auditor.inside.list) × (S.Taken.room self.new.witness.taken ≡ S.Taken.room self.old.witness.taken) }
-    {
-        if self.fault.is_some() {
-            return Ok(());
-        }
-        let offered = self.witness.auditor.offered();
-        match self.witness.hear(line, event) {
-            Ok(()) => {
-                self.tally.count(event, offered, &self.witness.auditor);
-                Ok(())
-            }
-            Err(Fault::OutOfTurn) => {
-                self.fault = Some(CallsFinding::OutOfTurn { line });
-                Ok(())
-            }
-            Err(Fault::NotLinearizable) => {
-                let cause = self.witness.cause(line, event);
-                self.fault = Some(CallsFinding::NotLinearizable { line, cause });
-                Ok(())
-            }
-            Err(Fault::OutOfMemory) => Err(RecordingFault::OutOfMemory),
-        }
-    }
-
-    // What is found of the lines so far.
-    fn finding(&self) -> CallsFinding
-        ensures { (capacity : ACapacity) (events : List AnEvent) → HasHeard S.Offered.items S.Taken.items self.now capacity events → IsFoundOf capacity events result }
-    {
-        match self.fault {
-            Some(fault) => fault,
-            None => CallsFinding::Lawful(self.tally.report(&self.witness.auditor)),
-        }
-    }
-}
-
 // The lines that have ended.
 #[derive(Drop)]
 struct Lines<S: Storage> {
@@ -298,7 +115,7 @@ impl<S: Storage> Lines<S> {
         ensures read { OnOk result ((before : List Line) → HasLines S.Offered.items S.Taken.items self.old before → (l : Line) × ContinuesLines before line.now l × HasLines S.Offered.items S.Taken.items self.new (before ++ l ∷ [])) }
         ensures refused { IfErr result (λ e. (before : List Line) → HasLines S.Offered.items S.Taken.items self.old before → RefusesLine e before line.now) }
         ensures full { IfErr result (λ e. e ≡ OutOfMemory → (before : List Line) → HasLines S.Offered.items S.Taken.items self.old before
-            → HasLongHistory (S.Offered.room self.old.hearing.witness.auditor.inside.list) (S.Taken.room self.old.hearing.witness.taken) (lines_text before ++ (line.now ++ 10 ∷ [])) ⊎ BeginsWithNumbers (S.Numbers.room self.old.numbers) line.now) }
+            → HasLongHistory TAKEN_LIMIT (S.Offered.room self.old.hearing.witness.auditor.inside.list) (S.Taken.room self.old.hearing.witness.taken) (lines_text before ++ (line.now ++ 10 ∷ [])) ⊎ BeginsWithNumbers (S.Numbers.room self.old.numbers) line.now) }
         ensures rooms { (S.Offered.room self.new.hearing.witness.auditor.inside.list ≡ S.Offered.room self.old.hearing.witness.auditor.inside.list) × (S.Taken.room self.new.hearing.witness.taken ≡ S.Taken.room self.old.hearing.witness.taken) × (S.Numbers.room self.new.numbers ≡ S.Numbers.room self.old.numbers) }
     {
         let Some(count) = self.count.checked_add(1) else {
@@ -387,7 +204,7 @@ impl<S: Storage> RecordingIn<S> {
                 numbers,
                 count: 0,
                 lacks_calls: false,
-                hearing: Hearing::new(offered, taken),
+                hearing: Hearing::new(offered, taken, TAKEN_LIMIT),
             },
             cut,
         }

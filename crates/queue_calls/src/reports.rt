@@ -15,6 +15,7 @@ use crate::insides::Inside;
 /// Numbers past the largest stay at the largest.
 ///
 /// In use: `uses::findings::found_in`.
+#[repr(C)]
 #[derive(Clone, Copy, PartialEq, Eq, Debug)]
 pub struct Report {
     /// Calls that have begun.
@@ -44,9 +45,9 @@ pub struct Report {
 // The report on the events so far; and whether the call under way of each side has overlapped one of the other.
 #[derive(Drop)]
 pub struct Tally {
-    report: Report,
-    put_overlaps: bool,
-    take_overlaps: bool,
+    pub(crate) report: Report,
+    pub(crate) put_overlaps: bool,
+    pub(crate) take_overlaps: bool,
 }
 
 impl Tally {

@@ -1,5 +1,5 @@
 //! Lists in slots of the caller's. They take no memory.
-ghost use Rattle.std.specs.Prelude.{◌≡◌, ◌≤◌, ◌<◌, [], length, take};
+ghost use Rattle.std.specs.Prelude.{◌≡◌, ◌≤◌, ◌<◌, ◌⊎◌, [], IfSome, IsNone, length, take};
 
 use crate::fifos::{Fifo, Row};
 use std::alloc::AllocError;
@@ -32,6 +32,26 @@ impl<'a, T: Copy> Slots<'a, T> {
             first: 0,
             used: 0,
         }
+    }
+
+    /// The list that lay in these slots before: so many items, from this slot on. None where that is more than the slots.
+    pub fn resume(slots: &'a mut [T], first: usize, used: usize) -> Option<Self>
+        ensures some { IfSome result (λ list. (list.slots.now ≡ slots.old) × (list.first ≡ first) × (list.used ≡ used)) }
+        ensures none { IsNone result → (length slots.old < first) ⊎ (length slots.old < used) }
+    {
+        if first <= slots.len() && used <= slots.len() {
+            Some(Slots { slots, first, used })
+        } else {
+            None
+        }
+    }
+
+    /// The slots with what lies there, the slot of the front, and how many are used.
+    pub fn keep(self) -> (&'a mut [T], usize, usize)
+        ensures kept { (result.0.now ≡ self.entry.slots.now) × (result.1 ≡ self.entry.first) × (result.2 ≡ self.entry.used) }
+        ensures within { (result.1 ≤ length result.0.now) × (result.2 ≤ length result.0.now) }
+    {
+        (self.slots, self.first, self.used)
     }
 
     // The slot of the item of this place.

@@ -1,19 +1,18 @@
 //! What is kept of a history to judge the next event, and to say what speaks against it.
-ghost use Rattle.std.specs.Prelude.{◌≡◌, ℕ, Bool, ◌<◌, ◌≤◌, ◌+◌, ◌-◌, ◌++◌, ◌∷◌, [], List, IfErr, OnOk, Some, length, map, drop, get_or, reverse, unwrap_or};
+ghost use Rattle.std.specs.Prelude.{◌≡◌, ℕ, Bool, ◌<◌, ◌≤◌, ◌+◌, ◌++◌, ◌∷◌, [], List, IfErr, OnOk, Some, length, map, drop, reverse, unwrap_or};
 ghost use Rattle.queue_calls.specs.Queue.{Capacity as ACapacity};
 ghost use Rattle.queue_calls.specs.Calls.{Event as AnEvent, TakeItems, TakeClosed, IsLinearizable};
 ghost use Rattle.queue_calls.specs.InTurn.{APut, ATake, CallsAreInTurn};
 ghost use Rattle.queue_calls.specs.State.{IsProper, call_of_put, call_of_take};
 ghost use Rattle.queue_calls.specs.Told.{meant, told};
-ghost use Rattle.queue_calls.specs.Reasons.{IsCause, at, cause_of, coming, empty_cause, fewer_cause, full_cause, gone_cause, items_cause, last_of, not_taken_cause, put_short_cause, stored_cause, take_short_cause, taken_at};
+ghost use Rattle.queue_calls.specs.Reasons.{IsCause, at, cause_of, coming, empty_cause, fewer_cause, full_cause, gone_cause, items_cause, last_in, last_of, not_taken_cause, put_short_cause, stored_cause, take_short_cause, taken_at};
 ghost use Rattle.queue_calls.specs.Witnesses.{Remembers, RefusesNext, agreed, comes, last_taken_of, mark_last};
-ghost use Rattle.queue_calls.specs.declared.entries.TheConstants.{TAKEN_LIMIT};
 ghost use Rattle.queue_calls.specs.declared.faults.Fault.TheVariants.{OutOfMemory};
 
 use crate::auditors::CallAuditor;
 use crate::capacities::Capacity;
 use crate::causes::Cause;
-use crate::entries::{Offered, TAKEN_LIMIT, Taken};
+use crate::entries::{Offered, Taken};
 use crate::events::Event;
 use crate::faults::Fault;
 use crate::fifos::Fifo;
@@ -25,24 +24,33 @@ use crate::turns::{PutTurn, TakeTurn};
 #[derive(Drop)]
 pub struct Witness<S: Storage> {
     pub(crate) auditor: CallAuditor<Lined<S::Offered>>,
-    // the items taken last
-    taken: S::Taken,
+    // the items taken last, and how many of them are kept
+    pub(crate) taken: S::Taken,
+    pub(crate) limit: usize,
+    // the last one, kept in any case; where none was taken item 0 of line 0
+    pub(crate) last_taken: Taken,
     // the lines that ended the first close, and the first take that was told that the queue is closed
-    ended_at: Option<u64>,
-    told_at: Option<u64>,
+    pub(crate) ended_at: Option<u64>,
+    pub(crate) told_at: Option<u64>,
     // those that began the last put, and ended the last one that stored items; where there was none the first line of an event
-    put_at: u64,
-    stored_at: u64,
+    pub(crate) put_at: u64,
+    pub(crate) stored_at: u64,
 }
 
 impl<S: Storage> Witness<S> {
-    // Nothing of a queue of which no capacity is told.
-    pub fn new(offered: S::Offered, taken: S::Taken) -> Witness<S>
+    // Nothing of a queue of which no capacity is told. So many of the items taken last are kept.
+    pub fn new(offered: S::Offered, taken: S::Taken, limit: usize) -> Witness<S>
+        ensures limit { result.limit ≡ limit }
         ensures rooms { (S.Offered.room result.auditor.inside.list ≡ S.Offered.room offered) × (S.Taken.room result.taken ≡ S.Taken.room taken) }
     {
         Witness {
             auditor: CallAuditor::with(Lined { list: offered }, Capacity::Unbounded),
             taken,
+            limit,
+            last_taken: Taken {
+                item: 0,
+                taken_at: 0,
+            },
             ended_at: None,
             told_at: None,
             put_at: 2,
@@ -53,11 +61,16 @@ impl<S: Storage> Witness<S> {
     // Forgets all, and has nothing of a queue of this capacity.
     pub fn restart(&mut self, capacity: Capacity)
         requires { IsProper (meant capacity) }
+        ensures limit { self.new.limit ≡ self.old.limit }
         ensures kept { Remembers S.Offered.items S.Taken.items self.new (meant capacity) [] }
         ensures rooms { (S.Offered.room self.new.auditor.inside.list ≡ S.Offered.room self.old.auditor.inside.list) × (S.Taken.room self.new.taken ≡ S.Taken.room self.old.taken) }
     {
         self.auditor.restart(capacity);
         self.taken.truncate(0);
+        self.last_taken = Taken {
+            item: 0,
+            taken_at: 0,
+        };
         self.ended_at = None;
         self.told_at = None;
         self.put_at = 2;
@@ -68,6 +81,7 @@ impl<S: Storage> Witness<S> {
     pub fn hear(&mut self, line: u64, event: Event<'_>) -> Result<(), Fault>
         ensures kept { OnOk result ((capacity : ACapacity) (events : List AnEvent) → Remembers S.Offered.items S.Taken.items self.old capacity events → length events + 2 ≡ line → Remembers S.Offered.items S.Taken.items self.new capacity (events ++ told event.entry ∷ [])) }
         ensures refused { IfErr result (λ fault. (capacity : ACapacity) (events : List AnEvent) → Remembers S.Offered.items S.Taken.items self.old capacity events → RefusesNext S.Offered.items S.Taken.items (S.Offered.room self.old.auditor.inside.list) (S.Taken.room self.old.taken) self.new capacity events (told event.entry) fault) }
+        ensures limit { self.new.limit ≡ self.old.limit }
         ensures rooms { (S.Offered.room self.new.auditor.inside.list ≡ S.Offered.room self.old.auditor.inside.list) × (S.Taken.room self.new.taken ≡ S.Taken.room self.old.taken) }
     {
         self.auditor.feed_at(line, event)?;
@@ -95,7 +109,7 @@ impl<S: Storage> Witness<S> {
         ensures inside { S.Offered.items self.new.auditor.inside.list ≡ mark_last line count (S.Offered.items self.old.auditor.inside.list) }
         ensures auditor { (self.new.auditor.capacity ≡ self.old.auditor.capacity) × (self.new.auditor.put ≡ self.old.auditor.put) × (self.new.auditor.take ≡ self.old.auditor.take) × (self.new.auditor.shut ≡ self.old.auditor.shut) }
         ensures lines { (self.new.stored_at ≡ line) × (self.new.ended_at ≡ self.old.ended_at) × (self.new.told_at ≡ self.old.told_at) × (self.new.put_at ≡ self.old.put_at) }
-        ensures taken { self.new.taken ≡ self.old.taken }
+        ensures taken { (self.new.taken ≡ self.old.taken) × (self.new.limit ≡ self.old.limit) × (self.new.last_taken ≡ self.old.last_taken) }
         ensures room { S.Offered.room self.new.auditor.inside.list ≡ S.Offered.room self.old.auditor.inside.list }
     {
         let inside = self.auditor.inside.len();
@@ -113,13 +127,24 @@ impl<S: Storage> Witness<S> {
 
     // This line took these items.
     fn takes(&mut self, line: u64, items: &[u64]) -> Result<(), Fault>
-        ensures taken { OnOk result ((earlier : List Taken) → S.Taken.items self.old.taken ≡ last_of TAKEN_LIMIT earlier → S.Taken.items self.new.taken ≡ last_of TAKEN_LIMIT (earlier ++ map (taken_at line) items.now)) }
-        ensures full { IfErr result (λ fault. (fault ≡ OutOfMemory) × ((earlier : List Taken) → S.Taken.items self.old.taken ≡ last_of TAKEN_LIMIT earlier → (S.Taken.room self.old.taken < TAKEN_LIMIT) × (S.Taken.room self.old.taken < length earlier + length items.now))) }
-        ensures others { (self.new.auditor ≡ self.old.auditor) × (self.new.ended_at ≡ self.old.ended_at) × (self.new.told_at ≡ self.old.told_at) × (self.new.put_at ≡ self.old.put_at) × (self.new.stored_at ≡ self.old.stored_at) }
+        ensures taken { OnOk result ((earlier : List Taken) → S.Taken.items self.old.taken ≡ last_of self.old.limit earlier → S.Taken.items self.new.taken ≡ last_of self.old.limit (earlier ++ map (taken_at line) items.now)) }
+        ensures last { (earlier : List Taken) → self.old.last_taken ≡ last_in earlier → self.new.last_taken ≡ last_in (earlier ++ map (taken_at line) items.now) }
+        ensures full { IfErr result (λ fault. (fault ≡ OutOfMemory) × ((earlier : List Taken) → S.Taken.items self.old.taken ≡ last_of self.old.limit earlier → (S.Taken.room self.old.taken < self.old.limit) × (S.Taken.room self.old.taken < length earlier + length items.now))) }
+        ensures others { (self.new.auditor ≡ self.old.auditor) × (self.new.limit ≡ self.old.limit) × (self.new.ended_at ≡ self.old.ended_at) × (self.new.told_at ≡ self.old.told_at) × (self.new.put_at ≡ self.old.put_at) × (self.new.stored_at ≡ self.old.stored_at) }
         ensures room { S.Taken.room self.new.taken ≡ S.Taken.room self.old.taken }
     {
+        self.last_taken = match items.last() {
+            Some(item) => Taken {
+                item: *item,
+                taken_at: line,
+            },
+            None => self.last_taken,
+        };
+        if self.limit == 0 {
+            return Ok(());
+        }
         for item in items {
-            if TAKEN_LIMIT <= self.taken.len() {
+            if self.limit <= self.taken.len() {
                 let _ = self.taken.pop_front();
             }
             let taken = Taken {
@@ -147,29 +172,16 @@ impl<S: Storage> Witness<S> {
         }
     }
 
-    // The item taken last.
-    fn last_taken(&self) -> Taken
-        ensures { result ≡ get_or (S.Taken.items self.now.taken) (length (S.Taken.items self.now.taken) - 1) (taken_at 0 0) }
-    {
-        match self.taken.get(self.taken.len().saturating_sub(1)) {
-            Some(taken) => *taken,
-            None => Taken {
-                item: 0,
-                taken_at: 0,
-            },
-        }
-    }
-
     // What speaks against an event of this line that comes in its turn, and with which the history is not linearizable.
     pub fn cause(&self, line: u64, event: Event<'_>) -> Cause
-        ensures { (capacity : ACapacity) (events : List AnEvent) → Remembers S.Offered.items S.Taken.items self.now capacity events → length events + 2 ≡ line → CallsAreInTurn (events ++ told event.entry ∷ []) → ¬ IsLinearizable capacity (events ++ told event.entry ∷ []) → IsCause capacity events (told event.entry) result }
+        ensures { (capacity : ACapacity) (events : List AnEvent) → Remembers S.Offered.items S.Taken.items self.now capacity events → length events + 2 ≡ line → CallsAreInTurn (events ++ told event.entry ∷ []) → ¬ IsLinearizable capacity (events ++ told event.entry ∷ []) → IsCause self.now.limit capacity events (told event.entry) result }
     {
         match event {
             Event::PutStored(count) => self.stored_cause(count, true),
             Event::PutSome(count) => self.stored_cause(count, false),
             Event::PutFull => self.full_cause(),
             Event::PutShort => self.put_short_cause(),
-            Event::PutNothing => Cause::NotStoredButTaken(self.last_taken()),
+            Event::PutNothing => Cause::NotStoredButTaken(self.last_taken),
             Event::PutClosed => Cause::ClosedWithoutClose,
             Event::TakeItems(items) => self.items_cause(line, items, true),
             Event::TakeSome(items) => self.items_cause(line, items, false),
@@ -201,7 +213,7 @@ impl<S: Storage> Witness<S> {
         if inside < rest {
             return Cause::OnlySomeStored {
                 count,
-                taken: self.last_taken(),
+                taken: self.last_taken,
             };
         }
         let least = (inside - rest).saturating_sub(self.auditor.asked());
@@ -222,7 +234,7 @@ impl<S: Storage> Witness<S> {
             return Cause::FullAfterClose(self.ended_line());
         };
         if self.auditor.inside.len() < offered {
-            return Cause::NotStoredButTaken(self.last_taken());
+            return Cause::NotStoredButTaken(self.last_taken);
         }
         Cause::FullWithRoom {
             inside: before,
@@ -237,7 +249,7 @@ impl<S: Storage> Witness<S> {
             return Cause::ShortAfterClose(self.ended_line());
         };
         if self.auditor.inside.len() < offered {
-            return Cause::NotStoredButTaken(self.last_taken());
+            return Cause::NotStoredButTaken(self.last_taken);
         }
         Cause::ShortWithRoom {
             offered,
@@ -247,7 +259,7 @@ impl<S: Storage> Witness<S> {
     }
 
     fn items_cause(&self, line: u64, items: &[u64], why: bool) -> Cause
-        ensures { (capacity : ACapacity) (events : List AnEvent) (cause : Cause) → Remembers S.Offered.items S.Taken.items self.now capacity events → length events + 2 ≡ line → (n : ℕ) → call_of_take self.now.auditor.take ≡ ATake n → cause_of capacity (TakeItems items.now why) (reverse events) ≡ Some cause → result ≡ cause }
+        ensures { (capacity : ACapacity) (events : List AnEvent) (cause : Cause) → Remembers S.Offered.items S.Taken.items self.now capacity events → length events + 2 ≡ line → (n : ℕ) → call_of_take self.now.auditor.take ≡ ATake n → cause_of self.now.limit capacity (TakeItems items.now why) (reverse events) ≡ Some cause → result ≡ cause }
     {
         if let Some(told) = self.told_at {
             return Cause::ItemAfterTold(told);
@@ -278,7 +290,7 @@ impl<S: Storage> Witness<S> {
 
     // Of an item that is not the next behind these, which are.
     fn astray_cause(&self, line: u64, first: &[u64], item: u64) -> Cause
-        ensures { (capacity : ACapacity) (events : List AnEvent) (cause : Cause) (items : List ℕ) (why : Bool) → Remembers S.Offered.items S.Taken.items self.now capacity events → length events + 2 ≡ line → agreed (item ∷ []) (drop (length first.now) (coming (reverse events))) ≡ 0 → items_cause capacity why (reverse events) first.now (item ∷ items) (drop (length first.now) (coming (reverse events))) ≡ Some cause → result ≡ cause }
+        ensures { (capacity : ACapacity) (events : List AnEvent) (cause : Cause) (items : List ℕ) (why : Bool) → Remembers S.Offered.items S.Taken.items self.now capacity events → length events + 2 ≡ line → agreed (item ∷ []) (drop (length first.now) (coming (reverse events))) ≡ 0 → items_cause self.now.limit capacity why (reverse events) first.now (item ∷ items) (drop (length first.now) (coming (reverse events))) ≡ Some cause → result ≡ cause }
     {
         match self.auditor.inside.list.get(first.len()) {
             Some(next) => {
@@ -306,7 +318,7 @@ impl<S: Storage> Witness<S> {
 
     // Of an item that does not come any more.
     fn gone_cause(&self, line: u64, first: &[u64], item: u64, next: Option<Offered>) -> Cause
-        ensures { (capacity : ACapacity) (events : List AnEvent) → Remembers S.Offered.items S.Taken.items self.now capacity events → length events + 2 ≡ line → result ≡ gone_cause (reverse events) first.now item next }
+        ensures { (capacity : ACapacity) (events : List AnEvent) → Remembers S.Offered.items S.Taken.items self.now capacity events → length events + 2 ≡ line → result ≡ gone_cause self.now.limit (reverse events) first.now item next }
     {
         if first.contains(&item) {
             return Cause::ComesAgain {
@@ -407,7 +419,7 @@ impl<S: Storage> Witness<S> {
     }
 
     fn closed_cause(&self) -> Cause
-        ensures { (capacity : ACapacity) (events : List AnEvent) (cause : Cause) → Remembers S.Offered.items S.Taken.items self.now capacity events → cause_of capacity TakeClosed (reverse events) ≡ Some cause → result ≡ cause }
+        ensures { (capacity : ACapacity) (events : List AnEvent) (cause : Cause) → Remembers S.Offered.items S.Taken.items self.now capacity events → cause_of self.now.limit capacity TakeClosed (reverse events) ≡ Some cause → result ≡ cause }
     {
         if self.auditor.is_closed() {
             Cause::ClosedWhileInside(self.at(0))

@@ -4,5 +4,3 @@ pub mod Rooms
 pub mod Shown
 pub mod Following
 pub mod MarksTold
-pub mod Shortness
-pub mod Writes

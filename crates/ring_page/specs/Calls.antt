@@ -13,8 +13,8 @@ use Rattle.queue_calls.specs.declared.reports.Report.{Report}
 use Rattle.ring_page.specs.Marks.{bit_number}
 use Rattle.ring_page.specs.declared.calls.CallsTold.{CallsTold}
 use Rattle.ring_page.specs.declared.calls.Counts.{Counts}
-use Rattle.ring_page.specs.declared.words.TheConstants.{CAUSE_WORDS}
-use Rattle.ring_page.specs.Words.{written}
+use Rattle.queue_calls.specs.declared.words.TheConstants.{CAUSE_WORDS}
+use Rattle.queue_calls.specs.Words.{written}
 
 -- the numbers of a report, and of none
 abbrev pub counts_of : Report → Counts

@@ -4,5 +4,4 @@ pub mod Programs
 pub mod Audit
 pub mod Play
 pub mod Order
-pub mod Words
 pub mod Calls

@@ -6,9 +6,9 @@ ghost use Rattle.queue_calls.specs.declared.recordings.RecordingFault.TheVariant
 ghost use Rattle.ring_page.specs.Calls.{HasShortWords, IsFindingIn, TellsRecording, slots_for, counts_of, no_counts, told_of_finding, told_of_refusal, words_told};
 
 use crate::marks::bit_number;
-use crate::words::write_cause;
 use queue_calls::{
     CallsFinding, Front, Lent, Lists, Offered, RecordingFault, RecordingIn, Report, Slots, Taken,
+    write_cause,
 };
 
 /// The numbers of the report on a recording that is lawful; all 0 on another.
@@ -147,7 +147,7 @@ fn found_in(text: &[u8], lists: Lists<Lent<'_>>) -> Result<(CallsFinding, bool),
 ///
 /// Enough are: of `offered` as many as there are items inside at most, with those that a put offers; of `taken` as many as are
 /// taken, or [`TAKEN_LIMIT`](queue_calls::TAKEN_LIMIT); of `numbers` as many as a line has; of `bytes` as many as stand behind the
-/// last line feed; and of `words` [`CAUSE_WORDS`](crate::CAUSE_WORDS), where with fewer a front of the words is told. What the slots hold before counts for
+/// last line feed; and of `words` [`CAUSE_WORDS`](queue_calls::CAUSE_WORDS), where with fewer a front of the words is told. What the slots hold before counts for
 /// nothing; behind it those of `words` that hold no words are as they were, and the others may hold anything.
 #[unsafe(no_mangle)]
 pub extern "C" fn page_calls(

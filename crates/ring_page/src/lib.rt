@@ -8,7 +8,6 @@ mod orders;
 mod plays;
 mod programs;
 mod reasons;
-mod words;
 
 pub use audits::{EVENT_ROOM, Told, page_audit};
 pub use calls::{CallsTold, Counts, page_calls};
@@ -16,7 +15,7 @@ pub use marks::Mark;
 pub use orders::{Came, Holds, page_order};
 pub use plays::{ANSWER_ROOM, Asked, Played, RUN_ROOM, page_play};
 pub use programs::{Due, Judged};
-pub use words::CAUSE_WORDS;
+pub use queue_calls::CAUSE_WORDS;
 
 #[cfg(test)]
 mod call_tests;

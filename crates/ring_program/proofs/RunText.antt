@@ -17,8 +17,8 @@ use Rattle.queue_calls.specs.Told.{meant}
 use Rattle.queue_calls.specs.declared.auditors.CallAuditor.{CallAuditor}
 use Rattle.queue_calls.specs.declared.capacities.Capacity.{Capacity}
 use Rattle.queue_calls.specs.declared.capacities.Capacity.TheVariants.{Between}
-use Rattle.queue_calls.specs.declared.recordings.Begun.{Begun}
-use Rattle.queue_calls.specs.declared.recordings.Begun.TheVariants as begun
+use Rattle.queue_calls.specs.declared.hearings.Begun.{Begun}
+use Rattle.queue_calls.specs.declared.hearings.Begun.TheVariants as begun
 use Rattle.ring_program.specs.RunRecordings.{AreOfRun, IsOfRun, RecordsRun, RunCounts, TellAllBut, nothing_left, room_with, stored_with}
 use Rattle.ring_program.specs.Texts.{list_line}
 use Rattle.ring_program.specs.Untold.{TakesOff, left_of}

@@ -8,8 +8,8 @@ use Rattle.queue_calls.specs.Queue.{exactly}
 use Rattle.queue_calls.specs.Recordings.{IsRecording, begun_after, first_word, line, lines_text, text_of}
 use Rattle.queue_calls.specs.Tellings.{HistoryHasARecording, TellsSmall, line_of, lines_of, numbers_in, offered_last}
 use Rattle.queue_calls.specs.declared.lines.Word.TheVariants.{Queue}
-use Rattle.queue_calls.specs.declared.recordings.Begun.{Begun}
-use Rattle.queue_calls.specs.declared.recordings.Begun.TheVariants as begun
+use Rattle.queue_calls.specs.declared.hearings.Begun.{Begun}
+use Rattle.queue_calls.specs.declared.hearings.Begun.TheVariants as begun
 use Rattle.ring_program.specs.Texts.{list_line}
 use Rattle.ring_program.proofs.RecordingText.{line_is}
 

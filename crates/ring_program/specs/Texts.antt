@@ -11,7 +11,7 @@ use Rattle.queue_calls.specs.Causes.{cause_words}
 use Rattle.queue_calls.specs.Recordings.{line, lines_text}
 use Rattle.queue_calls.specs.Tellings.{lines_of}
 use Rattle.queue_calls.specs.declared.lines.Word.TheVariants as word
-use Rattle.queue_calls.specs.declared.recordings.Begun.TheVariants as begun
+use Rattle.queue_calls.specs.declared.hearings.Begun.TheVariants as begun
 use Rattle.queue_calls.specs.declared.recordings.CallsFinding.{CallsFinding}
 use Rattle.queue_calls.specs.declared.recordings.CallsFinding.TheVariants as calls
 use Rattle.queue_calls.specs.declared.reports.Report as calls_report

@@ -4,7 +4,7 @@ ghost use Rattle.queue_calls.specs.Lines.{AreSmall};
 ghost use Rattle.queue_calls.specs.Recordings.{begun_after, text_of};
 ghost use Rattle.queue_calls.specs.Tellings.{line_of, numbers_in, offered_last};
 ghost use Rattle.queue_calls.specs.Told.{told};
-ghost use Rattle.queue_calls.specs.declared.recordings.Begun.{Begun};
+ghost use Rattle.queue_calls.specs.declared.hearings.Begun.{Begun};
 ghost use Rattle.ring_program.specs.Texts.{list_line};
 
 use crate::faults::AppFault;

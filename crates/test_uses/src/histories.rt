@@ -1,6 +1,6 @@
 //! Uses of plays, of histories that are audited, and of recorded calls.
 use bits_core::{Act, Bit, Event, Shape, Side};
-use queue_calls::{CallsFinding, Event as Call, Front, Lent, Lists, Offered, Slots, Taken};
+use queue_calls::{CallsFinding, Event as Call, Front, Lent, Lists, Offered, Slots, Taken, Word};
 use ring_audit::audit;
 use std::alloc::AllocGlobal;
 use std::rt::HostRuntime;
@@ -8,6 +8,7 @@ use std::test::Fail;
 use uses::audits::{is_lawful, is_of_ring};
 use uses::calls::{first_at_fault, first_at_fault_in_slots};
 use uses::findings::{found_in_slots, line_at_fault, sentence_of};
+use uses::hearings::of_queue;
 use uses::plays::takes_of;
 use uses::{findings, plays};
 
@@ -114,4 +115,22 @@ fn a_recording_is_read_in_pieces(rt: HostRuntime) -> Result<(), Fail> {
     let lawful: [&[u8]; 2] = [b"queue 8\nP put 12\nP stored\nC take\n", b"C item 12\n"];
     assert_eq!(rt; line_at_fault(rt.alloc(), &lawful)?, None);
     Ok(())
+}
+
+#[test]
+fn a_hearing_is_told_line_by_line(rt: HostRuntime) {
+    assert!(rt; of_queue(rt.alloc(), 0).is_none());
+    let mut hearing = of_queue(rt.alloc(), 8).expect(rt, "a queue of 8");
+    assert!(rt; matches!(hearing.hear_line(2, Word::Put, &[12]), Ok(None)));
+    assert!(rt; matches!(hearing.hear_line(3, Word::Stored, &[]), Ok(None)));
+    assert!(rt; matches!(hearing.hear_line(4, Word::Take, &[]), Ok(None)));
+    let fault = hearing.hear_line(5, Word::Empty, &[]);
+    assert!(rt;
+        matches!(
+            fault,
+            Ok(Some(CallsFinding::NotLinearizable { line: 5, .. }))
+        )
+    );
+    // of the line at fault nothing is kept
+    assert!(rt; matches!(hearing.hear_line(5, Word::Item, &[12]), Ok(None)));
 }

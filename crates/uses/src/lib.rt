@@ -7,6 +7,7 @@ pub mod batches;
 pub mod by_hand;
 pub mod calls;
 pub mod findings;
+pub mod hearings;
 pub mod oracles;
 pub mod packed;
 pub mod plays;

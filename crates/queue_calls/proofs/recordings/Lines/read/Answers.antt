@@ -1,11 +1,13 @@
 use Rattle.std.proofs.Common.{◌≡◌, ◌≢◌, true, false, ap, ◌∙◌, ℕ, ◌+◌, List, [], ◌∷◌, ◌++◌, length, Option, Some, Result, Ok, Err, OnOk, IfErr, IfSome, inl, length-append, ap₂, sym, subst, arith}
 use Rattle.std.proofs.lemmas.List.{nil_from_length}
 use Rattle.queue_calls.specs.Lines.{IsLine}
+use Rattle.queue_calls.specs.Noting.{OutgrowsLists}
 use Rattle.queue_calls.specs.Recordings.{Line, line, first_word, begun_after, begun_behind, capacity_told, event_told, events_told}
 use Rattle.queue_calls.specs.RecordingStates.{HasHeard}
 use Rattle.queue_calls.specs.Told.{told}
+use Rattle.queue_calls.specs.declared.entries.TheConstants.{TAKEN_LIMIT}
 use Rattle.queue_calls.specs.declared.lines.Word.{Word}
-use Rattle.queue_calls.specs.declared.recordings.Begun.TheVariants as begun
+use Rattle.queue_calls.specs.declared.hearings.Begun.TheVariants as begun
 use Rattle.queue_calls.proofs.HeardLines.{IsFirst, first_line, is_line, first_heard, further_line, count_is, further_heard, not_the_first, not_further}
 use Rattle.queue_calls.proofs.NotingLemmas.{line_long}
 use Rattle.queue_calls.proofs.recordings.Lines.read.Goals as goal
@@ -42,6 +44,7 @@ returns-clause-read g c = then_ok c.hear.result c.hear.ensures.heard (λ heard b
       record {
         are = on.0;
         count = counted before _ c.args.self.now.count c.in-Some.count has.count c.in-Some.ensures.1;
+        limit = c.hear.ensures.limit ∙ has.limit;
         unheard = λ none. absurd (some_lines before _ none);
         heard = λ _. further_heard g.S.Offered.Fifo.items g.S.Taken.Fifo.items c.hear.new.self before c.args.self.now.lacks_calls lines.0 lines.1 c.in-Some-2.word numbers (told c.in-Some-event_told.event) lines.2 tells
             (c.hear.ensures.begun ∙ c.begun_after-self.ensures ∙ ap₂ (λ b ns. begun_after b c.in-Some-2.word ns) begun_is same)
@@ -66,6 +69,7 @@ returns-then-count-eq1-clause-read g c before has =
       record {
         are = on.0;
         count = counted before _ c.args.self.now.count c.in-Some.count has.count c.in-Some.ensures.1;
+        limit = c.begins.ensures.limit ∙ has.limit;
         unheard = λ none. absurd (some_lines before _ none);
         heard = λ _. first_heard g.S.Offered.Fifo.items g.S.Taken.Fifo.items c.begins.new.self before is_cut numbers none c.begins.ensures.begun
             (subst (λ ns. HasHeard g.S.Offered.Fifo.items g.S.Taken.Fifo.items c.begins.new.self (capacity_told ns) []) c.as_slice-numbers.ensures c.begins.ensures.heard);
@@ -108,5 +112,7 @@ returns-clause-full g c = then_err c.hear.result c.hear.ensures.full (λ e needs
     ap₂ (λ b ns. event_told b c.in-Some-2.word ns) (sym lines.3) (sym same) ∙ sym c.in-Some-event_told.ensures in
     let on = further_line before c.args.self.now.lacks_calls c.args.line.now lines.0 lines.1 (begun_behind begun.Nothing lines.1) c.in-Some-2.word numbers (told c.in-Some-event_told.event) lines.2 has.are is tells in
     let s = c.args.self.now in
-    inl (line_long (g.S.Offered.Fifo.room s.hearing.witness.auditor.inside.list) (g.S.Taken.Fifo.room s.hearing.witness.taken)
-    before s.lacks_calls c.args.line.now lines.0 lines.1 c.in-Some-2.word numbers (told c.in-Some-event_told.event) lines.2 on.0 on.1 tells (needs (capacity_told lines.0) (events_told begun.Nothing lines.1) lines.4)))
+    let o = g.S.Offered.Fifo.room s.hearing.witness.auditor.inside.list in
+    let t = g.S.Taken.Fifo.room s.hearing.witness.taken in
+    let outgrows = subst (λ n. OutgrowsLists n o t (capacity_told lines.0) (events_told begun.Nothing lines.1 ++ told c.in-Some-event_told.event ∷ [])) has.limit (needs (capacity_told lines.0) (events_told begun.Nothing lines.1) lines.4) in
+    inl (line_long TAKEN_LIMIT o t before s.lacks_calls c.args.line.now lines.0 lines.1 c.in-Some-2.word numbers (told c.in-Some-event_told.event) lines.2 on.0 on.1 tells outgrows))

@@ -1,7 +1,7 @@
-use Rattle.std.proofs.Common.{◌-◌, ◌<◌, ◌≤◌, length, ◌∙◌, ap, reverse, arith, inl, inr}
+use Rattle.std.proofs.Common.{◌<◌, ◌≤◌, length, ◌∙◌, ap, reverse, arith, inl, inr}
 use Rattle.queue_calls.specs.declared.causes.Cause.TheVariants.{FullAfterClose, FullWithRoom, NotStoredButTaken}
 use Rattle.queue_calls.proofs.CauseFound.{put_of}
-use Rattle.queue_calls.proofs.CauseTold.{full_gone, full_room, is_line, last_is_last, late_ends, late_full, some_taken}
+use Rattle.queue_calls.proofs.CauseTold.{full_gone, full_room, is_line, late_ends, late_full}
 use Rattle.queue_calls.proofs.Remembering.{agrees_of, kept_of}
 use Rattle.queue_calls.proofs.witnesses.Witness.full_cause.Goals as goal
 
@@ -22,12 +22,8 @@ returns-then-len-offered g c capacity events cause r n turn e =
     let s = c.args.self.now in
     let k = kept_of g.S.Offered.Fifo.items s in
     let a = agrees_of g.S.Offered.Fifo.items g.S.Taken.Fifo.items s capacity events r in
-    let few : length k.inside < c.in-Offers.offered - 0 = omega (arith, c.if-len-offered.true, c.len.ensures.items) in
     let less : length k.inside < c.in-Offers.offered = omega (arith, c.if-len-offered.true, c.len.ensures.items) in
-    let some : 0 < 65536 = omega arith in
-    let none : 0 ≤ c.in-Offers.offered = omega arith in
-    ap NotStoredButTaken (c.last_taken.ensures ∙ last_is_last 65536 (reverse events) _ some r.taken
-    (some_taken capacity (reverse events) k a cause c.in-Offers.offered c.in-Offers.before c.in-Offers.is 0 none few)) ∙
+    ap NotStoredButTaken r.taken_last ∙
     full_gone capacity (reverse events) k a cause c.in-Offers.offered c.in-Offers.before c.in-Offers.is less e
 
 pub returns : goal.returns

@@ -10,7 +10,7 @@ use Rattle.queue_calls.proofs.witnesses.Witness.gone_cause.Goals as goal
 pub returns-then-contains : goal.returns-then-contains
 returns-then-contains g c capacity events r number =
     let line : line_behind (reverse events) ≡ c.args.line = ap (λ n. n + 2) (length-reverse events) ∙ number in
-    let all : List Taken = reverse (last_of 65536 (taken (reverse events))) in
+    let all : List Taken = reverse (last_of c.args.self.now.limit (taken (reverse events))) in
     let is : find (λ t. t.item == c.args.item) (map (taken_at (line_behind (reverse events))) c.args.first.now ++ all) ≡ Some (taken_at c.args.line c.args.item) =
     taken_first (line_behind (reverse events)) c.args.item c.args.first.now all ∙
     ap (λ b. if b then Some (taken_at (line_behind (reverse events)) c.args.item) else find (λ t. t.item == c.args.item) all) (sym c.contains.ensures.value ∙ c.if-contains.true) ∙
@@ -19,7 +19,7 @@ returns-then-contains g c capacity events r number =
 
 pub returns-in-Some : goal.returns-in-Some
 returns-in-Some g c capacity events r number =
-    let all : List Taken = reverse (last_of 65536 (taken (reverse events))) in
+    let all : List Taken = reverse (last_of c.args.self.now.limit (taken (reverse events))) in
     let is : find (λ t. t.item == c.args.item) (map (taken_at (line_behind (reverse events))) c.args.first.now ++ all) ≡ Some c.in-Some.taken =
     taken_first (line_behind (reverse events)) c.args.item c.args.first.now all ∙
     ap (λ b. if b then Some (taken_at (line_behind (reverse events)) c.args.item) else find (λ t. t.item == c.args.item) all) (sym c.contains.ensures.value ∙ c.if-contains.false) ∙
@@ -28,7 +28,7 @@ returns-in-Some g c capacity events r number =
 
 pub returns-in-None : goal.returns-in-None
 returns-in-None g c capacity events r number =
-    let all : List Taken = reverse (last_of 65536 (taken (reverse events))) in
+    let all : List Taken = reverse (last_of c.args.self.now.limit (taken (reverse events))) in
     let is : find (λ t. t.item == c.args.item) (map (taken_at (line_behind (reverse events))) c.args.first.now ++ all) ≡ None =
     taken_first (line_behind (reverse events)) c.args.item c.args.first.now all ∙
     ap (λ b. if b then Some (taken_at (line_behind (reverse events)) c.args.item) else find (λ t. t.item == c.args.item) all) (sym c.contains.ensures.value ∙ c.if-contains.false) ∙

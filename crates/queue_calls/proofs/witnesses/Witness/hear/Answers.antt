@@ -1,16 +1,16 @@
-use Rattle.std.proofs.Common.{rules, ◌≡◌, ◌⊎◌, inl, inr, ℕ, ◌<◌, Bool, true, false, Bor, if◌then◌else◌, Some, List, [], ◌∷◌, ◌++◌, map, length, refl, ap, sym, subst, ◌∙◌, reverse, arith, Result, Ok, Err, OnOk, IfErr}
+use Rattle.std.proofs.Common.{rules, ◌≡◌, ◌⊎◌, inl, inr, ℕ, ◌<◌, Bool, true, false, Bor, if◌then◌else◌, Some, List, [], ◌∷◌, ◌++◌, map, length, refl, ap, ap₂, sym, subst, ◌∙◌, reverse, arith, Result, Ok, Err, OnOk, IfErr}
 use Rattle.queue_calls.specs.Queue.{Capacity}
 use Rattle.queue_calls.specs.Calls.{Event, PutBegin, PutStored, PutFull, PutShort, PutNothing, PutClosed, CloseBegin, CloseEnd, TakeBegin, TakeItems, TakeEmpty, TakeShort, TakeNothing, TakeClosed}
 use Rattle.queue_calls.specs.Counting.{Counts, kept}
 use Rattle.queue_calls.specs.Insides.{Moves}
 use Rattle.queue_calls.specs.Noting.{OutgrowsLists, all_got}
-use Rattle.queue_calls.specs.Reasons.{ended_line, has_ended, has_told, items_of, last_of, offered_at, taken, taken_at, told_closed_line}
+use Rattle.queue_calls.specs.Reasons.{ended_line, has_ended, has_told, items_of, last_in, last_of, offered_at, taken, taken_at, told_closed_line}
 use Rattle.queue_calls.specs.Told.{meant, told}
 use Rattle.queue_calls.specs.Witnesses.{RefusesNext, Remembers}
 use Rattle.queue_calls.specs.declared.events.Event.{Event as Told}
 use Rattle.queue_calls.specs.declared.events.Event.TheVariants as said
 use Rattle.queue_calls.specs.declared.witnesses.Witness.{Witness}
-use Rattle.queue_calls.proofs.Hears.{IsQuiet, audits, counted_so, first_line, inside_after, kept_same, line_is, mark_items, next_remembers, quiet_remembers, refuses, still_remembers, stored_after, taken_all, told_so}
+use Rattle.queue_calls.proofs.Hears.{IsQuiet, audits, counted_so, first_line, inside_after, kept_same, line_is, mark_items, next_remembers, quiet_remembers, refuses, still_remembers, stored_after, taken_all, taken_kept, told_so}
 use Rattle.queue_calls.proofs.Remembering.{kept_of}
 use Rattle.queue_calls.proofs.Decided.{decides_reads}
 use Rattle.queue_calls.proofs.witnesses.Witness.hear.Goals as goal
@@ -31,7 +31,7 @@ returns-in-PutBegins-clause-kept g c capacity events r number =
     let moves : Moves (offered_at c.args.line) s.auditor.shut (PutBegin c.in-PutBegins.field-0.now) (O s.auditor.inside.list) left = subst (λ z. Moves (offered_at c.args.line) s.auditor.shut z (O s.auditor.inside.list) left) is e.entries in
     told_so O T _ capacity events _ (told c.args.event) is
     (next_remembers O T s _ capacity events (PutBegin c.in-PutBegins.field-0.now) r e.decides.0 (counted_so O T s capacity events r (PutBegin c.in-PutBegins.field-0.now) after counts)
-    (inside_after O T s capacity events r (PutBegin c.in-PutBegins.field-0.now) c.args.line after left number refl counts moves (λ count why f. absurd cc)) r.taken r.ended r.told (line_is O T s capacity events r c.args.line number) r.stored_at)
+    (inside_after O T s capacity events r (PutBegin c.in-PutBegins.field-0.now) c.args.line after left number refl counts moves (λ count why f. absurd cc)) r.taken r.taken_last r.ended r.told (line_is O T s capacity events r c.args.line number) r.stored_at)
 
 pub returns-in-CloseEnds-clause-kept : goal.returns-in-CloseEnds-clause-kept
 returns-in-CloseEnds-clause-kept g c capacity events r number =
@@ -49,7 +49,7 @@ returns-in-CloseEnds-clause-kept g c capacity events r number =
     let first = c.or-self.ensures ∙ first_line (has_ended past) (ended_line past) c.args.line s.ended_at r.ended in
     told_so O T _ capacity events _ (told c.args.event) is
     (next_remembers O T s _ capacity events (CloseEnd) r e.decides.0 (counted_so O T s capacity events r (CloseEnd) after counts)
-    (inside_after O T s capacity events r (CloseEnd) c.args.line after left number refl counts moves (λ count why f. absurd cc)) r.taken (first ∙ ap (λ z. Some (if has_ended past then ended_line past else z)) (line_is O T s capacity events r c.args.line number)) r.told r.put_at r.stored_at)
+    (inside_after O T s capacity events r (CloseEnd) c.args.line after left number refl counts moves (λ count why f. absurd cc)) r.taken r.taken_last (first ∙ ap (λ z. Some (if has_ended past then ended_line past else z)) (line_is O T s capacity events r c.args.line number)) r.told r.put_at r.stored_at)
 
 pub returns-in-TakeClosed-clause-kept : goal.returns-in-TakeClosed-clause-kept
 returns-in-TakeClosed-clause-kept g c capacity events r number =
@@ -67,7 +67,7 @@ returns-in-TakeClosed-clause-kept g c capacity events r number =
     let first = c.or-self-in-TakeClosed.ensures ∙ first_line (has_told past) (told_closed_line past) c.args.line s.told_at r.told in
     told_so O T _ capacity events _ (told c.args.event) is
     (next_remembers O T s _ capacity events (TakeClosed) r e.decides.0 (counted_so O T s capacity events r (TakeClosed) after counts)
-    (inside_after O T s capacity events r (TakeClosed) c.args.line after left number refl counts moves (λ count why f. absurd cc)) r.taken r.ended (first ∙ ap (λ z. Some (if has_told past then told_closed_line past else z)) (line_is O T s capacity events r c.args.line number)) r.put_at r.stored_at)
+    (inside_after O T s capacity events r (TakeClosed) c.args.line after left number refl counts moves (λ count why f. absurd cc)) r.taken r.taken_last r.ended (first ∙ ap (λ z. Some (if has_told past then told_closed_line past else z)) (line_is O T s capacity events r c.args.line number)) r.put_at r.stored_at)
 
 -- an end of a put or of a take, which says why or not
 stored_so : (event : Told) (count other : ℕ) → count ≡ other → (event ≡ said.PutStored other) ⊎ (event ≡ said.PutSome other) → (why : Bool) × (told event ≡ PutStored count why)
@@ -102,7 +102,7 @@ returns-in-PutStored-clause-kept g c capacity events r number =
     told_so O T _ capacity events _ (told c.args.event) is
     (next_remembers O T s _ capacity events (PutStored count why) r (x.auditor.0 ∙ e.decides.0)
     (subst (λ z. Counts capacity (kept_of O s) (PutStored count why) z) same (counted_so O T s capacity events r (PutStored count why) after counts))
-    (x.inside ∙ stored_after O T s capacity events r count why c.args.line after left number refl counts moves) (ap T x.taken ∙ r.taken) (x.lines.1 ∙ r.ended) (x.lines.2 ∙ r.told) (x.lines.3 ∙ r.put_at)
+    (x.inside ∙ stored_after O T s capacity events r count why c.args.line after left number refl counts moves) (taken_kept T s m (taken past) x.taken r.taken) (x.taken.2 ∙ r.taken_last) (x.lines.1 ∙ r.ended) (x.lines.2 ∙ r.told) (x.lines.3 ∙ r.put_at)
     (x.lines.0 ∙ line_is O T s capacity events r c.args.line number))
 
 -- what holds on success follows from what else holds on success, and of an error from what else holds of it
@@ -137,8 +137,9 @@ returns-in-TakeItems-clause-kept g c = then_ok c.takes.result c.takes.ensures.ta
     (next_remembers O T s _ capacity events (TakeItems items why) r (ap (λ z. z.capacity) x.0 ∙ e.decides.0)
     (subst (λ z. Counts capacity (kept_of O s) (TakeItems items why) (kept (items_of (O z.inside.list)) z.put z.take z.shut)) (sym x.0) (counted_so O T s capacity events r (TakeItems items why) after counts))
     (ap (λ z. O z.inside.list) x.0 ∙ inside_after O T s capacity events r (TakeItems items why) c.args.line after left number refl counts moves (λ count why f. absurd cc))
-    (took (taken past) r.taken ∙ ap (λ z. last_of 65536 (taken past ++ map (taken_at z) items)) (line_is O T s capacity events r c.args.line number)) (x.1 ∙ r.ended) (x.2 ∙ r.told) (x.3 ∙ r.put_at)
-    (x.4 ∙ r.stored_at)))
+    (took (taken past) r.taken ∙ ap₂ (λ n z. last_of n (taken past ++ map (taken_at z) items)) (sym x.1) (line_is O T s capacity events r c.args.line number))
+    (c.takes.ensures.last (taken past) r.taken_last ∙ ap (λ z. last_in (taken past ++ map (taken_at z) items)) (line_is O T s capacity events r c.args.line number)) (x.2 ∙ r.ended) (x.3 ∙ r.told) (x.4 ∙ r.put_at)
+    (x.5 ∙ r.stored_at)))
 
 pub returns-in-TakeItems-clause-refused : goal.returns-in-TakeItems-clause-refused
 returns-in-TakeItems-clause-refused g c = then_err c.takes.result c.takes.ensures.full (λ fault full capacity events r.
@@ -153,9 +154,11 @@ returns-in-TakeItems-clause-refused g c = then_err c.takes.result c.takes.ensure
     ] in
     let (short, many) = full.1 (taken past) r.taken in
     let got : g.S.Taken.Fifo.room s.taken < length (all_got (events ++ TakeItems items why ∷ [])) = omega (arith, many, taken_all events (TakeItems items why)) in
-    let needs : OutgrowsLists (g.S.Offered.Fifo.room s.auditor.inside.list) (g.S.Taken.Fifo.room s.taken) capacity (events ++ told c.args.event ∷ []) =
-    subst (λ z. OutgrowsLists (g.S.Offered.Fifo.room s.auditor.inside.list) (g.S.Taken.Fifo.room s.taken) capacity (events ++ z ∷ [])) (sym is) (inr (short, got)) in
-    subst (λ z. RefusesNext O T (g.S.Offered.Fifo.room s.auditor.inside.list) (g.S.Taken.Fifo.room s.taken) c.takes.new.self capacity events (told c.args.event) z) (sym full.0) needs)
+    let m = c.takes.new.self in
+    let less : g.S.Taken.Fifo.room s.taken < m.limit = omega (arith, short, c.takes.ensures.others.1) in
+    let needs : OutgrowsLists m.limit (g.S.Offered.Fifo.room s.auditor.inside.list) (g.S.Taken.Fifo.room s.taken) capacity (events ++ told c.args.event ∷ []) =
+    subst (λ z. OutgrowsLists m.limit (g.S.Offered.Fifo.room s.auditor.inside.list) (g.S.Taken.Fifo.room s.taken) capacity (events ++ z ∷ [])) (sym is) (inr (less, got)) in
+    subst (λ z. RefusesNext O T (g.S.Offered.Fifo.room s.auditor.inside.list) (g.S.Taken.Fifo.room s.taken) m capacity events (told c.args.event) z) (sym full.0) needs)
 
 -- an event that is one of those
 quiet : (told' event : Event) → told' ≡ event → IsQuiet event → IsQuiet told'
@@ -195,7 +198,7 @@ returns-in-PutFull-clause-kept g c capacity events r number =
     ] in
     let not_stored : (count : ℕ) (why : Bool) → told c.args.event ≡ PutStored count why → ⊥ = λ count why f. subst (λ z. IsQuiet z) f silent in
     quiet_remembers O T s _ capacity events (told c.args.event) silent r e.decides.0 (counted_so O T s capacity events r (told c.args.event) after e.decides.1)
-    (inside_after O T s capacity events r (told c.args.event) c.args.line after left number refl e.decides.1 e.entries not_stored) refl refl refl refl refl
+    (inside_after O T s capacity events r (told c.args.event) c.args.line after left number refl e.decides.1 e.entries not_stored) (refl, refl, refl) refl refl refl refl
 
 pub returns-in_err-feed_at-clause-refused : goal.returns-in_err-feed_at-clause-refused
 returns-in_err-feed_at-clause-refused g c =
@@ -205,14 +208,14 @@ returns-in_err-feed_at-clause-refused g c =
     let T = g.S.Taken.Fifo.items in
     let e = c.in_err-feed_at.ensures in
     let next : Witness g.row.S.Denot g.row.S-Offered.Denot g.row.S-Taken.Denot g.row.S-Numbers.Denot g.row.S-Bytes.Denot =
-    record { auditor = n; taken = s.taken; ended_at = s.ended_at; told_at = s.told_at; put_at = s.put_at; stored_at = s.stored_at } in
+    record { auditor = n; taken = s.taken; limit = s.limit; last_taken = s.last_taken; ended_at = s.ended_at; told_at = s.told_at; put_at = s.put_at; stored_at = s.stored_at } in
     let o = g.S.Offered.Fifo.room s.auditor.inside.list in
     let t = g.S.Taken.Fifo.room s.taken in
     let refused : (capacity : Capacity) (events : List Event) → Remembers O g.S.Taken.Fifo.items s capacity events →
     RefusesNext O g.S.Taken.Fifo.items o t next capacity events (told c.args.event) c.in_err-feed_at.field-0.0 =
     λ capacity events r.
     refuses O g.S.Taken.Fifo.items s capacity events r next o t (told c.args.event) c.in_err-feed_at.field-0.0
-    (still_remembers O g.S.Taken.Fifo.items s capacity events r next e.decides.0 e.decides.1.0 e.entries refl refl refl refl refl)
+    (still_remembers O g.S.Taken.Fifo.items s capacity events r next e.decides.0 e.decides.1.0 e.entries (refl, refl, refl) refl refl refl refl)
     ((decides_reads (λ q. items_of (O q.list)) (λ q. g.S.Offered.Fifo.room q.list) s.auditor (told c.args.event) n (Err c.in_err-feed_at.field-0.0) e.decides).1 events
     (audits O g.S.Taken.Fifo.items s capacity events r)).1 in
     search (rules, refused)

@@ -1,4 +1,5 @@
-use Rattle.std.proofs.Common.{◌≡◌, ℕ, Bool, false, List, [], refl, sym, ap}
+use Rattle.std.proofs.Common.{◌≡◌, ℕ, Bool, false, List, [], ◌-◌, refl, sym, ap, ◌∙◌, arith}
+use Rattle.std.proofs.lemmas.List.{drop_all}
 use Rattle.queue_calls.specs.Queue.{Capacity, Queue, queue}
 use Rattle.queue_calls.specs.Calls.{Idle, Resting, point}
 use Rattle.queue_calls.specs.Counting.{kept}
@@ -41,7 +42,8 @@ returns-clause-kept g c =
       capacity_is = ap meant c.restart.ensures.capacity;
       counted = at_start (meant a.capacity) (items_of entries) (items_of entries) a.put a.take a.shut c.restart.ensures.reads (ap items_of c.restart.ensures.entries);
       inside = c.restart.ensures.entries;
-      taken = c.truncate.ensures.items;
+      taken = c.truncate.ensures.items ∙ sym (drop_all (0 - c.args.self.now.limit) [] (omega arith));
+      taken_last = refl;
       ended = refl;
       told = refl;
       put_at = refl;

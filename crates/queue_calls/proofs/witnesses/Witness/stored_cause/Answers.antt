@@ -3,7 +3,7 @@ use Rattle.queue_calls.specs.InTurn.{APut}
 use Rattle.queue_calls.specs.State.{MayHold, asked_by, call_of_put}
 use Rattle.queue_calls.specs.declared.causes.Cause.TheVariants.{OnlySomeStored, OnlySomeWithRoom, StoredAfterClose, StoredTooMany}
 use Rattle.queue_calls.proofs.CauseFound.{put_of}
-use Rattle.queue_calls.proofs.CauseTold.{is_line, last_is_last, late_ends, late_stored, some_taken, stored_gone, stored_over, stored_room}
+use Rattle.queue_calls.proofs.CauseTold.{is_line, late_ends, late_stored, stored_gone, stored_over, stored_room}
 use Rattle.queue_calls.proofs.Remembering.{agrees_of, kept_of}
 use Rattle.queue_calls.proofs.witnesses.Witness.stored_cause.Goals as goal
 
@@ -27,9 +27,7 @@ returns-then-inside-rest g c capacity events cause r n turn few e =
     let same : c.in-Offers.offered ≡ n = (let f : APut c.in-Offers.offered ≡ APut n = ap call_of_put (sym c.in-Offers.is) ∙ turn in cc) in
     let most : c.args.count ≤ c.in-Offers.offered = omega (arith, few, same) in
     let less : length k.inside < c.in-Offers.offered - c.args.count = omega (arith, c.if-inside-rest.true, c.len-inside.ensures.items, c.saturating_sub-rest.ensures) in
-    let some : 0 < 65536 = omega arith in
-    ap (λ z. OnlySomeStored c.args.count z) (c.last_taken.ensures ∙ last_is_last 65536 (reverse events) _ some r.taken
-    (some_taken capacity (reverse events) k a cause c.in-Offers.offered c.in-Offers.before c.in-Offers.is c.args.count most less)) ∙
+    ap (λ z. OnlySomeStored c.args.count z) r.taken_last ∙
     stored_gone capacity (reverse events) k a cause c.in-Offers.offered c.in-Offers.before c.in-Offers.is c.args.count c.args.why most less e
 
 pub returns-then-not-may_hold : goal.returns-then-not-may_hold

@@ -12,6 +12,8 @@ invariant-loop-place g l = record {
   take : l.self.auditor.take ≡ l.fn.self.auditor.take;
   shut : l.self.auditor.shut ≡ l.fn.self.auditor.shut;
   taken : l.self.taken ≡ l.fn.self.taken;
+  limit : l.self.limit ≡ l.fn.self.limit;
+  last_taken : l.self.last_taken ≡ l.fn.self.last_taken;
   ended_at : l.self.ended_at ≡ l.fn.self.ended_at;
   told_at : l.self.told_at ≡ l.fn.self.told_at;
   put_at : l.self.put_at ≡ l.fn.self.put_at;

@@ -1,14 +1,16 @@
-use Rattle.std.proofs.Common.{◌≡◌, List, take}
-use Rattle.queue_calls.specs.Reasons.{last_of}
-use Rattle.queue_calls.specs.declared.entries.TheConstants.{TAKEN_LIMIT}
+use Rattle.std.proofs.Common.{◌≡◌, ◌<◌, List, ◌++◌, map, take}
+use Rattle.queue_calls.specs.Reasons.{last_in, last_of, taken_at}
 use Rattle.queue_calls.specs.declared.entries.Taken.{Taken}
 use Rattle.queue_calls.proofs.LastOnes.{taken_behind}
 use Rattle.queue_calls.proofs.witnesses.Witness.takes.Given as goal
 
 abbrev pub invariant-loop-item : goal.invariant-loop-item
 invariant-loop-item g l = record {
-  taken : (earlier : List Taken) → g.S.Taken.Fifo.items l.fn.self.taken ≡ last_of TAKEN_LIMIT earlier → g.S.Taken.Fifo.items l.self.taken ≡ taken_behind TAKEN_LIMIT earlier l.line (take l.item-index l.items);
+  taken : (earlier : List Taken) → g.S.Taken.Fifo.items l.fn.self.taken ≡ last_of l.fn.self.limit earlier → g.S.Taken.Fifo.items l.self.taken ≡ taken_behind l.fn.self.limit earlier l.line (take l.item-index l.items);
   room : g.S.Taken.Fifo.room l.self.taken ≡ g.S.Taken.Fifo.room l.fn.self.taken;
+  some : 0 < l.fn.self.limit;
+  limit : l.self.limit ≡ l.fn.self.limit;
+  last_taken : (earlier : List Taken) → l.fn.self.last_taken ≡ last_in earlier → l.self.last_taken ≡ last_in (earlier ++ map (taken_at l.line) l.items);
   auditor : l.self.auditor ≡ l.fn.self.auditor;
   ended_at : l.self.ended_at ≡ l.fn.self.ended_at;
   told_at : l.self.told_at ≡ l.fn.self.told_at;

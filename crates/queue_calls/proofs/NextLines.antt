@@ -1,0 +1,137 @@
+-- One more line that is told to a hearing.
+use Rattle.std.proofs.Common.{◌≡◌, ◌≢◌, ◌∙◌, ℕ, ◌+◌, Bool, false, Option, Some, None, List, [], ◌∷◌, ◌++◌, length, refl, sym, ap, subst, arith, append-nil}
+use Rattle.std.specs.Prelude.{is_some}
+use Rattle.std.proofs.lemmas.Bool.{false≢true}
+use Rattle.queue_calls.specs.Calls.{Event}
+use Rattle.queue_calls.specs.Queue.{Capacity}
+use Rattle.queue_calls.specs.Noting.{OutgrowsLists}
+use Rattle.queue_calls.specs.Lines.{line_text, Allows, AreSmall}
+use Rattle.queue_calls.specs.Recordings.{Line, line, lines_text, AreLines, and_then, begun_after, begun_behind, capacity_told, event_told, events_told, IsRecording, IsFoundWithin, IsFindingWithin}
+use Rattle.queue_calls.specs.RecordingStates.{IsFaultSoFar}
+use Rattle.queue_calls.specs.Rooms.{HasLongHistory}
+use Rattle.queue_calls.specs.Hearings.{HasHeardAll, HearsNext, FollowsLines}
+use Rattle.queue_calls.specs.declared.entries.Offered.{Offered}
+use Rattle.queue_calls.specs.declared.entries.Taken.{Taken}
+use Rattle.queue_calls.specs.declared.hearings.Begun.TheVariants as begun
+use Rattle.queue_calls.specs.declared.hearings.Hearing.{Hearing}
+use Rattle.queue_calls.specs.declared.lines.Word.{Word}
+use Rattle.queue_calls.specs.declared.recordings.CallsFinding.{CallsFinding}
+use Rattle.queue_calls.specs.declared.recordings.CallsFinding.TheVariants.{Lawful, OutOfTurn, NotLinearizable}
+use Rattle.queue_calls.specs.declared.reports.Tally.{Tally}
+use Rattle.queue_calls.specs.declared.witnesses.Witness.{Witness}
+use Rattle.queue_calls.proofs.HeardLines.{count_is, events_more, further_heard, further_line, is_line, not_further}
+
+pub no_fault_is : (fault : Option CallsFinding) → is_some fault ≡ false → fault ≡ None
+no_fault_is None is = refl
+no_fault_is (Some finding) is = absurd (false≢true (sym is))
+
+module _ {S O T N B : Type 0} (offered : O → List Offered) (last : T → List Taken) where
+  -- what becomes of the first fault with one event more
+  pub fault_next :
+      (old new : Hearing S O T N B) (number : ℕ) (event : Event) (capacity : Capacity) (events : List Event) (found : Option CallsFinding) → HearsNext offered last old number event found new →
+      HasHeardAll offered last old capacity events → length events + 2 ≡ number → IsFaultSoFar offered last found new.witness new.tally capacity (events ++ event ∷ [])
+  fault_next old new number event capacity events None hears heard is = hears capacity events heard is
+  fault_next old new number event capacity events (Some finding) hears heard is = (hears capacity events heard is).1
+
+  pub heard_as :
+      (old new : Hearing S O T N B) (number : ℕ) (event : Event) (found same : Option CallsFinding) → found ≡ same → HearsNext offered last old number event found new → HearsNext offered last old number event same new
+  heard_as old new number event found same is h = subst (λ f. HearsNext offered last old number event f new) is h
+
+  found_so : (finding : CallsFinding) (w : Witness S O T N B) (tally : Tally) (capacity : Capacity) (events : List Event) → IsFaultSoFar offered last (Some finding) w tally capacity events → IsFoundWithin w.limit capacity events finding
+  found_so (Lawful report) w tally capacity events h = absurd h
+  found_so (OutOfTurn number) w tally capacity events h = h
+  found_so (NotLinearizable number cause) w tally capacity events h = h
+
+  module _ (is_cut : Bool) (before : List Line) (old : Hearing S O T N B) (follows : FollowsLines offered last old is_cut before) where
+    -- the history that was heard
+    abbrev pub capacity_is : Capacity
+    capacity_is = capacity_told follows.1.0
+
+    abbrev pub events_are : List Event
+    events_are = events_told begun.Nothing follows.1.1
+
+    pub has_heard : HasHeardAll offered last old capacity_is events_are
+    has_heard = subst (λ f. IsFaultSoFar offered last f old.witness old.tally capacity_is events_are) follows.2 follows.1.4
+
+    some_line : before ≢ []
+    some_line none = omega (arith, ap length follows.1.2, ap length none)
+
+    -- a line that cannot stand there
+    pub not_allowed : (word : Word) (numbers : List ℕ) → ¬ Allows word numbers → ¬ AreLines (before ++ line word numbers ∷ [])
+    not_allowed word numbers not are = not (is_line before (line_text word numbers) (line word numbers) (are, refl)).allowed
+
+    pub tells_none : (word : Word) (numbers : List ℕ) → AreSmall numbers → Allows word numbers → event_told old.begun word numbers ≡ None → ¬ AreLines (before ++ line word numbers ∷ [])
+    tells_none word numbers small allowed none are =
+        not_further before (line_text word numbers) numbers numbers old.begun word (line word numbers) some_line none (record { text = refl; allowed = allowed; small = small }) (are, refl)
+
+    module _ (word : Word) (numbers : List ℕ) (event : Event) (small : AreSmall numbers) (allowed : Allows word numbers) (tells : event_told old.begun word numbers ≡ Some event) where
+      told_so : event_told (begun_behind begun.Nothing follows.1.1) word numbers ≡ Some event
+      told_so = ap (λ b. event_told b word numbers) (sym follows.1.3) ∙ tells
+
+      all_are : AreLines (before ++ line word numbers ∷ [])
+      all_are =
+          (further_line before is_cut (line_text word numbers) follows.1.0 follows.1.1 (begun_behind begun.Nothing follows.1.1) word numbers event follows.1.2 follows.0
+          (record { text = refl; allowed = allowed; small = small }) told_so).0
+
+      pub number_is : (number : ℕ) → length before + 1 ≡ number → length events_are + 2 ≡ number
+      number_is number is = count_is before is_cut follows.1.0 follows.1.1 begun.Nothing (length before) number follows.1.2 follows.0 refl (sym is)
+
+      -- it is heard
+      pub line_heard :
+          (new : Hearing S O T N B) → new.begun ≡ begun_after old.begun word numbers → new.fault ≡ None → HasHeardAll offered last new capacity_is (events_are ++ event ∷ []) →
+          FollowsLines offered last new is_cut (before ++ line word numbers ∷ [])
+      line_heard new begun_is none heard = (
+        all_are,
+        further_heard offered last new before is_cut follows.1.0 follows.1.1 word numbers event follows.1.2 told_so
+            (begun_is ∙ ap (λ b. begun_after b word numbers) follows.1.3)
+            (subst (λ f. IsFaultSoFar offered last f new.witness new.tally capacity_is (events_are ++ event ∷ [])) (sym none) heard),
+        none,
+      )
+
+      recording_is : IsRecording (lines_text (before ++ line word numbers ∷ [])) capacity_is (events_are ++ event ∷ [])
+      recording_is = record {
+        is_cut = is_cut;
+        first = follows.1.0;
+        further = follows.1.1 ++ line word numbers ∷ [];
+        text = ap (λ (lines : List Line). lines_text (lines ++ line word numbers ∷ [])) follows.1.2;
+        are = subst (λ (lines : List Line). AreLines (lines ++ line word numbers ∷ [])) follows.1.2 all_are;
+        tells_capacity = refl;
+        tells_events = sym (events_more begun.Nothing follows.1.1 (line word numbers) ∙ ap (λ (o : Option Event). events_are ++ and_then o []) told_so);
+      }
+
+      -- it is at fault, and all is as it was
+      pub line_at_fault :
+          (new : Hearing S O T N B) (finding : CallsFinding) → new.begun ≡ old.begun → new.fault ≡ None → new.witness.limit ≡ old.witness.limit → HasHeardAll offered last new capacity_is events_are →
+          IsFaultSoFar offered last (Some finding) new.witness new.tally capacity_is (events_are ++ event ∷ []) →
+          FollowsLines offered last new is_cut before × IsFindingWithin old.witness.limit (lines_text (before ++ line word numbers ∷ [])) finding
+      line_at_fault new finding begun_is none limit heard fault = (
+        (
+          follows.0,
+          (
+            follows.1.0,
+            follows.1.1,
+            follows.1.2,
+            begun_is ∙ follows.1.3,
+            subst (λ f. IsFaultSoFar offered last f new.witness new.tally capacity_is events_are) (sym none) heard,
+          ),
+          none,
+        ),
+        (
+          capacity_is,
+          events_are ++ event ∷ [],
+          recording_is,
+          subst (λ n. IsFoundWithin n capacity_is (events_are ++ event ∷ []) finding) limit (found_so finding new.witness new.tally capacity_is (events_are ++ event ∷ []) fault),
+        ),
+      )
+
+      -- a list is too short
+      pub line_outgrows : (limit o t : ℕ) → OutgrowsLists limit o t capacity_is (events_are ++ event ∷ []) → HasLongHistory limit o t (lines_text (before ++ line word numbers ∷ []))
+      line_outgrows limit o t needs = record {
+        first = lines_text (before ++ line word numbers ∷ []);
+        rest = [];
+        capacity = capacity_is;
+        events = events_are ++ event ∷ [];
+        parts = sym (append-nil (lines_text (before ++ line word numbers ∷ [])));
+        recording = recording_is;
+        needs = needs;
+      }

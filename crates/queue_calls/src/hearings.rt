@@ -1,0 +1,365 @@
+//! A history of calls that is told event by event or line by line, and what is found of it so far.
+ghost use Rattle.std.specs.Prelude.{◌≡◌, ℕ, ◌+◌, ◌∷◌, ◌++◌, [], List, IfErr, None, OnOk, length, option_map};
+ghost use Rattle.queue_calls.specs.Calls.{Event as AnEvent};
+ghost use Rattle.queue_calls.specs.Hearings.{HasHeardAll, HearsLine, HearsNext, hearing_of};
+ghost use Rattle.queue_calls.specs.Lines.{AllowsQueue};
+ghost use Rattle.queue_calls.specs.Noting.{OutgrowsLists};
+ghost use Rattle.queue_calls.specs.Queue.{Capacity as ACapacity};
+ghost use Rattle.queue_calls.specs.Recordings.{IsFoundWithin, begun_after, capacity_told, event_told, some_told, stored_told, wanted_told};
+ghost use Rattle.queue_calls.specs.RecordingStates.{HasHeard};
+ghost use Rattle.queue_calls.specs.Told.{meant, told};
+
+use crate::auditors::{AuditorState, CallAuditor};
+use crate::capacities::{Capacity, exactly};
+use crate::entries::Taken;
+use crate::events::Event;
+use crate::faults::Fault;
+use crate::insides::Lined;
+use crate::lines::{Word, allows};
+use crate::recordings::{CallsFinding, RecordingFault};
+use crate::reports::{Report, Tally};
+use crate::storage::Storage;
+use crate::witnesses::Witness;
+
+/// What the producer began last: it tells apart the two ends `P closed`, and how many items `P stored` says.
+///
+/// For example, behind `P put 5 6` it is `Begun::Put(2)`, and still behind `P stored`.
+#[derive(Clone, Copy, PartialEq, Eq, Debug)]
+pub enum Begun {
+    /// Nothing so far.
+    Nothing,
+    /// A put of so many items.
+    Put(usize),
+    /// A close.
+    Close,
+}
+
+/// A history of calls, with what is found of it so far: a recording that is told line by line, with no text between.
+///
+/// It keeps the items inside, and so many of the items taken last as it is told at first, in lists of an allocator or of the caller's.
+///
+/// In use: `uses::hearings::of_queue`.
+#[derive(Drop)]
+pub struct Hearing<S: Storage> {
+    pub(crate) witness: Witness<S>,
+    pub(crate) tally: Tally,
+    pub(crate) begun: Begun,
+    // the first fault
+    pub(crate) fault: Option<CallsFinding>,
+}
+
+/// What is kept of a hearing that has found no fault, beside its lists.
+///
+/// For example, of one that has heard `queue 8` and `P put 5` the last put began at line 2, and `auditor` has it under way.
+#[derive(Clone, Copy, PartialEq, Eq, Debug)]
+pub struct HearingState {
+    /// What its auditor keeps.
+    pub auditor: AuditorState,
+    /// How many of the items taken last are kept.
+    pub limit: usize,
+    /// The item taken last, with the line that ended its take; where none was taken item 0 of line 0.
+    pub last_taken: Taken,
+    /// The line that ended the first close.
+    pub ended_at: Option<u64>,
+    /// The line of the first take that was told that the queue is closed.
+    pub told_at: Option<u64>,
+    /// The line that began the last put.
+    pub put_at: u64,
+    /// The line that ended the last put that stored items.
+    pub stored_at: u64,
+    /// The report so far, but for the calls under way.
+    pub report: Report,
+    /// Whether the last call of the producer has overlapped one of the consumer.
+    pub put_overlaps: bool,
+    /// Whether the last call of the consumer has overlapped one of the producer.
+    pub take_overlaps: bool,
+    /// What the producer began last.
+    pub begun: Begun,
+}
+
+// The capacity that the first line tells.
+fn capacity_told(numbers: &[u64]) -> Capacity
+    ensures { meant result ≡ capacity_told numbers.now }
+{
+    match numbers {
+        [] => Capacity::Unbounded,
+        [full] => exactly(*full as usize),
+        [full, most, ..] => Capacity::Between {
+            full: *full as usize,
+            most: *most as usize,
+        },
+    }
+}
+
+/// The event that a line behind the first tells, where the producer began this last.
+///
+/// For example, `P closed` tells the end of a put, or behind `P close` that of the close.
+pub fn event_told(begun: Begun, word: Word, numbers: &[u64]) -> Option<Event<'_>>
+    ensures { option_map told result ≡ event_told begun word numbers.now }
+{
+    Some(match word {
+        Word::Queue | Word::Cut => return None,
+        Word::Put => Event::PutBegins(numbers),
+        Word::Stored => Event::PutStored(stored_told(begun, numbers)),
+        Word::PutSome => Event::PutSome(some_told(numbers)),
+        Word::Full => Event::PutFull,
+        Word::Short => Event::PutShort,
+        Word::PutNothing => Event::PutNothing,
+        Word::PutClosed => match begun {
+            Begun::Close => Event::CloseEnds,
+            Begun::Nothing | Begun::Put(_) => Event::PutClosed,
+        },
+        Word::Close => Event::CloseBegins,
+        Word::Take => Event::TakeBegins(wanted_told(numbers)),
+        Word::Item => Event::TakeItems(numbers),
+        Word::TakeSome => Event::TakeSome(numbers),
+        Word::Empty => Event::TakeEmpty,
+        Word::TakeShort => Event::TakeShort,
+        Word::TakeNothing => Event::TakeNothing,
+        Word::TakeClosed => Event::TakeClosed,
+    })
+}
+
+// How many items were stored: all that the put offered, or fewer; a number that says not fewer is out of turn, as 0 is.
+fn stored_told(begun: Begun, numbers: &[u64]) -> usize
+    ensures { result ≡ stored_told begun numbers.now }
+{
+    let offered = match begun {
+        Begun::Put(offered) => offered,
+        Begun::Nothing | Begun::Close => 0,
+    };
+    match numbers.first() {
+        None => offered,
+        Some(number) if (*number as usize) < offered => *number as usize,
+        Some(_) => 0,
+    }
+}
+
+// How many items a put stored that does not say whether these are all.
+fn some_told(numbers: &[u64]) -> usize
+    ensures { result ≡ some_told numbers.now }
+{
+    match numbers.first() {
+        None => 0,
+        Some(number) => *number as usize,
+    }
+}
+
+// How many items a take wants: 1 where the line has no number.
+fn wanted_told(numbers: &[u64]) -> usize
+    ensures { result ≡ wanted_told numbers.now }
+{
+    match numbers.first() {
+        None => 1,
+        Some(number) => *number as usize,
+    }
+}
+
+/// What the producer began last, behind this line.
+///
+/// For example, `Begun::Close` behind `P close`.
+pub fn begun_after(begun: Begun, word: Word, numbers: &[u64]) -> Begun
+    ensures { result ≡ begun_after begun word numbers.now }
+{
+    match word {
+        Word::Put => Begun::Put(numbers.len()),
+        Word::Close => Begun::Close,
+        _ => begun,
+    }
+}
+
+impl<S: Storage> Hearing<S> {
+    ghost use Rattle.queue_calls.specs.declared.hearings.Begun.TheVariants.{Nothing};
+    ghost use Rattle.queue_calls.specs.declared.recordings.CallsFinding.TheVariants.{Lawful};
+    ghost use Rattle.queue_calls.specs.declared.recordings.RecordingFault.TheVariants.{OutOfMemory};
+
+    /// Nothing was heard, and of what queue is not told. What the lists hold is taken away.
+    ///
+    /// The last `limit` items taken are kept, and looked through for one that comes again: where it is not among them, nor was taken
+    /// earlier in the same line, it is told as one that was not inside. With 0 none is kept, and `taken` needs no room.
+    pub fn new(offered: S::Offered, taken: S::Taken, limit: usize) -> Hearing<S>
+        ensures no_fault { result.fault ≡ None }
+        ensures limit { result.witness.limit ≡ limit }
+        ensures rooms { (S.Offered.room result.witness.auditor.inside.list ≡ S.Offered.room offered) × (S.Taken.room result.witness.taken ≡ S.Taken.room taken) }
+    {
+        Hearing {
+            witness: Witness::new(offered, taken, limit),
+            tally: Tally::new(),
+            begun: Begun::Nothing,
+            fault: None,
+        }
+    }
+
+    /// Forgets all, and hears of a queue of the capacity that these numbers of a first line tell.
+    pub fn begins(&mut self, numbers: &[u64])
+        requires { AllowsQueue numbers.now }
+        ensures heard { HasHeard S.Offered.items S.Taken.items self.new (capacity_told numbers.now) [] }
+        ensures no_fault { self.new.fault ≡ None }
+        ensures begun { self.new.begun ≡ Nothing }
+        ensures limit { self.new.witness.limit ≡ self.old.witness.limit }
+        ensures rooms { (S.Offered.room self.new.witness.auditor.inside.list ≡ S.Offered.room self.old.witness.auditor.inside.list) × (S.Taken.room self.new.witness.taken ≡ S.Taken.room self.old.witness.taken) }
+    {
+        self.witness.restart(capacity_told(numbers));
+        self.tally = Tally::new();
+        self.begun = Begun::Nothing;
+        self.fault = None;
+    }
+
+    // Hears the event of a line; behind a fault nothing is asked of it.
+    pub(crate) fn hear(&mut self, line: u64, event: Event<'_>) -> Result<(), RecordingFault>
+        ensures heard { OnOk result ((capacity : ACapacity) (events : List AnEvent) → HasHeard S.Offered.items S.Taken.items self.old capacity events → length events + 2 ≡ line
+            → HasHeard S.Offered.items S.Taken.items self.new capacity (events ++ told event.entry ∷ [])) }
+        ensures refused { IfErr result (λ e. e ≡ OutOfMemory) }
+        ensures begun { self.new.begun ≡ self.old.begun }
+        ensures limit { self.new.witness.limit ≡ self.old.witness.limit }
+        ensures full { IfErr result (λ e. (capacity : ACapacity) (events : List AnEvent) → HasHeard S.Offered.items S.Taken.items self.old capacity events
+            → OutgrowsLists self.old.witness.limit (S.Offered.room self.old.witness.auditor.inside.list) (S.Taken.room self.old.witness.taken) capacity (events ++ told event.entry ∷ [])) }
+        ensures rooms { (S.Offered.room self.new.witness.auditor.inside.list ≡ S.Offered.room self.old.witness.auditor.inside.list) × (S.Taken.room self.new.witness.taken ≡ S.Taken.room self.old.witness.taken) }
+    {
+        if self.fault.is_some() {
+            return Ok(());
+        }
+        self.next(line, event)
+    }
+
+    // Hears the event of a line, where there is no fault yet: it is heard; or it is the first at fault, which is kept, and all else is
+    // as it was.
+    #[inline(always)]
+    fn next(&mut self, line: u64, event: Event<'_>) -> Result<(), RecordingFault>
+        ensures heard { OnOk result (self.old.fault ≡ None → HearsNext S.Offered.items S.Taken.items self.old line (told event.entry) self.new.fault self.new) }
+        ensures refused { IfErr result (λ e. e ≡ OutOfMemory) }
+        ensures full { IfErr result (λ e. (capacity : ACapacity) (events : List AnEvent) → HasHeardAll S.Offered.items S.Taken.items self.old capacity events
+            → OutgrowsLists self.old.witness.limit (S.Offered.room self.old.witness.auditor.inside.list) (S.Taken.room self.old.witness.taken) capacity (events ++ told event.entry ∷ [])) }
+        ensures begun { self.new.begun ≡ self.old.begun }
+        ensures limit { self.new.witness.limit ≡ self.old.witness.limit }
+        ensures rooms { (S.Offered.room self.new.witness.auditor.inside.list ≡ S.Offered.room self.old.witness.auditor.inside.list) × (S.Taken.room self.new.witness.taken ≡ S.Taken.room self.old.witness.taken) }
+    {
+        let offered = self.witness.auditor.offered();
+        match self.witness.hear(line, event) {
+            Ok(()) => {
+                self.tally.count(event, offered, &self.witness.auditor);
+                Ok(())
+            }
+            Err(Fault::OutOfTurn) => {
+                self.fault = Some(CallsFinding::OutOfTurn { line });
+                Ok(())
+            }
+            Err(Fault::NotLinearizable) => {
+                let cause = self.witness.cause(line, event);
+                self.fault = Some(CallsFinding::NotLinearizable { line, cause });
+                Ok(())
+            }
+            Err(Fault::OutOfMemory) => Err(RecordingFault::OutOfMemory),
+        }
+    }
+
+    /// Hears the next line, of this number, behind those of a recording of which no fault was found: the fault that it has with
+    /// this one, which is not kept then.
+    ///
+    /// `BadLine` where a line of this word and these numbers cannot stand there, and it is not kept either; `OutOfMemory` where room
+    /// was refused for the items inside or for those taken last, and then the hearing is of no further use.
+    pub fn hear_line(
+        &mut self,
+        line: u64,
+        word: Word,
+        numbers: &[u64],
+    ) -> Result<Option<CallsFinding>, RecordingFault>
+        ensures heard { HearsLine S.Offered.items S.Taken.items (S.Offered.room self.old.witness.auditor.inside.list) (S.Taken.room self.old.witness.taken) self.old line word numbers.now result self.new }
+        ensures limit { self.new.witness.limit ≡ self.old.witness.limit }
+        ensures rooms { (S.Offered.room self.new.witness.auditor.inside.list ≡ S.Offered.room self.old.witness.auditor.inside.list) × (S.Taken.room self.new.witness.taken ≡ S.Taken.room self.old.witness.taken) }
+    {
+        if !allows(word, numbers) {
+            return Err(RecordingFault::BadLine(line));
+        }
+        let Some(event) = event_told(self.begun, word, numbers) else {
+            return Err(RecordingFault::BadLine(line));
+        };
+        match self.next(line, event) {
+            Ok(()) => {}
+            Err(fault) => return Err(fault),
+        }
+        match self.fault {
+            None => {
+                self.begun = begun_after(self.begun, word, numbers);
+                Ok(None)
+            }
+            Some(fault) => {
+                self.fault = None;
+                Ok(Some(fault))
+            }
+        }
+    }
+
+    /// A hearing that goes on from what one kept, and from what its lists held then.
+    pub fn resume(state: HearingState, offered: S::Offered, taken: S::Taken) -> Hearing<S>
+        ensures { result ≡ hearing_of state offered taken }
+    {
+        Hearing {
+            witness: Witness {
+                auditor: CallAuditor::resume(state.auditor, Lined { list: offered }),
+                taken,
+                limit: state.limit,
+                last_taken: state.last_taken,
+                ended_at: state.ended_at,
+                told_at: state.told_at,
+                put_at: state.put_at,
+                stored_at: state.stored_at,
+            },
+            tally: Tally {
+                report: state.report,
+                put_overlaps: state.put_overlaps,
+                take_overlaps: state.take_overlaps,
+            },
+            begun: state.begun,
+            fault: None,
+        }
+    }
+
+    /// What is kept of it beside its lists, and these. A fault that it has found is not kept.
+    pub fn keep(self) -> (HearingState, S::Offered, S::Taken)
+        ensures { self.fault ≡ None → self ≡ hearing_of result.0 result.1 result.2 }
+    {
+        let Witness {
+            auditor,
+            taken,
+            limit,
+            last_taken,
+            ended_at,
+            told_at,
+            put_at,
+            stored_at,
+        } = self.witness;
+        let (auditor, inside) = auditor.keep();
+        let state = HearingState {
+            auditor,
+            limit,
+            last_taken,
+            ended_at,
+            told_at,
+            put_at,
+            stored_at,
+            report: self.tally.report,
+            put_overlaps: self.tally.put_overlaps,
+            take_overlaps: self.tally.take_overlaps,
+            begun: self.begun,
+        };
+        (state, inside.list, taken)
+    }
+
+    /// What is found of what was heard.
+    pub fn finding(&self) -> CallsFinding
+        ensures { (capacity : ACapacity) (events : List AnEvent) → HasHeard S.Offered.items S.Taken.items self.now capacity events → IsFoundWithin self.now.witness.limit capacity events result }
+    {
+        match self.fault {
+            Some(fault) => fault,
+            None => CallsFinding::Lawful(self.report()),
+        }
+    }
+
+    /// The report on what was heard, where no fault was found.
+    pub fn report(&self) -> Report
+        ensures { (capacity : ACapacity) (events : List AnEvent) → HasHeardAll S.Offered.items S.Taken.items self.now capacity events → IsFoundWithin self.now.witness.limit capacity events (Lawful result) }
+    {
+        self.tally.report(&self.witness.auditor)
+    }
+}

@@ -1,0 +1,108 @@
+-- Lines that are told by numbers.
+use Rattle.std.proofs.Common.{◌≡◌, ◌≢◌, ◌∙◌, ℕ, zero, suc, ◌+◌, ◌<◌, ◌≤◌, false, List, [], ◌∷◌, ◌++◌, Option, Some, None, Result, Ok, Err, length, take, drop, get_or, refl, sym, ap, ap₂, subst, arith}
+use Rattle.std.proofs.lemmas.Option.{same_Some}
+use Rattle.queue_calls.specs.Hearings.{FollowsLines, HearsLine}
+use Rattle.queue_calls.specs.Lines.{line_text, word_of, AllowsQueue, AreSmall}
+use Rattle.queue_calls.specs.Recordings.{Line, line, AreLines, capacity_told}
+use Rattle.queue_calls.specs.RecordingStates.{HasHeard}
+use Rattle.queue_calls.specs.declared.entries.Offered.{Offered}
+use Rattle.queue_calls.specs.declared.entries.Taken.{Taken}
+use Rattle.queue_calls.specs.declared.hearings.Hearing.{Hearing}
+use Rattle.queue_calls.specs.declared.hearings.Begun.TheVariants.{Nothing}
+use Rattle.queue_calls.specs.declared.lines.Word.{Word}
+use Rattle.queue_calls.specs.declared.lines.Word.TheVariants.{Queue}
+use Rattle.queue_calls.specs.declared.recordings.CallsFinding.{CallsFinding}
+use Rattle.queue_calls.specs.declared.recordings.RecordingFault.{RecordingFault}
+use Rattle.queue_calls.specs.declared.recordings.RecordingFault.TheVariants.{BadLine, TooLong, OutOfMemory}
+use Rattle.queue_calls.proofs.HeardLines.{first_heard, first_line}
+use Rattle.queue_calls_c.specs.Heard.{TellsLine, TellLines, SaysOf, StopsWith, HearsSome}
+use Rattle.queue_calls_c.specs.declared.hearings.Line.{Line as Told}
+
+-- a line is told in one way
+told_once : (next : Told) (numbers : List ℕ) (word : Word) (own : List ℕ) (l : Line) → word_of next.word ≡ Some word → own ≡ take next.count numbers → TellsLine next numbers l → l ≡ line word own
+told_once next numbers word own l is own_is told = ap₂ line (same_Some l.word word (sym told.0 ∙ is)) (told.1 ∙ sym own_is)
+
+-- what a hearing says of a line is what is said of it as it is told
+pub says_of :
+    {S O T N B : Type 0} (offered : O → List Offered) (last : T → List Taken) (o t : ℕ) (old new : Hearing S O T N B) (before : List Line) (number : ℕ) (next : Told) (numbers : List ℕ) (word : Word) (own : List ℕ)
+    (result : Result (Option CallsFinding) RecordingFault) → word_of next.word ≡ Some word → own ≡ take next.count numbers → FollowsLines offered last old false before → length before + 1 ≡ number →
+    HearsLine offered last o t old number word own result new → SaysOf old.witness.limit o t (FollowsLines offered last new false) before next numbers result
+says_of offered last o t old new before number next numbers word own (Ok None) is own_is follows count hears = (line word own, (is, own_is), hears false before follows count)
+says_of offered last o t old new before number next numbers word own (Ok (Some finding)) is own_is follows count hears =
+    let h = hears false before follows count in (h.0, line word own, (is, own_is), h.1)
+says_of offered last o t old new before number next numbers word own (Err (BadLine bad)) is own_is follows count hears =
+    let h = hears false before follows count in
+    (h.1, h.0 ∙ sym count, λ l told are. h.2 (subst (λ x. AreLines (before ++ x ∷ [])) (told_once next numbers word own l is own_is told) are))
+says_of offered last o t old new before number next numbers word own (Err TooLong) is own_is follows count hears = absurd (hears false before follows count)
+says_of offered last o t old new before number next numbers word own (Err OutOfMemory) is own_is follows count hears = (line word own, (is, own_is), hears false before follows count)
+
+-- one line more is told
+pub told_more :
+    (lines : List Told) (numbers : List ℕ) (heard : List Line) (rest : List ℕ) (next : Told) (l : Line) → TellLines lines numbers heard rest → TellsLine next rest l →
+    TellLines (lines ++ next ∷ []) numbers (heard ++ l ∷ []) (drop next.count rest)
+told_more [] numbers [] rest next l are told = ((told.0, told.1 ∙ ap (λ ns. take next.count ns) are), ap (λ ns. drop next.count ns) are)
+told_more [] numbers (h ∷ heard) rest next l are told = absurd are
+told_more (first ∷ lines) numbers [] rest next l are told = absurd are
+told_more (first ∷ lines) numbers (h ∷ heard) rest next l are told = (are.0, told_more lines (drop first.count numbers) heard rest next l are.1 told)
+
+-- ---- what is followed
+
+module _ (m o t : ℕ) where
+  pub says_map :
+      (F G : List Line → Type 0) (heard : List Line) (next : Told) (numbers : List ℕ) (said : Result (Option CallsFinding) RecordingFault) → said ≢ Ok None → (F heard → G heard) →
+      SaysOf m o t F heard next numbers said → SaysOf m o t G heard next numbers said
+  says_map F G heard next numbers (Ok None) other f s = absurd (other refl)
+  says_map F G heard next numbers (Ok (Some finding)) other f s = (f s.0, s.1, s.2, s.3)
+  says_map F G heard next numbers (Err (BadLine number)) other f s = (f s.0, s.1, s.2)
+  says_map F G heard next numbers (Err TooLong) other f s = (f s.0, s.1)
+  says_map F G heard next numbers (Err OutOfMemory) other f s = s
+
+  stops_map :
+      (F G : List Line → Type 0) (heard : List Line) (lines : List Told) (rest : List ℕ) (said : Result (Option CallsFinding) RecordingFault) → (F heard → G heard) →
+      StopsWith m o t F heard lines rest said → StopsWith m o t G heard lines rest said
+  stops_map F G heard [] rest said f s = (s.0, f s.1)
+  stops_map F G heard (next ∷ more) rest said f s = (s.0, says_map F G heard next rest said s.0 f s.1)
+
+  pub some_map :
+      (F G : List Line → Type 0) (before : List Line) (lines : List Told) (numbers : List ℕ) (count : ℕ) (said : Result (Option CallsFinding) RecordingFault) → ((ls : List Line) → F ls → G ls) →
+      HearsSome m o t F before lines numbers count said → HearsSome m o t G before lines numbers count said
+  some_map F G before lines numbers count said f s = record {
+    heard = s.heard;
+    rest = s.rest;
+    few = s.few;
+    told = s.told;
+    stops = stops_map F G (before ++ s.heard) (drop count lines) s.rest said (f (before ++ s.heard)) s.stops;
+  }
+
+  -- one is at hand of which something is said
+  pub stops_at :
+      (F : List Line → Type 0) (heard : List Line) (lines : List Told) (count : ℕ) (d : Told) (rest : List ℕ) (said : Result (Option CallsFinding) RecordingFault) → count < length lines → said ≢ Ok None →
+      SaysOf m o t F heard (get_or lines count d) rest said → StopsWith m o t F heard (drop count lines) rest said
+  stops_at F heard [] count d rest said l other s = absurd (omega (arith, l))
+  stops_at F heard (next ∷ more) zero d rest said l other s = (other, s)
+  stops_at F heard (next ∷ more) (suc count) d rest said l other s = stops_at F heard more count d rest said (omega (arith, l)) other s
+
+  -- there is none
+  pub stops_none :
+      (F : List Line → Type 0) (heard : List Line) (lines : List Told) (count : ℕ) (rest : List ℕ) → length lines ≤ count → F heard → StopsWith m o t F heard (drop count lines) rest (Ok None)
+  stops_none F heard [] zero rest l f = (refl, f)
+  stops_none F heard [] (suc count) rest l f = (refl, f)
+  stops_none F heard (next ∷ more) zero rest l f = absurd (omega (arith, l))
+  stops_none F heard (next ∷ more) (suc count) rest l f = stops_none F heard more count rest (omega (arith, l)) f
+
+-- the lines before this one, and this one
+pub with_next : (lines : List Told) (count : ℕ) (d : Told) → count < length lines → take count lines ++ get_or lines count d ∷ [] ≡ take (suc count) lines
+with_next [] count d l = absurd (omega (arith, l))
+with_next (next ∷ more) zero d l = refl
+with_next (next ∷ more) (suc count) d l = ap (λ ls. next ∷ ls) (with_next more count d (omega (arith, l)))
+
+-- ---- the first line
+
+pub begins_with :
+    {S O T N B : Type 0} (offered : O → List Offered) (last : T → List Taken) (hearing : Hearing S O T N B) (numbers : List ℕ) → AreSmall numbers → AllowsQueue numbers → hearing.begun ≡ Nothing → hearing.fault ≡ None →
+    HasHeard offered last hearing (capacity_told numbers) [] → FollowsLines offered last hearing false (line Queue numbers ∷ [])
+begins_with offered last hearing numbers small allowed begun none heard = (
+  (first_line [] (line_text Queue numbers) numbers false refl (record { text = refl; allowed = allowed; small = small })).0,
+  first_heard offered last hearing [] false numbers refl begun heard,
+  none,
+)

@@ -1,0 +1,114 @@
+//! The audit of recorded calls, line by line.
+ghost use Rattle.std.specs.Prelude.{◌≡◌, ◌∷◌, [], IfSome, IsNone, IsTrue, List, None, false, length};
+ghost use Rattle.queue_calls.specs.Hearings.{FollowsLines};
+ghost use Rattle.queue_calls.specs.Recordings.{Line as ALine, line};
+ghost use Rattle.queue_calls.specs.Rings.{ring_items};
+ghost use Rattle.queue_calls.specs.declared.lines.Word.TheVariants.{Queue};
+ghost use Rattle.queue_calls_c.specs.Heard.{FitsSlots, HasHeardLines, HearsLines, ReportsOn, heard_by, offered_room, taken_room};
+
+use crate::found::{Found, found_of};
+use crate::hearings::{Line, hear_lines};
+use crate::states::{Audit, keep_state, state_of};
+use queue_calls::{Hearing, Lent, Report, Slots, Word, allows};
+use std::mem;
+
+// The hearing that goes on from an audit, whose slots it takes. None where these are fewer than it used.
+fn resume<'a>(audit: &mut Audit<'a>) -> Option<Hearing<Lent<'a>>>
+    ensures goes_on { IfSome result (λ h. (lines : List ALine) → FollowsLines (λ o. o) (λ t. t) (heard_by audit.old) false lines → FollowsLines ring_items ring_items h false lines) }
+    ensures rooms { IfSome result (λ h. (offered_room h ≡ length audit.old.offered.now) × (taken_room h ≡ length audit.old.taken.now) × (h.witness.limit ≡ audit.old.limit)) }
+    ensures none { IsNone result → ¬ FitsSlots audit.old }
+    ensures line { audit.new.line ≡ audit.old.line }
+{
+    let state = state_of(audit);
+    let offered = Slots::resume(
+        mem::take(&mut audit.offered),
+        audit.offered_first,
+        audit.offered_used,
+    )?;
+    let taken = Slots::resume(
+        mem::take(&mut audit.taken),
+        audit.taken_first,
+        audit.taken_used,
+    )?;
+    Some(Hearing::resume(state, offered, taken))
+}
+
+// Keeps a hearing in an audit.
+fn keep<'a>(audit: &mut Audit<'a>, hearing: Hearing<Lent<'a>>)
+    ensures follows { (lines : List ALine) → FollowsLines ring_items ring_items hearing.entry false lines → FollowsLines (λ o. o) (λ t. t) (heard_by audit.new) false lines }
+    ensures fit { FitsSlots audit.new }
+    ensures limit { hearing.entry.fault ≡ None → audit.new.limit ≡ hearing.entry.witness.limit }
+    ensures line { audit.new.line ≡ audit.old.line }
+{
+    let (state, offered, taken) = hearing.keep();
+    keep_state(audit, state);
+    let (slots, first, used) = offered.keep();
+    audit.offered = slots;
+    audit.offered_first = first;
+    audit.offered_used = used;
+    let (slots, first, used) = taken.keep();
+    audit.taken = slots;
+    audit.taken_first = first;
+    audit.taken_used = used;
+}
+
+/// Begins an audit of a queue that these numbers tell, as they stand in the first line of a recording: none, of a queue with no
+/// bound; its capacity; or two that its capacity lies between. Tells whether they may stand there; where not, nothing changes.
+#[unsafe(no_mangle)]
+pub extern "C" fn ring_audit_begin(audit: &mut Audit<'_>, numbers: &[u64]) -> bool
+    ensures begun { IsTrue result → HasHeardLines audit.new (line Queue numbers.now ∷ []) }
+    ensures limit { IsTrue result → audit.new.limit ≡ length audit.old.taken.now }
+{
+    if !allows(Word::Queue, numbers) {
+        return false;
+    }
+    let limit = audit.taken.len();
+    let offered = Slots::new(mem::take(&mut audit.offered));
+    let taken = Slots::new(mem::take(&mut audit.taken));
+    let mut hearing = Hearing::<Lent<'_>>::new(offered, taken, limit);
+    hearing.begins(numbers);
+    keep(audit, hearing);
+    audit.line = 1;
+    true
+}
+
+/// Hears lines behind those that it has heard, as many of them as are lawful, and tells how many these are; and in `found` what is found
+/// of the next one, with the words of its cause. A line at fault is not kept: more may be heard in its place.
+#[unsafe(no_mangle)]
+pub extern "C" fn ring_audit_hear(
+    audit: &mut Audit<'_>,
+    lines: &[Line],
+    numbers: &[u64],
+    words: &mut [u8],
+    found: &mut Found,
+) -> usize
+    ensures { HearsLines audit.old lines.now numbers.now words.old result audit.new words.new found.new }
+{
+    let Some(mut hearing) = resume(audit) else {
+        *found = Found {
+            line: 0,
+            against: 0,
+            words: 0,
+            verdict: 6,
+        };
+        return 0;
+    };
+    let (heard, line, said) = hear_lines(&mut hearing, audit.line, lines, numbers);
+    keep(audit, hearing);
+    audit.line = line;
+    *found = found_of(said, words);
+    heard
+}
+
+/// Tells the report on the lines that were heard. Whether there is one: not of a state that this library did not leave.
+#[unsafe(no_mangle)]
+pub extern "C" fn ring_audit_report(audit: &mut Audit<'_>, report: &mut Report) -> bool
+    ensures { ReportsOn audit.old result audit.new report.new }
+{
+    let Some(hearing) = resume(audit) else {
+        return false;
+    };
+    *report = hearing.report();
+    keep(audit, hearing);
+    true
+}

@@ -1,0 +1,46 @@
+//! What is found, as numbers.
+ghost use Rattle.std.specs.Prelude.{◌≡◌, length};
+ghost use Rattle.queue_calls_c.specs.Heard.{found_of, words_after};
+
+use crate::hearings::Said;
+use queue_calls::{CallsFinding, RecordingFault, write_cause};
+
+/// What is found of lines, as numbers; those that it does not use are 0.
+#[repr(C)]
+#[derive(Clone, Copy, PartialEq, Eq, Debug)]
+pub struct Found {
+    /// The line at fault, or the bad one, counted from 1 with that which tells the queue.
+    pub line: u64,
+    /// The line that contradicts the one at fault; 0 where none does.
+    pub against: u64,
+    /// How many bytes hold the words of the cause.
+    pub words: u64,
+    /// 0: all lines were heard, and the history that they tell is linearizable. 1: the next line is out of turn; 2: with it the
+    /// history is not linearizable; 3: no such line may stand there; 4: there is no room for its items; 5: there are too many lines;
+    /// 6: the state is none that this library left.
+    pub verdict: u32,
+}
+
+// What is said of a line, with the words of a cause at the front of the slots.
+pub fn found_of(said: Said, words: &mut [u8]) -> Found
+    ensures found { result ≡ found_of (length words.old) said }
+    ensures words { words.new ≡ words_after said words.old }
+{
+    let (verdict, line, against, count) = match said {
+        Ok(None) | Ok(Some(CallsFinding::Lawful(_))) => (0, 0, 0, 0),
+        Ok(Some(CallsFinding::OutOfTurn { line })) => (1, line, 0, 0),
+        Ok(Some(CallsFinding::NotLinearizable { line, cause })) => {
+            let against = cause.line().unwrap_or(0);
+            (2, line, against, write_cause(words, cause))
+        }
+        Err(RecordingFault::BadLine(line)) => (3, line, 0, 0),
+        Err(RecordingFault::OutOfMemory) => (4, 0, 0, 0),
+        Err(RecordingFault::TooLong) => (5, 0, 0, 0),
+    };
+    Found {
+        line,
+        against,
+        words: count as u64,
+        verdict,
+    }
+}

@@ -1,0 +1,85 @@
+//! Lines that are told by numbers.
+ghost use Rattle.std.specs.Prelude.{◌≡◌, ◌+◌, ◌↔◌, IsTrue, List, None, Ok, false, length, take, drop};
+ghost use Rattle.queue_calls.specs.Hearings.{FollowsLines};
+ghost use Rattle.queue_calls.specs.Recordings.{Line as ALine};
+ghost use Rattle.queue_calls.specs.Rings.{ring_items};
+ghost use Rattle.queue_calls_c.specs.Heard.{HearsSome, SaysOf, offered_room, taken_room};
+
+use queue_calls::{CallsFinding, Hearing, Lent, RecordingFault, Word};
+
+/// A line of a recording: its word, by its number, and how many numbers it has, which are told in a list of their own.
+#[repr(C)]
+#[derive(Clone, Copy, PartialEq, Eq, Debug)]
+pub struct Line {
+    pub word: u32,
+    pub count: u32,
+}
+
+/// What a hearing says of a line.
+pub type Said = Result<Option<CallsFinding>, RecordingFault>;
+
+// The first of the numbers, as many as the line has.
+fn own_numbers<'n>(line: &Line, numbers: &'n [u64]) -> &'n [u64]
+    ensures { result.now ≡ take line.now.count numbers.now }
+{
+    &numbers[..(line.count as usize).min(numbers.len())]
+}
+
+// The numbers behind these.
+fn other_numbers<'n>(line: &Line, numbers: &'n [u64]) -> &'n [u64]
+    ensures { result.now ≡ drop line.now.count numbers.now }
+{
+    &numbers[(line.count as usize).min(numbers.len())..]
+}
+
+// Hears one line, of this number, and says what it is.
+fn hear_one(hearing: &mut Hearing<Lent<'_>>, number: u64, line: &Line, numbers: &[u64]) -> Said
+    ensures says { (before : List ALine) → FollowsLines ring_items ring_items hearing.old false before → length before + 1 ≡ number →
+        SaysOf hearing.old.witness.limit (offered_room hearing.old) (taken_room hearing.old) (FollowsLines ring_items ring_items hearing.new false) before line.now numbers.now result }
+    ensures rooms { (offered_room hearing.new ≡ offered_room hearing.old) × (taken_room hearing.new ≡ taken_room hearing.old) × (hearing.new.witness.limit ≡ hearing.old.witness.limit) }
+{
+    match Word::of_number(line.word) {
+        Some(word) => hearing.hear_line(number, word, own_numbers(line, numbers)),
+        None => Err(RecordingFault::BadLine(number)),
+    }
+}
+
+// Whether a line was heard of which this is said.
+fn is_heard(said: Said) -> bool
+    ensures { IsTrue result ↔ (said ≡ Ok None) }
+{
+    match said {
+        Ok(None) => true,
+        Ok(Some(_)) | Err(_) => false,
+    }
+}
+
+// Hears lines behind so many others: how many of them, how many these are then, and what is said of the next one.
+pub fn hear_lines(
+    hearing: &mut Hearing<Lent<'_>>,
+    before: u64,
+    lines: &[Line],
+    numbers: &[u64],
+) -> (usize, u64, Said)
+    ensures hears { (earlier : List ALine) → FollowsLines ring_items ring_items hearing.old false earlier → before ≡ length earlier →
+        HearsSome hearing.old.witness.limit (offered_room hearing.old) (taken_room hearing.old) (λ ls. FollowsLines ring_items ring_items hearing.new false ls × (result.1 ≡ length ls)) earlier lines.now numbers.now result.0 result.2 }
+    ensures limit { hearing.new.witness.limit ≡ hearing.old.witness.limit }
+{
+    let mut rest = numbers;
+    let mut number = before;
+    let mut heard = 0;
+    while heard < lines.len() {
+        let line = &lines[heard];
+        let Some(next) = number.checked_add(1) else {
+            return (heard, number, Err(RecordingFault::TooLong));
+        };
+        let said = hear_one(hearing, next, line, rest);
+        if !is_heard(said) {
+            return (heard, number, said);
+        }
+        number = next;
+        rest = other_numbers(line, rest);
+        heard += 1;
+    }
+    (heard, number, Ok(None))
+}

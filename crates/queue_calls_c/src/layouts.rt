@@ -1,0 +1,29 @@
+//! How large the structs are that C and this library share.
+ghost use Rattle.std.specs.Prelude.{◌≡◌, ◌++◌, length, take, drop};
+ghost use Rattle.queue_calls_c.specs.declared.layouts.TheConstants.{SIZES};
+
+use crate::found::Found;
+use crate::hearings::Line;
+use crate::states::Audit;
+use queue_calls::{Offered, Report, Taken};
+use std::mem::size_of;
+
+// How many bytes each of them has.
+const SIZES: [u64; 6] = [
+    size_of::<Audit<'static>>() as u64,
+    size_of::<Offered>() as u64,
+    size_of::<Taken>() as u64,
+    size_of::<Line>() as u64,
+    size_of::<Report>() as u64,
+    size_of::<Found>() as u64,
+];
+
+/// Writes how many bytes the structs of this library have to the front, where there is room for them: an audit, the entry of an item
+/// inside and of one taken, a line, a report, and what is found. A header compares them with its own.
+#[unsafe(no_mangle)]
+pub extern "C" fn ring_audit_layout(sizes: &mut [u64])
+    ensures { sizes.new ≡ take (length sizes.old) SIZES ++ drop (length SIZES) sizes.old }
+{
+    let count = sizes.len().min(SIZES.len());
+    sizes[..count].copy_from_slice(&SIZES[..count]);
+}

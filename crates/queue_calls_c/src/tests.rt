@@ -1,0 +1,277 @@
+use crate::states::{Audit, Calls};
+use crate::{Found, Line, ring_audit_begin, ring_audit_hear, ring_audit_layout, ring_audit_report};
+use queue_calls::{CAUSE_WORDS, Offered, Report, Taken};
+
+const NO_ENTRY: Offered = Offered {
+    item: 7,
+    offered_at: 7,
+    stored_at: 7,
+};
+
+const NOT_TAKEN: Taken = Taken {
+    item: 7,
+    taken_at: 7,
+};
+
+const NO_REPORT: Report = Report {
+    calls: 0,
+    stored: 0,
+    taken: 0,
+    full: 0,
+    empty: 0,
+    nothing: 0,
+    told: false,
+    surely_inside: 0,
+    perhaps_inside: 0,
+    overlapped: 0,
+    under_way: 0,
+};
+
+const NO_CALLS: Calls = Calls {
+    full: 0,
+    most: 0,
+    offered: 0,
+    before_put: 0,
+    wanted: 0,
+    before_take: 0,
+    begun_items: 0,
+    put: 0,
+    begun: 0,
+    bounded: false,
+    again: false,
+    take: false,
+    ended: false,
+    shut: false,
+};
+
+const NOTHING_FOUND: Found = Found {
+    line: 0,
+    against: 0,
+    words: 0,
+    verdict: 0,
+};
+
+// An audit as C has it before it begins.
+fn zeroed<'a>(offered: &'a mut [Offered], taken: &'a mut [Taken]) -> Audit<'a> {
+    Audit {
+        offered,
+        taken,
+        offered_first: 0,
+        offered_used: 0,
+        taken_first: 0,
+        taken_used: 0,
+        limit: 0,
+        last_taken: Taken {
+            item: 0,
+            taken_at: 0,
+        },
+        line: 0,
+        ended_at: 0,
+        told_at: 0,
+        put_at: 0,
+        stored_at: 0,
+        calls: NO_CALLS,
+        report: NO_REPORT,
+        has_ended: false,
+        has_told: false,
+        put_overlaps: false,
+        take_overlaps: false,
+    }
+}
+
+const fn line(word: u32, count: u32) -> Line {
+    Line { word, count }
+}
+
+const PUT: Line = Line { word: 0, count: 1 };
+
+const CLOSE: Line = Line { word: 1, count: 0 };
+
+const TAKE: Line = Line { word: 2, count: 0 };
+
+const STORED: Line = Line { word: 3, count: 0 };
+
+const FULL: Line = Line { word: 5, count: 0 };
+
+const CLOSED: Line = Line { word: 8, count: 0 };
+
+const ITEM: Line = Line { word: 9, count: 1 };
+
+const EMPTY: Line = Line { word: 11, count: 0 };
+
+const TOLD: Line = Line { word: 14, count: 0 };
+
+// How many of the lines are heard, what is found of the next one, and its words.
+fn heard(
+    audit: &mut Audit<'_>,
+    lines: &[Line],
+    numbers: &[u64],
+) -> (usize, Found, [u8; CAUSE_WORDS]) {
+    let mut words = [7; CAUSE_WORDS];
+    let mut found = Found {
+        line: 9,
+        against: 9,
+        words: 9,
+        verdict: 9,
+    };
+    let count = ring_audit_hear(audit, lines, numbers, &mut words, &mut found);
+    (count, found, words)
+}
+
+#[test]
+fn a_lawful_history_is_heard_in_several_calls(rt: HostRuntime) {
+    let mut offered = [NO_ENTRY; 2];
+    let mut taken = [NOT_TAKEN; 2];
+    let mut audit = zeroed(&mut offered, &mut taken);
+    assert!(rt; ring_audit_begin(&mut audit, &[1]));
+    let (count, found, words) = heard(&mut audit, &[PUT, STORED, TAKE, ITEM], &[5, 5]);
+    assert_eq!(rt; (count, found), (4, NOTHING_FOUND));
+    assert!(rt; words == [7; CAUSE_WORDS]);
+    for item in 6..9 {
+        let (count, found, _) = heard(&mut audit, &[PUT], &[item]);
+        assert_eq!(rt; (count, found), (1, NOTHING_FOUND));
+        let (count, found, _) = heard(&mut audit, &[STORED, TAKE, ITEM], &[item]);
+        assert_eq!(rt; (count, found), (3, NOTHING_FOUND));
+    }
+    let last = [
+        PUT, STORED, PUT, FULL, CLOSE, CLOSED, TAKE, ITEM, TAKE, TOLD,
+    ];
+    let (count, found, _) = heard(&mut audit, &last, &[9, 10, 9]);
+    assert_eq!(rt; (count, found), (10, NOTHING_FOUND));
+    let mut report = NO_REPORT;
+    assert!(rt; ring_audit_report(&mut audit, &mut report));
+    assert_eq!(rt;
+        report,
+        Report {
+            calls: 13,
+            stored: 5,
+            taken: 5,
+            full: 1,
+            empty: 0,
+            nothing: 0,
+            told: true,
+            surely_inside: 1,
+            perhaps_inside: 1,
+            overlapped: 0,
+            under_way: 0,
+        }
+    );
+    assert_eq!(rt; audit.line, 27);
+}
+
+// The fault, its line and the one that contradicts it.
+const fn fault(verdict: u32, line: u64, against: u64, words: u64) -> Found {
+    Found {
+        line,
+        against,
+        words,
+        verdict,
+    }
+}
+
+#[test]
+fn a_fault_is_told_in_words_and_not_kept(rt: HostRuntime) {
+    let mut offered = [NO_ENTRY; 2];
+    let mut taken = [NOT_TAKEN; 2];
+    let mut audit = zeroed(&mut offered, &mut taken);
+    assert!(rt; ring_audit_begin(&mut audit, &[8]));
+    let lines = [PUT, STORED, TAKE, EMPTY, TAKE];
+    let text = "empty, but item 12 was inside since line 3";
+    let (count, found, words) = heard(&mut audit, &lines, &[12]);
+    assert_eq!(rt; (count, found), (3, fault(2, 5, 3, text.len() as u64)));
+    assert!(rt; words.starts_with(text.as_bytes()));
+    // the take is still under way
+    let (count, found, _) = heard(&mut audit, &[TAKE], &[]);
+    assert_eq!(rt; (count, found), (0, fault(1, 5, 0, 0)));
+    let (count, found, _) = heard(&mut audit, &[ITEM, TAKE, EMPTY], &[12]);
+    assert_eq!(rt; (count, found), (3, NOTHING_FOUND));
+}
+
+#[test]
+fn the_words_are_cut_where_there_is_no_room(rt: HostRuntime) {
+    let mut offered = [NO_ENTRY; 2];
+    let mut audit = zeroed(&mut offered, &mut []);
+    assert!(rt; ring_audit_begin(&mut audit, &[]));
+    let mut words = [7; 5];
+    let mut found = NOTHING_FOUND;
+    let lines = [TAKE, ITEM];
+    let count = ring_audit_hear(&mut audit, &lines, &[1], &mut words, &mut found);
+    assert_eq!(rt; (count, found), (1, fault(2, 3, 0, 5)));
+    assert!(rt; words == *b"item ");
+}
+
+#[test]
+fn what_cannot_stand_there_is_refused(rt: HostRuntime) {
+    let mut offered = [NO_ENTRY; 2];
+    let mut taken = [NOT_TAKEN; 2];
+    let mut audit = zeroed(&mut offered, &mut taken);
+    assert!(rt; !ring_audit_begin(&mut audit, &[0]));
+    assert!(rt; !ring_audit_begin(&mut audit, &[2, 1]));
+    assert!(rt; !ring_audit_begin(&mut audit, &[1, 2, 3]));
+    assert!(rt; ring_audit_begin(&mut audit, &[1, 2]));
+    // a put of nothing, a first line, a word that there is not, a number too many
+    for bad in [line(0, 0), line(15, 0), line(17, 0), line(11, 1)] {
+        let (count, found, _) = heard(&mut audit, &[bad, TAKE], &[1]);
+        assert_eq!(rt; (count, found), (0, fault(3, 2, 0, 0)));
+    }
+    // numbers that are not there are not told
+    let (count, found, _) = heard(&mut audit, &[line(0, 3)], &[4, 5]);
+    assert_eq!(rt; (count, found), (1, NOTHING_FOUND));
+    let (count, found, _) = heard(&mut audit, &[STORED, TAKE, line(9, 1)], &[4]);
+    assert_eq!(rt; (count, found), (3, NOTHING_FOUND));
+}
+
+#[test]
+fn an_item_comes_again_among_those_that_are_kept(rt: HostRuntime) {
+    let again = "item 1 comes again, it was taken at line 5; none is next";
+    let lost = "item 1 was not inside; none is next";
+    for limit in 0..2 {
+        let mut offered = [NO_ENTRY; 2];
+        let mut taken = [NOT_TAKEN; 1];
+        let mut audit = zeroed(&mut offered, &mut taken[..limit]);
+        assert!(rt; ring_audit_begin(&mut audit, &[]));
+        let lines = [PUT, STORED, TAKE, ITEM, TAKE, ITEM];
+        let (count, found, words) = heard(&mut audit, &lines, &[1, 1, 1]);
+        let (text, against) = if limit == 1 { (again, 5) } else { (lost, 0) };
+        assert_eq!(rt;
+            (count, found),
+            (5, fault(2, 7, against, text.len() as u64))
+        );
+        assert!(rt; words.starts_with(text.as_bytes()));
+    }
+}
+
+#[test]
+fn too_few_slots_are_told(rt: HostRuntime) {
+    let mut offered = [NO_ENTRY; 1];
+    let mut taken = [NOT_TAKEN; 1];
+    let mut audit = zeroed(&mut offered, &mut taken);
+    assert!(rt; ring_audit_begin(&mut audit, &[]));
+    let (count, found, _) = heard(&mut audit, &[PUT, STORED, PUT], &[1, 2]);
+    assert_eq!(rt; (count, found), (2, fault(4, 0, 0, 0)));
+}
+
+#[test]
+fn a_state_of_another_is_refused(rt: HostRuntime) {
+    let mut offered = [NO_ENTRY; 1];
+    let mut taken = [NOT_TAKEN; 1];
+    let mut audit = zeroed(&mut offered, &mut taken);
+    audit.taken_used = 2;
+    let (count, found, _) = heard(&mut audit, &[TAKE], &[]);
+    assert_eq!(rt; (count, found), (0, fault(6, 0, 0, 0)));
+    let mut report = NO_REPORT;
+    let mut audit = zeroed(&mut [], &mut []);
+    audit.offered_first = 1;
+    assert!(rt; !ring_audit_report(&mut audit, &mut report));
+    assert_eq!(rt; report, NO_REPORT);
+}
+
+#[test]
+fn the_sizes_are_those_of_c(rt: HostRuntime) {
+    let mut sizes = [7; 7];
+    ring_audit_layout(&mut sizes);
+    assert!(rt; sizes == [296, 24, 16, 8, 88, 32, 7]);
+    let mut few = [7; 1];
+    ring_audit_layout(&mut few);
+    assert!(rt; few == [296]);
+}
