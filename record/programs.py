@@ -1,5 +1,5 @@
 """The programs of this folder: what each is, how it is seen that it can be built, how to get what it needs (on Debian), how it is built and
-started. The commands are those of a shell in this folder; $ROOM is a folder for what they make."""
+started. The commands are those of a shell in this folder; $ROOM is a folder for what they make, $LIBRARY that of libring_audit."""
 import collections
 
 Program = collections.namedtuple("Program", "name needs get build start")
@@ -64,3 +64,70 @@ BROKEN = Program("broken", "command -v g++", "apt-get install build-essential", 
 HUNT = Program("hunt", "command -v g++ && command -v cc", "apt-get install build-essential",
                f"{CPP} -DNO_HOLD broken/ring.cpp -o $ROOM/ring_that_runs && {C} hunt_test.c -o $ROOM/hunt_test && {C} -static hunt_test.c -o $ROOM/hunt_test_static",
                "$ROOM/ring_that_runs")
+
+SANITIZED = "-g -fsanitize=address,undefined -fno-sanitize-recover=all"
+
+
+def in_process(name, needs, packages, build, start):
+    return Program(f"unit {name}", f"test -e $LIBRARY/libring_audit.a && test -e $LIBRARY/libring_audit.so.1 && {needs}",
+                   f"libring_audit.a and libring_audit.so.1 in dist/, or in $LIBRARY; apt-get install {packages}", build, start)
+
+
+def judge(name, compiler):
+    return f"{compiler} -O2 -Wall -Wextra -Wpedantic -Werror -I. unit/judge.c -x none $LIBRARY/libring_audit.a -o $ROOM/judge_{name}"
+
+
+# Each links the audit, or loads it, and judges in process: a small ring, the right one and one with a bug; and recordings.
+UNIT = [
+    in_process("in c", "command -v gcc", "build-essential", f"{C} unit/unit.c $LIBRARY/libring_audit.a -o $ROOM/unit_c", "$ROOM/unit_c"),
+    in_process("in c, sanitized", "command -v gcc", "build-essential",
+               f"{C} {SANITIZED} unit/unit.c $LIBRARY/libring_audit.a -o $ROOM/unit_sanitized", "$ROOM/unit_sanitized"),
+    in_process("in cpp, googletest", "echo '#include <gtest/gtest.h>' | g++ -x c++ -E -", "build-essential libgtest-dev",
+               f"{CPP} unit/unit.cpp $LIBRARY/libring_audit.a -lgtest -lgtest_main -o $ROOM/unit_googletest", "$ROOM/unit_googletest"),
+    in_process("in cpp, catch2", "echo '#include <catch2/catch.hpp>' | g++ -x c++ -E -", "build-essential catch2",
+               f"{CPP} unit/unit_catch2.cpp $LIBRARY/libring_audit.a -o $ROOM/unit_catch2", "$ROOM/unit_catch2"),
+    in_process("in python", "command -v python3", "python3", "true", "python3 unit/test_unit.py"),
+    in_process("in python, pytest", "command -v pytest-3", "python3-pytest", "true", "pytest-3 -q -p no:cacheprovider unit/test_unit.py"),
+    in_process("judged as by the audit", "command -v gcc && command -v g++", "build-essential",
+               " && ".join([judge("c11", "gcc -std=c11"), judge("cpp11", "g++ -x c++ -std=c++11"), judge("sanitized", f"gcc -std=c11 {SANITIZED}")]),
+               "ASAN_OPTIONS=allocator_may_return_null=1 python3 unit/compare.py 600 1 $ROOM/judge_c11 $ROOM/judge_cpp11 $ROOM/judge_sanitized"),
+]
+
+
+def in_go(folder, source, command):
+    return f"mkdir {folder} && cp ring_calls.go ring_audit.go unit/{source} {folder} && cd {folder} && CGO_LDFLAGS=-L$LIBRARY {command} *.go"
+
+
+def rounds_of(command):
+    return f"{command} > $ROOM/told || {{ cat $ROOM/told; exit 1; }}; grep rounds $ROOM/told"
+
+
+# The same in Rust and in Go.
+UNIT += [
+    in_process("in rust", "command -v rustc", "rustc", f"{RUST} --test -L native=$LIBRARY unit/unit.rs -o $ROOM/unit_rs", rounds_of("$ROOM/unit_rs --nocapture")),
+    in_process("in rust, judged as by the audit", "command -v rustc", "rustc", f"{RUST} -L native=$LIBRARY unit/judge.rs -o $ROOM/judge_rs",
+               "python3 unit/compare.py 200 2 $ROOM/judge_rs"),
+    in_process("in go", "command -v go && command -v gcc", "golang-go gcc",
+               in_go("$ROOM/go_unit", "unit_test.go", f"{GO.replace('go build', 'go test -c')} -o $ROOM/unit_go"), rounds_of("$ROOM/unit_go -test.v")),
+    in_process("in go, judged as by the audit", "command -v go && command -v gcc", "golang-go gcc",
+               in_go("$ROOM/go_judge", "judge.go", f"{GO} -o $ROOM/judge_go"), "GODEBUG=cgocheck=2 python3 unit/compare.py 200 2 $ROOM/judge_go"),
+]
+
+
+def live(name, compiler, needs="true", get=""):
+    return Program(f"live {name}", f"test -e $LIBRARY/libring_audit.a && command -v gcc && command -v g++ && {needs}",
+                   f"libring_audit.a in dist/, or in $LIBRARY; apt-get install build-essential{get}",
+                   f"{compiler} -Wall -Wextra -Wpedantic -Werror -pthread -I. live_test.c "
+                   f"-x none $LIBRARY/libring_audit.a -o $ROOM/live_{name}", f"$ROOM/live_{name}")
+
+
+# Each records live, recordings and small queues, right ones and with bugs; with sanitizers and small logs the right ones alone.
+THREADS = "gcc -std=gnu11 -O1 -g -fsanitize=thread -DRING_LIVE_WORDS=4096"
+LIVE = [
+    live("c11", "gcc -std=gnu11 -O2"),
+    live("cpp11", "g++ -x c++ -std=c++11 -O2"),
+    live("sanitized", f"gcc -std=gnu11 -O1 {SANITIZED} -DRING_LIVE_WORDS=4096"),
+    # (not every kernel runs what is built so)
+    live("sanitized_threads", THREADS, f"echo 'int main(void) {{ return 0; }}' | {THREADS} -x c - -o $ROOM/none && $ROOM/none",
+         "; sysctl vm.mmap_rnd_bits=28"),
+]

@@ -6,7 +6,7 @@ package main
 //	producer:  rec.Put(v);    if put(v) { rec.Stored() } else { rec.Full() }
 //	           rec.Close();   close(q);  rec.Closed()
 //	consumer:  rec.Take();    v, ok := take();  if ok { rec.Item(v) } else { rec.Empty() }       (rec.Told(): empty and closed)
-//	when both goroutines have ended:  rec.Write("queue 8", file)
+//	when both goroutines have ended:  rec.Write("queue 8", file)                  rec.Restart() for a next round
 //
 // Why there is no false alarm: each begin takes the next ticket of one counter before the call, each end after it, so an interval
 // is only ever widened. Atomic operations of Go are sequentially consistent: where the ticket of an end is below that of a begin, the one
@@ -50,6 +50,11 @@ func NewRingCalls(words int) *RingCalls {
 		return ringLog{words: w, cut: math.MaxUint64}
 	}
 	return &RingCalls{p: log(), c: log()}
+}
+
+// Restart forgets what was recorded, between two rounds of a test: while no goroutine records.
+func (r *RingCalls) Restart() {
+	r.p.used, r.p.cut, r.c.used, r.c.cut, r.ticket = 0, math.MaxUint64, 0, math.MaxUint64, 0
 }
 
 func (r *RingCalls) event(l *ringLog, kind uint64, numbers ...uint64) {
@@ -133,32 +138,65 @@ func (r *RingCalls) TakeNothing() { r.event(&r.c, 13) }
 // Told: empty, and closed.
 func (r *RingCalls) Told() { r.event(&r.c, 14) }
 
-// Write writes the recording; head is its first line: "queue 8", "queue 1 512" or "queue".
-func (r *RingCalls) Write(head string, to io.Writer) error {
-	out := bufio.NewWriter(to)
-	cut := min64(r.p.cut, r.c.cut)
-	next := func(l *ringLog, at int) uint64 {
-		if at < l.used && l.words[at+1] < cut {
-			return l.words[at+1]
+// An event: its kind, by its place in ringWords, and its numbers.
+type ringEvent struct {
+	kind    uint64
+	numbers []uint64
+}
+
+// The events of both sides that are to come, in the order of their tickets, up to the one at which the history is cut.
+type ringEvents struct {
+	p, c []uint64
+	cut  uint64
+}
+
+func (r *RingCalls) events() *ringEvents {
+	return &ringEvents{r.p.words[:r.p.used], r.c.words[:r.c.used], min64(r.p.cut, r.c.cut)}
+}
+
+// The next event; false behind the last one.
+func (e *ringEvents) next() (ringEvent, bool) {
+	ticket := func(words []uint64) uint64 {
+		if len(words) > 0 && words[1] < e.cut {
+			return words[1]
 		}
 		return math.MaxUint64
 	}
-	if cut != math.MaxUint64 {
-		fmt.Fprint(out, "cut ")
+	log, p, c := &e.p, ticket(e.p), ticket(e.c)
+	if min64(p, c) == math.MaxUint64 {
+		return ringEvent{}, false
 	}
-	fmt.Fprintln(out, head)
-	for i, j := 0, 0; min64(next(&r.p, i), next(&r.c, j)) != math.MaxUint64; {
-		l, at := &r.p, &i
-		if next(&r.c, j) < next(&r.p, i) {
-			l, at = &r.c, &j
-		}
-		end := *at + 2 + int(l.words[*at]>>8)
-		out.WriteString(ringWords[l.words[*at]&255])
-		for _, v := range l.words[*at+2 : end] {
-			fmt.Fprint(out, " ", v)
-		}
-		out.WriteByte('\n')
-		*at = end
+	if c < p {
+		log = &e.c
+	}
+	words := *log
+	end := 2 + int(words[0]>>8)
+	*log = words[end:]
+	return ringEvent{words[0] & 255, words[2:end]}, true
+}
+
+// The first line of the recording.
+func (e *ringEvents) firstLine(head string) string {
+	if e.cut != math.MaxUint64 {
+		return "cut " + head
+	}
+	return head
+}
+
+func (e ringEvent) write(out *bufio.Writer) {
+	out.WriteString(ringWords[e.kind])
+	for _, v := range e.numbers {
+		fmt.Fprint(out, " ", v)
+	}
+	out.WriteByte('\n')
+}
+
+// Write writes the recording; head is its first line: "queue 8", "queue 1 512" or "queue".
+func (r *RingCalls) Write(head string, to io.Writer) error {
+	out, events := bufio.NewWriter(to), r.events()
+	fmt.Fprintln(out, events.firstLine(head))
+	for event, more := events.next(); more; event, more = events.next() {
+		event.write(out)
 	}
 	return out.Flush()
 }

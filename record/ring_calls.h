@@ -9,9 +9,10 @@
  *     consumer:  ring_calls_take(&rec);        int ok = my_take(q, &item);
  *                if (ok) ring_calls_item(&rec, item); else ring_calls_empty(&rec);         (ring_calls_told: it was told closed)
  *     when both threads were joined:  ring_calls_write(&rec, "queue 8", file);  ring_calls_free(&rec);
+ *                or ring_calls_restart(&rec), and the next round begins.
  *
  * Why there is no false alarm. Each begin takes the next ticket of one counter before the call, each end after it, so an
- * interval is only ever widened. The counter is written by fetch_add alone. Where the ticket of an end is below that of a begin, the
+ * interval is only ever widened. The threads write the counter by fetch_add alone. Where the ticket of an end is below that of a begin, the
  * begin's fetch_add (acquire) reads from the release sequence that the end's fetch_add (release) heads: the one call happens before
  * the other in the sense of C11, and a right queue has to respect that. All other calls overlap in the recording, and of these
  * the audit permits either order. The price: a ticket orders calls that the queue itself perhaps does not, so a fence that is missing
@@ -53,18 +54,24 @@ enum {
 typedef struct { uint64_t *words; size_t used, room; uint64_t cut; char apart[96]; } ring_calls_log;
 typedef struct { ring_calls_log p, c; ring_calls_counter next; char apart[120]; } ring_calls;
 
+/* Forgets what was recorded, between two rounds of a test: while no thread records. */
+static inline void ring_calls_restart(ring_calls *r) {
+    r->p.used = r->c.used = 0;
+    r->p.cut = r->c.cut = UINT64_MAX;
+    RING_CALLS_STD(atomic_store_explicit)(&r->next, (uint64_t)0, RING_CALLS_STD(memory_order_relaxed));
+}
+
 /* Answers 0 where there is no memory. */
 static inline int ring_calls_init(ring_calls *r, size_t words) {
     ring_calls_log *sides[2] = { &r->p, &r->c };
     for (int i = 0; i < 2; i++) {
         ring_calls_log *s = sides[i];
         s->words = (uint64_t *)malloc(words * sizeof(uint64_t));
-        s->used = 0;
         s->room = words;
-        s->cut = UINT64_MAX;
         if (s->words) memset(s->words, 1, words * sizeof(uint64_t));    /* the pages are there before the recording begins */
     }
     RING_CALLS_STD(atomic_init)(&r->next, (uint64_t)0);
+    ring_calls_restart(r);
     return r->p.words && r->c.words;
 }
 
@@ -127,25 +134,40 @@ static inline void ring_calls_take_nothing(ring_calls *r) { ring_calls_event(r, 
 /* empty, and closed */
 static inline void ring_calls_told(ring_calls *r) { ring_calls_event(r, &r->c, RING_TOLD, NULL, 0); }
 
-/* Writes the recording; head is its first line: "queue 8", "queue 1 512" or "queue". Answers 0 where not all was written. */
-static inline int ring_calls_write(ring_calls *r, const char *head, FILE *out) {
+/* Walks through the events of both sides, in the order of their tickets, up to the one at which the history is cut (UINT64_MAX: nowhere). */
+typedef struct { const ring_calls_log *p, *c; size_t at_p, at_c; uint64_t cut; } ring_calls_walk;
+
+static inline ring_calls_walk ring_calls_begin(const ring_calls *r) {
+    ring_calls_walk w = { &r->p, &r->c, 0, 0, r->p.cut < r->c.cut ? r->p.cut : r->c.cut };
+    return w;
+}
+
+/* The next event, as it lies in its log; NULL behind the last one. */
+static inline const uint64_t *ring_calls_next(ring_calls_walk *w) {
+    const uint64_t *p = w->at_p < w->p->used && w->p->words[w->at_p + 1] < w->cut ? w->p->words + w->at_p : NULL;
+    const uint64_t *c = w->at_c < w->c->used && w->c->words[w->at_c + 1] < w->cut ? w->c->words + w->at_c : NULL;
+    /* of equal time stamps the begin comes first: the calls overlap */
+    if (p && (!c || p[1] < c[1] || (p[1] == c[1] && (p[0] & 255) < RING_ENDS))) {
+        w->at_p += (size_t)(p[0] >> 8) + 2;
+        return p;
+    }
+    if (c) w->at_c += (size_t)(c[0] >> 8) + 2;
+    return c;
+}
+
+static inline void ring_calls_line(const uint64_t *event, FILE *out) {
     static const char *const words[] = { "P put", "P close", "C take", "P stored", "P some", "P full", "P short", "P nothing", "P closed",
                                          "C item", "C some", "C empty", "C short", "C nothing", "C closed" };
-    uint64_t cut = r->p.cut < r->c.cut ? r->p.cut : r->c.cut;
-    size_t i = 0, j = 0;
-    fprintf(out, "%s%s\n", cut == UINT64_MAX ? "" : "cut ", head);
-    for (;;) {
-        const uint64_t *p = i < r->p.used && r->p.words[i + 1] < cut ? r->p.words + i : NULL;
-        const uint64_t *c = j < r->c.used && r->c.words[j + 1] < cut ? r->c.words + j : NULL;
-        if (!p && !c) return fflush(out) == 0 && !ferror(out);
-        /* of equal time stamps the begin comes first: the calls overlap */
-        int is_p = p && (!c || p[1] < c[1] || (p[1] == c[1] && (p[0] & 255) < RING_ENDS));
-        const uint64_t *w = is_p ? p : c;
-        size_t n = (size_t)(w[0] >> 8);
-        fputs(words[w[0] & 255], out);
-        for (size_t k = 0; k < n; k++) fprintf(out, " %llu", (unsigned long long)w[2 + k]);
-        fputc('\n', out);
-        if (is_p) i += n + 2; else j += n + 2;
-    }
+    fputs(words[event[0] & 255], out);
+    for (size_t i = 0; i < (size_t)(event[0] >> 8); i++) fprintf(out, " %llu", (unsigned long long)event[2 + i]);
+    fputc('\n', out);
+}
+
+/* Writes the recording; head is its first line: "queue 8", "queue 1 512" or "queue". Answers 0 where not all was written. */
+static inline int ring_calls_write(const ring_calls *r, const char *head, FILE *out) {
+    ring_calls_walk w = ring_calls_begin(r);
+    fprintf(out, "%s%s\n", w.cut == UINT64_MAX ? "" : "cut ", head);
+    for (const uint64_t *event; (event = ring_calls_next(&w)) != NULL;) ring_calls_line(event, out);
+    return fflush(out) == 0 && !ferror(out);
 }
 #endif

@@ -92,5 +92,11 @@ public:
         return call(Tell(&rec));
     }
 
-    bool write(const char* head, FILE* out) { return ring_calls_write(&rec, head, out) != 0; }
+    bool write(const char* head, FILE* out) const { return ring_calls_write(&rec, head, out) != 0; }
+
+    // Forgets what was recorded, between two rounds of a test: while no thread records.
+    void restart() { ring_calls_restart(&rec); }
+
+    // What was recorded, for ring_audit.hpp.
+    const ring_calls& calls() const { return rec; }
 };

@@ -4,7 +4,7 @@
     producer:  rec.put(v);   rec.stored() if my_put(v) else rec.full()
                rec.close();  my_close();  rec.closed()
     consumer:  rec.take();   v = my_take();  rec.item(v) if v is not None else rec.empty()             (rec.told(): empty and closed)
-    when both threads were joined:  rec.write('queue 8', file)
+    when both threads were joined:  rec.write('queue 8', file);  rec.restart() for a next round
 
 Why there is no false alarm: each begin takes the next ticket of one counter before the call, each end after it, so an interval is only
 ever widened. next() of a count is one step of C under the interpreter's lock, and that lock orders the threads: where the ticket of an end
@@ -43,11 +43,71 @@ class Log:
         at = 0
         while at < self.used and self.words[at + 1] < cut:
             end = at + 2 + (self.words[at] >> 8)
-            yield self.words[at + 1], WORDS[self.words[at] & 255], self.words[at + 2:end]
+            yield self.words[at + 1], self.words[at] & 255, self.words[at + 2:end]
             at = end
 
 
-class Recorder:
+class Calls:
+    """The events of both sides by their names: of the producer by _p, of the consumer by _c, each with its kind and its numbers."""
+
+    def put(self, *items):
+        return self._p(0, items)
+
+    def close(self):
+        return self._p(1)
+
+    def stored(self):
+        return self._p(3)
+
+    def stored_of(self, stored, offered):
+        """Of the items offered the first ones were stored, as many as there was room for."""
+        return self._p(3, (stored,) if stored < offered else ()) if stored else self.full()
+
+    def some(self, stored):
+        """The first ones were stored, so many, and the call does not say why not more."""
+        return self._p(4, (stored,)) if stored else self.put_nothing()
+
+    def full(self):
+        return self._p(5)
+
+    def put_short(self):
+        """A put of all or nothing: of two items or more none was stored, there was not room for all."""
+        return self._p(6)
+
+    def put_nothing(self):
+        """None was stored, and the call does not say why."""
+        return self._p(7)
+
+    def closed(self):
+        """A close ends, or a put that found the queue closed."""
+        return self._p(8)
+
+    def take(self, most=1):
+        return self._c(2, (most,) if most > 1 else ())
+
+    def item(self, *items):
+        return self._c(9, items) if items else self.empty()
+
+    def some_items(self, *items):
+        """These items, and the call does not say why not more."""
+        return self._c(10, items) if items else self.take_nothing()
+
+    def empty(self):
+        return self._c(11)
+
+    def take_short(self):
+        """A take of all or nothing: of two items or more there were not enough."""
+        return self._c(12)
+
+    def take_nothing(self):
+        return self._c(13)
+
+    def told(self):
+        """Empty, and closed."""
+        return self._c(14)
+
+
+class Recorder(Calls):
     def __init__(self, room):
         self.ticket, self.puts, self.takes = itertools.count(), Log(room), Log(room)
 
@@ -57,68 +117,28 @@ class Recorder:
     def _c(self, kind, numbers=()):
         self.takes.event(self.ticket, kind, numbers)
 
-    def put(self, *items):
-        self._p(0, items)
+    def restart(self):
+        """Forgets what was recorded, between two rounds of a test: while no thread records."""
+        self.ticket = itertools.count()
+        for log in (self.puts, self.takes):
+            log.used, log.cut = 0, NEVER
 
-    def close(self):
-        self._p(1)
+    def cut(self):
+        return min(self.puts.cut, self.takes.cut)
 
-    def stored(self):
-        self._p(3)
+    def events(self):
+        """The kind and the numbers of each event of both sides, in the order of their tickets, up to where the history is cut."""
+        cut = self.cut()
+        for _, kind, numbers in heapq.merge(self.puts.events(cut), self.takes.events(cut)):
+            yield kind, numbers
 
-    def stored_of(self, stored, offered):
-        """Of the items offered the first ones were stored, as many as there was room for."""
-        if stored == 0:
-            self.full()
-        else:
-            self._p(3, (stored,) if stored < offered else ())
-
-    def some(self, stored):
-        """The first ones were stored, so many, and the call does not say why not more."""
-        self._p(4, (stored,)) if stored else self.put_nothing()
-
-    def full(self):
-        self._p(5)
-
-    def put_short(self):
-        """A put of all or nothing: of two items or more none was stored, there was not room for all."""
-        self._p(6)
-
-    def put_nothing(self):
-        """None was stored, and the call does not say why."""
-        self._p(7)
-
-    def closed(self):
-        """A close ends, or a put that found the queue closed."""
-        self._p(8)
-
-    def take(self, most=1):
-        self._c(2, (most,) if most > 1 else ())
-
-    def item(self, *items):
-        self._c(9, items) if items else self.empty()
-
-    def some_items(self, *items):
-        """These items, and the call does not say why not more."""
-        self._c(10, items) if items else self.take_nothing()
-
-    def empty(self):
-        self._c(11)
-
-    def take_short(self):
-        """A take of all or nothing: of two items or more there were not enough."""
-        self._c(12)
-
-    def take_nothing(self):
-        self._c(13)
-
-    def told(self):
-        """Empty, and closed."""
-        self._c(14)
+    def lines(self, head):
+        """The lines of the recording; head is its first one: "queue 8", "queue 1 512" or "queue"."""
+        yield ("" if self.cut() == NEVER else "cut ") + head
+        for kind, numbers in self.events():
+            yield " ".join([WORDS[kind], *map(str, numbers)])
 
     def write(self, head, out):
         """Writes the recording; head is its first line: "queue 8", "queue 1 512" or "queue"."""
-        cut = min(self.puts.cut, self.takes.cut)
-        out.write(("" if cut == NEVER else "cut ") + head + "\n")
-        for _, words, numbers in heapq.merge(self.puts.events(cut), self.takes.events(cut), key=lambda event: event[0]):
-            out.write(" ".join([words, *map(str, numbers)]) + "\n")
+        for line in self.lines(head):
+            out.write(line + "\n")

@@ -6,7 +6,7 @@
 //! producer:  p.put(item);  if my_put(item) { p.stored() } else { p.full() }
 //!            p.close();    my_close();  p.closed();
 //! consumer:  c.take();     match my_take() { Ok(v) => c.item(v), Err(Empty) => c.empty(), Err(Closed) => c.closed() }
-//! when both threads were joined:  write_calls("queue 8", &p, &c, &mut file)?
+//! when both threads were joined:  write_calls("queue 8", &p, &c, &mut file)?      p.restart() and c.restart() for a next round
 //! ```
 //!
 //! Why there is no false alarm: each begin takes the next ticket of one counter before the call, each end after it. Where the
@@ -15,6 +15,7 @@
 //! recording nothing is allocated and nothing locked; where a side has no more room the history is cut there, for both sides, and its
 //! first line begins with `cut`.
 #![allow(dead_code)]
+use std::fmt;
 use std::io::{self, Write};
 use std::sync::atomic::{AtomicU64, Ordering};
 
@@ -30,7 +31,7 @@ impl Clock {
 }
 
 // How a line of each kind begins; the first three are begins.
-const WORDS: [&str; 15] = [
+pub const WORDS: [&str; 15] = [
     "P put", "P close", "C take", "P stored", "P some", "P full", "P short", "P nothing", "P closed", "C item",
     "C some", "C empty", "C short", "C nothing", "C closed",
 ];
@@ -63,6 +64,11 @@ impl<'a> Log<'a> {
         self.words.extend_from_slice(&[kind | (numbers.len() as u64) << 8, ticket]);
         self.words.extend_from_slice(numbers);
     }
+
+    fn restart(&mut self) {
+        self.words.clear();
+        self.cut = u64::MAX;
+    }
 }
 
 /// The producer's log: a begin before each call, an end after it.
@@ -91,6 +97,8 @@ impl<'a> PutLog<'a> {
     pub fn nothing(&mut self) { self.0.event(7, &[]) }
     /// A close ends, or a put that found the queue closed.
     pub fn closed(&mut self) { self.0.event(8, &[]) }
+    /// Forgets what was recorded, between two rounds of a test: both logs are restarted, while no thread records.
+    pub fn restart(&mut self) { self.0.restart() }
 }
 
 /// The consumer's log.
@@ -111,21 +119,62 @@ impl<'a> TakeLog<'a> {
     pub fn nothing(&mut self) { self.0.event(13, &[]) }
     /// Empty, and closed.
     pub fn closed(&mut self) { self.0.event(14, &[]) }
+    /// As that of the producer's log.
+    pub fn restart(&mut self) { self.0.restart() }
+}
+
+/// An event: its kind, by its place in `WORDS`, and its numbers. As text it is its line.
+#[derive(Clone, Copy)]
+pub struct Event<'a> {
+    pub kind: u32,
+    pub numbers: &'a [u64],
+}
+
+impl fmt::Display for Event<'_> {
+    fn fmt(&self, f: &mut fmt::Formatter) -> fmt::Result {
+        f.write_str(WORDS[self.kind as usize])?;
+        self.numbers.iter().try_for_each(|value| write!(f, " {value}"))
+    }
+}
+
+/// The events of both sides in the order of their tickets, up to the one at which the history is cut.
+pub struct Events<'a> {
+    puts: &'a [u64],
+    takes: &'a [u64],
+    cut: u64,
+}
+
+pub fn events<'a>(p: &'a PutLog, c: &'a TakeLog) -> Events<'a> {
+    Events { puts: &p.0.words, takes: &c.0.words, cut: p.0.cut.min(c.0.cut) }
+}
+
+impl Events<'_> {
+    pub fn are_cut(&self) -> bool { self.cut != u64::MAX }
+
+    /// The first line of the recording; head is "queue 8", "queue 1 512" or "queue".
+    pub fn first_line(&self, head: &str) -> String { format!("{}{head}", if self.are_cut() { "cut " } else { "" }) }
+}
+
+impl<'a> Iterator for Events<'a> {
+    type Item = Event<'a>;
+
+    fn next(&mut self) -> Option<Event<'a>> {
+        let next = |words: &[u64]| words.get(1).copied().filter(|ticket| *ticket < self.cut).unwrap_or(u64::MAX);
+        let (put, take) = (next(self.puts), next(self.takes));
+        if put.min(take) == u64::MAX {
+            return None;
+        }
+        let log = if put < take { &mut self.puts } else { &mut self.takes };
+        let (event, rest) = log.split_at(2 + (log[0] >> 8) as usize);
+        *log = rest;
+        Some(Event { kind: (event[0] & 255) as u32, numbers: &event[2..] })
+    }
 }
 
 /// Writes the recording; head is its first line: "queue 8", "queue 1 512" or "queue".
 pub fn write_calls(head: &str, p: &PutLog, c: &TakeLog, out: &mut impl Write) -> io::Result<()> {
-    let cut = p.0.cut.min(c.0.cut);
-    let (mut puts, mut takes) = (&p.0.words[..], &c.0.words[..]);
-    let next = |words: &[u64]| words.get(1).copied().filter(|ticket| *ticket < cut).unwrap_or(u64::MAX);
-    writeln!(out, "{}{head}", if cut == u64::MAX { "" } else { "cut " })?;
-    while next(puts).min(next(takes)) != u64::MAX {
-        let log = if next(puts) < next(takes) { &mut puts } else { &mut takes };
-        let end = 2 + (log[0] >> 8) as usize;
-        write!(out, "{}", WORDS[(log[0] & 255) as usize])?;
-        log[2..end].iter().try_for_each(|value| write!(out, " {value}"))?;
-        writeln!(out)?;
-        *log = &log[end..];
-    }
+    let mut events = events(p, c);
+    writeln!(out, "{}", events.first_line(head))?;
+    events.try_for_each(|event| writeln!(out, "{event}"))?;
     out.flush()
 }

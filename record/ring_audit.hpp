@@ -1,0 +1,59 @@
+// ring_audit.hpp: ring_audit.h for C++ from C++17: judges what a recorder has, in a unit test of any frame.
+//
+//     ring_auditor audit;                                                           for any number of rounds
+//     auto found = audit.lawful(rec, "queue 8");                                    when both threads were joined
+//     EXPECT_TRUE(found) << found;                                                  GoogleTest
+//     REQUIRE(found);                                                               Catch2
+//     found.words()                                                                 `lawful`, or `fault: line 5: empty, but ..`
+//
+// It needs ring_audit.h, ring_calls.hpp and ring_calls.h beside it, and the library. A recording that is not lawful is written to the
+// file that RING_AUDIT_KEEP names in the environment.
+#pragma once
+#include "ring_audit.h"
+#include "ring_calls.hpp"
+#include <ostream>
+#include <string>
+
+// What was found of a recording: true where it is lawful.
+class ring_audit_result {
+    bool is_lawful;
+    std::string said, shown;
+    friend class ring_auditor;
+    ring_audit_result(bool lawful, const char* words) : is_lawful(lawful), said(words) {}
+
+public:
+    explicit operator bool() const { return is_lawful; }
+    // `lawful`, or the words of the first line that is not.
+    const std::string& words() const { return said; }
+    // The lines round that one and the one that contradicts it, as they stand in the recording; of a lawful one none.
+    const std::string& lines() const { return shown; }
+    friend std::ostream& operator<<(std::ostream& out, const ring_audit_result& found) {
+        return out << found.said << '\n' << found.shown;
+    }
+};
+
+class ring_auditor {
+    ring_audit audit = RING_AUDIT_NONE;
+
+public:
+    ring_auditor() = default;
+    ~ring_auditor() { ring_audit_free(&audit); }
+    ring_auditor(const ring_auditor&) = delete;
+    ring_auditor& operator=(const ring_auditor&) = delete;
+
+    // Whether what a recorder has is lawful; head is the first line of the recording: "queue 8", "queue 1 512" or "queue".
+    ring_audit_result lawful(const ring_calls& rec, const char* head) {
+        ring_audit_result found(ring_audit_judge(&audit, &rec, head) != 0, ring_audit_words(&audit));
+        if (found) return found;
+        char* text = nullptr;
+        std::size_t size = 0;
+        if (FILE* out = audit.found.line ? open_memstream(&text, &size) : nullptr) {
+            ring_audit_show(&audit, &rec, head, out);
+            if (std::fclose(out) == 0) found.shown.assign(text, size);
+            std::free(text);
+        }
+        ring_audit_keep(&rec, head);
+        return found;
+    }
+    ring_audit_result lawful(const ring_calls_recorder& rec, const char* head) { return lawful(rec.calls(), head); }
+};

@@ -1,0 +1,185 @@
+#!/usr/bin/env python3
+"""compare.py COUNT SEED JUDGE..: recordings that are judged in process, by each JUDGE, a program built of judge.c, .rs or .go, and by
+ring_audit.py, have to be told as the audit tells them: in the same words, with the same report, and with lines as they stand in the
+recording.
+
+The recordings are those of kinds/, those of ../examples/calls that are of the format, so many random ones by ../tests/causes, whose lines
+are of all kinds and mostly lawful, up to the first fault, and some at the edges of batches. The audit is $AUDIT, else ../lamport_ring
+audit --calls. The last line is `N passed, M failed`."""
+import contextlib
+import glob
+import importlib.machinery
+import importlib.util
+import io
+import os
+import random
+import re
+import shlex
+import subprocess
+import sys
+import tempfile
+from collections import Counter
+
+HERE = os.path.dirname(os.path.dirname(os.path.abspath(__file__)))
+TOP = os.path.dirname(HERE)
+sys.path.insert(0, HERE)
+import ring_audit
+import ring_calls
+
+AUDIT = shlex.split(os.environ.get("AUDIT", ""))
+if not AUDIT:
+    AUDIT = [subprocess.check_output([f"{TOP}/lamport_ring", "--which"], text=True).strip(), "audit", "--calls"]
+# The recorder's name of each kind of line.
+NAMES = ("put", "close", "take", "stored", "some", "full", "put_short", "put_nothing", "closed",
+         "item", "some_items", "empty", "take_short", "take_nothing", "told")
+passed = failed = 0
+
+
+def check(what, good, seen):
+    global passed, failed
+    passed, failed = passed + bool(good), failed + (not good)
+    if not good and failed < 10:
+        print(f"FAILED: {what}: {seen}", flush=True)
+
+
+def parts_of(line):
+    """The kind of a line, and its numbers."""
+    side, word, *numbers = line.split(" ")
+    return ring_calls.WORDS.index(f"{side} {word}"), [int(it) for it in numbers]
+
+
+class Recording:
+    """A recording, and what the audit prints of it: its answer, or the first line of a refusal."""
+
+    def __init__(self, text):
+        self.text, self.lines = text, text.split("\n")[:-1]
+        self.head, self.is_cut = self.lines[0].removeprefix("cut "), self.lines[0].startswith("cut ")
+        ran = subprocess.run(AUDIT, input=text, capture_output=True, text=True, check=False)
+        self.answer = ran.stdout or ran.stderr.split("\n")[0] + "\n"
+        self.words = self.answer.split("\n")[0]
+        self.is_lawful = self.words == "lawful"
+
+    def is_shown(self, told):
+        """Whether this is what is told of it on stderr: the words, the line at fault, and those round it, as they stand in it."""
+        if self.is_lawful:
+            return not told
+        words, *lines = told.splitlines()
+        at = int(re.search(r"line (\d+)", words)[1])
+        shown = {int(line[1:9]): line for line in lines if line != "        .."}
+        named = {int(it) for it in re.findall(r"line (\d+)", words)}
+        marked = {number for number, line in shown.items() if line[0] == ">"}
+        round_it = set(range(max(at - 6, 1), min(at + 2, len(self.lines)) + 1))
+        return (words == self.words and all(line[9:] == f" {self.lines[number - 1]}" for number, line in shown.items())
+                and list(shown) == sorted(round_it | marked) and {at} <= marked <= named and len(marked) <= 2)
+
+
+def in_batches(rounds, head):
+    """Puts of three items and takes of two, so that one item stays inside from round to round; in the end the queue is called empty."""
+    lines, item = [head, "P put 0", "P stored"], 1
+    for _ in range(rounds):
+        for stored in ("P stored", "P some 3"):
+            lines += [f"P put {item} {item + 1} {item + 2}", stored]
+            item += 3
+        for first in (item - 7, item - 5, item - 3):
+            lines += ["C take 2", f"C item {first} {first + 1}"]
+    return "\n".join([*lines, "C take", "C empty", ""])
+
+
+def texts(count, seed):
+    for words in (1000, *range(0, 60, 7)):
+        yield subprocess.check_output([sys.executable, f"{HERE}/kinds/kinds.py", str(words)], text=True)
+    for verdict in sorted(glob.glob(f"{TOP}/examples/calls/*.verdict")):
+        with open(verdict, encoding="ascii") as told, open(f"{verdict.removesuffix('verdict')}calls", encoding="ascii", newline="") as file:
+            if not told.read().startswith("refused"):
+                yield file.read()
+    loader = importlib.machinery.SourceFileLoader("causes", f"{TOP}/tests/causes")
+    causes = importlib.util.module_from_spec(importlib.util.spec_from_loader("causes", loader))
+    loader.exec_module(causes)
+    for at in range(count):
+        yield "\n".join([*causes.Maker(random.Random(f"{seed} {at}")).lines(), ""])
+    for between in (65535, 65536):
+        yield "\n".join([*causes.taken_again(between, False), ""])
+    for rounds in (10, 42, 43, 1000):
+        yield in_batches(rounds, "queue 8")
+    for items in (1022, 1023, 1024, 1025, 5000):
+        sevens = " 7" * items
+        yield f"queue\nP put 1\nP stored\nP put{sevens}\nP stored\nC take\nC item 1\nC take {items}\nC item{sevens}\nC take\nC empty\n"
+    # what a recorder writes where no items are put
+    yield "queue 8\nP put\n"
+
+
+def judge_by_c(judge, recordings):
+    with tempfile.TemporaryDirectory() as room:
+        names = [f"{room}/{at}.calls" for at in range(len(recordings))]
+        for name, recording in zip(names, recordings):
+            with open(name, "w", encoding="ascii") as file:
+                file.write(recording.text)
+        keep = {**os.environ, "RING_AUDIT_KEEP": f"{room}/kept"}
+        ran = subprocess.run([*shlex.split(judge), *names], capture_output=True, text=True, check=False, env=keep)
+        check(f"{judge} ends well", ran.returncode == 0, ran.stderr[-1000:])
+        answers = ran.stdout.split("\n\n")
+        check(f"{judge} judges each", len(answers) == len(recordings) + 1, len(answers))
+        told = re.split(r"(?m)^(?=fault: |refused: )", ran.stderr.split("\n", 1)[-1])[1:]
+        for recording, answer in zip(recordings, answers):
+            check(f"{judge} of {recording.text[-1000:]}", answer + "\n" == recording.answer, answer)
+            shown = "" if recording.is_lawful else told.pop(0) if told else ""
+            check(f"{judge} shows of {recording.text[-1000:]}", recording.is_shown(shown), shown)
+        check(f"{judge} tells no more", not told, told)
+        with open(f"{room}/kept", encoding="ascii") as file:
+            check(f"{judge} keeps the last one", file.read() == [it for it in recordings if not it.is_lawful][-1].text, "another")
+
+
+def report_of(audit, is_cut):
+    """As the audit prints it."""
+    lines = ["lawful"]
+    for name, value in audit.report()._asdict().items():
+        lines.append(f"{name} {' '.join(map(str, value)) if name == 'inside' else ('no', 'yes')[value] if name == 'told' else value}")
+    return "\n".join([*lines, *["cut yes"] * is_cut])
+
+
+def judge_by_python(recordings, kept):
+    os.environ["RING_AUDIT_KEEP"] = kept
+    for recording in recordings:
+        events = [parts_of(line) for line in recording.lines[1:]]
+        room = sum(len(numbers) for _, numbers in events)
+        by_kind, by_name = ring_audit.Audit(recording.head, room), ring_audit.Audit(recording.head, room)
+        rec = ring_calls.Recorder(room + 2 * len(events))
+        answers = []
+        for kind, numbers in events:
+            answers.append(by_kind.event(kind, numbers))
+            for calls in (by_name, rec):
+                if NAMES[kind] == "stored" and numbers:
+                    calls.stored_of(numbers[0], numbers[0] + 1)
+                else:
+                    getattr(calls, NAMES[kind])(*numbers)
+        rec.takes.cut = ring_calls.NEVER - 1 if recording.is_cut else ring_calls.NEVER
+        with contextlib.redirect_stderr(io.StringIO()) as told:
+            result = ring_audit.lawful(rec, recording.head)
+        says = [f"{audit.fault() or report_of(audit, recording.is_cut)}\n" for audit in (by_kind, by_name)]
+        check(f"ring_audit.py of {recording.text[-1000:]}", says == [recording.answer] * 2, says)
+        lawful = len(answers) if recording.is_lawful else int(re.search(r"line (\d+)", recording.words)[1]) - 2
+        check(f"the answers of ring_audit.py of {recording.text[-1000:]}", answers == [True] * lawful + [False] * (len(answers) - lawful), answers)
+        good = bool(result) == recording.is_lawful and result.words == repr(result) == recording.words and recording.is_shown(told.getvalue())
+        check(f"lawful of ring_audit.py of {recording.text[-1000:]}", good, f"{result.words}: {told.getvalue()}")
+        if not recording.is_lawful:
+            with open(kept, encoding="ascii") as file:
+                check("ring_audit.py keeps it", file.read() == recording.text, recording.text)
+
+
+def main(count, seed, *judges):
+    recordings = [Recording(text) for text in texts(int(count), seed)]
+    # Of each kind of line and of each kind of words there is one.
+    kinds = Counter(parts_of(line)[0] for recording in recordings for line in recording.lines[1:])
+    words = Counter(re.sub(r"\d+", "N", recording.words) for recording in recordings)
+    check("all kinds of lines", len(kinds) == len(NAMES), kinds)
+    print(f"{len(recordings)} recordings, {sum(kinds.values())} lines, {words['lawful']} lawful, {len(words) - 1} kinds of words of the others")
+    for judge in judges:
+        judge_by_c(judge, recordings)
+    with tempfile.TemporaryDirectory() as room:
+        judge_by_python(recordings, f"{room}/kept")
+    print(f"{passed} passed, {failed} failed")
+    return failed != 0
+
+
+if __name__ == "__main__":
+    sys.exit(main(*sys.argv[1:]))
