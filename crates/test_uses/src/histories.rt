@@ -120,7 +120,7 @@ fn a_recording_is_read_in_pieces(rt: HostRuntime) -> Result<(), Fail> {
 #[test]
 fn a_hearing_is_told_line_by_line(rt: HostRuntime) {
     assert!(rt; of_queue(rt.alloc(), 0).is_none());
-    let mut hearing = of_queue(rt.alloc(), 8).expect(rt, "a queue of 8");
+    let mut hearing = of_queue(rt.alloc(), 8).expect(&rt, "a queue of 8");
     assert!(rt; matches!(hearing.hear_line(2, Word::Put, &[12]), Ok(None)));
     assert!(rt; matches!(hearing.hear_line(3, Word::Stored, &[]), Ok(None)));
     assert!(rt; matches!(hearing.hear_line(4, Word::Take, &[]), Ok(None)));
