@@ -79,7 +79,7 @@ found_as verdict number against words = record { line = number; against = agains
 
 abbrev pub found_of : ℕ → Result (Option CallsFinding) RecordingFault → Found
 found_of room (Ok None) = found_as 0 0 0 0
-found_of room (Ok (Some (Lawful report))) = found_as 0 0 0 0
+found_of room (Ok (Some (Lawful report))) = found_as 6 0 0 0
 found_of room (Ok (Some (OutOfTurn number))) = found_as 1 number 0 0
 found_of room (Ok (Some (NotLinearizable number cause))) = found_as 2 number (unwrap_or (cause_line cause) 0) (min (length (cause_words cause)) room)
 found_of room (Err (BadLine number)) = found_as 3 number 0 0

@@ -1,6 +1,7 @@
 //! The audit of recorded calls, line by line.
 ghost use Rattle.std.specs.Prelude.{◌≡◌, ◌∷◌, [], IfSome, IsNone, IsTrue, List, None, false, length};
 ghost use Rattle.queue_calls.specs.Hearings.{FollowsLines};
+ghost use Rattle.queue_calls.specs.Lines.{AllowsQueue};
 ghost use Rattle.queue_calls.specs.Recordings.{Line as ALine, line};
 ghost use Rattle.queue_calls.specs.Rings.{ring_items};
 ghost use Rattle.queue_calls.specs.declared.lines.Word.TheVariants.{Queue};
@@ -58,6 +59,7 @@ fn keep<'a>(audit: &mut Audit<'a>, hearing: Hearing<Lent<'a>>)
 pub extern "C" fn ring_audit_begin(audit: &mut Audit<'_>, numbers: &[u64]) -> bool
     ensures begun { IsTrue result → HasHeardLines audit.new (line Queue numbers.now ∷ []) }
     ensures limit { IsTrue result → audit.new.limit ≡ length audit.old.taken.now }
+    ensures refused { result ≡ false → ¬ AllowsQueue numbers.now × (audit.new ≡ audit.old) }
 {
     if !allows(Word::Queue, numbers) {
         return false;

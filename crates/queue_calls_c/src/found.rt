@@ -27,7 +27,9 @@ pub fn found_of(said: Said, words: &mut [u8]) -> Found
     ensures words { words.new ≡ words_after said words.old }
 {
     let (verdict, line, against, count) = match said {
-        Ok(None) | Ok(Some(CallsFinding::Lawful(_))) => (0, 0, 0, 0),
+        Ok(None) => (0, 0, 0, 0),
+        // (a line that is not heard is at fault)
+        Ok(Some(CallsFinding::Lawful(_))) => (6, 0, 0, 0),
         Ok(Some(CallsFinding::OutOfTurn { line })) => (1, line, 0, 0),
         Ok(Some(CallsFinding::NotLinearizable { line, cause })) => {
             let against = cause.line().unwrap_or(0);

@@ -1,5 +1,6 @@
-use Rattle.std.proofs.Common.{◌∙◌, ◌<◌, ◌^◌, refl, arith}
+use Rattle.std.proofs.Common.{◌∙◌, ◌<◌, ◌^◌, refl, sym, arith}
 use Rattle.std.proofs.lemmas.List.Elements.{All-from_get_or}
+use Rattle.std.proofs.lemmas.Bool.{false≢true}
 use Rattle.queue_calls.specs.Lines.{AreSmall}
 use Rattle.queue_calls.specs.Rings.{ring_items}
 use Rattle.queue_calls_c.proofs.ToldLines.{begins_with}
@@ -16,4 +17,5 @@ returns c = record {
         fit = c.keep.ensures.fit;
       };
   limit = λ _. c.keep.ensures.limit c.begins.ensures.no_fault ∙ c.begins.ensures.limit ∙ c.new-hearing.ensures.limit;
+  refused = λ e. absurd (false≢true (sym e));
 }
