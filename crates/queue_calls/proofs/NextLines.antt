@@ -9,7 +9,7 @@ use Rattle.queue_calls.specs.Lines.{line_text, Allows, AreSmall}
 use Rattle.queue_calls.specs.Recordings.{Line, line, lines_text, AreLines, and_then, begun_after, begun_behind, capacity_told, event_told, events_told, IsRecording, IsFoundWithin, IsFindingWithin}
 use Rattle.queue_calls.specs.RecordingStates.{IsFaultSoFar}
 use Rattle.queue_calls.specs.Rooms.{HasLongHistory}
-use Rattle.queue_calls.specs.Hearings.{HasHeardAll, HearsNext, FollowsLines}
+use Rattle.queue_calls.specs.Hearings.{HasHeardAll, HearsNext, FollowsLines, IsNotLawful}
 use Rattle.queue_calls.specs.declared.entries.Offered.{Offered}
 use Rattle.queue_calls.specs.declared.entries.Taken.{Taken}
 use Rattle.queue_calls.specs.declared.hearings.Begun.TheVariants as begun
@@ -37,10 +37,12 @@ module _ {S O T N B : Type 0} (offered : O → List Offered) (last : T → List 
       (old new : Hearing S O T N B) (number : ℕ) (event : Event) (found same : Option CallsFinding) → found ≡ same → HearsNext offered last old number event found new → HearsNext offered last old number event same new
   heard_as old new number event found same is h = subst (λ f. HearsNext offered last old number event f new) is h
 
-  found_so : (finding : CallsFinding) (w : Witness S O T N B) (tally : Tally) (capacity : Capacity) (events : List Event) → IsFaultSoFar offered last (Some finding) w tally capacity events → IsFoundWithin w.limit capacity events finding
+  found_so :
+      (finding : CallsFinding) (w : Witness S O T N B) (tally : Tally) (capacity : Capacity) (events : List Event) → IsFaultSoFar offered last (Some finding) w tally capacity events →
+      IsNotLawful finding × IsFoundWithin w.limit capacity events finding
   found_so (Lawful report) w tally capacity events h = absurd h
-  found_so (OutOfTurn number) w tally capacity events h = h
-  found_so (NotLinearizable number cause) w tally capacity events h = h
+  found_so (OutOfTurn number) w tally capacity events h = (tt, h)
+  found_so (NotLinearizable number cause) w tally capacity events h = (tt, h)
 
   module _ (is_cut : Bool) (before : List Line) (old : Hearing S O T N B) (follows : FollowsLines offered last old is_cut before) where
     -- the history that was heard
@@ -103,8 +105,9 @@ module _ {S O T N B : Type 0} (offered : O → List Offered) (last : T → List 
       pub line_at_fault :
           (new : Hearing S O T N B) (finding : CallsFinding) → new.begun ≡ old.begun → new.fault ≡ None → new.witness.limit ≡ old.witness.limit → HasHeardAll offered last new capacity_is events_are →
           IsFaultSoFar offered last (Some finding) new.witness new.tally capacity_is (events_are ++ event ∷ []) →
-          FollowsLines offered last new is_cut before × IsFindingWithin old.witness.limit (lines_text (before ++ line word numbers ∷ [])) finding
-      line_at_fault new finding begun_is none limit heard fault = (
+          FollowsLines offered last new is_cut before × IsNotLawful finding × IsFindingWithin old.witness.limit (lines_text (before ++ line word numbers ∷ [])) finding
+      line_at_fault new finding begun_is none limit heard fault =
+          let (against, found) = found_so finding new.witness new.tally capacity_is (events_are ++ event ∷ []) fault in (
         (
           follows.0,
           (
@@ -116,12 +119,8 @@ module _ {S O T N B : Type 0} (offered : O → List Offered) (last : T → List 
           ),
           none,
         ),
-        (
-          capacity_is,
-          events_are ++ event ∷ [],
-          recording_is,
-          subst (λ n. IsFoundWithin n capacity_is (events_are ++ event ∷ []) finding) limit (found_so finding new.witness new.tally capacity_is (events_are ++ event ∷ []) fault),
-        ),
+        against,
+        (capacity_is, events_are ++ event ∷ [], recording_is, subst (λ n. IsFoundWithin n capacity_is (events_are ++ event ∷ []) finding) limit found),
       )
 
       -- a list is too short

@@ -1,5 +1,5 @@
 -- A history that is told event by event or line by line: what is kept of it, and what is said of the next one.
-use Rattle.std.specs.Prelude.{◌≡◌, ℕ, ◌+◌, Bool, List, [], ◌∷◌, ◌++◌, Option, Some, None, Result, MatchOption, MatchResult, length}
+use Rattle.std.specs.Prelude.{◌≡◌, ℕ, ◌+◌, Bool, List, [], ◌∷◌, ◌++◌, Option, Some, None, Result, MatchOption, MatchResult, length, ⊤}
 use Rattle.queue_calls.specs.Queue.{Capacity}
 use Rattle.queue_calls.specs.Calls.{Event}
 use Rattle.queue_calls.specs.Recordings.{Line, line, lines_text, AreLines, IsFindingWithin}
@@ -15,6 +15,7 @@ use Rattle.queue_calls.specs.declared.hearings.Hearing.{Hearing}
 use Rattle.queue_calls.specs.declared.hearings.HearingState.{HearingState}
 use Rattle.queue_calls.specs.declared.lines.Word.{Word}
 use Rattle.queue_calls.specs.declared.recordings.CallsFinding.{CallsFinding}
+use Rattle.queue_calls.specs.declared.recordings.CallsFinding.TheVariants.{Lawful, OutOfTurn, NotLinearizable}
 use Rattle.queue_calls.specs.declared.recordings.RecordingFault.{RecordingFault}
 use Rattle.queue_calls.specs.declared.recordings.RecordingFault.TheVariants.{BadLine, TooLong, OutOfMemory}
 
@@ -63,6 +64,12 @@ RefusesNextLine offered last limit o t is_cut before number next (BadLine bad) n
 RefusesNextLine offered last limit o t is_cut before number next TooLong new = ⊥
 RefusesNextLine offered last limit o t is_cut before number next OutOfMemory new = HasLongHistory limit o t (lines_text (before ++ next ∷ []))
 
+-- what is found is a fault
+abbrev pub IsNotLawful : CallsFinding → Type 0
+IsNotLawful (Lawful report) = ⊥
+IsNotLawful (OutOfTurn number) = ⊤
+IsNotLawful (NotLinearizable number cause) = ⊤
+
 -- Behind such lines, one more, of this number: it is heard; or it is the first at fault, this is what is found of the text of all of them,
 -- and all is as it was; or it is refused.
 abbrev pub HearsLine : {S O T N B : Type 0} → (offered : O → List Offered) → (last : T → List Taken) → (offered_room taken_room : ℕ) → Hearing S O T N B → (number : ℕ) → Word → List ℕ →
@@ -71,5 +78,5 @@ HearsLine offered last o t old number word numbers result new =
     (is_cut : Bool) (before : List Line) → FollowsLines offered last old is_cut before → length before + 1 ≡ number →
     MatchResult result
     (λ found. MatchOption found (FollowsLines offered last new is_cut (before ++ line word numbers ∷ []))
-    (λ finding. FollowsLines offered last new is_cut before × IsFindingWithin old.witness.limit (lines_text (before ++ line word numbers ∷ [])) finding))
+    (λ finding. FollowsLines offered last new is_cut before × IsNotLawful finding × IsFindingWithin old.witness.limit (lines_text (before ++ line word numbers ∷ [])) finding))
     (λ e. RefusesNextLine offered last old.witness.limit o t is_cut before number (line word numbers) e new)

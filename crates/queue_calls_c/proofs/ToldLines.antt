@@ -29,7 +29,7 @@ pub says_of :
     HearsLine offered last o t old number word own result new → SaysOf old.witness.limit o t (FollowsLines offered last new false) before next numbers result
 says_of offered last o t old new before number next numbers word own (Ok None) is own_is follows count hears = (line word own, (is, own_is), hears false before follows count)
 says_of offered last o t old new before number next numbers word own (Ok (Some finding)) is own_is follows count hears =
-    let h = hears false before follows count in (h.0, line word own, (is, own_is), h.1)
+    let h = hears false before follows count in (h.0, h.1, line word own, (is, own_is), h.2)
 says_of offered last o t old new before number next numbers word own (Err (BadLine bad)) is own_is follows count hears =
     let h = hears false before follows count in
     (h.1, h.0 ∙ sym count, λ l told are. h.2 (subst (λ x. AreLines (before ++ x ∷ [])) (told_once next numbers word own l is own_is told) are))
@@ -52,7 +52,7 @@ module _ (m o t : ℕ) where
       (F G : List Line → Type 0) (heard : List Line) (next : Told) (numbers : List ℕ) (said : Result (Option CallsFinding) RecordingFault) → said ≢ Ok None → (F heard → G heard) →
       SaysOf m o t F heard next numbers said → SaysOf m o t G heard next numbers said
   says_map F G heard next numbers (Ok None) other f s = absurd (other refl)
-  says_map F G heard next numbers (Ok (Some finding)) other f s = (f s.0, s.1, s.2, s.3)
+  says_map F G heard next numbers (Ok (Some finding)) other f s = (f s.0, s.1, s.2, s.3, s.4)
   says_map F G heard next numbers (Err (BadLine number)) other f s = (f s.0, s.1, s.2)
   says_map F G heard next numbers (Err TooLong) other f s = (f s.0, s.1)
   says_map F G heard next numbers (Err OutOfMemory) other f s = s

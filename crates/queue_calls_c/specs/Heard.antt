@@ -1,7 +1,7 @@
 -- What an audit has heard, and what is said of the next lines.
 use Rattle.std.specs.Prelude.{◌≡◌, ◌≢◌, ℕ, ◌+◌, ◌-◌, ◌^◌, ◌≤◌, Bool, true, false, List, [], ◌∷◌, ◌++◌, Option, Some, None, Result, Ok, Err, length, take, drop, min, unwrap_or}
 use Rattle.queue_calls.specs.Causes.{cause_line, cause_words}
-use Rattle.queue_calls.specs.Hearings.{FollowsLines, hearing_of}
+use Rattle.queue_calls.specs.Hearings.{FollowsLines, IsNotLawful, hearing_of}
 use Rattle.queue_calls.specs.Lines.{word_of}
 use Rattle.queue_calls.specs.Recordings.{Line, lines_text, AreLines, IsFindingWithin}
 use Rattle.queue_calls.specs.Rooms.{HasLongHistory}
@@ -55,7 +55,7 @@ TellLines _ numbers _ rest = ⊥
 -- it cannot stand there; there are too many; or a list of so much room is too short.
 abbrev pub SaysOf : (limit offered_room taken_room : ℕ) → (Follows : List Line → Type 0) → List Line → Told → List ℕ → Result (Option CallsFinding) RecordingFault → Type 0
 SaysOf m o t Follows heard next numbers (Ok None) = (l : Line) × TellsLine next numbers l × Follows (heard ++ l ∷ [])
-SaysOf m o t Follows heard next numbers (Ok (Some finding)) = Follows heard × (l : Line) × TellsLine next numbers l × IsFindingWithin m (lines_text (heard ++ l ∷ [])) finding
+SaysOf m o t Follows heard next numbers (Ok (Some finding)) = Follows heard × IsNotLawful finding × (l : Line) × TellsLine next numbers l × IsFindingWithin m (lines_text (heard ++ l ∷ [])) finding
 SaysOf m o t Follows heard next numbers (Err (BadLine number)) = Follows heard × (number ≡ length heard + 1) × ((l : Line) → TellsLine next numbers l → ¬ AreLines (heard ++ l ∷ []))
 SaysOf m o t Follows heard next numbers (Err TooLong) = Follows heard × (2 ^ 64 - 1 ≤ length heard)
 SaysOf m o t Follows heard next numbers (Err OutOfMemory) = (l : Line) × TellsLine next numbers l × HasLongHistory m o t (lines_text (heard ++ l ∷ []))
