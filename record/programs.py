@@ -9,6 +9,10 @@ CPP = "g++ -std=c++17 -O2 -Wall -Wextra -Werror -pthread -I."
 RUST = "rustc --edition 2021 -O"
 GO = "GO111MODULE=off GOCACHE=$ROOM/cache go build"
 JCTOOLS = "/usr/share/java/jctools-core.jar"
+# Rust's crates as Debian has them: their sources, and how cargo builds of these alone.
+CRATES = "/usr/share/cargo/registry"
+OF_CRATES = ("async-channel", "concurrent-queue", "crossbeam-channel", "crossbeam-queue", "flume", "futures-channel", "tokio")
+CARGO = f"""cargo build -q --release --offline --config 'source.crates-io.replace-with="debian"' --config 'source.debian.directory="{CRATES}"'"""
 
 
 def in_c(name, header, packages, libraries=""):
@@ -43,11 +47,29 @@ REAL = [
     in_cpp("boost", "boost/lockfree/spsc_queue.hpp", "libboost-dev"),
     in_c("ck", "ck_ring.h", "libck-dev", "-lck"),
     in_c("dpdk", "rte_ring.h", "libdpdk-dev pkg-config", "$(pkg-config --cflags --libs libdpdk)"),
+    in_c("jack", "jack/ringbuffer.h", "libjack-jackd2-dev", "-ljack"),
+    Program("portaudio", "gcc -print-file-name=libportaudio.a | grep /", "apt-get install gcc portaudio19-dev",
+            f"{C} real/portaudio.c -o $ROOM/portaudio -l:libportaudio.a", "$ROOM/portaudio"),
+    in_c("soundio", "soundio/soundio.h", "libsoundio-dev", "-lsoundio"),
+    in_c("csound", "csound/csound.h", "libcsound64-dev", "-lcsound64"),
+    in_c("spa", "spa/utils/ringbuffer.h", "libspa-0.2-dev", "-isystem /usr/include/spa-0.2"),
+    in_c("gst", "gst/gst.h", "libgstreamer1.0-dev pkg-config", "$(pkg-config --cflags --libs gstreamer-1.0)"),
+    in_c("qb", "qb/qbrb.h", "libqb-dev", "-lqb"),
+    in_c("zmq", "zmq.h", "libzmq3-dev", "-lzmq"),
     in_c("urcu", "urcu/wfcqueue.h", "liburcu-dev", "-lurcu-common"),
     in_c("glib", "glib.h", "libglib2.0-dev pkg-config", "$(pkg-config --cflags --libs glib-2.0)"),
     in_cpp("moodycamel", "readerwriterqueue/readerwritercircularbuffer.h", "libreaderwriterqueue-dev"),
+    in_cpp("concurrentqueue", "concurrentqueue/concurrentqueue.h", "libconcurrentqueue-dev"),
+    in_cpp("atomic_queue", "atomic_queue/atomic_queue.h", "libatomic-queue-dev"),
+    in_cpp("cds", "cds/init.h", "libcds-dev", "-lcds"),
     in_cpp("tbb", "tbb/concurrent_queue.h", "libtbb-dev", "-ltbb"),
     Program("rust_std", "command -v rustc", "apt-get install rustc", f"{RUST} real/rust_std.rs -o $ROOM/rust_std", "$ROOM/rust_std"),
+    # (cargo takes a folder with a Cargo.toml, and writes beside it)
+    Program("rust_crates", " && ".join(["command -v cargo", *(f"ls -d {CRATES}/{each}-[0-9]*" for each in OF_CRATES)]),
+            f"apt-get install cargo {' '.join(f'librust-{each}-dev' for each in OF_CRATES)}",
+            "mkdir -p $ROOM/crates/real && cp ring_calls.rs $ROOM/crates && cp real/relay.rs real/rust_crates.rs $ROOM/crates/real && "
+            f"cp real/rust_crates.toml $ROOM/crates/real/Cargo.toml && cd $ROOM/crates/real && {CARGO} --target-dir ../target",
+            "$ROOM/crates/target/release/rust_crates"),
     Program("go_chan", "command -v go", "apt-get install golang-go",
             f"mkdir $ROOM/go_chans && cp ring_calls.go real/go_chan.go $ROOM/go_chans && cd $ROOM/go_chans && {GO} -o $ROOM/go_chan *.go", "$ROOM/go_chan"),
     Program("python_std", "true", "", "true", "python3 real/python_std.py"),

@@ -41,7 +41,7 @@ int main(int argc, char **argv) {
         { "dpdk", "queue 7", NULL, make, put, take, NULL, NULL, 0 },
         { "dpdk_exact", "queue 8", NULL, make_exact, put, take, NULL, NULL, 0 },
         { "dpdk_burst", "queue 7", NULL, make, put, take, put_burst, take_burst, 0 },
-        { "dpdk_bulk", "queue 7", NULL, make, put, take, put_bulk, take_bulk, 1 },
+        { "dpdk_bulk", "queue 7", NULL, make, put, take, put_bulk, take_bulk, RELAY_ALL_OR_NONE },
         { "dpdk_bulk_as_burst", "queue 7", "full, but at most|empty, but item", make, put, take, put_bulk, take_bulk, 0 },
     };
     return relay_main(argc, argv, queues, 5);

@@ -15,8 +15,11 @@ typedef struct {
     int (*take)(uint64_t *item);                        /* 1 an item, 0 empty, 2 nothing is said */
     size_t (*put_all)(const uint64_t *items, size_t n); /* how many were stored; NULL: one by one */
     size_t (*take_all)(uint64_t *items, size_t n);
-    int all_or_none;
+    int ends;                                           /* how its calls of several items end: one of those below */
 } relay_queue;
+
+/* As many as there is room for, or are inside; all or none; perhaps fewer, and it does not say why. */
+enum { RELAY_AS_MANY, RELAY_ALL_OR_NONE, RELAY_SOME };
 
 enum { RELAY_BATCH = 5 };
 static ring_calls relay_rec;
@@ -45,7 +48,8 @@ static inline void *relay_producer(void *unused) {
         for (size_t k = 0; k < n; k++) items[k] = v + k;
         ring_calls_put_all(&relay_rec, items, n);
         m = relay_q->put_all ? relay_q->put_all(items, n) : relay_q->put(v) ? 1 : 0;
-        if (m == 0 && n > 1 && relay_q->all_or_none) ring_calls_put_short(&relay_rec);
+        if (m == 0 && n > 1 && relay_q->ends == RELAY_ALL_OR_NONE) ring_calls_put_short(&relay_rec);
+        else if (m > 0 && relay_q->ends == RELAY_SOME) ring_calls_some(&relay_rec, m);
         else ring_calls_stored_of(&relay_rec, m, n);
         v += m;
         relay_rest(&g, m < n || relay_random(&g) % 4096 < 64);
@@ -69,18 +73,22 @@ static inline void *relay_consumer(void *unused) {
     relay_meet();
     for (;;) {
         uint64_t items[RELAY_BATCH];
-        int done = (int)RING_CALLS_STD(atomic_load)(&relay_done);
+        int all_or_none = relay_q->ends == RELAY_ALL_OR_NONE, is_done = (int)RING_CALLS_STD(atomic_load)(&relay_done);
         /* (a take of all or nothing that is to be told closed has to ask for one) */
-        size_t n = relay_q->take_all && !(done && relay_q->all_or_none) ? 1 + relay_random(&g) % RELAY_BATCH : 1;
+        size_t n = relay_q->take_all && !(is_done && all_or_none) ? 1 + relay_random(&g) % RELAY_BATCH : 1;
         long m;
+        all_or_none = all_or_none && n > 1;
         ring_calls_take_all(&relay_rec, n);
         m = relay_look(items, n);
-        if (m == 0 && (n == 1 || !relay_q->all_or_none) && RING_CALLS_STD(atomic_load)(&relay_done)) {
+        is_done = m == 0 && RING_CALLS_STD(atomic_load)(&relay_done);
+        if (is_done && !all_or_none) {
             m = relay_look(items, n);
             if (m == 0) { ring_calls_told(&relay_rec); return unused; }
         }
-        if (m < 0) ring_calls_take_nothing(&relay_rec);
-        else if (m == 0 && n > 1 && relay_q->all_or_none) ring_calls_take_short(&relay_rec);
+        /* (one of all or nothing that is closed meanwhile may not call itself short where nothing is inside) */
+        if (m < 0 || (is_done && all_or_none)) ring_calls_take_nothing(&relay_rec);
+        else if (m == 0 && all_or_none) ring_calls_take_short(&relay_rec);
+        else if (m > 0 && relay_q->ends == RELAY_SOME) ring_calls_some_items(&relay_rec, items, (size_t)m);
         else ring_calls_items(&relay_rec, items, (size_t)m);
         relay_rest(&g, m < (long)n || relay_random(&g) % 4096 < 64);
     }
@@ -99,7 +107,10 @@ static inline int relay_main(int argc, char **argv, const relay_queue *queues, s
     }
     relay_q->make();
     pthread_t p, c;
-    if (pthread_create(&p, NULL, relay_producer, NULL) || pthread_create(&c, NULL, relay_consumer, NULL)) return 2;
+    if (pthread_create(&p, NULL, relay_producer, NULL) || pthread_create(&c, NULL, relay_consumer, NULL)) {
+        fprintf(stderr, "%s: no thread\n", argv[1]);
+        return 2;
+    }
     pthread_join(p, NULL);
     pthread_join(c, NULL);
     return !ring_calls_write(&relay_rec, relay_q->head, stdout);
