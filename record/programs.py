@@ -153,3 +153,30 @@ LIVE = [
     live("sanitized_threads", THREADS, f"echo 'int main(void) {{ return 0; }}' | {THREADS} -x c - -o $ROOM/none && $ROOM/none",
          "; sysctl vm.mmap_rnd_bits=28"),
 ]
+
+
+# The test of what explore.h models, by both compilers and with its sanitizers, and the ring of 20 bugs; twelve.h is built bug by bug.
+EXPLORED = "-fsanitize=thread -fno-builtin -O1 -gdwarf-4 -Wall -Wextra -Werror -I."
+EXPLORER = "gcc -std=c11 -O2 -Wall -Wextra -Wpedantic -Werror -I. -c explore.c"
+
+
+def explored(name, compiler, source, flags="", linker="gcc", explorer="explore.o"):
+    return f"{compiler} {EXPLORED} {flags} -c {source} -o $ROOM/{name}.o && {linker} $ROOM/{name}.o $ROOM/{explorer} $LIBRARY/libring_audit.a -o $ROOM/{name}"
+
+
+EXPLORE = Program("explore", "test -e $LIBRARY/libring_audit.a && command -v gcc && command -v g++ && command -v addr2line && command -v nm",
+                  "libring_audit.a in dist/, or in $LIBRARY; apt-get install build-essential binutils",
+                  " && ".join([f"{EXPLORER} -o $ROOM/explore.o", f"{EXPLORER.replace('-O2', f'-O1 {SANITIZED}')} -o $ROOM/explore_sanitized.o",
+                               explored("explore_test", "gcc -std=gnu11", "explore_test.c"),
+                               explored("explore_test_sanitized", "gcc -std=gnu11", "explore_test.c", "", f"gcc {SANITIZED}", "explore_sanitized.o"),
+                               explored("explore_test_cpp", "g++ -std=c++20", "explore_test.cpp", "", "g++"),
+                               explored("ring_explored", "g++ -std=c++17", "broken/ring_explored.cpp", "-DNO_HOLD", "g++")]), "$ROOM/explore_test")
+EXPLORE_CLANG = Program("explore by clang", f"{EXPLORE.needs} && command -v clang && command -v clang++", f"{EXPLORE.get} clang",
+                        " && ".join([f"{EXPLORER.replace('gcc', 'clang')} -o $ROOM/explore_clang.o",
+                                     explored("explore_test_clang", "clang -std=gnu11", "explore_test.c", "-Wno-atomic-alignment", "clang", "explore_clang.o"),
+                                     explored("explore_test_cpp_clang", "clang++ -std=c++20", "explore_test.cpp", "", "clang++", "explore_clang.o"),
+                                     explored("ring_explored_clang", "clang++ -std=c++17", "broken/ring_explored.cpp", "-DNO_HOLD", "clang++", "explore_clang.o")]),
+                        "$ROOM/explore_test_clang")
+EXPLORE_REAL = Program("explore of real queues", f"{EXPLORE.needs} && for header in boost/lockfree/spsc_queue.hpp readerwriterqueue/readerwriterqueue.h; "
+                       "do echo \"#include <$header>\" | g++ -x c++ -E - > $ROOM/none || exit 1; done", "apt-get install libboost-dev libreaderwriterqueue-dev",
+                       "./explore -o $ROOM/explored real/explored.cpp -- -std=c++17 -Wall -Wextra -Werror; test -x $ROOM/explored", "$ROOM/explored")
