@@ -11,14 +11,15 @@ package main
 // Why there is no false alarm: each begin takes the next ticket of one counter before the call, each end after it, so an interval
 // is only ever widened. Atomic operations of Go are sequentially consistent: where the ticket of an end is below that of a begin, the one
 // call happens before the other, and a right queue has to respect that. All other calls overlap in the recording. While recording nothing
-// is allocated and nothing locked; where a side has no more room the history is cut there, for both sides, and its first line begins
-// with `cut`.
+// is allocated and nothing locked; where a side has no more room the history is cut there, for both sides: its first line begins
+// with `cut`, and Write says on standard error whose log was full.
 
 import (
 	"bufio"
 	"fmt"
 	"io"
 	"math"
+	"os"
 	"sync/atomic"
 )
 
@@ -191,9 +192,16 @@ func (e ringEvent) write(out *bufio.Writer) {
 	out.WriteByte('\n')
 }
 
-// Write writes the recording; head is its first line: "queue 8", "queue 1 512" or "queue".
+// Write writes the recording; head is its first line: "queue 8", "queue 1 512" or "queue". Where the history is cut, standard error is told.
 func (r *RingCalls) Write(head string, to io.Writer) error {
 	out, events := bufio.NewWriter(to), r.events()
+	if events.cut != math.MaxUint64 {
+		side, log := "producer", &r.p
+		if r.c.cut < r.p.cut {
+			side, log = "consumer", &r.c
+		}
+		fmt.Fprintf(os.Stderr, "ring_calls: the %s's log was full after %d words: the recording is a first part of what happened\n", side, len(log.words))
+	}
 	fmt.Fprintln(out, events.firstLine(head))
 	for event, more := events.next(); more; event, more = events.next() {
 		event.write(out)

@@ -20,7 +20,7 @@
  *
  * While recording nothing is allocated and nothing locked. Where a side has no more room the history is cut, for both sides, at the
  * ticket of the first event that was not kept: a first part of what happened, and a first part of a lawful history is lawful. The first
- * line then begins with `cut`.
+ * line then begins with `cut`, and ring_calls_write says on stderr whose log was full.
  *
  * RING_CALLS_TSC (x86, an invariant counter of cycles that all cores share) takes time stamps for tickets: no shared counter. The
  * fences are needed: without mfence a store of the call may still wait in the store buffer at its end's stamp, without lfence a load of
@@ -176,9 +176,15 @@ static inline void ring_calls_line(const uint64_t *event, FILE *out) {
     fputc('\n', out);
 }
 
-/* Writes the recording; head is its first line: "queue 8", "queue 1 512" or "queue". Answers 0 where not all was written. */
+/* Writes the recording; head is its first line: "queue 8", "queue 1 512" or "queue". Answers 0 where not all was written. Where the history
+ * is cut, stderr is told. */
 static inline int ring_calls_write(const ring_calls *r, const char *head, FILE *out) {
     ring_calls_walk w = ring_calls_begin(r);
+    if (w.cut != UINT64_MAX) {
+        const ring_calls_log *full = r->p.cut == w.cut ? &r->p : &r->c;
+        fprintf(stderr, "ring_calls: the %s's log was full after %zu words: the recording is a first part of what happened\n",
+                full == &r->p ? "producer" : "consumer", full->room);
+    }
     fprintf(out, "%s%s\n", w.cut == UINT64_MAX ? "" : "cut ", head);
     for (const uint64_t *event; (event = ring_calls_next(&w)) != NULL;) ring_calls_line(event, out);
     return fflush(out) == 0 && !ferror(out);
