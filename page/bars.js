@@ -18,10 +18,10 @@ function fitted(words, room, letter) {
 
 // The picture of the first `count` lines behind the first of this recording, in a frame with room for all. The place `fault` is at fault (null: none
 // is), with the words `cause`; the one at `contradicts` speaks against it. `order` has the operations; `ring` is a second heading, as in sheet.js.
-export function bars({text, lines, count, fault = null, contradicts = null, cause = "", words, mood = "", ring = null, why = "", order = [], aspect = 9 / 16, theme}) {
+export function bars({text, lines, count, fault = null, contradicts = null, cause = "", words, mood = "", ring = null, why = "", order = [], aspect = 9 / 16, widest, theme}) {
   const {full, most} = capacityIn(text), whole = lines.count - 1, lanes = {...BARS, C: BARS.C + (order.length ? EFFECTS : 0)};
   const sheet = sheetOf({whole, count, middle: Math.max(0, fault ?? count - 1), other: contradicts, tall: lanes.C + lanes.high + UNDER, up: 0, lanes, least: NEAR, most: FAR,
-    aspect, words, mood, ring, reasons: [why].filter(Boolean), hasReasons: why ? 1 : 0, counted: "line", numberOf: place => place + 2, total: lines.count});
+    aspect, words, mood, ring, reasons: [why].filter(Boolean), hasReasons: why ? 1 : 0, counted: "line", numberOf: place => place + 2, total: lines.count, widest});
   const {x, top, rowOf, isDrawn, partsOf, drawn, each, unit} = sheet;
 
   // The calls of the rows that are drawn, each once.
@@ -62,7 +62,7 @@ export function bars({text, lines, count, fault = null, contradicts = null, caus
       `<text class="says" x="${round(x(place) - unit * 0.3)}" y="${y + 34}">${escape(fitted(line.slice(2), unit * 0.6, SMALL))}</text>`]);
   };
 
-  const capacity = full === Infinity ? "a queue that is never full" : full === most ? `a queue of ${most}` : `a queue that may be full ${full === "0" ? "at any time" : `from ${full} items on`}, and holds ${most} at most`;
+  const capacity = full === Infinity ? "a queue that is never full" : full === most ? `a queue of ${most}` : `a queue that may be full ${full === "0" ? "at any time" : `from ${full} item${full === "1" ? "" : "s"} on`}, and holds ${most} at most`;
   sheet.drawHead([capacity]);
   sheet.drawRows();
   for (const place of sheet.placesDrawn()) if (place !== fault && place !== contradicts) sheet.drawNumber(place);

@@ -20,7 +20,8 @@ PAGE = os.path.dirname(os.path.abspath(__file__))
 TOP = os.path.dirname(PAGE)
 EXAMPLES = os.path.join(TOP, "examples")
 TITLE = "Histories of safe bits"  # until the page has read its first text
-KEYS = {"left": "\ue012", "right": "\ue014", "up": "\ue013", "down": "\ue015", "escape": "\ue00c", "enter": "\ue007", "home": "\ue011", "end": "\ue010", "tab": "\ue004"}
+KEYS = {"left": "\ue012", "right": "\ue014", "up": "\ue013", "down": "\ue015", "escape": "\ue00c", "enter": "\ue007", "home": "\ue011", "end": "\ue010", "tab": "\ue004",
+        "pageup": "\ue00e", "pagedown": "\ue00f"}
 counts = {"passed": 0, "failed": 0}
 
 

@@ -5,13 +5,44 @@ export const LINKS = {trace: {named: "example", given: "trace"}, script: {named:
 
 const KINDS_OF_FILES = {".trace": "trace", ".json": "script", ".calls": "calls"};
 
+// Words of a story that it does not explain, each with what it means here; `docs/MODEL.md` has them exactly.
+const MEANS = {"safe": "of a bit: a read that no write of it overlaps answers what the bit holds; one that a write overlaps may answer 0 or 1",
+  "regular": "of a bit: a read that a write of it overlaps answers the old value or the new one",
+  "ring": "cells that are used in turn, with a count of each side that goes round",
+  "scan": "a side's reads of the other side's count, from the bit of number 0 up to the first one that answers 1",
+  "word": "an item in a cell: its binary digits, a bit each",
+  "count": "how many items a side has put or taken, modulo the modulus, as the number of the lowest bit that is 1",
+  "letter": "of a schedule: P or C, the side whose event comes next",
+  "oracle": "what reads answer that a write overlaps, in turn",
+  "s0": "the first bit of the producer's count; r0 is that of the consumer's, x the close bit, c0.0 the first digit of cell 0",
+  "linearizable": "there is an order of the operations, each at a moment within its call, that a queue allows"};
+const TERM = new RegExp(`\\b(${Object.keys(MEANS).join("|")})\\b`, "i");
+
+function termOf(words, means) {
+  const it = Object.assign(piece("span", words, "term"), {tabIndex: 0});
+  it.dataset.means = means;
+  return it;
+}
+
+// Adds words to a paragraph, each of these terms that was not told yet with its meaning.
+function addWords(it, words, told) {
+  for (let rest = words; rest;) {
+    const found = TERM.exec(rest), term = found?.[0].toLowerCase();
+    if (!found) return it.append(rest);
+    it.append(rest.slice(0, found.index));
+    it.append(told.has(term) ? found[0] : termOf(found[0], MEANS[term]));
+    told.add(term);
+    rest = rest.slice(found.index + term.length);
+  }
+}
+
 const piece = (name, text, className = "") => Object.assign(document.createElement(name), {textContent: text, className});
 
 // A paragraph of a story: what stands in backticks is code, and a link where it is the name of a lesson.
-function paragraph(text, lessons) {
+function paragraph(text, lessons, told = new Set(Object.keys(MEANS))) {
   const it = piece("p", "");
   text.split("`").forEach((words, i) => {
-    if (i % 2 === 0) return it.append(words);
+    if (i % 2 === 0) return addWords(it, words, told);
     const [, name, kind] = /^(\w+?)(\.trace|\.json|\.calls)?$/.exec(words) ?? [];
     const named = lessons.filter(it => it.name === name), lesson = named.find(it => it.mode === (KINDS_OF_FILES[kind] ?? "script")) ?? named[0];
     if (!lesson) return it.append(piece("code", words));
@@ -20,19 +51,25 @@ function paragraph(text, lessons) {
   return it;
 }
 
-// Fills the panel with lesson `at`; -1 is none.
-export function showLesson(lessons, at) {
+// Fills the panel with lesson `at`, whose text stands there or was edited; -1 is none. `step` is the step of the course that it stands for: its
+// number, of how many, with its minutes and what to say.
+export function showLesson(lessons, at, isEdited, step) {
   const $ = id => document.getElementById(id), it = lessons[at];
   $("lesson").hidden = !it;
+  $("reset").hidden = !isEdited;
   if (!it) return;
-  const name = `${it.mode} ${it.name}`;
+  const name = `${it.mode} ${it.name} ${step?.number}`;
   if ($("lesson").dataset.name === name) return;
   $("lesson").dataset.name = name;
-  $("which").textContent = `${at + 1} of ${lessons.length} · ${it.chapter}`;
+  $("which").textContent = step ? `step ${step.number + 1} of ${step.of} · minutes ${step.minutes}` : `${at + 1} of ${lessons.length} · ${it.chapter}`;
   $("name").textContent = it.name.replaceAll("_", " ");
-  $("previous").disabled = at === 0;
-  $("next").disabled = at === lessons.length - 1;
-  $("story").replaceChildren(...it.story.map(text => paragraph(text, lessons)));
+  $("previous").disabled = step ? step.number === 0 : at === 0;
+  $("next").disabled = step ? step.number === step.of - 1 : at === lessons.length - 1;
+  const told = new Set();
+  $("story").replaceChildren(...it.story.map(text => paragraph(text, lessons, told)));
+  $("means").textContent = "";
+  $("say").hidden = !step;
+  $("say").replaceChildren(...step ? paragraph(`To say: ${step.say.replaceAll("*", "")}`, lessons).childNodes : []);
   $("asked").hidden = !it.question;
   $("asked").open = false;
   $("question").replaceChildren(...paragraph(it.question, lessons).childNodes);
@@ -40,9 +77,10 @@ export function showLesson(lessons, at) {
   $("lesson").scrollTop = 0;
 }
 
-// The list of the lessons, by chapters, for a <select>.
-export function lessonOptions(lessons) {
-  const groups = new Map();
+// The list of the steps of the course and of the lessons, by chapters, for a <select>.
+export function lessonOptions(lessons, course) {
+  const groups = new Map([["Course", Object.assign(document.createElement("optgroup"), {label: "Course, an hour"})]]);
+  course.forEach((it, i) => groups.get("Course").append(new Option(`${i + 1}. ${it.name.replaceAll("_", " ")}`, `course ${i}`)));
   for (const it of lessons) {
     if (!groups.has(it.chapter)) groups.set(it.chapter, Object.assign(document.createElement("optgroup"), {label: it.chapter}));
     const twice = lessons.some(other => other.name === it.name && other.mode !== it.mode);

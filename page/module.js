@@ -14,6 +14,11 @@ const TOLD = 10 + 8 + 3 * 6; // numbers of what an audit tells: of the trace, of
 const CALLS_TOLD = 6 + 11; // numbers of what is told of recorded calls: the finding with its lines, how many bytes its words have and whether it is cut, the report
 const CAUSE_WORDS = 256; // bytes that hold the words of any cause
 const MOST_TAKEN = 65536; // items taken that the audit of recorded calls keeps
+// The rings that are nearly right, by the names of docs/FORMATS.md, in the order of the module's numbers, which begin with 1.
+export const MISSES = ["count-before-cell", "no-second-scan", "small-modulus", "clears-first", "clears-upwards"];
+// What is told of a play by one of them, by the module's numbers: the side, the kind of its call, and where it ends how.
+const TELLINGS = [["P", "put", ""], ["P", "put", "stored"], ["P", "put", "full"], ["P", "close", ""], ["P", "close", "closed"],
+  ["C", "take", ""], ["C", "take", "item"], ["C", "take", "empty"], ["C", "take", "closed"]];
 const SHAPE_FAULTS = ["", "capacity must be from 1 to 64", "modulus must be from capacity + batch + 1 to 256",
   "width must be from 1 to 64", "batch must be from 1 to capacity"];
 
@@ -75,7 +80,7 @@ export function traceOf({capacity, modulus, width, batch}, events) {
   return [shape, ...lines, ""].join("\n");
 }
 
-// Compiles the module. The answer has `audit`, `moments`, `play`, `calls` and `order`.
+// Compiles the module. The answer has `audit`, `moments`, `play`, `playNear`, `calls` and `order`.
 export async function openModule(bytes) {
   const compiled = await WebAssembly.compile(bytes);
   let exports = (await WebAssembly.instantiate(compiled)).exports;
@@ -156,25 +161,43 @@ export async function openModule(bytes) {
     return {found, put: items(put, last.put), taken: items(taken, last.taken)};
   };
 
-  // The play of the first letters of a script: {refused} or {shape, events, report, letters}, where `letters` is how
-  // many the schedule stands for. The events are told where they are wanted.
-  const play = (script, letters, isDrawn = true) => {
-    const {capacity, modulus, width, batch, items, takes, close} = script;
-    const schedule = new TextEncoder().encode(script.schedule), oracle = new TextEncoder().encode(script.oracle);
-    const room = isDrawn ? EVENTS : 0;
-    const [asked, told, itemsAt, put, taken, marks, scheduleAt, oracleAt] = lay([7 * 8, 12 * 8, items.length * 8, items.length * 8,
-      items.length * 8, room * MARK, schedule.length, oracle.length]);
+  // Lays a script of which so many letters are played, and pieces of these lengths: what a play is told of it, and where the pieces are.
+  const layScript = ({capacity, modulus, width, batch, items, takes, close, ...texts}, letters, lengths) => {
+    const schedule = new TextEncoder().encode(texts.schedule), oracle = new TextEncoder().encode(texts.oracle);
+    const [asked, itemsAt, scheduleAt, oracleAt, ...places] = lay([7 * 8, items.length * 8, schedule.length, oracle.length, ...lengths]);
     setNumbers(asked, [capacity, modulus, width, batch, takes, close ? 1 : 0, letters]);
     setNumbers(itemsAt, items);
     setBytes(scheduleAt, schedule);
     setBytes(oracleAt, oracle);
-    call("page_play", asked, itemsAt, items.length, scheduleAt, schedule.length, oracleAt, oracle.length, marks, room,
-      put, items.length, taken, items.length, told);
+    return [[asked, itemsAt, items.length, scheduleAt, schedule.length, oracleAt, oracle.length], places];
+  };
+
+  // The play of the first letters of a script: {refused} or {shape, events, report, letters}, where `letters` is how
+  // many the schedule stands for. The events are told where they are wanted.
+  const play = (script, letters, isDrawn = true) => {
+    const {capacity, modulus, width, batch, items} = script, room = isDrawn ? EVENTS : 0;
+    const [asked, [told, put, taken, marks]] = layScript(script, letters, [12 * 8, items.length * 8, items.length * 8, room * MARK]);
+    call("page_play", ...asked, marks, room, put, items.length, taken, items.length, told);
     const [outcome, number, place, shapeFault, count, putCount, takenCount, isTold, full, empty, flicker, all] = getNumbers(told, 12);
     if (outcome === 2) return {refused: scriptFault({number, place, shapeFault})};
     const report = {events: count, put: getNumbers(put, putCount), taken: getNumbers(taken, takenCount), told: isTold === 1,
       full, empty, flicker};
     return {shape: {capacity, modulus, width, batch}, events: getEvents(marks, Math.min(count, room)), report, letters: all};
+  };
+
+  // The same by the ring that is nearly right of this name: {refused} or {shape, events, told, letters, roundAt} and how many
+  // events and tellings there are. Its counts go round at `roundAt`, and `told` has each begin and end of a call, {side, kind, reply, number}: of a put that begins `number` items are stored, by one
+  // that ends so many were, and a take has this item.
+  const playNear = (name, script, letters, isDrawn = true) => {
+    const {capacity, modulus, width, batch} = script, room = isDrawn ? EVENTS : 0;
+    const [asked, [played, tellings, marks]] = layScript(script, letters, [8 * 8, room * 2 * 8, room * MARK]);
+    call("page_play_near", MISSES.indexOf(name) + 1, ...asked, marks, room, tellings, room, played);
+    const [outcome, number, place, shapeFault, count, toldCount, all, roundAt] = getNumbers(played, 8);
+    if (outcome === 2) return {refused: scriptFault({number, place, shapeFault})};
+    const numbers = getNumbers(tellings, Math.min(toldCount, room) * 2);
+    const told = Array.from({length: numbers.length / 2}, (_, i) => [...TELLINGS[numbers[2 * i]], numbers[2 * i + 1]])
+      .map(([side, kind, reply, number]) => ({side, kind, reply, number}));
+    return {shape: {capacity, modulus, width, batch}, events: getEvents(marks, Math.min(count, room)), told, toldCount, count, letters: all, roundAt};
   };
 
   // What is found of recorded calls: {refused, line}, or {words, cause, line, against, isCut, report}, where `line` is that at fault, or 0, `cause` has
@@ -205,5 +228,5 @@ export async function openModule(bytes) {
     return getNumbers(count, 1)[0];
   };
 
-  return {audit, moments, order, play, calls};
+  return {audit, moments, order, play, playNear, calls};
 }

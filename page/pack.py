@@ -21,7 +21,7 @@ FIRST = ["new_old_inversion", "plain_path", "plain"]  # what the page begins wit
 LEFT_OUT = {  # scripts of more events or letters than a picture is for; an item that JavaScript has no number for
     "a_million_idle_letters", "a_million_letters_full", "items_999", "largest_shape"}
 SCRIPTS = ["records.js", "module.js", "calls.js", "orders.js", "verdicts.js", "style.js", "sheet.js", "picture.js", "bars.js", "frame.js", "script.js", "plays.js",
-           "places.js", "lessons.js", "views.js", "page.js"]
+           "recordings.js", "places.js", "lessons.js", "views.js", "game.js", "inside.js", "page.js"]
 MODES = {"trace": ".trace", "script": ".json", "calls": ".calls"}  # what a text may be, and the ends of the names of its files
 MADE_OF = re.compile(rb'<meta name="made-of" content="([^"]*)">')
 
@@ -70,7 +70,8 @@ def stories():
     # of lawful calls their line in the table tells what they are
     for name, words in re.findall(r"^\| `(\w+)` \|.*\| lawful: (.*) \|$", text[at:], flags=re.M):
         calls[name] = [words[0].upper() + words[1:] + ".", *calls.get(name, [])]
-    return {**{(mode, name): it for name, it in runs.items() for mode in ("trace", "script")}, **{("calls", name): it for name, it in calls.items()}}
+    wrong = {("script", name.removeprefix("wrong/")): runs.pop(name) for name in [*runs] if name.startswith("wrong/")}
+    return {**{(mode, name): it for name, it in runs.items() for mode in ("trace", "script")}, **wrong, **{("calls", name): it for name, it in calls.items()}}
 
 
 def paragraphs(text):
@@ -78,9 +79,9 @@ def paragraphs(text):
     found, names = {}, []
     for part in re.sub(r"^```.*?^```$", "", text, flags=re.M | re.S).split("\n\n"):
         part = " ".join(part.split())
-        head = re.match(r"((?:\*\*\w+\*\*(?:, )?)+): ", part)
+        head = re.match(r"((?:\*\*[\w/]+\*\*(?:, )?)+): ", part)
         if head:
-            names = re.findall(r"\*\*(\w+)\*\*", head[1])
+            names = re.findall(r"\*\*([\w/]+)\*\*", head[1])
             part = part[head.end():]
         elif part.startswith(("#", "|")):
             names = []
@@ -105,9 +106,20 @@ def lessons():
     return list_
 
 
+def course():
+    """The steps of docs/COURSE.md that are lessons, in order: their minutes, the lesson, and what to say."""
+    steps, modes = [], {"example": "trace", "script": "script", "calls": "calls"}
+    with open(os.path.join(TOP, "docs", "COURSE.md"), encoding="utf-8") as file:
+        for minutes, shown, say in re.findall(r"^\| (\d+–\d+) \| (.*?) \| (.*) \|$", file.read(), flags=re.M):
+            for kind, name in re.findall(r"`#(example|script|calls)=(\w+)`", shown):
+                steps.append({"minutes": minutes, "mode": modes[kind], "name": name, "say": say})
+    return steps
+
+
 def examples():
-    """The files of the examples, and the list of their names; of recorded calls those that are lessons."""
-    told, files, names = stories(), {}, {**{mode: [] for mode in MODES}, "lessons": lessons()}
+    """The files of the examples, and the list of their names; of recorded calls those that are lessons. A script of examples/wrong names in the page
+    the ring that plays it."""
+    told, files, names = stories(), {}, {**{mode: [] for mode in MODES}, "lessons": lessons(), "course": course()}
     taught = [(it["mode"], it["name"]) for it in names["lessons"]]
     for mode, end in MODES.items():
         folder = os.path.join(EXAMPLES, "calls") if mode == "calls" else EXAMPLES
@@ -120,8 +132,23 @@ def examples():
             names[mode].append(name)
             if (mode, name) not in taught:
                 names["lessons"].append({"chapter": "More", "mode": mode, "name": name, "story": told.get((mode, name), []), "question": "", "answer": ""})
+        if mode == "script":
+            names[mode] += wrong_scripts(files)
         names[mode].sort(key=lambda name: (name not in FIRST[:1], name not in FIRST, name))
     return {"examples.json": (json.dumps(names, indent=1) + "\n").encode(), **files}
+
+
+def wrong_scripts(files):
+    """Adds the scripts of examples/wrong, each with the name of its ring; and answers their names."""
+    names = []
+    for file in sorted(os.listdir(os.path.join(EXAMPLES, "wrong"))):
+        name = file.removesuffix(".json")
+        if name != file:
+            with open(os.path.join(EXAMPLES, "wrong", file), encoding="utf-8") as data:
+                script = json.load(data)
+            files[f"examples/{file}"] = json.dumps({**script, "wrong": name.replace("_", "-")}).encode()
+            names.append(name)
+    return names
 
 
 def lay_out():
@@ -144,7 +171,7 @@ def one_file(module, made_of):
     script = "\n".join(read(name).decode() for name in SCRIPTS)
     script = re.sub(r"^import .*\n", "", script, flags=re.M)
     script = re.sub(r"^export ", "", script, flags=re.M)
-    names = re.findall(r"^(?:const|let|class|function\*?|async function) (\w+)", script, flags=re.M)
+    names = re.findall(r"^(?:const|let|class|function\*?|async function) ([\w$]+)", script, flags=re.M)
     assert len(set(names)) == len(names), "a name stands in two scripts"
     style = read("page.css").decode()
     assert not any(it in text for it in ("</script", "<!--") for text in (kept, script)) and "</" not in style

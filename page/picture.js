@@ -74,20 +74,21 @@ const ORDER = 34; // between the lanes, for the order of the operations
 const TOOTH = 5;
 
 // The picture of `events`, of which the one at place `fault` is at fault (null: none is), and the one at `broken` not of the program, in a
-// frame with room for the events `whole`. `words` is its heading, of the mood "good", "bad" or none, with that of the `ring`; `kind` and `why`
+// frame with room for the events `whole`. `found` has what is found of the calls, where that is a fault: its cause, its place and, where one contradicts
+// it, the place of that; the counts go round at `roundAt`. `words` is its heading, of the mood "good", "bad" or none, with that of the `ring`; `kind` and `why`
 // tell of the fault, `due` of what was due. `calls` are braced, with room for braces where it `hasCalls`; the operations of the `order` stand between the lanes. `waves` is "some", "all" or "none". The events have the numbers of their lines, or else `numbers`, which count what is `counted` up to `total`.
 // The style sheet is in the picture where `theme` is given.
 export function picture({shape, events, whole = events, fault = null, wholeFault = fault, broken = null, wholeBroken = broken, words, mood = "",
-  ring = null, kind = "", why = "", due = "", calls = [], hasCalls = calls.length > 0, order = [], waves = "some", counted = "line", numbers = null, total = whole.length + 1, aspect = 9 / 16, theme}) {
+  ring = null, kind = "", why = "", due = "", calls = [], hasCalls = calls.length > 0, order = [], found = null, roundAt = shape.modulus, waves = "some", counted = "line", numbers = null, total = whole.length + 1, aspect = 9 / 16, widest, theme}) {
   const {drawn: waveBits, of: wavesInAll} = wavesOf(whole, wholeFault, waves);
   const numberOf = place => numbers ? numbers[place] : place + 2;
   const up = hasCalls ? CALLS : 0, between = order.length ? ORDER : 0; // above a row, and as much below it; between its lanes
   const cBar = C_BAR + between, tallRow = ROW + between;
   const {accesses, strays} = accessesOf(events);
   const count = events.length, stop = Math.min(broken ?? Infinity, fault ?? Infinity);
-  const hasReasons = [wholeFault, wholeBroken].filter(it => it !== null).length;
+  const hasReasons = [wholeFault, wholeBroken].filter(it => it !== null).length + (found && why ? 1 : 0);
   const sheet = sheetOf({whole: whole.length, count, middle: Math.max(0, fault ?? broken ?? count - 1), tall: tallRow + 2 * up + (waveBits.length ? WAVES + waveBits.length * WAVE : 0), up,
-    lanes: {P: P_BAR, C: cBar, high: BAR, ruler: RULER}, least: LEAST, most: MOST, aspect, words, mood, ring, reasons: [why, due].filter(Boolean), hasReasons, counted, numberOf, total});
+    lanes: {P: P_BAR, C: cBar, high: BAR, ruler: RULER}, least: LEAST, most: MOST, aspect, words, mood, ring, reasons: [why, due].filter(Boolean), hasReasons, counted, numberOf, total, widest});
   const {out, each, unit, x, top, rowOf, isDrawn, partsOf} = sheet;
   const lane = side => side === "P" ? P_BAR : cBar;
   const name = side => side === "P" ? P_BAR - 7 : cBar + BAR + 18;
@@ -109,7 +110,7 @@ export function picture({shape, events, whole = events, fault = null, wholeFault
       const y = top(rowOf(place)), at = x(place);
       const [from, to] = events[place].side === "P" ? [P_BAR + BAR + 2, RULER - 12] : [RULER + 4, cBar - 2];
       ties.push(`M${at} ${y + from}V${y + to}`);
-      if (place !== fault && place !== broken) sheet.drawNumber(place);
+      if (place !== fault && place !== broken && place !== found?.place && place !== found?.against) sheet.drawNumber(place);
     }
     if (ties.length) out.push(`<path class="tie" d="${ties.join("")}"/>`);
   };
@@ -162,11 +163,12 @@ export function picture({shape, events, whole = events, fault = null, wholeFault
     });
     for (const part of partsOfCall({...call, end: until}, accesses.filter(it => it.begin < stop))) {
       for (const {y, from, to} of partsOf(part.begin, part.end)) {
-        const text = partWords(part, call, shape.modulus).find(it => it.length * 6.6 <= to - from + unit * 0.8);
+        const text = partWords(part, call, roundAt).find(it => it.length * 6.6 <= to - from + unit * 0.8);
         if (text) own.push(`<text class="part" x="${round((from + to) / 2)}" y="${y + below}">${text}</text>`);
       }
     }
-    sheet.drawGroup(`class="call" data-call="${call.begin + 2}"`, own);
+    const isOf = at => at !== null && at !== undefined && (call.begin === at || call.end === at);
+    sheet.drawGroup(`class="call${isOf(found?.place) ? " fault" : isOf(found?.against) ? " against" : ""}" data-call="${call.begin + 2}"`, own);
   };
 
   const drawWave = (bit, number) => {
@@ -192,6 +194,7 @@ export function picture({shape, events, whole = events, fault = null, wholeFault
   const drawHead = () => {
     const parts = [`capacity ${shape.capacity}`, `modulus ${shape.modulus}`, `width ${shape.width}`];
     if (shape.batch > 1) parts.push(`batch ${shape.batch}`);
+    if (roundAt !== shape.modulus) parts.push(`counts go round at ${roundAt}`);
     if (wavesInAll > MOST_WAVES) parts.push(waveBits.length < wavesInAll ? `waveforms of ${waveBits.length} of ${wavesInAll} bits` : `waveforms of all ${wavesInAll} bits`);
     sheet.drawHead(parts);
   };
@@ -217,6 +220,10 @@ export function picture({shape, events, whole = events, fault = null, wholeFault
   waveBits.forEach(drawWave);
   calls.forEach(drawCall);
   if (order.length) sheet.drawOrder(order, stop);
+  if (found?.place !== null && found?.place !== undefined) {
+    if (found.against !== null) sheet.drawAgainst(found.against);
+    sheet.drawFlag(found.place, found.cause);
+  }
   if (broken !== null) sheet.drawFlag(broken, `line ${broken + 2}: not of the program`);
   if (fault !== null) sheet.drawFlag(fault, `line ${fault + 2}: ${kind}`);
   drawLegend();

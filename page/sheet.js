@@ -15,9 +15,9 @@ export const escape = text => String(text).replace(/&/g, "&amp;").replace(/</g, 
 
 // How so many places are laid out in rows: with the widest letters with which the whole picture fits a frame of this height over width; where
 // none does, with the least. As many places in a row as fit, from `least` to `most` apart, and the rows evenly filled.
-function layout({count, tall, head, aspect, least, most}) {
+function layout({count, tall, head, aspect, least, most, widest: limit = WIDEST}) {
   let found;
-  for (let widest = NARROWEST; widest <= WIDEST; widest += 40) {
+  for (let widest = NARROWEST; widest <= limit; widest += 40) {
     const fit = Math.floor((widest - LEFT - RIGHT) / least);
     const rows = Math.max(1, Math.ceil(count / fit));
     const each = Math.max(4, Math.ceil(count / rows));
@@ -43,15 +43,15 @@ function rowsAround(rows, row, other) {
 // A sheet with room for the places `whole`, of which the first `count` are told; `middle` is one that is drawn, and so is `other` where it is
 // not null. A row is `tall`, and `up` of that lies above its lanes; `lanes` has where in the row those of P and C begin, how `high` their
 // bars are, and where the numbers stand (`ruler`). The places have the numbers that `numberOf` gives, which count what is `counted` up to
-// `total`; `words` is the heading, of the mood "good", "bad" or none, `ring` a second one, `reasons` what stands below.
-export function sheetOf({whole, count, middle, other = null, tall, up, lanes, least, most, aspect, words, mood, ring = null, reasons, hasReasons, counted, numberOf, total}) {
+// `total`, and it is no wider than `widest`; `words` is the heading, of the mood "good", "bad" or none, `ring` a second one, `reasons` what stands below.
+export function sheetOf({whole, count, middle, other = null, tall, up, lanes, least, most, aspect, words, mood, ring = null, reasons, hasReasons, counted, numberOf, total, widest}) {
   const head = HEAD + hasReasons * WHY;
-  const {rows, each, unit, width} = layout({count: whole, tall, head, aspect, least, most});
+  const {rows, each, unit, width} = layout({count: whole, tall, head, aspect, least, most, widest});
   const rowOf = place => Math.floor(place / each), drawn = rowsAround(rows, rowOf(middle), other === null ? null : rowOf(other));
   const x = place => round(LEFT + (place % each + 0.5) * unit), edge = LEFT + each * unit, right = edge + 4;
   const slots = new Map(drawn.map((row, slot) => [row, slot])), isDrawn = row => slots.has(row), top = row => head + slots.get(row) * tall + up;
   const heading = Math.max((words.length + (ring?.words ? ring.words.length + 3 : 0)) * 12.1, ...reasons.map(it => it.length * 9.1));
-  const breadth = Math.max(width, Math.ceil(LEFT + heading)), height = head + drawn.length * tall + FOOT;
+  const breadth = widest ? width : Math.max(width, Math.ceil(LEFT + heading)), height = head + drawn.length * tall + FOOT;
   const bottom = lanes.C + lanes.high, out = [];
 
   // The parts of a stretch of places, one for each row that it runs through and that is drawn.
@@ -91,17 +91,26 @@ export function sheetOf({whole, count, middle, other = null, tall, up, lanes, le
   // The places that are told and drawn.
   const placesDrawn = () => drawn.flatMap(row => Array.from({length: Math.max(0, Math.min(each, count - row * each))}, (_, i) => row * each + i));
 
+  // A line through the row at a place, and its number marked; `kind` is its class. The line begins and ends so far down in the row.
+  const drawMark = (place, kind, from, to) => {
+    if (!isDrawn(rowOf(place))) return;
+    const y = top(rowOf(place)), at = x(place), number = String(numberOf(place)), narrow = Math.max(34, number.length * 7 + 8);
+    out.push(`<path class="faultline${kind}" d="M${at} ${y + from}V${y + to}"/>`,
+      `<rect class="flag${kind}" x="${round(at - narrow / 2)}" y="${y + lanes.ruler - 12}" width="${narrow}" height="16" rx="4"/>`,
+      `<text class="line bad${kind}" x="${at}" y="${y + lanes.ruler}">${number}</text>`);
+  };
+
+  // The same of a place that contradicts one at fault.
+  const drawAgainst = place => drawMark(place, " against", lanes.P - 6, bottom + 6);
+
   // A flag over a place, or `isBelow` it, with a line through the row; `kind` is its class.
   const drawFlag = (place, words, kind = "", isBelow = false) => {
     if (!isDrawn(rowOf(place))) return;
-    const y = top(rowOf(place)), at = x(place), wide = words.length * 8.5 + 20, number = String(numberOf(place));
-    const from = round(Math.max(LEFT - 10, Math.min(at - wide / 2, edge + 10 - wide))), narrow = Math.max(34, number.length * 7 + 8);
-    const flag = isBelow ? y + bottom + 12 : y + 2;
-    out.push(`<path class="faultline${kind}" d="M${at} ${isBelow ? y + lanes.P - 6 : y + 20}V${isBelow ? flag : y + bottom + 6}"/>`,
-      `<rect class="flag${kind}" x="${from}" y="${flag}" width="${wide}" height="22" rx="4"/>`,
-      `<text class="flagwords${kind}" x="${from + 10}" y="${flag + 16}">${escape(words)}</text>`,
-      `<rect class="flag${kind}" x="${round(at - narrow / 2)}" y="${y + lanes.ruler - 12}" width="${narrow}" height="16" rx="4"/>`,
-      `<text class="line bad${kind}" x="${at}" y="${y + lanes.ruler}">${number}</text>`);
+    const y = top(rowOf(place)), wide = words.length * 8.5 + 20, from = round(Math.max(LEFT - 10, Math.min(x(place) - wide / 2, edge + 10 - wide)));
+    const flag = isBelow ? bottom + 12 : 2;
+    out.push(`<rect class="flag${kind}" x="${from}" y="${y + flag}" width="${wide}" height="22" rx="4"/>`,
+      `<text class="flagwords${kind}" x="${from + 10}" y="${y + flag + 16}">${escape(words)}</text>`);
+    drawMark(place, kind, isBelow ? lanes.P - 6 : 20, isBelow ? flag : bottom + 6);
   };
 
   // The operations before the place `until` stand on a line between the lanes, each where it takes effect, with a tick to the lane of its side.
@@ -142,5 +151,5 @@ export function sheetOf({whole, count, middle, other = null, tall, up, lanes, le
       + `${style}\n<rect class="bg" width="${breadth}" height="${height}"/>\n${out.join("\n")}\n</svg>\n`;
   };
 
-  return {out, each, unit, drawn, x, top, rowOf, isDrawn, partsOf, placesDrawn, drawGroup, drawRows, drawNumber, drawFlag, drawOrder, drawHead, drawLegend, textOfSheet};
+  return {out, each, unit, drawn, x, top, rowOf, isDrawn, partsOf, placesDrawn, drawGroup, drawRows, drawNumber, drawAgainst, drawFlag, drawOrder, drawHead, drawLegend, textOfSheet};
 }

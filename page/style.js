@@ -22,7 +22,7 @@ const FORMS = `
 .ring .asks{font-size:12.5px;font-weight:600;text-anchor:middle}.ring .says{font-size:11.5px;text-anchor:middle}
 .ring .break{stroke-width:2;stroke-dasharray:2 8}
 .ring .order{stroke-width:1.5}.ring .operation path{fill:none;stroke-width:1.5}
-.ring .call path{fill:none;stroke-width:1.5}.ring .callwords{font-size:12.5px;font-weight:600;text-anchor:middle}.ring .part,.ring .effect{font-size:11px;text-anchor:middle}`;
+.ring .call path{fill:none;stroke-width:1.5}.ring .call.fault path,.ring .call.against path{stroke-width:3}.ring .callwords{font-size:12.5px;font-weight:600;text-anchor:middle}.ring .part,.ring .effect{font-size:11px;text-anchor:middle}`;
 
 function paints(it) {
   const families = ["s", "r", "x", "c"].map(name => `.ring .${name} text,.ring text.${name}{fill:${it[name]}}`
@@ -35,7 +35,7 @@ function paints(it) {
 ${families}
 .ring .write .digit{fill:${it.bg}}.ring .read.free path{fill:${it.may};fill-opacity:${it.shade}}
 .ring .underway{fill:${it.may};fill-opacity:${it.shade};stroke:${it.may}}.ring .becomes{fill:${it.mayInk}}
-.ring .call path,.ring .order,.ring .operation path{stroke:${it.dim}}.ring .operation circle{fill:${it.ink}}.ring .part,.ring .effect{fill:${it.dim}}
+.ring .call path,.ring .order,.ring .operation path{stroke:${it.dim}}.ring .call.against path{stroke:${it.mayInk}}.ring .call.fault .callwords{fill:${it.bad}}.ring .operation circle{fill:${it.ink}}.ring .part,.ring .effect{fill:${it.dim}}
 .ring .verdict.good,.ring tspan.good{fill:${it.good}}.ring .verdict.bad,.ring .title.bad,.ring tspan.bad{fill:${it.bad}}.ring tspan.dim{fill:${it.dim}}
 .ring .bar .asks{fill:${it.ink}}.ring .break{stroke:${it.dim}}
 .ring .bar.against path,.ring .faultline.against{stroke:${it.mayInk}}.ring .fault path,.ring .faultline{stroke:${it.bad}}.ring .fault .bit,.ring .read.fault .digit{fill:${it.bad}}

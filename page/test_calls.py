@@ -286,9 +286,9 @@ def test_million(page, same, folder):
         page.browser.press("left")
         stepped = time.time() - began
         same(f"{name}: one back", words(page, "bits"), "calls: lawful" if lines is far else f"calls: {finding}")
+        number = int(page.browser.run("return document.querySelector('#picture [data-line]').dataset.line"))
         page.browser.run("document.querySelector('#picture [data-line]').dispatchEvent(new MouseEvent('click', {bubbles: true}))")
         selected = page.browser.run("const it = document.getElementById('text'); return it.value.slice(it.selectionStart, it.selectionEnd)")
-        number = int(page.browser.run("return document.querySelector('#picture [data-line]').dataset.line"))
         same(f"{name}: the line of a bar", selected, lines[number - 1])
         print(f"{name}: {len(lines)} lines opened in {took:.1f} s, a step {stepped:.1f} s")
         same(f"{name}: within {SLOW} s", [took < SLOW, stepped < SLOW], [True, True])

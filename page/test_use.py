@@ -124,7 +124,7 @@ def test_lessons(page, same, _):
          sorted((mode, it) for mode in pack.MODES for it in names[mode]))
     chapters = list(dict.fromkeys(it["chapter"] for it in lessons))
     same("chapters", chapters, ["A safe bit", "The unary register", "A put and a take", "A count while it is written", "The close", "Several items at once", "Rings that are wrong",
-                                "A modulus one too small", "Recorded calls"])
+                                "Played by rings that are wrong", "A modulus one too small", "Recorded calls"])
     page.open("")
     for at, it in enumerate(lessons):
         page.browser.until(f"lesson {at + 1}", "return document.getElementById('example').value === arguments[0]", f"{it['mode']} {it['name']}")
@@ -143,6 +143,8 @@ def test_lessons(page, same, _):
     page.click("previous")
     page.browser.until("the one before", "return document.getElementById('which').textContent.startsWith(arguments[0])", f"{len(lessons) - 1} ")
     page.write("shape 1 3 1\n")
+    same("a lesson stays beside its text as it is edited", [seen(page, "lesson"), seen(page, "reset")], [True, True])
+    page.open("trace=shape+1+3+1%0A")
     same("no lesson beside an own text", seen(page, "lesson"), False)
 
 

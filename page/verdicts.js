@@ -3,8 +3,9 @@
 // The verdict of the audit of programs: {words, mood}. A trace whose first event is of no program shows bits alone, and no ring.
 export function ringVerdict({isRun, kind, place}) {
   if (isRun) return {words: "ring: follows the programs", mood: "good"};
-  if (kind !== "not of the program") return {words: place ? `ring: follows the programs up to line ${place + 1}` : "", mood: "dim"};
-  return {words: `ring: line ${place + 2} is not of the program`, mood: place ? "bad" : "dim"};
+  if (place === 0) return {words: "", mood: "dim"};
+  if (kind !== "not of the program") return {words: `ring: follows the programs up to line ${place + 1}`, mood: "dim"};
+  return {words: `ring: line ${place + 2} is not of the program`, mood: "bad"};
 }
 
 // Why the bits do not permit the event at fault: the access of its side that is open, or that none is; or what its bit holds, and since which line.

@@ -8,8 +8,9 @@ import { traceOf } from "./module.js";
 import { effectsOf, effectsOfRun } from "./orders.js";
 import { picture } from "./picture.js";
 import { lettersOf, momentsOf } from "./plays.js";
+import { callsTold, recordingOf, repliesOf, tellingsOf } from "./recordings.js";
 import { CUT, callsFor, capacityIn, lineWords, linesOf, reportRows } from "./records.js";
-import { readScript } from "./script.js";
+import { firstLetters, readScript } from "./script.js";
 import { breakOf, dueOf, ringVerdict, whyOf } from "./verdicts.js";
 
 // What an event is, and what the module tells of the moment just after it, where it tells of it.
@@ -21,9 +22,25 @@ function stepWords({side, act, bit, value, held, overlapped, clashes}, where, is
   return act === "wrote" ? `${words}, ${bit} holds ${held}` : words;
 }
 
+// Whether a trace shows a ring: one whose first event is of no program, as its beginnings too, shows bits alone.
+const showsRing = ({programs}) => programs.isRun || programs.place > 0;
+
+// How many events a play has, and how many of its reads a write overlapped, each of which had an answer of the oracle.
+const countOf = ({report, count}) => report?.events ?? count;
+const flickersOf = ({events}) => events.filter(it => it.act === "got" && it.overlapped).length;
+
 // The picture of a history of bits.
-const drawingOf = (whole, it, waves) => ({draw: picture, ...it, whole: whole.events, wholeFault: whole.place ?? null, wholeBroken: breakOf(whole), waves,
-  calls: callsUntil(whole.calls, it.events.length), hasCalls: whole.calls.length > 0, order: whole.order});
+const drawingOf = (whole, it, waves) => ({draw: picture, ...it, why: it.found?.cause ? it.found.words : it.why, whole: whole.events, wholeFault: whole.place ?? null, wholeBroken: whole.script ? null : breakOf(whole), waves,
+  calls: callsUntil(whole.calls, it.events.length), hasCalls: whole.calls.length > 0, order: whole.order, roundAt: whole.roundAt});
+
+// What is found of the calls of a play, told of letters in place of lines: the words, the places of the event at fault and of the one that
+// contradicts it, and what was found; nothing where no call is told.
+function callsFound(module, {calls, shape, numbers}, count) {
+  if (!calls.length) return null;
+  const {text, places} = recordingOf(calls, shape.capacity, count), {words, cause, line, against} = module.calls(text);
+  const byLetters = it => it.replace(/line (\d+)/g, (_, line) => `letter ${numbers[places[line]]}`);
+  return {words: `calls: ${byLetters(words)}`, mood: line ? "bad" : "good", cause: line ? byLetters(cause) : "", place: line ? places[line] : null, against: against ? places[against] : null};
+}
 
 export function viewsOf(module) {
   // The calls of the first events of a trace, which are of the programs.
@@ -43,7 +60,7 @@ export function viewsOf(module) {
       for (let line = 0; line < shown; line++) past = whole.text.indexOf("\n", past + 1);
       const it = shown < whole.events.length ? module.audit(whole.text.slice(0, past + 1)) : whole;
       const broken = breakOf(it), line = Math.min(it.place ?? Infinity, broken ?? Infinity) + 2;
-      return {...it, words: `bits: ${it.words}`, why: whyOf(it), ring: ringVerdict(it.programs), due: dueOf(it), fault: it.place, broken,
+      return {...it, words: `bits: ${it.words}`, why: whyOf(it), ring: ringVerdict(showsRing(whole) ? it.programs : whole.programs), due: dueOf(it), fault: it.place, broken,
         mood: it.place === null ? "good" : "bad", line: line === Infinity ? 0 : line,
         step: shown ? stepWords(it.events[shown - 1], `line ${shown + 1}`, it.place === null || shown - 1 < it.place) : ""};
     },
@@ -52,31 +69,54 @@ export function viewsOf(module) {
     rows: () => [],
   };
 
+  // The play of a script's first letters, by the ring or by the one that is nearly right which it names.
+  const playOf = script => (letters, isDrawn = true) => script.wrong ? module.playNear(script.wrong, script, letters, isDrawn) : module.play(script, letters, isDrawn);
+
+  // The calls of a play, and its replies.
+  function toldOf(script, play, all, numbers) {
+    if (script.wrong) {
+      const calls = callsTold(tellingsOf(letters => play(letters, false), all), script);
+      return {calls, moments: repliesOf(calls, numbers)};
+    }
+    const offered = it => it.kind === "put" ? {...it, offered: script.items.slice(it.past, it.past + script.batch)} : it;
+    return {calls: callsIn(traceOf(all.shape, all.events), all.events, all.events.length).map(offered), moments: momentsOf(letters => play(letters, false).report, all)};
+  }
+
   const script = {
     read(text) {
       const {script, refused} = readScript(text);
       if (refused) return {refused};
-      const none = module.play(script, 0);
+      const play = playOf(script), none = play(0);
       if (none.refused) return none;
-      const all = module.play(script, none.letters);
+      const all = play(none.letters);
       if (all.refused) return all;
-      const calls = callsIn(traceOf(all.shape, all.events), all.events, all.events.length);
-      return {...all, script, numbers: lettersOf(script.schedule, all.events), calls, order: effectsOfRun(calls, all.shape, module.order),
-        moments: momentsOf(letters => module.play(script, letters, false).report, all)};
+      const numbers = lettersOf(script.schedule, all.events), {calls, moments} = toldOf(script, play, all, numbers);
+      return {...all, script, play, numbers, calls, moments, order: effectsOfRun(calls, all.shape, module.order)};
     },
     most: whole => whole.letters,
     at(whole, shown) {
-      const it = shown < whole.letters ? module.play(whole.script, shown) : whole, last = it.events.length - 1;
+      const it = shown < whole.letters ? whole.play(shown) : whole, last = it.events.length - 1, {script} = whole;
       const step = whole.numbers[last] === shown ? stepWords(it.events[last], `letter ${shown}`, true) : shown ? `letter ${shown}: no event, its side is done` : "";
-      return {...it, fault: null, mood: "", line: 0, words: `played ${shown} of ${whole.letters} letters`,
+      const programs = script.wrong ? module.audit(traceOf(it.shape, it.events)).programs : null, found = callsFound(module, whole, it.events.length);
+      const ring = programs && !programs.isRun ? {words: `ring: letter ${whole.numbers[programs.place]} is not of the program`, mood: "dim"} : {words: "ring: follows the programs", mood: "good"};
+      return {...it, fault: null, mood: "", line: 0, words: `played ${shown} of ${whole.letters} letter${whole.letters === 1 ? "" : "s"}`, ring, found,
         counted: "letter", numbers: whole.numbers, total: whole.letters, step};
     },
     drawing: drawingOf,
     place: (whole, shown) => `letter ${shown} / ${whole.letters}`,
-    rows: ({report}) => [["put", report.put.join(" "), "the items of puts whose count write has begun"], ["taken", report.taken.join(" "), "the items of takes that have ended"],
+    rows: ({report}) => report ? [["put", report.put.join(" "), "the items of puts whose count write has begun"], ["taken", report.taken.join(" "), "the items of takes that have ended"],
       ["told", report.told ? "yes" : "no", "whether a take was told that the ring is closed"],
       ["full", report.full, "puts that found the ring full"], ["empty", report.empty, "takes that found the ring empty"],
-      ["events", report.events, "of the history"], ["flicker", report.flicker, "reads that ended and that a write overlapped"]],
+      ["events", report.events, "of the history"], ["flicker", report.flicker, "reads that ended and that a write overlapped"]] : [],
+    // What each side does with one letter more behind the first `shown`: its event, and whether a write overlaps the read that it ends, so that the
+    // oracle answers it; null where the side is done.
+    nexts({script}, shown) {
+      const before = playOf(script)(shown, false), next = side => {
+        const it = playOf({...script, schedule: firstLetters(script.schedule, shown, side)})(shown + 1);
+        return it.refused || it.events.length === countOf(before) ? null : it.events.at(-1);
+      };
+      return {P: next("P"), C: next("C"), answers: flickersOf(playOf(script)(shown))};
+    },
   };
 
   const calls = {

@@ -1,6 +1,6 @@
 -- A play by a near miss, with one letter more.
-use Rattle.std.proofs.Common.{◌≡◌, ◌∙◌, inl, inr, ℕ, ◌+◌, ◌<◌, length, replicate, take, Bool, true, false, Option, Some, None, List, [], ◌∷◌, ◌++◌, refl, ap, sym, subst, append_assoc, append-nil, ap₂, zero-add}
-use Rattle.std.specs.Prelude.{if◌then◌else◌, slice_get, slice_index_or}
+use Rattle.std.proofs.Common.{◌≡◌, ◌∙◌, inl, inr, ℕ, Bool, true, false, Option, Some, None, List, [], ◌∷◌, ◌++◌, refl, ap, sym, subst, append_assoc, append-nil, ap₂, zero-add}
+use Rattle.std.specs.Prelude.{if◌then◌else◌, slice_get}
 use Rattle.bits_core.specs.Lawful.{IsLawful}
 use Rattle.bits_core.specs.Memory.{MemoryState, unused}
 use Rattle.bits_core.specs.Oracle.{tape_answer, turn}
@@ -9,9 +9,6 @@ use Rattle.ring_player.specs.Actors.{IsAtTurn}
 use Rattle.ring_player.specs.Laws.{TurnsAreByInterval}
 use Rattle.ring_script.specs.Content.{Content}
 use Rattle.near_misses.specs.declared.plays.NearWorld.{NearWorld}
-use Rattle.std.proofs.lemmas.List.{take_more}
-use Rattle.ring_script.specs.Schedule.{spelled}
-use Rattle.ring_script.specs.declared.schedules.Run.{Run}
 use Rattle.bits_core.specs.declared.events.Access.{Access}
 use Rattle.bits_core.specs.declared.events.Act.{Act}
 use Rattle.bits_core.specs.declared.events.Act.TheVariants.{ReadBegin, ReadEnd, WriteBegin, WriteEnd}
@@ -22,7 +19,7 @@ use Rattle.bits_core.specs.declared.events.Side.TheVariants.{P, C}
 use Rattle.bits_core.specs.Bits.{begun_access, begun_by, is_by, other}
 use Rattle.bits_core.specs.History.{open_access}
 use Rattle.bits_core.specs.Laws.{OpenChanges}
-use Rattle.near_misses.specs.NearPlays.{IsNearPlay, NearAsked, NearBegins, NearEnds, NearMakes, NearStand, NearStands, NearStep, NearStops, asked_by_script, near_stand_of, near_start, near_starts, near_stopped, with_near_stand}
+use Rattle.near_misses.specs.NearPlays.{IsNearPlay, NearAsked, NearBegins, NearEnds, NearMakes, NearStand, NearStands, NearStep, NearStops, asked_by_script, near_stand_of, near_start, near_stopped, with_near_stand}
 use Rattle.near_misses.specs.NearSides.{IsAskedToPut, IsAskedToTake, IsInOpenCall, IsNearReady, NearHas, NearMoves, put_stand, take_stand}
 use Rattle.ring_player.specs.Tellings.{listed}
 use Rattle.ring_player.specs.declared.tellings.Told.{Told}
@@ -161,26 +158,6 @@ ends_with_item asked before mid after item t same ends =
     by_told (Some TakeEmpty) x = x
     by_told (Some TakeClosed) x = x
 
--- ---- the letters of the first runs, and of one more
-
-spelled-append : (xs ys : List Run) → spelled (xs ++ ys) ≡ spelled xs ++ spelled ys
-unfolding spelled
-spelled-append [] ys = refl
-spelled-append (x ∷ xs) ys = ap (λ l. replicate x.count x.side ++ l) (spelled-append xs ys) ∙ sym (append_assoc (replicate x.count x.side) (spelled xs) (spelled ys))
-
-spelled-one : (x : Run) → spelled (x ∷ []) ≡ replicate x.count x.side
-unfolding spelled
-spelled-one x = append-nil (replicate x.count x.side)
-
-pub spelled-more :
-    (xs : List Run) (i : ℕ) (d : Run) → i < length xs → spelled (take (i + 1) xs) ≡ spelled (take i xs) ++ replicate (slice_index_or xs i d).count (slice_index_or xs i d).side
-spelled-more xs i d l =
-    ap spelled (take_more xs i d l) ∙ spelled-append (take i xs) (slice_index_or xs i d ∷ []) ∙ ap (λ t. spelled (take i xs) ++ t) (spelled-one (slice_index_or xs i d))
-
-pub spelled-none : spelled [] ≡ []
-unfolding spelled
-spelled-none = refl
-
 -- ---- at the begin and at the end
 
 none_opens : (s : Side) (h : List Event) (stand : NearStand) → h ≡ [] → IsInOpenCall s h stand
@@ -199,8 +176,8 @@ turns_begin turns answers h none same = subst (λ (x : List Event). IsAtTurn tur
     no_place : (place : ℕ) (e : Event) → slice_get [] place ≡ Some e → ⊥
     no_place place e at = absurd (cc)
 
-pub ready_at_first : {A : Type 0} (w : NearWorld A) (shape : Shape) → w.memory ≡ unused shape 0 → w.putter.shape ≡ shape → w.taker.shape ≡ shape → IsNearReady w
-ready_at_first w shape fresh put_is take_is =
+pub ready_at_first : {E T : Type 0} (w : NearWorld E T) (shape : Shape) (room : ℕ) → w.memory ≡ unused shape room → w.putter.shape ≡ shape → w.taker.shape ≡ shape → IsNearReady w
+ready_at_first w shape room fresh put_is take_is =
     let none : w.memory.events ≡ [] = ap (λ (m : MemoryState). m.events) fresh in
     let shape_is : w.memory.shape ≡ shape = ap (λ (m : MemoryState). m.shape) fresh in
     record {
@@ -210,25 +187,25 @@ ready_at_first w shape fresh put_is take_is =
       take_open = none_opens C w.memory.events (take_stand w.taker) none;
     }
 
-pub has_at_first : {A : Type 0} (w : NearWorld A) (shape : Shape) (asked : NearAsked) (oracle : List Bool) → w.memory ≡ unused shape 0 → w.told.items ≡ []
+pub has_at_first : {E T : Type 0} (items : T → List Told) (w : NearWorld E T) (shape : Shape) (room : ℕ) (asked : NearAsked) (oracle : List Bool) → w.memory ≡ unused shape room → items w.told ≡ []
     → put_stand w.putter ≡ near_start → take_stand w.taker ≡ near_start → IsAskedToPut w.putter asked → IsAskedToTake w.taker asked
-    → ((i : ℕ) → tape_answer w.oracle i ≡ turn oracle i) → NearHas asked (spelled []) oracle w
-has_at_first w shape asked oracle fresh untold put_is take_is to_put to_take same =
+    → ((i : ℕ) → tape_answer w.oracle i ≡ turn oracle i) → NearHas items asked [] oracle w
+has_at_first items w shape room asked oracle fresh untold put_is take_is to_put to_take same =
     let none : w.memory.events ≡ [] = ap (λ (m : MemoryState). m.events) fresh in
-    subst (λ (letters : List Side). NearHas asked letters oracle w) (sym spelled-none) (record {
+    record {
       asked_put = to_put;
       asked_take = to_take;
       made = (none, untold, ap₂ (λ (p : NearStand) (t : NearStand). record { putting = p; taking = t }) put_is take_is);
       turns = turns_begin (turn oracle) (tape_answer w.oracle) w.memory.events none same;
-    })
+    }
 
-pub near_play : {A : Type 0} (w : NearWorld A) (script : Content) (letters : List Side) (h : List Event) → TurnsAreByInterval → w.memory.shape ≡ script.shape → h ≡ w.memory.events
-    → IsLawful w.memory.shape w.memory.events → letters ≡ script.letters → NearHas (asked_by_script script) letters script.oracle w → IsNearPlay script h w.told.items
-near_play w script letters h law shape_is h_is lawful all has =
+pub near_play : {E T : Type 0} (items : T → List Told) (w : NearWorld E T) (script : Content) (letters : List Side) (h : List Event) → TurnsAreByInterval → w.memory.shape ≡ script.shape
+    → h ≡ w.memory.events → IsLawful w.memory.shape w.memory.events → NearHas items (asked_by_script script) letters script.oracle w → IsNearPlay script letters h (items w.told)
+near_play items w script letters h law shape_is h_is lawful has =
     let lawful_here : IsLawful script.shape w.memory.events = subst (λ (s : Shape). IsLawful s w.memory.events) shape_is lawful in
-    subst (λ (x : List Event). IsNearPlay script x w.told.items) (sym h_is) (record {
+    subst (λ (x : List Event). IsNearPlay script letters x (items w.told)) (sym h_is) (record {
       lawful = lawful_here;
       stands = _;
-      made = subst (λ (x : List Side). NearMakes (asked_by_script script) near_starts x w.memory.events w.told.items (record { putting = put_stand w.putter; taking = take_stand w.taker })) all has.made;
+      made = has.made;
       answers = law script.shape w.memory.events script.oracle (tape_answer w.oracle) lawful_here has.turns;
     })

@@ -105,9 +105,9 @@ NearMakes asked n (s ∷ letters) h told after =
     × ((near_stand_of s n).stopped ≡ false) × NearStep asked s (near_stand_of s n) e.act e.bit t next × NearMakes asked (with_near_stand s next n) letters later others after)
     ⊎ (NearStops asked s (near_stand_of s n) × NearMakes asked (with_near_stand s (near_stopped (near_stand_of s n)) n) letters h told after)
 
--- a play by a near miss
-pub record IsNearPlay (script : Content) (h : List Event) (told : List Told) : Type 0 where
+-- a play of these letters by a near miss
+pub record IsNearPlay (script : Content) (letters : List Side) (h : List Event) (told : List Told) : Type 0 where
   pub lawful : IsLawful script.shape h
   pub stands : NearStands
-  pub made : NearMakes (asked_by_script script) near_starts script.letters h told stands
+  pub made : NearMakes (asked_by_script script) near_starts letters h told stands
   pub answers : AreInTurn script.oracle h

@@ -69,15 +69,15 @@ abbrev pub IsInOpenCall : Side → List Event → NearStand → Type 0
 IsInOpenCall s h stand = (access : Access) → open_access s h ≡ Some access → (stand.in_call ≡ true) × (stand.stopped ≡ false)
 
 -- both sides can go on
-pub record IsNearReady {A : Type 0} (w : NearWorld A) : Type 0 where
+pub record IsNearReady {E T : Type 0} (w : NearWorld E T) : Type 0 where
   pub put_shape : w.putter.shape ≡ w.memory.shape
   pub take_shape : w.taker.shape ≡ w.memory.shape
   pub put_open : IsInOpenCall P w.memory.events (put_stand w.putter)
   pub take_open : IsInOpenCall C w.memory.events (take_stand w.taker)
 
--- these letters have made what both sides have done, and the oracle goes on from there
-pub record NearHas {A : Type 0} (asked : NearAsked) (letters : List Side) (oracle : List Bool) (w : NearWorld A) : Type 0 where
+-- These letters have made what both sides have done, with what a list that is told has, and the oracle goes on from there.
+pub record NearHas {E T : Type 0} (items : T → List Told) (asked : NearAsked) (letters : List Side) (oracle : List Bool) (w : NearWorld E T) : Type 0 where
   pub asked_put : IsAskedToPut w.putter asked
   pub asked_take : IsAskedToTake w.taker asked
-  pub made : NearMakes asked near_starts letters w.memory.events w.told.items (record { putting = put_stand w.putter; taking = take_stand w.taker })
+  pub made : NearMakes asked near_starts letters w.memory.events (items w.told) (record { putting = put_stand w.putter; taking = take_stand w.taker })
   pub turns : IsAtTurn (turn oracle) w.memory.events (tape_answer w.oracle)

@@ -1,5 +1,5 @@
 //! A script, played by a near miss.
-ghost use Rattle.std.specs.Prelude.{◌≡◌, ℕ, Bool, true, false, Some, None, List, [], ◌∷◌, ◌++◌, IfOk, OnOk, replicate};
+ghost use Rattle.std.specs.Prelude.{◌≡◌, ◌⊎◌, ℕ, ◌+◌, ◌<◌, ◌≤◌, Bool, true, false, Some, None, List, [], ◌∷◌, ◌++◌, IfOk, OnErr, OnOk, length, min, replicate, take};
 ghost use Rattle.bits_core.specs.History.{open_access};
 ghost use Rattle.bits_core.specs.Lawful.{IsLawful};
 ghost use Rattle.bits_core.specs.Made.{opening_event};
@@ -11,15 +11,16 @@ ghost use Rattle.near_misses.specs.NearPlays.{IsNearPlay, NearAsked};
 ghost use Rattle.near_misses.specs.NearSides.{IsInOpenCall, IsNearReady, NearHas, NearMoves, ended_event};
 ghost use Rattle.ring_player.specs.Actors.{IsAtTurn};
 ghost use Rattle.ring_player.specs.Tellings.{listed};
+ghost use Rattle.ring_script.specs.Borrowed.{content_of};
 
 use crate::misses::NearMiss;
 use crate::putting::NearPutter;
 use crate::taking::NearTaker;
 use bits_core::laws::open_changes;
-use bits_core::{Access, Event, Memory, MemoryFault, Oracle, Side, Tape};
+use bits_core::{Access, Event, Memory, MemoryFault, Oracle, Side, Store, Tape};
 use ring_player::Told;
 use ring_player::laws::{turns_are_by_interval, turns_go_on};
-use ring_script::Script;
+use ring_script::{Script, ScriptRef};
 use std::alloc::{AllocError, AllocFailed, Allocator};
 use thiserror::Error;
 
@@ -66,9 +67,9 @@ impl From<MemoryFault> for NearFault {
 ///
 /// In use: `lamport_ring play --wrong`.
 #[derive(Drop)]
-pub struct NearPlay<A: Allocator> {
-    pub history: Vec<Event, A>,
-    pub told: Vec<Told, A>,
+pub struct NearPlay<E: Store<Event>, T: Store<Told>> {
+    pub history: E,
+    pub told: T,
 }
 
 // One side at work.
@@ -163,8 +164,8 @@ impl NearSide for NearTaker {
 
 // Begins the access, where it is of a bit of the shape by the side that may. (No near miss asks for another; that is looked at as it
 // plays, and not proved.)
-fn begin<A: Allocator>(
-    memory: &mut Memory<Vec<Event, A>>,
+fn begin<E: Store<Event>>(
+    memory: &mut Memory<E>,
     side: Side,
     access: Access,
 ) -> Result<bool, NearFault>
@@ -172,6 +173,9 @@ fn begin<A: Allocator>(
     ensures shape { memory.new.shape ≡ memory.old.shape }
     ensures began { IfOk result (λ began. began ≡ true → memory.new.events ≡ memory.old.events ++ opening_event side access ∷ []) }
     ensures refused { IfOk result (λ began. began ≡ false → (memory.new ≡ memory.old) × ¬ IsOpenRight memory.old.shape side access) }
+    ensures room { memory.new.room ≡ memory.old.room }
+    ensures few { length memory.new.events ≤ length memory.old.events + 1 }
+    ensures full { OnErr result (memory.old.room ≤ length memory.old.events) }
 {
     match access {
         Access::Read(bit) => {
@@ -191,8 +195,8 @@ fn begin<A: Allocator>(
 }
 
 // Ends this access, which the side has open. A write answers nothing, told as 0.
-fn end<A: Allocator, O: Oracle>(
-    memory: &mut Memory<Vec<Event, A>>,
+fn end<E: Store<Event>, O: Oracle>(
+    memory: &mut Memory<E>,
     side: Side,
     access: Access,
     oracle: &mut O,
@@ -200,6 +204,9 @@ fn end<A: Allocator, O: Oracle>(
     requires { open_access side memory.old.events ≡ Some access }
     ensures shape { memory.new.shape ≡ memory.old.shape }
     ensures ended { IfOk result (λ answer. memory.new.events ≡ memory.old.events ++ ended_event side access answer ∷ []) }
+    ensures room { memory.new.room ≡ memory.old.room }
+    ensures few { length memory.new.events ≤ length memory.old.events + 1 }
+    ensures full { OnErr result (memory.old.room ≤ length memory.old.events) }
     ensures turns { OnOk result ((turns : ℕ → Bool) → IsAtTurn turns memory.old.events (O.answers oracle.old) → IsAtTurn turns memory.new.events (O.answers oracle.new)) }
 {
     turns_go_on();
@@ -213,8 +220,8 @@ fn end<A: Allocator, O: Oracle>(
 }
 
 // Begins the next access of a side, or has it stop.
-fn go_on<A: Allocator, S: NearSide>(
-    memory: &mut Memory<Vec<Event, A>>,
+fn go_on<E: Store<Event>, S: NearSide>(
+    memory: &mut Memory<E>,
     machine: &mut S,
     side: Side,
 ) -> Result<Option<Told>, NearFault>
@@ -225,6 +232,9 @@ fn go_on<A: Allocator, S: NearSide>(
     ensures asked { (a : NearAsked) → S.asked machine.old a → S.asked machine.new a }
     ensures moves { IfOk result (λ told. (a : NearAsked) → S.asked machine.old a → NearMoves a side memory.old.events (S.stand machine.old) told memory.new.events (S.stand machine.new)) }
     ensures turns { OnOk result ((turns answers : ℕ → Bool) → IsAtTurn turns memory.old.events answers → IsAtTurn turns memory.new.events answers) }
+    ensures room { memory.new.room ≡ memory.old.room }
+    ensures few { length memory.new.events ≤ length memory.old.events + 1 }
+    ensures full { OnErr result (memory.old.room ≤ length memory.old.events) }
 {
     turns_go_on();
     let Some((access, told)) = machine.next() else {
@@ -239,8 +249,8 @@ fn go_on<A: Allocator, S: NearSide>(
 }
 
 // One step of a side, and what its event tells, if any.
-fn step<A: Allocator, S: NearSide, O: Oracle>(
-    memory: &mut Memory<Vec<Event, A>>,
+fn step<E: Store<Event>, S: NearSide, O: Oracle>(
+    memory: &mut Memory<E>,
     machine: &mut S,
     oracle: &mut O,
     side: Side,
@@ -252,6 +262,9 @@ fn step<A: Allocator, S: NearSide, O: Oracle>(
     ensures asked { (a : NearAsked) → S.asked machine.old a → S.asked machine.new a }
     ensures moves { IfOk result (λ told. (a : NearAsked) → S.asked machine.old a → NearMoves a side memory.old.events (S.stand machine.old) told memory.new.events (S.stand machine.new)) }
     ensures turns { OnOk result ((turns : ℕ → Bool) → IsAtTurn turns memory.old.events (O.answers oracle.old) → IsAtTurn turns memory.new.events (O.answers oracle.new)) }
+    ensures room { memory.new.room ≡ memory.old.room }
+    ensures few { length memory.new.events ≤ length memory.old.events + 1 }
+    ensures full { OnErr result (memory.old.room ≤ length memory.old.events) }
 {
     let Some(access) = memory.pending(side) else {
         return go_on(memory, machine, side);
@@ -261,32 +274,42 @@ fn step<A: Allocator, S: NearSide, O: Oracle>(
 }
 
 // Tells what an event tells, if anything.
-fn tell<A: Allocator>(told: &mut Vec<Told, A>, event: Option<Told>) -> Result<(), NearFault>
-    ensures { OnOk result (told.new.items ≡ told.old.items ++ listed event) }
+fn tell<T: Store<Told>>(told: &mut T, event: Option<Told>) -> Result<(), NearFault>
+    ensures told { OnOk result (T.items told.new ≡ T.items told.old ++ listed event) }
+    ensures room { T.room told.new ≡ T.room told.old }
+    ensures few { OnOk result (length (T.items told.new) ≤ length (T.items told.old) + 1) }
+    ensures full { OnErr result (T.room told.old ≤ length (T.items told.old)) }
 {
     match event {
-        Some(event) => Ok(told.push(event)?),
+        Some(event) => {
+            told.reserve()?;
+            told.add(event);
+            Ok(())
+        }
         None => Ok(()),
     }
 }
 
 // Both sides at work on one memory.
 #[derive(Drop)]
-struct NearWorld<'a, A: Allocator> {
-    memory: Memory<Vec<Event, A>>,
+struct NearWorld<'a, E: Store<Event>, T: Store<Told>> {
+    memory: Memory<E>,
     putter: NearPutter<'a>,
     taker: NearTaker,
     oracle: Tape<'a>,
-    told: Vec<Told, A>,
+    told: T,
 }
 
-impl<A: Allocator> NearWorld<'_, A> {
+impl<E: Store<Event>, T: Store<Told>> NearWorld<'_, E, T> {
     // Makes one step of a side.
     fn step(&mut self, side: Side) -> Result<(), NearFault>
         requires { IsNearReady self.old }
         ensures ready { OnOk result (IsNearReady self.new) }
         ensures shape { self.new.memory.shape ≡ self.old.memory.shape }
-        ensures has { OnOk result ((a : NearAsked) (letters : List ASide) (oracle : List Bool) → NearHas a letters oracle self.old → NearHas a (letters ++ side ∷ []) oracle self.new) }
+        ensures has { OnOk result ((a : NearAsked) (letters : List ASide) (oracle : List Bool) → NearHas T.items a letters oracle self.old → NearHas T.items a (letters ++ side ∷ []) oracle self.new) }
+        ensures rooms { (self.new.memory.room ≡ self.old.memory.room) × (T.room self.new.told ≡ T.room self.old.told) }
+        ensures few { OnOk result ((length self.new.memory.events ≤ length self.old.memory.events + 1) × (length (T.items self.new.told) ≤ length (T.items self.old.told) + 1)) }
+        ensures full { OnErr result ((self.old.memory.room ≤ length self.old.memory.events) ⊎ (T.room self.old.told ≤ length (T.items self.old.told))) }
     {
         match side {
             Side::P => self.step_putter(),
@@ -298,7 +321,10 @@ impl<A: Allocator> NearWorld<'_, A> {
         requires { IsNearReady self.old }
         ensures ready { OnOk result (IsNearReady self.new) }
         ensures shape { self.new.memory.shape ≡ self.old.memory.shape }
-        ensures has { OnOk result ((a : NearAsked) (letters : List ASide) (oracle : List Bool) → NearHas a letters oracle self.old → NearHas a (letters ++ P ∷ []) oracle self.new) }
+        ensures has { OnOk result ((a : NearAsked) (letters : List ASide) (oracle : List Bool) → NearHas T.items a letters oracle self.old → NearHas T.items a (letters ++ P ∷ []) oracle self.new) }
+        ensures rooms { (self.new.memory.room ≡ self.old.memory.room) × (T.room self.new.told ≡ T.room self.old.told) }
+        ensures few { OnOk result ((length self.new.memory.events ≤ length self.old.memory.events + 1) × (length (T.items self.new.told) ≤ length (T.items self.old.told) + 1)) }
+        ensures full { OnErr result ((self.old.memory.room ≤ length self.old.memory.events) ⊎ (T.room self.old.told ≤ length (T.items self.old.told))) }
     {
         open_changes();
         let event = step(
@@ -315,7 +341,10 @@ impl<A: Allocator> NearWorld<'_, A> {
         requires { IsNearReady self.old }
         ensures ready { OnOk result (IsNearReady self.new) }
         ensures shape { self.new.memory.shape ≡ self.old.memory.shape }
-        ensures has { OnOk result ((a : NearAsked) (letters : List ASide) (oracle : List Bool) → NearHas a letters oracle self.old → NearHas a (letters ++ C ∷ []) oracle self.new) }
+        ensures has { OnOk result ((a : NearAsked) (letters : List ASide) (oracle : List Bool) → NearHas T.items a letters oracle self.old → NearHas T.items a (letters ++ C ∷ []) oracle self.new) }
+        ensures rooms { (self.new.memory.room ≡ self.old.memory.room) × (T.room self.new.told ≡ T.room self.old.told) }
+        ensures few { OnOk result ((length self.new.memory.events ≤ length self.old.memory.events + 1) × (length (T.items self.new.told) ≤ length (T.items self.old.told) + 1)) }
+        ensures full { OnErr result ((self.old.memory.room ≤ length self.old.memory.events) ⊎ (T.room self.old.told ≤ length (T.items self.old.told))) }
     {
         open_changes();
         let event = step(&mut self.memory, &mut self.taker, &mut self.oracle, Side::C)?;
@@ -328,13 +357,38 @@ impl<A: Allocator> NearWorld<'_, A> {
         requires { IsNearReady self.old }
         ensures ready { OnOk result (IsNearReady self.new) }
         ensures shape { self.new.memory.shape ≡ self.old.memory.shape }
-        ensures has { OnOk result ((a : NearAsked) (letters : List ASide) (oracle : List Bool) → NearHas a letters oracle self.old → NearHas a (letters ++ replicate count side) oracle self.new) }
+        ensures has { OnOk result ((a : NearAsked) (letters : List ASide) (oracle : List Bool) → NearHas T.items a letters oracle self.old → NearHas T.items a (letters ++ replicate count side) oracle self.new) }
+        ensures rooms { (self.new.memory.room ≡ self.old.memory.room) × (T.room self.new.told ≡ T.room self.old.told) }
+        ensures few { OnOk result ((length self.new.memory.events ≤ length self.old.memory.events + count) × (length (T.items self.new.told) ≤ length (T.items self.old.told) + count)) }
+        ensures full { OnErr result ((self.old.memory.room < length self.old.memory.events + count) ⊎ (T.room self.old.told < length (T.items self.old.told) + count)) }
     {
         for _ in 0..count {
             self.step(side)?;
         }
         Ok(())
     }
+}
+
+// Makes one step for each of the first so many letters of the script's schedule, or for each letter where they are fewer.
+fn run_first<E: Store<Event>, T: Store<Told>>(
+    world: &mut NearWorld<'_, E, T>,
+    script: ScriptRef<'_>,
+    letters: u64,
+) -> Result<(), NearFault>
+    requires ready { IsNearReady world.old }
+    requires new { (world.old.memory.events ≡ []) × (T.items world.old.told ≡ []) }
+    ensures shape { world.new.memory.shape ≡ world.old.memory.shape }
+    ensures has { OnOk result ((a : NearAsked) (oracle : List Bool) → NearHas T.items a [] oracle world.old → NearHas T.items a (take letters (content_of script.entry).letters) oracle world.new) }
+    ensures few { OnOk result ((length world.new.memory.events ≤ min letters (length (content_of script.entry).letters)) × (length (T.items world.new.told) ≤ min letters (length (content_of script.entry).letters))) }
+    ensures full { OnErr result ((world.old.memory.room < min letters (length (content_of script.entry).letters)) ⊎ (T.room world.old.told < min letters (length (content_of script.entry).letters))) }
+{
+    let mut left = letters;
+    for run in script.runs() {
+        let count = run.count.min(left);
+        world.repeat(run.side, count)?;
+        left -= count;
+    }
+    Ok(())
 }
 
 /// Plays a script by a near miss: one step for each letter of its schedule, of a side that has not stopped. The history of the bits is
@@ -349,23 +403,51 @@ pub fn play_near<A: Allocator + Copy, B: Allocator>(
     alloc: A,
     miss: NearMiss,
     script: &Script<B>,
-) -> Result<NearPlay<A>, NearFault>
-    ensures plays { IfOk result (λ play. IsNearPlay script.now play.history.items play.told.items) }
+) -> Result<NearPlay<Vec<Event, A>, Vec<Told, A>>, NearFault>
+    ensures plays { IfOk result (λ play. IsNearPlay script.now script.now.letters play.history.items play.told.items) }
     ensures of_shape { IfOk result (λ play. AreOfShape script.now.shape play.history.items) }
 {
+    let letters = script.len();
+    play_near_first(
+        miss,
+        script.as_ref(),
+        letters,
+        Vec::new(alloc),
+        Vec::new(alloc),
+    )
+}
+
+/// Plays the first so many letters of a script by a near miss, or all of them where they are fewer, as [`play_near`] does. The history
+/// and what is told grow in these stores, which are empty.
+///
+/// `OutOfMemory` tells that one of the stores had no room for as many events as letters are played.
+///
+/// In use: the page, which shows a play up to a letter.
+pub fn play_near_first<E: Store<Event>, T: Store<Told>>(
+    miss: NearMiss,
+    script: ScriptRef<'_>,
+    letters: u64,
+    events: E,
+    told: T,
+) -> Result<NearPlay<E, T>, NearFault>
+    requires no_events { E.items events ≡ [] }
+    requires none_told { T.items told ≡ [] }
+    ensures plays { IfOk result (λ play. IsNearPlay (content_of script.entry) (take letters (content_of script.entry).letters) (E.items play.history) (T.items play.told)) }
+    ensures of_shape { IfOk result (λ play. AreOfShape (content_of script.entry).shape (E.items play.history)) }
+    // A letter gives one event at most, and one begin or end of a call.
+    ensures few { IfOk result (λ play. (length (E.items play.history) ≤ min letters (length (content_of script.entry).letters)) × (length (T.items play.told) ≤ min letters (length (content_of script.entry).letters))) }
+    ensures refused { OnErr result ((E.room events < min letters (length (content_of script.entry).letters)) ⊎ (T.room told < min letters (length (content_of script.entry).letters))) }
+{
     turns_are_by_interval();
-    let script = script.as_ref();
     let shape = script.shape();
     let mut world = NearWorld {
-        memory: Memory::new(alloc, shape),
+        memory: Memory::over(events, shape),
         putter: NearPutter::new(miss, shape, script.items(), script.closes()),
         taker: NearTaker::new(miss, shape, script.takes()),
         oracle: Tape::new(script.oracle()),
-        told: Vec::new(alloc),
+        told,
     };
-    for run in script.runs() {
-        world.repeat(run.side, run.count)?;
-    }
+    run_first(&mut world, script, letters)?;
     let NearWorld {
         memory,
         putter: _,

@@ -108,20 +108,20 @@ module _ {S O T N B : Type 0} (offered : O → List Offered) (last : T → List 
           FollowsLines offered last new is_cut before × IsNotLawful finding × IsFindingWithin old.witness.limit (lines_text (before ++ line word numbers ∷ [])) finding
       line_at_fault new finding begun_is none limit heard fault =
           let (against, found) = found_so finding new.witness new.tally capacity_is (events_are ++ event ∷ []) fault in (
-        (
-          follows.0,
-          (
-            follows.1.0,
-            follows.1.1,
-            follows.1.2,
-            begun_is ∙ follows.1.3,
-            subst (λ f. IsFaultSoFar offered last f new.witness new.tally capacity_is events_are) (sym none) heard,
-          ),
-          none,
-        ),
-        against,
-        (capacity_is, events_are ++ event ∷ [], recording_is, subst (λ n. IsFoundWithin n capacity_is (events_are ++ event ∷ []) finding) limit found),
-      )
+            (
+              follows.0,
+              (
+                follows.1.0,
+                follows.1.1,
+                follows.1.2,
+                begun_is ∙ follows.1.3,
+                subst (λ f. IsFaultSoFar offered last f new.witness new.tally capacity_is events_are) (sym none) heard,
+              ),
+              none,
+            ),
+            against,
+            (capacity_is, events_are ++ event ∷ [], recording_is, subst (λ n. IsFoundWithin n capacity_is (events_are ++ event ∷ []) finding) limit found),
+          )
 
       -- a list is too short
       pub line_outgrows : (limit o t : ℕ) → OutgrowsLists limit o t capacity_is (events_are ++ event ∷ []) → HasLongHistory limit o t (lines_text (before ++ line word numbers ∷ []))

@@ -4,6 +4,7 @@
 mod audits;
 mod calls;
 mod marks;
+mod near_plays;
 mod orders;
 mod plays;
 mod programs;
@@ -12,6 +13,7 @@ mod reasons;
 pub use audits::{EVENT_ROOM, Told, page_audit};
 pub use calls::{CallsTold, Counts, page_calls};
 pub use marks::Mark;
+pub use near_plays::{NearPlayed, Telling, page_play_near};
 pub use orders::{Came, Holds, page_order};
 pub use plays::{ANSWER_ROOM, Asked, Played, RUN_ROOM, page_play};
 pub use programs::{Due, Judged};
@@ -19,5 +21,7 @@ pub use queue_calls::CAUSE_WORDS;
 
 #[cfg(test)]
 mod call_tests;
+#[cfg(test)]
+mod near_tests;
 #[cfg(test)]
 mod tests;

@@ -61,7 +61,8 @@ pub struct Played {
     pub all_letters: u64,
 }
 
-fn told_fault(fault: ScriptFault) -> Played
+/// A fault of a script, as numbers.
+pub fn told_fault(fault: ScriptFault) -> Played
     ensures { TellsPlayFault fault result }
 {
     let (place, shape_fault) = match fault {
@@ -95,8 +96,8 @@ fn put_list(list: &[u64], room: &mut [u64])
     room[..count].copy_from_slice(&list[..count]);
 }
 
-// The marks of a lawful history, as many as there is room for.
-fn put_lawful(shape: &Shape, history: &[Event], marks: &mut [Mark])
+/// Puts the marks of a lawful history, as many as there is room for.
+pub fn put_lawful(shape: &Shape, history: &[Event], marks: &mut [Mark])
     requires lawful { IsLawful shape.now history.now }
     requires few { length history.now ≤ EVENT_ROOM }
     ensures { AreMarksOf history.now (length history.now) marks.new }
@@ -155,6 +156,28 @@ fn tell_play(
     })
 }
 
+/// The values of a script's fields.
+pub fn fields<'a>(
+    asked: &Asked,
+    items: &'a [u64],
+    schedule: &'a [u8],
+    oracle: &'a [u8],
+) -> Fields<'a>
+    ensures { held_of result ≡ fields_of asked.now items.now schedule.now oracle.now }
+{
+    Fields {
+        capacity: asked.capacity,
+        modulus: asked.modulus,
+        width: asked.width,
+        items,
+        takes: asked.takes,
+        close: asked.closes != 0,
+        schedule,
+        oracle,
+        batch: asked.batch,
+    }
+}
+
 /// Plays the first letters of the script whose fields have these values, from nothing, and tells what was played:
 /// the marks of the history's events, the items put and the items taken, as many as there is room for, and the
 /// numbers of the report; or why it is no script, or that it has more runs than `RUN_ROOM`, more answers than
@@ -172,17 +195,7 @@ pub extern "C" fn page_play(
 )
     ensures { TellsPlay (fields_of asked.now items.now schedule.now oracle.now) asked.now.letters marks.new put.new taken.new told.new }
 {
-    let fields = Fields {
-        capacity: asked.capacity,
-        modulus: asked.modulus,
-        width: asked.width,
-        items,
-        takes: asked.takes,
-        close: asked.closes != 0,
-        schedule,
-        oracle,
-        batch: asked.batch,
-    };
+    let fields = fields(asked, items, schedule, oracle);
     let blank = Run {
         side: Side::P,
         count: 0,

@@ -9,7 +9,7 @@ mod Takings
 mod Turns
 mod Steps
 mod Flickers
-mod WorldParts
+pub mod WorldParts
 mod Fillings
 mod TellingSteps
 mod TellingMoves

@@ -220,7 +220,7 @@ pub record TracesWrong (input text : List ℕ) (ending : Ending) : Type 0 where
   pub history : List Event
   pub told : List play_told.Told
   pub is_script : IsScript input content
-  pub plays : IsNearPlay content history told
+  pub plays : IsNearPlay content content.letters history told
   pub is_trace : IsTraceText text content.shape history
   pub ends : ending ≡ Done
 
@@ -231,7 +231,7 @@ pub record RecordsWrong (input text : List ℕ) (ending : Ending) : Type 0 where
   pub history : List Event
   pub told : List play_told.Told
   pub is_script : IsScript input content
-  pub plays : IsNearPlay content history told
+  pub plays : IsNearPlay content content.letters history told
   pub words : text ≡ told_text_of content told
   pub ends : ending ≡ Done
 

@@ -1,4 +1,4 @@
-use Rattle.std.proofs.Common.{◌≡◌, List, Bool, ◌++◌, replicate}
+use Rattle.std.proofs.Common.{◌≡◌, ◌≤◌, ◌+◌, List, Bool, ◌++◌, length, replicate}
 use Rattle.bits_core.specs.declared.events.Side.{Side}
 use Rattle.near_misses.specs.NearPlays.{NearAsked}
 use Rattle.near_misses.specs.NearSides.{IsNearReady, NearHas}
@@ -9,5 +9,11 @@ abbrev pub invariant-loop : goal.invariant-loop
 invariant-loop g l = record {
   ready : IsNearReady l.self;
   shape : l.self.memory.shape ≡ l.initial.self.memory.shape;
-  has : (a : NearAsked) (letters : List Side) (oracle : List Bool) → NearHas a letters oracle l.initial.self → NearHas a (letters ++ replicate l.counter l.side) oracle l.self;
+  has :
+      (a : NearAsked) (letters : List Side) (oracle : List Bool) → NearHas g.T.Store.items a letters oracle l.initial.self →
+      NearHas g.T.Store.items a (letters ++ replicate l.counter l.side) oracle l.self;
+  event_room : l.self.memory.room ≡ l.initial.self.memory.room;
+  told_room : g.T.Store.room l.self.told ≡ g.T.Store.room l.initial.self.told;
+  few_events : length l.self.memory.events ≤ length l.initial.self.memory.events + l.counter;
+  few_told : length (g.T.Store.items l.self.told) ≤ length (g.T.Store.items l.initial.self.told) + l.counter;
 }

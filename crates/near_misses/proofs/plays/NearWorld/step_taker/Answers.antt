@@ -24,6 +24,6 @@ returns-clause-has g c asked letters oracle has =
     record {
       asked_take = c.in_ok-event.ensures.asked asked has.asked_take;
       asked_put = has.asked_put;
-      made = makes_more asked near_starts letters C w.memory.events _ w.told.items _ _ before _ c.in_ok-tell.ensures (c.in_ok-event.ensures.moves asked has.asked_take) has.made;
+      made = makes_more asked near_starts letters C w.memory.events _ (g.T.Store.items w.told) _ _ before _ c.in_ok-tell.ensures.told (c.in_ok-event.ensures.moves asked has.asked_take) has.made;
       turns = c.in_ok-event.ensures.turns _ has.turns;
     }

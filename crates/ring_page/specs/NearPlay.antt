@@ -1,0 +1,87 @@
+-- What the page is told of a play by a near miss.
+use Rattle.std.specs.Prelude.{◌≡◌, ◌⊎◌, ◌==◌, if◌then◌else◌, ℕ, Option, Some, None, List, length, map, take}
+use Rattle.bits_core.specs.declared.events.Event.{Event}
+use Rattle.near_misses.specs.Misses.{near_modulus}
+use Rattle.near_misses.specs.NearPlays.{IsNearPlay}
+use Rattle.near_misses.specs.declared.misses.NearMiss.{NearMiss}
+use Rattle.near_misses.specs.declared.misses.NearMiss.TheVariants.{CountBeforeCell, NoSecondScan, SmallModulus, ClearsFirst, ClearsUpwards}
+use Rattle.ring_player.specs.declared.tellings.Told.{Told}
+use Rattle.ring_player.specs.declared.tellings.Told.TheVariants.{PutBegins, PutStored, PutFull, CloseBegins, CloseEnds, TakeBegins, TakeItem, TakeEmpty, TakeClosed}
+use Rattle.ring_script.specs.Content.{Content}
+use Rattle.ring_script.specs.Script.{HeldFields, HoldsFields, IsContentOf, IsScript}
+use Rattle.ring_page.specs.Audit.{AreMarksOf}
+use Rattle.ring_page.specs.Play.{TellsRefused}
+use Rattle.ring_page.specs.declared.marks.Mark.{Mark}
+use Rattle.ring_page.specs.declared.near_plays.NearPlayed.{NearPlayed}
+use Rattle.ring_page.specs.declared.near_plays.Telling.{Telling}
+use Rattle.ring_page.specs.declared.plays.Played.{Played}
+
+-- the near misses by their numbers
+abbrev pub near_numbered : ℕ → Option NearMiss
+near_numbered n =
+    if n == 1 then Some CountBeforeCell else
+    if n == 2 then Some NoSecondScan else
+    if n == 3 then Some SmallModulus else
+    if n == 4 then Some ClearsFirst else
+    if n == 5 then Some ClearsUpwards else
+    None
+
+-- a begin or an end of a call, as numbers
+abbrev pub telling : ℕ → ℕ → Telling
+telling word number = record { word = word; number = number }
+
+abbrev pub telling_of : Told → Telling
+telling_of (PutBegins stored) = telling 0 stored
+telling_of (PutStored count) = telling 1 count
+telling_of PutFull = telling 2 0
+telling_of CloseBegins = telling 3 0
+telling_of CloseEnds = telling 4 0
+telling_of TakeBegins = telling 5 0
+telling_of (TakeItem item) = telling 6 item
+telling_of TakeEmpty = telling 7 0
+telling_of TakeClosed = telling 8 0
+
+-- what is told of a play of so many events and tellings, of a schedule of so many letters, whose counts go round at this modulus
+abbrev pub near_played : (events tellings letters modulus : ℕ) → NearPlayed
+near_played events tellings letters modulus = record { outcome = 0; number = 0; place = 0; shape_fault = 0; count = events; told = tellings; all_letters = letters; modulus = modulus }
+
+-- this is told of the play of the script's first letters
+pub record TellsNearLetters (miss : NearMiss) (script : Content) (letters : ℕ) (marks : List Mark) (tellings : List Telling) (told : NearPlayed) : Type 0 where
+  pub history : List Event
+  pub calls : List Told
+  pub plays : IsNearPlay script (take letters script.letters) history calls
+  pub are_marks : AreMarksOf history (length history) marks
+  pub fills : take (length calls) tellings ≡ take (length tellings) (map telling_of calls)
+  pub numbers : told ≡ near_played (length history) (length calls) (length script.letters) (near_modulus miss script.shape)
+
+-- the values stand for a script, which is that of any bytes whose fields hold them, and this is told of its play
+pub record TellsNearPlayed (miss : NearMiss) (held : HeldFields) (letters : ℕ) (marks : List Mark) (tellings : List Telling) (told : NearPlayed) : Type 0 where
+  pub script : Content
+  pub is_content : IsContentOf held script
+  pub is_script : (bytes : List ℕ) → HoldsFields bytes held → IsScript bytes script
+  pub is_play : TellsNearLetters miss script letters marks tellings told
+
+-- a fault, as `page_play` tells it
+abbrev pub near_refused : Played → NearPlayed
+near_refused told = record {
+  outcome = told.outcome;
+  number = told.number;
+  place = told.place;
+  shape_fault = told.shape_fault;
+  count = 0;
+  told = 0;
+  all_letters = 0;
+  modulus = 0;
+}
+
+abbrev pub TellsNearRefused : HeldFields → ℕ → NearPlayed → Type 0
+TellsNearRefused held letters told = (fault : Played) × TellsRefused held letters fault × (told ≡ near_refused fault)
+
+-- there is no near miss of this number
+abbrev pub no_near_miss : NearPlayed
+no_near_miss = record { outcome = 3; number = 0; place = 0; shape_fault = 0; count = 0; told = 0; all_letters = 0; modulus = 0 }
+
+-- what is told of the values of a script's fields and of a near miss
+abbrev pub TellsNearPlay : Option NearMiss → HeldFields → ℕ → List Mark → List Telling → NearPlayed → Type 0
+TellsNearPlay None held letters marks tellings told = told ≡ no_near_miss
+TellsNearPlay (Some miss) held letters marks tellings told = TellsNearPlayed miss held letters marks tellings told ⊎ TellsNearRefused held letters told

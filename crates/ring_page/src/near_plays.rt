@@ -1,0 +1,188 @@
+//! The play of a script by a near miss.
+ghost use Rattle.std.specs.Prelude.{◌≡◌, ◌<◌, length, map, min, take, IfOk, OnErr};
+ghost use Rattle.ring_script.specs.Borrowed.{content_of};
+ghost use Rattle.ring_page.specs.NearPlay.{TellsNearLetters, TellsNearPlay, near_numbered, near_refused, no_near_miss, telling_of};
+ghost use Rattle.ring_page.specs.Play.{TellsPlayFault, fields_of};
+
+use crate::audits::{EVENT_ROOM, no_events};
+use crate::marks::Mark;
+use crate::plays::{ANSWER_ROOM, Asked, Played, RUN_ROOM, fields, put_lawful, told_fault};
+use bits_core::{Filled, Side};
+use near_misses::{NearFault, NearMiss, play_near_first};
+use ring_player::Told;
+use ring_script::{Run, ScriptFault, ScriptRef};
+
+/// A begin or an end of a call, as numbers.
+#[repr(C)]
+#[derive(Clone, Copy, PartialEq, Eq, Debug)]
+pub struct Telling {
+    /// 0 a put begins, 1 it stored items, 2 it found the ring full; 3 a close begins, 4 it ends; 5 a take begins, 6 it took an item, 7 it
+    /// found the ring empty, 8 it was told that the ring is closed.
+    pub word: u64,
+    /// Of a put that begins, how many items of the script are stored; of one that stored items, how many; the item of a take. Else 0.
+    pub number: u64,
+}
+
+/// What is told of a play by a near miss, as numbers.
+#[repr(C)]
+#[derive(Clone, Copy, PartialEq, Eq, Debug)]
+pub struct NearPlayed {
+    /// 0 played, 2 no script, or one for which the page has no room, 3 no near miss.
+    pub outcome: u64,
+    /// The number of the script's fault.
+    pub number: u64,
+    /// The place of an item, or of a byte, that is at fault.
+    pub place: u64,
+    /// The number of the shape's fault.
+    pub shape_fault: u64,
+    /// How many events the history has.
+    pub count: u64,
+    /// How many begins and ends of calls are told.
+    pub told: u64,
+    /// How many letters the schedule stands for.
+    pub all_letters: u64,
+    /// The number at which the counts go round.
+    pub modulus: u64,
+}
+
+// The near miss of this number.
+fn near_numbered(number: u64) -> Option<NearMiss>
+    ensures { result ≡ near_numbered number }
+{
+    match number {
+        1 => Some(NearMiss::CountBeforeCell),
+        2 => Some(NearMiss::NoSecondScan),
+        3 => Some(NearMiss::SmallModulus),
+        4 => Some(NearMiss::ClearsFirst),
+        5 => Some(NearMiss::ClearsUpwards),
+        _ => None,
+    }
+}
+
+fn telling_of(told: Told) -> Telling
+    ensures { result ≡ telling_of told }
+{
+    let (word, number) = match told {
+        Told::PutBegins(stored) => (0, stored as u64),
+        Told::PutStored(count) => (1, count as u64),
+        Told::PutFull => (2, 0),
+        Told::CloseBegins => (3, 0),
+        Told::CloseEnds => (4, 0),
+        Told::TakeBegins => (5, 0),
+        Told::TakeItem(item) => (6, item),
+        Told::TakeEmpty => (7, 0),
+        Told::TakeClosed => (8, 0),
+    };
+    Telling { word, number }
+}
+
+// Puts what is told into the room, as much of it as there is room for.
+fn put_tellings(calls: &[Told], tellings: &mut [Telling])
+    ensures { take (length calls.now) tellings.new ≡ take (length tellings.new) (map telling_of calls.now) }
+{
+    for i in 0..calls.len().min(tellings.len()) {
+        tellings[i] = telling_of(calls[i]);
+    }
+}
+
+// What is told of the play of a script's first letters.
+fn tell_near_play(
+    miss: NearMiss,
+    script: ScriptRef<'_>,
+    letters: u64,
+    marks: &mut [Mark],
+    tellings: &mut [Telling],
+) -> Result<NearPlayed, NearFault>
+    ensures played { IfOk result (TellsNearLetters miss (content_of script.entry) letters marks.new tellings.new) }
+    ensures refused { OnErr result (EVENT_ROOM < min letters (length (content_of script.entry).letters)) }
+{
+    let mut events = no_events();
+    let mut told_room = [Told::PutFull; EVENT_ROOM];
+    let play = play_near_first(
+        miss,
+        script,
+        letters,
+        Filled::new(&mut events),
+        Filled::new(&mut told_room),
+    )?;
+    let history = play.history.into_slice();
+    let calls = play.told.into_slice();
+    let shape = script.shape();
+    if history.len() > EVENT_ROOM {
+        // Never so, since the events lie in that room.
+        return Err(NearFault::OutOfMemory);
+    }
+    put_lawful(&shape, history, marks);
+    put_tellings(calls, tellings);
+    Ok(NearPlayed {
+        outcome: 0,
+        number: 0,
+        place: 0,
+        shape_fault: 0,
+        count: history.len() as u64,
+        told: calls.len() as u64,
+        all_letters: script.len(),
+        modulus: miss.modulus(&shape),
+    })
+}
+
+fn near_refused(fault: ScriptFault) -> NearPlayed
+    ensures { (told : Played) × TellsPlayFault fault told × (result ≡ near_refused told) }
+{
+    let told = told_fault(fault);
+    NearPlayed {
+        outcome: told.outcome,
+        number: told.number,
+        place: told.place,
+        shape_fault: told.shape_fault,
+        count: 0,
+        told: 0,
+        all_letters: 0,
+        modulus: 0,
+    }
+}
+
+/// Plays the first letters of the script whose fields have these values by the near miss of this number, from 1, in the order of
+/// [`NearMiss`]: the marks of the history's events, and the begins and ends of calls, as many as there is room for; or why it is no
+/// script, as [`page_play`](crate::page_play) tells it. It takes no memory.
+#[unsafe(no_mangle)]
+pub extern "C" fn page_play_near(
+    miss: u64,
+    asked: &Asked,
+    items: &[u64],
+    schedule: &[u8],
+    oracle: &[u8],
+    marks: &mut [Mark],
+    tellings: &mut [Telling],
+    told: &mut NearPlayed,
+)
+    ensures { TellsNearPlay (near_numbered miss) (fields_of asked.now items.now schedule.now oracle.now) asked.now.letters marks.new tellings.new told.new }
+{
+    let Some(miss) = near_numbered(miss) else {
+        *told = NearPlayed {
+            outcome: 3,
+            number: 0,
+            place: 0,
+            shape_fault: 0,
+            count: 0,
+            told: 0,
+            all_letters: 0,
+            modulus: 0,
+        };
+        return;
+    };
+    let fields = fields(asked, items, schedule, oracle);
+    let blank = Run {
+        side: Side::P,
+        count: 0,
+    };
+    let mut runs = [blank; RUN_ROOM];
+    let mut answers = [false; ANSWER_ROOM];
+    *told = match ScriptRef::of_fields(&fields, &mut runs, &mut answers) {
+        Ok(script) => match tell_near_play(miss, script, asked.letters, marks, tellings) {
+            Ok(told) => told,
+            Err(NearFault::OutOfMemory) => near_refused(ScriptFault::OutOfMemory),
+        },
+        Err(fault) => near_refused(fault),
+    };
+}
