@@ -18,8 +18,8 @@ import java.util.concurrent.atomic.AtomicLong;
  * interval is only ever widened. getAndIncrement is sequentially consistent: where the ticket of an end is below that of a begin, the one
  * call happens before the other, and a right queue has to respect that. All other calls overlap in the recording. While recording nothing
  * is allocated (but by the boxing of your own items) and nothing locked; where a side has no more room the history is cut there, for
- * both sides: its first line begins with {@code cut}, and write says on System.err whose log was full. Items are longs, written without
- * a sign: -1 is 18446744073709551615.
+ * both sides: its first line begins with {@code cut}, and write says on System.err whose log was full; and where no call was recorded.
+ * Items are longs, written without a sign: -1 is 18446744073709551615.
  */
 public final class RingCalls {
     private static final String[] WORDS = { "P put", "P close", "C take", "P stored", "P some", "P full", "P short", "P nothing",
@@ -107,13 +107,18 @@ public final class RingCalls {
     /** Empty, and closed. */
     public void told() { begin(takes, 14, 0); }
 
-    /** Writes the recording; head is its first line: "queue 8", "queue 1 512" or "queue". Where the history is cut, System.err is told. */
+    /**
+     * Writes the recording; head is its first line: "queue 8", "queue 1 512" or "queue". Where the history is cut, and where it has no call,
+     * System.err is told.
+     */
     public void write(String head, Writer out) throws IOException {
         long cut = Math.min(puts.cut, takes.cut);
         if (cut != Long.MAX_VALUE) {
             boolean isPuts = cut == puts.cut;
             System.err.println("ring_calls: the " + (isPuts ? "producer" : "consumer") + "'s log was full after " + (isPuts ? puts : takes).words.length
                 + " words: the recording is a first part of what happened");
+        } else if (puts.used + takes.used == 0) {
+            System.err.println("ring_calls: no call was recorded: is it this RingCalls that was called, and were both threads joined?");
         }
         out.write((cut == Long.MAX_VALUE ? "" : "cut ") + head + "\n");
         int i = 0;

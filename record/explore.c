@@ -23,7 +23,8 @@
  *  4. A side that is preempted makes at least one step before the other is preempted in turn; else the two preemptions do nothing.
  * What is left out, and is said in README.md: a side that yields, sleeps or waits with a time limit lets the other make a step first,
  * and its time passes only where the other waits or is over; a side that looks a third time at the same place for what nobody has
- * changed, within one call, is not preempted there, and after limit_spins of such looks it is taken for one that yields.
+ * changed, within one call, is not preempted there, and after limit_spins of such looks it is taken for one that yields; so is one that
+ * makes TURN accesses of nothing shared, between two steps.
  * What is not seen: assembly, libraries that are not compiled so, copies that the compiler expands itself (-fno-builtin leaves them to
  * memcpy, which is seen here word by word). A plain access of 16 bytes and a copy of a structure are one step each; that another side
  * sees half of it is told as a data race.
@@ -32,6 +33,7 @@
  * that is sequentially consistent is one that C11 permits, so a race in it is one of the program: there are no false alarms. Where C11
  * orders less than is kept here (release sequences of C++20, futexes), a race may go unseen. */
 #define _GNU_SOURCE
+#include <fcntl.h>
 #include <signal.h>
 #include <sys/time.h>
 #include "ring_audit.h"
@@ -61,13 +63,22 @@ static struct {
     uint64_t executed;              /* in all, those too that were made anew */
     double began;
     int status, preemptions;        /* those of the run that is told */
-    bool time_is_over;
-    char first_race[MOST_STEPS];
+    bool closes;                    /* a close was recorded */
+    bool time_is_over, is_another;  /* is_another: the test does not do the same again */
     FILE *dump;
 } result;
 
 /* What a schedule that is played again does, one after the other: accesses, and calls that begin or end, at this place of the log. */
-typedef struct { uint8_t who, kind; bool is_event, has_value; unsigned size; const void *pc, *address; uint64_t value; size_t at; } traced;
+typedef struct {
+    uint8_t who, kind;
+    bool is_event, has_value, failed;
+    int order;                      /* the memory order of an atomic access */
+    const char *does;               /* of a read-modify-write; had and value: before and behind it */
+    unsigned size;
+    const void *pc, *address;
+    uint64_t value, had;
+    size_t at;
+} traced;
 static traced trace[MOST_TRACE];
 static int trace_used;
 
@@ -96,7 +107,7 @@ static const char *grouped(uint64_t n) {
 /* Takes the value that the last write traced has left: nothing was done since. */
 static void settle_trace(void) {
     traced *it = trace_used ? &trace[trace_used - 1] : NULL;
-    if (!it || it->is_event || !(it->kind & WRITE) || it->size == 0 || it->size > 8) return;
+    if (!it || it->is_event || it->failed || !(it->kind & WRITE) || it->size == 0 || it->size > 8) return;
     it->value = 0;
     copy_plainly(&it->value, it->address, it->size);
     it->has_value = true;
@@ -107,10 +118,20 @@ static void trace_access(const void *address, unsigned size, int kind, const voi
     settle_trace();
     if (trace_used == MOST_TRACE) return;
     traced *it = &trace[trace_used++];
-    *it = (traced) { (uint8_t)now, (uint8_t)kind, false, false, size, pc, address, 0, 0 };
+    *it = (traced) { .who = (uint8_t)now, .kind = (uint8_t)kind, .size = size, .pc = pc, .address = address };
     if (size == 0 || size > 8) return;
     copy_plainly(&it->value, address, size);
+    it->had = it->value;
     it->has_value = true;
+}
+
+/* What the hook of an atomic access knows of the one traced last; does is NULL for a load and a store. */
+static void trace_atomic(const char *does, bool failed, int order) {
+    if (!replay.on || !trace_used || trace_used == MOST_TRACE) return;
+    traced *it = &trace[trace_used - 1];
+    it->does = does;
+    it->failed = failed;
+    it->order = order;
 }
 
 /* A call of the test begins or ends: ring_calls.h comes here. */
@@ -131,8 +152,9 @@ void explore_event(int kind, const uint64_t *numbers, size_t n) {
     ring_calls_event(&rec, log, kind, numbers, n);
     if (replay.on && log->used > at) {
         settle_trace();
-        if (trace_used < MOST_TRACE) trace[trace_used++] = (traced) { (uint8_t)s, 0, true, false, 0, NULL, NULL, 0, at };
+        if (trace_used < MOST_TRACE) trace[trace_used++] = (traced) { .who = (uint8_t)s, .is_event = true, .at = at };
     }
+    if (kind == RING_CLOSE) result.closes = true;
     me->events++;
     me->fresh = kind < RING_ENDS;
 }
@@ -192,19 +214,28 @@ static void make_run(void) {
 }
 
 #include "explore_tell.h"
+#include "explore_witness.h"
+
+static int tell_not_the_same(void) {
+    fputs("explore: the test does not do the same again in the same schedule: reset has to set back all that the sides change\n", stderr);
+    result.status = 2;
+    result.is_another = true;
+    return STOP;
+}
 
 /* ---- a run that does not end well ---- */
 
-/* Stops where the test crashes, or where a run does not end: a wait that is not modelled, a loop that touches nothing shared. */
+/* Stops where the test crashes, or where a run does not end: a wait that is not modelled, a loop without any access. */
 static void on_signal(int number) {
     static char words[128];
-    static uint64_t before;
-    if (number == SIGALRM && result.executed != before) { before = result.executed; return; }
+    if (number == SIGALRM && goes_on()) return;
     const bool was_on = run.on;
     run.on = arena.on = false;
     if (number == SIGALRM) snprintf(words, sizeof words, "hangs: the %s does not come to its next step", name_of_side[now]);
     else snprintf(words, sizeof words, "crash: %s, in the %s", strsignal(number), was_on ? name_of_side[now] : "reset");
     if (was_on) {
+        /* (steps that were learned in this run are none of its plan) */
+        if (number != SIGALRM && !run.learned && !comes_again(sign_of_run(number))) { tell_not_the_same(); _exit(2); }
         ring_audit_judge(&audit, &rec, test.head);
         audit.found.line = 0;
         tell_finding(words);
@@ -232,13 +263,8 @@ static int preemptions_of_plan(void) { return plan.count - (plan.count > 0 && pl
 
 /* Judges the run just made, and tells a finding. */
 static int judge_run(void) {
-    static char schedule_of_race[MOST_STEPS];
     ring_audit_counts r;
     const bool lawful = ring_audit_judge(&audit, &rec, test.head);
-    if (races_used && !result.first_race[0]) {
-        write_schedule(schedule_of_race, sizeof schedule_of_race);
-        snprintf(result.first_race, sizeof result.first_race, "%s", schedule_of_race);
-    }
     if (result.dump) {
         ring_calls_write(&rec, test.head, result.dump);
         ring_audit_print(&audit, result.dump);
@@ -249,12 +275,14 @@ static int judge_run(void) {
     if (!lawful) {
         result.status = 3;
         if (result.dump) return GO_ON;
+        if (!comes_again(sign_of_run(0))) return tell_not_the_same();
         if (audit.found.verdict != RING_AUDIT_OUT_OF_TURN && audit.found.verdict != RING_AUDIT_NOT_LINEARIZABLE) result.status = 2;
         tell_finding(ring_audit_words(&audit));
         return STOP;
     }
     if (run.end == DEADLOCK || run.end == HANGS) {
         const bool both = run.end == DEADLOCK && sides[0].state == WAITS && sides[1].state == WAITS;
+        if (!comes_again(sign_of_run(0))) return tell_not_the_same();
         result.status = 4;
         tell_where_they_wait(run.end == HANGS ? "hangs" : both ? "both wait for ever" : "waits for ever");
         return STOP;
@@ -271,16 +299,11 @@ static int judge_run(void) {
     return GO_ON;
 }
 
-static int tell_not_the_same(void) {
-    fputs("explore: the test does not do the same again in the same schedule: reset has to set back all that the sides change\n", stderr);
-    result.status = 2;
-    return STOP;
-}
-
 /* A sum over the run with no preemption, which is made for that. */
 static uint64_t sum_of_first_run(void) {
     plan.count = 0;
     make_run();
+    note_new_races();
     return run.sum[run.steps] + run.steps + 3 * sides[0].accesses + 5 * sides[1].accesses;
 }
 
@@ -290,7 +313,8 @@ static int try_from(uint64_t left, uint32_t from, uint64_t sum) {
     static uint8_t may[MOST_PREEMPTIONS + 1][MOST_STEPS];
     static uint64_t sums[MOST_PREEMPTIONS + 1][MOST_STEPS + 1];
     make_run();
-    if (run.learned) return left == 0 && judge_run() == STOP ? STOP : ANEW;
+    if (run.learned) return ANEW;
+    note_new_races();
     if (from > 1 && (run.steps < from - 1 || run.sum[from - 1] != sum)) return tell_not_the_same();
     if (left == 0 && judge_run() == STOP) return STOP;
     if (result.executed % 16 == 0 && seconds() - result.began > option.seconds) { result.time_is_over = true; return STOP; }
@@ -324,13 +348,16 @@ static int try_all(void) {
     return sum_of_first_run() == sum ? STOP : tell_not_the_same();
 }
 
-/* Forgets what was counted, where the runs are made anew. */
+/* Forgets what was counted and the races found, where the runs are made anew: with more steps the plans are others. */
 static void forget_counts(void) {
     result.all = result.cut = result.full = result.empty = result.nothing = result.told = result.overlapped = 0;
     result.inside[0] = result.inside[1] = 0;
+    races_used = 0;
 }
 
 static void tell_all(void) {
+    if (!result.is_another && !races_come_again()) tell_not_the_same();
+    if (result.is_another) return;
     const double took = seconds() - result.began;
     const bool stopped = result.status != 0 && !result.dump;
     if (stopped) {
@@ -373,6 +400,7 @@ static int play_again(void) {
 /* ---- what is asked for ---- */
 
 static int usage(const char *why) {
+    const char *called = getenv("EXPLORE_CALLED");
     fprintf(why ? stderr : stdout,
             "%s%s%s: tries the interleavings of a test; in the environment:\n"
             "  EXPLORE_PREEMPTIONS=3     at most so many preemptions, up to %d\n"
@@ -383,7 +411,7 @@ static int usage(const char *why) {
             "  EXPLORE_KEEP=my.calls     writes the recording of a fault there\n"
             "  EXPLORE_DUMP=all.txt      writes all recordings there, each with its verdict, and does not end at a fault\n"
             "  EXPLORE_SCHEDULE='P7 C'   plays one schedule, and tells its steps\n",
-            why ? why : "", why ? "\n" : "", program_invocation_name, MOST_PREEMPTIONS, MOST_STEPS);
+            why ? why : "", why ? "\n" : "", called ? called : program_invocation_name, MOST_PREEMPTIONS, MOST_STEPS);
     return why ? 2 : 0;
 }
 
@@ -429,17 +457,33 @@ static const char *take_options(void) {
     return NULL;
 }
 
+/* Where the program ends: a test that was not explored to its end is none that is lawful. */
+static enum { NOT_CALLED, IN_EXPLORE, CAME_BACK } progress = NOT_CALLED;
+
+static void at_the_end(void) {
+    if (progress == CAME_BACK || witness.is_me) return;
+    run.on = arena.on = false;
+    fflush(NULL);
+    fputs(progress == NOT_CALLED ? "explore: the test does not call explore()\n" : "explore: the test ended the program within explore()\n", stderr);
+    _exit(2);
+}
+
+__attribute__((constructor)) static void watch_the_end(void) { atexit(at_the_end); }
+
 /* Memory for all, taken once, and nothing known of any test: answers whether there is. */
 static bool take_memory(void) {
     static bool is_taken;
     if (!is_taken) {
-        cells = calloc(MOST_CELLS, sizeof *cells);
+        void *shared = mmap(NULL, MOST_CELLS * sizeof *cells, PROT_READ | PROT_WRITE, MAP_SHARED | MAP_ANONYMOUS, -1, 0);
+        if (shared == MAP_FAILED) return false;
+        cells = shared;
+        begin_arena();
         for (int s = 0; s < 2; s++) {
             char *memory = mmap(NULL, STACK + 4096, PROT_READ | PROT_WRITE, MAP_PRIVATE | MAP_ANONYMOUS, -1, 0);
             if (memory == MAP_FAILED || mprotect(memory, 4096, PROT_NONE) != 0) return false;
             sides[s].stack = memory + 4096;
         }
-        is_taken = cells && ring_calls_init(&rec, LOG_WORDS);
+        is_taken = ring_calls_init(&rec, LOG_WORDS);
     }
     if (cells_used) memset(cells, 0, MOST_CELLS * sizeof *cells);
     cells_used = 0;
@@ -448,7 +492,7 @@ static bool take_memory(void) {
     return is_taken;
 }
 
-int explore(void (*reset)(void), void (*producer)(void), void (*consumer)(void), const char *head) {
+static int explore_all(void (*reset)(void), void (*producer)(void), void (*consumer)(void), const char *head) {
     static char out[BUFSIZ];
     uint64_t numbers[2];
     memset(&result, 0, sizeof result);
@@ -456,7 +500,10 @@ int explore(void (*reset)(void), void (*producer)(void), void (*consumer)(void),
     const char *help = getenv("EXPLORE_HELP"), *why = take_options();
     if (help && *help) return usage(NULL);
     if (why) return usage(why);
-    if (ring_audit_numbers(head, numbers) > 2) return usage("the head is as \"queue 2\"");
+    if (ring_audit_numbers(head, numbers) > 2) {
+        fprintf(stderr, "explore: \"%s\" is no first line of a recording, as \"queue 2\"\n", head);
+        return 2;
+    }
     if (!is_instrumented) { fputs("explore: the test was not compiled with -fsanitize=thread\n", stderr); return 2; }
     if (!take_memory()) { fputs("explore: out of memory\n", stderr); return 2; }
     test.reset = reset;
@@ -465,11 +512,20 @@ int explore(void (*reset)(void), void (*producer)(void), void (*consumer)(void),
     test.head = head;
     setvbuf(stdout, out, _IOLBF, sizeof out);       /* so that no run allocates it */
     if (replay.on) return play_again();
+    fork_witness();
     watch();
     result.began = seconds();
     while (try_all() == ANEW) forget_counts();
     tell_all();
+    end_witness();
     if (result.dump) fclose(result.dump);
     fflush(stdout);
     return result.status;
+}
+
+int explore(void (*reset)(void), void (*producer)(void), void (*consumer)(void), const char *head) {
+    progress = IN_EXPLORE;
+    const int status = explore_all(reset, producer, consumer, head);
+    progress = CAME_BACK;
+    return status;
 }

@@ -4,12 +4,12 @@
  *
  *     static ring_calls rec;
  *     static void reset(void)    { my_init(&q); }                           what the two sides change is as at first
- *     static void producer(void) { ring_calls_put(&rec, 1); if (my_put(&q, 1)) ring_calls_stored(&rec); else ring_calls_full(&rec); .. }
- *     static void consumer(void) { ring_calls_take(&rec); if (my_take(&q, &v)) ring_calls_item(&rec, v); else ring_calls_empty(&rec); .. }
- *     int main(void) { return explore(reset, producer, consumer, "queue 2"); }
+ *     static void produce(void)  { ring_calls_put(&rec, 1); if (my_put(&q, 1)) ring_calls_stored(&rec); else ring_calls_full(&rec); .. }
+ *     static void consume(void)  { ring_calls_take(&rec); if (my_take(&q, &v)) ring_calls_item(&rec, v); else ring_calls_empty(&rec); .. }
+ *     int main(void) { return explore(reset, produce, consume, "queue 2"); }
  *
- *     gcc -fsanitize=thread -fno-builtin -O1 -g -c my_test.c         (so that explore.c sees each access; the text is taken as it is)
- *     gcc -O2 my_test.o explore.c libring_audit.a -o my_test && ./my_test
+ *     gcc -fsanitize=thread -fno-builtin -O1 -gdwarf-4 -Wno-tsan -c my_explore.c        (so that explore.c sees each access;
+ *     gcc -O2 my_explore.o explore.c libring_audit.a -o my_explore && ./my_explore          clang has no -Wno-tsan)
  *
  * The recording is the explorer's: rec holds nothing, and ring_calls_init, ring_calls_write and what walks are of no use here. */
 #ifndef EXPLORE_H
@@ -20,11 +20,11 @@
 #ifdef __cplusplus
 extern "C" {
 #endif
-/* Explores and prints what was found. reset is called before each interleaving, then producer and consumer run as the two sides; head
+/* Explores and prints what was found. reset is called before each interleaving, then produce and consume run as the two sides; head
  * is the first line of a recording, "queue 2". Limits come from the environment (EXPLORE_HELP=1 lists them).
  * Answers the status to end with: 0 all that was tried is lawful; 2 it cannot explore, as stderr says; 3 a fault or a data race; 4 both
  * sides wait for ever, a side goes on for ever, or it crashed. */
-int explore(void (*reset)(void), void (*producer)(void), void (*consumer)(void), const char *head);
+int explore(void (*reset)(void), void (*produce)(void), void (*consume)(void), const char *head);
 #ifdef __cplusplus
 }
 #endif

@@ -49,12 +49,13 @@ void __tsan_ignore_thread_end(void) {}
 __extension__ typedef unsigned __int128 u128;
 
 /* A read-modify-write: the new value is made of the old one. */
-#define UPDATE_OF(bits, type, name, new_value) \
+#define UPDATE_OF(bits, type, name, does, new_value) \
     type __tsan_atomic##bits##_##name(volatile type *p, type v, int order); \
     type __tsan_atomic##bits##_##name(volatile type *p, type v, int order) { \
         cell *c = touch_atomic((const void *)p, sizeof *p, true, PC); \
         const type old = *p; \
         *p = (type)(new_value); \
+        if (c) trace_atomic(does, false, order); \
         if (c) settle(c, (const void *)p, sizeof *p, order, *p != old); \
         return old; \
     }
@@ -65,6 +66,7 @@ __extension__ typedef unsigned __int128 u128;
         cell *c = stand_before_atomic((const void *)p, sizeof *p, true, PC); \
         const type old = *p; \
         if (c) judge_access((const void *)p, sizeof *p, old == *expected ? ATOMIC | WRITE : ATOMIC, PC); \
+        if (c) trace_atomic("compares", old != *expected, old == *expected ? order : failure); \
         if (old != *expected) { \
             if (c) acquire(c, failure); \
             *expected = old; \
@@ -86,23 +88,25 @@ static void settle(cell *c, const void *p, size_t size, int order, bool is_new) 
     type __tsan_atomic##bits##_load(const volatile type *p, int order); \
     type __tsan_atomic##bits##_load(const volatile type *p, int order) { \
         const cell *c = touch_atomic((const void *)p, sizeof *p, false, PC); \
+        if (c) trace_atomic(NULL, false, order); \
         if (c) acquire(c, order); \
         return *p; \
     } \
     void __tsan_atomic##bits##_store(volatile type *p, type v, int order); \
     void __tsan_atomic##bits##_store(volatile type *p, type v, int order) { \
         cell *c = touch_atomic((const void *)p, sizeof *p, true, PC); \
+        if (c) trace_atomic(NULL, false, order); \
         if (c) release(c, order, true, bytes_of((uintptr_t)p, sizeof *p, (uintptr_t)p >> 3)); \
         if (c && *p != v) changed(); \
         *p = v; \
     } \
-    UPDATE_OF(bits, type, exchange, v) \
-    UPDATE_OF(bits, type, fetch_add, old + v) \
-    UPDATE_OF(bits, type, fetch_sub, old - v) \
-    UPDATE_OF(bits, type, fetch_and, old & v) \
-    UPDATE_OF(bits, type, fetch_or, old | v) \
-    UPDATE_OF(bits, type, fetch_xor, old ^ v) \
-    UPDATE_OF(bits, type, fetch_nand, ~(old & v)) \
+    UPDATE_OF(bits, type, exchange, "exchanges", v) \
+    UPDATE_OF(bits, type, fetch_add, "adds to", old + v) \
+    UPDATE_OF(bits, type, fetch_sub, "subtracts from", old - v) \
+    UPDATE_OF(bits, type, fetch_and, "ands", old & v) \
+    UPDATE_OF(bits, type, fetch_or, "ors", old | v) \
+    UPDATE_OF(bits, type, fetch_xor, "xors", old ^ v) \
+    UPDATE_OF(bits, type, fetch_nand, "nands", ~(old & v)) \
     COMPARE_OF(bits, type, strong) \
     COMPARE_OF(bits, type, weak) \
     type __tsan_atomic##bits##_compare_exchange_val(volatile type *p, type expected, type v, int order, int failure); \
@@ -139,12 +143,14 @@ static bool is_the_same(const void *a, const void *b, size_t size) {
 
 void explore_load_any(size_t size, const void *p, void *into, int order) {
     const cell *c = touch_atomic(p, size, false, PC);
+    if (c) trace_atomic(NULL, false, order);
     if (c) acquire(c, order);
     copy_plainly(into, p, size);
 }
 
 void explore_store_any(size_t size, void *p, const void *from, int order) {
     cell *c = touch_atomic(p, size, true, PC);
+    if (c) trace_atomic(NULL, false, order);
     if (c) release(c, order, true, c->atomic);
     if (c && !is_the_same(p, from, size)) changed();
     copy_plainly(p, from, size);
@@ -152,6 +158,7 @@ void explore_store_any(size_t size, void *p, const void *from, int order) {
 
 void explore_exchange_any(size_t size, void *p, const void *from, void *into, int order) {
     cell *c = touch_atomic(p, size, true, PC);
+    if (c) trace_atomic("exchanges", false, order);
     if (c) settle(c, p, size, order, !is_the_same(p, from, size));
     copy_plainly(into, p, size);
     copy_plainly(p, from, size);
@@ -161,6 +168,7 @@ bool explore_compare_any(size_t size, void *p, void *expected, const void *from,
     cell *c = stand_before_atomic(p, size, true, PC);
     const bool same = is_the_same(p, expected, size);
     if (c) judge_access(p, size, same ? ATOMIC | WRITE : ATOMIC, PC);
+    if (c) trace_atomic("compares", !same, same ? order : failure);
     if (c && same) settle(c, p, size, order, true);
     if (c && !same) acquire(c, failure);
     if (same) copy_plainly(p, from, size); else copy_plainly(expected, p, size);

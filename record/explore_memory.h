@@ -20,6 +20,7 @@ typedef struct {
     const void *address, *pc[2];    /* of the later access and of the earlier one */
     int who, kind[2];               /* the side of the later one */
     unsigned size;
+    bool is_noted;                  /* race_shown has a run that shows it */
 } race;
 
 static cell *cells;
@@ -83,7 +84,7 @@ static void find_race(const cell *c, uint8_t bytes, int kind, const void *pc, co
         for (int i = 0; i < races_used; i++) {
             if ((races[i].pc[0] == pc && races[i].pc[1] == it->pc) || (races[i].pc[1] == pc && races[i].pc[0] == it->pc)) return;
         }
-        if (races_used < MOST_RACES) races[races_used++] = (race) { address, { pc, it->pc }, now, { kind, other }, size };
+        if (races_used < MOST_RACES) races[races_used++] = (race) { address, { pc, it->pc }, now, { kind, other }, size, false };
         return;
     }
 }
@@ -119,18 +120,14 @@ static bool is_shared(uintptr_t address, size_t size, int kind) {
 }
 
 static void trace_access(const void *address, unsigned size, int kind, const void *pc);
+static void trace_atomic(const char *does, bool failed, int order);
 
 /* Before an access of the side that runs: a step, where it is shared. Answers whether it is; of a schedule that is played again each
  * access is taken as such, since what is shared is not yet known. */
 static bool stand_before(const void *address, size_t size, int kind, const void *pc) {
     if (!run.on || size == 0) return false;
     const bool shared = is_shared((uintptr_t)address, size, kind) || replay.on;
-    if (shared) {
-        step(pc, address);
-    } else if (++sides[now].apart == MOST_APART) {
-        sides[now].waits_at = pc;
-        end_run(HANGS);
-    }
+    if (shared) step(pc, address); else stay_apart(pc);
     sides[now].accesses++;
     if (replay.on) trace_access(address, (unsigned)size, kind, pc);
     return shared;

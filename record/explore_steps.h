@@ -4,7 +4,7 @@
 #include <sys/mman.h>
 
 enum { PRODUCER, CONSUMER };
-enum { MOST_STEPS = 1 << 16, MOST_PREEMPTIONS = 8, STACK = 1 << 18, LOOKS = 16, MOST_APART = 1 << 24 };
+enum { MOST_STEPS = 1 << 16, MOST_PREEMPTIONS = 8, STACK = 1 << 18, LOOKS = 16, TURN = 1 << 18, MOST_APART = 1 << 24 };
 
 /* What a side does: it stands at a step; it lets the other go on first; it is not to go on before the other wakes it; it is over. */
 enum { READY, YIELDS, WAITS, OVER };
@@ -165,6 +165,22 @@ static void yield_from(const void *pc) {
     me->state = YIELDS;
     me->waits_at = pc;
     me->other_steps = sides[!now].steps;
+    let_time_pass(!now);
+    leave();
+    me->fresh = true;
+}
+
+/* After TURN accesses of nothing that is known as shared the other goes on, as it may change what this side looks at. Where neither comes to
+ * a step in MOST_APART accesses, or one does not and the other cannot go on, the run hangs. */
+static void stay_apart(const void *pc) {
+    side *me = &sides[now], *other = &sides[!now];
+    if (++me->apart % TURN != 0) return;
+    const bool other_ends = other->state == OVER || (other->state == WAITS && !other->timed) || other->apart >= MOST_APART;
+    me->waits_at = pc;
+    if (me->apart >= MOST_APART && other_ends) end_run(HANGS);
+    if (other->state == OVER) return;
+    me->state = YIELDS;
+    me->other_steps = other->steps;
     let_time_pass(!now);
     leave();
     me->fresh = true;

@@ -57,6 +57,35 @@ static void tell_schedule(const char *schedule) {
     printf("play it again, step by step: EXPLORE_SCHEDULE='%s' %s\n", schedule, called ? called : program_invocation_name);
 }
 
+static void print_begin(const uint64_t *event) {
+    static const char *const words[] = { "put", "close", "take" };
+    printf("%s", words[event[0] & 255]);
+    for (size_t i = 0; i < (size_t)(event[0] >> 8); i++) printf(" %llu", (unsigned long long)event[2 + i]);
+}
+
+/* A line that is out of turn because a call before it has no end, or no begin. */
+static void tell_missing_end(void) {
+    ring_calls_walk walk = ring_calls_begin(&rec);
+    const uint64_t *event, *begun[2] = { NULL, NULL };
+    uint64_t begun_at[2] = { 0, 0 };
+    for (uint64_t line = 2; (event = ring_calls_next(&walk)) != NULL; line++) {
+        const int kind = (int)(event[0] & 255);
+        const int s = kind < RING_TAKE || (kind >= RING_STORED && kind <= RING_CLOSED) ? PRODUCER : CONSUMER;
+        const uint64_t *before = begun[s];
+        if (line == audit.found.line && kind < RING_ENDS && before) {
+            printf("%c ", s == PRODUCER ? 'P' : 'C');
+            print_begin(event);
+            printf(" begins before ");
+            print_begin(before);
+            printf(" of line %llu has ended: is an end missing, as %s?\n", (unsigned long long)begun_at[s], s == PRODUCER ? "full" : "empty");
+        } else if (line == audit.found.line && kind >= RING_ENDS && !before) {
+            printf("the %s has no call that this ends: is a begin missing, as %s?\n", name_of_side[s], s == PRODUCER ? "put" : "take");
+        }
+        begun[s] = kind < RING_ENDS ? event : NULL;
+        begun_at[s] = line;
+    }
+}
+
 /* The recording, with marks at the line at fault and the one that contradicts it. */
 static void tell_recording(void) {
     ring_calls_walk walk = ring_calls_begin(&rec);
@@ -85,11 +114,17 @@ static void tell_finding(const char *words) {
     static char schedule[MOST_STEPS];
     write_schedule(schedule, sizeof schedule);
     printf("%s\n", words);
+    if (audit.found.line && audit.found.verdict == RING_AUDIT_OUT_OF_TURN) tell_missing_end();
     tell_recording();
     tell_stops();
     tell_schedule(schedule);
     keep_recording();
 }
+
+/* Of each race a run that shows it: its schedule, its plan, and what came of it. */
+typedef struct { uint64_t recording, steps, end; } sign;
+typedef struct { uint32_t at[MOST_PREEMPTIONS + 1]; int count; } plan_kept;
+static struct { char schedule[MOST_STEPS]; plan_kept plan; sign made; } race_shown[MOST_RACES];
 
 static void tell_races(void) {
     static const char *const does[KINDS] = { "reads", "writes", "reads atomically", "writes atomically" };
@@ -101,8 +136,8 @@ static void tell_races(void) {
         printf("data race: the %s %s %u bytes at %s (%s), which the %s %s (%s) with nothing between that orders them\n",
                name_of_side[it->who], does[it->kind[0]], it->size, name_of(it->address), place_of(it->pc[0]),
                name_of_side[!it->who], did[it->kind[1]], place_of(it->pc[1]));
+        if (i + 1 == races_used || strcmp(race_shown[i].schedule, race_shown[i + 1].schedule) != 0) tell_schedule(race_shown[i].schedule);
     }
-    if (races_used) tell_schedule(result.first_race);
 }
 
 /* Both wait, or one does and the other is over: where. */
@@ -123,17 +158,46 @@ static void tell_where_they_wait(const char *words) {
 
 static void tell_sums(void) {
     const struct { const char *name; uint64_t count; } sums[] = { { "full", result.full }, { "empty", result.empty },
-        { "nothing", result.nothing }, { "told", result.told }, { "overlapped", result.overlapped } };
+        { "no reason given", result.nothing }, { "told", result.told }, { "overlapped", result.overlapped } };
     printf("reached: ");
     for (int i = 0; i < 5; i++) printf("%s %s, ", sums[i].name, grouped(sums[i].count));
     printf("inside %s %s\n", grouped(result.inside[0]), grouped(result.inside[1]));
     const char *between = "never reached: ";
     for (int i = 0; i < 5; i++) {
-        if (sums[i].count) continue;
+        if (sums[i].count || i == 2 || (i == 3 && !result.closes)) continue;
         printf("%s%s", between, sums[i].name);
         between = ", ";
     }
     if (between[0] == ',') printf("\n");
+}
+
+/* A number, or where it points: into data with a name, or into a block. */
+static const char *value_of(uint64_t value, unsigned size) {
+    static char numbers[4][24];
+    static int next;
+    const char *name = size == 8 && value >= 4096 ? name_of((const void *)(uintptr_t)value) : "0x";
+    if (strncmp(name, "0x", 2) != 0) return name;
+    char *text = numbers[next++ % 4];
+    snprintf(text, sizeof numbers[0], "%llu", (unsigned long long)value);
+    return text;
+}
+
+/* What an access reads and writes, and its memory order. */
+static void tell_access(const traced *it, const char *does, const char *name) {
+    static const char *const orders[] = { "relaxed", "consume", "acquire", "release", "acq_rel", "seq_cst" };
+    printf("%*s%s %s", it->who == PRODUCER ? 8 : 48, "", does, name);
+    if (it->has_value && it->does && it->does[0] == 'c') {
+        printf(": had %s, ", value_of(it->had, it->size));
+        if (it->failed) printf("failed"); else printf("wrote %s", value_of(it->value, it->size));
+    } else if (it->has_value && it->does) {
+        printf(": %s -> %s", value_of(it->had, it->size), value_of(it->value, it->size));
+    } else if (it->has_value) {
+        printf(" = %s", value_of(it->value, it->size));
+    } else if (it->failed) {
+        printf(": failed");
+    }
+    if ((it->kind & ATOMIC) && it->size) printf(" (%s)", orders[(unsigned)it->order % 6]);
+    printf("  (%s)\n", place_of(it->pc));
 }
 
 /* The steps of a schedule that was played: the accesses of what both sides touch in it, and the calls. */
@@ -151,9 +215,6 @@ static void tell_trace(void) {
         const uintptr_t address = (uintptr_t)it->address;
         if (it->size > 0 && !(shared_of(cell_of(address), it->who, it->kind) & bytes_of(address, it->size, address >> 3))) continue;
         const bool allocates = it->address == &arena;
-        const char *name = allocates ? "malloc or free" : name_of(it->address);
-        printf("%*s%s %s", it->who == PRODUCER ? 8 : 48, "", it->size ? does[it->kind] : allocates ? "calls" : "uses", name);
-        if (it->has_value) printf(" = %llu", (unsigned long long)it->value);
-        printf("  (%s)\n", place_of(it->pc));
+        tell_access(it, it->does ? it->does : it->size ? does[it->kind] : allocates ? "calls" : "uses", allocates ? "malloc or free" : name_of(it->address));
     }
 }

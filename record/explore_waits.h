@@ -27,6 +27,19 @@ int clock_nanosleep(clockid_t clock, int flags, const struct timespec *time, str
     return let_the_other(PC);
 }
 
+/* Of two real threads nothing here would be true. */
+static int refuse_thread(void) {
+    fflush(stdout);
+    fputs("explore: the test starts a thread: its two sides are functions that explore() calls\n", stderr);
+    _exit(2);
+}
+
+int pthread_create(pthread_t *restrict thread, const pthread_attr_t *restrict how, void *(*body)(void *), void *restrict given) {
+    (void)thread; (void)how; (void)body; (void)given;
+    return refuse_thread();
+}
+int thrd_create(thrd_t *thread, thrd_start_t body, void *given) { (void)thread; (void)body; (void)given; return refuse_thread(); }
+
 /* What comes behind a wake comes behind all that the other side did before (Linux does not promise it; so there is no false alarm). */
 static long futex(const uint32_t *word, int operation, uint32_t value, const void *time, const void *pc) {
     const int what = operation & FUTEX_CMD_MASK;

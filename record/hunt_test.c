@@ -1,5 +1,5 @@
 /* hunt_test.c: hunt_test WAY: for record/test, recorders that are hard on record/hunt and rests.c. Those that are to end well write a
- * recording with no call, and one is not well that says why on standard error. */
+ * recording of one call, and one is not well that says why on standard error. */
 #define _GNU_SOURCE
 #include <errno.h>
 #include <pthread.h>
@@ -158,18 +158,25 @@ static void begins_to_write(void) {
 
 static void crashes(void) { begins_to_write(); raise(SIGSEGV); }
 static void fails(void) { begins_to_write(); fail("as it was asked to"); }
+/* As a test that judges in process does. */
+static void judges(void) {
+    fputs("a round\nfault: line 6: item 0 was not inside; item 1 of line 4 is next\n", stderr);
+    for (int line = 1; line < 9; line++) fprintf(stderr, "  %d\n", line);
+    abort();
+}
+
 static void hangs(void) { begins_to_write(); for (;;) pause(); }
 static void hangs_for_good(void) { signal(SIGQUIT, SIG_IGN); for (;;) pause(); }
 
 int main(int argc, char **argv) {
     static const struct { const char *name; void (*do_it)(void); } ways[] = {
         {"many", many}, {"c11", c11}, {"forks", forks}, {"signal_before", signal_before}, {"signal_after", signal_after},
-        {"blocked", blocked}, {"cancelled", cancelled}, {"waits", waits}, {"crashes", crashes}, {"fails", fails}, {"hangs", hangs},
-        {"hangs_and_writes", hangs_and_writes}, {"hangs_for_good", hangs_for_good}};
+        {"blocked", blocked}, {"cancelled", cancelled}, {"waits", waits}, {"crashes", crashes}, {"fails", fails}, {"judges", judges},
+        {"hangs", hangs}, {"hangs_and_writes", hangs_and_writes}, {"hangs_for_good", hangs_for_good}};
     for (size_t i = 0; argc == 2 && i < sizeof ways / sizeof *ways; i++) {
         if (strcmp(argv[1], ways[i].name) != 0) continue;
         ways[i].do_it();
-        puts("queue 1");
+        puts("queue 1\nP put 1\nP stored");
         return 0;
     }
     fputs("hunt_test WAY\n", stderr);

@@ -175,6 +175,7 @@ EXPLORE = Program("explore", "test -e $LIBRARY/libring_audit.a && command -v gcc
                   "libring_audit.a in dist/, or in $LIBRARY; apt-get install build-essential binutils",
                   " && ".join([f"{EXPLORER} -o $ROOM/explore.o", f"{EXPLORER.replace('-O2', f'-O1 {SANITIZED}')} -o $ROOM/explore_sanitized.o",
                                explored("explore_test", "gcc -std=gnu11", "explore_test.c"),
+                               explored("explore_rings", "gcc -std=gnu11", "explore_rings.c"),
                                explored("explore_test_sanitized", "gcc -std=gnu11", "explore_test.c", "", f"gcc {SANITIZED}", "explore_sanitized.o"),
                                explored("explore_test_cpp", "g++ -std=c++20", "explore_test.cpp", "", "g++"),
                                explored("ring_explored", "g++ -std=c++17", "broken/ring_explored.cpp", "-DNO_HOLD", "g++")]), "$ROOM/explore_test")

@@ -12,7 +12,7 @@ package main
 // is only ever widened. Atomic operations of Go are sequentially consistent: where the ticket of an end is below that of a begin, the one
 // call happens before the other, and a right queue has to respect that. All other calls overlap in the recording. While recording nothing
 // is allocated and nothing locked; where a side has no more room the history is cut there, for both sides: its first line begins
-// with `cut`, and Write says on standard error whose log was full.
+// with `cut`, and Write says on standard error whose log was full; and where no call was recorded.
 
 import (
 	"bufio"
@@ -192,7 +192,8 @@ func (e ringEvent) write(out *bufio.Writer) {
 	out.WriteByte('\n')
 }
 
-// Write writes the recording; head is its first line: "queue 8", "queue 1 512" or "queue". Where the history is cut, standard error is told.
+// Write writes the recording; head is its first line: "queue 8", "queue 1 512" or "queue". Where the history is cut, and where it has no
+// call, standard error is told.
 func (r *RingCalls) Write(head string, to io.Writer) error {
 	out, events := bufio.NewWriter(to), r.events()
 	if events.cut != math.MaxUint64 {
@@ -201,6 +202,8 @@ func (r *RingCalls) Write(head string, to io.Writer) error {
 			side, log = "consumer", &r.c
 		}
 		fmt.Fprintf(os.Stderr, "ring_calls: the %s's log was full after %d words: the recording is a first part of what happened\n", side, len(log.words))
+	} else if r.p.used+r.c.used == 0 {
+		fmt.Fprintln(os.Stderr, "ring_calls: no call was recorded: is it this RingCalls that was called, and have both goroutines ended?")
 	}
 	fmt.Fprintln(out, events.firstLine(head))
 	for event, more := events.next(); more; event, more = events.next() {

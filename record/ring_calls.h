@@ -20,7 +20,7 @@
  *
  * While recording nothing is allocated and nothing locked. Where a side has no more room the history is cut, for both sides, at the
  * ticket of the first event that was not kept: a first part of what happened, and a first part of a lawful history is lawful. The first
- * line then begins with `cut`, and ring_calls_write says on stderr whose log was full.
+ * line then begins with `cut`, and ring_calls_write says on stderr whose log was full. It says so, too, where no call was recorded.
  *
  * RING_CALLS_TSC (x86, an invariant counter of cycles that all cores share) takes time stamps for tickets: no shared counter. The
  * fences are needed: without mfence a store of the call may still wait in the store buffer at its end's stamp, without lfence a load of
@@ -177,10 +177,12 @@ static inline void ring_calls_line(const uint64_t *event, FILE *out) {
 }
 
 /* Writes the recording; head is its first line: "queue 8", "queue 1 512" or "queue". Answers 0 where not all was written. Where the history
- * is cut, stderr is told. */
+ * is cut, and where it has no call, stderr is told. */
 static inline int ring_calls_write(const ring_calls *r, const char *head, FILE *out) {
     ring_calls_walk w = ring_calls_begin(r);
-    if (w.cut != UINT64_MAX) {
+    if (!r->p.words || (w.cut == UINT64_MAX && r->p.used + r->c.used == 0)) {
+        fputs("ring_calls: no call was recorded: was ring_calls_init called, and were both threads joined?\n", stderr);
+    } else if (w.cut != UINT64_MAX) {
         const ring_calls_log *full = r->p.cut == w.cut ? &r->p : &r->c;
         fprintf(stderr, "ring_calls: the %s's log was full after %zu words: the recording is a first part of what happened\n",
                 full == &r->p ? "producer" : "consumer", full->room);

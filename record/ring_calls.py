@@ -10,7 +10,8 @@ Why there is no false alarm: each begin takes the next ticket of one counter bef
 ever widened. next() of a count is one step of C under the interpreter's lock, and that lock orders the threads: where the ticket of an end
 is below that of a begin, the one call happens before the other. (A build without that lock needs a lock round next.) The logs are there
 before the recording begins, but CPython allocates its numbers as it goes. Where a side has no more room the history is cut there,
-for both sides: a first part of what happened, whose first line begins with `cut`; write says on stderr whose log was full."""
+for both sides: a first part of what happened, whose first line begins with `cut`; write says on stderr whose log was full, and
+where no call was recorded."""
 import array
 import heapq
 import itertools
@@ -140,9 +141,12 @@ class Recorder(Calls):
             yield " ".join([WORDS[kind], *map(str, numbers)])
 
     def write(self, head, out):
-        """Writes the recording; head is its first line: "queue 8", "queue 1 512" or "queue". Where the history is cut, stderr is told."""
+        """Writes the recording; head is its first line: "queue 8", "queue 1 512" or "queue". Where the history is cut, and where it has no
+        call, stderr is told."""
         if self.cut() != NEVER:
             side, log = ("producer", self.puts) if self.puts.cut < self.takes.cut else ("consumer", self.takes)
             print(f"ring_calls: the {side}'s log was full after {len(log.words)} words: the recording is a first part of what happened", file=sys.stderr)
+        elif self.puts.used + self.takes.used == 0:
+            print("ring_calls: no call was recorded: is it this Recorder that was called, and were both threads joined?", file=sys.stderr)
         for line in self.lines(head):
             out.write(line + "\n")

@@ -13,7 +13,7 @@
 //! ticket of an end is below that of a begin, the begin's `fetch_add` (Acquire) reads from the release sequence that the end's (Release)
 //! heads: the one call happens before the other, and a right queue has to respect that. All other calls overlap in the recording. While
 //! recording nothing is allocated and nothing locked; where a side has no more room the history is cut there, for both sides: its
-//! first line begins with `cut`, and `write_calls` says on standard error whose log was full.
+//! first line begins with `cut`, and `write_calls` says on standard error whose log was full; and where no call was recorded.
 #![allow(dead_code)]
 use std::fmt;
 use std::io::{self, Write};
@@ -171,12 +171,15 @@ impl<'a> Iterator for Events<'a> {
     }
 }
 
-/// Writes the recording; head is its first line: "queue 8", "queue 1 512" or "queue". Where the history is cut, standard error is told.
+/// Writes the recording; head is its first line: "queue 8", "queue 1 512" or "queue". Where the history is cut, and where it has no call,
+/// standard error is told.
 pub fn write_calls(head: &str, p: &PutLog, c: &TakeLog, out: &mut impl Write) -> io::Result<()> {
     let mut events = events(p, c);
     if events.are_cut() {
         let (side, log) = if p.0.cut < c.0.cut { ("producer", &p.0) } else { ("consumer", &c.0) };
         eprintln!("ring_calls: the {side}'s log was full after {} words: the recording is a first part of what happened", log.words.capacity());
+    } else if p.0.words.is_empty() && c.0.words.is_empty() {
+        eprintln!("ring_calls: no call was recorded: are these the logs of both threads, and were these joined?");
     }
     writeln!(out, "{}", events.first_line(head))?;
     events.try_for_each(|event| writeln!(out, "{event}"))?;

@@ -21,17 +21,36 @@ FOUND = (
                      r" +1  queue 2\n +2  P put 1\n +3  C take\n"),
     ("spins", 4, r"^hangs: the producer is over, the consumer goes on at explore_test.c:\d+\n"),
     ("yields", 4, r"^hangs: the producer goes on at explore_test.c:\d+, the consumer goes on at explore_test.c:\d+\n"),
-    ("loops", 4, r"^hangs: the producer goes on at explore_test.c:\d+, the consumer has not begun\n"),
+    ("loops", 4, r"^hangs: the producer goes on at explore_test.c:\d+, the consumer is over\n"),
     ("crashes", 4, r"^crash: Segmentation fault, in the consumer\n(.|\n)*    the producer stops before explore_test.c:\d+\n"),
     ("asserts", 4, r"^crash: Aborted, in the consumer\n"),
     ("wrong_side", 2, r"explore: the producer's function records a call of the consumer\n"),
     ("not_the_same", 2, r"explore: the test does not do the same again in the same schedule: "),
     ("apart", 2, r"explore: no memory that both sides touch was seen: "),
-    ("no_head", 2, r"the head is as .queue 2.\n"),
+    ("no_head", 2, r'^explore: "queue 02" is no first line of a recording, as "queue 2"\n'),
 )
 # The same of explore_test.cpp.
 CPP_LAWFUL = ("queue", "wait", "throws")
 CPP_FOUND = (("lost", 4, r"^waits for ever: the producer is over, the consumer waits at explore_test.cpp:\d+\n"),)
+# The same of explore_rings.c.
+RINGS_LAWFUL = ("ring", "place", "spin_both", "spin_box")
+RINGS_FOUND = (
+    ("spin_put", 4, r"^hangs: the producer goes on at explore_rings.c:\d+, the consumer is over\n"),
+    ("no_end", 3, r"^fault: line 7: out of turn\nP put 4 begins before put 3 of line 6 has ended: is an end missing, as full\?\n"),
+    ("no_begin", 3, r"^fault: line \d+: out of turn\nthe consumer has no call that this ends: is a begin missing, as take\?\n"),
+    ("bug_ring", 3, r"^fault: line 4: item 0 was not inside; item 1 of line 2 is next\n"),
+    ("spin_full", 4, r"^hangs: the producer goes on at explore_rings.c:\d+, the consumer is over\n"),
+)
+# A reset that leaves something behind, or what is no test: status 2, these words alone, and no fault.
+NOT_THE_SAME = "explore: the test does not do the same again in the same schedule: reset has to set back all that the sides change\n"
+THREAD = "explore: the test starts a thread: its two sides are functions that explore() calls\n"
+REFUSED = (
+    *((f"{bug}reset_{way}", NOT_THE_SAME) for bug in ("", "bug_") for way in ("nothing", "once", "but_head", "but_tail")),
+    ("later_fault", NOT_THE_SAME), ("later_hang", NOT_THE_SAME), ("later_race", NOT_THE_SAME), ("later_crash", NOT_THE_SAME),
+    ("posix_thread", THREAD), ("c11_thread", THREAD), ("runs_thread", THREAD),
+    ("", "explore: the test does not call explore()\n"), ("leaves", "explore: the test ended the program within explore()\n"),
+    ("head", 'explore: "queu 2" is no first line of a recording, as "queue 2"\n'),
+)
 # Of each bug of twelve.h what is told.
 TWELVE = ("data race: the consumer reads 8 bytes at q .twelve.h:", "item 0 was not inside", "full, but at most 1 inside",
           "stored, but at least 3 inside", "item 5, but item 1 of line 2", "item 5, but item 1 of line 2", "closed, but item 2 was inside",
@@ -80,11 +99,35 @@ class Tries:
             if status in (3, 4) and "sanitized" not in name and printed.startswith(("fault", "wait", "both", "hang")):
                 self.check(f"{name} {way}: again", self.is_played_again(f"$ROOM/{name} {way}", printed), printed)
 
+    def refused(self):
+        for way, words in REFUSED:
+            status, printed = self.explore(f"$ROOM/explore_rings {way}")
+            self.check(f"explore_rings {way}", status == 2 and printed == words, (status, printed))
+
+    def steps(self):
+        """A schedule that is played tells what each access does, its order, and where a pointer points."""
+        for schedule, wanted in (
+            ("P4 C", ("stores place = slot+8 (release)  (", "compares place: had slot+8, failed (relaxed)  (",
+                      "compares place: had slot+8, wrote 0 (acquire)  (", "reads slot+8 = 1  (", "compares box: had 0, failed (seq_cst)  (",
+                      "exchanges box: 0 -> 7 (acquire)  (", "adds to box: 7 -> 10 (relaxed)  (", "\nlawful\n")),
+            ("C5 P", ("compares place: had 0, failed (relaxed)  (", "adds to box: 0 -> 3 (relaxed)  (", "compares box: had 3, wrote 4 (seq_cst)  (",
+                      "exchanges box: 4 -> 7 (acquire)  (")),
+        ):
+            status, printed = self.explore("$ROOM/explore_rings place", SCHEDULE=schedule)
+            self.check(f"explore: the steps of {schedule}", status == 0 and all(words in printed for words in wanted), (status, printed))
+        status, printed = self.explore("$ROOM/explore_rings ring")
+        self.check("explore: never reached", "never reached" not in printed and "no reason given 0, told 0" in printed, (status, printed))
+        status, printed = self.explore("$ROOM/explore_rings spin_both")
+        self.check("explore: never reached", "\nnever reached: full, empty\n" in printed, (status, printed))
+        status, printed = self.explore("$ROOM/explore_rings races")
+        self.check("explore: two races", status == 3 and len(re.findall(r"(?m)^data race: .*\nschedule: ", printed)) == 2, (status, printed))
+
     def limits(self):
         test = "$ROOM/explore_test"
         status, printed = self.explore(f"{test} twice")
         self.check("explore twice", status == 0 and re.findall(r"(?m)^(\d+) inter", printed) == ["130", "268"], (status, printed))
         for way, options, want, words in (
+            ("spin_long", {"PREEMPTIONS": 0}, 0, "2 interleavings with at most 0 preemptions, "),
             ("no_fence", {"RACES": 0}, 0, "data races were not looked for."),
             ("counts", {"PREEMPTIONS": 0}, 0, "2 of them were cut, after 10,000 steps "),
             ("counts", {"PREEMPTIONS": 0, "STEPS": 50000}, 0, "2 interleavings with at most 0 preemptions, "),
@@ -98,7 +141,7 @@ class Tries:
             ("mutex", {"SCHEDULE": "C"}, 0, "\nlawful\n"),
             ("mutex", {"DUMP": "/nowhere/at/all"}, 2, "EXPLORE_DUMP: the file cannot be written\n"),
         ):
-            status, printed = self.explore(f"{test} {way}", **options)
+            status, printed = self.explore(f"$ROOM/explore_rings {way}" if way.startswith("spin_") else f"{test} {way}", **options)
             self.check(f"explore {way} {options}", status == want and words in printed, (status, printed))
 
     def verdicts(self):
@@ -199,14 +242,14 @@ class Tries:
         room = os.environ["ROOM"]
         with open(f"{here}/README.md", encoding="utf-8") as file:
             section = file.read().split("## Every interleaving of a small test")[1].split("\n## ")[0]
-        for name, text in zip(("my_queue.h", "my_test.c"), re.findall(r"(?s)```c\n(.*?)```", section)):
+        for name, text in zip(("my_ring.h", "my_explore.c"), re.findall(r"(?s)```c\n(.*?)```", section)):
             with open(f"{room}/{name}", "w", encoding="utf-8") as file:
                 file.write(text)
         want = re.search(r"(?m)^    (fault: .*)$", section)[1]
         command = next(line.strip() for line in section.split("\n") if line.startswith("    gcc -fsanitize=thread"))
         rest = next(line.strip() for line in section.split("\n") if line.startswith("    gcc -O2 "))
         whole = f"cd $ROOM && {command} && {rest}".replace("record", shlex.quote(here)).replace("dist/", "$LIBRARY/")
-        for each in (whole, f"cd $ROOM && {shlex.quote(here)}/explore my_test.c"):
+        for each in (whole, f"cd $ROOM && {shlex.quote(here)}/explore my_explore.c"):
             status, out, said = self.run(each)
             printed = out.decode()
             self.check(f"explore of the README: {each}", status == 3 and printed.split("\n")[0] == want, (status, printed, said))
@@ -215,7 +258,7 @@ class Tries:
         status, _, said = self.run(whole.replace("-fsanitize=thread ", ""))
         self.check("explore of what is not instrumented", status == 2 and "explore: the test was not compiled with -fsanitize=thread\n" in said, said)
         status, _, said = self.run(f"{shlex.quote(here)}/explore")
-        self.check("explore without words", status == 2 and "record/explore my_test.c" in said, said)
+        self.check("explore without words", status == 2 and "record/explore my_explore.c" in said, said)
         status, _, said = self.run(f"{shlex.quote(here)}/explore nowhere.c")
         self.check("explore of no file", status == 2 and "explore: status 1: gcc " in said, said)
 
@@ -238,7 +281,10 @@ def order_of(lines):
 def try_all(tries, here):
     tries.ways("explore_test")
     tries.ways("explore_test_cpp", CPP_LAWFUL, CPP_FOUND)
+    tries.ways("explore_rings", RINGS_LAWFUL, RINGS_FOUND)
     tries.ways("explore_test_sanitized", [way for way in LAWFUL if way not in ALLOCATES])
+    tries.refused()
+    tries.steps()
     tries.limits()
     tries.verdicts()
     tries.soundness()

@@ -1,9 +1,15 @@
 import java.io.OutputStreamWriter;
 import java.io.Writer;
 
-/** Kinds WORDS: each kind of event, logs of so many words. */
+/** Kinds WORDS: each kind of event, logs of so many words; with no WORDS no event. */
 final class Kinds {
     public static void main(String[] args) throws Exception {
+        if (args.length == 0) {
+            try (Writer out = new OutputStreamWriter(System.out)) {
+                new RingCalls(8).write("queue 2", out);
+            }
+            return;
+        }
         RingCalls rec = new RingCalls(Integer.parseInt(args[0]));
         rec.put(5);
         rec.take();

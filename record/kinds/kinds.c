@@ -1,9 +1,11 @@
-/* kinds.c: kinds WORDS: each kind of event, logs of so many words. As C11 and as C++11. */
+/* kinds.c: kinds WORDS: each kind of event, logs of so many words; with no WORDS no event, and a ring_calls that was never begun. As C11 and
+ * as C++11. */
 #include "ring_calls.h"
 
 int main(int argc, char **argv) {
-    ring_calls r;
+    static ring_calls r;
     const uint64_t a[3] = { 1, 2, 3 }, b[2] = { 4, 5 }, c[2] = { 7, UINT64_MAX };
+    if (argc == 1) return !ring_calls_write(&r, "queue 2", stdout);
     if (argc != 2 || !ring_calls_init(&r, strtoul(argv[1], NULL, 10))) return 2;
     ring_calls_put(&r, 5);
     ring_calls_take(&r);

@@ -1,4 +1,4 @@
-// kinds WORDS: each kind of event, logs of so many words.
+// kinds WORDS: each kind of event, logs of so many words; with no WORDS no event.
 package main
 
 import (
@@ -8,6 +8,10 @@ import (
 )
 
 func main() {
+	if len(os.Args) == 1 {
+		NewRingCalls(8).Write("queue 2", os.Stdout)
+		return
+	}
 	words, _ := strconv.Atoi(os.Args[1])
 	rec := NewRingCalls(words)
 	rec.Put(5)

@@ -1,11 +1,14 @@
-"""kinds WORDS: each kind of event, logs of so many words."""
+"""kinds WORDS: each kind of event, logs of so many words; with no WORDS no event."""
 import os
 import sys
 
 sys.path.insert(0, os.path.dirname(os.path.dirname(os.path.abspath(__file__))))
 import ring_calls
 
-rec = ring_calls.Recorder(int(sys.argv[1]))
+rec = ring_calls.Recorder(int(sys.argv[1]) if sys.argv[1:] else 8)
+if not sys.argv[1:]:
+    rec.write("queue 2", sys.stdout)
+    sys.exit()
 rec.put(5)
 rec.take()
 rec.stored()

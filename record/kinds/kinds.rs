@@ -1,12 +1,15 @@
-//! kinds WORDS: each kind of event, logs of so many words.
+//! kinds WORDS: each kind of event, logs of so many words; with no WORDS no event.
 #[path = "../ring_calls.rs"]
 mod ring_calls;
 use ring_calls::{Clock, PutLog, TakeLog, write_calls};
 
 fn main() -> std::io::Result<()> {
-    let words = std::env::args().nth(1).expect("WORDS").parse().expect("a number");
+    let words = std::env::args().nth(1).map(|word| word.parse().expect("a number"));
     let clock = Clock::new();
-    let (mut p, mut c) = (PutLog::new(&clock, words), TakeLog::new(&clock, words));
+    let (mut p, mut c) = (PutLog::new(&clock, words.unwrap_or(8)), TakeLog::new(&clock, words.unwrap_or(8)));
+    if words.is_none() {
+        return write_calls("queue 2", &p, &c, &mut std::io::stdout().lock());
+    }
     p.put(5);
     c.take();
     p.stored();

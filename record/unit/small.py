@@ -115,6 +115,13 @@ def try_shrinks():
             by_program, in_process, _ = in_both_ways("shrink", text)
             good = all(seen[0] == b"" and seen[1].startswith("shrink: ") and seen[2] == 1 for seen in (by_program, in_process))
             check(f"shrink has nothing to do with {text[-1000:]}", good, (by_program, in_process))
+    filled = "".join(f"P put {at}\nP stored\n" for at in range(7))
+    for text, want, said in ((f"{filled}P put 7\nP full\n", "P put 7\nP full\n", "line 17: full, but at most 7 inside since line 16"),
+                             (f"{filled}P put 7 8\nP short\n", "P put 7 8\nP short\n", "line 17: short for 2, but at most 7 inside since line 16")):
+        head = "queue 8\n" if want.endswith("full\n") else "queue 9\n"
+        told = f"shrink: of the whole recording: {said}; record/head tells the first line that fits\n"
+        seen = in_both_ways("shrink", (head + text).encode())[:2]
+        check(f"shrink: {said}", all(each == ((head + want).encode(), told, 0) for each in seen), seen)
     long = b"queue 8\n" + b"".join(b"P put %d\nC take\nP stored\nC item %d\n" % (at, at) for at in range(250_000)) + b"C take\nC closed\n"
     check("shrink of a long recording", (lines := try_shrink("shrink of 1,000,003 lines", long)) == 3, lines)
 
@@ -174,7 +181,16 @@ def try_head(text):
     check(f"head of {text[-1000:]}", good, (heads, verdicts, by_program, in_process))
 
 
+def try_help():
+    for tool in ("shrink", "head"):
+        for words, status in (("--help", 0), ("-h", 0), ("", 2), ("--what --help", 2)):
+            done = subprocess.run([f"{HERE}/{tool}", *words.split()], capture_output=True, text=True, check=False)
+            used = (done.stdout, done.stderr)[status == 2].startswith(f"record/{tool} CALLS")
+            check(f"{tool} {words}", done.returncode == status and used and (status == 2) == (done.stdout == ""), done)
+
+
 def main(ring):
+    try_help()
     try_shrinks()
     try_heads(ring)
     print(f"{passed} passed, {failed} failed")

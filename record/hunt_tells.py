@@ -1,0 +1,97 @@
+"""hunt_tells.py: what record/hunt tells of a hunt: in lines to be read, as JSON, and for a server that reads JUnit's XML."""
+import dataclasses
+import json
+import re
+import shlex
+from xml.etree import ElementTree
+
+# What the lawful runs may reach, of the lines of their reports. Of nothing no hunt knows whether the queue has such ends: it is told where it was reached.
+REACHED = ("full", "empty", "nothing", "told", "overlapped")
+NAMES = {"nothing": "no reason given"}
+# How many lines of a small recording are printed.
+PRINTED = 30
+
+
+def last_lines(text, most):
+    return [line for line in text.splitlines() if line.strip()][-most:]
+
+
+def text_of(path):
+    with open(path, encoding="utf-8") as file:
+        return file.read()
+
+
+def told(hunt):
+    """What was found, in lines to be read."""
+    rests, never = hunt.rests.counts()[1], hunt.never_reached()
+    yield f"{hunt.runs:,} runs in {hunt.took:.1f} s, {hunt.lawful:,} lawful, {rests:,} rests"
+    if hunt.lawful:
+        sums = ", ".join(f"{NAMES.get(word, word)} {hunt.reached[word]:,}" for word in REACHED if word in hunt.can_reach or hunt.reached[word])
+        yield f"lawful runs reached: {sums}, inside {hunt.inside[0]:,} {hunt.inside[1]:,}"
+    if never:
+        yield f"never reached: {', '.join(never)}"
+    if "overlapped" in never:
+        yield "(no call overlapped one of the other side: let both threads wait for each other first, make more calls, leave two processors free)"
+    if not hunt.rests.lacks and not rests and any(way.rests for way in hunt.ways[:hunt.runs]):
+        yield "(no thread rested: the runs are too short, or COMMAND has handlers for all signals)"
+    if hunt.cut:
+        yield f"(in {hunt.cut:,} of them a log was full, so their ends are missing: give the recorder more room)"
+    for number, kind in enumerate(hunt.kinds.values(), 1):
+        yield from ("", f"{number}. {kind.words}")
+        yield from (f"   {line}" for line in told_of(kind, hunt.runs))
+
+
+def told_of(kind, runs):
+    """What is told of a kind of finding."""
+    if kind.lawful_as:
+        yield f"the whole recording is lawful as {kind.lawful_as}"
+    yield f"in {kind.runs:,} of {runs:,} runs, first in run {kind.first_run:,} after {kind.seconds:,} s, by {kind.way}"
+    if kind.stderr:
+        yield from (f"it said: {line}" for line in said_of(text_of(kind.stderr)))
+    yield from (file for file in (kind.stderr, kind.recording) if file)
+    if kind.small:
+        yield f"{kind.small}, {kind.small_lines:,} lines:"
+        lines = text_of(kind.small).splitlines()
+        yield from (f"    {line}" for line in lines[:PRINTED])
+        if len(lines) > PRINTED:
+            yield "    .."
+        yield from (f"({line})" for line in kind.small_remarks)
+    elif kind.sort == "fault":
+        yield f"(not made small yet: record/shrink {kind.recording})"
+
+
+def said_of(text):
+    """The last lines of what a run said, and before them the first fault of which it told, as a test that judges in process does."""
+    last = last_lines(text, 3)
+    fault = next((line for line in text.splitlines() if line.startswith("fault:")), None)
+    return last if fault is None or fault in last else [fault, *last]
+
+
+def write_json(hunt, file):
+    """What was found, as an object."""
+    result = {
+        "command": hunt.command, "status": hunt.status(), "runs": hunt.runs, "lawful": hunt.lawful, "cut": hunt.cut, "seconds": round(hunt.took, 2),
+        "rests": hunt.rests.counts()[1], "without_rests": hunt.rests.lacks, "ways": [str(way) for way in hunt.ways],
+        "reached": {**{word: hunt.reached[word] for word in REACHED}, "inside": hunt.inside}, "never_reached": hunt.never_reached(),
+        "found": [dataclasses.asdict(kind) for kind in hunt.kinds.values()]}
+    json.dump(result, file, indent=1)
+    file.write("\n")
+
+
+def write_junit(hunt, file):
+    """A test of each kind that was found, which failed; where there is none, one that passed."""
+    faults = sum(kind.sort == "fault" for kind in hunt.kinds.values())
+    numbers = {"tests": len(hunt.kinds) or 1, "failures": faults, "errors": len(hunt.kinds) - faults, "time": f"{hunt.took:.1f}"}
+    suite = ElementTree.Element("testsuite", {name: str(number) for name, number in numbers.items()}, name=printable(f"hunt {shlex.join(hunt.command)}"))
+    for kind in hunt.kinds.values():
+        case = ElementTree.SubElement(suite, "testcase", classname="hunt", name=printable(kind.title))
+        found = ElementTree.SubElement(case, "failure" if kind.sort == "fault" else "error", message=printable(kind.words))
+        found.text = printable("\n".join(told_of(kind, hunt.runs)))
+    if not hunt.kinds:
+        ElementTree.SubElement(suite, "testcase", classname="hunt", name=f"{hunt.runs} runs are lawful")
+    file.write(ElementTree.tostring(suite, encoding="unicode") + "\n")
+
+
+def printable(text):
+    """Without what may not stand in XML."""
+    return re.sub(r"[^\t\n\r\x20-\ud7ff\ue000-\ufffd\U00010000-\U0010ffff]", "?", text)
