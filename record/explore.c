@@ -31,12 +31,14 @@
  *
  * Data races: explore_memory.h keeps which accesses come before which by the memory orders that the text gives, as in C11. An execution
  * that is sequentially consistent is one that C11 permits, so a race in it is one of the program: there are no false alarms. Where C11
- * orders less than is kept here (release sequences of C++20, futexes), a race may go unseen. */
+ * orders less than is kept here (release sequences of C++20, futexes), a race may go unseen. A free counts as a write of the block, up to
+ * MOST_WATCHED bytes, so that a step stands before each access of it by the other side; an access of what is free is told as such. */
 #define _GNU_SOURCE
 #include <fcntl.h>
 #include <signal.h>
 #include <sys/time.h>
 #include "ring_audit.h"
+#define RING_CALLS_EXPLORE      /* (a test has to include explore.h first) */
 #include "explore.h"
 
 void explore_event(int kind, const uint64_t *numbers, size_t n);        /* for ring_calls.h, where explore.h includes it */
@@ -45,10 +47,12 @@ void explore_event(int kind, const uint64_t *numbers, size_t n);        /* for r
 #include "explore_memory.h"
 #include "explore_hooks.h"
 #include "explore_waits.h"
+#include "explore_heap.h"
 #include "explore_where.h"
+#include "explore_trace.h"
 
 enum { GO_ON, ANEW, STOP };
-enum { LOG_WORDS = 1 << 18, MOST_TRACE = 1 << 15, SHOWN = 60 };
+enum { LOG_WORDS = 1 << 18, SHOWN = 60 };
 static const char *const name_of_side[2] = { "producer", "consumer" };
 
 static struct { uint64_t preemptions; double seconds; const char *schedule, *keep, *dump; } option = { 3, 60, NULL, NULL, NULL };
@@ -63,24 +67,10 @@ static struct {
     uint64_t executed;              /* in all, those too that were made anew */
     double began;
     int status, preemptions;        /* those of the run that is told */
-    bool closes;                    /* a close was recorded */
+    bool calls, closes;             /* a call was recorded; a close was */
     bool time_is_over, is_another;  /* is_another: the test does not do the same again */
     FILE *dump;
 } result;
-
-/* What a schedule that is played again does, one after the other: accesses, and calls that begin or end, at this place of the log. */
-typedef struct {
-    uint8_t who, kind;
-    bool is_event, has_value, failed;
-    int order;                      /* the memory order of an atomic access */
-    const char *does;               /* of a read-modify-write; had and value: before and behind it */
-    unsigned size;
-    const void *pc, *address;
-    uint64_t value, had;
-    size_t at;
-} traced;
-static traced trace[MOST_TRACE];
-static int trace_used;
 
 static double seconds(void) {
     struct timespec t;
@@ -104,36 +94,6 @@ static const char *grouped(uint64_t n) {
 
 /* ---- the recording ---- */
 
-/* Takes the value that the last write traced has left: nothing was done since. */
-static void settle_trace(void) {
-    traced *it = trace_used ? &trace[trace_used - 1] : NULL;
-    if (!it || it->is_event || it->failed || !(it->kind & WRITE) || it->size == 0 || it->size > 8) return;
-    it->value = 0;
-    copy_plainly(&it->value, it->address, it->size);
-    it->has_value = true;
-}
-
-static void trace_access(const void *address, unsigned size, int kind, const void *pc) {
-    if (run.starting && size == 0) return;
-    settle_trace();
-    if (trace_used == MOST_TRACE) return;
-    traced *it = &trace[trace_used++];
-    *it = (traced) { .who = (uint8_t)now, .kind = (uint8_t)kind, .size = size, .pc = pc, .address = address };
-    if (size == 0 || size > 8) return;
-    copy_plainly(&it->value, address, size);
-    it->had = it->value;
-    it->has_value = true;
-}
-
-/* What the hook of an atomic access knows of the one traced last; does is NULL for a load and a store. */
-static void trace_atomic(const char *does, bool failed, int order) {
-    if (!replay.on || !trace_used || trace_used == MOST_TRACE) return;
-    traced *it = &trace[trace_used - 1];
-    it->does = does;
-    it->failed = failed;
-    it->order = order;
-}
-
 /* A call of the test begins or ends: ring_calls.h comes here. */
 void explore_event(int kind, const uint64_t *numbers, size_t n) {
     if (!run.on) return;
@@ -150,10 +110,8 @@ void explore_event(int kind, const uint64_t *numbers, size_t n) {
     ring_calls_log *log = s == PRODUCER ? &rec.p : &rec.c;
     const size_t at = log->used;
     ring_calls_event(&rec, log, kind, numbers, n);
-    if (replay.on && log->used > at) {
-        settle_trace();
-        if (trace_used < MOST_TRACE) trace[trace_used++] = (traced) { .who = (uint8_t)s, .is_event = true, .at = at };
-    }
+    if (replay.on && log->used > at) trace_event(s, at);
+    result.calls = true;
     if (kind == RING_CLOSE) result.closes = true;
     me->events++;
     me->fresh = kind < RING_ENDS;
@@ -370,6 +328,7 @@ static void tell_all(void) {
     }
     if (result.cut) printf("%s of them were cut, after %s steps or where the log was full\n", grouped(result.cut), grouped(limit_steps));
     if (!stopped) tell_sums();
+    if (!result.calls) fputs("explore: no call was recorded: do the two functions record their calls, by the names of ring_calls.h?\n", stderr);
     if (result.status == 0 && races_used) result.status = 3;
     tell_races();
     if (result.status) return;
@@ -386,7 +345,7 @@ static int play_again(void) {
     limit_steps = MOST_STEPS;
     replay.until = replay.accesses[0];
     make_run();
-    tell_trace();
+    tell_trace(&rec);
     if (run.end == MISFIT) {
         fprintf(stderr, "explore: the schedule is none of this test\n");
         return 2;

@@ -1,5 +1,5 @@
 /* explore.h: tries every interleaving of a small test of a queue with one producer and one consumer, up to a number of preemptions,
- * and judges the calls of each by the proved audit. Included in place of ring_calls.h, with the same names.
+ * and judges the calls of each by the proved audit. Included in place of ring_calls.h, or before it, with the same names.
  * C11, and C++ from C++11; gcc or clang, Linux on x86-64. README.md, "Every interleaving of a small test", tells the rest.
  *
  *     static ring_calls rec;
@@ -14,6 +14,9 @@
  * The recording is the explorer's: rec holds nothing, and ring_calls_init, ring_calls_write and what walks are of no use here. */
 #ifndef EXPLORE_H
 #define EXPLORE_H
+#if defined RING_CALLS_H && !defined RING_CALLS_EXPLORE
+#error "explore.h has to be included before ring_calls.h: else the calls go to a recorder that nobody reads"
+#endif
 #define RING_CALLS_EXPLORE
 #include "ring_calls.h"
 
@@ -22,8 +25,8 @@ extern "C" {
 #endif
 /* Explores and prints what was found. reset is called before each interleaving, then produce and consume run as the two sides; head
  * is the first line of a recording, "queue 2". Limits come from the environment (EXPLORE_HELP=1 lists them).
- * Answers the status to end with: 0 all that was tried is lawful; 2 it cannot explore, as stderr says; 3 a fault or a data race; 4 both
- * sides wait for ever, a side goes on for ever, or it crashed. */
+ * Answers the status to end with: 0 all that was tried is lawful; 2 it cannot explore, as stderr says; 3 a fault, a data race or a
+ * use after free; 4 both sides wait for ever, a side goes on for ever, or it crashed. */
 int explore(void (*reset)(void), void (*produce)(void), void (*consume)(void), const char *head);
 #ifdef __cplusplus
 }

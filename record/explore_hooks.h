@@ -130,6 +130,10 @@ static void copy_plainly(void *to, const void *from, size_t size) {
     __asm__ volatile("rep movsb" : "+D"(to), "+S"(from), "+c"(size) : : "memory");
 }
 
+static void fill_plainly(void *to, int value, size_t size) {
+    __asm__ volatile("rep stosb" : "+D"(to), "+c"(size) : "a"(value) : "memory");
+}
+
 void explore_load_any(size_t size, const void *p, void *into, int order) __asm__("__atomic_load");
 void explore_store_any(size_t size, void *p, const void *from, int order) __asm__("__atomic_store");
 void explore_exchange_any(size_t size, void *p, const void *from, void *into, int order) __asm__("__atomic_exchange");
@@ -189,10 +193,8 @@ static void copy_in_words(char *to, const char *from, size_t size, bool down, co
 }
 
 static void *set_in_words(void *to, int value, size_t size, const void *pc) {
-    const size_t all = size;
-    char *at = to;
-    for (size_t done = 0; run.on && done < all; done += 8) touch(at + done, all - done < 8 ? all - done : 8, WRITE, pc);
-    __asm__ volatile("rep stosb" : "+D"(at), "+c"(size) : "a"(value) : "memory");
+    for (size_t done = 0; run.on && done < size; done += 8) touch((char *)to + done, size - done < 8 ? size - done : 8, WRITE, pc);
+    fill_plainly(to, value, size);
     return to;
 }
 

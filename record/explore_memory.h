@@ -2,7 +2,7 @@
  * that it touches at all, is an access of what is shared: a step stands before it. And of accesses that are not atomic, whether the
  * memory orders that the code gives put them behind each other, by vector clocks of two sides. */
 
-enum { READ = 0, WRITE = 1, ATOMIC = 2, KINDS = 4, MOST_CELLS = 1 << 17, MOST_RACES = 8 };
+enum { READ = 0, WRITE = 1, ATOMIC = 2, KINDS = 4, FREE = KINDS, MOST_CELLS = 1 << 17, MOST_RACES = 8 };
 
 /* An access as the race detector keeps it: when, which of the 8 bytes, and the code that made it. */
 typedef struct { uint64_t when; const void *pc; uint8_t bytes; } access_kept;
@@ -16,10 +16,11 @@ typedef struct {
     access_kept last[2][KINDS];
 } cell;
 
+/* A data race, or, where the kind of the earlier one is FREE, a use of what was freed. */
 typedef struct {
     const void *address, *pc[2];    /* of the later access and of the earlier one */
-    int who, kind[2];               /* the side of the later one */
-    unsigned size;
+    int who[2], kind[2];            /* their sides */
+    unsigned size;                  /* 0 of a free */
     bool is_noted;                  /* race_shown has a run that shows it */
 } race;
 
@@ -77,14 +78,20 @@ static void fence(int order) {
     if (releases(order)) fence_released[now] = clock_of[now]++;
 }
 
+/* Notes a race, where none of the same two places in the code is. */
+static void note_race(race found) {
+    for (int i = 0; i < races_used; i++) {
+        const void *const *pc = races[i].pc;
+        if ((pc[0] == found.pc[0] && pc[1] == found.pc[1]) || (pc[1] == found.pc[0] && pc[0] == found.pc[1])) return;
+    }
+    if (races_used < MOST_RACES) races[races_used++] = found;
+}
+
 static void find_race(const cell *c, uint8_t bytes, int kind, const void *pc, const void *address, unsigned size) {
     for (int other = 0; other < KINDS; other++) {
         const access_kept *it = &c->last[!now][other];
         if (!((kind | other) & WRITE) || (kind & other & ATOMIC) || !(it->bytes & bytes) || it->when <= known[now]) continue;
-        for (int i = 0; i < races_used; i++) {
-            if ((races[i].pc[0] == pc && races[i].pc[1] == it->pc) || (races[i].pc[1] == pc && races[i].pc[0] == it->pc)) return;
-        }
-        if (races_used < MOST_RACES) races[races_used++] = (race) { address, { pc, it->pc }, now, { kind, other }, size, false };
+        note_race((race) { address, { pc, it->pc }, { now, !now }, { kind, other }, size, false });
         return;
     }
 }
@@ -121,6 +128,7 @@ static bool is_shared(uintptr_t address, size_t size, int kind) {
 
 static void trace_access(const void *address, unsigned size, int kind, const void *pc);
 static void trace_atomic(const char *does, bool failed, int order);
+static void judge_life(const void *address, unsigned size, int kind, const void *pc);
 
 /* Before an access of the side that runs: a step, where it is shared. Answers whether it is; of a schedule that is played again each
  * access is taken as such, since what is shared is not yet known. */
@@ -130,6 +138,7 @@ static bool stand_before(const void *address, size_t size, int kind, const void 
     if (shared) step(pc, address); else stay_apart(pc);
     sides[now].accesses++;
     if (replay.on) trace_access(address, (unsigned)size, kind, pc);
+    judge_life(address, (unsigned)size, kind, pc);
     return shared;
 }
 

@@ -1,5 +1,5 @@
 /* explore_rings.c: explore_rings WAY: for record/test, a ring and a box for explore.h whose sides spin, a reset that leaves something
- * behind, a call without its end, a thread, and no call of explore. Built as explore.h tells. */
+ * behind, a call without its end, a put of nothing, no call that is recorded, a thread, and no call of explore. Built as explore.h tells. */
 #include "explore.h"
 #include <pthread.h>
 #include <stdatomic.h>
@@ -139,6 +139,11 @@ static void no_full_put(void) {
         if (my_put(item)) ring_calls_stored(&rec);
     }
 }
+static void put_none(void) {
+    try_put();
+    ring_calls_put_all(&rec, NULL, 0);
+    ring_calls_full(&rec);
+}
 static void no_begin_take(void) {
     ring_calls_take(&rec);
     for (int i = 0; i < 2; i++) {
@@ -146,6 +151,9 @@ static void no_begin_take(void) {
         if (my_take(&item)) ring_calls_item(&rec, item); else ring_calls_empty(&rec);
     }
 }
+
+static void put_silently(void) { for (uint64_t item = 1; item <= ITEMS; item++) my_put(item); }
+static void take_silently(void) { for (uint64_t item, i = 0; i < ITEMS; i++) my_take(&item); }
 
 static void *thread_of_posix(void *unused) { try_put(); return unused; }
 static int thread_of_c11(void *unused) { try_put(); return unused != NULL; }
@@ -175,7 +183,9 @@ int main(int argc, char **argv) {
     WAY("later_crash") explore(reset_at_first, try_put, crash_later, "queue 2");
     WAY("head") explore(reset, try_put, try_take, "queu 2");
     WAY("no_end") explore(reset, no_full_put, try_take, "queue 2");
+    WAY("put_none") explore(reset, put_none, try_take, "queue 2");
     WAY("no_begin") explore(reset, try_put, no_begin_take, "queue 2");
+    WAY("silent") explore(reset, put_silently, take_silently, "queue 2");
     WAY("races") explore(reset, write_two, write_one, "queue 2");
     WAY("leaves") explore(reset, try_put, leave, "queue 2");
     WAY("runs_thread") explore(reset, start_posix, try_take, "queue 2");

@@ -115,6 +115,8 @@ static void tell_finding(const char *words) {
     write_schedule(schedule, sizeof schedule);
     printf("%s\n", words);
     if (audit.found.line && audit.found.verdict == RING_AUDIT_OUT_OF_TURN) tell_missing_end();
+    /* (no other line that a recorder writes is none of the format) */
+    if (audit.found.verdict == RING_AUDIT_BAD_LINE) printf("a put has at least one item\n");
     tell_recording();
     tell_stops();
     tell_schedule(schedule);
@@ -127,15 +129,17 @@ typedef struct { uint32_t at[MOST_PREEMPTIONS + 1]; int count; } plan_kept;
 static struct { char schedule[MOST_STEPS]; plan_kept plan; sign made; } race_shown[MOST_RACES];
 
 static void tell_races(void) {
-    static const char *const does[KINDS] = { "reads", "writes", "reads atomically", "writes atomically" };
-    static const char *const did[KINDS] = { "read", "wrote", "read atomically", "wrote atomically" };
+    static const char *const does[KINDS + 1] = { "reads", "writes", "reads atomically", "writes atomically", "frees" };
+    static const char *const did[KINDS + 1] = { "read", "wrote", "read atomically", "wrote atomically", "freed" };
     for (int i = 0; i < races_used; i++) for (int k = 0; k < 2; k++) note_place(races[i].pc[k]);
     read_places();
     for (int i = 0; i < races_used; i++) {
         const race *it = &races[i];
-        printf("data race: the %s %s %u bytes at %s (%s), which the %s %s (%s) with nothing between that orders them\n",
-               name_of_side[it->who], does[it->kind[0]], it->size, name_of(it->address), place_of(it->pc[0]),
-               name_of_side[!it->who], did[it->kind[1]], place_of(it->pc[1]));
+        const bool is_free = it->kind[1] == FREE;
+        printf("%s: the %s %s ", is_free ? "use after free" : "data race", name_of_side[it->who[0]], does[it->kind[0]]);
+        if (it->size) printf("%u bytes at ", it->size);
+        printf("%s (%s), which the %s %s (%s)%s\n", name_of(it->address), place_of(it->pc[0]), name_of_side[it->who[1]], did[it->kind[1]],
+               place_of(it->pc[1]), is_free ? "" : " with nothing between that orders them");
         if (i + 1 == races_used || strcmp(race_shown[i].schedule, race_shown[i + 1].schedule) != 0) tell_schedule(race_shown[i].schedule);
     }
 }
@@ -169,52 +173,4 @@ static void tell_sums(void) {
         between = ", ";
     }
     if (between[0] == ',') printf("\n");
-}
-
-/* A number, or where it points: into data with a name, or into a block. */
-static const char *value_of(uint64_t value, unsigned size) {
-    static char numbers[4][24];
-    static int next;
-    const char *name = size == 8 && value >= 4096 ? name_of((const void *)(uintptr_t)value) : "0x";
-    if (strncmp(name, "0x", 2) != 0) return name;
-    char *text = numbers[next++ % 4];
-    snprintf(text, sizeof numbers[0], "%llu", (unsigned long long)value);
-    return text;
-}
-
-/* What an access reads and writes, and its memory order. */
-static void tell_access(const traced *it, const char *does, const char *name) {
-    static const char *const orders[] = { "relaxed", "consume", "acquire", "release", "acq_rel", "seq_cst" };
-    printf("%*s%s %s", it->who == PRODUCER ? 8 : 48, "", does, name);
-    if (it->has_value && it->does && it->does[0] == 'c') {
-        printf(": had %s, ", value_of(it->had, it->size));
-        if (it->failed) printf("failed"); else printf("wrote %s", value_of(it->value, it->size));
-    } else if (it->has_value && it->does) {
-        printf(": %s -> %s", value_of(it->had, it->size), value_of(it->value, it->size));
-    } else if (it->has_value) {
-        printf(" = %s", value_of(it->value, it->size));
-    } else if (it->failed) {
-        printf(": failed");
-    }
-    if ((it->kind & ATOMIC) && it->size) printf(" (%s)", orders[(unsigned)it->order % 6]);
-    printf("  (%s)\n", place_of(it->pc));
-}
-
-/* The steps of a schedule that was played: the accesses of what both sides touch in it, and the calls. */
-static void tell_trace(void) {
-    static const char *const does[KINDS] = { "reads", "writes", "loads", "stores" };
-    for (int i = 0; i < trace_used; i++) note_place(trace[i].pc);
-    read_places();
-    for (int i = 0; i < trace_used; i++) {
-        const traced *it = &trace[i];
-        if (it->is_event) {
-            printf("%*s", it->who == PRODUCER ? 4 : 44, "");
-            ring_calls_line((it->who == PRODUCER ? rec.p.words : rec.c.words) + it->at, stdout);
-            continue;
-        }
-        const uintptr_t address = (uintptr_t)it->address;
-        if (it->size > 0 && !(shared_of(cell_of(address), it->who, it->kind) & bytes_of(address, it->size, address >> 3))) continue;
-        const bool allocates = it->address == &arena;
-        tell_access(it, it->does ? it->does : it->size ? does[it->kind] : allocates ? "calls" : "uses", allocates ? "malloc or free" : name_of(it->address));
-    }
 }

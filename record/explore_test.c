@@ -154,7 +154,8 @@ static void semaphore_consume(void) {
     }
 }
 
-/* A list of nodes of malloc; the consumer frees them. */
+/* A list of nodes of malloc; the consumer frees them. The bug: before it looks for the next one, and again with that. */
+static bool frees_early;
 typedef struct node { uint64_t item; _Atomic(struct node *) next; } node;
 static node *first, *last;
 static void list_reset(void) {
@@ -175,6 +176,7 @@ static void list_produce(void) {
 static void list_consume(void) {
     for (int i = 0; i < ITEMS; i++) {
         ring_calls_take(&rec);
+        if (frees_early) free(first);
         node *n = atomic_load_explicit(&first->next, memory_order_acquire);
         if (!n) { ring_calls_empty(&rec); continue; }
         const uint64_t item = n->item;
@@ -365,6 +367,8 @@ int main(int argc, char **argv) {
     WAY("no_lock") with_locks(nothing, nothing, nothing, nothing);
     WAY("semaphore") explore(reset, semaphore_produce, semaphore_consume, "queue 2");
     WAY("list") explore(list_reset, list_produce, list_consume, "queue");
+    frees_early = strcmp(way, "early_free") == 0;
+    WAY("early_free") explore(list_reset, list_produce, list_consume, "queue");
     WAY("fences") explore(reset, fence_produce, fence_consume, "queue 2");
     breaks_order = strcmp(way, "no_fence") == 0;
     WAY("no_fence") explore(reset, fence_produce, fence_consume, "queue 2");

@@ -93,7 +93,7 @@ static void read_symbols(void) {
     if (pipe) pclose(pipe);
 }
 
-/* What lies at an address, as `q+24`; in memory of its own each time. */
+/* What lies at an address, as `q+24`, or `block 2+8` of what reset or the run allocated second; in memory of its own each time. */
 static const char *name_of(const void *address) {
     static char names[8][PLACE + 48];
     static int next;
@@ -114,11 +114,10 @@ static const char *name_of(const void *address) {
     }
     snprintf(name, room, "%p", address);
 #ifndef __SANITIZE_ADDRESS__
-    for (uintptr_t p = a / 16 * 16; is_of_arena((void *)(p - sizeof(block))) && a - p < 1 << 20; p -= 16) {
-        const block *it = block_of((void *)p);
-        if (it->mark != it || a >= p + it->size) continue;
-        snprintf(name, room, "byte %lu of a block of %lu", (unsigned long)(a - p), (unsigned long)it->size);
-        break;
+    const block *it = block_at(address);
+    if (it) {
+        const unsigned long behind = a - (uintptr_t)(it + 1);
+        snprintf(name, room, behind ? "block %u+%lu" : "block %u", it->number, behind);
     }
 #endif
     return name;

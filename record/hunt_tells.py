@@ -32,6 +32,8 @@ def told(hunt):
         yield f"never reached: {', '.join(never)}"
     if "overlapped" in never:
         yield "(no call overlapped one of the other side: let both threads wait for each other first, make more calls, leave two processors free)"
+    if hunt.reached["nothing"] and {"full", "empty"} & set(never):
+        yield "(calls that ended with no reason given are judged less strictly: where one knows that the queue was full or empty, let it end so)"
     if not hunt.rests.lacks and not rests and any(way.rests for way in hunt.ways[:hunt.runs]):
         yield "(no thread rested: the runs are too short, or COMMAND has handlers for all signals)"
     if hunt.cut:

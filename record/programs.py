@@ -82,9 +82,10 @@ REAL = [
 
 BROKEN = Program("broken", "command -v g++", "apt-get install build-essential", f"{CPP} broken/ring.cpp -o $ROOM/ring", "$ROOM/ring")
 
-# What makes a recording small, and what finds its first line; the program of README.md; and a ring under Relacy.
+# What makes a recording small, and what finds its first line; what reads logs of other tests; the program of README.md; and a ring under Relacy.
 SMALL = Program("shrink and head", "command -v g++", "apt-get install build-essential", f"{CPP} broken/ring.cpp -o $ROOM/ring_of_heads",
                 "python3 unit/small.py $ROOM/ring_of_heads")
+CONVERT = Program("convert", "true", "", "true", "python3 unit/logs.py")
 README = Program("README", "command -v gcc", "apt-get install build-essential", "true", "")
 RELACY = Program("relacy", "echo '#include <relacy/relacy.hpp>' | g++ -x c++ -E -", "apt-get install relacy-dev",
                  f"{CPP} relacy_ring.cpp -o $ROOM/relacy_ring && {CPP} -DRELAXED relacy_ring.cpp -o $ROOM/relacy_ring_relaxed", "$ROOM/relacy_ring")

@@ -137,7 +137,8 @@ func (r RingReport) String() string {
 }
 
 // Lawful judges what r has, once both goroutines have ended; head is the first line of the recording: "queue 8", "queue 1 512" or
-// "queue". The error, nil where it is lawful, is a *RingFault.
+// "queue". The error, nil where it is lawful, is a *RingFault; where it is nil, and no call was recorded or the history is cut, standard
+// error is told.
 func Lawful(head string, r *RingCalls) error {
 	_, err := Judge(head, r)
 	return err
@@ -147,6 +148,7 @@ func Lawful(head string, r *RingCalls) error {
 func Judge(head string, r *RingCalls) (RingReport, error) {
 	report, fault := r.judge(head)
 	if fault == nil {
+		r.tell()
 		return report, nil
 	}
 	if fault.Line > 0 {

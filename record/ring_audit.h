@@ -316,11 +316,14 @@ static inline void ring_audit_keep(const ring_calls *rec, const char *head) {
     if (name && *name && !written) fprintf(stderr, "%s: the recording cannot be written\n", name);
 }
 
-/* Whether what a recorder has is lawful. Where not, stderr has the words and the lines, and the recording is kept. */
+/* Whether what a recorder has is lawful. Where not, stderr has the words and the lines, and the recording is kept. Where it is, and has no
+ * call or is cut, stderr is told so. */
 static inline int ring_audit_lawful(const ring_calls *rec, const char *head) {
     ring_audit a = RING_AUDIT_NONE;
     int lawful = ring_audit_judge(&a, rec, head);
-    if (!lawful) {
+    if (lawful) {
+        ring_calls_tell(rec);
+    } else {
         fprintf(stderr, "%s\n", ring_audit_words(&a));
         if (a.found.line) ring_audit_show(&a, rec, head, stderr);
         ring_audit_keep(rec, head);

@@ -41,10 +41,14 @@ public:
     ring_auditor(const ring_auditor&) = delete;
     ring_auditor& operator=(const ring_auditor&) = delete;
 
-    // Whether what a recorder has is lawful; head is the first line of the recording: "queue 8", "queue 1 512" or "queue".
+    // Whether what a recorder has is lawful; head is the first line of the recording: "queue 8", "queue 1 512" or "queue". Where it has
+    // no call or is cut, stderr is told so.
     ring_audit_result lawful(const ring_calls& rec, const char* head) {
         ring_audit_result found(ring_audit_judge(&audit, &rec, head) != 0, ring_audit_words(&audit));
-        if (found) return found;
+        if (found) {
+            ring_calls_tell(&rec);
+            return found;
+        }
         char* text = nullptr;
         std::size_t size = 0;
         if (FILE* out = audit.found.line ? open_memstream(&text, &size) : nullptr) {

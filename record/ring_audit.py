@@ -162,13 +162,15 @@ def _shown(found, lines):
 
 
 def lawful(recorder, head):
-    """Whether what a recorder has is lawful, as a Result. Where not, stderr has the words and the lines, and the recording is kept."""
+    """Whether what a recorder has is lawful, as a Result. Where not, stderr has the words and the lines, and the recording is kept. Where it
+    is, and has no call or is cut, stderr is told so."""
     lines, numbers = array.array("Q"), array.array("Q")
     for kind, values in recorder.events():
         lines.append(kind | len(values) << 32)
         numbers.extend(values)
     audit = Audit(head, len(numbers), min(TAKEN, len(numbers)))
     if audit.hear(lines, numbers):
+        recorder.tell()
         return Result("lawful")
     result = Result(audit.fault(), _shown(audit.found, recorder.lines(head)) if audit.found.line else "")
     print(result, file=sys.stderr)

@@ -192,11 +192,9 @@ func (e ringEvent) write(out *bufio.Writer) {
 	out.WriteByte('\n')
 }
 
-// Write writes the recording; head is its first line: "queue 8", "queue 1 512" or "queue". Where the history is cut, and where it has no
-// call, standard error is told.
-func (r *RingCalls) Write(head string, to io.Writer) error {
-	out, events := bufio.NewWriter(to), r.events()
-	if events.cut != math.MaxUint64 {
+// Tells standard error where the history is cut, and where it has no call.
+func (r *RingCalls) tell() {
+	if r.events().cut != math.MaxUint64 {
 		side, log := "producer", &r.p
 		if r.c.cut < r.p.cut {
 			side, log = "consumer", &r.c
@@ -205,6 +203,13 @@ func (r *RingCalls) Write(head string, to io.Writer) error {
 	} else if r.p.used+r.c.used == 0 {
 		fmt.Fprintln(os.Stderr, "ring_calls: no call was recorded: is it this RingCalls that was called, and have both goroutines ended?")
 	}
+}
+
+// Write writes the recording; head is its first line: "queue 8", "queue 1 512" or "queue". Where the history is cut, and where it has no
+// call, standard error is told.
+func (r *RingCalls) Write(head string, to io.Writer) error {
+	out, events := bufio.NewWriter(to), r.events()
+	r.tell()
 	fmt.Fprintln(out, events.firstLine(head))
 	for event, more := events.next(); more; event, more = events.next() {
 		event.write(out)

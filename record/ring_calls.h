@@ -176,17 +176,23 @@ static inline void ring_calls_line(const uint64_t *event, FILE *out) {
     fputc('\n', out);
 }
 
+/* Tells stderr where the history is cut, and where it has no call. */
+static inline void ring_calls_tell(const ring_calls *r) {
+    const uint64_t cut = ring_calls_begin(r).cut;
+    if (!r->p.words || (cut == UINT64_MAX && r->p.used + r->c.used == 0)) {
+        fputs("ring_calls: no call was recorded: was ring_calls_init called, and were both threads joined?\n", stderr);
+    } else if (cut != UINT64_MAX) {
+        const ring_calls_log *full = r->p.cut == cut ? &r->p : &r->c;
+        fprintf(stderr, "ring_calls: the %s's log was full after %zu words: the recording is a first part of what happened\n",
+                full == &r->p ? "producer" : "consumer", full->room);
+    }
+}
+
 /* Writes the recording; head is its first line: "queue 8", "queue 1 512" or "queue". Answers 0 where not all was written. Where the history
  * is cut, and where it has no call, stderr is told. */
 static inline int ring_calls_write(const ring_calls *r, const char *head, FILE *out) {
     ring_calls_walk w = ring_calls_begin(r);
-    if (!r->p.words || (w.cut == UINT64_MAX && r->p.used + r->c.used == 0)) {
-        fputs("ring_calls: no call was recorded: was ring_calls_init called, and were both threads joined?\n", stderr);
-    } else if (w.cut != UINT64_MAX) {
-        const ring_calls_log *full = r->p.cut == w.cut ? &r->p : &r->c;
-        fprintf(stderr, "ring_calls: the %s's log was full after %zu words: the recording is a first part of what happened\n",
-                full == &r->p ? "producer" : "consumer", full->room);
-    }
+    ring_calls_tell(r);
     fprintf(out, "%s%s\n", w.cut == UINT64_MAX ? "" : "cut ", head);
     for (const uint64_t *event; (event = ring_calls_next(&w)) != NULL;) ring_calls_line(event, out);
     return fflush(out) == 0 && !ferror(out);

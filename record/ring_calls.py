@@ -140,13 +140,17 @@ class Recorder(Calls):
         for kind, numbers in self.events():
             yield " ".join([WORDS[kind], *map(str, numbers)])
 
-    def write(self, head, out):
-        """Writes the recording; head is its first line: "queue 8", "queue 1 512" or "queue". Where the history is cut, and where it has no
-        call, stderr is told."""
+    def tell(self):
+        """Tells stderr where the history is cut, and where it has no call."""
         if self.cut() != NEVER:
             side, log = ("producer", self.puts) if self.puts.cut < self.takes.cut else ("consumer", self.takes)
             print(f"ring_calls: the {side}'s log was full after {len(log.words)} words: the recording is a first part of what happened", file=sys.stderr)
         elif self.puts.used + self.takes.used == 0:
             print("ring_calls: no call was recorded: is it this Recorder that was called, and were both threads joined?", file=sys.stderr)
+
+    def write(self, head, out):
+        """Writes the recording; head is its first line: "queue 8", "queue 1 512" or "queue". Where the history is cut, and where it has no
+        call, stderr is told."""
+        self.tell()
         for line in self.lines(head):
             out.write(line + "\n")

@@ -384,12 +384,14 @@ static inline int ring_live_begin(ring_live *r, const char *head) {
     return r->has_begun;
 }
 
-/* Ends, when both sides were joined, or at a fault. Answers whether all was lawful. */
+/* Ends, when both sides were joined, or at a fault. Answers whether all was lawful. Where it is, and no call was recorded, stderr is told. */
 static inline int ring_live_end(ring_live *r) {
     ring_live_store(&r->over, 1);
     if (r->has_begun) pthread_join(r->monitor, NULL);
     r->has_begun = 0;
-    return r->audit.found.verdict == RING_AUDIT_HEARD;
+    if (r->audit.found.verdict != RING_AUDIT_HEARD) return 0;
+    if (r->ticket == 0) fputs("ring_live: no call was recorded: was ring_live_begin called, and were both threads joined?\n", stderr);
+    return 1;
 }
 
 /* Prints what audit --calls prints: the report, or the words of the fault. Answers 0 where not all was written. */

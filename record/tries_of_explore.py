@@ -14,6 +14,9 @@ FOUND = (
     ("no_lock", 3, r"^fault: line 4: item 0 was not inside; item 1 of line 2 is next\n(.|\n)*^data race: the consumer reads 8 bytes at tail "),
     ("no_fence", 3, r"all lawful\n(.|\n)*^data race: the consumer reads 8 bytes at slot \(explore_test.c:\d+\), "
                     r"which the producer wrote \(explore_test.c:\d+\) with"),
+    ("early_free", 3, r"^use after free: the consumer reads atomically 8 bytes at block 1\+8 \(explore_test.c:\d+\), which the consumer freed \(explore_test.c:\d+\)\n"),
+    ("early_free", 3, r"^use after free: the consumer frees block \d \(explore_test.c:\d+\), which the consumer freed \(explore_test.c:\d+\)\n"),
+    ("early_free", 3, r"^use after free: the producer writes atomically 8 bytes at block 1\+8 \(explore_test.c:\d+\), which the consumer freed \("),
     ("lost_wide", 3, r"^fault: line 4: item \d+ was not inside; item 1111 "),
     ("lost_condition", 4, r"^waits for ever: the producer is over, the consumer waits at explore_test.c:\d+\n"),
     ("lost_c11_condition", 4, r"^waits for ever: the producer is over, the consumer waits at explore_test.c:\d+\n"),
@@ -37,6 +40,7 @@ RINGS_LAWFUL = ("ring", "place", "spin_both", "spin_box")
 RINGS_FOUND = (
     ("spin_put", 4, r"^hangs: the producer goes on at explore_rings.c:\d+, the consumer is over\n"),
     ("no_end", 3, r"^fault: line 7: out of turn\nP put 4 begins before put 3 of line 6 has ended: is an end missing, as full\?\n"),
+    ("put_none", 2, r"^refused: calls line \d+ is not a line of the format\na put has at least one item\n"),
     ("no_begin", 3, r"^fault: line \d+: out of turn\nthe consumer has no call that this ends: is a begin missing, as take\?\n"),
     ("bug_ring", 3, r"^fault: line 4: item 0 was not inside; item 1 of line 2 is next\n"),
     ("spin_full", 4, r"^hangs: the producer goes on at explore_rings.c:\d+, the consumer is over\n"),
@@ -44,6 +48,7 @@ RINGS_FOUND = (
 # A reset that leaves something behind, or what is no test: status 2, these words alone, and no fault.
 NOT_THE_SAME = "explore: the test does not do the same again in the same schedule: reset has to set back all that the sides change\n"
 THREAD = "explore: the test starts a thread: its two sides are functions that explore() calls\n"
+NO_CALL = "explore: no call was recorded: do the two functions record their calls, by the names of ring_calls.h?\n"
 REFUSED = (
     *((f"{bug}reset_{way}", NOT_THE_SAME) for bug in ("", "bug_") for way in ("nothing", "once", "but_head", "but_tail")),
     ("later_fault", NOT_THE_SAME), ("later_hang", NOT_THE_SAME), ("later_race", NOT_THE_SAME), ("later_crash", NOT_THE_SAME),
@@ -92,8 +97,8 @@ class Tries:
             good = status == 0 and count and int(count[1].replace(",", "")) > 1 and printed.endswith("no data race was seen.\n")
             self.check(f"{name} {way}", good, (status, printed))
         for way, want, words in found:
-            if way == "lost_wide" and "sanitized" in name:
-                continue  # its memcpy is the sanitizer's
+            if way in ("lost_wide", "early_free") and "sanitized" in name:
+                continue  # its memcpy and its free are the sanitizer's
             status, printed = self.explore(f"$ROOM/{name} {way}", KEEP=f"{os.environ['ROOM']}/kept.calls")
             self.check(f"{name} {way}", status == want and re.search(words, printed, re.M), (status, printed[-2000:]))
             if status in (3, 4) and "sanitized" not in name and printed.startswith(("fault", "wait", "both", "hang")):
@@ -106,19 +111,23 @@ class Tries:
 
     def steps(self):
         """A schedule that is played tells what each access does, its order, and where a pointer points."""
-        for schedule, wanted in (
-            ("P4 C", ("stores place = slot+8 (release)  (", "compares place: had slot+8, failed (relaxed)  (",
+        for way, schedule, wanted in (
+            ("explore_rings place", "P4 C", ("stores place = slot+8 (release)  (", "compares place: had slot+8, failed (relaxed)  (",
                       "compares place: had slot+8, wrote 0 (acquire)  (", "reads slot+8 = 1  (", "compares box: had 0, failed (seq_cst)  (",
                       "exchanges box: 0 -> 7 (acquire)  (", "adds to box: 7 -> 10 (relaxed)  (", "\nlawful\n")),
-            ("C5 P", ("compares place: had 0, failed (relaxed)  (", "adds to box: 0 -> 3 (relaxed)  (", "compares box: had 3, wrote 4 (seq_cst)  (",
+            ("explore_rings place", "C5 P", ("compares place: had 0, failed (relaxed)  (", "adds to box: 0 -> 3 (relaxed)  (", "compares box: had 3, wrote 4 (seq_cst)  (",
                       "exchanges box: 4 -> 7 (acquire)  (")),
+            ("explore_test list", "P11 C", ("allocates block 2, 16 bytes  (", "stores block 1+8 = block 2 (release)  (", "reads block 2 = 1  (", "frees block 1  (",
+                                            "stores block 2+8 = block 3 (release)  (", "allocates block 1, 16 bytes  (", "\nlawful\n")),
         ):
-            status, printed = self.explore("$ROOM/explore_rings place", SCHEDULE=schedule)
-            self.check(f"explore: the steps of {schedule}", status == 0 and all(words in printed for words in wanted), (status, printed))
+            status, printed = self.explore(f"$ROOM/{way}", SCHEDULE=schedule)
+            self.check(f"explore: the steps of {way}, {schedule}", status == 0 and all(words in printed for words in wanted), (status, printed))
         status, printed = self.explore("$ROOM/explore_rings ring")
         self.check("explore: never reached", "never reached" not in printed and "no reason given 0, told 0" in printed, (status, printed))
         status, printed = self.explore("$ROOM/explore_rings spin_both")
         self.check("explore: never reached", "\nnever reached: full, empty\n" in printed, (status, printed))
+        status, printed = self.explore("$ROOM/explore_rings silent")
+        self.check("explore: no call", status == 0 and " all lawful\n" in printed and printed.endswith(f"\n{NO_CALL}"), (status, printed))
         status, printed = self.explore("$ROOM/explore_rings races")
         self.check("explore: two races", status == 3 and len(re.findall(r"(?m)^data race: .*\nschedule: ", printed)) == 2, (status, printed))
 
@@ -237,6 +246,18 @@ class Tries:
             good = status == 3 and printed.startswith("fault: line ") if bug else status == 0 and " all lawful\n" in printed
             self.check(f"{name}: bug {bug}", good, (status, printed[-2000:]))
 
+    def in_two_files(self, here):
+        """The same, with the ring in a file of its own."""
+        room = os.environ["ROOM"]
+        with open(f"{room}/my_ring.h", encoding="utf-8") as ring, open(f"{room}/my_ring.c", "w", encoding="utf-8") as file:
+            file.write(ring.read().replace("static ", ""))
+        with open(f"{room}/my_explore.c", encoding="utf-8") as test, open(f"{room}/my_two.c", "w", encoding="utf-8") as file:
+            names = "#include <stdbool.h>\nbool my_put(uint64_t), my_take(uint64_t *);\nextern uint64_t slot[2];\nextern _Atomic uint64_t head, tail;"
+            file.write(test.read().replace('#include "my_ring.h"', names))
+        status, out, said = self.run(f"cd $ROOM && {shlex.quote(here)}/explore my_two.c my_ring.c")
+        good = status == 3 and b"\nfound in interleaving 4, with 1 preemption, " in out and b" (my_ring.c:20), which the producer wrote (my_ring.c:13) with" in out
+        self.check("explore of two files", good, (status, out, said))
+
     def readme(self, here):
         """The test in README.md is explored by the two commands there and by ./explore."""
         room = os.environ["ROOM"]
@@ -255,6 +276,9 @@ class Tries:
             self.check(f"explore of the README: {each}", status == 3 and printed.split("\n")[0] == want, (status, printed, said))
             lines = [line[4:] for line in section.split("\n") if re.match(r"    (  |> ) +\d+  |        the producer ", line)]
             self.check("explore of the README: its lines", lines and all(line in printed for line in lines), (lines, printed))
+        self.in_two_files(here)
+        status, _, said = self.run(f"cd $ROOM && (echo '#include \"ring_calls.h\"' && cat my_explore.c) > my_late.c && {shlex.quote(here)}/explore my_late.c")
+        self.check("explore of a test that includes ring_calls.h first", status != 0 and "explore.h has to be included before ring_calls.h" in said, said)
         status, _, said = self.run(whole.replace("-fsanitize=thread ", ""))
         self.check("explore of what is not instrumented", status == 2 and "explore: the test was not compiled with -fsanitize=thread\n" in said, said)
         status, _, said = self.run(f"{shlex.quote(here)}/explore")

@@ -7,6 +7,7 @@ The recordings are those of kinds/, those of ../examples/calls that are of the f
 are of all kinds and mostly lawful, up to the first fault, and some at the edges of batches. The audit is $AUDIT, else ../lamport_ring
 audit --calls. The last line is `N passed, M failed`."""
 import contextlib
+import functools
 import glob
 import importlib.machinery
 import importlib.util
@@ -32,6 +33,8 @@ if not AUDIT:
 # The recorder's name of each kind of line.
 NAMES = ("put", "close", "take", "stored", "some", "full", "put_short", "put_nothing", "closed",
          "item", "some_items", "empty", "take_short", "take_nothing", "told")
+# How often a judge tells of a recording that it has no call, where it is more than once: as it is written, too, or judged twice.
+TELLS = {"judge_rs": 2, "judge_go": 3}
 passed = failed = 0
 
 
@@ -109,8 +112,31 @@ def texts(count, seed):
 
 
 def without_full_logs(said):
-    """Without the lines that say whose log was full, where a recording is written that is cut."""
-    return re.sub(r"(?m)^ring_calls: the .*\n", "", said)
+    """Without the lines that say whose log was full, or that no call was recorded."""
+    return re.sub(r"(?m)^ring_calls: .*\n", "", said)
+
+
+def is_told_of_none(said_of, times):
+    """Whether stderr, said_of(TEXT), has so many lines more of a recording that is cut than of one that is whole, and others of one with no
+    call."""
+    whole, none, cut = ([line for line in said_of(text).splitlines() if line.startswith("ring_calls: ")]
+                        for text in ("queue 8\nP put 1\n", "queue 8\n", "cut queue 8\nP put 1\n"))
+    return (len(none) == len(cut) == len(whole) + times and none[-1].startswith("ring_calls: no call was recorded: ")
+            and cut[-1].startswith("ring_calls: the consumer's log was full after "))
+
+
+def said_by(judge, text):
+    with tempfile.NamedTemporaryFile("w", suffix=".calls") as file:
+        file.write(text)
+        file.flush()
+        return subprocess.run([*shlex.split(judge), file.name], capture_output=True, text=True, check=False).stderr
+
+
+def said_by_python(text):
+    rec = recorder_of([parts_of(line) for line in text.splitlines()[1:]], text.startswith("cut "))
+    with contextlib.redirect_stderr(io.StringIO()) as told:
+        ring_audit.lawful(rec, "queue 8")
+    return told.getvalue()
 
 
 def judge_by_c(judge, recordings):
@@ -142,22 +168,32 @@ def report_of(audit, is_cut):
     return "\n".join([*lines, *["cut yes"] * is_cut])
 
 
+def record(calls, kind, numbers):
+    """Calls the recorder's name of this line; its answer."""
+    if NAMES[kind] == "stored" and numbers:
+        return calls.stored_of(numbers[0], numbers[0] + 1)
+    return getattr(calls, NAMES[kind])(*numbers)
+
+
+def recorder_of(events, is_cut):
+    rec = ring_calls.Recorder(sum(len(numbers) for _, numbers in events) + 2 * len(events))
+    for kind, numbers in events:
+        record(rec, kind, numbers)
+    rec.takes.cut = ring_calls.NEVER - 1 if is_cut else ring_calls.NEVER
+    return rec
+
+
 def judge_by_python(recordings, kept):
     os.environ["RING_AUDIT_KEEP"] = kept
     for recording in recordings:
         events = [parts_of(line) for line in recording.lines[1:]]
         room = sum(len(numbers) for _, numbers in events)
         by_kind, by_name = ring_audit.Audit(recording.head, room), ring_audit.Audit(recording.head, room)
-        rec = ring_calls.Recorder(room + 2 * len(events))
+        rec = recorder_of(events, recording.is_cut)
         answers = []
         for kind, numbers in events:
             answers.append(by_kind.event(kind, numbers))
-            for calls in (by_name, rec):
-                if NAMES[kind] == "stored" and numbers:
-                    calls.stored_of(numbers[0], numbers[0] + 1)
-                else:
-                    getattr(calls, NAMES[kind])(*numbers)
-        rec.takes.cut = ring_calls.NEVER - 1 if recording.is_cut else ring_calls.NEVER
+            record(by_name, kind, numbers)
         with contextlib.redirect_stderr(io.StringIO()) as told:
             result = ring_audit.lawful(rec, recording.head)
         says = [f"{audit.fault() or report_of(audit, recording.is_cut)}\n" for audit in (by_kind, by_name)]
@@ -180,6 +216,8 @@ def main(count, seed, *judges):
     print(f"{len(recordings)} recordings, {sum(kinds.values())} lines, {words['lawful']} lawful, {len(words) - 1} kinds of words of the others")
     for judge in judges:
         judge_by_c(judge, recordings)
+        check(f"{judge} tells that there is no call", is_told_of_none(functools.partial(said_by, judge), TELLS.get(os.path.basename(judge), 1)), said_by(judge, "queue 8\n"))
+    check("ring_audit.py tells that there is no call", is_told_of_none(said_by_python, 1), said_by_python("queue 8\n"))
     with tempfile.TemporaryDirectory() as room:
         judge_by_python(recordings, f"{room}/kept")
     print(f"{passed} passed, {failed} failed")

@@ -25,6 +25,13 @@ TEST(SmallRing, ItsBugIsFound) {
     FAIL() << "each of the rounds with the bug is lawful";
 }
 
+TEST(Audit, TellsThatThereIsNoCall) {
+    ring_calls_recorder rec(1 << 10);
+    testing::internal::CaptureStderr();
+    EXPECT_TRUE(ring_auditor().lawful(rec, "queue 8"));
+    EXPECT_EQ(testing::internal::GetCapturedStderr(), "ring_calls: no call was recorded: was ring_calls_init called, and were both threads joined?\n");
+}
+
 TEST(Audit, TellsTheLines) {
     ring_calls_recorder rec(1 << 10);
     rec.put(12, [] { return true; });

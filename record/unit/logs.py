@@ -1,0 +1,77 @@
+#!/usr/bin/env python3
+"""logs.py: tests record/convert, on the logs in ../logs. The audit is that of compare.py. The last line is `N passed, M failed`."""
+import os
+import subprocess
+import sys
+
+import compare
+
+CONVERT, LOGS = f"{compare.HERE}/convert", f"{compare.HERE}/logs"
+ANY = f"queue 0 {2**64 - 1}"
+WHOLE = f"{ANY}|P put 1|C take|P stored|C item 1|C take|C empty|P put {2**64 - 1}|P full|P put 3|C take|C item 3|"
+PLAIN = "queue|P put 1|C take|P stored|C item 1|"
+# Of each log its recording, or why it is refused; and of a recording whether it is lawful.
+WANTED = {
+    "jepsen.edn": (WHOLE, "lawful"),
+    "jepsen.jsonl": (WHOLE, "lawful"),
+    "mark.jsonl": (WHOLE, "lawful"),
+    "vector.edn": (PLAIN, "lawful"),
+    "tagged.edn": (PLAIN, "lawful"),
+    "array.json": (PLAIN, "lawful"),
+    "colons.jsonl": (PLAIN, "lawful"),
+    "closes.edn": ("queue|P put 1|P stored|P close|P closed|C take|C item 1|", "lawful"),
+    "one_process.edn": ("queue|P put 1|P stored|C take|C item 1|", "lawful"),
+    "lost.edn": ("queue|P put 1|P stored|C take|C empty|", "fault: line 5: empty, but item 1 was inside since line 3"),
+    "two_producers.edn": ("line 3 has process 2, and process 0 puts too: a recording has one producer and one consumer", ""),
+    "two_consumers.jsonl": ("line 3 has process 3, and process 0 takes too: a recording has one producer and one consumer", ""),
+    "drain.edn": ("line 1 has the function drain: only enqueue, dequeue and close are read", ""),
+    "within.edn": ("line 2 begins a call of process 0, whose call of line 1 has not ended", ""),
+    "behind_info.edn": ("line 3 begins a call of process 0, whose call of line 1 has not ended", ""),
+    "no_begin.edn": ("line 1 ends no dequeue of process 1", ""),
+    "text.edn": ('line 1 enqueues "a": an item is a number below 2^64', ""),
+    "nil_item.edn": ("line 2 dequeues nil: an item is a number below 2^64", ""),
+    "close_fails.edn": ("line 2 has the type fail of close", ""),
+    "other_line.edn": ("line 2 is no operation", ""),
+}
+passed = failed = 0
+
+
+def check(what, seen, wanted):
+    global passed, failed
+    passed, failed = passed + (seen == wanted), failed + (seen != wanted)
+    if seen != wanted:
+        print(f"FAILED: {what}: {seen!r}, not {wanted!r}", flush=True)
+
+
+def converted(words, log=""):
+    """Its status, what it prints, and what it says."""
+    done = subprocess.run([CONVERT, *words], input=log, capture_output=True, text=True, check=False)
+    return done.returncode, done.stdout, done.stderr
+
+
+def main():
+    check("each log is tested", sorted(os.listdir(LOGS)), sorted(WANTED))
+    for name, (wanted, verdict) in WANTED.items():
+        path = f"{LOGS}/{name}"
+        text = wanted.replace("|", "\n")
+        check(name, converted([path]), (0, text, "") if verdict else (1, "", f"convert: {wanted}\n"))
+        if verdict:
+            found = subprocess.run(compare.AUDIT, input=text, capture_output=True, text=True, check=False).stdout
+            check(f"{name}: the audit", found.split("\n")[0], verdict)
+    with open(f"{LOGS}/lost.edn", encoding="utf-8") as file:
+        log = file.read()
+    check("standard input, and a byte order mark", converted([], f"\ufeff{log}"), (0, "queue\nP put 1\nP stored\nC take\nC empty\n", ""))
+    check("carriage returns", converted([], log.replace("\n", "\r\n"))[1].count("\n"), 5)
+    check("a queue", converted(["--queue", "8", f"{LOGS}/jepsen.edn"])[1].split("\n")[0], "queue 8")
+    check("a queue of two numbers", converted(["--queue", "2 8"], log)[1].split("\n")[0], "queue 2 8")
+    check("an empty log", converted([]), (0, "queue\n", ""))
+    check("help", [converted(["--help"])[::2], converted(["-h"])[1].startswith("record/convert")], [(0, ""), True])
+    for words in (["a", "b"], ["--queue"]):
+        check(f"the command line {words}", converted(words), (2, "", "record/convert [--queue B] [LOG]\n"))
+    check("no file", converted([f"{LOGS}/none"]), (1, "", f"convert: {LOGS}/none: No such file or directory\n"))
+    print(f"{passed} passed, {failed} failed")
+    return failed != 0
+
+
+if __name__ == "__main__":
+    sys.exit(main())
