@@ -22,12 +22,12 @@ use Rattle.bits_core.specs.Laws.{OpenChanges}
 use Rattle.near_misses.specs.NearPlays.{IsNearPlay, NearAsked, NearBegins, NearEnds, NearMakes, NearStand, NearStands, NearStep, NearStops, asked_by_script, near_stand_of, near_start, near_stopped, with_near_stand}
 use Rattle.near_misses.specs.NearSides.{IsAskedToPut, IsAskedToTake, IsInOpenCall, IsNearReady, NearHas, NearMoves, put_stand, take_stand}
 use Rattle.ring_player.specs.Tellings.{listed}
-use Rattle.ring_player.specs.declared.tellings.Told.{Told}
-use Rattle.ring_player.specs.declared.tellings.Told.TheVariants.{PutBegins, PutStored, PutFull, CloseBegins, CloseEnds, TakeBegins, TakeItem, TakeEmpty, TakeClosed}
+use Rattle.queue_calls.specs.declared.events.CallEvent.{CallEvent}
+use Rattle.queue_calls.specs.declared.events.CallEvent.TheVariants.{PutBegins, PutStored, PutSome, PutFull, PutShort, PutNothing, PutClosed, CloseBegins, CloseEnds, TakeBegins, TakeItems, TakeSome, TakeEmpty, TakeShort, TakeNothing, TakeClosed}
 
 -- ---- the letters
 
-makes_event : (asked : NearAsked) (n : NearStands) (letters : List Side) (s : Side) (h : List Event) (told : List Told) (mid : NearStands) (e : Event) (t : Option Told) (after : NearStand)
+makes_event : (asked : NearAsked) (n : NearStands) (letters : List Side) (s : Side) (h : List Event) (told : List (CallEvent ℕ ℕ)) (mid : NearStands) (e : Event) (t : Option (CallEvent ℕ ℕ)) (after : NearStand)
     → e.side ≡ s → (near_stand_of s mid).stopped ≡ false → NearStep asked s (near_stand_of s mid) e.act e.bit t after → NearMakes asked n letters h told mid
     → NearMakes asked n (letters ++ s ∷ []) (h ++ e ∷ []) (told ++ listed t) (with_near_stand s after mid)
 makes_event asked n [] s h told mid e t after side goes step (none, untold, same) = inl (
@@ -37,7 +37,7 @@ makes_event asked n [] s h told mid e t after side goes step (none, untold, same
   [],
   after,
   ap (λ (x : List Event). x ++ e ∷ []) none,
-  ap (λ (x : List Told). x ++ listed t) untold ∙ sym (append-nil (listed t)),
+  ap (λ (x : List (CallEvent ℕ ℕ)). x ++ listed t) untold ∙ sym (append-nil (listed t)),
   side,
   subst (λ (m : NearStands). (near_stand_of s m).stopped ≡ false) same goes,
   subst (λ (m : NearStands). NearStep asked s (near_stand_of s m) e.act e.bit t after) same step,
@@ -50,7 +50,7 @@ makes_event asked n (l ∷ letters) s h told mid e t after side goes step (inl (
   others ++ listed t,
   next,
   ap (λ (x : List Event). x ++ e ∷ []) h_is,
-  ap (λ (x : List Told). x ++ listed t) told_is ∙ append_assoc (listed t0) others (listed t),
+  ap (λ (x : List (CallEvent ℕ ℕ)). x ++ listed t) told_is ∙ append_assoc (listed t0) others (listed t),
   side0,
   goes0,
   step0,
@@ -59,7 +59,7 @@ makes_event asked n (l ∷ letters) s h told mid e t after side goes step (inl (
 makes_event asked n (l ∷ letters) s h told mid e t after side goes step (inr (stops, more)) =
     inr (stops, makes_event asked (with_near_stand l (near_stopped (near_stand_of l n)) n) letters s h told mid e t after side goes step more)
 
-makes_stop : (asked : NearAsked) (n : NearStands) (letters : List Side) (s : Side) (h : List Event) (told : List Told) (mid : NearStands) → NearStops asked s (near_stand_of s mid)
+makes_stop : (asked : NearAsked) (n : NearStands) (letters : List Side) (s : Side) (h : List Event) (told : List (CallEvent ℕ ℕ)) (mid : NearStands) → NearStops asked s (near_stand_of s mid)
     → NearMakes asked n letters h told mid → NearMakes asked n (letters ++ s ∷ []) h told (with_near_stand s (near_stopped (near_stand_of s mid)) mid)
 makes_stop asked n [] s h told mid stops (none, untold, same) = inr (
   subst (λ (m : NearStands). NearStops asked s (near_stand_of s m)) same stops,
@@ -70,45 +70,59 @@ makes_stop asked n (l ∷ letters) s h told mid stops (inl (e0, later, t0, other
 makes_stop asked n (l ∷ letters) s h told mid stops (inr (stopped, more)) =
     inr (stopped, makes_stop asked (with_near_stand l (near_stopped (near_stand_of l n)) n) letters s h told mid stops more)
 
-pub makes_more : (asked : NearAsked) (n : NearStands) (letters : List Side) (s : Side) (h after : List Event) (told told_after : List Told) (t : Option Told) (mid : NearStands)
+pub makes_more : (asked : NearAsked) (n : NearStands) (letters : List Side) (s : Side) (h after : List Event) (told told_after : List (CallEvent ℕ ℕ)) (t : Option (CallEvent ℕ ℕ)) (mid : NearStands)
     (next : NearStand) → told_after ≡ told ++ listed t → NearMoves asked s h (near_stand_of s mid) t after next → NearMakes asked n letters h told mid
     → NearMakes asked n (letters ++ s ∷ []) after told_after (with_near_stand s next mid)
 makes_more asked n letters s h after told told_after t mid next told_is (inl (e, is, side, goes, step)) made =
     subst (λ (x : List Event). NearMakes asked n (letters ++ s ∷ []) x told_after (with_near_stand s next mid)) (sym is)
-    (subst (λ (x : List Told). NearMakes asked n (letters ++ s ∷ []) (h ++ e ∷ []) x (with_near_stand s next mid)) (sym told_is)
+    (subst (λ (x : List (CallEvent ℕ ℕ)). NearMakes asked n (letters ++ s ∷ []) (h ++ e ∷ []) x (with_near_stand s next mid)) (sym told_is)
     (makes_event asked n letters s h told mid e t next side goes step made))
 makes_more asked n letters s h after told told_after t mid next told_is (inr (is, untold, none, stops, next_is)) made =
-    let told_same : told_after ≡ told = told_is ∙ ap (λ (o : Option Told). told ++ listed o) untold ∙ append-nil told in
+    let told_same : told_after ≡ told = told_is ∙ ap (λ (o : Option (CallEvent ℕ ℕ)). told ++ listed o) untold ∙ append-nil told in
     subst (λ (x : List Event). NearMakes asked n (letters ++ s ∷ []) x told_after (with_near_stand s next mid)) (sym is)
-    (subst (λ (x : List Told). NearMakes asked n (letters ++ s ∷ []) h x (with_near_stand s next mid)) (sym told_same)
+    (subst (λ (x : List (CallEvent ℕ ℕ)). NearMakes asked n (letters ++ s ∷ []) h x (with_near_stand s next mid)) (sym told_same)
     (subst (λ (x : NearStand). NearMakes asked n (letters ++ s ∷ []) h told (with_near_stand s x mid)) (sym next_is) (makes_stop asked n letters s h told mid stops made)))
 
 -- ---- what a side has open
 
-begins_in_call : (asked : NearAsked) (s : Side) (before : NearStand) (t : Option Told) (after : NearStand) → before.stopped ≡ false → NearBegins asked s before t after
+begins_in_call : (asked : NearAsked) (s : Side) (before : NearStand) (t : Option (CallEvent ℕ ℕ)) (after : NearStand) → before.stopped ≡ false → NearBegins asked s before t after
     → (after.in_call ≡ true) × (after.stopped ≡ false)
 begins_in_call asked P before None after goes (in_call, is) = (ap (λ (x : NearStand). x.in_call) is ∙ in_call, ap (λ (x : NearStand). x.stopped) is ∙ goes)
 begins_in_call asked C before None after goes (in_call, is) = (ap (λ (x : NearStand). x.in_call) is ∙ in_call, ap (λ (x : NearStand). x.stopped) is ∙ goes)
 begins_in_call asked P before (Some (PutBegins k)) after goes (a, b, c, d, is) = (ap (λ (x : NearStand). x.in_call) is, ap (λ (x : NearStand). x.stopped) is ∙ goes)
 begins_in_call asked P before (Some CloseBegins) after goes (a, b, c, d, is) = (ap (λ (x : NearStand). x.in_call) is, ap (λ (x : NearStand). x.stopped) is ∙ goes)
-begins_in_call asked C before (Some TakeBegins) after goes (a, b, c, is) = (ap (λ (x : NearStand). x.in_call) is, ap (λ (x : NearStand). x.stopped) is ∙ goes)
+begins_in_call asked C before (Some (TakeBegins k)) after goes (one, a, b, c, is) = (ap (λ (x : NearStand). x.in_call) is, ap (λ (x : NearStand). x.stopped) is ∙ goes)
 begins_in_call asked P before (Some (PutStored k)) after goes x = absurd x
+begins_in_call asked P before (Some (PutSome k)) after goes x = absurd x
 begins_in_call asked P before (Some PutFull) after goes x = absurd x
+begins_in_call asked P before (Some PutShort) after goes x = absurd x
+begins_in_call asked P before (Some PutNothing) after goes x = absurd x
+begins_in_call asked P before (Some PutClosed) after goes x = absurd x
 begins_in_call asked P before (Some CloseEnds) after goes x = absurd x
-begins_in_call asked P before (Some TakeBegins) after goes x = absurd x
-begins_in_call asked P before (Some (TakeItem k)) after goes x = absurd x
+begins_in_call asked P before (Some (TakeBegins k)) after goes x = absurd x
+begins_in_call asked P before (Some (TakeItems k)) after goes x = absurd x
+begins_in_call asked P before (Some (TakeSome k)) after goes x = absurd x
 begins_in_call asked P before (Some TakeEmpty) after goes x = absurd x
+begins_in_call asked P before (Some TakeShort) after goes x = absurd x
+begins_in_call asked P before (Some TakeNothing) after goes x = absurd x
 begins_in_call asked P before (Some TakeClosed) after goes x = absurd x
 begins_in_call asked C before (Some (PutBegins k)) after goes x = absurd x
 begins_in_call asked C before (Some (PutStored k)) after goes x = absurd x
+begins_in_call asked C before (Some (PutSome k)) after goes x = absurd x
 begins_in_call asked C before (Some PutFull) after goes x = absurd x
+begins_in_call asked C before (Some PutShort) after goes x = absurd x
+begins_in_call asked C before (Some PutNothing) after goes x = absurd x
+begins_in_call asked C before (Some PutClosed) after goes x = absurd x
 begins_in_call asked C before (Some CloseBegins) after goes x = absurd x
 begins_in_call asked C before (Some CloseEnds) after goes x = absurd x
-begins_in_call asked C before (Some (TakeItem k)) after goes x = absurd x
+begins_in_call asked C before (Some (TakeItems k)) after goes x = absurd x
+begins_in_call asked C before (Some (TakeSome k)) after goes x = absurd x
 begins_in_call asked C before (Some TakeEmpty) after goes x = absurd x
+begins_in_call asked C before (Some TakeShort) after goes x = absurd x
+begins_in_call asked C before (Some TakeNothing) after goes x = absurd x
 begins_in_call asked C before (Some TakeClosed) after goes x = absurd x
 
-step_in_call : (asked : NearAsked) (s : Side) (before : NearStand) (act : Act) (b : Bit) (t : Option Told) (after : NearStand) (access : Access) → before.stopped ≡ false
+step_in_call : (asked : NearAsked) (s : Side) (before : NearStand) (act : Act) (b : Bit) (t : Option (CallEvent ℕ ℕ)) (after : NearStand) (access : Access) → before.stopped ≡ false
     → begun_access b act ≡ Some access → NearStep asked s before act b t after → (after.in_call ≡ true) × (after.stopped ≡ false)
 step_in_call asked s before ReadBegin b t after access goes begun step = begins_in_call asked s before t after goes step
 step_in_call asked s before (WriteBegin v) b t after access goes begun step = begins_in_call asked s before t after goes step
@@ -123,7 +137,7 @@ other_is_by : (s : Side) (e : Event) → e.side ≡ s → is_by (other s) e ≡ 
 other_is_by P e is = ap (λ (x : Side). is_by C (record e { side = x })) is
 other_is_by C e is = ap (λ (x : Side). is_by P (record e { side = x })) is
 
-pub moves_open : OpenChanges → (asked : NearAsked) (s : Side) (h : List Event) (before : NearStand) (t : Option Told) (after : List Event) (next : NearStand)
+pub moves_open : OpenChanges → (asked : NearAsked) (s : Side) (h : List Event) (before : NearStand) (t : Option (CallEvent ℕ ℕ)) (after : List Event) (next : NearStand)
     → NearMoves asked s h before t after next → IsInOpenCall s after next
 moves_open changes asked s h before t after next (inl (e, is, side, goes, step)) access opened =
     let begun : begun_by e ≡ Some access =
@@ -134,28 +148,35 @@ moves_open changes asked s h before t after next (inr (is, untold, none, stops, 
     none_some : (a : Access) → None ≡ Some a → ⊥
     none_some a e = absurd (cc)
 
-pub moves_other : OpenChanges → (asked : NearAsked) (s : Side) (h : List Event) (before : NearStand) (t : Option Told) (after : List Event) (next stand : NearStand)
+pub moves_other : OpenChanges → (asked : NearAsked) (s : Side) (h : List Event) (before : NearStand) (t : Option (CallEvent ℕ ℕ)) (after : List Event) (next stand : NearStand)
     → NearMoves asked s h before t after next → IsInOpenCall (other s) h stand → IsInOpenCall (other s) after stand
 moves_other changes asked s h before t after next stand (inl (e, is, side, goes, step)) was access opened =
     was access (sym (changes (other s) h e ∙ ap (λ (b : Bool). if b then begun_by e else open_access (other s) h) (other_is_by s e side)) ∙ ap (open_access (other s)) (sym is) ∙ opened)
 moves_other changes asked s h before t after next stand (inr (is, untold, none, stops, next_is)) was access opened = was access (ap (open_access (other s)) (sym is) ∙ opened)
 
 -- the digits read count with the event
-pub ends_with_item : (asked : NearAsked) (before mid after : NearStand) (item : ℕ) (t : Option Told) → mid ≡ record before { item = item } → NearEnds asked C mid mid.item t after
+pub ends_with_item : (asked : NearAsked) (before mid after : NearStand) (item : ℕ) (t : Option (CallEvent ℕ ℕ)) → mid ≡ record before { item = item } → NearEnds asked C mid mid.item t after
     → NearEnds asked C before item t after
 ends_with_item asked before mid after item t same ends =
     by_told t (subst (λ (m : NearStand). NearEnds asked C m m.item t after) same ends)
   where
-    by_told : (o : Option Told) → NearEnds asked C (record before { item = item }) item o after → NearEnds asked C before item o after
+    by_told : (o : Option (CallEvent ℕ ℕ)) → NearEnds asked C (record before { item = item }) item o after → NearEnds asked C before item o after
     by_told None x = x
     by_told (Some (PutBegins k)) x = x
     by_told (Some (PutStored k)) x = x
+    by_told (Some (PutSome k)) x = x
     by_told (Some PutFull) x = x
+    by_told (Some PutShort) x = x
+    by_told (Some PutNothing) x = x
+    by_told (Some PutClosed) x = x
     by_told (Some CloseBegins) x = x
     by_told (Some CloseEnds) x = x
-    by_told (Some TakeBegins) x = x
-    by_told (Some (TakeItem k)) x = x
+    by_told (Some (TakeBegins k)) x = x
+    by_told (Some (TakeItems k)) x = x
+    by_told (Some (TakeSome k)) x = x
     by_told (Some TakeEmpty) x = x
+    by_told (Some TakeShort) x = x
+    by_told (Some TakeNothing) x = x
     by_told (Some TakeClosed) x = x
 
 -- ---- at the begin and at the end
@@ -187,7 +208,7 @@ ready_at_first w shape room fresh put_is take_is =
       take_open = none_opens C w.memory.events (take_stand w.taker) none;
     }
 
-pub has_at_first : {E T : Type 0} (items : T → List Told) (w : NearWorld E T) (shape : Shape) (room : ℕ) (asked : NearAsked) (oracle : List Bool) → w.memory ≡ unused shape room → items w.told ≡ []
+pub has_at_first : {E T : Type 0} (items : T → List (CallEvent ℕ ℕ)) (w : NearWorld E T) (shape : Shape) (room : ℕ) (asked : NearAsked) (oracle : List Bool) → w.memory ≡ unused shape room → items w.told ≡ []
     → put_stand w.putter ≡ near_start → take_stand w.taker ≡ near_start → IsAskedToPut w.putter asked → IsAskedToTake w.taker asked
     → ((i : ℕ) → tape_answer w.oracle i ≡ turn oracle i) → NearHas items asked [] oracle w
 has_at_first items w shape room asked oracle fresh untold put_is take_is to_put to_take same =
@@ -199,7 +220,7 @@ has_at_first items w shape room asked oracle fresh untold put_is take_is to_put 
       turns = turns_begin (turn oracle) (tape_answer w.oracle) w.memory.events none same;
     }
 
-pub near_play : {E T : Type 0} (items : T → List Told) (w : NearWorld E T) (script : Content) (letters : List Side) (h : List Event) → TurnsAreByInterval → w.memory.shape ≡ script.shape
+pub near_play : {E T : Type 0} (items : T → List (CallEvent ℕ ℕ)) (w : NearWorld E T) (script : Content) (letters : List Side) (h : List Event) → TurnsAreByInterval → w.memory.shape ≡ script.shape
     → h ≡ w.memory.events → IsLawful w.memory.shape w.memory.events → NearHas items (asked_by_script script) letters script.oracle w → IsNearPlay script letters h (items w.told)
 near_play items w script letters h law shape_is h_is lawful has =
     let lawful_here : IsLawful script.shape w.memory.events = subst (λ (s : Shape). IsLawful s w.memory.events) shape_is lawful in

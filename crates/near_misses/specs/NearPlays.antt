@@ -11,8 +11,8 @@ use Rattle.bits_core.specs.declared.events.Side.TheVariants.{P, C}
 use Rattle.bits_core.specs.Lawful.{IsLawful}
 use Rattle.ring_player.specs.Plays.{AreInTurn}
 use Rattle.ring_player.specs.Tellings.{listed}
-use Rattle.ring_player.specs.declared.tellings.Told.{Told}
-use Rattle.ring_player.specs.declared.tellings.Told.TheVariants.{PutBegins, PutStored, PutFull, CloseBegins, CloseEnds, TakeBegins, TakeItem, TakeEmpty, TakeClosed}
+use Rattle.queue_calls.specs.declared.events.CallEvent.{CallEvent}
+use Rattle.queue_calls.specs.declared.events.CallEvent.TheVariants.{PutBegins, PutStored, PutFull, CloseBegins, CloseEnds, TakeBegins, TakeItems, TakeEmpty, TakeClosed}
 use Rattle.ring_script.specs.Content.{Content}
 
 -- what a script asks for: so many items, so many takes, and a close
@@ -37,26 +37,26 @@ abbrev pub near_start : NearStand
 near_start = record { in_call = false; stopped = false; count = 0; item = 0; over = false }
 
 -- an event that begins an access: one of the call under way, or the first of a call, which is told
-abbrev pub NearBegins : NearAsked → Side → NearStand → Option Told → NearStand → Type 0
+abbrev pub NearBegins : NearAsked → Side → NearStand → Option (CallEvent ℕ ℕ) → NearStand → Type 0
 NearBegins asked s before None after = (before.in_call ≡ true) × (after ≡ before)
 NearBegins asked P before (Some (PutBegins stored)) after =
     (before.in_call ≡ false) × (before.over ≡ false) × (stored ≡ before.count) × (stored < asked.items) × (after ≡ record before { in_call = true })
 NearBegins asked P before (Some CloseBegins) after =
     (before.in_call ≡ false) × (before.over ≡ false) × (asked.items ≤ before.count) × (asked.closes ≡ true) × (after ≡ record before { in_call = true })
-NearBegins asked C before (Some TakeBegins) after =
-    (before.in_call ≡ false) × (before.over ≡ false) × (before.count < asked.takes) ×
+NearBegins asked C before (Some (TakeBegins wanted)) after =
+    (wanted ≡ 1) × (before.in_call ≡ false) × (before.over ≡ false) × (before.count < asked.takes) ×
     (after ≡ record before { in_call = true; count = suc before.count; item = 0 })
 NearBegins _ _ _ _ _ = ⊥
 
 -- an event that ends an access, with which the digits read make this item: one of the call under way, or its last, which is told
-abbrev pub NearEnds : NearAsked → Side → NearStand → ℕ → Option Told → NearStand → Type 0
+abbrev pub NearEnds : NearAsked → Side → NearStand → ℕ → Option (CallEvent ℕ ℕ) → NearStand → Type 0
 NearEnds asked P before item None after = (before.in_call ≡ true) × (after ≡ before)
 NearEnds asked C before item None after = (before.in_call ≡ true) × (after ≡ record before { item = item })
 NearEnds asked P before item (Some (PutStored count)) after =
     (before.in_call ≡ true) × (before.count + count ≤ asked.items) × (after ≡ record before { in_call = false; count = before.count + count })
 NearEnds asked P before item (Some PutFull) after = (before.in_call ≡ true) × (after ≡ record before { in_call = false })
 NearEnds asked P before item (Some CloseEnds) after = (before.in_call ≡ true) × (after ≡ record before { in_call = false; over = true })
-NearEnds asked C before item (Some (TakeItem taken)) after = (before.in_call ≡ true) × (taken ≡ item) × (after ≡ record before { in_call = false; item = item })
+NearEnds asked C before item (Some (TakeItems taken)) after = (before.in_call ≡ true) × (taken ≡ item) × (after ≡ record before { in_call = false; item = item })
 NearEnds asked C before item (Some TakeEmpty) after = (before.in_call ≡ true) × (after ≡ record before { in_call = false; item = item })
 NearEnds asked C before item (Some TakeClosed) after = (before.in_call ≡ true) × (after ≡ record before { in_call = false; item = item; over = true })
 NearEnds _ _ _ _ _ _ = ⊥
@@ -67,7 +67,7 @@ with_digit true (Cell j i) item = (if nat_lt i 64 then bit_or item (2 ^ i) else 
 with_digit _ _ item = item
 
 -- an event of a side, and what is told of it
-abbrev pub NearStep : NearAsked → Side → NearStand → Act → Bit → Option Told → NearStand → Type 0
+abbrev pub NearStep : NearAsked → Side → NearStand → Act → Bit → Option (CallEvent ℕ ℕ) → NearStand → Type 0
 NearStep asked s before ReadBegin b told after = NearBegins asked s before told after
 NearStep asked s before (WriteBegin v) b told after = NearBegins asked s before told after
 NearStep asked s before (ReadEnd v) b told after = NearEnds asked s before (with_digit v b before.item) told after
@@ -98,15 +98,15 @@ with_near_stand P stand n = record n { putting = stand }
 with_near_stand C stand n = record n { taking = stand }
 
 -- letters make a history, and so much is told of it: at each letter its side makes an event, or it stops or has stopped
-abbrev pub NearMakes : NearAsked → NearStands → List Side → List Event → List Told → NearStands → Type 0
+abbrev pub NearMakes : NearAsked → NearStands → List Side → List Event → List (CallEvent ℕ ℕ) → NearStands → Type 0
 NearMakes asked n [] h told after = (h ≡ []) × (told ≡ []) × (after ≡ n)
 NearMakes asked n (s ∷ letters) h told after =
-    ((e : Event) × (later : List Event) × (t : Option Told) × (others : List Told) × (next : NearStand) × (h ≡ e ∷ later) × (told ≡ listed t ++ others) × (e.side ≡ s)
+    ((e : Event) × (later : List Event) × (t : Option (CallEvent ℕ ℕ)) × (others : List (CallEvent ℕ ℕ)) × (next : NearStand) × (h ≡ e ∷ later) × (told ≡ listed t ++ others) × (e.side ≡ s)
     × ((near_stand_of s n).stopped ≡ false) × NearStep asked s (near_stand_of s n) e.act e.bit t next × NearMakes asked (with_near_stand s next n) letters later others after)
     ⊎ (NearStops asked s (near_stand_of s n) × NearMakes asked (with_near_stand s (near_stopped (near_stand_of s n)) n) letters h told after)
 
 -- a play of these letters by a near miss
-pub record IsNearPlay (script : Content) (letters : List Side) (h : List Event) (told : List Told) : Type 0 where
+pub record IsNearPlay (script : Content) (letters : List Side) (h : List Event) (told : List (CallEvent ℕ ℕ)) : Type 0 where
   pub lawful : IsLawful script.shape h
   pub stands : NearStands
   pub made : NearMakes (asked_by_script script) near_starts letters h told stands

@@ -15,7 +15,7 @@ use Rattle.near_misses.specs.declared.putting.Stage as put
 use Rattle.near_misses.specs.declared.taking.NearTaker.{NearTaker}
 use Rattle.near_misses.specs.declared.taking.Stage as taking
 use Rattle.ring_player.specs.Actors.{IsAtTurn}
-use Rattle.ring_player.specs.declared.tellings.Told.{Told}
+use Rattle.queue_calls.specs.declared.events.CallEvent.{CallEvent}
 
 -- the stages in a call, and the one behind the last call
 abbrev pub is_in_put : put.Stage → Bool
@@ -59,7 +59,7 @@ item_ended (Read b) v item = with_digit v b item
 item_ended (Write b w) v item = item
 
 -- one step of a side: it makes an event, or it stops or has stopped
-abbrev pub NearMoves : NearAsked → Side → List Event → NearStand → Option Told → List Event → NearStand → Type 0
+abbrev pub NearMoves : NearAsked → Side → List Event → NearStand → Option (CallEvent ℕ ℕ) → List Event → NearStand → Type 0
 NearMoves asked s h before told h' after =
     ((e : Event) × (h' ≡ h ++ e ∷ []) × (e.side ≡ s) × (before.stopped ≡ false) × NearStep asked s before e.act e.bit told after)
     ⊎ ((h' ≡ h) × (told ≡ None) × (open_access s h ≡ None) × NearStops asked s before × (after ≡ near_stopped before))
@@ -76,7 +76,7 @@ pub record IsNearReady {E T : Type 0} (w : NearWorld E T) : Type 0 where
   pub take_open : IsInOpenCall C w.memory.events (take_stand w.taker)
 
 -- These letters have made what both sides have done, with what a list that is told has, and the oracle goes on from there.
-pub record NearHas {E T : Type 0} (items : T → List Told) (asked : NearAsked) (letters : List Side) (oracle : List Bool) (w : NearWorld E T) : Type 0 where
+pub record NearHas {E T : Type 0} (items : T → List (CallEvent ℕ ℕ)) (asked : NearAsked) (letters : List Side) (oracle : List Bool) (w : NearWorld E T) : Type 0 where
   pub asked_put : IsAskedToPut w.putter asked
   pub asked_take : IsAskedToTake w.taker asked
   pub made : NearMakes asked near_starts letters w.memory.events (items w.told) (record { putting = put_stand w.putter; taking = take_stand w.taker })

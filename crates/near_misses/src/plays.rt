@@ -18,7 +18,7 @@ use crate::putting::NearPutter;
 use crate::taking::NearTaker;
 use bits_core::laws::open_changes;
 use bits_core::{Access, Event, Memory, MemoryFault, Oracle, Side, Store, Tape};
-use ring_player::Told;
+use ring_player::PlayedCall;
 use ring_player::laws::{turns_are_by_interval, turns_go_on};
 use ring_script::{Script, ScriptRef};
 use std::alloc::{AllocError, AllocFailed, Allocator};
@@ -67,7 +67,7 @@ impl From<MemoryFault> for NearFault {
 ///
 /// In use: `lamport_ring play --wrong`.
 #[derive(Drop)]
-pub struct NearPlay<E: Store<Event>, T: Store<Told>> {
+pub struct NearPlay<E: Store<Event>, T: Store<PlayedCall>> {
     pub history: E,
     pub told: T,
 }
@@ -90,7 +90,7 @@ trait NearSide {
     ghost asked: { Self → NearAsked → Type 0 };
 
     // The access that is due, and what it tells where a call begins with it; none where the side stops.
-    fn next(&mut self) -> Option<(Access, Option<Told>)>
+    fn next(&mut self) -> Option<(Access, Option<PlayedCall>)>
         ensures side { (side self.new ≡ side self.old) × (shape self.new ≡ shape self.old) }
         ensures asked { (a : NearAsked) → asked self.old a → asked self.new a }
         ensures begins { IfSome result (λ r. (a : NearAsked) → asked self.old a → NearBegins a (side self.old) (stand self.old) r.1 (stand self.new)) }
@@ -105,7 +105,7 @@ trait NearSide {
         ensures stopped { stand self.new ≡ near_stopped (stand self.old) };
 
     // This access, which was due, has ended with this answer. Tells the end of a call, where it is one.
-    fn end(&mut self, access: Access, answer: bool) -> Option<Told>
+    fn end(&mut self, access: Access, answer: bool) -> Option<PlayedCall>
         requires { (stand self.old).in_call ≡ true }
         ensures side { (side self.new ≡ side self.old) × (shape self.new ≡ shape self.old) }
         ensures asked { (a : NearAsked) → asked self.old a → asked self.new a }
@@ -124,7 +124,7 @@ impl NearSide for NearPutter<'_> {
 
     ghost asked = { IsAskedToPut };
 
-    fn next(&mut self) -> Option<(Access, Option<Told>)> {
+    fn next(&mut self) -> Option<(Access, Option<PlayedCall>)> {
         NearPutter::next(self)
     }
 
@@ -132,7 +132,7 @@ impl NearSide for NearPutter<'_> {
         NearPutter::stop(self)
     }
 
-    fn end(&mut self, access: Access, answer: bool) -> Option<Told> {
+    fn end(&mut self, access: Access, answer: bool) -> Option<PlayedCall> {
         NearPutter::end(self, access, answer)
     }
 }
@@ -149,7 +149,7 @@ impl NearSide for NearTaker {
 
     ghost asked = { IsAskedToTake };
 
-    fn next(&mut self) -> Option<(Access, Option<Told>)> {
+    fn next(&mut self) -> Option<(Access, Option<PlayedCall>)> {
         NearTaker::next(self)
     }
 
@@ -157,7 +157,7 @@ impl NearSide for NearTaker {
         NearTaker::stop(self)
     }
 
-    fn end(&mut self, access: Access, answer: bool) -> Option<Told> {
+    fn end(&mut self, access: Access, answer: bool) -> Option<PlayedCall> {
         NearTaker::end(self, access, answer)
     }
 }
@@ -224,7 +224,7 @@ fn go_on<E: Store<Event>, S: NearSide>(
     memory: &mut Memory<E>,
     machine: &mut S,
     side: Side,
-) -> Result<Option<Told>, NearFault>
+) -> Result<Option<PlayedCall>, NearFault>
     requires none_open { open_access side memory.old.events ≡ None }
     requires side { (S.side machine.old ≡ side) × (S.shape machine.old ≡ memory.old.shape) }
     ensures shape { memory.new.shape ≡ memory.old.shape }
@@ -254,7 +254,7 @@ fn step<E: Store<Event>, S: NearSide, O: Oracle>(
     machine: &mut S,
     oracle: &mut O,
     side: Side,
-) -> Result<Option<Told>, NearFault>
+) -> Result<Option<PlayedCall>, NearFault>
     requires side { (S.side machine.old ≡ side) × (S.shape machine.old ≡ memory.old.shape) }
     requires open { IsInOpenCall side memory.old.events (S.stand machine.old) }
     ensures shape { memory.new.shape ≡ memory.old.shape }
@@ -274,7 +274,7 @@ fn step<E: Store<Event>, S: NearSide, O: Oracle>(
 }
 
 // Tells what an event tells, if anything.
-fn tell<T: Store<Told>>(told: &mut T, event: Option<Told>) -> Result<(), NearFault>
+fn tell<T: Store<PlayedCall>>(told: &mut T, event: Option<PlayedCall>) -> Result<(), NearFault>
     ensures told { OnOk result (T.items told.new ≡ T.items told.old ++ listed event) }
     ensures room { T.room told.new ≡ T.room told.old }
     ensures few { OnOk result (length (T.items told.new) ≤ length (T.items told.old) + 1) }
@@ -292,7 +292,7 @@ fn tell<T: Store<Told>>(told: &mut T, event: Option<Told>) -> Result<(), NearFau
 
 // Both sides at work on one memory.
 #[derive(Drop)]
-struct NearWorld<'a, E: Store<Event>, T: Store<Told>> {
+struct NearWorld<'a, E: Store<Event>, T: Store<PlayedCall>> {
     memory: Memory<E>,
     putter: NearPutter<'a>,
     taker: NearTaker,
@@ -300,7 +300,7 @@ struct NearWorld<'a, E: Store<Event>, T: Store<Told>> {
     told: T,
 }
 
-impl<E: Store<Event>, T: Store<Told>> NearWorld<'_, E, T> {
+impl<E: Store<Event>, T: Store<PlayedCall>> NearWorld<'_, E, T> {
     // Makes one step of a side.
     fn step(&mut self, side: Side) -> Result<(), NearFault>
         requires { IsNearReady self.old }
@@ -370,7 +370,7 @@ impl<E: Store<Event>, T: Store<Told>> NearWorld<'_, E, T> {
 }
 
 // Makes one step for each of the first so many letters of the script's schedule, or for each letter where they are fewer.
-fn run_first<E: Store<Event>, T: Store<Told>>(
+fn run_first<E: Store<Event>, T: Store<PlayedCall>>(
     world: &mut NearWorld<'_, E, T>,
     script: ScriptRef<'_>,
     letters: u64,
@@ -403,7 +403,7 @@ pub fn play_near<A: Allocator + Copy, B: Allocator>(
     alloc: A,
     miss: NearMiss,
     script: &Script<B>,
-) -> Result<NearPlay<Vec<Event, A>, Vec<Told, A>>, NearFault>
+) -> Result<NearPlay<Vec<Event, A>, Vec<PlayedCall, A>>, NearFault>
     ensures plays { IfOk result (λ play. IsNearPlay script.now script.now.letters play.history.items play.told.items) }
     ensures of_shape { IfOk result (λ play. AreOfShape script.now.shape play.history.items) }
 {
@@ -423,7 +423,7 @@ pub fn play_near<A: Allocator + Copy, B: Allocator>(
 /// `OutOfMemory` tells that one of the stores had no room for as many events as letters are played.
 ///
 /// In use: the page, which shows a play up to a letter.
-pub fn play_near_first<E: Store<Event>, T: Store<Told>>(
+pub fn play_near_first<E: Store<Event>, T: Store<PlayedCall>>(
     miss: NearMiss,
     script: ScriptRef<'_>,
     letters: u64,

@@ -1,16 +1,21 @@
 //! The events of a history.
-ghost use Rattle.std.specs.Prelude.{◌≡◌};
+ghost use Rattle.std.specs.Prelude.{◌≡◌, ◌↔◌, IsTrue, ℕ, List};
 ghost use Rattle.queue_calls.specs.Deciding.{outcome_of, passed};
-ghost use Rattle.queue_calls.specs.Told.{told};
+ghost use Rattle.queue_calls.specs.Order.{P as producer, side_of};
+ghost use Rattle.queue_calls.specs.Tellings.{line_of};
+ghost use Rattle.queue_calls.specs.Told.{event_by, told};
+ghost use Rattle.queue_calls.specs.declared.hearings.Begun.{Begun};
 
-/// An event of a history of calls: a call begins, or it ends with an answer.
+use crate::lines::Word;
+
+/// An event of a history of calls: a call begins, or it ends with an answer. A `P` tells the items that a put offers, and a `T` those
+/// that a take took.
 ///
-/// For example, `Event::PutBegins(&[5, 6])` is what `P put 5 6` tells in a recording. In use:
-/// `uses::calls::first_at_fault`.
-#[derive(Clone, Copy)]
-pub enum Event<'a> {
+/// For example, `CallEvent::PutStored(2)` is what `P stored 2` tells in a recording.
+#[derive(Clone, Copy, PartialEq, Eq, Debug)]
+pub enum CallEvent<P, T> {
     /// A put of these items begins.
-    PutBegins(&'a [u64]),
+    PutBegins(P),
     /// The put ends: so many of its first items were stored. Where these are fewer than it offered, the queue had no room
     /// for one more before the first of them.
     PutStored(usize),
@@ -32,9 +37,9 @@ pub enum Event<'a> {
     TakeBegins(usize),
     /// The take ends: it took these items. Where these are fewer than it wanted, the queue had no more than these before
     /// the first of them.
-    TakeItems(&'a [u64]),
+    TakeItems(T),
     /// The take ends: it took these items, and no reason is told where they are fewer than it wanted.
-    TakeSome(&'a [u64]),
+    TakeSome(T),
     /// The take ends: the queue had no item, and some may come.
     TakeEmpty,
     /// The take of several items ends: the queue had fewer than it wanted, though it was not empty and closed, and none was
@@ -45,6 +50,12 @@ pub enum Event<'a> {
     /// The take ends: the queue was empty and closed.
     TakeClosed,
 }
+
+/// An event of a history of calls, with its items.
+///
+/// For example, `Event::PutBegins(&[5, 6])` is what `P put 5 6` tells in a recording. In use:
+/// `uses::calls::first_at_fault`.
+pub type Event<'a> = CallEvent<&'a [u64], &'a [u64]>;
 
 // A call of so many items passed so many of them, and says why not more or does not: these, and the number for which it found no room or
 // no items, 0 where it tells none. `None` where it cannot have passed them.
@@ -59,6 +70,49 @@ fn passed(why: bool, count: usize, most: usize) -> Option<(usize, usize)>
         Some((count, count + 1))
     } else {
         Some((count, 0))
+    }
+}
+
+impl<P, T> CallEvent<P, T> {
+    /// The word of the line that tells it in a recording.
+    ///
+    /// For example, that of `CallEvent::CloseEnds` is `P closed`, as it is that of `CallEvent::PutClosed`.
+    pub fn word(&self) -> Word
+        ensures { (offers : P → List ℕ) (took : T → List ℕ) (b : Begun) → result ≡ (line_of b (event_by offers took self.now)).word }
+    {
+        match self {
+            CallEvent::PutBegins(_) => Word::Put,
+            CallEvent::PutStored(_) => Word::Stored,
+            CallEvent::PutSome(_) => Word::PutSome,
+            CallEvent::PutFull => Word::Full,
+            CallEvent::PutShort => Word::Short,
+            CallEvent::PutNothing => Word::PutNothing,
+            CallEvent::PutClosed | CallEvent::CloseEnds => Word::PutClosed,
+            CallEvent::CloseBegins => Word::Close,
+            CallEvent::TakeBegins(_) => Word::Take,
+            CallEvent::TakeItems(_) => Word::Item,
+            CallEvent::TakeSome(_) => Word::TakeSome,
+            CallEvent::TakeEmpty => Word::Empty,
+            CallEvent::TakeShort => Word::TakeShort,
+            CallEvent::TakeNothing => Word::TakeNothing,
+            CallEvent::TakeClosed => Word::TakeClosed,
+        }
+    }
+
+    /// Whether it is of the producer.
+    pub fn is_of_producer(&self) -> bool
+        ensures { (offers : P → List ℕ) (took : T → List ℕ) → IsTrue result ↔ (side_of (event_by offers took self.now) ≡ producer) }
+    {
+        !matches!(
+            self,
+            CallEvent::TakeBegins(_)
+                | CallEvent::TakeItems(_)
+                | CallEvent::TakeSome(_)
+                | CallEvent::TakeEmpty
+                | CallEvent::TakeShort
+                | CallEvent::TakeNothing
+                | CallEvent::TakeClosed
+        )
     }
 }
 

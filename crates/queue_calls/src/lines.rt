@@ -1,5 +1,5 @@
 //! The lines of a recording's text.
-ghost use Rattle.std.specs.Prelude.{◌≡◌, ◌↔◌, ◌<◌, ◌++◌, IsTrue, None, IfOk, OnErr, IfSome, ℕ, List, length, option_map};
+ghost use Rattle.std.specs.Prelude.{◌≡◌, ◌↔◌, ◌<◌, ◌++◌, IsTrue, None, Some, IfOk, OnErr, IfSome, ℕ, List, length, option_map};
 ghost use Rattle.queue_calls.specs.Lines.{Allows, AreSmall, IsLine, numbers_text, word_of, word_text};
 ghost use Rattle.queue_calls.specs.Rooms.{BeginsWithNumbers};
 ghost use Rattle.queue_calls.specs.LineReading.{ReadsNumbers, bytes_behind, digits_behind, spaced_number, put_word_at, take_word_at, line_word_at};
@@ -74,8 +74,34 @@ impl Word {
         }
     }
 
-    /// The word of this number, by which a program tells it: 0 to 14 as `record/` numbers the kinds of events, 15 `queue` and 16
-    /// `cut queue`.
+    /// Its number, by which a program tells it: 0 to 14 as `record/` numbers the kinds of events, 15 `queue` and 16 `cut queue`.
+    ///
+    /// In use: `ring_run::Recorder`, `ring_page::page_play_near`.
+    pub fn number(self) -> u32
+        ensures { word_of result ≡ Some self }
+    {
+        match self {
+            Word::Put => 0,
+            Word::Close => 1,
+            Word::Take => 2,
+            Word::Stored => 3,
+            Word::PutSome => 4,
+            Word::Full => 5,
+            Word::Short => 6,
+            Word::PutNothing => 7,
+            Word::PutClosed => 8,
+            Word::Item => 9,
+            Word::TakeSome => 10,
+            Word::Empty => 11,
+            Word::TakeShort => 12,
+            Word::TakeNothing => 13,
+            Word::TakeClosed => 14,
+            Word::Queue => 15,
+            Word::Cut => 16,
+        }
+    }
+
+    /// The word of this number.
     ///
     /// In use: `queue_calls_c`, by which C tells its lines.
     pub fn of_number(number: u32) -> Option<Word>

@@ -3,4 +3,3 @@ pub mod Sinces
 pub mod Rooms
 pub mod Shown
 pub mod Following
-pub mod MarksTold

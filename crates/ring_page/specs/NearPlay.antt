@@ -1,12 +1,17 @@
 -- What the page is told of a play by a near miss.
-use Rattle.std.specs.Prelude.{◌≡◌, ◌⊎◌, ◌==◌, if◌then◌else◌, ℕ, Option, Some, None, List, length, map, take}
+use Rattle.std.specs.Prelude.{◌≡◌, ◌⊎◌, ◌==◌, if◌then◌else◌, ℕ, Option, Some, None, List, [], length, map, take}
 use Rattle.bits_core.specs.declared.events.Event.{Event}
 use Rattle.near_misses.specs.Misses.{near_modulus}
 use Rattle.near_misses.specs.NearPlays.{IsNearPlay}
 use Rattle.near_misses.specs.declared.misses.NearMiss.{NearMiss}
 use Rattle.near_misses.specs.declared.misses.NearMiss.TheVariants.{CountBeforeCell, NoSecondScan, SmallModulus, ClearsFirst, ClearsUpwards}
-use Rattle.ring_player.specs.declared.tellings.Told.{Told}
-use Rattle.ring_player.specs.declared.tellings.Told.TheVariants.{PutBegins, PutStored, PutFull, CloseBegins, CloseEnds, TakeBegins, TakeItem, TakeEmpty, TakeClosed}
+use Rattle.queue_calls.specs.Lines.{word_of}
+use Rattle.queue_calls.specs.Tellings.{line_of}
+use Rattle.queue_calls.specs.Told.{event_by}
+use Rattle.queue_calls.specs.declared.events.CallEvent.{CallEvent}
+use Rattle.queue_calls.specs.declared.events.CallEvent.TheVariants.{PutBegins, PutStored, PutSome, TakeBegins, TakeItems, TakeSome}
+use Rattle.queue_calls.specs.declared.hearings.Begun.TheVariants.{Nothing}
+use Rattle.queue_calls.specs.declared.lines.Word.{Word}
 use Rattle.ring_script.specs.Content.{Content}
 use Rattle.ring_script.specs.Script.{HeldFields, HoldsFields, IsContentOf, IsScript}
 use Rattle.ring_page.specs.Audit.{AreMarksOf}
@@ -26,20 +31,23 @@ near_numbered n =
     if n == 5 then Some ClearsUpwards else
     None
 
--- a begin or an end of a call, as numbers
-abbrev pub telling : ℕ → ℕ → Telling
-telling word number = record { word = word; number = number }
+-- the number that an event of a call tells beside its word
+abbrev pub number_told : CallEvent ℕ ℕ → ℕ
+number_told (PutBegins stored) = stored
+number_told (PutStored count) = count
+number_told (PutSome count) = count
+number_told (TakeBegins wanted) = wanted
+number_told (TakeItems item) = item
+number_told (TakeSome item) = item
+number_told _ = 0
 
-abbrev pub telling_of : Told → Telling
-telling_of (PutBegins stored) = telling 0 stored
-telling_of (PutStored count) = telling 1 count
-telling_of PutFull = telling 2 0
-telling_of CloseBegins = telling 3 0
-telling_of CloseEnds = telling 4 0
-telling_of TakeBegins = telling 5 0
-telling_of (TakeItem item) = telling 6 item
-telling_of TakeEmpty = telling 7 0
-telling_of TakeClosed = telling 8 0
+-- what it tells: the word of its line, and the number
+abbrev pub said_by : CallEvent ℕ ℕ → Option Word × ℕ
+said_by event = (Some (line_of Nothing (event_by (λ stored. []) (λ item. []) event)).word, number_told event)
+
+-- and what numbers tell
+abbrev pub said_in : Telling → Option Word × ℕ
+said_in telling = (word_of telling.word, telling.number)
 
 -- what is told of a play of so many events and tellings, of a schedule of so many letters, whose counts go round at this modulus
 abbrev pub near_played : (events tellings letters modulus : ℕ) → NearPlayed
@@ -48,10 +56,10 @@ near_played events tellings letters modulus = record { outcome = 0; number = 0; 
 -- this is told of the play of the script's first letters
 pub record TellsNearLetters (miss : NearMiss) (script : Content) (letters : ℕ) (marks : List Mark) (tellings : List Telling) (told : NearPlayed) : Type 0 where
   pub history : List Event
-  pub calls : List Told
+  pub calls : List (CallEvent ℕ ℕ)
   pub plays : IsNearPlay script (take letters script.letters) history calls
   pub are_marks : AreMarksOf history (length history) marks
-  pub fills : take (length calls) tellings ≡ take (length tellings) (map telling_of calls)
+  pub fills : map said_in (take (length calls) tellings) ≡ map said_by (take (length tellings) calls)
   pub numbers : told ≡ near_played (length history) (length calls) (length script.letters) (near_modulus miss script.shape)
 
 -- the values stand for a script, which is that of any bytes whose fields hold them, and this is told of its play

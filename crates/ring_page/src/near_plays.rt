@@ -1,7 +1,7 @@
 //! The play of a script by a near miss.
 ghost use Rattle.std.specs.Prelude.{◌≡◌, ◌<◌, length, map, min, take, IfOk, OnErr};
 ghost use Rattle.ring_script.specs.Borrowed.{content_of};
-ghost use Rattle.ring_page.specs.NearPlay.{TellsNearLetters, TellsNearPlay, near_numbered, near_refused, no_near_miss, telling_of};
+ghost use Rattle.ring_page.specs.NearPlay.{TellsNearLetters, TellsNearPlay, near_numbered, near_refused, no_near_miss, said_by, said_in};
 ghost use Rattle.ring_page.specs.Play.{TellsPlayFault, fields_of};
 
 use crate::audits::{EVENT_ROOM, no_events};
@@ -9,17 +9,17 @@ use crate::marks::Mark;
 use crate::plays::{ANSWER_ROOM, Asked, Played, RUN_ROOM, fields, put_lawful, told_fault};
 use bits_core::{Filled, Side};
 use near_misses::{NearFault, NearMiss, play_near_first};
-use ring_player::Told;
+use ring_player::PlayedCall;
 use ring_script::{Run, ScriptFault, ScriptRef};
 
 /// A begin or an end of a call, as numbers.
 #[repr(C)]
 #[derive(Clone, Copy, PartialEq, Eq, Debug)]
 pub struct Telling {
-    /// 0 a put begins, 1 it stored items, 2 it found the ring full; 3 a close begins, 4 it ends; 5 a take begins, 6 it took an item, 7 it
-    /// found the ring empty, 8 it was told that the ring is closed.
+    /// The number of the word of its line (`queue_calls::Word`).
     pub word: u64,
-    /// Of a put that begins, how many items of the script are stored; of one that stored items, how many; the item of a take. Else 0.
+    /// Of a put that begins, how many items of the script are stored; of one that stored items, how many; 1 of a take that begins, and the
+    /// item of one that took it. Else 0.
     pub number: u64,
 }
 
@@ -59,26 +59,27 @@ fn near_numbered(number: u64) -> Option<NearMiss>
     }
 }
 
-fn telling_of(told: Told) -> Telling
-    ensures { result ≡ telling_of told }
+// A begin or an end of a call, as numbers.
+fn telling_of(event: PlayedCall) -> Telling
+    ensures { said_in result ≡ said_by event }
 {
-    let (word, number) = match told {
-        Told::PutBegins(stored) => (0, stored as u64),
-        Told::PutStored(count) => (1, count as u64),
-        Told::PutFull => (2, 0),
-        Told::CloseBegins => (3, 0),
-        Told::CloseEnds => (4, 0),
-        Told::TakeBegins => (5, 0),
-        Told::TakeItem(item) => (6, item),
-        Told::TakeEmpty => (7, 0),
-        Told::TakeClosed => (8, 0),
+    let number = match event {
+        PlayedCall::PutBegins(count)
+        | PlayedCall::PutStored(count)
+        | PlayedCall::PutSome(count)
+        | PlayedCall::TakeBegins(count) => count as u64,
+        PlayedCall::TakeItems(item) | PlayedCall::TakeSome(item) => item,
+        _ => 0,
     };
-    Telling { word, number }
+    Telling {
+        word: u64::from(event.word().number()),
+        number,
+    }
 }
 
 // Puts what is told into the room, as much of it as there is room for.
-fn put_tellings(calls: &[Told], tellings: &mut [Telling])
-    ensures { take (length calls.now) tellings.new ≡ take (length tellings.new) (map telling_of calls.now) }
+fn put_tellings(calls: &[PlayedCall], tellings: &mut [Telling])
+    ensures { map said_in (take (length calls.now) tellings.new) ≡ map said_by (take (length tellings.new) calls.now) }
 {
     for i in 0..calls.len().min(tellings.len()) {
         tellings[i] = telling_of(calls[i]);
@@ -97,7 +98,7 @@ fn tell_near_play(
     ensures refused { OnErr result (EVENT_ROOM < min letters (length (content_of script.entry).letters)) }
 {
     let mut events = no_events();
-    let mut told_room = [Told::PutFull; EVENT_ROOM];
+    let mut told_room = [PlayedCall::PutFull; EVENT_ROOM];
     let play = play_near_first(
         miss,
         script,

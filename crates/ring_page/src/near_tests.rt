@@ -12,7 +12,10 @@ const NO_MARK: Mark = Mark {
     clashes: true,
 };
 
-const NOTHING_TOLD: Telling = Telling { word: 9, number: 9 };
+const NOTHING_TOLD: Telling = Telling {
+    word: 99,
+    number: 99,
+};
 
 // What is told before anything is told.
 const NOTHING_PLAYED: NearPlayed = NearPlayed {
@@ -75,7 +78,7 @@ fn play(
 #[test]
 fn by_a_modulus_one_too_small_an_item_is_taken_twice(rt: HostRuntime) {
     let (played, told, marks) = play(3, &ASKED, &[1, 2, 3], "P9C20", "01");
-    assert_eq!(rt; told, [[0, 0], [5, 0], [6, 1], [5, 0], [6, 1]]);
+    assert_eq!(rt; told, [[0, 0], [2, 1], [9, 1], [2, 1], [9, 1]]);
     assert_eq!(rt;
         [played.outcome, played.told, played.all_letters],
         [0, 5, 29]
@@ -88,7 +91,7 @@ fn by_a_modulus_one_too_small_an_item_is_taken_twice(rt: HostRuntime) {
 fn by_a_count_before_its_cell_an_item_is_taken_that_was_not_put(rt: HostRuntime) {
     let narrow = Asked { width: 1, ..ASKED };
     let (played, told, _) = play(1, &narrow, &[1], "P5C10", "");
-    assert_eq!(rt; told, [[0, 0], [5, 0], [6, 0], [9, 9], [9, 9]]);
+    assert_eq!(rt; told, [[0, 0], [2, 1], [9, 0], [99, 99], [99, 99]]);
     assert_eq!(rt; [played.outcome, played.told, played.modulus], [0, 3, 3]);
 }
 
@@ -101,10 +104,10 @@ fn without_a_second_scan_an_item_is_lost(rt: HostRuntime) {
         ..ASKED
     };
     let (played, told, _) = play(2, &closing, &[1], "C2P9C2", "1");
-    assert_eq!(rt; told, [[5, 0], [0, 0], [1, 1], [3, 0], [8, 0]]);
+    assert_eq!(rt; told, [[2, 1], [0, 0], [3, 1], [1, 0], [14, 0]]);
     assert_eq!(rt; (played.outcome, played.told), (0, 5));
     let (played, told, _) = play(2, &closing, &[1], "C2P10C2", "");
-    assert_eq!(rt; told, [[5, 0], [0, 0], [1, 1], [3, 0], [4, 0]]);
+    assert_eq!(rt; told, [[2, 1], [0, 0], [3, 1], [1, 0], [8, 0]]);
     assert_eq!(rt; (played.outcome, played.told), (0, 6));
 }
 
@@ -120,14 +123,14 @@ fn where_bits_are_cleared_first_a_count_comes_back(rt: HostRuntime) {
     let items = [1, 2, 3, 1, 2];
     let schedule = "P10C12P12C14P14C16P27C10";
     let (played, told, _) = play(4, &two, &items, schedule, "");
-    assert_eq!(rt; told, [[0, 0], [1, 1], [5, 0], [6, 1], [0, 1]]);
+    assert_eq!(rt; told, [[0, 0], [3, 1], [2, 1], [9, 1], [0, 1]]);
     assert_eq!(rt; [played.outcome, played.told, played.modulus], [0, 17, 4]);
 }
 
 #[test]
 fn the_full_ring_is_told(rt: HostRuntime) {
     let (played, told, _) = play(5, &ASKED, &[1, 2], "P200", "");
-    assert_eq!(rt; told, [[0, 0], [1, 1], [0, 1], [2, 0], [0, 1]]);
+    assert_eq!(rt; told, [[0, 0], [3, 1], [0, 1], [5, 0], [0, 1]]);
     assert_eq!(rt; (played.outcome, played.count), (0, 200));
 }
 
@@ -139,7 +142,7 @@ fn the_first_letters_are_played(rt: HostRuntime) {
     };
     let (played, told, _) = play(3, &none, &[1, 2, 3], "P9C20", "01");
     assert_eq!(rt; [played.count, played.told, played.all_letters], [0, 0, 29]);
-    assert_eq!(rt; told, [[9, 9]; 5]);
+    assert_eq!(rt; told, [[99, 99]; 5]);
     let ten = Asked {
         letters: 10,
         ..ASKED
@@ -149,7 +152,7 @@ fn the_first_letters_are_played(rt: HostRuntime) {
         [played.count, played.told, played.all_letters],
         [10, 2, 29]
     );
-    assert_eq!(rt; told, [[0, 0], [5, 0], [9, 9], [9, 9], [9, 9]]);
+    assert_eq!(rt; told, [[0, 0], [2, 1], [99, 99], [99, 99], [99, 99]]);
 }
 
 #[test]
@@ -170,7 +173,7 @@ fn a_play_fills_the_room_for_events(rt: HostRuntime) {
         [played.told, played.all_letters, played.modulus],
         [0, 0, 0]
     );
-    assert_eq!(rt; told, [[9, 9]; 5]);
+    assert_eq!(rt; told, [[99, 99]; 5]);
 }
 
 #[test]
@@ -192,6 +195,6 @@ fn there_is_no_near_miss_of_another_number(rt: HostRuntime) {
     for miss in [0, 6, u64::MAX] {
         let (played, told, _) = play(miss, &ASKED, &[1], "PC", "");
         assert_eq!(rt; [played.outcome, played.count, played.modulus], [3, 0, 0]);
-        assert_eq!(rt; told, [[9, 9]; 5]);
+        assert_eq!(rt; told, [[99, 99]; 5]);
     }
 }

@@ -1,24 +1,27 @@
 //! The order in which the operations of recorded calls take effect.
-ghost use Rattle.std.specs.Prelude.{◌≡◌, ◌∷◌, ◌++◌, ℕ, List, [], IfNone, IfSome, IsTrue, false};
-ghost use Rattle.queue_calls.specs.Calls.{Event as AnEvent, Happens, Effect};
-ghost use Rattle.queue_calls.specs.Moments.{point_of};
-ghost use Rattle.queue_calls.specs.Queue.{Capacity as ACapacity, Does as ADoes};
+ghost use Rattle.std.specs.Prelude.{◌≡◌, ◌∷◌, ◌++◌, ℕ, List, [], IsTrue, Some, true, false, if◌then◌else◌, option_map};
+ghost use Rattle.queue_calls.specs.Calls.{Event as AnEvent, Happens};
+ghost use Rattle.queue_calls.specs.Lines.{word_of};
+ghost use Rattle.queue_calls.specs.Moments.{Accepts, point_of};
+ghost use Rattle.queue_calls.specs.Queue.{Capacity as ACapacity};
+ghost use Rattle.queue_calls.specs.Recordings.{begun_after, event_told, line};
 ghost use Rattle.queue_calls.specs.Steps.{done};
-ghost use Rattle.queue_calls.specs.Told.{meant, told};
+ghost use Rattle.queue_calls.specs.Told.{meant};
 ghost use Rattle.ring_page.specs.declared.orders.Came.{Came};
-ghost use Rattle.ring_page.specs.Order.{HaveCome, LeadsNowhere, TellsMark, TellsOrder, capacity_in};
+ghost use Rattle.ring_page.specs.Order.{HaveCome, LeadsNowhere, TellsOrder, capacity_in, does_in, line_in, listed_in};
 
-use queue_calls::{Capacity, Does, Event, Moments};
+use queue_calls::{Begun, Capacity, Does, Moments, Word, begun_after, event_told};
 
-/// A mark of a history of calls, as numbers: an event, or that an operation takes effect.
+/// A mark of a history of calls, as numbers: a line of recorded calls, or that an operation takes effect.
 #[repr(C)]
 #[derive(Clone, Copy, PartialEq, Eq, Debug)]
 pub struct Came {
-    /// From 0 to 15 an event, in the order of `queue_calls::Event`; from 16 to 22 an operation, in that of `queue_calls::Does`.
+    /// From 0 to 14 a line, by the number of its word (`queue_calls::Word`); from 17 to 23 an operation, in the order of
+    /// `queue_calls::Does`.
     pub kind: u64,
-    /// The item of an operation; where in the list of numbers those of a put that begins, or of a take that ends, begin.
+    /// The item of an operation; where in the list of numbers those of a line begin.
     pub value: u64,
-    /// How many items.
+    /// How many numbers the line has; for how many items an operation found no room, or than how many it found fewer.
     pub count: u64,
 }
 
@@ -46,63 +49,86 @@ fn capacity_in(holds: &Holds) -> Capacity
     }
 }
 
-// The event that these numbers tell.
-fn event_in<'a>(numbers: &'a [u64], came: &Came) -> Option<Event<'a>>
-    ensures some { IfSome result (λ event. TellsMark numbers.entry.now came.now (Happens (told event))) }
-    ensures none { IfNone result ((event : AnEvent) → ¬ TellsMark numbers.entry.now came.now (Happens event)) }
+// The word of this number.
+fn word_of(number: u64) -> Option<Word>
+    ensures { result ≡ word_of number }
+{
+    if number > 16 {
+        return None;
+    }
+    Word::of_number(number as u32)
+}
+
+// The numbers of a line.
+fn listed_in<'a>(numbers: &'a [u64], came: &Came) -> Option<&'a [u64]>
+    ensures { option_map (λ told. told.now) result ≡ listed_in numbers.entry.now came.now }
+{
+    let (from, count) = (came.value as usize, came.count as usize);
+    if from > numbers.len() || count > numbers.len() - from {
+        return None;
+    }
+    Some(&numbers[from..from + count])
+}
+
+// The line that these numbers tell, of recorded calls.
+fn line_in<'a>(numbers: &'a [u64], came: &Came) -> Option<(Word, &'a [u64])>
+    ensures { option_map (λ l. line l.0 l.1.now) result ≡ line_in numbers.entry.now came.now }
+{
+    let word = word_of(came.kind)?;
+    let told = listed_in(numbers, came)?;
+    Some((word, told))
+}
+
+// The operation that they tell.
+fn does_in(came: &Came) -> Option<Does>
+    ensures { option_map done result ≡ does_in came.now }
 {
     let count = came.count as usize;
-    let from = came.value as usize;
     match came.kind {
-        0 => Some(Event::PutBegins(numbers.get(from..)?.get(..count)?)),
-        1 => Some(Event::PutStored(count)),
-        2 => Some(Event::PutSome(count)),
-        3 => Some(Event::PutFull),
-        4 => Some(Event::PutShort),
-        5 => Some(Event::PutNothing),
-        6 => Some(Event::PutClosed),
-        7 => Some(Event::CloseBegins),
-        8 => Some(Event::CloseEnds),
-        9 => Some(Event::TakeBegins(count)),
-        10 => Some(Event::TakeItems(numbers.get(from..)?.get(..count)?)),
-        11 => Some(Event::TakeSome(numbers.get(from..)?.get(..count)?)),
-        12 => Some(Event::TakeEmpty),
-        13 => Some(Event::TakeShort),
-        14 => Some(Event::TakeNothing),
-        15 => Some(Event::TakeClosed),
+        17 => Some(Does::Enqueue(came.value)),
+        18 => Some(Does::FindNoRoom(count)),
+        19 => Some(Does::FindShut),
+        20 => Some(Does::Close),
+        21 => Some(Does::Dequeue(came.value)),
+        22 => Some(Does::FindFewer(count)),
+        23 => Some(Does::FindClosed),
         _ => None,
     }
 }
 
-// The operation that these numbers tell.
-fn does_in(numbers: &[u64], came: &Came) -> Option<Does>
-    ensures some { IfSome result (λ does. TellsMark numbers.now came.now (Effect (done does))) }
-    ensures none { IfNone result ((does : ADoes) → ¬ TellsMark numbers.now came.now (Effect does)) }
-{
-    let count = came.count as usize;
-    match came.kind {
-        16 => Some(Does::Enqueue(came.value)),
-        17 => Some(Does::FindNoRoom(count)),
-        18 => Some(Does::FindShut),
-        19 => Some(Does::Close),
-        20 => Some(Does::Dequeue(came.value)),
-        21 => Some(Does::FindFewer(count)),
-        22 => Some(Does::FindClosed),
-        _ => None,
-    }
-}
-
-// The next mark comes. Whether it can.
-fn follow<'a>(moments: &mut Moments<'a>, numbers: &'a [u64], came: &Came) -> bool
-    ensures came { (items : List ℕ) (before : List Came) (capacity : ACapacity) → HaveCome numbers.entry.now items before capacity moments.old →
-        IsTrue result → HaveCome numbers.entry.now items (before ++ came.now ∷ []) capacity moments.new }
-    ensures not { result ≡ false → LeadsNowhere numbers.entry.now moments.old.row.now came.now (meant moments.old.capacity) (point_of moments.old) moments.old.tail }
+// The event of a line comes next, where the producer began this last. Whether it can.
+fn follow_line<'a>(
+    moments: &mut Moments<'a>,
+    begun: &mut Begun,
+    word: Word,
+    told: &'a [u64],
+) -> bool
+    ensures followed { IsTrue result → (event : AnEvent) × (event_told begun.old word told.entry.now ≡ Some event) × Accepts moments.old (Happens event) true moments.new }
+    ensures begun { begun.new ≡ (if result then begun_after begun.old word told.entry.now else begun.old) }
+    ensures not { result ≡ false → (event : AnEvent) → event_told begun.old word told.entry.now ≡ Some event → Accepts moments.old (Happens event) false moments.new }
     ensures same { result ≡ false → moments.new ≡ moments.old }
 {
-    if let Some(event) = event_in(numbers, came) {
-        return moments.happens(event);
+    let Some(event) = event_told(*begun, word, told) else {
+        return false;
+    };
+    if !moments.happens(event) {
+        return false;
     }
-    match does_in(numbers, came) {
+    *begun = begun_after(*begun, word, told);
+    true
+}
+
+// The next mark comes, where the producer began this last. Whether it can.
+fn follow<'a>(moments: &mut Moments<'a>, begun: &mut Begun, numbers: &'a [u64], came: &Came) -> bool
+    ensures came { (items : List ℕ) (before : List Came) (capacity : ACapacity) → HaveCome numbers.entry.now items before capacity moments.old begun.old →
+        IsTrue result → HaveCome numbers.entry.now items (before ++ came.now ∷ []) capacity moments.new begun.new }
+    ensures not { result ≡ false → LeadsNowhere begun.old numbers.entry.now moments.old.row.now came.now (meant moments.old.capacity) (point_of moments.old) moments.old.tail }
+    ensures same { result ≡ false → (moments.new ≡ moments.old) × (begun.new ≡ begun.old) }
+{
+    if let Some((word, told)) = line_in(numbers, came) {
+        return follow_line(moments, begun, word, told);
+    }
+    match does_in(came) {
         Some(does) => moments.takes_effect(does),
         None => false,
     }
@@ -112,7 +138,7 @@ fn follow<'a>(moments: &mut Moments<'a>, numbers: &'a [u64], came: &Came) -> boo
 /// these are all, the history of the events among them is linearizable, and the operations take effect at the moments at which they stand.
 ///
 /// The items are those that the operations put in, in their order: an operation that puts in another item than the next of them is not
-/// counted either. The numbers are those that puts offer and takes take. It takes no memory.
+/// counted either. The numbers are those of the lines. It takes no memory.
 #[unsafe(no_mangle)]
 pub extern "C" fn page_order(
     holds: &Holds,
@@ -124,8 +150,9 @@ pub extern "C" fn page_order(
     ensures { TellsOrder numbers.now items.now marks.now (capacity_in holds.now) count.new }
 {
     let mut moments = Moments::new(capacity_in(holds), items);
+    let mut begun = Begun::Nothing;
     for place in 0..marks.len() {
-        if !follow(&mut moments, numbers, &marks[place]) {
+        if !follow(&mut moments, &mut begun, numbers, &marks[place]) {
             *count = place as u64;
             return;
         }

@@ -26,7 +26,7 @@ use Rattle.ring_player.specs.declared.tellings.PutStage.{PutStage}
 use Rattle.ring_player.specs.declared.tellings.PutStage.TheVariants as put
 use Rattle.ring_player.specs.declared.tellings.TakeStage.{TakeStage}
 use Rattle.ring_player.specs.declared.tellings.TakeStage.TheVariants as taking
-use Rattle.ring_player.specs.declared.tellings.Told.{Told}
+use Rattle.queue_calls.specs.declared.events.CallEvent.{CallEvent}
 use Rattle.ring_script.specs.Content.{Content}
 use Rattle.ring_player.proofs.Moves.{by_side as is_by_side, length-events, not_by, own_by, own_other}
 use Rattle.ring_player.proofs.Overs.{none_over_puts, none_over_takes}
@@ -92,7 +92,7 @@ module _ (owns : OwnChanges) (script : Content) (h h' : List Event) (e : Event) 
   begins_other : (s : Side) → e.side ≡ s → (es : List Event) → IsBeginning (own (other s) h') es → IsBeginning (own (other s) h) es
   begins_other s by es b = subst (λ l. IsBeginning l es) (ap (own (other s)) is ∙ own_other owns s h e by) b
 
-  module _ (by : e.side ≡ P) (stage next : PutStage) (t : TakeStage) (items : ℕ) (before now : PutTally) (told : Option Told) where
+  module _ (by : e.side ≡ P) (stage next : PutStage) (t : TakeStage) (items : ℕ) (before now : PutTally) (told : Option (CallEvent ℕ ℕ)) where
     put_reading : (puts : Puts) (takes : Takes) → IsReadingAsked script h' puts takes → IsReadingAsked script h puts takes
     put_reading puts takes r = record {
       asked = r.asked;
@@ -138,7 +138,7 @@ module _ (owns : OwnChanges) (script : Content) (h h' : List Event) (e : Event) 
               full' puts r.puts_follow ∙ ap (λ n. fulls (puts_over script.shape first_count puts.puts n)) one_put_more,
             )
 
-  module _ (by : e.side ≡ C) (stage : PutStage) (t next : TakeStage) (taken empty : ℕ) (before now : TakeTally) (told : Option Told) where
+  module _ (by : e.side ≡ C) (stage : PutStage) (t next : TakeStage) (taken empty : ℕ) (before now : TakeTally) (told : Option (CallEvent ℕ ℕ)) where
     take_reading : (puts : Puts) (takes : Takes) → IsReadingAsked script h' puts takes → IsReadingAsked script h puts takes
     take_reading puts takes r = record {
       asked = r.asked;
@@ -214,7 +214,7 @@ offered_all script puts front (x ∷ xs) j n e f g (l, of, m) =
 
 -- what is told of a play is a linearizable history
 pub records :
-    RecordedIsLinearizable → (script : Content) (letters : List Side) (h : List Event) (told : List Told) → IsPlayOf script letters h → TellsCalls script h (call_events script told) →
+    RecordedIsLinearizable → (script : Content) (letters : List Side) (h : List Event) (told : List (CallEvent ℕ ℕ)) → IsPlayOf script letters h → TellsCalls script h (call_events script told) →
     RecordsPlay script h told
 records law script letters h told play tells =
     let (puts, asked, begins) = play.plays.played.puts in
@@ -235,12 +235,12 @@ ArePutsCounted script h kept =
     ((puts : Puts) → FollowsPuts script.shape h puts → kept.full ≡ fulls (puts_over_in script.shape h puts))
 
 -- the stages behind it, and what is told with it
-abbrev pub Stepped : Content → Content → List Event → List Event → PutStage → TakeStage → Option Told → Type 0
+abbrev pub Stepped : Content → Content → List Event → List Event → PutStage → TakeStage → Option (CallEvent ℕ ℕ) → Type 0
 Stepped script script' h h' stage t told =
     AreAt stage t script' h' × ((events : List calls.Event) → TellsCalls script h events → TellsCalls script' h' (events ++ told_in script told))
 
 pub put_stepped :
-    OwnChanges → (script script' : Content) (h h' : List Event) (stage next : PutStage) (t : TakeStage) (items : ℕ) (before now : PutTally) (told : Option Told) → script' ≡ script →
+    OwnChanges → (script script' : Content) (h h' : List Event) (stage next : PutStage) (t : TakeStage) (items : ℕ) (before now : PutTally) (told : Option (CallEvent ℕ ℕ)) → script' ≡ script →
     IsMove script P true h h' → SaysPut stage items before now next told → items ≡ length script.items → AreAt stage t script h → ArePutsCounted script h before →
     ArePutsCounted script' h' now → Stepped script script' h h' next t told
 put_stepped owns script script' h h' stage next t items before now told same (e, is, by, not) says all at counted counted' =
@@ -255,7 +255,7 @@ AreTakesCounted script h kept =
     ((kept.told ≡ true) ↔ ToldIn script.shape h takes)
 
 pub take_stepped :
-    OwnChanges → (script script' : Content) (h h' : List Event) (stage : PutStage) (t next : TakeStage) (taken empty : ℕ) (before now : TakeTally) (told : Option Told) → script' ≡ script →
+    OwnChanges → (script script' : Content) (h h' : List Event) (stage : PutStage) (t next : TakeStage) (taken empty : ℕ) (before now : TakeTally) (told : Option (CallEvent ℕ ℕ)) → script' ≡ script →
     IsMove script C true h h' → SaysTake t taken empty now next told → taken ≡ length before.taken → empty ≡ before.empty → AreAt stage t script h → AreTakesCounted script h before →
     AreTakesCounted script' h' now → Stepped script script' h h' stage next told
 take_stepped owns script script' h h' stage t next taken empty before now told same (e, is, by, not) says same_taken same_empty at counted counted' =
@@ -272,12 +272,12 @@ not_stepped script script' h h' side stage t moved same m is at =
     (subst (λ l. Stepped script script h l stage t None) (sym still) (at, (λ events tells. subst (TellsCalls script h) (sym (append-nil events)) tells)))
 
 -- what was told, and with one event more
-pub told_with : (script : Content) (told : List Told) (event : Option Told) → call_events script (told ++ listed event) ≡ call_events script told ++ told_in script event
+pub told_with : (script : Content) (told : List (CallEvent ℕ ℕ)) (event : Option (CallEvent ℕ ℕ)) → call_events script (told ++ listed event) ≡ call_events script told ++ told_in script event
 told_with script told None = ap (call_events script) (append-nil told) ∙ sym (append-nil (call_events script told))
 told_with script told (Some x) = map-append (event_of script) told (x ∷ [])
 
 pub tells_with :
-    (script script' : Content) (h h' : List Event) (told told' : List Told) (event : Option Told) → script' ≡ script →
+    (script script' : Content) (h h' : List Event) (told told' : List (CallEvent ℕ ℕ)) (event : Option (CallEvent ℕ ℕ)) → script' ≡ script →
     ((events : List calls.Event) → TellsCalls script h events → TellsCalls script' h' (events ++ told_in script event)) → told' ≡ told ++ listed event →
     TellsCalls script h (call_events script told) → TellsCalls script' h' (call_events script' told')
 tells_with script script' h h' told told' event same step more tells =
@@ -295,7 +295,7 @@ letters_with script script' first h first_h h' s n same was step before letters 
 
 -- the play of a world
 pub play_records :
-    RecordedIsLinearizable → (script first : Content) (letters : List Side) (h : List Event) (told : List Told) → script ≡ first → IsPlayOf script letters h → Plays first first.letters h →
+    RecordedIsLinearizable → (script first : Content) (letters : List Side) (h : List Event) (told : List (CallEvent ℕ ℕ)) → script ≡ first → IsPlayOf script letters h → Plays first first.letters h →
     TellsCalls script h (call_events script told) → (x : List Event) × IsPlayOf first first.letters x × RecordsPlay first x told
 play_records law script first letters h told same play plays tells =
     let p : IsPlayOf first letters h = subst (λ s. IsPlayOf s letters h) same play in

@@ -7,6 +7,8 @@ use Rattle.bits_core.specs.Shape.{capacity_of}
 use Rattle.queue_calls.specs.Calls as calls
 use Rattle.queue_calls.specs.Calls.{IsLinearizable}
 use Rattle.queue_calls.specs.Queue.{exactly}
+use Rattle.queue_calls.specs.Told.{event_by}
+use Rattle.queue_calls.specs.declared.events.CallEvent.{CallEvent}
 use Rattle.ring_core.specs.Counts.{first_count}
 use Rattle.ring_core.specs.Items.{all_taken, events_in, IsTold}
 use Rattle.ring_core.specs.Over.{empties, fulls, puts_over, takes_over}
@@ -20,8 +22,6 @@ use Rattle.ring_player.specs.declared.tellings.PutStage.{PutStage}
 use Rattle.ring_player.specs.declared.tellings.PutStage.TheVariants as put
 use Rattle.ring_player.specs.declared.tellings.TakeStage.{TakeStage}
 use Rattle.ring_player.specs.declared.tellings.TakeStage.TheVariants as taking
-use Rattle.ring_player.specs.declared.tellings.Told.{Told}
-use Rattle.ring_player.specs.declared.tellings.Told.TheVariants.{PutBegins, PutStored, PutFull, CloseBegins, CloseEnds, TakeBegins, TakeItem, TakeEmpty, TakeClosed}
 use Rattle.ring_script.specs.Content.{Content}
 
 -- a reading of a history as calls that the script asks for
@@ -38,23 +38,15 @@ offers_of script puts j = offered script (stored_in 0 (take j puts.puts))
 abbrev pub TellsCalls : Content → List Event → List calls.Event → Type 0
 TellsCalls script h events = (puts : Puts) (takes : Takes) → IsReadingAsked script h puts takes → events ≡ recorded script.shape (offers_of script puts) h puts takes
 
--- what is told, as an event of calls
-abbrev pub event_of : Content → Told → calls.Event
-event_of script (PutBegins stored) = calls.PutBegin (offered script stored)
-event_of script (PutStored count) = calls.PutStored count true
-event_of script PutFull = calls.PutFull
-event_of script CloseBegins = calls.CloseBegin
-event_of script CloseEnds = calls.CloseEnd
-event_of script TakeBegins = calls.TakeBegin 1
-event_of script (TakeItem item) = calls.TakeItems (item ∷ []) true
-event_of script TakeEmpty = calls.TakeEmpty
-event_of script TakeClosed = calls.TakeClosed
+-- what is told, as an event of calls: a put is of the items behind so many, as many as a batch has, and a take took one item
+abbrev pub event_of : Content → CallEvent ℕ ℕ → calls.Event
+event_of script told = event_by (offered script) (λ item. item ∷ []) told
 
-abbrev pub call_events : Content → List Told → List calls.Event
+abbrev pub call_events : Content → List (CallEvent ℕ ℕ) → List calls.Event
 call_events script told = map (event_of script) told
 
 -- what is told of a play is the recording of its calls, and a linearizable history of a queue of the ring's capacity
-pub record RecordsPlay (script : Content) (h : List Event) (told : List Told) : Type 0 where
+pub record RecordsPlay (script : Content) (h : List Event) (told : List (CallEvent ℕ ℕ)) : Type 0 where
   pub tells : TellsCalls script h (call_events script told)
   pub linearizable : IsLinearizable (exactly (capacity_of script.shape)) (call_events script told)
 
@@ -83,7 +75,7 @@ AreAt p t script h =
 -- ---- one event more
 
 -- what an option tells
-abbrev pub told_in : Content → Option Told → List calls.Event
+abbrev pub told_in : Content → Option (CallEvent ℕ ℕ) → List calls.Event
 told_in script None = []
 told_in script (Some told) = event_of script told ∷ []
 
@@ -92,12 +84,12 @@ abbrev pub IsPutTally : Content → Puts → ℕ → PutTally → Type 0
 IsPutTally script puts i kept =
     (kept.stored ≡ stored_in 0 (puts_over script.shape first_count puts.puts i)) × (kept.full ≡ fulls (puts_over script.shape first_count puts.puts i))
 
-abbrev pub listed : Option Told → List Told
+abbrev pub listed : Option (CallEvent ℕ ℕ) → List (CallEvent ℕ ℕ)
 listed None = []
 listed (Some told) = told ∷ []
 
 -- what is told of an event of the producer, by its stage and by the puts that are over before it and with it
-abbrev pub SaysPut : PutStage → (items : ℕ) → (before now : PutTally) → PutStage → Option Told → Type 0
+abbrev pub SaysPut : PutStage → (items : ℕ) → (before now : PutTally) → PutStage → Option (CallEvent ℕ ℕ) → Type 0
 SaysPut stage items before now next told =
     (script : Content) (puts : Puts) (i : ℕ) → ArePutsOf script puts → items ≡ length script.items → i < events_in (put_program script.shape puts) →
     IsPutStage stage script puts i → IsPutTally script puts i before → IsPutTally script puts (suc i) now →
@@ -115,7 +107,7 @@ IsTakeTally script takes i kept =
     (kept.taken ≡ all_taken (takes_over script.shape 0 takes.takes i)) × (kept.empty ≡ empties (takes_over script.shape 0 takes.takes i)) ×
     ((kept.told ≡ true) ↔ IsTold script.shape takes i)
 
-abbrev pub SaysTake : TakeStage → (taken : ℕ) → (empty : ℕ) → (now : TakeTally) → TakeStage → Option Told → Type 0
+abbrev pub SaysTake : TakeStage → (taken : ℕ) → (empty : ℕ) → (now : TakeTally) → TakeStage → Option (CallEvent ℕ ℕ) → Type 0
 SaysTake stage taken empty now next told =
     (script : Content) (takes : Takes) (i : ℕ) (before : TakeTally) → taken ≡ length before.taken → empty ≡ before.empty → i < events_in (take_program script.shape takes) →
     IsTakeStage stage script takes i → IsTakeTally script takes i before → IsTakeTally script takes (suc i) now →

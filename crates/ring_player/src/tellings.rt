@@ -14,34 +14,17 @@ use crate::faults::PlayFault;
 use crate::worlds::World;
 use bits_core::laws::own_changes;
 use bits_core::{Event, Side, Store};
+use queue_calls::CallEvent;
 use ring_core::laws::{events_tell_by_one, recorded_is_linearizable};
 use ring_script::Script;
 use std::alloc::{AllocError, Allocator};
 
-/// What an event of a play tells of a call: it begins, with its first own event, or it ends, with its last.
+/// What an event of a play tells of a call: it begins, with its first own event, or it ends, with its last. A put that begins tells how
+/// many items of the script were stored before it: it is offered those that follow, as many as a batch may have. A take is of one item,
+/// and where it took one tells which.
 ///
-/// For example, `Told::TakeItem(5)` is what `C item 5` tells in a recording.
-#[derive(Clone, Copy, PartialEq, Eq, Debug)]
-pub enum Told {
-    /// A put begins, behind so many stored items of the script. It is offered those that follow, as many as a batch may have.
-    PutBegins(usize),
-    /// A put ends that stored so many items.
-    PutStored(usize),
-    /// A put ends that found the ring full.
-    PutFull,
-    /// A close begins.
-    CloseBegins,
-    /// A close ends.
-    CloseEnds,
-    /// A take of one item begins.
-    TakeBegins,
-    /// A take ends that took this item.
-    TakeItem(u64),
-    /// A take ends that found the ring empty.
-    TakeEmpty,
-    /// A take ends that was told that the ring is closed.
-    TakeClosed,
-}
+/// For example, `CallEvent::TakeItems(5)` is what `C item 5` tells in a recording.
+pub type PlayedCall = CallEvent<usize, u64>;
 
 // Where the producer is in its calls: between two, in a put, in the close, behind it.
 #[derive(Clone, Copy)]
@@ -74,31 +57,34 @@ fn put_says(
     items: usize,
     before: PutCount,
     now: PutCount,
-) -> (PutStage, Option<Told>)
+) -> (PutStage, Option<PlayedCall>)
     ensures { SaysPut stage items (record { stored = before.stored; full = before.full }) (record { stored = now.stored; full = now.full }) result.0 result.1 }
 {
     events_tell_by_one();
     match stage {
         PutStage::Between => {
             if before.stored < items {
-                (PutStage::Putting, Some(Told::PutBegins(before.stored)))
+                (
+                    PutStage::Putting,
+                    Some(PlayedCall::PutBegins(before.stored)),
+                )
             } else {
-                (PutStage::Closing, Some(Told::CloseBegins))
+                (PutStage::Closing, Some(PlayedCall::CloseBegins))
             }
         }
         PutStage::Putting => {
             if before.stored < now.stored {
                 (
                     PutStage::Between,
-                    Some(Told::PutStored(now.stored - before.stored)),
+                    Some(PlayedCall::PutStored(now.stored - before.stored)),
                 )
             } else if before.full < now.full {
-                (PutStage::Between, Some(Told::PutFull))
+                (PutStage::Between, Some(PlayedCall::PutFull))
             } else {
                 (PutStage::Putting, None)
             }
         }
-        PutStage::Closing => (PutStage::Closed, Some(Told::CloseEnds)),
+        PutStage::Closing => (PutStage::Closed, Some(PlayedCall::CloseEnds)),
         PutStage::Closed => (PutStage::Closed, None),
     }
 }
@@ -112,19 +98,22 @@ fn take_says(
     taken_now: &[u64],
     empty_now: u64,
     told_now: bool,
-) -> (TakeStage, Option<Told>)
+) -> (TakeStage, Option<PlayedCall>)
     ensures { SaysTake stage taken empty (record { taken = taken_now.now; empty = empty_now; told = told_now }) result.0 result.1 }
 {
     events_tell_by_one();
     match stage {
-        TakeStage::Between => (TakeStage::Taking, Some(Told::TakeBegins)),
+        TakeStage::Between => (TakeStage::Taking, Some(PlayedCall::TakeBegins(1))),
         TakeStage::Taking => {
             if taken < taken_now.len() {
-                (TakeStage::Between, Some(Told::TakeItem(taken_now[taken])))
+                (
+                    TakeStage::Between,
+                    Some(PlayedCall::TakeItems(taken_now[taken])),
+                )
             } else if empty < empty_now {
-                (TakeStage::Between, Some(Told::TakeEmpty))
+                (TakeStage::Between, Some(PlayedCall::TakeEmpty))
             } else if told_now {
-                (TakeStage::Told, Some(Told::TakeClosed))
+                (TakeStage::Told, Some(PlayedCall::TakeClosed))
             } else {
                 (TakeStage::Taking, None)
             }
@@ -156,7 +145,7 @@ fn put_step<E: Store<Event>, T: Store<u64>>(
     world: &mut World<'_, E, T>,
     at: &mut Stages,
     items: usize,
-) -> Result<Option<Told>, PlayFault>
+) -> Result<Option<PlayedCall>, PlayFault>
     requires items { items ≡ length world.old.script.items }
     requires at { AreAt at.old.put at.old.take world.old.script world.old.history }
     ensures script { world.new.script ≡ world.old.script }
@@ -180,7 +169,7 @@ fn put_step<E: Store<Event>, T: Store<u64>>(
 fn take_step<E: Store<Event>, T: Store<u64>>(
     world: &mut World<'_, E, T>,
     at: &mut Stages,
-) -> Result<Option<Told>, PlayFault>
+) -> Result<Option<PlayedCall>, PlayFault>
     requires at { AreAt at.old.put at.old.take world.old.script world.old.history }
     ensures script { world.new.script ≡ world.old.script }
     ensures at { OnOk result (AreAt at.new.put at.new.take world.new.script world.new.history) }
@@ -215,7 +204,7 @@ fn step_told<E: Store<Event>, T: Store<u64>>(
     at: &mut Stages,
     side: Side,
     items: usize,
-) -> Result<Option<Told>, PlayFault>
+) -> Result<Option<PlayedCall>, PlayFault>
     requires items { items ≡ length world.old.script.items }
     requires at { AreAt at.old.put at.old.take world.old.script world.old.history }
     ensures script { world.new.script ≡ world.old.script }
@@ -230,7 +219,10 @@ fn step_told<E: Store<Event>, T: Store<u64>>(
 }
 
 // Adds what was told, if anything.
-fn add<A: Allocator>(told: &mut Vec<Told, A>, event: Option<Told>) -> Result<(), AllocError>
+fn add<A: Allocator>(
+    told: &mut Vec<PlayedCall, A>,
+    event: Option<PlayedCall>,
+) -> Result<(), AllocError>
     ensures { OnOk result (told.new.items ≡ told.old.items ++ listed event) }
 {
     match event {
@@ -243,7 +235,7 @@ fn add<A: Allocator>(told: &mut Vec<Told, A>, event: Option<Told>) -> Result<(),
 fn repeat_told<E: Store<Event>, T: Store<u64>, A: Allocator>(
     world: &mut World<'_, E, T>,
     at: &mut Stages,
-    told: &mut Vec<Told, A>,
+    told: &mut Vec<PlayedCall, A>,
     side: Side,
     count: u64,
     items: usize,
@@ -273,7 +265,7 @@ fn repeat_told<E: Store<Event>, T: Store<u64>, A: Allocator>(
 pub fn play_calls<A: Allocator + Copy, B: Allocator>(
     alloc: A,
     script: &Script<B>,
-) -> Result<Vec<Told, A>, PlayFault>
+) -> Result<Vec<PlayedCall, A>, PlayFault>
     ensures { IfOk result (λ told. (h : List AnEvent) × IsPlayOf script.now script.now.letters h × RecordsPlay script.now h told.items) }
 {
     recorded_is_linearizable();

@@ -12,7 +12,7 @@ use Rattle.queue_calls.specs.Lines.{AreSmall, word_text}
 use Rattle.queue_calls.specs.Order.{P, C}
 use Rattle.queue_calls.specs.Queue.{exactly}
 use Rattle.queue_calls.specs.Recordings.{Line, begun_after, begun_behind, first_word, line, lines_text, text_of}
-use Rattle.queue_calls.specs.Tellings.{HistoryHasARecording, LinearizableIsInTurn, TellsSmall, line_of, lines_of, numbers_in, offered_last}
+use Rattle.queue_calls.specs.Tellings.{HistoryHasARecording, LinearizableIsInTurn, TellsSmall, line_of, lines_of, numbers_in}
 use Rattle.queue_calls.specs.Told.{meant}
 use Rattle.queue_calls.specs.declared.auditors.CallAuditor.{CallAuditor}
 use Rattle.queue_calls.specs.declared.capacities.Capacity.{Capacity}
@@ -61,9 +61,9 @@ text_more lines l = flat_map-append text_of lines (l ∷ []) ∙ ap (λ (t : Lis
 -- ---- what is told so far
 
 -- the text has a first line that tells the capacity, and whether later calls are missing, and the lines of these events
-pub record IsWritten (is_cut : Bool) (capacity offers : ℕ) (text : List ℕ) (events : List Event) : Type 0 where
+pub record IsWritten (is_cut : Bool) (capacity : ℕ) (b : Begun) (text : List ℕ) (events : List Event) : Type 0 where
   pub text_is : text ≡ lines_text (line (first_word is_cut) (capacity ∷ []) ∷ lines_of begun.Nothing events)
-  pub offers_is : offers ≡ offered_last (begun_behind begun.Nothing (lines_of begun.Nothing events))
+  pub begun_is : b ≡ begun_behind begun.Nothing (lines_of begun.Nothing events)
   pub small : TellsSmall events
 
 -- the events are of the run, and this is left of it and of the room of the logs
@@ -81,25 +81,25 @@ pub record IsAudited {Q E : Type 0} (items_of : Q → List ℕ) (capacity : ℕ)
   pub linearizable : IsLinearizable (exactly capacity) events
 
 pub record HasTold {Q E : Type 0} (items_of : Q → List ℕ) (is_cut : Bool) (capacity batch : ℕ) (items : List ℕ) (all : RunCounts) (text : List ℕ) (auditor : CallAuditor Q E) (untold : Untold)
-    (room : Room) (offers : ℕ) : Type 0 where
+    (room : Room) (b : Begun) : Type 0 where
   pub events : List Event
-  pub is_written : IsWritten is_cut capacity offers text events
+  pub is_written : IsWritten is_cut capacity b text events
   pub is_audited : IsAudited items_of capacity auditor events
   pub is_left : IsLeft batch items all untold room events
 
-pub writes_more : (is_cut : Bool) (capacity offers after_offers : ℕ) (text after : List ℕ) (events : List Event) (event : Event)
-    → ((b : Begun) → offers ≡ offered_last b → after ≡ text ++ text_of (line_of b event))
-    → ((b : Begun) → offers ≡ offered_last b → after_offers ≡ offered_last (begun_after b (line_of b event).word (line_of b event).numbers))
-    → AreSmall (numbers_in event) → IsWritten is_cut capacity offers text events → IsWritten is_cut capacity after_offers after (events ++ event ∷ [])
-writes_more is_cut capacity offers after_offers text after events event pushed offers_are small w =
+pub writes_more : (is_cut : Bool) (capacity : ℕ) (b next : Begun) (text after : List ℕ) (events : List Event) (event : Event)
+    → after ≡ text ++ text_of (line_of b event) → next ≡ begun_after b (line_of b event).word (line_of b event).numbers
+    → AreSmall (numbers_in event) → IsWritten is_cut capacity b text events → IsWritten is_cut capacity next after (events ++ event ∷ [])
+writes_more is_cut capacity b next text after events event pushed next_is small w =
     let lines = lines_of begun.Nothing events in
-    let b = begun_behind begun.Nothing lines in
-    let l = line_of b event in
+    let last = begun_behind begun.Nothing lines in
+    let l = line_of last event in
     let more = lines_more begun.Nothing events event in
     record {
-      text_is = pushed b w.offers_is ∙ ap (λ (t : List ℕ). t ++ text_of l) w.text_is ∙ sym (text_more (line (first_word is_cut) (capacity ∷ []) ∷ lines) l)
-          ∙ ap (λ (ls : List Line). lines_text (line (first_word is_cut) (capacity ∷ []) ∷ ls)) (sym more);
-      offers_is = offers_are b w.offers_is ∙ ap offered_last (sym (begun_more begun.Nothing lines l) ∙ ap (λ (ls : List Line). begun_behind begun.Nothing ls) (sym more));
+      text_is = pushed ∙ ap (λ (x : Begun). text ++ text_of (line_of x event)) w.begun_is ∙ ap (λ (t : List ℕ). t ++ text_of l) w.text_is
+          ∙ sym (text_more (line (first_word is_cut) (capacity ∷ []) ∷ lines) l) ∙ ap (λ (ls : List Line). lines_text (line (first_word is_cut) (capacity ∷ []) ∷ ls)) (sym more);
+      begun_is = next_is ∙ ap (λ (x : Begun). begun_after x (line_of x event).word (line_of x event).numbers) w.begun_is
+          ∙ sym (begun_more begun.Nothing lines l) ∙ ap (λ (ls : List Line). begun_behind begun.Nothing ls) (sym more);
       small = small_more events event w.small small;
     }
 
@@ -139,13 +139,13 @@ meant_exactly told n capacity is same = ap meant is ∙ ap exactly same
 pub begins_run : {Q E : Type 0} (items_of : Q → List ℕ) (is_cut : Bool) (capacity batch : ℕ) (items : List ℕ) (all : RunCounts) (text before word : List ℕ) (n : ℕ) (auditor : CallAuditor Q E)
     (untold : Untold) → before ≡ [] → word ≡ word_text (first_word is_cut) → n ≡ capacity → text ≡ before ++ list_line word (n ∷ []) → Audits items_of auditor []
     → meant auditor.capacity ≡ exactly capacity → IsLinearizable (meant auditor.capacity) [] → untold.items.now ≡ items → left_of untold ≡ all
-    → HasTold items_of is_cut capacity batch items all text auditor untold (record { puts = RECORDED; takes = RECORDED }) 0
+    → HasTold items_of is_cut capacity batch items all text auditor untold (record { puts = RECORDED; takes = RECORDED }) begun.Nothing
 begins_run {Q} items_of is_cut capacity batch items all text before word n auditor untold none word_is same is audits capacity_is linearizable items_are left_is = record {
   events = [];
   is_written = record {
     text_is = is ∙ ap₂ (λ (a : List ℕ) (b : List ℕ). a ++ b) none (ap₂ list_line word_is (ap (λ (k : ℕ). k ∷ []) same) ∙ line_is (first_word is_cut) (capacity ∷ []))
         ∙ sym (append-nil (text_of (line (first_word is_cut) (capacity ∷ []))));
-    offers_is = refl;
+    begun_is = refl;
     small = tt;
   };
   is_audited = record {
@@ -163,10 +163,10 @@ begins_run {Q} items_of is_cut capacity batch items all text before word n audit
 }
 
 pub records_run : {Q E : Type 0} (items_of : Q → List ℕ) (is_cut : Bool) (shape : Shape) (n : ℕ) (items : List ℕ) (all : RunCounts) (text : List ℕ) (auditor : CallAuditor Q E) (untold : Untold)
-    (room : Room) (offers : ℕ) → HistoryHasARecording → LinearizableIsInTurn → n ≡ capacity_of shape → 0 < n → n ≤ 64
+    (room : Room) (b : Begun) → HistoryHasARecording → LinearizableIsInTurn → n ≡ capacity_of shape → 0 < n → n ≤ 64
     → (is_cut ≡ false → left_of untold ≡ nothing_left) → (batch_of shape ≤ room.puts → 0 < room.takes → left_of untold ≡ nothing_left)
-    → HasTold items_of is_cut (capacity_of shape) (batch_of shape) items all text auditor untold room offers → RecordsRun shape items all text
-records_run {Q} items_of is_cut shape n items all text auditor untold room offers law in_turn same some few cut whole t =
+    → HasTold items_of is_cut (capacity_of shape) (batch_of shape) items all text auditor untold room b → RecordsRun shape items all text
+records_run {Q} items_of is_cut shape n items all text auditor untold room b law in_turn same some few cut whole t =
     let linearizable : IsLinearizable (exactly (capacity_of shape)) t.events = t.is_audited.linearizable in
     let recording = told_is_recording is_cut (capacity_of shape) n t.events text same some few law (in_turn (exactly (capacity_of shape)) t.events linearizable) t.is_written.small t.is_written.text_is in
     record {

@@ -1,12 +1,12 @@
 -- The text of the calls that a play told, line by line.
-use Rattle.std.proofs.Common.{◌≡◌, ◌∙◌, ℕ, Bool, ◌<◌, ◌≤◌, List, [], ◌∷◌, ◌++◌, refl, ap, ap₂, sym, subst, append_assoc, arith}
+use Rattle.std.proofs.Common.{◌≡◌, ◌∙◌, ℕ, Bool, ◌<◌, ◌≤◌, List, [], ◌∷◌, ◌++◌, ap, ap₂, sym, subst, append_assoc, arith}
 use Rattle.std.proofs.lemmas.List.{append-nil}
 use Rattle.queue_calls.specs.Calls.{Event}
 use Rattle.queue_calls.specs.InTurn.{CallsAreInTurn}
 use Rattle.queue_calls.specs.Lines.{AreSmall, word_text}
 use Rattle.queue_calls.specs.Queue.{exactly}
 use Rattle.queue_calls.specs.Recordings.{IsRecording, begun_after, first_word, line, lines_text, text_of}
-use Rattle.queue_calls.specs.Tellings.{HistoryHasARecording, TellsSmall, line_of, lines_of, numbers_in, offered_last}
+use Rattle.queue_calls.specs.Tellings.{HistoryHasARecording, TellsSmall, line_of, lines_of, numbers_in}
 use Rattle.queue_calls.specs.declared.lines.Word.TheVariants.{Queue}
 use Rattle.queue_calls.specs.declared.hearings.Begun.{Begun}
 use Rattle.queue_calls.specs.declared.hearings.Begun.TheVariants as begun
@@ -15,40 +15,35 @@ use Rattle.ring_program.proofs.RecordingText.{line_is}
 
 -- Behind a line that tells this capacity, the lines so far and those of the events that are left are those of the history; its numbers
 -- are small, where those of the events that are left are
-abbrev pub IsToldSoFar : ℕ → List Event → List Event → ℕ → List ℕ → Type 0
-IsToldSoFar capacity h rest offers text =
-    (b : Begun) × (offers ≡ offered_last b) × (lines_text (line Queue (capacity ∷ []) ∷ lines_of begun.Nothing h) ≡ text ++ lines_text (lines_of b rest))
+abbrev pub IsToldSoFar : ℕ → List Event → List Event → Begun → List ℕ → Type 0
+IsToldSoFar capacity h rest b text =
+    (lines_text (line Queue (capacity ∷ []) ∷ lines_of begun.Nothing h) ≡ text ++ lines_text (lines_of b rest))
     × (TellsSmall rest → TellsSmall h)
 
 pub telling_begins : (capacity n : ℕ) (h : List Event) (text before word : List ℕ) → before ≡ [] → word ≡ word_text Queue → n ≡ capacity
-    → text ≡ before ++ list_line word (n ∷ []) → IsToldSoFar capacity h h 0 text
+    → text ≡ before ++ list_line word (n ∷ []) → IsToldSoFar capacity h h begun.Nothing text
 telling_begins capacity n h text before word none word_is same is = (
-  begun.Nothing,
-  refl,
   ap (λ (t : List ℕ). t ++ lines_text (lines_of begun.Nothing h))
       (sym (is ∙ ap₂ (λ (a : List ℕ) (b : List ℕ). a ++ b) none (ap₂ list_line word_is (ap (λ (k : ℕ). k ∷ []) same) ∙ line_is Queue (capacity ∷ [])))),
   λ small. small,
 )
 
-pub telling_goes_on : (capacity : ℕ) (h : List Event) (event : Event) (rest : List Event) (offers : ℕ) (text : List ℕ) (offers_after : ℕ) (after : List ℕ)
-    → ((b : Begun) → offers ≡ offered_last b → after ≡ text ++ text_of (line_of b event))
-    → ((b : Begun) → offers ≡ offered_last b → offers_after ≡ offered_last (begun_after b (line_of b event).word (line_of b event).numbers))
-    → AreSmall (numbers_in event) → IsToldSoFar capacity h (event ∷ rest) offers text → IsToldSoFar capacity h rest offers_after after
-telling_goes_on capacity h event rest offers text offers_after after pushed offers_are small (b, is, whole, smalls) =
-    let l = line_of b event in
-    let next : Begun = begun_after b l.word l.numbers in (
-      next,
-      offers_are b is,
-      whole ∙ sym (append_assoc text (text_of l) (lines_text (lines_of next rest))) ∙ ap (λ (t : List ℕ). t ++ lines_text (lines_of next rest)) (sym (pushed b is)),
+pub telling_goes_on : (capacity : ℕ) (h : List Event) (event : Event) (rest : List Event) (b : Begun) (text : List ℕ) (next : Begun) (after : List ℕ)
+    → after ≡ text ++ text_of (line_of b event) → next ≡ begun_after b (line_of b event).word (line_of b event).numbers
+    → AreSmall (numbers_in event) → IsToldSoFar capacity h (event ∷ rest) b text → IsToldSoFar capacity h rest next after
+telling_goes_on capacity h event rest b text next after pushed next_is small (whole, smalls) =
+    let l = line_of b event in (
+      whole ∙ sym (append_assoc text (text_of l) (lines_text (lines_of (begun_after b l.word l.numbers) rest)))
+          ∙ ap₂ (λ (t : List ℕ) (x : Begun). t ++ lines_text (lines_of x rest)) (sym pushed) (sym next_is),
       λ others. smalls (small, others),
     )
 
-pub telling_is_told : (capacity : ℕ) (h : List Event) (offers : ℕ) (text : List ℕ) → IsToldSoFar capacity h [] offers text
+pub telling_is_told : (capacity : ℕ) (h : List Event) (b : Begun) (text : List ℕ) → IsToldSoFar capacity h [] b text
     → text ≡ lines_text (line Queue (capacity ∷ []) ∷ lines_of begun.Nothing h)
-telling_is_told capacity h offers text (b, is, whole, smalls) = sym (whole ∙ append-nil text)
+telling_is_told capacity h b text (whole, smalls) = sym (whole ∙ append-nil text)
 
-pub telling_is_small : (capacity : ℕ) (h : List Event) (offers : ℕ) (text : List ℕ) → IsToldSoFar capacity h [] offers text → TellsSmall h
-telling_is_small capacity h offers text (b, is, whole, smalls) = smalls tt
+pub telling_is_small : (capacity : ℕ) (h : List Event) (b : Begun) (text : List ℕ) → IsToldSoFar capacity h [] b text → TellsSmall h
+telling_is_small capacity h b text (whole, smalls) = smalls tt
 
 pub told_is_recording : (is_cut : Bool) (capacity n : ℕ) (h : List Event) (text : List ℕ) → n ≡ capacity → 0 < n → n ≤ 64 → HistoryHasARecording → CallsAreInTurn h → TellsSmall h
     → text ≡ lines_text (line (first_word is_cut) (capacity ∷ []) ∷ lines_of begun.Nothing h) → (is : IsRecording text (exactly capacity) h) × (is.is_cut ≡ is_cut)

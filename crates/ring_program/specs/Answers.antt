@@ -28,7 +28,7 @@ use Rattle.ring_audit.specs.declared.faults.AuditFault.TheVariants as finding
 use Rattle.ring_core.specs.Linear.{EachReadingIsLinearizable}
 use Rattle.ring_player.specs.Headline.{IsPlayOf}
 use Rattle.ring_player.specs.Tellings.{RecordsPlay, call_events}
-use Rattle.ring_player.specs.declared.tellings.Told as play_told
+use Rattle.queue_calls.specs.declared.events.CallEvent.{CallEvent}
 use Rattle.ring_player.specs.declared.faults.PlayFault.TheVariants as play
 use Rattle.ring_script.specs.Faults.{IsScriptFault}
 use Rattle.ring_script.specs.Content.{Content}
@@ -207,7 +207,7 @@ pub record TracesScript (input text : List ℕ) (ending : Ending) : Type 0 where
 pub record RecordsScript (input text : List ℕ) (ending : Ending) : Type 0 where
   pub content : Content
   pub history : List Event
-  pub told : List play_told.Told
+  pub told : List (CallEvent ℕ ℕ)
   pub is_script : IsScript input content
   pub plays : IsPlayOf content content.letters history
   pub records : RecordsPlay content history told
@@ -218,7 +218,7 @@ pub record RecordsScript (input text : List ℕ) (ending : Ending) : Type 0 wher
 pub record TracesWrong (input text : List ℕ) (ending : Ending) : Type 0 where
   pub content : Content
   pub history : List Event
-  pub told : List play_told.Told
+  pub told : List (CallEvent ℕ ℕ)
   pub is_script : IsScript input content
   pub plays : IsNearPlay content content.letters history told
   pub is_trace : IsTraceText text content.shape history
@@ -229,7 +229,7 @@ pub record TracesWrong (input text : List ℕ) (ending : Ending) : Type 0 where
 pub record RecordsWrong (input text : List ℕ) (ending : Ending) : Type 0 where
   pub content : Content
   pub history : List Event
-  pub told : List play_told.Told
+  pub told : List (CallEvent ℕ ℕ)
   pub is_script : IsScript input content
   pub plays : IsNearPlay content content.letters history told
   pub words : text ≡ told_text_of content told

@@ -17,7 +17,7 @@ use Rattle.queue_calls.specs.declared.recordings.CallsFinding.TheVariants as cal
 use Rattle.queue_calls.specs.declared.reports.Report as calls_report
 use Rattle.ring_audit.specs.Audit.{Statement, Lawful, Fault}
 use Rattle.ring_player.specs.Tellings.{call_events}
-use Rattle.ring_player.specs.declared.tellings.Told.{Told}
+use Rattle.queue_calls.specs.declared.events.CallEvent.{CallEvent}
 use Rattle.ring_player.specs.declared.worlds.Report.{Report}
 use Rattle.ring_script.specs.Content.{Content}
 
@@ -149,5 +149,5 @@ relay_report_of put calls full taken empty closed time =
 -- ---- the text of the calls that were told
 
 -- a line of the ring's capacity, and the line of each event of calls
-abbrev pub told_text_of : Content → List Told → List ℕ
+abbrev pub told_text_of : Content → List (CallEvent ℕ ℕ) → List ℕ
 told_text_of script told = lines_text (line word.Queue (capacity_of script.shape ∷ []) ∷ lines_of begun.Nothing (call_events script told))

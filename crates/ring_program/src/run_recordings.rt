@@ -9,12 +9,12 @@ ghost use Rattle.queue_calls.specs.Told.{meant, told};
 ghost use Rattle.ring_program.specs.RunRecordings.{IsOfRun, RecordsRun, nothing_left, room_with, run_counts};
 ghost use Rattle.ring_program.specs.Untold.{TakesOff, left_of};
 
-use crate::call_lines::{offers_behind, push_event};
+use crate::call_lines::{begun_behind, push_event};
 use crate::faults::AppFault;
 use crate::lines::push_list;
 use bits_core::Shape;
 use queue_calls::laws::{history_has_a_recording, linearizable_is_in_turn};
-use queue_calls::{CallAuditor, Event, Fault, Word, exactly};
+use queue_calls::{Begun, CallAuditor, Event, Fault, Word, event_told, exactly};
 use ring_run::{Outcome, Recorder};
 use std::alloc::Allocator;
 use std::collections::VecDeque;
@@ -177,48 +177,15 @@ impl Room {
     fn behind(self, event: Event<'_>) -> Room
         ensures { (result.puts ≡ self.puts - room_with P (told event.entry)) × (result.takes ≡ self.takes - room_with C (told event.entry)) }
     {
-        match event {
-            Event::PutBegins(items) => self.less(items.len(), 0),
-            Event::PutStored(_)
-            | Event::PutSome(_)
-            | Event::PutFull
-            | Event::PutShort
-            | Event::PutNothing
-            | Event::PutClosed
-            | Event::CloseBegins
-            | Event::CloseEnds => self.less(1, 0),
-            Event::TakeBegins(_)
-            | Event::TakeItems(_)
-            | Event::TakeSome(_)
-            | Event::TakeEmpty
-            | Event::TakeShort
-            | Event::TakeNothing
-            | Event::TakeClosed => self.less(0, 1),
+        if let Event::PutBegins(items) = event {
+            return self.less(items.len(), 0);
+        }
+        if event.is_of_producer() {
+            self.less(1, 0)
+        } else {
+            self.less(0, 1)
         }
     }
-}
-
-// The event that a recorder's line tells, where the put that began last offered so many items.
-fn event_of(word: Word, offers: usize, numbers: &[u64]) -> Option<Event<'_>> {
-    Some(match word {
-        Word::Put => Event::PutBegins(numbers),
-        Word::Stored => Event::PutStored(numbers.first().map_or(offers, |count| *count as usize)),
-        Word::Full => Event::PutFull,
-        Word::Close => Event::CloseBegins,
-        Word::PutClosed => Event::CloseEnds,
-        Word::Take => Event::TakeBegins(1),
-        Word::Item => Event::TakeItems(numbers),
-        Word::Empty => Event::TakeEmpty,
-        Word::TakeClosed => Event::TakeClosed,
-        Word::Queue
-        | Word::Cut
-        | Word::PutSome
-        | Word::Short
-        | Word::PutNothing
-        | Word::TakeSome
-        | Word::TakeShort
-        | Word::TakeNothing => return None,
-    })
 }
 
 // Audits an event.
@@ -275,24 +242,24 @@ pub fn recording_text<A: Allocator + Copy, B: Allocator>(
         puts: RECORDED,
         takes: RECORDED,
     };
-    let mut offers = 0;
+    let mut begun = Begun::Nothing;
     let mut numbers = Vec::new(alloc);
     let mut lines = recorder.lines();
     'lines: for _ in 0..u64::MAX {
         let Some(word) = lines.next(&mut numbers)? else {
             break;
         };
-        let Some(event) = event_of(word, offers, numbers.as_slice()) else {
+        let Some(event) = event_told(begun, word, numbers.as_slice()) else {
             return Err(AppFault::NotOfRun);
         };
         let Some(left) = untold.behind(batch, event) else {
             return Err(AppFault::NotOfRun);
         };
         audit(&mut auditor, event)?;
-        push_event(&mut text, offers, event)?;
+        push_event(&mut text, begun, event)?;
         untold = left;
         room = room.behind(event);
-        offers = offers_behind(offers, event);
+        begun = begun_behind(begun, event);
     }
     if untold.lacks_lines(is_cut, batch, room) {
         return Err(AppFault::NotOfRun);

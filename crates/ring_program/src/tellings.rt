@@ -11,12 +11,12 @@ ghost use Rattle.ring_player.specs.Plays.{offered};
 ghost use Rattle.ring_player.specs.Tellings.{event_of, call_events};
 ghost use Rattle.ring_program.specs.Texts.{told_text_of};
 
-use crate::call_lines::{offers_behind, push_event};
+use crate::call_lines::{begun_behind, push_event};
 use crate::faults::AppFault;
 use crate::lines::push_list;
 use queue_calls::laws::{history_has_a_recording, linearizable_is_in_turn};
-use queue_calls::{Event, Word};
-use ring_player::{Script, Told};
+use queue_calls::{Begun, Event, Word};
+use ring_player::{PlayedCall, Script};
 use std::alloc::Allocator;
 use std::slice;
 
@@ -31,20 +31,27 @@ fn offered<B: Allocator>(script: &Script<B>, stored: usize) -> &[u64]
     &further[..batch.min(further.len())]
 }
 
-// What was told, as an event.
-fn event_of<'a, B: Allocator>(script: &'a Script<B>, told: &'a Told) -> Event<'a>
+// What was told, as an event with its items.
+fn event_of<'a, B: Allocator>(script: &'a Script<B>, told: &'a PlayedCall) -> Event<'a>
     ensures { event_told result ≡ event_of script.now told.now }
 {
     match told {
-        Told::PutBegins(stored) => Event::PutBegins(offered(script, *stored)),
-        Told::PutStored(count) => Event::PutStored(*count),
-        Told::PutFull => Event::PutFull,
-        Told::CloseBegins => Event::CloseBegins,
-        Told::CloseEnds => Event::CloseEnds,
-        Told::TakeBegins => Event::TakeBegins(1),
-        Told::TakeItem(item) => Event::TakeItems(slice::from_ref(item)),
-        Told::TakeEmpty => Event::TakeEmpty,
-        Told::TakeClosed => Event::TakeClosed,
+        PlayedCall::PutBegins(stored) => Event::PutBegins(offered(script, *stored)),
+        PlayedCall::PutStored(count) => Event::PutStored(*count),
+        PlayedCall::PutSome(count) => Event::PutSome(*count),
+        PlayedCall::PutFull => Event::PutFull,
+        PlayedCall::PutShort => Event::PutShort,
+        PlayedCall::PutNothing => Event::PutNothing,
+        PlayedCall::PutClosed => Event::PutClosed,
+        PlayedCall::CloseBegins => Event::CloseBegins,
+        PlayedCall::CloseEnds => Event::CloseEnds,
+        PlayedCall::TakeBegins(wanted) => Event::TakeBegins(*wanted),
+        PlayedCall::TakeItems(item) => Event::TakeItems(slice::from_ref(item)),
+        PlayedCall::TakeSome(item) => Event::TakeSome(slice::from_ref(item)),
+        PlayedCall::TakeEmpty => Event::TakeEmpty,
+        PlayedCall::TakeShort => Event::TakeShort,
+        PlayedCall::TakeNothing => Event::TakeNothing,
+        PlayedCall::TakeClosed => Event::TakeClosed,
     }
 }
 
@@ -52,7 +59,7 @@ fn event_of<'a, B: Allocator>(script: &'a Script<B>, told: &'a Told) -> Event<'a
 pub fn told_text<A: Allocator, B: Allocator>(
     alloc: A,
     script: &Script<B>,
-    told: &[Told],
+    told: &[PlayedCall],
 ) -> Result<String<A>, AppFault>
     ensures text { IfOk result (λ text. string_bytes text ≡ told_text_of script.now told.now) }
     ensures small { OnOk result (TellsSmall (call_events script.now told.now)) }
@@ -60,11 +67,11 @@ pub fn told_text<A: Allocator, B: Allocator>(
 {
     let mut text = String::new(alloc);
     push_list(&mut text, Word::Queue.text(), &[script.shape().capacity()])?;
-    let mut offers = 0;
+    let mut begun = Begun::Nothing;
     for each in told {
         let event = event_of(script, each);
-        push_event(&mut text, offers, event)?;
-        offers = offers_behind(offers, event);
+        push_event(&mut text, begun, event)?;
+        begun = begun_behind(begun, event);
     }
     Ok(text)
 }
@@ -73,7 +80,7 @@ pub fn told_text<A: Allocator, B: Allocator>(
 pub fn calls_text<A: Allocator, B: Allocator>(
     alloc: A,
     script: &Script<B>,
-    told: &[Told],
+    told: &[PlayedCall],
 ) -> Result<String<A>, AppFault>
     requires linearizable { IsLinearizable (exactly (capacity_of script.now.shape)) (call_events script.now told.now) }
     ensures recording { IfOk result (λ text. IsRecording (string_bytes text) (exactly (capacity_of script.now.shape)) (call_events script.now told.now)) }

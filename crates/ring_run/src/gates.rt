@@ -3,7 +3,7 @@ ghost use Rattle.std.specs.Prelude.{◌≡◌, ◌*◌, ◌/◌, max};
 ghost use Rattle.bits_core.specs.Shape.{capacity_of};
 
 use bits_core::{Shape, Side};
-use ring_core::{BatchReply, TakeReply};
+use queue_calls::Event;
 use std::{hint, thread};
 
 /// A gate that each side of a relay passes before each of its puts or takes, and that is told where each call begins and
@@ -15,23 +15,8 @@ pub trait Gate {
     /// The side has made `count` puts or takes so far, and is about to make one more.
     fn pass(&self, side: Side, count: u64);
 
-    /// The producer is about to put these items.
-    fn put_begins(&self, _items: &[u64]) {}
-
-    /// Its put of these items has ended, with this answer.
-    fn put_ended(&self, _items: &[u64], _reply: BatchReply) {}
-
-    /// The producer is about to close.
-    fn close_begins(&self) {}
-
-    /// Its close has ended.
-    fn close_ended(&self) {}
-
-    /// The consumer is about to take.
-    fn take_begins(&self) {}
-
-    /// Its take has ended, with this answer.
-    fn take_ended(&self, _reply: TakeReply) {}
+    /// A call is about to begin, or it has ended, with this event.
+    fn hears(&self, _event: Event<'_>) {}
 
     /// The side's last `times` calls, and no more, were puts that found the ring full, or takes that found it empty. It is told
     /// behind each such call and before the next one, so `times` goes up from 1.

@@ -1,11 +1,10 @@
 //! Recordings of the calls of a relay.
-ghost use Rattle.std.specs.Prelude.{◌≡◌, ◌≤◌, ◌∷◌, [], IfOk, IfSome, OnOk, length};
+ghost use Rattle.std.specs.Prelude.{◌≤◌, IfOk, IfSome, length};
 ghost use Rattle.queue_calls.specs.Recordings.{IsFurther, line};
 
 use crate::gates::{Gate, YieldGate};
 use bits_core::Side;
-use queue_calls::Word;
-use ring_core::{BatchReply, TakeReply};
+use queue_calls::{Event, Word, allows};
 use std::alloc::{AllocError, Allocator};
 use std::sync::atomic::{AtomicU64, Ordering};
 
@@ -14,7 +13,7 @@ use std::sync::atomic::{AtomicU64, Ordering};
 /// In use: `lamport_ring run --record`.
 #[derive(Drop)]
 pub struct Slot {
-    // the ticket, times 16, and the code of the line's word
+    // the ticket, times 32, and the number of the line's word
     mark: AtomicU64,
     number: AtomicU64,
 }
@@ -29,31 +28,12 @@ impl Slot {
     }
 
     fn ticket(&self) -> u64 {
-        self.mark.load(Ordering::SeqCst) / CODES
+        self.mark.load(Ordering::SeqCst) / WORDS
     }
 }
 
-// The codes of the words that a relay may record.
-const PUT: u64 = 0;
-
-const STORED: u64 = 1;
-
-const FULL: u64 = 2;
-
-const PUT_CLOSED: u64 = 3;
-
-const CLOSE: u64 = 4;
-
-const TAKE: u64 = 5;
-
-const ITEM: u64 = 6;
-
-const EMPTY: u64 = 7;
-
-const TAKE_CLOSED: u64 = 8;
-
-// More than the codes are.
-const CODES: u64 = 16;
+// More than the words are.
+const WORDS: u64 = 32;
 
 // What is no ticket.
 const NEVER: u64 = u64::MAX;
@@ -83,7 +63,7 @@ impl<'a> Log<'a> {
     }
 
     // Records a line with these numbers, one at least, where there is room for it and was for all before it.
-    fn add(&self, ticket: u64, code: u64, numbers: &[u64]) {
+    fn add(&self, ticket: u64, word: Word, numbers: &[u64]) {
         let used = self.used.load(Ordering::SeqCst);
         let free = self.slots.get(used as usize..).unwrap_or(&[]);
         let whole = !self.has_lost();
@@ -93,7 +73,9 @@ impl<'a> Log<'a> {
             }
             return;
         }
-        let mark = ticket.wrapping_mul(CODES).wrapping_add(code);
+        let mark = ticket
+            .wrapping_mul(WORDS)
+            .wrapping_add(u64::from(word.number()));
         for (slot, number) in free.iter().zip(numbers) {
             slot.mark.store(mark, Ordering::SeqCst);
             slot.number.store(*number, Ordering::SeqCst);
@@ -143,16 +125,6 @@ impl<'a> Recorder<'a> {
         self.tickets.fetch_add(1, Ordering::SeqCst)
     }
 
-    // Records a line of the producer.
-    fn puts(&self, code: u64, numbers: &[u64]) {
-        self.puts.add(self.ticket(), code, numbers);
-    }
-
-    // Records a line of the consumer.
-    fn takes(&self, code: u64, number: u64) {
-        self.takes.add(self.ticket(), code, &[number]);
-    }
-
     /// Whether the recording lacks the later calls, as a side had no room for a line. It is for when the relay has ended.
     pub fn is_cut(&self) -> bool {
         self.puts.has_lost() || self.takes.has_lost()
@@ -166,6 +138,7 @@ impl<'a> Recorder<'a> {
             puts: self.puts.in_use(),
             takes: self.takes.in_use(),
             end: puts.min(takes),
+            offered: 0,
         }
     }
 }
@@ -175,39 +148,21 @@ impl Gate for Recorder<'_> {
         YieldGate.pass(side, count);
     }
 
-    fn put_begins(&self, items: &[u64]) {
-        self.puts(PUT, items);
-    }
-
-    fn put_ended(&self, items: &[u64], reply: BatchReply) {
-        match reply {
-            // (how many were stored is told where these are fewer than the put offered)
-            BatchReply::Stored(stored) => {
-                let all = stored == items.len() as u64;
-                self.puts(STORED, &[if all { 0 } else { stored }]);
+    fn hears(&self, event: Event<'_>) {
+        let log = if event.is_of_producer() {
+            &self.puts
+        } else {
+            &self.takes
+        };
+        let (word, ticket) = (event.word(), self.ticket());
+        match event {
+            Event::PutBegins(items) | Event::TakeItems(items) | Event::TakeSome(items) => {
+                log.add(ticket, word, items);
             }
-            BatchReply::Full => self.puts(FULL, &[0]),
-            BatchReply::Closed => self.puts(PUT_CLOSED, &[0]),
-        }
-    }
-
-    fn close_begins(&self) {
-        self.puts(CLOSE, &[0]);
-    }
-
-    fn close_ended(&self) {
-        self.puts(PUT_CLOSED, &[0]);
-    }
-
-    fn take_begins(&self) {
-        self.takes(TAKE, 0);
-    }
-
-    fn take_ended(&self, reply: TakeReply) {
-        match reply {
-            TakeReply::Item(item) => self.takes(ITEM, item),
-            TakeReply::Empty => self.takes(EMPTY, 0),
-            TakeReply::Closed => self.takes(TAKE_CLOSED, 0),
+            Event::PutStored(count) | Event::PutSome(count) | Event::TakeBegins(count) => {
+                log.add(ticket, word, &[count as u64]);
+            }
+            _ => log.add(ticket, word, &[0]),
         }
     }
 }
@@ -229,56 +184,19 @@ fn slots_of(slots: &[Slot], ticket: u64) -> usize
     slots.len()
 }
 
-// Makes the list one of this number alone.
-fn set_one<A: Allocator>(numbers: &mut Vec<u64, A>, number: u64) -> Result<(), AllocError>
-    ensures { OnOk result (numbers.new.items ≡ number ∷ []) }
-{
-    numbers.clear();
-    Ok(numbers.push(number)?)
+// The word of the first of these slots, where it is one that a relay may record.
+fn word_of(slots: &[Slot]) -> Option<Word> {
+    let mark = slots.first()?.mark.load(Ordering::SeqCst);
+    Word::of_number((mark % WORDS) as u32)
 }
 
-// The line of these slots: its word, and in `numbers` its numbers in place of what was there.
-fn read_slots<A: Allocator>(
-    slots: &[Slot],
-    numbers: &mut Vec<u64, A>,
-) -> Result<Option<Word>, AllocError>
-    ensures { IfOk result (λ read. IfSome read (λ word. IsFurther (line word numbers.new.items))) }
-{
-    let Some((first, more)) = slots.split_first() else {
-        return Ok(None);
-    };
-    let number = first.number.load(Ordering::SeqCst);
-    set_one(numbers, number)?;
-    let code = first.mark.load(Ordering::SeqCst) % CODES;
-    if code == PUT {
-        'items: for slot in more {
-            numbers.push(slot.number.load(Ordering::SeqCst))?;
-        }
-        return Ok(Some(Word::Put));
-    }
-    if code == ITEM {
-        return Ok(Some(Word::Item));
-    }
-    if code == STORED && number > 0 {
-        return Ok(Some(Word::Stored));
-    }
+// Reads the numbers of these slots, in place of what was there.
+fn read_numbers<A: Allocator>(slots: &[Slot], numbers: &mut Vec<u64, A>) -> Result<(), AllocError> {
     numbers.clear();
-    Ok(Some(word_of(code)))
-}
-
-// The word of this code, in a line with no number.
-fn word_of(code: u64) -> Word
-    ensures { IsFurther (line result []) }
-{
-    match code {
-        STORED => Word::Stored,
-        FULL => Word::Full,
-        PUT_CLOSED => Word::PutClosed,
-        CLOSE => Word::Close,
-        TAKE => Word::Take,
-        EMPTY => Word::Empty,
-        _ => Word::TakeClosed,
+    'slots: for slot in slots {
+        numbers.push(slot.number.load(Ordering::SeqCst))?;
     }
+    Ok(())
 }
 
 /// The lines of a recording that were not told yet.
@@ -290,6 +208,8 @@ pub struct RecordedLines<'r> {
     takes: &'r [Slot],
     // The ticket before which the recording ends.
     end: u64,
+    // How many items the last put offered.
+    offered: u64,
 }
 
 impl RecordedLines<'_> {
@@ -313,6 +233,28 @@ impl RecordedLines<'_> {
         };
         let (line, rest) = side.split_at(slots_of(side, put.min(take)));
         *side = rest;
-        read_slots(line, numbers)
+        let Some(word) = word_of(line) else {
+            return Ok(None);
+        };
+        read_numbers(line, numbers)?;
+        Ok(self.line(word, numbers))
+    }
+
+    // The line of this word, whose numbers go where it has none, as where a put stored all that it offered.
+    fn line<A: Allocator>(&mut self, word: Word, numbers: &mut Vec<u64, A>) -> Option<Word>
+        ensures { IfSome result (λ word. IsFurther (line word numbers.new.items)) }
+    {
+        if word == Word::Put {
+            self.offered = numbers.len() as u64;
+        }
+        let is_whole = word == Word::Stored && numbers.first() == Some(&self.offered);
+        if is_whole || !allows(word, numbers.as_slice()) {
+            numbers.clear();
+        }
+        let is_first = matches!(word, Word::Queue | Word::Cut);
+        if is_first || !allows(word, numbers.as_slice()) {
+            return None;
+        }
+        Some(word)
     }
 }

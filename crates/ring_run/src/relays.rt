@@ -7,6 +7,7 @@ ghost use Rattle.ring_run.specs.Relays.{HasMadePuts, HasRelayedPuts, HasRelayedT
 
 use crate::gates::Gate;
 use bits_core::{Oracle, Shape, Side};
+use queue_calls::Event;
 use ring_core::laws::{puts_are_read, ring_law, takes_are_read, whole_calls_count};
 use ring_core::{BatchReply, TakeReply};
 use ring_ends::{CounterRing, FlickerRing, PutEnd, RingOf, RunFault, TakeEnd};
@@ -70,15 +71,16 @@ fn put_in_order<E: PutEnd, G: Gate>(
     'puts: while put < items.len() && made < limit {
         gate.pass(Side::P, made);
         let next = put + next_batch(&shape, items.len() - put);
-        gate.put_begins(&items[put..next]);
+        gate.hears(Event::PutBegins(&items[put..next]));
         let reply = putter.put_all(&items[put..next]);
-        gate.put_ended(&items[put..next], reply);
         match reply {
             BatchReply::Stored(stored) => {
+                gate.hears(Event::PutStored(stored as usize));
                 put += stored as usize;
                 waits = 0;
             }
             BatchReply::Full => {
+                gate.hears(Event::PutFull);
                 full += 1;
                 waits += 1;
                 gate.wait(Side::P, waits);
@@ -88,9 +90,9 @@ fn put_in_order<E: PutEnd, G: Gate>(
         made += 1;
     }
     if put == items.len() {
-        gate.close_begins();
+        gate.hears(Event::CloseBegins);
         putter.close();
-        gate.close_ended();
+        gate.hears(Event::CloseEnds);
     }
     (put as u64, made, full)
 }
@@ -118,20 +120,24 @@ fn take_all<A: Allocator, E: TakeEnd, G: Gate>(
     let mut waits = 0;
     'takes: while !closed && items.len() as u64 + empty < limit {
         gate.pass(Side::C, items.len() as u64 + empty);
-        gate.take_begins();
+        gate.hears(Event::TakeBegins(1));
         let reply = taker.take();
-        gate.take_ended(reply);
         match reply {
             TakeReply::Item(item) => {
+                gate.hears(Event::TakeItems(&[item]));
                 items.push(item)?;
                 waits = 0;
             }
             TakeReply::Empty => {
+                gate.hears(Event::TakeEmpty);
                 empty += 1;
                 waits += 1;
                 gate.wait(Side::C, waits);
             }
-            TakeReply::Closed => closed = true,
+            TakeReply::Closed => {
+                gate.hears(Event::TakeClosed);
+                closed = true;
+            }
         }
     }
     Ok((empty, closed))

@@ -2,12 +2,12 @@ use crate::play_scripts::{Asked, Numbers, ONE, expect, script_of};
 use bits_core::{Verdict, audit_bits};
 use near_misses::{NearFault, NearMiss, play_near};
 use refusing::Refusing;
-use ring_player::Told;
+use ring_player::PlayedCall;
 use std::alloc::{AllocGlobal, Global};
 use std::process::Abort;
 
 // What a near miss is to tell of a script.
-type Near<'a> = (NearMiss, Numbers, Asked<'a>, &'a [Told]);
+type Near<'a> = (NearMiss, Numbers, Asked<'a>, &'a [PlayedCall]);
 
 static CASES: [Near<'static>; 5] = [
     // The count write spans the take, which reads the cell before the item is there: 0 for 1.
@@ -15,7 +15,11 @@ static CASES: [Near<'static>; 5] = [
         NearMiss::CountBeforeCell,
         ONE,
         ("[1]", 1, false, "P5C10", ""),
-        &[Told::PutBegins(0), Told::TakeBegins, Told::TakeItem(0)],
+        &[
+            PlayedCall::PutBegins(0),
+            PlayedCall::TakeBegins(1),
+            PlayedCall::TakeItems(0),
+        ],
     ),
     // Item 1 is stored, and the take that began before is told Closed.
     (
@@ -23,12 +27,12 @@ static CASES: [Near<'static>; 5] = [
         ONE,
         ("[1]", 2, true, "C2P10C2", ""),
         &[
-            Told::TakeBegins,
-            Told::PutBegins(0),
-            Told::PutStored(1),
-            Told::CloseBegins,
-            Told::CloseEnds,
-            Told::TakeClosed,
+            PlayedCall::TakeBegins(1),
+            PlayedCall::PutBegins(0),
+            PlayedCall::PutStored(1),
+            PlayedCall::CloseBegins,
+            PlayedCall::CloseEnds,
+            PlayedCall::TakeClosed,
         ],
     ),
     // The count write is open: it is seen new, and then old, which looks like a round more, and item 1 is taken twice.
@@ -37,11 +41,11 @@ static CASES: [Near<'static>; 5] = [
         [1, 3, 2, 1],
         ("[1,2,3]", 3, false, "P9C20", "01"),
         &[
-            Told::PutBegins(0),
-            Told::TakeBegins,
-            Told::TakeItem(1),
-            Told::TakeBegins,
-            Told::TakeItem(1),
+            PlayedCall::PutBegins(0),
+            PlayedCall::TakeBegins(1),
+            PlayedCall::TakeItems(1),
+            PlayedCall::TakeBegins(1),
+            PlayedCall::TakeItems(1),
         ],
     ),
     // The fifth put has cleared s0 and not yet set s1, so a scan finds s3, which was set a round ago: Empty, with the fourth item inside.
@@ -50,23 +54,23 @@ static CASES: [Near<'static>; 5] = [
         [2, 4, 2, 1],
         ("[1,2,3,1,2]", 5, false, "P10C12P12C14P14C16P27C10", ""),
         &[
-            Told::PutBegins(0),
-            Told::PutStored(1),
-            Told::TakeBegins,
-            Told::TakeItem(1),
-            Told::PutBegins(1),
-            Told::PutStored(1),
-            Told::TakeBegins,
-            Told::TakeItem(2),
-            Told::PutBegins(2),
-            Told::PutStored(1),
-            Told::TakeBegins,
-            Told::TakeItem(3),
-            Told::PutBegins(3),
-            Told::PutStored(1),
-            Told::PutBegins(4),
-            Told::TakeBegins,
-            Told::TakeEmpty,
+            PlayedCall::PutBegins(0),
+            PlayedCall::PutStored(1),
+            PlayedCall::TakeBegins(1),
+            PlayedCall::TakeItems(1),
+            PlayedCall::PutBegins(1),
+            PlayedCall::PutStored(1),
+            PlayedCall::TakeBegins(1),
+            PlayedCall::TakeItems(2),
+            PlayedCall::PutBegins(2),
+            PlayedCall::PutStored(1),
+            PlayedCall::TakeBegins(1),
+            PlayedCall::TakeItems(3),
+            PlayedCall::PutBegins(3),
+            PlayedCall::PutStored(1),
+            PlayedCall::PutBegins(4),
+            PlayedCall::TakeBegins(1),
+            PlayedCall::TakeEmpty,
         ],
     ),
     // Where nothing overlaps, it is as with a ring: a batch of two, of which the second put finds room for one.
@@ -75,12 +79,12 @@ static CASES: [Near<'static>; 5] = [
         [3, 6, 2, 2],
         ("[1,2,3,1]", 1, false, "P26", ""),
         &[
-            Told::PutBegins(0),
-            Told::PutStored(2),
-            Told::PutBegins(2),
-            Told::PutStored(1),
-            Told::PutBegins(3),
-            Told::PutFull,
+            PlayedCall::PutBegins(0),
+            PlayedCall::PutStored(2),
+            PlayedCall::PutBegins(2),
+            PlayedCall::PutStored(1),
+            PlayedCall::PutBegins(3),
+            PlayedCall::PutFull,
         ],
     ),
 ];

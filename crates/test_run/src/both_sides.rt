@@ -6,7 +6,6 @@ use crate::expects::{ITEMS, Kind, Numbers, SHAPES, expect, expect_relay, shape_o
 use crate::recordings::slots;
 use bits_core::Side;
 use queue_calls::{CallAuditor, Event, Word, exactly};
-use ring_core::{BatchReply, TakeReply};
 use ring_run::{CounterRing, Gate, Limits, Outcome, Recorder, YieldGate, relay};
 use std::alloc::{AllocGlobal, Global};
 use std::process::Abort;
@@ -166,55 +165,61 @@ impl Watch<'_> {
     }
 }
 
+impl Watch<'_> {
+    fn hears_put(&self, event: Event<'_>) {
+        match event {
+            Event::PutBegins(items) => {
+                add(&self.begun, 1);
+                let first = self.stored.load(Ordering::SeqCst);
+                if items.first() != Some(&first) {
+                    self.is_wrong.store(true, Ordering::SeqCst);
+                }
+                self.expect_word(CLOSE_WORD, 0);
+            }
+            Event::CloseBegins => {
+                add(&self.begun, 1);
+                self.expect_word(CLOSE_WORD, 0);
+            }
+            Event::CloseEnds => {
+                add(&self.ended, 1);
+                self.expect_word(CLOSE_WORD, 1);
+            }
+            Event::PutStored(count) => {
+                add(&self.ended, 1);
+                add(&self.stored, count as u64);
+            }
+            _ => add(&self.ended, 1),
+        }
+        self.expect_count(PUT_WORD, &self.stored);
+    }
+
+    fn hears_take(&self, event: Event<'_>) {
+        match event {
+            Event::TakeItems(items) => {
+                let next = self.taken.load(Ordering::SeqCst);
+                if items != [next].as_slice() {
+                    self.is_wrong.store(true, Ordering::SeqCst);
+                }
+                add(&self.taken, 1);
+            }
+            Event::TakeClosed => self.expect_word(CLOSE_WORD, 1),
+            _ => {}
+        }
+        self.expect_count(TAKE_WORD, &self.taken);
+    }
+}
+
 impl Gate for Watch<'_> {
     fn pass(&self, side: Side, count: u64) {
         YieldGate.pass(side, count);
     }
 
-    fn put_begins(&self, items: &[u64]) {
-        add(&self.begun, 1);
-        let first = self.stored.load(Ordering::SeqCst);
-        if items.first() != Some(&first) {
-            self.is_wrong.store(true, Ordering::SeqCst);
+    fn hears(&self, event: Event<'_>) {
+        if event.is_of_producer() {
+            self.hears_put(event);
+        } else {
+            self.hears_take(event);
         }
-        self.expect_count(PUT_WORD, &self.stored);
-        self.expect_word(CLOSE_WORD, 0);
-    }
-
-    fn put_ended(&self, _items: &[u64], reply: BatchReply) {
-        add(&self.ended, 1);
-        if let BatchReply::Stored(count) = reply {
-            add(&self.stored, count);
-        }
-        self.expect_count(PUT_WORD, &self.stored);
-    }
-
-    fn close_begins(&self) {
-        add(&self.begun, 1);
-        self.expect_word(CLOSE_WORD, 0);
-    }
-
-    fn close_ended(&self) {
-        add(&self.ended, 1);
-        self.expect_word(CLOSE_WORD, 1);
-    }
-
-    fn take_begins(&self) {
-        self.expect_count(TAKE_WORD, &self.taken);
-    }
-
-    fn take_ended(&self, reply: TakeReply) {
-        match reply {
-            TakeReply::Item(item) => {
-                if item != self.taken.load(Ordering::SeqCst) {
-                    self.is_wrong.store(true, Ordering::SeqCst);
-                }
-                add(&self.taken, 1);
-            }
-            TakeReply::Empty => {}
-            TakeReply::Closed => self.expect_word(CLOSE_WORD, 1),
-        }
-        self.expect_count(TAKE_WORD, &self.taken);
     }
 }
 

@@ -3,7 +3,7 @@ use crate::expects::{
     ITEMS, Kind, Numbers, ONE, SHAPES, TAPE, expect, expect_flicker, expect_relay, shape_of,
 };
 use bits_core::{Always, Flip, Oracle, Side, Tape};
-use ring_core::{BatchReply, TakeReply};
+use queue_calls::Event;
 use ring_run::{Gate, Limits, Outcome, RestGate, YieldGate};
 use std::alloc::{AllocGlobal, Allocator};
 use std::hint::spin_loop;
@@ -246,12 +246,12 @@ impl Gate for InTurn {
         }
     }
 
-    fn put_ended(&self, _items: &[u64], _reply: BatchReply) {
-        self.ended(Side::P);
-    }
-
-    fn take_ended(&self, _reply: TakeReply) {
-        self.ended(Side::C);
+    fn hears(&self, event: Event<'_>) {
+        match event {
+            Event::PutStored(_) | Event::PutFull => self.ended(Side::P),
+            Event::TakeItems(_) | Event::TakeEmpty | Event::TakeClosed => self.ended(Side::C),
+            _ => {}
+        }
     }
 
     fn wait(&self, side: Side, times: u64) {
@@ -349,12 +349,14 @@ impl Gate for Telling {
         }
     }
 
-    fn put_ended(&self, _items: &[u64], reply: BatchReply) {
-        self.putter.ended(matches!(reply, BatchReply::Full));
-    }
-
-    fn take_ended(&self, reply: TakeReply) {
-        self.taker.ended(matches!(reply, TakeReply::Empty));
+    fn hears(&self, event: Event<'_>) {
+        match event {
+            Event::PutStored(_) => self.putter.ended(false),
+            Event::PutFull => self.putter.ended(true),
+            Event::TakeItems(_) | Event::TakeClosed => self.taker.ended(false),
+            Event::TakeEmpty => self.taker.ended(true),
+            _ => {}
+        }
     }
 
     fn wait(&self, side: Side, times: u64) {

@@ -1,7 +1,6 @@
 //! What a recorder tells of a relay of which one side makes no call, so that its lines are the same at every schedule.
 use crate::expects::{Kind, Numbers, expect_relay};
-use queue_calls::Word;
-use ring_core::{BatchReply, TakeReply};
+use queue_calls::{Event, Word};
 use ring_run::{Gate, Limits, RecordedLines, Recorder, Slot};
 use std::alloc::AllocGlobal;
 use std::process::Abort;
@@ -108,14 +107,18 @@ fn a_recording_ends_where_its_room_does(rt: HostRuntime) {
     expect_recorded(&rt, 3, &[7], takes, &TAKES[..3]);
 }
 
+// Tells the recorder a put and a take of these items, one.
+fn tell_one(recorder: &Recorder<'_>, items: &[u64]) {
+    recorder.hears(Event::PutBegins(items));
+    recorder.hears(Event::PutStored(1));
+    recorder.hears(Event::TakeBegins(1));
+    recorder.hears(Event::TakeItems(items));
+}
+
 // Tells the recorder the calls of both sides.
 fn tell_both(recorder: &Recorder<'_>) {
-    for item in [7, 8] {
-        recorder.put_begins(&[item]);
-        recorder.put_ended(&[item], BatchReply::Stored(1));
-        recorder.take_begins();
-        recorder.take_ended(TakeReply::Item(item));
-    }
+    tell_one(recorder, &[7]);
+    tell_one(recorder, &[8]);
 }
 
 // With room for so many lines of each side, these lines of both are recorded, and whether later ones are missing is told.

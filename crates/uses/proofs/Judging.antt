@@ -1,13 +1,17 @@
 -- Histories of calls that are fed event by event.
-use Rattle.std.proofs.Common.{◌≡◌, ℕ, suc, ◌+◌, ◌<◌, Some, List, [], ◌∷◌, ◌++◌, map, take, length, get_or, ap, sym, subst, ◌∙◌}
+use Rattle.std.proofs.Common.{◌≡◌, Bor, ℕ, suc, ◌+◌, ◌<◌, Some, List, [], ◌∷◌, ◌++◌, map, take, length, get_or, ap, sym, subst, ◌∙◌}
 use Rattle.std.proofs.lemmas.List.{length-map, map-append, take-map, take_more}
 use Rattle.std.proofs.Math.Numerals.{suc-eq-add-one}
 use Rattle.queue_calls.specs.Audits.{HasMoreItems}
 use Rattle.queue_calls.specs.Calls.{IsLinearizable}
 use Rattle.queue_calls.specs.Told.{meant, told}
 use Rattle.queue_calls.specs.declared.capacities.Capacity.{Capacity}
-use Rattle.queue_calls.specs.declared.events.Event.{Event}
+use Rattle.queue_calls.specs.declared.events.CallEvent.{CallEvent}
 use Rattle.uses.specs.Judged.{JudgesCalls}
+
+-- an event whose items are listed
+abbrev pub Event : Type 0
+Event = CallEvent (Bor (List ℕ)) (Bor (List ℕ))
 
 -- one event more is told behind those before it
 pub one_more : (events : List Event) (number : ℕ) (d : Event) → number < length events → map told (take (number + 1) events) ≡ map told (take number events) ++ told (get_or events number d) ∷ []

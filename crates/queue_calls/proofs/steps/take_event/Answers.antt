@@ -2,7 +2,7 @@ use Rattle.std.proofs.Common.{subst}
 use Rattle.queue_calls.specs.Calls.{Happens, ConsumerStep}
 use Rattle.queue_calls.specs.Steps.{consumer_of}
 use Rattle.queue_calls.specs.Told.{told}
-use Rattle.queue_calls.specs.declared.events.Event.TheVariants.{TakeItems, TakeSome}
+use Rattle.queue_calls.specs.declared.events.CallEvent.TheVariants.{TakeItems, TakeSome}
 use Rattle.queue_calls.proofs.steps.take_event.Goals as goal
 
 pub returns-in-TakeItems-Taking-clause-exact : goal.returns-in-TakeItems-Taking-clause-exact

@@ -23,11 +23,11 @@ lines-preserved g c =
     let o = c.args.outcome.now in
     let items = c.args.items.now in
     let t = c.lines.invariant in
-    let event = told c.in-Some-event_of.event in
+    let event = told c.in-Some-event_told.event in
     let left = c.in-Some-behind in
     record {
       events = _;
-      is_written = writes_more c.is_cut-is_cut.result (capacity_of shape) c.lines.offers c.offers_behind-offers.result _ _ t.events event c.in_ok-push_event.ensures.line c.offers_behind-offers.ensures
+      is_written = writes_more c.is_cut-is_cut.result (capacity_of shape) c.lines.begun c.begun_behind-begun.result _ _ t.events event c.in_ok-push_event.ensures.line c.begun_behind-begun.ensures
           c.in_ok-push_event.ensures.small t.is_written;
       is_audited = audits_more (λ q. q.items) (capacity_of shape) c.lines.auditor c.audit.new.auditor t.events event c.in_ok-audit.ensures.capacity c.in_ok-audit.ensures.read t.is_audited;
       is_left = leaves_less (batch_of shape) items (run_counts items o.put o.calls o.full o.taken.items o.empty o.closed) c.lines.untold left.left c.lines.room c.behind-room.result t.events event
@@ -40,7 +40,7 @@ returns-clause-text g c =
     let o = c.args.outcome.now in
     let items = c.args.items.now in
     records_run (λ q. q.items) c.is_cut-is_cut.result shape c.capacity-capacity.result items (run_counts items o.put o.calls o.full o.taken.items o.empty o.closed) _ c.lines.auditor c.lines.untold
-    c.lines.room c.lines.offers c.history_has_a_recording.ensures c.linearizable_is_in_turn.ensures c.capacity-capacity.ensures.value c.capacity-capacity.ensures.some
+    c.lines.room c.lines.begun c.history_has_a_recording.ensures c.linearizable_is_in_turn.ensures c.capacity-capacity.ensures.value c.capacity-capacity.ensures.some
     c.capacity-capacity.ensures.few
     (c.lacks_lines.ensures.cut c.if-lacks_lines.false)
     (λ enough some. c.lacks_lines.ensures.whole c.if-lacks_lines.false (subst (λ (n : ℕ). n ≤ c.lines.room.puts) (sym c.batch-batch.ensures.value) enough) some) c.lines.invariant

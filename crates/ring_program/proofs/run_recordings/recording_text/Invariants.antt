@@ -8,4 +8,4 @@ abbrev pub invariant-lines : goal.invariant-lines
 invariant-lines g l =
     let o = l.fn.outcome in
     HasTold (λ q. q.items) l.is_cut (capacity_of l.fn.shape) (batch_of l.fn.shape) l.fn.items (run_counts l.fn.items o.put o.calls o.full o.taken.items o.empty o.closed)
-    (string_bytes l.text) l.auditor l.untold l.room l.offers
+    (string_bytes l.text) l.auditor l.untold l.room l.begun

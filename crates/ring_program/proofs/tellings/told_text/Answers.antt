@@ -16,24 +16,24 @@ loop-each-preserved g c =
     let script = c.args.script.now in
     let told = c.args.told.now in
     let event = event_told c.event_of-event.result in
-    telling_goes_on (capacity_of script.shape) (call_events script told) event _ _ _ _ _ c.in_ok-push_event.ensures.line c.offers_behind-offers.ensures c.in_ok-push_event.ensures.small
-    (subst (λ e. IsToldSoFar (capacity_of script.shape) (call_events script told) (e ∷ call_events script (drop (c.loop-each.each-index + 1) told)) c.loop-each.offers (string_bytes c.loop-each.text))
+    telling_goes_on (capacity_of script.shape) (call_events script told) event (call_events script (drop (c.loop-each.each-index + 1) told)) c.loop-each.begun (string_bytes c.loop-each.text) _ _ c.in_ok-push_event.ensures.line c.begun_behind-begun.ensures c.in_ok-push_event.ensures.small
+    (subst (λ e. IsToldSoFar (capacity_of script.shape) (call_events script told) (e ∷ call_events script (drop (c.loop-each.each-index + 1) told)) c.loop-each.begun (string_bytes c.loop-each.text))
     (sym c.event_of-event.ensures)
-    (subst (λ rest. IsToldSoFar (capacity_of script.shape) (call_events script told) (call_events script rest) c.loop-each.offers (string_bytes c.loop-each.text))
+    (subst (λ rest. IsToldSoFar (capacity_of script.shape) (call_events script told) (call_events script rest) c.loop-each.begun (string_bytes c.loop-each.text))
     (drop_more told c.loop-each.each-index _ c.loop-each-test.true) c.loop-each.invariant))
 
 pub returns-clause-text : goal.returns-clause-text
 returns-clause-text g c =
     let script = c.args.script.now in
     let told = c.args.told.now in
-    telling_is_told (capacity_of script.shape) (call_events script told) c.loop-each.offers (string_bytes c.loop-each.text)
-    (subst (λ rest. IsToldSoFar (capacity_of script.shape) (call_events script told) (call_events script rest) c.loop-each.offers (string_bytes c.loop-each.text))
+    telling_is_told (capacity_of script.shape) (call_events script told) c.loop-each.begun (string_bytes c.loop-each.text)
+    (subst (λ rest. IsToldSoFar (capacity_of script.shape) (call_events script told) (call_events script rest) c.loop-each.begun (string_bytes c.loop-each.text))
     (drop_all c.loop-each.each-index told c.loop-each-test.false) c.loop-each.invariant)
 
 pub returns-clause-small : goal.returns-clause-small
 returns-clause-small g c =
     let script = c.args.script.now in
     let told = c.args.told.now in
-    telling_is_small (capacity_of script.shape) (call_events script told) c.loop-each.offers (string_bytes c.loop-each.text)
-    (subst (λ rest. IsToldSoFar (capacity_of script.shape) (call_events script told) (call_events script rest) c.loop-each.offers (string_bytes c.loop-each.text))
+    telling_is_small (capacity_of script.shape) (call_events script told) c.loop-each.begun (string_bytes c.loop-each.text)
+    (subst (λ rest. IsToldSoFar (capacity_of script.shape) (call_events script told) (call_events script rest) c.loop-each.begun (string_bytes c.loop-each.text))
     (drop_all c.loop-each.each-index told c.loop-each-test.false) c.loop-each.invariant)

@@ -7,8 +7,8 @@ use Rattle.queue_calls.specs.Noting.{OutgrowsLists, all_got}
 use Rattle.queue_calls.specs.Reasons.{ended_line, has_ended, has_told, items_of, last_in, last_of, offered_at, taken, taken_at, told_closed_line}
 use Rattle.queue_calls.specs.Told.{meant, told}
 use Rattle.queue_calls.specs.Witnesses.{RefusesNext, Remembers}
-use Rattle.queue_calls.specs.declared.events.Event.{Event as Told}
-use Rattle.queue_calls.specs.declared.events.Event.TheVariants as said
+use Rattle.queue_calls.specs.declared.events.CallEvent.{CallEvent}
+use Rattle.queue_calls.specs.declared.events.CallEvent.TheVariants as said
 use Rattle.queue_calls.specs.declared.witnesses.Witness.{Witness}
 use Rattle.queue_calls.proofs.Hears.{IsQuiet, audits, counted_so, first_line, inside_after, kept_same, line_is, mark_items, next_remembers, quiet_remembers, refuses, still_remembers, stored_after, taken_all, taken_kept, told_so}
 use Rattle.queue_calls.proofs.Remembering.{kept_of}
@@ -70,11 +70,11 @@ returns-in-TakeClosed-clause-kept g c capacity events r number =
     (inside_after O T s capacity events r (TakeClosed) c.args.line after left number refl counts moves (λ count why f. absurd cc)) r.taken r.taken_last r.ended (first ∙ ap (λ z. Some (if has_told past then told_closed_line past else z)) (line_is O T s capacity events r c.args.line number)) r.put_at r.stored_at)
 
 -- an end of a put or of a take, which says why or not
-stored_so : (event : Told) (count other : ℕ) → count ≡ other → (event ≡ said.PutStored other) ⊎ (event ≡ said.PutSome other) → (why : Bool) × (told event ≡ PutStored count why)
+stored_so : (event : CallEvent (Bor (List ℕ)) (Bor (List ℕ))) (count other : ℕ) → count ≡ other → (event ≡ said.PutStored other) ⊎ (event ≡ said.PutSome other) → (why : Bool) × (told event ≡ PutStored count why)
 stored_so event count other same (inl is) = (true, ap told is ∙ ap (λ n. PutStored n true) (sym same))
 stored_so event count other same (inr is) = (false, ap told is ∙ ap (λ n. PutStored n false) (sym same))
 
-took_so : (event : Told) (items other : Bor (List ℕ)) → items ≡ other → (event ≡ said.TakeItems other) ⊎ (event ≡ said.TakeSome other) → (why : Bool) × (told event ≡ TakeItems items.now why)
+took_so : (event : CallEvent (Bor (List ℕ)) (Bor (List ℕ))) (items other : Bor (List ℕ)) → items ≡ other → (event ≡ said.TakeItems other) ⊎ (event ≡ said.TakeSome other) → (why : Bool) × (told event ≡ TakeItems items.now why)
 took_so event items other same (inl is) = (true, ap told is ∙ ap (λ l. TakeItems l.now true) (sym same))
 took_so event items other same (inr is) = (false, ap told is ∙ ap (λ l. TakeItems l.now false) (sym same))
 
