@@ -1,6 +1,7 @@
 // The picture of recorded calls: a bar for each call of a side, from the line where it begins to that where it ends, with the words of both.
 // It places rectangles: the line at fault, and the one that contradicts it, are numbers of the module.
 
+import { MOST_CALLED } from "./calls.js";
 import { callsWithin, capacityIn, lineIn } from "./records.js";
 import { LEFT, escape, round, sheetOf } from "./sheet.js";
 
@@ -17,11 +18,11 @@ function fitted(words, room, letter) {
 }
 
 // The picture of the first `count` lines behind the first of this recording, in a frame with room for all. The place `fault` is at fault (null: none
-// is), with the words `cause`; the one at `contradicts` speaks against it. `order` has the operations; `ring` is a second heading, as in sheet.js.
-export function bars({text, lines, count, fault = null, contradicts = null, cause = "", words, mood = "", ring = null, why = "", order = [], aspect = 9 / 16, widest, theme}) {
+// is), with the words `cause`; the one at `contradicts` speaks against it. `order` has the operations, from the place `ordered` on; `ring` is a second heading, as in sheet.js.
+export function bars({text, lines, count, fault = null, contradicts = null, cause = "", words, mood = "", ring = null, why = "", order = [], ordered = 0, aspect = 9 / 16, widest, rows, theme}) {
   const {full, most} = capacityIn(text), whole = lines.count - 1, lanes = {...BARS, C: BARS.C + (order.length ? EFFECTS : 0)};
-  const sheet = sheetOf({whole, count, middle: Math.max(0, fault ?? count - 1), other: contradicts, tall: lanes.C + lanes.high + UNDER, up: 0, lanes, least: NEAR, most: FAR,
-    aspect, words, mood, ring, reasons: [why].filter(Boolean), hasReasons: why ? 1 : 0, counted: "line", numberOf: place => place + 2, total: lines.count, widest});
+  const sheet = sheetOf({whole, count, middle: Math.max(0, count - 1), other: fault === null || fault === count - 1 ? contradicts : fault, tall: lanes.C + lanes.high + UNDER, up: 0, lanes, least: NEAR, most: FAR,
+    aspect, words, mood, ring, reasons: [why].filter(Boolean), hasReasons: why ? 1 : 0, counted: "line", numberOf: place => place + 2, total: lines.count, widest, rows});
   const {x, top, rowOf, isDrawn, partsOf, drawn, each, unit} = sheet;
 
   // The calls of the rows that are drawn, each once.
@@ -37,6 +38,12 @@ export function bars({text, lines, count, fault = null, contradicts = null, caus
   // The call that begins in the line at fault: one of its side that has not ended is cut there.
   const second = fault === null ? undefined : callsWithin(text, lines, fault + 2, fault + 2).find(it => it.begin === fault);
 
+  const barPath = (y, from, to, begins, ends) => `<path d="M${to} ${y}H${from}${begins ? `V${y + lanes.high}` : `M${from} ${y + lanes.high}`}H${to}${ends ? `V${y}` : ""}"/>`;
+  const barWords = ({asks, says}, y, from, to, hasEnded) => {
+    const middle = round((from + to) / 2), room = to - from - 4, words = [`<text class="asks" x="${middle}" y="${y + 17}">${escape(fitted(asks, room, LETTER))}</text>`];
+    return hasEnded ? [...words, `<text class="says" x="${middle}" y="${y + 34}">${escape(fitted(says, room, SMALL))}</text>`] : words;
+  };
+
   const drawBar = call => {
     const isCut = call.end === Infinity && call.begin < fault && call.side === second?.side, end = isCut ? fault : call.end, hasEnded = !isCut && end < count;
     const classes = ["bar", call.side === "P" ? "s" : "r", (call.begin === fault || hasEnded && call.end === fault) && "fault",
@@ -44,14 +51,22 @@ export function bars({text, lines, count, fault = null, contradicts = null, caus
     const said = hasEnded ? `${call.asks}: ${call.says}, lines ${call.begin + 2} to ${call.end + 2}` : `${call.asks}, from line ${call.begin + 2}, ${isCut ? "not ended" : "under way"}`;
     const own = [`<title>${call.side} ${escape(said)}</title>`];
     for (const {y: rowTop, from, to, begins, ends} of partsOf(call.begin, end)) {
-      const y = rowTop + lanes[call.side], middle = round((from + to) / 2), room = to - from - 4;
-      const left = begins ? `V${y + lanes.high}` : `M${from} ${y + lanes.high}`, right = ends ? `V${y}` : "";
-      own.push(`<rect class="bg" x="${from}" y="${y}" width="${round(to - from)}" height="${lanes.high}"/><path d="M${to} ${y}H${from}${left}H${to}${right}"/>`,
-        `<text class="asks" x="${middle}" y="${y + 17}">${escape(fitted(call.asks, room, LETTER))}</text>`);
-      if (hasEnded) own.push(`<text class="says" x="${middle}" y="${y + 34}">${escape(fitted(call.says, room, SMALL))}</text>`);
+      const y = rowTop + lanes[call.side];
+      own.push(`<rect class="bg" x="${from}" y="${y}" width="${round(to - from)}" height="${lanes.high}"/>`, barPath(y, from, to, begins, ends), ...barWords(call, y, from, to, hasEnded));
     }
     sheet.drawGroup(`class="${classes.join(" ")}" data-line="${call.begin + 2}"`, own);
   };
+
+  // In a long recording, of which some rows are drawn, the calls behind those that are told, pale.
+  const drawLater = () => drawn.forEach(row => {
+    const first = Math.max(row * each, count);
+    for (let place = first; place < Math.min((row + 1) * each, whole); place++) sheet.drawNumber(place);
+    for (const call of callsWithin(text, lines, first + 2, Math.min((row + 1) * each, whole) + 1).filter(it => it.begin >= first)) {
+      const own = [`<title>${call.side} ${escape(call.asks)}, from line ${call.begin + 2}, behind the cursor</title>`];
+      for (const {y, from, to, begins, ends} of partsOf(call.begin, call.end, whole)) own.push(barPath(y + lanes[call.side], from, to, begins, ends), ...barWords(call, y + lanes[call.side], from, to, ends));
+      sheet.drawGroup(`class="bar later ${call.side === "P" ? "s" : "r"}" opacity="0.35" data-line="${call.begin + 2}"`, own);
+    }
+  });
 
   // A line at fault that ends no call.
   const drawStray = place => {
@@ -67,8 +82,9 @@ export function bars({text, lines, count, fault = null, contradicts = null, caus
   sheet.drawRows();
   for (const place of sheet.placesDrawn()) if (place !== fault && place !== contradicts) sheet.drawNumber(place);
   callsDrawn().forEach(drawBar);
+  if (lines.count > MOST_CALLED) drawLater();
   if (fault !== null) drawStray(fault);
-  if (order.length) sheet.drawOrder(order, fault ?? Infinity);
+  if (order.length) sheet.drawOrder(order, fault ?? Infinity, ordered);
   const cut = line => line.length > MOST_WORDS ? `${line.slice(0, MOST_WORDS)}…` : line;
   if (contradicts !== null) sheet.drawFlag(contradicts, `line ${contradicts + 2}: ${cut(lineIn(text, lines, contradicts + 2))}`, " against", true);
   if (fault !== null) sheet.drawFlag(fault, `line ${fault + 2}: ${cause}`);

@@ -1,6 +1,7 @@
 // Playing a script by hand: what each side does next, which rule is broken, and what is to be reached. What a side does, what a read may answer and
 // what is found of the calls, the module says.
 
+import { $ } from "./dom.js";
 import { MISSES } from "./module.js";
 import { firstLetters } from "./script.js";
 
@@ -13,7 +14,6 @@ const RULES = {"count-before-cell": "the item before the count", "no-second-scan
 
 // The choices of rules and goals, made once.
 export function fillGame() {
-  const $ = id => document.getElementById(id);
   $("rule").append(new Option("all kept", ""), ...MISSES.map(name => new Option(`without: ${RULES[name]}`, name)));
   $("goal").append(new Option("none", ""), ...GOALS.map(({name}) => new Option(name, name)));
 }
@@ -28,7 +28,6 @@ const isAsked = it => it?.act === "got" && it.overlapped;
 
 // Shows what each side does next. A read that a write overlaps has a button for each of its answers.
 export function showGame(nexts, {wrong}, goal, found) {
-  const $ = id => document.getElementById(id);
   for (const side of ["P", "C"]) {
     const next = nexts[side], words = next ? `${side} ${eventWords(next)}` : `${side} is done`;
     $(`move${side}`).hidden = isAsked(next);

@@ -1,5 +1,7 @@
 // What is inside at a moment of a play: what the bits hold, by what the module tells of each event, and the items, by where the operations take effect.
 
+import { $, node } from "./dom.js";
+
 const MOST_SHOWN = 12; // bits of a count, or cells, that are shown; of more those that hold a 1, or that are being written
 
 // What each bit holds behind these events, and what is being written to it: of a bit without an event what it holds from the start.
@@ -24,7 +26,21 @@ export function itemsInside(order, count) {
   return items;
 }
 
-// What stands in a row of the panel: {name, title, parts}, each part {words, isNow, isOpen}: whether the last event made it so, and whether it is being written.
+// The counts that a scan of these bits may give while no event comes: it goes up to the first one that answers 1, a bit that is being written may answer
+// 0 or 1, and each other one answers what it holds. `null` stands for a scan that finds no 1.
+export function scansOf(bits) {
+  const found = [];
+  for (const [index, {held, isOpen}] of bits.entries()) {
+    if (held || isOpen) found.push(index);
+    if (held && !isOpen) return found;
+  }
+  return [...found, null];
+}
+
+const scanWords = ({name, scans}) => `${scans.map(it => it ?? "no count").join(" or ")} for ${name}`;
+
+// What stands in a row of the panel: {name, title, parts}, each part {words, isNow, isOpen}: whether the last event made it so, and whether it is being written;
+// and of a count its `scans`.
 export function rowsInside({shape, events, roundAt = shape.modulus}, order) {
   const bitAt = bitsBehind(events), last = events.at(-1), rows = [];
   const part = (bit, first, words = it => it) => {
@@ -36,7 +52,7 @@ export function rowsInside({shape, events, roundAt = shape.modulus}, order) {
   for (const [family, title] of [["s", "the producer's count: the number of the lowest bit that is 1"], ["r", "the consumer's count"]]) {
     const parts = Array.from({length: roundAt}, (_, i) => ({...part(family + i, i === 0 ? 1 : 0), index: i}));
     const shown = roundAt <= MOST_SHOWN ? parts : parts.filter(it => it.held || it.isOpen).map(it => ({...it, words: `${family}${it.index}: ${it.words}`}));
-    rows.push({name: family, title, parts: shown});
+    rows.push({name: family, title, parts: shown, scans: scansOf(parts)});
   }
   const cells = Array.from({length: shape.capacity}, (_, cell) => {
     const digits = Array.from({length: shape.width}, (_, i) => part(`c${cell}.${i}`, 0));
@@ -51,11 +67,12 @@ export function rowsInside({shape, events, roundAt = shape.modulus}, order) {
 
 // Fills the panel with these rows.
 export function showInside(rows) {
-  const panel = document.getElementById("inside"), made = (name, text, className = "") => Object.assign(document.createElement(name), {textContent: text, className});
-  panel.replaceChildren(...rows.map(({name, title, parts}) => {
-    const row = Object.assign(made("span", "", "row"), {title});
-    row.append(made("b", name), ...parts.map(it => made("span", it.words, ["part", it.isOpen && "open", it.isNow && "now"].filter(Boolean).join(" "))));
-    if (!parts.length) row.append(made("span", "–", "part none"));
+  $("inside").replaceChildren(...rows.map(({name, title, parts}) => {
+    const row = Object.assign(node("span", "", "row"), {title});
+    row.append(node("b", name), ...parts.map(it => node("span", it.words, ["part", it.isOpen && "open", it.isNow && "now"].filter(Boolean).join(" "))));
+    if (!parts.length) row.append(node("span", "–", "part none"));
     return row;
   }));
+  const counts = rows.filter(it => it.scans);
+  if (counts.length) $("inside").append(node("span", `A scan that lies in this moment gives ${counts.map(scanWords).join(", and ")}.`, "scans"));
 }

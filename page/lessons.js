@@ -1,4 +1,7 @@
-// The lesson beside the picture: the story of its example, a question, and the answer folded.
+// The lesson beside the picture: its title, the story of its example, a question, and the answer folded.
+
+import { $, node } from "./dom.js";
+import { laidOut } from "./script.js";
 
 // What a link has for a text of each kind: for an example, and for a text that is none.
 export const LINKS = {trace: {named: "example", given: "trace"}, script: {named: "script", given: "play"}, calls: {named: "calls", given: "recording"}};
@@ -19,7 +22,7 @@ const MEANS = {"safe": "of a bit: a read that no write of it overlaps answers wh
 const TERM = new RegExp(`\\b(${Object.keys(MEANS).join("|")})\\b`, "i");
 
 function termOf(words, means) {
-  const it = Object.assign(piece("span", words, "term"), {tabIndex: 0});
+  const it = Object.assign(node("span", words, "term"), {tabIndex: 0});
   it.dataset.means = means;
   return it;
 }
@@ -36,37 +39,44 @@ function addWords(it, words, told) {
   }
 }
 
-const piece = (name, text, className = "") => Object.assign(document.createElement(name), {textContent: text, className});
-
-// A paragraph of a story: what stands in backticks is code, and a link where it is the name of a lesson.
+// A paragraph of a story: what stands in backticks is code, and where it is the name of a lesson a link, with its title.
 function paragraph(text, lessons, told = new Set(Object.keys(MEANS))) {
-  const it = piece("p", "");
+  const it = node("p", "");
   text.split("`").forEach((words, i) => {
     if (i % 2 === 0) return addWords(it, words, told);
     const [, name, kind] = /^(\w+?)(\.trace|\.json|\.calls)?$/.exec(words) ?? [];
     const named = lessons.filter(it => it.name === name), lesson = named.find(it => it.mode === (KINDS_OF_FILES[kind] ?? "script")) ?? named[0];
-    if (!lesson) return it.append(piece("code", words));
-    it.append(Object.assign(piece("a", words), {href: `#${LINKS[lesson.mode].named}=${lesson.name}`}));
+    if (!lesson) return it.append(node("code", words));
+    it.append(Object.assign(node("a", `“${lesson.title}”`), {href: `#${LINKS[lesson.mode].named}=${lesson.name}`, title: lesson.name}));
   });
   return it;
+}
+
+// The link of a script, given by its name or by its text.
+function playLink(words) {
+  const [kind, it] = words.split(/=(.*)/s);
+  return `#${new URLSearchParams({[kind]: kind === "play" ? laidOut(it) : it})}`;
 }
 
 // Fills the panel with lesson `at`, whose text stands there or was edited; -1 is none. `step` is the step of the course that it stands for: its
 // number, of how many, with its minutes and what to say.
 export function showLesson(lessons, at, isEdited, step) {
-  const $ = id => document.getElementById(id), it = lessons[at];
+  const it = lessons[at];
   $("lesson").hidden = !it;
   $("reset").hidden = !isEdited;
   if (!it) return;
   const name = `${it.mode} ${it.name} ${step?.number}`;
   if ($("lesson").dataset.name === name) return;
   $("lesson").dataset.name = name;
-  $("which").textContent = step ? `step ${step.number + 1} of ${step.of} · minutes ${step.minutes}` : `${at + 1} of ${lessons.length} · ${it.chapter}`;
-  $("name").textContent = it.name.replaceAll("_", " ");
+  $("which").textContent = step ? `step ${step.number + 1} of ${step.of}` : `${at + 1} of ${lessons.length} · ${it.chapter}`;
+  $("name").textContent = it.title;
+  $("of").textContent = it.name;
   $("previous").disabled = step ? step.number === 0 : at === 0;
   $("next").disabled = step ? step.number === step.of - 1 : at === lessons.length - 1;
   const told = new Set();
   $("story").replaceChildren(...it.story.map(text => paragraph(text, lessons, told)));
+  $("replay").hidden = !it.play;
+  if (it.play) $("replay").href = playLink(it.play);
   $("means").textContent = "";
   $("say").hidden = !step;
   $("say").replaceChildren(...step ? paragraph(`To say: ${step.say.replaceAll("*", "")}`, lessons).childNodes : []);
@@ -77,14 +87,31 @@ export function showLesson(lessons, at, isEdited, step) {
   $("lesson").scrollTop = 0;
 }
 
+// A step of the course, with the title of its lesson.
+export const titled = (lessons, step) => ({...step, title: lessons.find(it => it.mode === step.mode && it.name === step.name).title});
+
 // The list of the steps of the course and of the lessons, by chapters, for a <select>.
 export function lessonOptions(lessons, course) {
   const groups = new Map([["Course", Object.assign(document.createElement("optgroup"), {label: "Course, an hour"})]]);
-  course.forEach((it, i) => groups.get("Course").append(new Option(`${i + 1}. ${it.name.replaceAll("_", " ")}`, `course ${i}`)));
+  const optionOf = ({title, name}, words, value) => Object.assign(new Option(words + title, value), {title: name});
+  course.forEach((it, i) => groups.get("Course").append(optionOf(titled(lessons, it), `${i + 1}. `, `course ${i}`)));
   for (const it of lessons) {
     if (!groups.has(it.chapter)) groups.set(it.chapter, Object.assign(document.createElement("optgroup"), {label: it.chapter}));
-    const twice = lessons.some(other => other.name === it.name && other.mode !== it.mode);
-    groups.get(it.chapter).append(new Option(it.name.replaceAll("_", " ") + (twice ? `, ${it.mode}` : ""), `${it.mode} ${it.name}`));
+    groups.get(it.chapter).append(optionOf(it, "", `${it.mode} ${it.name}`));
   }
   return [...groups.values()];
+}
+
+// What a word of a story means, where it is pointed at, reached or tapped.
+export function listenToTerms() {
+  const means = event => {
+    const term = event.target.closest(".term");
+    if (!term) return;
+    const {left, bottom} = term.getBoundingClientRect();
+    $("means").textContent = `${term.textContent}: ${term.dataset.means}`;
+    $("means").style.left = `${Math.max(0, Math.min(left, innerWidth - $("means").offsetWidth - 8))}px`;
+    $("means").style.top = `${bottom + 4}px`;
+  };
+  for (const kind of ["mouseover", "focusin", "click"]) $("story").addEventListener(kind, means);
+  for (const kind of ["mouseout", "focusout"]) $("story").addEventListener(kind, () => $("means").textContent = "");
 }

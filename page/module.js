@@ -14,11 +14,14 @@ const TOLD = 10 + 8 + 3 * 6; // numbers of what an audit tells: of the trace, of
 const CALLS_TOLD = 6 + 11; // numbers of what is told of recorded calls: the finding with its lines, how many bytes its words have and whether it is cut, the report
 const CAUSE_WORDS = 256; // bytes that hold the words of any cause
 const MOST_TAKEN = 65536; // items taken that the audit of recorded calls keeps
+const MOST_OFFERED = 65536; // items inside that it has room for, before more is tried
+const NO_ROOM = 3; // its word for a text that needs more
 // The rings that are nearly right, by the names of docs/FORMATS.md, in the order of the module's numbers, which begin with 1.
 export const MISSES = ["count-before-cell", "no-second-scan", "small-modulus", "clears-first", "clears-upwards"];
-// What is told of a play by one of them, by the module's numbers: the side, the kind of its call, and where it ends how.
-const TELLINGS = [["P", "put", ""], ["P", "put", "stored"], ["P", "put", "full"], ["P", "close", ""], ["P", "close", "closed"],
-  ["C", "take", ""], ["C", "take", "item"], ["C", "take", "empty"], ["C", "take", "closed"]];
+// The words of the lines of recorded calls, by the module's numbers.
+export const WORDS = ["P put", "P close", "C take", "P stored", "P some", "P full", "P short", "P nothing", "P closed", "C item", "C some", "C empty",
+  "C short", "C nothing", "C closed"];
+const BEGINNING = 3; // so many of the first of them begin a call
 const SHAPE_FAULTS = ["", "capacity must be from 1 to 64", "modulus must be from capacity + batch + 1 to 256",
   "width must be from 1 to 64", "batch must be from 1 to capacity"];
 
@@ -84,6 +87,7 @@ export function traceOf({capacity, modulus, width, batch}, events) {
 export async function openModule(bytes) {
   const compiled = await WebAssembly.compile(bytes);
   let exports = (await WebAssembly.instantiate(compiled)).exports;
+  let laid = null; // the recorded calls that lie in the memory
 
   // Engines of older drafts of 64-bit memory take a number of pages, where today's take a BigInt.
   const grow = pages => {
@@ -95,9 +99,9 @@ export async function openModule(bytes) {
     }
   };
 
-  // The addresses of zeroed pieces of these lengths, behind the module's own data, each at a multiple of 16.
-  const lay = lengths => {
-    const base = Number(exports.__heap_base.value);
+  // The addresses of zeroed pieces of these lengths, behind the module's own data, or from this address on, each at a multiple of 16.
+  const lay = (lengths, base = Number(exports.__heap_base.value)) => {
+    laid = null;
     let past = base;
     const places = lengths.map(length => {
       const place = Math.ceil(past / 16) * 16;
@@ -124,6 +128,7 @@ export async function openModule(bytes) {
       exports[name](...numbers.map(BigInt));
     } catch (error) {
       exports = new WebAssembly.Instance(compiled).exports;
+      laid = null;
       throw error;
     }
   };
@@ -186,8 +191,8 @@ export async function openModule(bytes) {
   };
 
   // The same by the ring that is nearly right of this name: {refused} or {shape, events, told, letters, roundAt} and how many
-  // events and tellings there are. Its counts go round at `roundAt`, and `told` has each begin and end of a call, {side, kind, reply, number}: of a put that begins `number` items are stored, by one
-  // that ends so many were, and a take has this item.
+  // events and tellings there are. Its counts go round at `roundAt`, and `told` has each begin of a call, with its `kind`, and each end, with its `reply`, {side, kind, reply, number}: of a put that
+  // begins `number` items are stored, by one that ends so many were, and a take has this item.
   const playNear = (name, script, letters, isDrawn = true) => {
     const {capacity, modulus, width, batch} = script, room = isDrawn ? EVENTS : 0;
     const [asked, [played, tellings, marks]] = layScript(script, letters, [8 * 8, room * 2 * 8, room * MARK]);
@@ -195,23 +200,42 @@ export async function openModule(bytes) {
     const [outcome, number, place, shapeFault, count, toldCount, all, roundAt] = getNumbers(played, 8);
     if (outcome === 2) return {refused: scriptFault({number, place, shapeFault})};
     const numbers = getNumbers(tellings, Math.min(toldCount, room) * 2);
-    const told = Array.from({length: numbers.length / 2}, (_, i) => [...TELLINGS[numbers[2 * i]], numbers[2 * i + 1]])
-      .map(([side, kind, reply, number]) => ({side, kind, reply, number}));
+    const told = Array.from({length: numbers.length / 2}, (_, i) => {
+      const [side, word] = WORDS[numbers[2 * i]].split(" "), number = numbers[2 * i + 1];
+      return numbers[2 * i] < BEGINNING ? {side, kind: word, reply: "", number} : {side, kind: "", reply: word, number};
+    });
     return {shape: {capacity, modulus, width, batch}, events: getEvents(marks, Math.min(count, room)), told, toldCount, count, letters: all, roundAt};
   };
 
-  // What is found of recorded calls: {refused, line}, or {words, cause, line, against, isCut, report}, where `line` is that at fault, or 0, `cause` has
-  // the module's words for what speaks against it, where it is in its turn, `against` is the line that contradicts it, or 0, and it `isCut` where the
-  // first line says that later calls are missing.
-  const calls = text => {
-    const bytes = new TextEncoder().encode(text), [all, most, last] = spacesIn(bytes);
-    const [told, offered, taken, numbers, rest, said, at] = lay([CALLS_TOLD * 8, all * 24, Math.min(all, MOST_TAKEN) * 16, most * 8, last, CAUSE_WORDS, bytes.length]);
-    setBytes(at, bytes);
-    call("page_calls", at, bytes.length, offered, all, taken, Math.min(all, MOST_TAKEN), numbers, most, rest, last, said, CAUSE_WORDS, told);
+  // Lays a text, and tells where and how many bytes it has: without a copy of it on the way, where each of its characters is a byte.
+  const layText = text => {
+    const [at] = lay([text.length]), {written, read} = new TextEncoder().encodeInto(text, new Uint8Array(exports.memory.buffer, at, text.length));
+    if (read === text.length) return [at, written];
+    const bytes = new TextEncoder().encode(text), [place] = lay([bytes.length]);
+    setBytes(place, bytes);
+    return [place, bytes.length];
+  };
+
+  // Lays recorded calls, with room for so many items inside, and says where all of it lies; those that lie there already are not laid again.
+  const layCalls = (text, room) => {
+    if (laid !== null && laid.text === text && laid.room === room) return laid;
+    const [at, length] = layText(text), [all, most, last] = spacesIn(new Uint8Array(exports.memory.buffer, at, length)), offered = Math.min(all, room), taken = Math.min(all, MOST_TAKEN);
+    const places = lay([CALLS_TOLD * 8, offered * 24, taken * 16, most * 8, last, CAUSE_WORDS], at + length);
+    return laid = {text, room, isAll: offered === all, length, counts: [offered, taken, most, last], places: [...places, at]};
+  };
+
+  // What is found of recorded calls, of their first `past` characters: {refused, line}, or {words, cause, line, against, isCut, report}, where `line` is that at
+  // fault, or 0, `cause` has the module's words for what speaks against it, where it is in its turn, `against` is the line that contradicts it, or 0, and
+  // it `isCut` where the first line says that later calls are missing.
+  const calls = (text, past = text.length, room = MOST_OFFERED) => {
+    const {isAll, length, counts: [offeredCount, takenCount, most, rest], places: [told, offered, taken, numbers, restAt, said, at]} = layCalls(text, room);
+    if (past < text.length && length !== text.length) return calls(text.slice(0, past));
+    call("page_calls", at, past < text.length ? past : length, offered, offeredCount, taken, takenCount, numbers, most, restAt, rest, said, CAUSE_WORDS, told);
     const [outcome, number, line, against, saidCount, cut, ...counts] = new BigUint64Array(exports.memory.buffer, told, CALLS_TOLD);
+    if (outcome === 2n && Number(number) === NO_ROOM && !isAll) return calls(text, past, room * 16);
     if (outcome === 2n) return {refused: ["", `calls line ${line} is not a line of the format`, "calls are too many", "calls need more room than there is"][Number(number)], line: Number(line)};
     const isCut = cut === 1n, [made, stored, gone, full, empty, nothing, isTold, surely, perhaps, overlapped, open] = counts.map(String);
-    if (outcome === 0n) return {words: "lawful", line: 0, against: 0, isCut, report: {calls: made, stored, taken: gone, full, empty, nothing, told: isTold === "1", surely, perhaps, overlapped, open}};
+    if (outcome === 0n) return {words: "lawful", cause: "", line: 0, against: 0, isCut, report: {calls: made, stored, taken: gone, full, empty, nothing, told: isTold === "1", surely, perhaps, overlapped, open}};
     const cause = number === 2n ? new TextDecoder().decode(new Uint8Array(exports.memory.buffer, said, Number(saidCount))) : KINDS[2];
     return {words: `fault: line ${line}: ${cause}`, cause, line: Number(line), against: Number(against), isCut, report: null};
   };

@@ -1,10 +1,14 @@
 // An order of the operations of calls: where each takes effect. It is sought here; whether the operations of a queue can come so, one after
 // the other, the module tells.
 
-// The numbers of the module: of events, by the reply of their call, and of operations.
-const BEGINS = {put: 0, close: 7, take: 9}, CLOSED = 8;
-const ENDS = {P: {stored: 1, some: 2, full: 3, short: 4, nothing: 5, closed: 6}, C: {item: 10, some: 11, empty: 12, short: 13, nothing: 14, closed: 15}};
-const DOES = {in: 16, "no room": 17, "found closed": 18, close: 19, out: 20, "found fewer": 21, "found drained": 22};
+import { WORDS } from "./module.js";
+
+// The module's numbers of operations.
+export const DOES = {in: 17, "no room": 18, "found closed": 19, close: 20, out: 21, "found fewer": 22, "found drained": 23};
+
+// The numbers in the line that ends a call: of a put that stored some, how many, and of a take its items.
+const endNumbers = ({side, reply, items, offered = items}) =>
+  side === "C" ? items : reply === "some" || reply === "stored" && items.length < offered.length ? [items.length] : [];
 
 // The marks of the history of these calls, at a queue that holds so many at most: {marks, items, numbers} in the numbers of the module, and the
 // `effects` among them, {at, side, does, item, call}, each at its place between two events. A call is {side, kind, begin, end, reply, items,
@@ -13,7 +17,7 @@ const DOES = {in: 16, "no room": 17, "found closed": 18, close: 19, out: 20, "fo
 export function orderOf(calls, most) {
   const marks = [], numbers = [], items = [], effects = [], open = {P: null, C: null};
   let inside = 0, isClosed = false;
-  const listed = list => numbers.push(...list) - list.length;
+  const line = (side, word, its) => marks.push([WORDS.indexOf(`${side} ${word}`), numbers.push(...its) - its.length, its.length]);
   const effect = (side, at, does, value = 0, count = 0) => {
     marks.push([DOES[does], value, count]);
     effects.push({at, side, does, item: does === "in" || does === "out" ? value : null, call: open[side].call});
@@ -36,17 +40,17 @@ export function orderOf(calls, most) {
   const begin = (call, at) => {
     const {side, kind, items, offered = items, wanted = 1, reply} = call, all = side === "P" ? offered.length : wanted;
     open[side] = {call, passed: 0};
-    marks.push([BEGINS[kind], kind === "put" ? listed(offered) : 0, kind === "close" ? 0 : all]);
+    line(side, kind, kind === "put" ? offered : kind === "take" && all > 1 ? [all] : []);
     const saysWhy = reply === "stored" || reply === "item"; // it has no more than its items, since there was no room for more, or no more was inside
     const lacked = reply === "full" || reply === "empty" ? 1 : reply === "short" ? all : saysWhy && items.length < all ? items.length + 1 : 0;
     if (lacked) effect(side, at, side === "P" ? "no room" : "found fewer", 0, lacked);
   };
   const end = (call, at) => {
-    const {side, kind, reply, items} = call;
+    const {side, kind, reply} = call;
     while (pass(side, at));
     if (kind === "close" || reply === "closed" && !isClosed) close(at);
     if (kind !== "close" && reply === "closed") effect(side, at, side === "P" ? "found closed" : "found drained");
-    marks.push([kind === "close" ? CLOSED : ENDS[side][reply], side === "C" ? listed(items) : 0, items.length]);
+    line(side, kind === "close" ? "closed" : reply, endNumbers(call));
     open[side] = null;
   };
   const come = calls.flatMap(call => [[call.begin, () => begin(call, call.begin + 0.5)], [call.end, () => end(call, call.end - 0.5)]]);
@@ -55,10 +59,10 @@ export function orderOf(calls, most) {
 }
 
 // Where the operations of calls take effect, at a queue that may say from `full` items on that it is full and holds `most`, as the module says by
-// its `order`; none where it does not.
+// its `order`; none where it does not. Those of calls that only stand for what came before (records.js) are left out.
 export function effectsOf(calls, holds, order) {
   const it = orderOf(calls, Number(holds.most));
-  return calls.length && order(it, holds) === it.marks.length ? it.effects : [];
+  return calls.length && order(it, holds) === it.marks.length ? it.effects.filter(({call}) => !call.isBefore) : [];
 }
 
 // The same of the calls of a run of a ring of this shape. A trace does not tell what a put offered that stored nothing; and a take under way may

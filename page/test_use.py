@@ -112,74 +112,6 @@ def test_refusals(page, same, _):
     same("the sample of calls", page.title(), "calls: lawful")
 
 
-# Whether a part of the lesson is seen, without scrolling.
-SEEN = """const of = id => document.getElementById(id).getBoundingClientRect(), [it, lesson] = [of(arguments[0]), of("lesson")];
-return it.height > 10 && it.top >= lesson.top - 1 && it.bottom <= lesson.bottom + 1 && lesson.bottom <= innerHeight;"""
-
-
-def test_lessons(page, same, _):
-    told, lessons = pack.stories(), pack.lessons()
-    names = json.loads(pack.examples()["examples.json"])
-    same("each example has one lesson", sorted((it["mode"], it["name"]) for it in lessons),
-         sorted((mode, it) for mode in pack.MODES for it in names[mode]))
-    chapters = list(dict.fromkeys(it["chapter"] for it in lessons))
-    same("chapters", chapters, ["A safe bit", "The unary register", "A put and a take", "A count while it is written", "The close", "Several items at once", "Rings that are wrong",
-                                "Played by rings that are wrong", "A modulus one too small", "Recorded calls"])
-    page.open("")
-    for at, it in enumerate(lessons):
-        page.browser.until(f"lesson {at + 1}", "return document.getElementById('example').value === arguments[0]", f"{it['mode']} {it['name']}")
-        same(f"lesson {at + 1}", words(page, "which"), f"{at + 1} of {len(lessons)} · {it['chapter']}")
-        same(f"story of {it['name']}", page.browser.run("return [...document.querySelectorAll('#story p')].map(it => it.textContent)"),
-             [text.replace("`", "") for text in told[it["mode"], it["name"]]])
-        same(f"question of {it['name']}", [words(page, "question"), words(page, "answer"), page.browser.run("return document.getElementById('answer').checkVisibility()")],
-             [it["question"].replace("`", ""), it["answer"].replace("`", ""), False])
-        same(f"{it['name']} has all three", all([it["question"], it["answer"], told[it["mode"], it["name"]]]), True)
-        same(f"question of {it['name']} is seen", page.browser.run(SEEN, "question"), True)
-        page.click("question")
-        page.browser.until(f"answer of {it['name']} is seen when it unfolds", SEEN, "answer")
-        if at + 1 < len(lessons):
-            page.click("next")
-    same("the last", page.browser.run("return document.getElementById('next').disabled"), True)
-    page.click("previous")
-    page.browser.until("the one before", "return document.getElementById('which').textContent.startsWith(arguments[0])", f"{len(lessons) - 1} ")
-    page.write("shape 1 3 1\n")
-    same("a lesson stays beside its text as it is edited", [seen(page, "lesson"), seen(page, "reset")], [True, True])
-    page.open("trace=shape+1+3+1%0A")
-    same("no lesson beside an own text", seen(page, "lesson"), False)
-
-
-def test_sizes(page, same, _):
-    for wide, high, scale in SIZES:
-        resize(page, wide, high, scale)
-        for theme in ("light", "dark"):
-            for asked in ("example=stale_read_after_inversion", "script=five_items", "example=batch_count_comes_back", "trace=x"):
-                page.open(f"{asked}&theme={theme}")
-                what = f"{wide} {theme} {asked}"
-                box = page.browser.run("""const it = document.getElementById("verdict").getBoundingClientRect(), all = document.documentElement;
-                    const above = [...document.querySelectorAll("button, select, svg, textarea")].filter(of => of.checkVisibility() && of.getBoundingClientRect().top < it.top).length;
-                    return [scrollX, scrollY, document.querySelector("main").scrollLeft, all.scrollWidth <= innerWidth, it.top >= 0 && it.bottom <= innerHeight / 2 && it.height > 10, innerWidth > 832 || above === 0]""")
-                same(f"the verdict is seen first, {what}", box, [0, 0, 0, True, True, True])
-                same(f"its ground, {what}", page.browser.run("return getComputedStyle(document.body).backgroundColor"), "rgb(255, 255, 255)" if theme == "light" else "rgb(17, 21, 26)")
-        page.open("script=five_items")
-        scale_of = "const it = document.querySelector('#picture svg'); return it.getBoundingClientRect().width / it.viewBox.baseVal.width"
-        same(f"words are not too small, {wide}", page.browser.run(scale_of) > 0.75, True)
-        page.click("ask")
-        same(f"help is not cut, {wide}", page.browser.run("return [...document.querySelectorAll('#help dd')].filter(it => it.scrollHeight > it.clientHeight + 1 || it.scrollWidth > it.clientWidth + 1).map(it => it.textContent)"), [])
-    resize(page)
-    page.open("example=new_old_inversion&theme=dark")
-    media(page, "print")
-    ground = "return getComputedStyle(document.querySelector('#picture .bg')).fill"
-    same("on paper", [seen(page, "text"), seen(page, "verdict"), seen(page, "story"), page.browser.run(ground)], [False, True, True, "rgb(255, 255, 255)"])
-    media(page, forced_colors="active")
-    same("forced colours", page.browser.run("""const of = (name, what) => getComputedStyle(document.querySelector(name))[what], it = document.createElement("i");
-        document.body.append(it);
-        it.style.color = "CanvasText";
-        const text = getComputedStyle(it).color;
-        it.remove();
-        return [of("#picture .write path", "fill") === text, of("#picture .lane", "fill") === text, of("#picture .bg", "fill") !== text]"""), [True, True, True])
-    media(page)
-
-
 def test_reach(page, same, _):
     """Each bar is reached by keys, and what it is, the step and the reason of a fault are told."""
     page.open("example=stale_read_after_inversion")
@@ -385,4 +317,4 @@ def test_speed(page, same, _):
     same("10,000 events step in 100 ms", [trace[5] < 100, play[5] < 100], [True, True])
 
 
-TESTS = [test_own, test_refusals, test_lessons, test_sizes, test_reach, test_reasons, test_calls, test_collisions, test_waves, test_numbers, test_kept, test_speed]
+TESTS = [test_own, test_refusals, test_reach, test_reasons, test_calls, test_collisions, test_waves, test_numbers, test_kept, test_speed]

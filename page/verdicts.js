@@ -26,6 +26,11 @@ export function dueOf({events, programs: {isRun, kind, place, due}}) {
   return words.length ? `in line ${place + 2} was due: ${side} ${words.join(", or ")}` : `in line ${place + 2} nothing was due of ${side}: it has made its last call`;
 }
 
+// From which line on there are no calls of the ring, where a trace shows some and stops being of the programs.
+export function uncalledOf({calls}, broken) {
+  return calls.length && broken !== null ? `behind line ${broken + 1} the accesses are of no calls of the ring` : "";
+}
+
 // Where a picture shows that a trace stops being of the programs: behind some events that are, and where the bits have no fault.
 export const breakOf = ({place, programs}) =>
   programs && !programs.isRun && programs.kind === "not of the program" && programs.place > 0 && programs.place !== place ? programs.place : null;

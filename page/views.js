@@ -1,5 +1,5 @@
 // The three kinds of text, by what the proved module tells of them. `read` asks it for the whole; `at` for as much as is shown: its words, `line`
-// at fault and what the step is; `drawing` is the picture of that and what it takes; `rows` a report. One numbering is of a kind: a trace and
+// at fault and what the step is; it opens at the `first` and shows the `most`; `drawing` is the picture of that and what it takes; `rows` a report, and `of` of what. One numbering is of a kind: a trace and
 // recorded calls have lines, of which the shape's and the queue's is the first; a script has letters.
 
 import { bars } from "./bars.js";
@@ -9,9 +9,12 @@ import { effectsOf, effectsOfRun } from "./orders.js";
 import { picture } from "./picture.js";
 import { lettersOf, momentsOf } from "./plays.js";
 import { callsTold, recordingOf, repliesOf, tellingsOf } from "./recordings.js";
-import { CUT, callsFor, capacityIn, lineWords, linesOf, reportRows } from "./records.js";
+import { CUT, callsFor, capacityIn, lineWords, linesOf, reportRows, startBefore } from "./records.js";
 import { firstLetters, readScript } from "./script.js";
-import { breakOf, dueOf, ringVerdict, whyOf } from "./verdicts.js";
+import { breakOf, dueOf, ringVerdict, uncalledOf, whyOf } from "./verdicts.js";
+
+const ROUND = 250; // lines before and behind the cursor of which an order is sought
+const MOST_ASKED = 20000; // lines of a recording of which a report is asked for at each step
 
 // What an event is, and what the module tells of the moment just after it, where it tells of it.
 function stepWords({side, act, bit, value, held, overlapped, clashes}, where, isTold) {
@@ -54,13 +57,14 @@ export function viewsOf(module) {
       return {...it, text, calls, order: effectsOfRun(calls, it.shape, module.order)};
     },
     most: whole => whole.events.length,
+    first: whole => whole.events.length,
     // A beginning of a trace is a trace of its own, and its verdict is asked for.
     at(whole, shown) {
       let past = whole.text.indexOf("\n");
       for (let line = 0; line < shown; line++) past = whole.text.indexOf("\n", past + 1);
       const it = shown < whole.events.length ? module.audit(whole.text.slice(0, past + 1)) : whole;
       const broken = breakOf(it), line = Math.min(it.place ?? Infinity, broken ?? Infinity) + 2;
-      return {...it, words: `bits: ${it.words}`, why: whyOf(it), ring: ringVerdict(showsRing(whole) ? it.programs : whole.programs), due: dueOf(it), fault: it.place, broken,
+      return {...it, words: `bits: ${it.words}`, why: whyOf(it), ring: ringVerdict(showsRing(whole) ? it.programs : whole.programs), due: dueOf(it), uncalled: uncalledOf(whole, broken), fault: it.place, broken,
         mood: it.place === null ? "good" : "bad", line: line === Infinity ? 0 : line,
         step: shown ? stepWords(it.events[shown - 1], `line ${shown + 1}`, it.place === null || shown - 1 < it.place) : ""};
     },
@@ -94,6 +98,7 @@ export function viewsOf(module) {
       return {...all, script, play, numbers, calls, moments, order: effectsOfRun(calls, all.shape, module.order)};
     },
     most: whole => whole.letters,
+    first: whole => whole.letters,
     at(whole, shown) {
       const it = shown < whole.letters ? whole.play(shown) : whole, last = it.events.length - 1, {script} = whole;
       const step = whole.numbers[last] === shown ? stepWords(it.events[last], `letter ${shown}`, true) : shown ? `letter ${shown}: no event, its side is done` : "";
@@ -119,24 +124,40 @@ export function viewsOf(module) {
     },
   };
 
+  // Where the operations of recorded calls take effect, round a line in a long recording, and from which place on; and nothing where no order is found.
+  function orderRound({text, lines, line: fault}, line) {
+    const isShort = lines.count <= MOST_CALLED, near = Math.min(line, fault || lines.count), start = isShort ? 1 : startBefore(text, lines, near - ROUND);
+    const until = Math.min((fault || lines.count + 1) - 2, isShort ? Infinity : near + ROUND);
+    return {order: start ? effectsOf(callsFor(text, lines, until, start), capacityIn(text), module.order) : [], ordered: start - 1};
+  }
+
   const calls = {
     read(text) {
       const it = module.calls(text);
       if (it.refused) return it;
-      const lines = linesOf(text), until = (it.line || lines.count + 1) - 2, isDrawn = lines.count <= MOST_CALLED;
-      return {...it, text, lines, order: isDrawn ? effectsOf(callsFor(text, lines, until), capacityIn(text), module.order) : []};
+      const lines = linesOf(text), whole = {...it, text, lines};
+      // the report of what comes before a fault
+      if (it.line) whole.before = module.calls(text, lines.starts[it.line]).report;
+      return lines.count <= MOST_CALLED ? {...whole, ...orderRound(whole, lines.count)} : whole;
     },
     most: whole => whole.lines.count - 1,
-    // A beginning of a recording is one of its own, and what is found of it is asked for.
+    // It opens at the line at fault.
+    first: whole => (whole.line || whole.lines.count) - 1,
+    // What is found of a beginning is what is found of the whole where the line at fault is in it, and else it is lawful (law `beginning_is_linearizable`);
+    // its report is asked for, of a long recording a little later.
     at(whole, shown) {
-      const {text, lines} = whole, it = shown < lines.count - 1 ? module.calls(text.slice(0, lines.starts[shown + 2])) : whole;
-      const why = it.against ? `contradicted by ${lineWords(text, lines, it.against)}` : "";
-      return {...it, words: `calls: ${it.words}`, ring: it.isCut ? {words: CUT, mood: "dim"} : null, why, mood: it.line ? "bad" : "good", step: shown ? lineWords(text, lines, shown + 1) : ""};
+      const {text, lines} = whole, isFaulty = whole.line > 0 && whole.line <= shown + 1, it = isFaulty ? whole : {...whole, words: "lawful", cause: "", line: 0, against: 0};
+      const why = it.against ? `contradicted by ${lineWords(text, lines, it.against)}` : "", isAll = !whole.line && shown === lines.count - 1;
+      const report = isFaulty ? whole.before : isAll ? whole.report : lines.count <= MOST_ASKED ? this.reportAt(whole, shown + 1) : null;
+      return {...it, words: `calls: ${it.words}`, ring: it.isCut ? {words: CUT, mood: "dim"} : null, why, mood: it.line ? "bad" : "good", step: shown ? lineWords(text, lines, shown + 1) : "",
+        report, ...lines.count <= MOST_CALLED ? {} : orderRound(whole, shown + 1)};
     },
-    drawing: ({text, lines, order}, it, waves, shown) => ({draw: bars, text, lines, order, words: it.words, mood: it.mood, ring: it.ring, why: it.why, count: shown,
+    reportAt: ({text, lines}, line) => module.calls(text, lines.starts[line + 1]).report,
+    drawing: ({text, lines}, it, waves, shown) => ({draw: bars, text, lines, order: it.order, ordered: it.ordered, words: it.words, mood: it.mood, ring: it.ring, why: it.why, count: shown,
       fault: it.line ? it.line - 2 : null, contradicts: it.against ? it.against - 2 : null, cause: it.cause}),
     place: (whole, shown) => `line ${shown + 1} / ${whole.lines.count}`,
-    rows: ({report, isCut}) => report ? reportRows(report, isCut) : [],
+    rows: ({report, isCut}) => report && reportRows(report, isCut),
+    of: ({line}) => line ? `before line ${line}` : "",
   };
 
   return {trace, script, calls};
