@@ -71,7 +71,7 @@ def stories():
     at = text.index("\n## Calls\n")
     runs, calls = paragraphs(text[text.index("\n## Scripts\n"):at]), paragraphs(text[at:])
     # of lawful calls their line in the table tells what they are
-    for name, words in re.findall(r"^\| `(\w+)` \|.*\| lawful: (.*) \|$", text[at:], flags=re.M):
+    for name, words in re.findall(r"^\| `(\w+)` \| lawful: (.*) \|$", text[at:], flags=re.M):
         calls[name] = [words[0].upper() + words[1:] + ".", *calls.get(name, [])]
     wrong = {("script", name.removeprefix("wrong/")): runs.pop(name) for name in [*runs] if name.startswith("wrong/")}
     return {**{(mode, name): it for name, it in runs.items() for mode in ("trace", "script")}, **wrong, **{("calls", name): it for name, it in calls.items()}}
