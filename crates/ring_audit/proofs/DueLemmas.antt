@@ -1,5 +1,5 @@
 -- No event but a few may come next.
-use Rattle.std.proofs.Common.{◌≡◌, ◌≢◌, ◌⊎◌, ◌↔◌, IsTrue, inl, inr, ℕ, ◌+◌, ◌<◌, Bool, true, false, Option, Some, None, List, [], ◌∷◌, ◌++◌, take, length, get_or, refl, sym, ap, subst, ◌∙◌, arith}
+use Rattle.std.proofs.Common.{◌≡◌, ◌≢◌, ◌⊎◌, ◌↔◌, IsTrue, inl, inr, ℕ, ◌+◌, ◌<◌, Bool, true, false, Option, Some, None, List, [], ◌∷◌, ◌++◌, take, length, get_or, nat_lt, if◌then◌else◌, refl, sym, ap, subst, ◌∙◌, arith}
 use Rattle.std.proofs.lemmas.Bool.{cases_order}
 use Rattle.std.proofs.lemmas.List.{take_more, take-append-le}
 use Rattle.bits_core.specs.declared.events.Side.{Side}
@@ -16,6 +16,8 @@ use Rattle.bits_core.specs.Bits.{begun_by}
 use Rattle.bits_core.specs.Made.{opening_event}
 use Rattle.register_core.specs.Row.{row_bit}
 use Rattle.register_core.specs.UnaryState.{UnaryState, due_unary, due_writes, first_access}
+use Rattle.register_core.specs.WordState.{due_read}
+use Rattle.ring_core.specs.ConsumerState.{ConsumerState, IsBetweenWords, consumer_due_at, due_take}
 use Rattle.ring_core.specs.Puts.{put_program}
 use Rattle.ring_core.specs.Takes.{take_program}
 use Rattle.ring_audit.specs.Sides.{EndsSo, AreOfPuts, AreOfTakes}
@@ -246,6 +248,23 @@ counts_last row due told side is opens none e told_is =
           let same : opening_event P (begins.Write (row_bit row.side x.bit) x.value) ≡ e = cc in
           subst (λ (z : Event). act_rank z.bit z.act ≡ 2) same (ap (λ s. act_rank (row_bit s x.bit) (WriteBegin x.value)) side))
     ] is
+
+-- between words, the read of the next digit comes before the write of the count
+pub reads_before_count :
+    (p : ConsumerState) (i : ℕ) (v : Bool) (word count : Option Event) → IsBetweenWords p → ((a : Access) → due_take p ≡ Some a → word ≡ Some (opening_event C a)) →
+    (due_take p ≡ None → word ≡ None) → count ≡ Some (opening_event C (begins.Write (R i) v)) → AreInOrder (record { first = word; second = count; third = None })
+reads_before_count p i v word count between opens none count_is =
+    let due_is : due_take p ≡ due_read p.word = ap (λ st. consumer_due_at st p) between.stage_is in
+    let read : Access = begins.Read (Cell p.word.cell p.word.read) in
+    let dues : Dues = record { first = word; second = count; third = None } in
+    elim (nat_lt p.word.read p.word.width) as (λ b. due_take p ≡ (if b then Some read else None) → AreInOrder dues) [
+      | true ↦ λ due. two_in_order (opening_event C read) (opening_event C (begins.Write (R i) v)) dues (opens read due) count_is refl (omega arith)
+      | false ↦ λ due. (
+        λ e f is is'. (let clash : None ≡ Some e = sym (none due) ∙ is in absurd (cc)),
+        λ e f is is'. (let clash : None ≡ Some e = sym (none due) ∙ is in absurd (cc)),
+        λ e f is is'. absurd (cc),
+      )
+    ] due_is
 
 -- ---- what the reader of puts has inside
 

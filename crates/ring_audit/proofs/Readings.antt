@@ -82,9 +82,9 @@ take_goes changes shape r new e by read h st = record {
 }
 
 pub take_takes :
-    OwnChanges → (shape : Shape) (r : Reading) (new : TakeReading) (e : Event) (item : ℕ) (taken : List ℕ) → e.side ≡ C → HasReadTake shape r.takes new e (c.Takes item) →
-    taken ≡ r.taken ++ item ∷ [] → (h : List Event) → ReadingStands shape r h → ReadingStands shape (record r { takes = new; taken = taken }) (h ++ e ∷ [])
-take_takes changes shape r new e item taken by read more h st = record {
+    OwnChanges → (shape : Shape) (r : Reading) (new : TakeReading) (e : Event) (taken : List ℕ) → e.side ≡ C → HasReadTake shape r.takes new e c.Takes →
+    taken ≡ r.taken ++ new.consumer.items → (h : List Event) → ReadingStands shape r h → ReadingStands shape (record r { takes = new; taken = taken }) (h ++ e ∷ [])
+take_takes changes shape r new e taken by read more h st = record {
   items = st.items;
   stored = st.stored;
   puts_stand = subst (λ es. PutsStand shape r.puts es st.items st.stored) (sym (own_more changes P C h e by)) st.puts_stand;

@@ -1,15 +1,17 @@
 -- Where the slots are too few.
 use Rattle.std.specs.Prelude.{OnErr}
-use Rattle.std.proofs.Common.{◌≡◌, Result, Ok, Err, inl, inr, ℕ, suc, ◌+◌, ◌<◌, ◌≤◌, Bool, List, [], ◌∷◌, ◌++◌, length, take, get_or, refl, sym, ap, subst, ◌∙◌, arith, length-append}
+use Rattle.std.proofs.Common.{◌≡◌, Result, Ok, Err, inl, inr, ℕ, suc, ◌+◌, ◌<◌, ◌≤◌, Bool, true, false, List, [], ◌∷◌, ◌++◌, length, take, get_or, if◌then◌else◌, refl, sym, ap, subst, ◌∙◌, arith, length-append}
 use Rattle.std.proofs.lemmas.List.{take_more, take-take, take_at, length-take-le}
 use Rattle.bits_core.specs.declared.events.Event.{Event}
 use Rattle.bits_core.specs.declared.shapes.Shape.{Shape}
 use Rattle.bits_core.specs.Shape.{batch_of}
+use Rattle.bits_core.specs.declared.events.Side.{Side}
 use Rattle.bits_core.specs.declared.events.Side.TheVariants.{P, C}
+use Rattle.bits_core.specs.Bits.{is_by}
 use Rattle.bits_core.specs.Laws.{BeginningIsLawful, OwnChanges}
 use Rattle.bits_core.specs.Lawful.{IsLawful}
 use Rattle.ring_core.specs.Puts.{Put}
-use Rattle.bits_core.specs.Made.{Made}
+use Rattle.bits_core.specs.Made.{Made, own}
 use Rattle.ring_audit.specs.declared.puts.Stage.{Stage}
 use Rattle.ring_audit.specs.declared.puts.Stage.TheVariants.{Resting, Scanning, Choosing, Storing, Counting, Closing, Closed}
 use Rattle.ring_audit.specs.Audit.{IsFound, IsFinding, FitsIn, HasTooFewSlots, statement_in}
@@ -22,6 +24,7 @@ use Rattle.ring_audit.specs.TakeReading.{TakeReading, HasReadTake}
 use Rattle.ring_audit.specs.Reading.{ReadingStands, NeedsRoom, reading}
 use Rattle.ring_audit.proofs.Breaks.{lawful_take}
 use Rattle.ring_audit.proofs.Readings.{put_stores, take_takes}
+use Rattle.ring_audit.proofs.TakeEnds.{few_taken}
 
 pub on_err : {A E : Type 0} {G : Type 0} (r : Result A E) → G → OnErr r G
 on_err (Ok a) g = tt
@@ -41,15 +44,33 @@ put_needs changes shape puts new takes counted put taken e item put_room taken_r
 }
 
 pub take_needs :
-    OwnChanges → (shape : Shape) (puts : PutReading) (takes new : TakeReading) (counted : ℕ) (put taken : List ℕ) (e : Event) (item put_room taken_room : ℕ) → e.side ≡ C →
-    HasReadTake shape takes new e (c.Takes item) → taken_room ≤ length taken → (h : List Event) → ReadingStands shape (reading puts takes counted put taken) h →
-    NeedsRoom shape puts new counted put_room taken_room (h ++ e ∷ [])
-take_needs changes shape puts takes new counted put taken e item put_room taken_room by read full h st = record {
+    OwnChanges → (shape : Shape) (puts : PutReading) (takes new : TakeReading) (counted : ℕ) (put taken kept : List ℕ) (e : Event) (put_room taken_room : ℕ) → e.side ≡ C →
+    HasReadTake shape takes new e c.Takes → kept ≡ new.consumer.items → taken_room < length taken + length kept → (h : List Event) →
+    ReadingStands shape (reading puts takes counted put taken) h → NeedsRoom shape puts new counted put_room taken_room (h ++ e ∷ [])
+take_needs changes shape puts takes new counted put taken kept e put_room taken_room by read same full h st = record {
   put = put;
-  taken = taken ++ item ∷ [];
-  stands = take_takes changes shape (reading puts takes counted put taken) new e item (taken ++ item ∷ []) by read refl h st;
-  short = inr (omega (arith, full, length-append taken (item ∷ [])));
+  taken = taken ++ kept;
+  stands = take_takes changes shape (reading puts takes counted put taken) new e (taken ++ kept) by read (ap (λ l. taken ++ l) same) h st;
+  short = inr (omega (arith, full, length-append taken kept));
 }
+
+-- no more items are taken than there are events
+length-own : (s : Side) (h : List Event) → length (own s h) ≤ length h
+length-own s [] = omega arith
+length-own s (e ∷ h) =
+    elim (is_by s e) as (λ b. length (if b then e ∷ own s h else own s h) ≤ suc (length h)) [
+      | true ↦ omega (arith, length-own s h)
+      | false ↦ omega (arith, length-own s h)
+    ]
+
+pub take_short :
+    OwnChanges → (shape : Shape) (puts : PutReading) (takes new : TakeReading) (counted : ℕ) (put taken kept : List ℕ) (e : Event) (taken_room : ℕ) → e.side ≡ C →
+    HasReadTake shape takes new e c.Takes → kept ≡ new.consumer.items → taken_room < length taken + length kept → (h : List Event) →
+    ReadingStands shape (reading puts takes counted put taken) h → taken_room < length (h ++ e ∷ [])
+take_short changes shape puts takes new counted put taken kept e taken_room by read same full h st =
+    let stands : ReadingStands shape (reading puts new counted put (taken ++ kept)) (h ++ e ∷ []) =
+    take_takes changes shape (reading puts takes counted put taken) new e (taken ++ kept) by read (ap (λ l. taken ++ l) same) h st in
+    omega (arith, full, length-append taken kept, few_taken shape new (own C (h ++ e ∷ [])) (taken ++ kept) stands.takes_stand, length-own C (h ++ e ∷ []))
 
 -- ---- what is told of it
 

@@ -20,9 +20,9 @@ sentence : InEveryRun RingLaw → ClosedStays → (shape : Shape) (h : List Even
 sentence holds stays shape h put taken told f =
     let law : RingLaw shape h f.puts f.takes = holds shape h f.puts f.takes f.run in
     let put_so : items_put shape first_count f.puts.puts (clock P h (length h)) ≡ put = ap (items_put shape first_count f.puts.puts) (clock_end P h) ∙ sym f.put_is in
-    let taken_so : items_taken shape 0 f.takes.takes (clock C h (length h)) ≡ taken = ap (items_taken shape 0 f.takes.takes) (clock_end C h) ∙ sym f.taken_is in
+    let taken_so : items_taken shape first_count f.takes.takes (clock C h (length h)) ≡ taken = ap (items_taken shape first_count f.takes.takes) (clock_end C h) ∙ sym f.taken_is in
     record {
-      prefix = subst (λ l. IsBeginning l put) taken_so (subst (IsBeginning (items_taken shape 0 f.takes.takes (clock C h (length h)))) put_so (law.prefix (length h)));
+      prefix = subst (λ l. IsBeginning l put) taken_so (subst (IsBeginning (items_taken shape first_count f.takes.takes (clock C h (length h)))) put_so (law.prefix (length h)));
       all = λ e.
           (let at : IsTold shape f.takes (clock C h (length h)) = subst (IsTold shape f.takes) (sym (clock_end C h)) (f.told_is.0 e) in
           let (all_put, all_taken, closes, behind) = law.closed (length h) (length h) at (omega arith) in

@@ -1,84 +1,83 @@
 -- What was taken and told so far, by calls that the events are a beginning of.
-use Rattle.std.proofs.Common.{◌≡◌, inl, inr, ℕ, suc, ◌+◌, ◌-◌, ◌*◌, ◌<◌, ◌≤◌, ◌↔◌, Bool, true, false, Option, Some, None, List, [], ◌∷◌, ◌++◌, length, refl, sym, ap, subst, ◌∙◌, arith, append_assoc, append-nil, length-append, nat_le, if◌then◌else◌, IsTrue}
+use Rattle.std.proofs.Common.{◌≡◌, inl, inr, ℕ, zero, suc, ◌+◌, ◌-◌, ◌*◌, ◌%◌, ◌<◌, ◌≤◌, ◌↔◌, Bool, true, false, Option, Some, None, List, [], ◌∷◌, ◌++◌, length, refl, sym, ap, subst, ◌∙◌, arith, append_assoc, append-nil, length-append, if◌then◌else◌, IsTrue}
 use Rattle.std.proofs.lemmas.Bool.{lt-leb, le-leb}
 use Rattle.bits_core.specs.declared.events.Side.TheVariants.{C}
+use Rattle.bits_core.specs.declared.events.Bit.TheVariants.{Cell}
 use Rattle.bits_core.specs.declared.events.Access.{Access}
 use Rattle.bits_core.specs.declared.events.Event.{Event}
 use Rattle.bits_core.specs.declared.shapes.Shape.{Shape}
-use Rattle.bits_core.specs.Made.{Made, answered, end_event, events_of, IsBeginning, opening_event}
+use Rattle.bits_core.specs.Shape.{capacity_of, width_of}
+use Rattle.bits_core.specs.Made.{Made, Read, answered, end_event, events_of, IsBeginning, opening_event}
 use Rattle.ring_core.specs.declared.consumers.TakeReply.{TakeReply}
 use Rattle.ring_core.specs.declared.consumers.TakeReply.TheVariants as replies
-use Rattle.ring_core.specs.declared.consumers.Stage.{Stage}
-use Rattle.ring_core.specs.declared.consumers.Stage.TheVariants.{Idle, Scanning, Checking, Rescanning, Loading, Counting}
-use Rattle.ring_core.specs.Takes.{Take, Item, ItemAfterClose, Empty, Takes, End, Open, Closed, taken_after, taken_in, take_phrase, take_phrases, end_phrase, take_program, AreTakes}
-use Rattle.ring_core.specs.Items.{all_taken, events_in, items_taken, Tells, IsTold}
-use Rattle.ring_core.specs.ConsumerState.{ConsumerState, due_take, takes_at, is_taking}
-use Rattle.ring_core.specs.ConsumerCalls.{ConsumerStands, ConsumerMadeAt, HasTakeMore, TakeGoesOn, IsReplyToTake, last_take_reply, reply_at_end}
+use Rattle.register_core.specs.Word.{digit, digit_reads, word_read}
+use Rattle.ring_core.specs.Counts.{Count, first_count, batch_phrase}
+use Rattle.ring_core.specs.Takes.{Take, Item, ItemAfterClose, Empty, Takes, End, Open, Closed, count_after, taken_count, words_read, items_phrase, accesses_before_word, take_phrase, take_phrases, end_phrase, take_program, AreTakes}
+use Rattle.ring_core.specs.Items.{taken_of, all_taken, take_ended, events_in, items_taken, Tells, IsTold}
+use Rattle.ring_core.specs.ConsumerState.{ConsumerState, due_take, is_taking}
+use Rattle.ring_core.specs.ConsumerCalls.{ConsumerStands, HasTakeMore, TakeGoesOn, IsReplyToTake, items_reply, last_take_reply, reply_at_end}
 use Rattle.ring_audit.specs.Sides.{open_events}
-use Rattle.ring_audit.specs.TakeReading.{IsTakeReading, TakesStand, WereTaken, tells_closed}
+use Rattle.ring_audit.specs.TakeReading.{TakeReading, IsTakeReading, TakesStand, WereTaken, tells_closed}
 use Rattle.ring_audit.proofs.Readers.{open-short, open-long}
 use Rattle.ring_audit.proofs.Beginnings.{begin_is, access_is, events_of-append, length-events}
+use Rattle.ring_audit.proofs.TakeReads.{front_at}
 
 -- ---- items
 
--- the item of a take that has ended within t events of it
-abbrev item_by : Shape → ℕ → Take → ℕ → List ℕ
-item_by shape k (Item seen item) t = (if nat_le (events_in (take_phrase shape k (Item seen item))) t then item ∷ [] else [])
-item_by shape k (ItemAfterClose seen again item) t = (if nat_le (events_in (take_phrase shape k (ItemAfterClose seen again item))) t then item ∷ [] else [])
-item_by shape k (Empty seen) t = []
-
 from_first :
-    (shape : Shape) (k : ℕ) (x : Take) (takes : List Take) (t : ℕ) →
-    items_taken shape k (x ∷ takes) t ≡ item_by shape k x t ++ items_taken shape (taken_after k x) takes (t - events_in (take_phrase shape k x))
-from_first shape k (Item seen item) takes t = refl
-from_first shape k (ItemAfterClose seen again item) takes t = refl
-from_first shape k (Empty seen) takes t = refl
+    (shape : Shape) (k : Count) (x : Take) (takes : List Take) (t : ℕ) →
+    items_taken shape k (x ∷ takes) t ≡ take_ended shape k x t ++ items_taken shape (count_after shape k x) takes (t - events_in (take_phrase shape k x))
+from_first shape k x takes t = refl
 
-not_yet : (shape : Shape) (k : ℕ) (x : Take) (t : ℕ) → t < events_in (take_phrase shape k x) → item_by shape k x t ≡ []
-not_yet shape k (Item seen item) t l = ap (λ b. if b then item ∷ [] else []) (lt-leb (events_in (take_phrase shape k (Item seen item))) t l)
-not_yet shape k (ItemAfterClose seen again item) t l =
-    ap (λ b. if b then item ∷ [] else []) (lt-leb (events_in (take_phrase shape k (ItemAfterClose seen again item))) t l)
+not_yet : (shape : Shape) (k : Count) (x : Take) (t : ℕ) → t < events_in (take_phrase shape k x) → take_ended shape k x t ≡ []
+not_yet shape k (Item seen items) t l = ap (λ b. if b then items else []) (lt-leb (events_in (take_phrase shape k (Item seen items))) t l)
+not_yet shape k (ItemAfterClose seen again items) t l =
+    ap (λ b. if b then items else []) (lt-leb (events_in (take_phrase shape k (ItemAfterClose seen again items))) t l)
 not_yet shape k (Empty seen) t l = refl
 
 -- while the one take has not ended it has taken nothing
-late : (shape : Shape) (k : ℕ) (x : Take) (t : ℕ) → t < events_in (take_phrase shape k x) → items_taken shape k (x ∷ []) t ≡ []
-late shape k x t l = from_first shape k x [] t ∙ append-nil (item_by shape k x t) ∙ not_yet shape k x t l
+late : (shape : Shape) (k : Count) (x : Take) (t : ℕ) → t < events_in (take_phrase shape k x) → items_taken shape k (x ∷ []) t ≡ []
+late shape k x t l = from_first shape k x [] t ∙ append-nil (take_ended shape k x t) ∙ not_yet shape k x t l
 
-ended_take : (shape : Shape) (k : ℕ) (x : Take) (t : ℕ) (rest : List ℕ) → events_in (take_phrase shape k x) ≤ t → (xs : List Take) → all_taken xs ≡ rest → item_by shape k x t ++ rest ≡ all_taken (x ∷ xs)
-ended_take shape k (Item seen item) t rest l xs e =
-    ap (λ b. (if b then item ∷ [] else []) ++ rest) (le-leb (events_in (take_phrase shape k (Item seen item))) t l) ∙ ap (λ r. item ∷ r) (sym e)
-ended_take shape k (ItemAfterClose seen again item) t rest l xs e =
-    ap (λ b. (if b then item ∷ [] else []) ++ rest) (le-leb (events_in (take_phrase shape k (ItemAfterClose seen again item))) t l) ∙ ap (λ r. item ∷ r) (sym e)
-ended_take shape k (Empty seen) t rest l xs e = sym e
+-- once it has ended, its items
+ended_take : (shape : Shape) (k : Count) (x : Take) (t : ℕ) → events_in (take_phrase shape k x) ≤ t → take_ended shape k x t ≡ taken_of x
+ended_take shape k (Item seen items) t l = ap (λ b. if b then items else []) (le-leb (events_in (take_phrase shape k (Item seen items))) t l)
+ended_take shape k (ItemAfterClose seen again items) t l =
+    ap (λ b. if b then items else []) (le-leb (events_in (take_phrase shape k (ItemAfterClose seen again items))) t l)
+ended_take shape k (Empty seen) t l = refl
 
 events_in-append : (xs ys : List Made) → events_in (xs ++ ys) ≡ events_in xs + events_in ys
 events_in-append xs ys = omega (arith, length-append xs ys)
 
 -- the items of takes that have all ended, and of those behind them
 items-behind :
-    (shape : Shape) (k : ℕ) (xs ys : List Take) (t : ℕ) → events_in (take_phrases shape k xs) ≤ t →
-    items_taken shape k (xs ++ ys) t ≡ all_taken xs ++ items_taken shape (taken_in k xs) ys (t - events_in (take_phrases shape k xs))
+    (shape : Shape) (k : Count) (xs ys : List Take) (t : ℕ) → events_in (take_phrases shape k xs) ≤ t →
+    items_taken shape k (xs ++ ys) t ≡ all_taken xs ++ items_taken shape (taken_count shape k xs) ys (t - events_in (take_phrases shape k xs))
 items-behind shape k [] ys t l = let none : t - 0 ≡ t = omega arith in ap (items_taken shape k ys) (sym none)
 items-behind shape k (x ∷ xs) ys t l =
-    let m : ℕ = taken_after k x in
+    let m : Count = count_after shape k x in
     let here : ℕ = events_in (take_phrase shape k x) in
     let there : ℕ = events_in (take_phrases shape m xs) in
     let both : events_in (take_phrases shape k (x ∷ xs)) ≡ here + there = events_in-append (take_phrase shape k x) (take_phrases shape m xs) in
-    let rest : items_taken shape m (xs ++ ys) (t - here) ≡ all_taken xs ++ items_taken shape (taken_in m xs) ys ((t - here) - there) =
+    let rest : items_taken shape m (xs ++ ys) (t - here) ≡ all_taken xs ++ items_taken shape (taken_count shape m xs) ys ((t - here) - there) =
     items-behind shape m xs ys (t - here) (omega (arith, l, both)) in
     let left : (t - here) - there ≡ t - events_in (take_phrases shape k (x ∷ xs)) = omega (arith, both) in
-    let last : List ℕ = items_taken shape (taken_in m xs) ys (t - events_in (take_phrases shape k (x ∷ xs))) in
+    let last : List ℕ = items_taken shape (taken_count shape m xs) ys (t - events_in (take_phrases shape k (x ∷ xs))) in
     from_first shape k x (xs ++ ys) t
-    ∙ ap (λ l. item_by shape k x t ++ l) (rest ∙ ap (λ n. all_taken xs ++ items_taken shape (taken_in m xs) ys n) left)
-    ∙ sym (append_assoc (item_by shape k x t) (all_taken xs) last)
-    ∙ ap (λ l. l ++ last) (ended_take shape k x t (all_taken xs) (omega (arith, l, both)) xs refl)
+    ∙ ap (λ l. take_ended shape k x t ++ l) (rest ∙ ap (λ n. all_taken xs ++ items_taken shape (taken_count shape m xs) ys n) left)
+    ∙ ap (λ l. l ++ (all_taken xs ++ last)) (ended_take shape k x t (omega (arith, l, both)))
+    ∙ sym (append_assoc (taken_of x) (all_taken xs) last)
 
 -- ---- replies
 
+some-not_closed : (items : List ℕ) → tells_closed (Some (items_reply items)) ≡ false
+some-not_closed [] = refl
+some-not_closed (item ∷ items) = refl
+
 last-not_closed : (first : Option TakeReply) (xs : List Take) → tells_closed first ≡ false → tells_closed (last_take_reply first xs) ≡ false
 last-not_closed first [] e = e
-last-not_closed first (Item seen item ∷ xs) e = last-not_closed (Some (replies.Item item)) xs refl
-last-not_closed first (ItemAfterClose seen again item ∷ xs) e = last-not_closed (Some (replies.Item item)) xs refl
+last-not_closed first (Item seen items ∷ xs) e = last-not_closed (Some (items_reply items)) xs (some-not_closed items)
+last-not_closed first (ItemAfterClose seen again items ∷ xs) e = last-not_closed (Some (items_reply items)) xs (some-not_closed items)
 last-not_closed first (Empty seen ∷ xs) e = last-not_closed (Some replies.Empty) xs refl
 
 abbrev SaysTold : Bool → Type 0 → Type 0
@@ -97,44 +96,34 @@ told-over shape calls (Closed seen again) t e l = (λ is. (subst Tells (sym e) (
 
 -- ---- the take under way
 
--- its accesses come behind those of the takes
-front_at :
-    (st : Stage) (p : ConsumerState) (calls : Takes) (k : ℕ) (made : List Made) → ConsumerMadeAt st p calls k made → takes_at st ≡ true →
-    (part : List Made) × (made ≡ take_phrases p.shape 0 calls.takes ++ part)
-front_at Idle p calls k made is e = absurd (cc)
-front_at Scanning p calls k made (rests, reads, stands, is) e = (reads, is)
-front_at Checking p calls k made (rests, seen, none, is) e = (_, is)
-front_at Rescanning p calls k made (rests, seen, none, reads, stands, is) e = (_, is)
-front_at Loading p calls k made (rests, look, finds, reads, stands, is) e = (_, is)
-front_at Counting p calls k made (look, finds, fits, writes, stands, is) e = (_, is)
-
 phrases-push :
-    (shape : Shape) (k : ℕ) (xs : List Take) (x : Take) →
-    take_phrases shape k (xs ++ x ∷ []) ≡ take_phrases shape k xs ++ take_phrase shape (taken_in k xs) x
+    (shape : Shape) (k : Count) (xs : List Take) (x : Take) →
+    take_phrases shape k (xs ++ x ∷ []) ≡ take_phrases shape k xs ++ take_phrase shape (taken_count shape k xs) x
 phrases-push shape k [] x = append-nil (take_phrase shape k x)
 phrases-push shape k (y ∷ xs) x =
-    ap (λ l. take_phrase shape k y ++ l) (phrases-push shape (taken_after k y) xs x) ∙
-    sym (append_assoc (take_phrase shape k y) (take_phrases shape (taken_after k y) xs) (take_phrase shape (taken_in (taken_after k y) xs) x))
+    let next : Count = count_after shape k y in
+    ap (λ l. take_phrase shape k y ++ l) (phrases-push shape next xs x) ∙
+    sym (append_assoc (take_phrase shape k y) (take_phrases shape next xs) (take_phrase shape (taken_count shape next xs) x))
 
 -- no item is brought before it has ended
 taken-under_way :
-    (shape : Shape) (calls more : Takes) (t : ℕ) → HasTakeMore shape calls more → events_in (take_phrases shape 0 calls.takes) ≤ t →
-    t < events_in (take_program shape more) → all_taken calls.takes ≡ items_taken shape 0 more.takes t
-taken-under_way shape calls more t has reached not_ended =
-    let k : ℕ = taken_in 0 calls.takes in
-    let front : ℕ = events_in (take_phrases shape 0 calls.takes) in
+    (shape : Shape) (wanted : ℕ) (calls more : Takes) (t : ℕ) → HasTakeMore shape wanted calls more → events_in (take_phrases shape first_count calls.takes) ≤ t →
+    t < events_in (take_program shape more) → all_taken calls.takes ≡ items_taken shape first_count more.takes t
+taken-under_way shape wanted calls more t has reached not_ended =
+    let k : Count = taken_count shape first_count calls.takes in
+    let front : ℕ = events_in (take_phrases shape first_count calls.takes) in
     elim has.is_one_more [
-      | inl (x, more_is) ↦
+      | inl (x, of, more_is) ↦
           let program : events_in (take_program shape more) ≡ front + events_in (take_phrase shape k x) =
           ap (λ c. events_in (take_program shape c)) more_is
-          ∙ ap events_in (append-nil (take_phrases shape 0 (calls.takes ++ x ∷ [])) ∙ phrases-push shape 0 calls.takes x)
-          ∙ events_in-append (take_phrases shape 0 calls.takes) (take_phrase shape k x) in
+          ∙ ap events_in (append-nil (take_phrases shape first_count (calls.takes ++ x ∷ [])) ∙ phrases-push shape first_count calls.takes x)
+          ∙ events_in-append (take_phrases shape first_count calls.takes) (take_phrase shape k x) in
           let nothing : items_taken shape k (x ∷ []) (t - front) ≡ [] = late shape k x (t - front) (omega (arith, program, reached, not_ended)) in
-          sym (append-nil (all_taken calls.takes)) ∙ ap (λ l. all_taken calls.takes ++ l) (sym nothing) ∙ sym (items-behind shape 0 calls.takes (x ∷ []) t reached)
-          ∙ ap (λ (c : Takes). items_taken shape 0 c.takes t) (sym more_is)
+          sym (append-nil (all_taken calls.takes)) ∙ ap (λ l. all_taken calls.takes ++ l) (sym nothing) ∙ sym (items-behind shape first_count calls.takes (x ∷ []) t reached)
+          ∙ ap (λ (c : Takes). items_taken shape first_count c.takes t) (sym more_is)
       | inr (seen, again, more_is) ↦
-          sym (append-nil (all_taken calls.takes)) ∙ sym (items-behind shape 0 calls.takes [] t reached)
-          ∙ ap (λ l. items_taken shape 0 l t) (append-nil calls.takes) ∙ ap (λ (c : Takes). items_taken shape 0 c.takes t) (sym more_is)
+          sym (append-nil (all_taken calls.takes)) ∙ sym (items-behind shape first_count calls.takes [] t reached)
+          ∙ ap (λ l. items_taken shape first_count l t) (append-nil calls.takes) ∙ ap (λ (c : Takes). items_taken shape first_count c.takes t) (sym more_is)
     ]
 
 -- they are a beginning of the events of a list that goes on with the access
@@ -158,7 +147,7 @@ open_begins made rest a (Some b) same = (
 taken_at :
     (shape : Shape) (p : ConsumerState) (o : Option Access) (es : List Event) (items : List ℕ) (due : Option Access) (reply : Option TakeReply) →
     (st : TakesStand shape (record { consumer = p; open_access = o }) es items) → ((a : Access) → o ≡ Some a → due ≡ Some a) →
-    ((a : Access) → due ≡ Some a → (is_taking p ≡ true) × TakeGoesOn shape st.calls st.made a) →
+    ((a : Access) → due ≡ Some a → (is_taking p ≡ true) × TakeGoesOn shape p.wanted st.calls st.made a) →
     (due ≡ None → (is_taking p ≡ false) × (st.made ≡ take_program shape st.calls)) → IsReplyToTake st.calls (is_taking p) reply → WereTaken shape es items (tells_closed reply)
 taken_at shape p o es items None reply st is_due goes rests replied =
     let (idle, made_is) = rests refl in
@@ -168,14 +157,14 @@ taken_at shape p o es items None reply st is_due goes rests replied =
     let es_is : es ≡ events_of C program =
     st.events_are ∙ ap (λ z. events_of C st.made ++ open_events C z) none ∙ append-nil (events_of C st.made) ∙ ap (events_of C) made_is in
     let long : length es ≡ events_in program = ap length es_is ∙ length-events C program in
-    let phrases : List Made = take_phrases shape 0 st.calls.takes in
+    let phrases : List Made = take_phrases shape first_count st.calls.takes in
     let reached : events_in phrases ≤ length es = omega (arith, long, length-append phrases (end_phrase st.calls.end)) in
     record {
       calls = st.calls;
       are = subst (λ s. AreTakes s 0 st.calls.takes st.calls.end) st.shape_is st.stands.are;
       events = ([], append-nil es ∙ es_is);
-      taken = st.items_are ∙ sym (append-nil (all_taken st.calls.takes)) ∙ sym (items-behind shape 0 st.calls.takes [] (length es) reached)
-          ∙ ap (λ l. items_taken shape 0 l (length es)) (append-nil st.calls.takes);
+      taken = st.items_are ∙ sym (append-nil (all_taken st.calls.takes)) ∙ sym (items-behind shape first_count st.calls.takes [] (length es) reached)
+          ∙ ap (λ l. items_taken shape first_count l (length es)) (append-nil st.calls.takes);
       told_is = subst (λ r. SaysTold (tells_closed r) (IsTold shape st.calls (length es))) (sym answers)
           (told-over shape st.calls st.calls.end (length es) refl (omega (arith, long)));
     }
@@ -191,10 +180,10 @@ taken_at shape p o es items (Some a) reply st is_due goes rests replied =
     let same : (b : Access) → o ≡ Some b → b ≡ a = λ b e. (let both : Some a ≡ Some b = is_due b e in cc) in
     let upper : length es ≤ suc (2 * length st.made) = subst (λ l. length l ≤ suc (2 * length st.made)) (sym st.events_are) (open-short C st.made o) in
     let lower : 2 * length st.made ≤ length es = subst (λ l. 2 * length st.made ≤ length l) (sym st.events_are) (open-long C st.made o) in
-    let (part, front) = front_at p.stage p st.calls _ st.made st.stands.made_is is in
-    let front_is : st.made ≡ take_phrases shape 0 st.calls.takes ++ part = front ∙ ap (λ s. take_phrases s 0 st.calls.takes ++ part) st.shape_is in
-    let reached : events_in (take_phrases shape 0 st.calls.takes) ≤ length es =
-    omega (arith, lower, ap length front_is, length-append (take_phrases shape 0 st.calls.takes) part) in
+    let (part, front) = front_at p.stage p st.calls st.made st.stands.made_is in
+    let front_is : st.made ≡ take_phrases shape first_count st.calls.takes ++ part = front ∙ ap (λ s. take_phrases s first_count st.calls.takes ++ part) st.shape_is in
+    let reached : events_in (take_phrases shape first_count st.calls.takes) ≤ length es =
+    omega (arith, lower, ap length front_is, length-append (take_phrases shape first_count st.calls.takes) part) in
     let not_ended : length es < events_in (take_program shape more) =
     omega (arith, upper, ap length program, length-append st.made (answered a true ∷ rest)) in
     record {
@@ -202,16 +191,57 @@ taken_at shape p o es items (Some a) reply st is_due goes rests replied =
       are = has.are;
       events = subst (λ l. IsBeginning l (events_of C (take_program shape more))) (sym st.events_are)
           (subst (λ l. IsBeginning (events_of C st.made ++ open_events C o) (events_of C l)) (sym program) (open_begins st.made rest a o same));
-      taken = st.items_are ∙ taken-under_way shape st.calls more (length es) has reached not_ended;
+      taken = st.items_are ∙ taken-under_way shape p.wanted st.calls more (length es) has reached not_ended;
       told_is = says_not (tells_closed reply) (IsTold shape more (length es)) (ap tells_closed answers) (λ told. absurd (omega (arith, told.1, not_ended)));
     }
 
 pub has_taken :
     (p : ConsumerState) (o : Option Access) (due : Option Access) (reply : Option TakeReply) → IsTakeReading (record { consumer = p; open_access = o }) → due ≡ due_take p →
-    ((calls : Takes) (made : List Made) (a : Access) → ConsumerStands p calls made → due ≡ Some a → (is_taking p ≡ true) × TakeGoesOn p.shape calls made a) →
+    ((calls : Takes) (made : List Made) (a : Access) → ConsumerStands p calls made → due ≡ Some a → (is_taking p ≡ true) × TakeGoesOn p.shape p.wanted calls made a) →
     ((calls : Takes) (made : List Made) → ConsumerStands p calls made → due ≡ None → (is_taking p ≡ false) × (made ≡ take_program p.shape calls)) →
     ((calls : Takes) (made : List Made) → ConsumerStands p calls made → IsReplyToTake calls (is_taking p) reply) →
     (es : List Event) (items : List ℕ) → TakesStand p.shape (record { consumer = p; open_access = o }) es items → WereTaken p.shape es items (tells_closed reply)
 has_taken p o due reply is due_is goes rests replies_so es items st =
     taken_at p.shape p o es items due reply st (λ a e. due_is ∙ is.is_due a e) (λ a e. goes st.calls st.made a st.stands e) (λ e. rests st.calls st.made st.stands e)
     (replies_so st.calls st.made st.stands)
+
+-- ---- how many items
+
+-- each item was read by an access
+length-digits : (cell item n : ℕ) → length (digit_reads cell item n) ≡ n
+length-digits cell item zero = refl
+length-digits cell item (suc n) = omega (arith, length-digits cell item n, length-append (digit_reads cell item n) (Read (Cell cell n) (digit n item) ∷ []))
+
+words-long : (shape : Shape) (n : ℕ) (items : List ℕ) → length items ≤ length (words_read shape n items)
+words-long shape n [] = omega arith
+words-long shape n (item ∷ items) =
+    let word : List Made = word_read (width_of shape) (n % capacity_of shape) item in
+    omega (arith, words-long shape (suc n) items, length-append word (words_read shape (suc n) items), length-digits (n % capacity_of shape) item (width_of shape), shape.has_digits)
+
+items-long : (shape : Shape) (k : Count) (front : List Made) (items : List ℕ) → length items ≤ length (front ++ items_phrase shape k items)
+items-long shape k front items =
+    let words : List Made = words_read shape k.number items in
+    omega (arith, words-long shape k.number items, length-append front (items_phrase shape k items), length-append words (batch_phrase shape C k items))
+
+take-long : (shape : Shape) (k : Count) (x : Take) → length (taken_of x) ≤ length (take_phrase shape k x)
+take-long shape k (Item seen items) = items-long shape k (accesses_before_word (Item seen items)) items
+take-long shape k (ItemAfterClose seen again items) = items-long shape k (accesses_before_word (ItemAfterClose seen again items)) items
+take-long shape k (Empty seen) = omega arith
+
+takes-long : (shape : Shape) (k : Count) (xs : List Take) → length (all_taken xs) ≤ length (take_phrases shape k xs)
+takes-long shape k [] = omega arith
+takes-long shape k (x ∷ xs) =
+    omega (
+      arith,
+      take-long shape k x,
+      takes-long shape (count_after shape k x) xs,
+      length-append (taken_of x) (all_taken xs),
+      length-append (take_phrase shape k x) (take_phrases shape (count_after shape k x) xs),
+    )
+
+-- no more items were taken than there are events
+pub few_taken : (shape : Shape) (r : TakeReading) (es : List Event) (items : List ℕ) → TakesStand shape r es items → length items ≤ length es
+few_taken shape r es items st =
+    let (part, front) = front_at r.consumer.stage r.consumer st.calls st.made st.stands.made_is in
+    let lower : 2 * length st.made ≤ length es = subst (λ l. 2 * length st.made ≤ length l) (sym st.events_are) (open-long C st.made r.open_access) in
+    omega (arith, lower, ap length st.items_are, ap length front, length-append (take_phrases r.consumer.shape first_count st.calls.takes) part, takes-long r.consumer.shape first_count st.calls.takes)

@@ -1,41 +1,52 @@
 -- The items that a reader of takes was brought are those that the takes took.
-use Rattle.std.proofs.Common.{◌≡◌, inl, inr, ℕ, Bool, true, false, Option, Some, None, List, [], ◌∷◌, ◌++◌, refl, sym, ap, ◌∙◌, append-nil}
+use Rattle.std.proofs.Common.{◌≡◌, inl, inr, ℕ, Bool, true, false, Option, Some, None, List, [], ◌∷◌, ◌++◌, refl, sym, ap, ap₂, ◌∙◌, append_assoc, append-nil}
 use Rattle.bits_core.specs.declared.shapes.Shape.{Shape}
 use Rattle.ring_core.specs.declared.consumers.TakeReply.{TakeReply}
 use Rattle.ring_core.specs.declared.consumers.TakeReply.TheVariants as replies
 use Rattle.ring_core.specs.Takes.{Take, Item, ItemAfterClose, Empty, Takes}
-use Rattle.ring_core.specs.ConsumerCalls.{take_reply_to, last_take_reply, reply_at_end, IsReplyToTake, IsAfterTake}
-use Rattle.ring_core.specs.Items.{all_taken}
+use Rattle.ring_core.specs.ConsumerCalls.{take_reply_to, last_take_reply, last_items, reply_at_end, items_at_end, IsReplyToTake, AreItemsOfTake, IsAfterTake, items_reply}
+use Rattle.ring_core.specs.Items.{taken_of, all_taken}
 use Rattle.ring_audit.specs.TakeReading.{brought, step_by}
 
--- the item of a reply
-abbrev pub replied : Option TakeReply → List ℕ
-replied reply = brought (step_by reply)
+-- the items that a reply tells of those kept
+abbrev pub replied : Option TakeReply → List ℕ → List ℕ
+replied reply kept = brought (step_by reply) kept
 
 last-push : (first : Option TakeReply) (xs : List Take) (x : Take) → last_take_reply first (xs ++ x ∷ []) ≡ Some (take_reply_to x)
 last-push first [] x = refl
 last-push first (y ∷ xs) x = last-push (Some (take_reply_to y)) xs x
 
-taken-push : (xs : List Take) (x : Take) → all_taken (xs ++ x ∷ []) ≡ all_taken xs ++ replied (Some (take_reply_to x))
-taken-push [] (Item seen item) = refl
-taken-push [] (ItemAfterClose seen again item) = refl
-taken-push [] (Empty seen) = refl
-taken-push (Item seen item ∷ xs) x = ap (λ l. item ∷ l) (taken-push xs x)
-taken-push (ItemAfterClose seen again item ∷ xs) x = ap (λ l. item ∷ l) (taken-push xs x)
-taken-push (Empty seen ∷ xs) x = taken-push xs x
+kept-push : (first : List ℕ) (xs : List Take) (x : Take) → last_items first (xs ++ x ∷ []) ≡ taken_of x
+kept-push first [] x = refl
+kept-push first (y ∷ xs) x = kept-push (taken_of y) xs x
 
--- once an access was made, the items are those before it and that of the reply
+-- those of a take that is over are its own
+some_replied : (items : List ℕ) → replied (Some (items_reply items)) items ≡ items
+some_replied [] = refl
+some_replied (item ∷ items) = refl
+
+take_replied : (x : Take) → replied (Some (take_reply_to x)) (taken_of x) ≡ taken_of x
+take_replied (Item seen items) = some_replied items
+take_replied (ItemAfterClose seen again items) = some_replied items
+take_replied (Empty seen) = refl
+
+taken-push : (xs : List Take) (x : Take) → all_taken (xs ++ x ∷ []) ≡ all_taken xs ++ taken_of x
+taken-push [] x = append-nil (taken_of x)
+taken-push (y ∷ xs) x = ap (λ l. taken_of y ++ l) (taken-push xs x) ∙ sym (append_assoc (taken_of y) (all_taken xs) (taken_of x))
+
+-- once an access was made, the items are those before it and those of the reply
 pub items-after :
-    (shape : Shape) (taking : Bool) (calls more : Takes) (reply : Option TakeReply) → IsAfterTake shape true taking calls more → IsReplyToTake more taking reply →
-    all_taken more.takes ≡ all_taken calls.takes ++ replied reply
-items-after shape true calls more reply same none =
-    ap (λ (t : Takes). all_taken t.takes) same ∙ sym (append-nil (all_taken calls.takes)) ∙ ap (λ r. all_taken calls.takes ++ replied r) (sym none)
-items-after shape false calls more reply has is =
+    (shape : Shape) (wanted : ℕ) (taking : Bool) (calls more : Takes) (reply : Option TakeReply) (kept : List ℕ) → IsAfterTake shape wanted true taking calls more →
+    IsReplyToTake more taking reply → AreItemsOfTake more taking kept → all_taken more.takes ≡ all_taken calls.takes ++ replied reply kept
+items-after shape wanted true calls more reply kept same none any =
+    ap (λ (t : Takes). all_taken t.takes) same ∙ sym (append-nil (all_taken calls.takes)) ∙ ap (λ r. all_taken calls.takes ++ replied r kept) (sym none)
+items-after shape wanted false calls more reply kept has is are =
     elim has.is_one_more [
-      | inl (x, more_is) ↦
+      | inl (x, of, more_is) ↦
           let reply_is : reply ≡ Some (take_reply_to x) = is ∙ ap (λ (t : Takes). reply_at_end t.end t.takes) more_is ∙ last-push None calls.takes x in
-          ap (λ (t : Takes). all_taken t.takes) more_is ∙ taken-push calls.takes x ∙ ap (λ r. all_taken calls.takes ++ replied r) (sym reply_is)
+          let kept_is : kept ≡ taken_of x = are ∙ ap (λ (t : Takes). items_at_end t.end t.takes) more_is ∙ kept-push [] calls.takes x in
+          ap (λ (t : Takes). all_taken t.takes) more_is ∙ taken-push calls.takes x ∙ ap (λ l. all_taken calls.takes ++ l) (sym (ap₂ replied reply_is kept_is ∙ take_replied x))
       | inr (seen, again, more_is) ↦
           let reply_is : reply ≡ Some replies.Closed = is ∙ ap (λ (t : Takes). reply_at_end t.end t.takes) more_is in
-          ap (λ (t : Takes). all_taken t.takes) more_is ∙ sym (append-nil (all_taken calls.takes)) ∙ ap (λ r. all_taken calls.takes ++ replied r) (sym reply_is)
+          ap (λ (t : Takes). all_taken t.takes) more_is ∙ sym (append-nil (all_taken calls.takes)) ∙ ap (λ r. all_taken calls.takes ++ replied r kept) (sym reply_is)
     ]

@@ -1,22 +1,30 @@
 -- The reader of takes: where it stops, the events are of no takes; where it goes on, they are.
-use Rattle.std.proofs.Common.{◌≡◌, ◌⊎◌, inl, inr, ℕ, Bool, true, false, Option, Some, None, List, [], ◌∷◌, ◌++◌, length, refl, sym, ap, subst, ◌∙◌, arith, append_assoc, length-append}
-use Rattle.bits_core.specs.declared.events.Side.TheVariants.{C}
+use Rattle.std.proofs.Common.{◌≡◌, ◌⊎◌, inl, inr, ℕ, ◌≤◌, Bool, true, false, Option, Some, None, List, [], ◌∷◌, ◌++◌, length, nat_lt, if◌then◌else◌, refl, sym, ap, ap₂, subst, ◌∙◌, arith, append_assoc, append-nil, length-append}
+use Rattle.bits_core.specs.declared.events.Bit.{Bit}
+use Rattle.bits_core.specs.declared.events.Bit.TheVariants.{S, R, X, Cell}
+use Rattle.bits_core.specs.declared.events.Side.{Side}
+use Rattle.bits_core.specs.declared.events.Side.TheVariants.{P, C}
 use Rattle.bits_core.specs.declared.events.Access.{Access}
 use Rattle.bits_core.specs.declared.events.Access.TheVariants as begins
 use Rattle.bits_core.specs.declared.events.Event.{Event}
 use Rattle.bits_core.specs.declared.shapes.Shape.{Shape}
-use Rattle.bits_core.specs.Made.{Made, Read, access_of, answered, begin_event, end_event, events_of, opening_event}
-use Rattle.register_core.specs.ScanState.{row_read_by}
+use Rattle.bits_core.specs.Made.{Made, Read, access_of, answered, begin_event, end_event, events_of, IsBeginning, opening_event}
+use Rattle.register_core.specs.Row.{RowWrite, row_bit}
+use Rattle.register_core.specs.Word.{digit_reads}
+use Rattle.register_core.specs.WordState.{ReaderState, due_read}
+use Rattle.register_core.specs.ScanState.{ScanState, zero_reads, scan_phrase, row_read_by, due_scan}
+use Rattle.register_core.specs.UnaryState.{due_writes, first_access}
+use Rattle.ring_core.specs.Counts.{first_count, take_batch_of}
 use Rattle.ring_core.specs.declared.consumers.TakeReply.{TakeReply}
 use Rattle.ring_core.specs.Calls.{LastBitIsDue}
-use Rattle.ring_core.specs.Takes.{Takes, End, Open, Closed, take_program, AreTakes}
+use Rattle.ring_core.specs.Takes.{Takes, End, Open, Closed, words_read, take_phrases, end_phrase, take_program, AreTakes}
 use Rattle.ring_core.specs.Items.{Tells}
-use Rattle.ring_core.specs.GoingOn.{TakesGoOnAlike, LastTakesReadOne}
+use Rattle.ring_core.specs.GoingOn.{WritesTakeCount, EndInCellRead, TakesPart, TakesGoOn, LastTakesReadOne}
 use Rattle.ring_core.specs.Readings.{TakesAreFirst}
 use Rattle.ring_core.specs.declared.consumers.Stage.{Stage}
 use Rattle.ring_core.specs.declared.consumers.Stage.TheVariants.{Idle, Scanning, Checking, Rescanning, Loading, Counting}
-use Rattle.ring_core.specs.ConsumerState.{ConsumerState, consumer_due_at, due_take, takes_at, is_taking}
-use Rattle.ring_core.specs.ConsumerCalls.{TakeGoesOn, ConsumerStands, ends_closed}
+use Rattle.ring_core.specs.ConsumerState.{ConsumerState, IsBetweenWords, consumer_due_at, due_take, takes_at, is_taking}
+use Rattle.ring_core.specs.ConsumerCalls.{Finding, Once, Twice, finding_phrase, count_taken, TakeGoesOn, ConsumerMadeAt, ConsumerStands, ends_closed}
 use Rattle.ring_audit.specs.Sides.{AreOfTakes}
 use Rattle.ring_audit.specs.TakeReading.{TakeReading, TakesStand}
 use Rattle.ring_audit.proofs.Readers as readers
@@ -68,32 +76,138 @@ pub told-tells : (end : End) → ends_closed end ≡ true → Tells end
 told-tells Open e = absurd (cc)
 told-tells (Closed seen again) e = record {}
 
--- the next access is the one that is due
-pub next_is_due :
-    TakesGoOnAlike → (shape : Shape) (calls b : Takes) (made rest : List Made) (due : Access) (x : Made) → AreTakes shape 0 b.takes b.end →
-    TakeGoesOn shape calls made due → take_program shape b ≡ made ++ x ∷ rest → access_of x ≡ due
-next_is_due alike shape calls b made rest due x are on e =
-    let (more, has, (later, f)) = on true (λ last. refl) in
-    alike shape b more are has.are made x (answered due true) rest later e (sym f ∙ append_assoc made (answered due true ∷ []) later) ∙ access_is due true
+-- ---- an access that is not due
 
--- an access that is not due
-pub not_due :
-    TakesGoOnAlike → TakesAreFirst → (shape : Shape) (r : TakeReading) (es : List Event) (items : List ℕ) (p : ConsumerState) (due : Option Access) (a : Access) →
-    (st : TakesStand shape r es items) → r.open_access ≡ None → p.shape ≡ shape → ConsumerStands p st.calls st.made →
-    ((access : Access) → due ≡ Some access → (is_taking p ≡ true) × TakeGoesOn p.shape st.calls st.made access) →
-    (due ≡ None → (is_taking p ≡ false) × (st.made ≡ take_program p.shape st.calls)) →
-    (is_taking p ≡ true) ⊎ (p.told ≡ true) → (due ≡ Some a → ⊥) → AreOfTakes shape (es ++ opening_event C a ∷ []) → ⊥
-not_due alike first shape r es items p (Some d) a st none same stands goes rests over wrong of_takes =
+-- the last of two lists
+pub last_same : (xs ys : List Made) (x y : Made) → xs ++ x ∷ [] ≡ ys ++ y ∷ [] → x ≡ y
+last_same [] [] x y e = cc
+last_same [] (z ∷ ys) x y e = absurd (no_end ys y (cc))
+  where
+    no_end : (ys : List Made) (y : Made) → [] ≡ ys ++ y ∷ [] → ⊥
+    no_end [] y e = absurd (cc)
+    no_end (z ∷ ys) y e = absurd (cc)
+last_same (w ∷ xs) [] x y e = absurd (no_end xs x (cc))
+  where
+    no_end : (xs : List Made) (x : Made) → xs ++ x ∷ [] ≡ [] → ⊥
+    no_end [] x e = absurd (cc)
+    no_end (z ∷ xs) x e = absurd (cc)
+last_same (w ∷ xs) (z ∷ ys) x y e = last_same xs ys x y (cc)
+
+-- a scan and a count write are of no cell
+scan_reads_row : (s : ScanState) (j i : ℕ) → due_scan s ≡ Some (begins.Read (Cell j i)) → ⊥
+scan_reads_row s j i e = by s.found s.side refl refl
+  where
+    by : (found : Bool) (side : Side) → s.found ≡ found → s.side ≡ side → ⊥
+    by true side is by_side = let clash : None ≡ Some (begins.Read (Cell j i)) = sym (ap (λ b. if b then None else Some (begins.Read (row_read_by s.side s.zeros))) is) ∙ e in absurd (cc)
+    by false P is by_side =
+        let clash : Some (begins.Read (R s.zeros)) ≡ Some (begins.Read (Cell j i)) =
+        sym (ap₂ (λ b t. if b then None else Some (begins.Read (row_read_by t s.zeros))) is by_side) ∙ e in absurd (cc)
+    by false C is by_side =
+        let clash : Some (begins.Read (S s.zeros)) ≡ Some (begins.Read (Cell j i)) =
+        sym (ap₂ (λ b t. if b then None else Some (begins.Read (row_read_by t s.zeros))) is by_side) ∙ e in absurd (cc)
+
+row_reads_nothing : (row : ℕ → Bit) (ws : List RowWrite) (b : Bit) → first_access row ws ≡ Some (begins.Read b) → ⊥
+row_reads_nothing row [] b e = absurd (cc)
+row_reads_nothing row (w ∷ ws) b e = absurd (cc)
+
+pub count_writes_bits : (p : ConsumerState) (a : Access) → p.stage ≡ Counting → due_take p ≡ Some a → (j i : ℕ) → a ≡ begins.Read (Cell j i) → ⊥
+count_writes_bits p a stage due j i reads =
+    row_reads_nothing (row_bit p.row.side) (due_writes p.row) (Cell j i) (sym (ap (λ st. consumer_due_at st p) stage) ∙ due ∙ ap Some reads)
+
+-- a take that has found items has scanned the row last
+found_last : (look : Finding) → (before : List Made) × (i : ℕ) × (finding_phrase look ≡ before ++ Read (S i) true ∷ [])
+found_last (Once seen) = (zero_reads (row_read_by C) seen, seen, refl)
+found_last (Twice seen again) = (
+  scan_phrase (row_read_by C) seen ++ Read X true ∷ zero_reads (row_read_by C) again,
+  again,
+  sym (append_assoc (scan_phrase (row_read_by C) seen) (Read X true ∷ zero_reads (row_read_by C) again) (Read (S again) true ∷ [])),
+)
+
+no_words : (front made : List Made) (look : Finding) → made ≡ front ++ ((finding_phrase look ++ []) ++ []) → EndInCellRead made → ⊥
+no_words front made look made_is (before, j, i, v, e) =
+    let (scans, c, looks) = found_last look in
+    let whole : made ≡ (front ++ scans) ++ Read (S c) true ∷ [] =
+    made_is ∙ ap (λ l. front ++ l) (append-nil (finding_phrase look ++ []) ∙ append-nil (finding_phrase look) ∙ looks) ∙ sym (append_assoc front scans (Read (S c) true ∷ [])) in
+    let last : Read (S c) true ≡ Read (Cell j i) v = last_same (front ++ scans) before (Read (S c) true) (Read (Cell j i) v) (sym whole ∙ e) in
+    absurd (cc)
+
+-- behind a digit of a cell, the first digit of one is due between words
+between_at :
+    (st : Stage) (p : ConsumerState) (calls : Takes) (made : List Made) (j : ℕ) → p.stage ≡ st → ConsumerMadeAt st p calls made →
+    consumer_due_at st p ≡ Some (begins.Read (Cell j 0)) → EndInCellRead made → IsBetweenWords p
+between_at Idle p calls made j stage is due ends = absurd (cc)
+between_at Scanning p calls made j stage is due ends = absurd (scan_reads_row p.scan j 0 due)
+between_at Checking p calls made j stage is due ends = absurd (cc)
+between_at Rescanning p calls made j stage is due ends = absurd (scan_reads_row p.scan j 0 due)
+between_at Counting p calls made j stage is due ends = absurd (row_reads_nothing (row_bit p.row.side) (due_writes p.row) (Cell j 0) due)
+between_at Loading p calls made j stage (rests, look, finds, fit, reads, words, made_is) due ends =
+    let unread : p.word.read ≡ 0 = first p.word due in
+    let none : reads ≡ [] = words.made_is ∙ ap (digit_reads p.word.cell p.word.value) unread in
+    let front : List Made = take_phrases p.shape first_count calls.takes in
+    let n : ℕ = (count_taken p.shape calls).number in
+    record {
+      stage_is = stage;
+      unread = unread;
+      some = by_items p.items (made_is ∙ ap (λ l. front ++ ((finding_phrase look ++ words_read p.shape n p.items) ++ l)) none);
+    }
+  where
+    first : (w : ReaderState) → due_read w ≡ Some (begins.Read (Cell j 0)) → w.read ≡ 0
+    first w due = by (nat_lt w.read w.width) refl
+      where
+        by : (b : Bool) → nat_lt w.read w.width ≡ b → w.read ≡ 0
+        by true is =
+            let both : Some (begins.Read (Cell w.cell w.read)) ≡ Some (begins.Read (Cell j 0)) = sym (ap (λ b. if b then Some (begins.Read (Cell w.cell w.read)) else None) is) ∙ due in
+            cc
+        by false is =
+            let clash : None ≡ Some (begins.Read (Cell j 0)) = sym (ap (λ b. if b then Some (begins.Read (Cell w.cell w.read)) else None) is) ∙ due in
+            absurd (cc)
+
+    by_items : (items : List ℕ) → made ≡ take_phrases p.shape first_count calls.takes ++ ((finding_phrase look ++ words_read p.shape (count_taken p.shape calls).number items) ++ []) → 1 ≤ length items
+    by_items [] is = absurd (no_words (take_phrases p.shape first_count calls.takes) made look is ends)
+    by_items (item ∷ items) is = omega arith
+
+-- what was made begins with the takes
+pub front_at :
+    (st : Stage) (p : ConsumerState) (calls : Takes) (made : List Made) → ConsumerMadeAt st p calls made →
+    (part : List Made) × (made ≡ take_phrases p.shape first_count calls.takes ++ part)
+front_at Idle p calls made (rests, is) = (end_phrase calls.end, is)
+front_at Scanning p calls made (rests, reads, stands, is) = (reads, is)
+front_at Checking p calls made (rests, seen, none, is) = (_, is)
+front_at Rescanning p calls made (rests, seen, none, reads, stands, is) = (_, is)
+front_at Loading p calls made (rests, look, finds, fit, reads, stands, is) = (_, is)
+front_at Counting p calls made (look, finds, fit, writes, stands, is) = (_, is)
+
+-- the access that begins is the one that is due, or behind a whole word the one reads the next and the other counts
+next_or :
+    TakesGoOn → (shape : Shape) (r : TakeReading) (es : List Event) (items : List ℕ) (p : ConsumerState) (due a : Access) (st : TakesStand shape r es items) →
+    r.open_access ≡ None → p.shape ≡ shape → ConsumerStands p st.calls st.made → TakeGoesOn p.shape p.wanted st.calls st.made due →
+    AreOfTakes shape (es ++ opening_event C a ∷ []) → (a ≡ due) ⊎ (EndInCellRead st.made × TakesPart shape p.wanted due a)
+next_or law shape r es items p due a st none same stands goes of_takes =
     let on = rest_on shape r es items st (opening_event C a) none of_takes in
     let is_a : access_of on.next ≡ a = same_access C a on.next on.begins in
-    let due_so : TakeGoesOn shape st.calls st.made d = subst (λ s. TakeGoesOn s st.calls st.made d) same (goes d refl).1 in
-    let is_d : access_of on.next ≡ d = next_is_due alike shape st.calls of_takes.0 st.made on.rest d on.next of_takes.1 due_so on.whole_is in
-    wrong (ap Some (sym is_d ∙ is_a))
-not_due alike first shape r es items p None a st none same stands goes rests over wrong of_takes =
+    let (part, made_is) = front_at p.stage p st.calls st.made stands.made_is in
+    let begins : IsBeginning (take_phrases shape first_count st.calls.takes) st.made = (part, sym (made_is ∙ ap (λ s. take_phrases s first_count st.calls.takes ++ part) same)) in
+    subst (λ z. (z ≡ due) ⊎ (EndInCellRead st.made × TakesPart shape p.wanted due z)) is_a
+    (law shape p.wanted st.calls of_takes.0 st.made due on.next on.rest begins (subst (λ s. TakeGoesOn s p.wanted st.calls st.made due) same goes) of_takes.1 on.whole_is)
+
+-- an access that is not due: it counts, behind a whole word
+pub not_due :
+    TakesGoOn → TakesAreFirst → (shape : Shape) (r : TakeReading) (es : List Event) (items : List ℕ) (p : ConsumerState) (due : Option Access) (a : Access) →
+    (st : TakesStand shape r es items) → r.open_access ≡ None → p.shape ≡ shape → ConsumerStands p st.calls st.made → due ≡ due_take p →
+    ((access : Access) → due ≡ Some access → (is_taking p ≡ true) × TakeGoesOn p.shape p.wanted st.calls st.made access) →
+    (due ≡ None → (is_taking p ≡ false) × (st.made ≡ take_program p.shape st.calls)) → (is_taking p ≡ true → EndInCellRead st.made → p.wanted ≡ take_batch_of shape) →
+    (is_taking p ≡ true) ⊎ (p.told ≡ true) → (due ≡ Some a → ⊥) → AreOfTakes shape (es ++ opening_event C a ∷ []) → IsBetweenWords p × WritesTakeCount a
+not_due law first shape r es items p (Some d) a st none same stands due_is goes rests wants over wrong of_takes =
+    elim (next_or law shape r es items p d a st none same stands (goes d refl).1 of_takes) [
+      | inl is ↦ absurd (wrong (ap Some (sym is)))
+      | inr (ends, inl ((j, reads), counts)) ↦ (between_at p.stage p st.calls st.made j refl stands.made_is (sym due_is ∙ ap Some reads) ends, counts)
+      | inr (ends, inr (counts, reads, less)) ↦ absurd (omega (arith, less, wants (goes d refl).0 ends))
+    ]
+not_due law first shape r es items p None a st none same stands due_is goes rests wants over wrong of_takes =
     let on = rest_on shape r es items st (opening_event C a) none of_takes in
     let (idle, made_is) = rests refl in
     let made_so : st.made ≡ take_program shape st.calls = made_is ∙ ap (λ s. take_program s st.calls) same in
-    by_told on idle made_so over
+    absurd (by_told on idle made_so over)
   where
     by_told : (on : GoesOnWith C st.made (take_program shape of_takes.0) (opening_event C a)) → is_taking p ≡ false → st.made ≡ take_program shape st.calls → (is_taking p ≡ true) ⊎ (p.told ≡ true) → ⊥
     by_told on idle made_so (inl is) = let clash : true ≡ false = sym is ∙ idle in absurd (cc)
@@ -107,12 +221,55 @@ not_due alike first shape r es items p None a st none same stands goes rests ove
         let all : st.calls ≡ of_takes.0 = (first shape st.calls of_takes.0 are of_takes.1 (events_of C more, events)).1 tells_end in
         absurd (omega (arith, ap length whole, length-append (take_program shape st.calls) more, ap (λ calls. length (take_program shape calls)) all))
 
+-- where the take under way counts, no other write of the count may begin
+pub counts_else :
+    TakesGoOn → (shape : Shape) (r : TakeReading) (es : List Event) (items : List ℕ) (p : ConsumerState) (due : Option Access) (a : Access) (i : ℕ) (v : Bool) →
+    (st : TakesStand shape r es items) → r.open_access ≡ None → p.shape ≡ shape → ConsumerStands p st.calls st.made → due ≡ Some (begins.Write (R i) v) →
+    ((access : Access) → due ≡ Some access → (is_taking p ≡ true) × TakeGoesOn p.shape p.wanted st.calls st.made access) →
+    (due ≡ Some a → ⊥) → WritesTakeCount a → AreOfTakes shape (es ++ opening_event C a ∷ []) → ⊥
+counts_else law shape r es items p due a i v st none same stands due_is goes wrong (k, w, writes) of_takes =
+    elim (next_or law shape r es items p (begins.Write (R i) v) a st none same stands (goes (begins.Write (R i) v) due_is).1 of_takes) [
+      | inl is ↦ wrong (due_is ∙ ap Some (sym is))
+      | inr (ends, inl ((j, reads), counts)) ↦ absurd (cc)
+      | inr (ends, inr (counts, (j, reads), less)) ↦ (let clash : begins.Write (R k) w ≡ begins.Read (Cell j 0) = sym writes ∙ reads in absurd (cc))
+    ]
+
 -- once a take was begun where none was under way, one is, or the last one was told that the ring is closed
 pub taking_or_told :
-    (old new : ConsumerState) (reply : Option TakeReply) → (old.told ≡ false → is_taking new ≡ true) → (old.told ≡ true → new ≡ record old { reply = reply }) →
+    (old new : ConsumerState) (reply : Option TakeReply) (most : ℕ) → (old.told ≡ false → (is_taking new ≡ true) × (new.wanted ≡ most)) →
+    (old.told ≡ true → new ≡ record old { reply = reply }) →
     (is_taking new ≡ true) ⊎ (new.told ≡ true)
-taking_or_told old new reply begun refused = by_told old.told refl
+taking_or_told old new reply most begun refused = by_told old.told refl
   where
     by_told : (b : Bool) → old.told ≡ b → (is_taking new ≡ true) ⊎ (new.told ≡ true)
-    by_told false e = inl (begun e)
+    by_told false e = inl (begun e).0
     by_told true e = inr (ap (λ (p : ConsumerState). p.told) (refused e) ∙ e)
+
+-- and it wants as many items as it was asked for
+pub wants_most :
+    (old new : ConsumerState) (reply : Option TakeReply) (most : ℕ) → (old.told ≡ false → (is_taking new ≡ true) × (new.wanted ≡ most)) →
+    (old.told ≡ true → new ≡ record old { reply = reply }) → is_taking old ≡ false → is_taking new ≡ true → new.wanted ≡ most
+wants_most old new reply most begun refused idle taking = by_told old.told refl
+  where
+    by_told : (b : Bool) → old.told ≡ b → new.wanted ≡ most
+    by_told false e = (begun e).1
+    by_told true e = let clash : true ≡ false = sym taking ∙ ap is_taking (refused e) ∙ idle in absurd (cc)
+
+-- the reader stands after the same events once one was begun
+pub begun_stands :
+    (p q : ConsumerState) (o : Option Access) (reply : Option TakeReply) (most : ℕ) → (p.told ≡ false → (is_taking q ≡ true) × (q.wanted ≡ most)) →
+    (p.told ≡ true → q ≡ record p { reply = reply }) → most ≡ take_batch_of p.shape → q.shape ≡ p.shape →
+    ((calls : Takes) (made : List Made) → ConsumerStands p calls made → is_taking p ≡ false) →
+    ((calls : Takes) (made : List Made) → ConsumerStands p calls made → ConsumerStands q calls made) →
+    (es : List Event) (items : List ℕ) → TakesStand p.shape (record { consumer = p; open_access = o }) es items → TakesStand p.shape (record { consumer = q; open_access = o }) es items
+begun_stands p q o reply most begun refused most_is same idle stands es items st =
+    let wants : is_taking q ≡ true → q.wanted ≡ take_batch_of p.shape = λ taking. wants_most p q reply most begun refused (idle st.calls st.made st.stands) taking ∙ most_is in
+    record {
+      calls = st.calls;
+      made = st.made;
+      shape_is = same;
+      stands = stands st.calls st.made st.stands;
+      events_are = st.events_are;
+      items_are = st.items_are;
+      wants = record { before_count = λ taking other. wants taking; behind_word = λ taking none ends. wants taking };
+    }

@@ -36,7 +36,8 @@ act_rank b (ReadEnd v) = if v then 1 else 0
 act_rank b (WriteBegin v) = write_rank b v
 act_rank b WriteEnd = 0
 
--- So the answer 0 comes before the answer 1, a scan before the close, and a word's digit 0 before its digit 1 and both before the count.
+-- So the answer 0 comes before the answer 1, a scan before the close, a word's digit 0 before its digit 1 and both before the count,
+-- and a word's read before the count.
 abbrev pub ComesBefore : Event → Event → Type 0
 ComesBefore e f = act_rank e.bit e.act < act_rank f.bit f.act
 

@@ -64,6 +64,19 @@ fn push<S: Store<u64>>(store: &mut S, item: u64) -> Result<(), AuditFault>
     Ok(())
 }
 
+// These items more, where the store has room for them.
+fn push_all<S: Store<u64>>(store: &mut S, items: &[u64]) -> Result<(), AuditFault>
+    ensures pushed { OnOk result (S.items store.new ≡ S.items store.old ++ items.now) }
+    ensures full { OnErr result (S.room store.old < length (S.items store.old) + length items.now) }
+    ensures kept { S.room store.new ≡ S.room store.old }
+    ensures slots { (first : S) → S.same_slots first store.old → S.same_slots first store.new }
+{
+    for i in 0..items.len() {
+        push(store, items[i])?;
+    }
+    Ok(())
+}
+
 // The readers of both sides, and how many of the items that were stored are counted.
 #[derive(Drop)]
 struct Readers {
@@ -102,8 +115,9 @@ impl Readers {
             → ¬ BothFollow self.old.puts.shape (h ++ event ∷ [])) }
         ensures refused { OnErr result ((h : List AnEvent) → ReadingStands self.old.puts.shape (reading self.old.puts self.old.takes self.old.counted (S.items put.old) (S.items taken.old)) h
             → NeedsRoom self.old.puts.shape self.new.puts self.new.takes self.new.counted (S.room put.old) (S.room taken.old) (h ++ event ∷ [])) }
-        ensures full { OnErr result ((S.room put.old ≤ length (S.items put.old)) ⊎ (S.room taken.old ≤ length (S.items taken.old))) }
-        ensures few { IfOk result (λ on. (length (S.items put.new) ≤ length (S.items put.old) + 1) × (length (S.items taken.new) ≤ length (S.items taken.old) + 1)) }
+        ensures full { OnErr result ((S.room put.old ≤ length (S.items put.old)) ⊎ ((h : List AnEvent) → ReadingStands self.old.puts.shape (reading self.old.puts self.old.takes self.old.counted (S.items put.old) (S.items taken.old)) h
+            → S.room taken.old < length (h ++ event ∷ []))) }
+        ensures few { IfOk result (λ on. length (S.items put.new) ≤ length (S.items put.old) + 1) }
         ensures rooms { (S.room put.new ≡ S.room put.old) × (S.room taken.new ≡ S.room taken.old) }
         ensures put_slots { (first : S) → S.same_slots first put.old → S.same_slots first put.new }
         ensures taken_slots { (first : S) → S.same_slots first taken.old → S.same_slots first taken.new }
@@ -125,8 +139,8 @@ impl Readers {
             Side::C => match self.takes.read(event) {
                 TakeStep::Stops => Ok(false),
                 TakeStep::GoesOn => Ok(true),
-                TakeStep::Takes(item) => {
-                    push(taken, item)?;
+                TakeStep::Takes => {
+                    push_all(taken, self.takes.items())?;
                     Ok(true)
                 }
             },

@@ -48,7 +48,7 @@ impl Followers {
             Side::C => match self.takes.read(event) {
                 TakeStep::Stops => false,
                 TakeStep::GoesOn => true,
-                TakeStep::Takes(_) => true,
+                TakeStep::Takes => true,
             },
         }
     }
@@ -134,7 +134,7 @@ fn candidates(shape: &Shape, events: &[Event], side: Side) -> Dues
 /// The events of the side that go on with the programs behind these: each event of it with which both sides still
 /// follow their programs is told once, and no other. There are at most three; where these events are not of the
 /// programs, or the side has made its last call, there is none. They stand in one order: a read's answer 0, and 1; the begin of
-/// a scan, and of the close; the write of a digit 0, of 1, and of the count.
+/// a scan, and of the close; the write of a digit 0, of 1, and of the count; the read of a word, and the write of the count.
 ///
 /// Said of the programs alone: whether the bits permit the answer of a read is the audit's to say. Where an audit
 /// tells `NotProgram` at a place, the events before that place are to be passed. It goes over them at most four

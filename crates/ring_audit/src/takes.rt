@@ -1,10 +1,13 @@
 //! The consumer's events, read as its takes.
-ghost use Rattle.std.specs.Prelude.{◌≡◌, ◌≢◌, ◌++◌, ◌∷◌, [], ℕ, List, None, Some, Bool, true, false};
+ghost use Rattle.std.specs.Prelude.{◌≡◌, ◌≢◌, ◌≤◌, ◌++◌, ◌∷◌, [], ℕ, List, None, Some, Bool, true, false};
+ghost use Rattle.bits_core.specs.declared.events.Bit.TheVariants.{R};
 ghost use Rattle.bits_core.specs.declared.events.Side.TheVariants.{C};
 ghost use Rattle.bits_core.specs.declared.events.Event.{Event as AnEvent};
 ghost use Rattle.bits_core.specs.declared.events.Access.{Access as AnAccess};
 ghost use Rattle.bits_core.specs.Made.{answered, end_event, opening_event};
-ghost use Rattle.ring_core.specs.ConsumerState.{due_take};
+ghost use Rattle.ring_core.specs.ConsumerState.{IsBetweenWords, due_take};
+ghost use Rattle.ring_core.specs.Counts.{take_batch_of};
+ghost use Rattle.ring_core.specs.GoingOn.{WritesTakeCount};
 ghost use Rattle.ring_audit.specs.Sides.{AreOfTakes};
 ghost use Rattle.ring_audit.specs.Dues.{AreInOrder, IsNoneOf};
 ghost use Rattle.ring_audit.specs.TakeReading.{TakesStand, HasReadTake, WereTaken, step_by, tells_closed};
@@ -12,7 +15,7 @@ ghost use Rattle.ring_audit.specs.TakeReading.{TakesStand, HasReadTake, WereTake
 use crate::choices::{Dues, ends, only, opening};
 use crate::sides::{answer_to, begun_by, is_same};
 use bits_core::{Access, Event, Shape, Side};
-use ring_core::laws::{calls_are_first, last_reads_are_one, takes_go_on_alike};
+use ring_core::laws::{calls_are_first, last_reads_are_one, takes_go_on};
 use ring_core::{Consumer, TakeReply};
 use std::marker::Model;
 
@@ -21,27 +24,40 @@ use std::marker::Model;
 pub enum TakeStep {
     /// It is not the next one of any takes.
     Stops,
-    /// It is, and ends no take of an item.
+    /// It is, and ends no take of items.
     GoesOn,
-    /// It ends the take of this item.
-    Takes(u64),
+    /// It ends a take of the items that [`TakeReader::items`] tells.
+    Takes,
 }
 
-/// Reads the events of a consumer as its takes: it has a consumer make the same takes. It takes no memory.
+/// Reads the events of a consumer as its takes: it has a consumer make the same takes, whose number of items it learns
+/// from their count write. It takes no memory.
 #[derive(Drop)]
 pub struct TakeReader {
     consumer: Consumer,
+    most: u64,
     open_access: Option<Access>,
 }
 
+// The most items that a take may take.
+fn most_of(shape: &Shape) -> u64
+    ensures most { result ≡ take_batch_of shape.now }
+    ensures some { 1 ≤ result }
+{
+    let _ = shape;
+    1
+}
+
 impl Model for TakeReader {
+    ghost use Rattle.std.specs.Prelude.{◌≡◌, ◌≤◌};
+    ghost use Rattle.ring_core.specs.Counts.{take_batch_of};
     ghost use Rattle.ring_audit.specs.TakeReading.{TakeReading, IsTakeReading};
 
     ghost Value = { TakeReading };
 
     ghost view = { λ r. record { consumer = r.consumer; open_access = r.open_access } };
 
-    ghost invariant = { λ r. IsTakeReading (record { consumer = r.consumer; open_access = r.open_access }) };
+    ghost invariant = { λ r. IsTakeReading (record { consumer = r.consumer; open_access = r.open_access }) × (r.most ≡ take_batch_of r.consumer.shape) × (1 ≤ r.most) };
 }
 
 impl TakeReader {
@@ -52,6 +68,7 @@ impl TakeReader {
     {
         TakeReader {
             consumer: Consumer::new(*shape),
+            most: most_of(shape),
             open_access: None,
         }
     }
@@ -80,7 +97,7 @@ impl TakeReader {
         }
     }
 
-    // An access begins: whether it is the one that is due.
+    // An access begins: whether it is one that may.
     fn begin(&mut self, access: Access) -> bool
         ensures shape { self.new.consumer.shape ≡ self.old.consumer.shape }
         ensures goes_on { result ≡ true → (es : List AnEvent) (items : List ℕ) → TakesStand self.old.consumer.shape self.old es items → TakesStand self.old.consumer.shape self.new (es ++ opening_event C access ∷ []) items }
@@ -92,6 +109,13 @@ impl TakeReader {
                 if is_same(self.due(), access) {
                     self.open_access = Some(access);
                     true
+                } else if self.consumer.is_between_words() {
+                    if is_same(self.count(), access) {
+                        self.open_access = Some(access);
+                        true
+                    } else {
+                        false
+                    }
                 } else {
                     false
                 }
@@ -99,24 +123,45 @@ impl TakeReader {
         }
     }
 
-    // The access that is due, once a take was begun where none was under way. No other may begin.
+    // The access that is due, once a take was begun where none was under way, of as many items as may be taken. Another
+    // may begin behind a whole word alone: the first write of the count.
     fn due(&mut self) -> Option<Access>
         requires { self.old.open_access ≡ None }
         ensures shape { self.new.consumer.shape ≡ self.old.consumer.shape }
         ensures due { result ≡ due_take self.new.consumer }
         ensures open_access { self.new.open_access ≡ None }
         ensures stands { (es : List AnEvent) (items : List ℕ) → TakesStand self.old.consumer.shape self.old es items → TakesStand self.old.consumer.shape self.new es items }
-        ensures only { (es : List AnEvent) (items : List ℕ) (access : AnAccess) → TakesStand self.old.consumer.shape self.old es items → result ≢ Some access → ¬ AreOfTakes self.old.consumer.shape (es ++ opening_event C access ∷ []) }
+        ensures only { (es : List AnEvent) (items : List ℕ) (access : AnAccess) → TakesStand self.old.consumer.shape self.old es items → result ≢ Some access → AreOfTakes self.old.consumer.shape (es ++ opening_event C access ∷ [])
+            → IsBetweenWords self.new.consumer × WritesTakeCount access }
     {
-        takes_go_on_alike();
+        takes_go_on();
         calls_are_first();
         match self.consumer.next() {
             Some(access) => Some(access),
             None => {
-                self.consumer.take();
+                self.consumer.take_all(self.most);
                 self.consumer.next()
             }
         }
+    }
+
+    // Behind a whole word: the first write of the count, where the take under way takes no more. Of those writes no
+    // other may begin.
+    fn count(&mut self) -> Option<Access>
+        requires none { self.old.open_access ≡ None }
+        requires between { IsBetweenWords self.old.consumer }
+        ensures shape { self.new.consumer.shape ≡ self.old.consumer.shape }
+        ensures due { result ≡ due_take self.new.consumer }
+        ensures open_access { self.new.open_access ≡ None }
+        ensures write { (i : ℕ) × (v : Bool) × (result ≡ Some (Access.Write (R i) v)) }
+        ensures stands { (es : List AnEvent) (items : List ℕ) (access : AnAccess) → TakesStand self.old.consumer.shape self.old es items → result ≡ Some access
+            → TakesStand self.old.consumer.shape (record self.new { open_access = Some access }) (es ++ opening_event C access ∷ []) items }
+        ensures only { (es : List AnEvent) (items : List ℕ) (access : AnAccess) → TakesStand self.old.consumer.shape self.old es items → result ≢ Some access → WritesTakeCount access
+            → ¬ AreOfTakes self.old.consumer.shape (es ++ opening_event C access ∷ []) }
+    {
+        takes_go_on();
+        self.consumer.count_now();
+        self.consumer.next()
     }
 
     // The open access ends with this answer.
@@ -134,6 +179,13 @@ impl TakeReader {
         step_of(self.consumer.reply())
     }
 
+    /// The items that the last take took, in order, and during a take those that it has read so far.
+    pub fn items(&self) -> &[u64]
+        ensures { result.now ≡ self.now.consumer.items }
+    {
+        self.consumer.items()
+    }
+
     /// The events of which the next one of any takes has to be one. Nothing else is said of the reader then.
     pub fn candidates(&mut self) -> Dues
         ensures only { (es : List AnEvent) (items : List ℕ) (e : AnEvent) → TakesStand self.old.consumer.shape self.old es items → e.side ≡ C → IsNoneOf result e → ¬ AreOfTakes self.old.consumer.shape (es ++ e ∷ []) }
@@ -141,7 +193,25 @@ impl TakeReader {
     {
         match self.open_access {
             Some(access) => ends(Side::C, access),
-            None => only(opening(Side::C, self.due())),
+            None => self.openings(),
+        }
+    }
+
+    // While no access is open: the begins of which the next one has to be one.
+    fn openings(&mut self) -> Dues
+        requires { self.old.open_access ≡ None }
+        ensures only { (es : List AnEvent) (items : List ℕ) (access : AnAccess) → TakesStand self.old.consumer.shape self.old es items → IsNoneOf result (opening_event C access) → ¬ AreOfTakes self.old.consumer.shape (es ++ opening_event C access ∷ []) }
+        ensures order { AreInOrder result }
+    {
+        let word = opening(Side::C, self.due());
+        if self.consumer.is_between_words() {
+            Dues {
+                first: word,
+                second: opening(Side::C, self.count()),
+                third: None,
+            }
+        } else {
+            only(word)
         }
     }
 
@@ -159,7 +229,7 @@ fn step_of(reply: Option<TakeReply>) -> TakeStep
     ensures { result ≡ step_by reply }
 {
     match reply {
-        Some(TakeReply::Item(item)) => TakeStep::Takes(item),
+        Some(TakeReply::Item(_)) => TakeStep::Takes,
         _ => TakeStep::GoesOn,
     }
 }

@@ -1,21 +1,19 @@
 -- What the calls count and take is what their spans do.
-use Rattle.std.proofs.Common.{◌≡◌, ℕ, zero, suc, ◌+◌, ◌-◌, ◌%◌, Bool, true, false, nat_lt, nat_le, if◌then◌else◌, List, [], ◌∷◌, ◌++◌, length, refl, ap, ◌∙◌, arith, length-append, append-nil, ◌≤◌, inl, inr}
+use Rattle.std.proofs.Common.{◌≡◌, ℕ, zero, suc, ◌+◌, ◌-◌, Bool, true, false, nat_lt, nat_le, if◌then◌else◌, List, [], ◌∷◌, ◌++◌, length, refl, ap, ◌∙◌, arith, length-append, ◌≤◌, inl, inr}
 use Rattle.std.proofs.lemmas.Bool.Decides.{nat_tests}
 use Rattle.bits_core.specs.declared.events.Side.TheVariants.{P, C}
 use Rattle.bits_core.specs.declared.events.Bit.TheVariants.{X}
 use Rattle.bits_core.specs.declared.shapes.Shape.{Shape}
-use Rattle.bits_core.specs.Shape.{capacity_of, width_of}
 use Rattle.bits_core.specs.Made.{Made, Read}
-use Rattle.register_core.specs.Word.{word_read}
 use Rattle.register_core.specs.ScanState.{scan_phrase, row_read_by}
 use Rattle.ring_core.specs.Counts.{Count, batch_phrase}
 use Rattle.ring_core.specs.Puts.{Put, Stored, Full, stored_in, stored_after, words_phrase, put_phrase}
-use Rattle.ring_core.specs.Takes.{Take, Item, ItemAfterClose, Empty, End, Open, Closed, taken_in, take_phrase}
+use Rattle.ring_core.specs.Takes.{Take, Item, ItemAfterClose, Empty, End, Open, Closed, taken_in, count_after, words_read, take_phrase}
 use Rattle.ring_core.specs.Items.{events_in}
 use Rattle.ring_core.proofs.Lengths.{length-scan}
 use Rattle.ring_core.proofs.Timeline.{ended_past}
 use Rattle.ring_core.proofs.Spans.{Span, Passes, Stops, Asks, whole, before_count, counts_begun, counts_ended, sizes, tally, IsSpanAt, counts}
-use Rattle.ring_core.proofs.LookSpans.{steps, look, put_looks, take_looks, span_of, spans}
+use Rattle.ring_core.proofs.LookSpans.{look, put_looks, take_looks, span_of, spans}
 use Rattle.ring_core.proofs.EndedCounts.{stored_ended, taken_begun, take_before_count}
 use Rattle.ring_core.proofs.CountRow.{past_is}
 use Rattle.ring_core.proofs.CallSpans.{three, take_phrase-item, take_phrase-after, take_phrase-empty}
@@ -52,41 +50,44 @@ two_begun a b t = grind (arith, nat_tests)
 
 -- the takes whose count write has begun
 pub taken_begun_is :
-    (shape : Shape) (k : ℕ) (takes : List Take) (end : End) (t : ℕ) → taken_begun shape k takes t ≡ counts_begun (spans C shape (steps shape k) (take_looks takes end)) t
-taken_begun_is shape k [] Open t = refl
-taken_begun_is shape k [] (Closed seen again) t =
-    let y : Span = span_of C shape (steps shape k) (look seen (Asks true)) in
-    let z : Span = span_of C shape (steps shape k) (look again Stops) in
+    (shape : Shape) (c : Count) (takes : List Take) (end : End) (t : ℕ) → taken_begun shape c takes t ≡ counts_begun (spans C shape c (take_looks takes end)) t
+taken_begun_is shape c [] Open t = refl
+taken_begun_is shape c [] (Closed seen again) t =
+    let y : Span = span_of C shape c (look seen (Asks true)) in
+    let z : Span = span_of C shape c (look again Stops) in
     no_count (nat_lt (before_count z) (t - whole y)) 0 ∙ no_count (nat_lt (before_count y) t) ((if nat_lt (before_count z) (t - whole y) then 0 else 0) + 0)
-taken_begun_is shape k (Item seen item ∷ takes) end t =
-    let y : Span = span_of C shape (steps shape k) (look seen (Passes (item ∷ []))) in
+taken_begun_is shape c (Item seen items ∷ takes) end t =
+    let y : Span = span_of C shape c (look seen (Passes items)) in
+    let next : Count = count_after shape c (Item seen items) in
     let a : List Made = scan_phrase (row_read_by C) seen in
-    let b : List Made = word_read (width_of shape) (k % capacity_of shape) item in
-    let front : events_in (take_before_count shape k (Item seen item)) ≡ before_count y = omega (arith, length-append a b, ap length (append-nil b)) in
-    let long : events_in (take_phrase shape k (Item seen item)) ≡ whole y = take_phrase-item shape k seen item in
-    same_count (nat_lt (events_in (take_before_count shape k (Item seen item))) t) (nat_lt (before_count y) t) 1 _ _ (ap (λ j. nat_lt j t) front)
-    (ap (λ j. taken_begun shape (suc k) takes (t - j)) long ∙ taken_begun_is shape (suc k) takes end (t - whole y))
-taken_begun_is shape k (ItemAfterClose seen again item ∷ takes) end t =
-    let y : Span = span_of C shape (steps shape k) (look seen (Asks true)) in
-    let z : Span = span_of C shape (steps shape k) (look again (Passes (item ∷ []))) in
-    let zs : List Span = spans C shape (steps shape (suc k)) (take_looks takes end) in
+    let b : List Made = words_read shape c.number items in
+    let front : events_in (take_before_count shape c (Item seen items)) ≡ before_count y = omega (arith, length-append a b) in
+    let long : events_in (take_phrase shape c (Item seen items)) ≡ whole y = take_phrase-item shape c seen items in
+    same_count (nat_lt (events_in (take_before_count shape c (Item seen items))) t) (nat_lt (before_count y) t) (length items) _ _ (ap (λ j. nat_lt j t) front)
+    (ap (λ j. taken_begun shape next takes (t - j)) long ∙ taken_begun_is shape next takes end (t - whole y))
+taken_begun_is shape c (ItemAfterClose seen again items ∷ takes) end t =
+    let x : Take = ItemAfterClose seen again items in
+    let next : Count = count_after shape c x in
+    let y : Span = span_of C shape c (look seen (Asks true)) in
+    let z : Span = span_of C shape c (look again (Passes items)) in
+    let zs : List Span = spans C shape next (take_looks takes end) in
     let a : List Made = scan_phrase (row_read_by C) seen in
     let a' : List Made = scan_phrase (row_read_by C) again in
-    let b : List Made = word_read (width_of shape) (k % capacity_of shape) item in
-    let front : events_in (take_before_count shape k (ItemAfterClose seen again item)) ≡ whole y + before_count z =
-    omega (arith, length-append (a ++ Read X true ∷ a') b, length-append a (Read X true ∷ a'), ap length (append-nil b)) in
-    let long : events_in (take_phrase shape k (ItemAfterClose seen again item)) ≡ whole y + whole z = take_phrase-after shape k seen again item in
-    let later : t - events_in (take_phrase shape k (ItemAfterClose seen again item)) ≡ t - whole y - whole z = omega (arith, long) in
-    same_count (nat_lt (events_in (take_before_count shape k (ItemAfterClose seen again item))) t) (nat_lt (before_count z) (t - whole y)) 1 _ _
+    let b : List Made = words_read shape c.number items in
+    let front : events_in (take_before_count shape c x) ≡ whole y + before_count z =
+    omega (arith, length-append (a ++ Read X true ∷ a') b, length-append a (Read X true ∷ a')) in
+    let long : events_in (take_phrase shape c x) ≡ whole y + whole z = take_phrase-after shape c seen again items in
+    let later : t - events_in (take_phrase shape c x) ≡ t - whole y - whole z = omega (arith, long) in
+    same_count (nat_lt (events_in (take_before_count shape c x)) t) (nat_lt (before_count z) (t - whole y)) (length items) _ _
     (ap (λ j. nat_lt j t) front ∙ two_begun (whole y) (before_count z) t)
-    (ap (λ j. taken_begun shape (suc k) takes j) later ∙ taken_begun_is shape (suc k) takes end (t - whole y - whole z)) ∙
-    no_count (nat_lt (before_count y) t) ((if nat_lt (before_count z) (t - whole y) then 1 else 0) + counts_begun zs (t - whole y - whole z))
-taken_begun_is shape k (Empty seen ∷ takes) end t =
-    let y : Span = span_of C shape (steps shape k) (look seen (Asks false)) in
-    let long : events_in (take_phrase shape k (Empty seen)) ≡ whole y = take_phrase-empty shape k seen in
-    let front : events_in (take_before_count shape k (Empty seen)) ≡ before_count y = omega (arith, long) in
-    same_count (nat_lt (events_in (take_before_count shape k (Empty seen))) t) (nat_lt (before_count y) t) 0 _ _ (ap (λ j. nat_lt j t) front)
-    (ap (λ j. taken_begun shape k takes (t - j)) long ∙ taken_begun_is shape k takes end (t - whole y))
+    (ap (λ j. taken_begun shape next takes j) later ∙ taken_begun_is shape next takes end (t - whole y - whole z)) ∙
+    no_count (nat_lt (before_count y) t) ((if nat_lt (before_count z) (t - whole y) then length items else 0) + counts_begun zs (t - whole y - whole z))
+taken_begun_is shape c (Empty seen ∷ takes) end t =
+    let y : Span = span_of C shape c (look seen (Asks false)) in
+    let long : events_in (take_phrase shape c (Empty seen)) ≡ whole y = take_phrase-empty shape c seen in
+    let front : events_in (take_before_count shape c (Empty seen)) ≡ before_count y = omega (arith, long) in
+    same_count (nat_lt (events_in (take_before_count shape c (Empty seen))) t) (nat_lt (before_count y) t) 0 _ _ (ap (λ j. nat_lt j t) front)
+    (ap (λ j. taken_begun shape c takes (t - j)) long ∙ taken_begun_is shape c takes end (t - whole y))
 
 -- ---- what the first count writes count
 
@@ -104,20 +105,20 @@ put_tally shape c (Full seen ∷ puts) w =
     (Full seen ∷ before, after, ap (λ l. Full seen ∷ l) e, f)
 
 pub take_tally :
-    (shape : Shape) (k : ℕ) (takes : List Take) (end : End) (w : ℕ) →
-    (before : List Take) × (after : List Take) × (takes ≡ before ++ after) × (k + tally (sizes (spans C shape (steps shape k) (take_looks takes end))) w ≡ taken_in k before)
-take_tally shape k [] Open w = ([], [], refl, omega arith)
-take_tally shape k [] (Closed seen again) w = ([], [], refl, omega arith)
-take_tally shape k (Item seen item ∷ takes) end zero = ([], Item seen item ∷ takes, refl, omega arith)
-take_tally shape k (Item seen item ∷ takes) end (suc w) =
-    let (before, after, e, f) = take_tally shape (suc k) takes end w in
-    (Item seen item ∷ before, after, ap (λ l. Item seen item ∷ l) e, omega (arith, f))
-take_tally shape k (ItemAfterClose seen again item ∷ takes) end zero = ([], ItemAfterClose seen again item ∷ takes, refl, omega arith)
-take_tally shape k (ItemAfterClose seen again item ∷ takes) end (suc w) =
-    let (before, after, e, f) = take_tally shape (suc k) takes end w in
-    (ItemAfterClose seen again item ∷ before, after, ap (λ l. ItemAfterClose seen again item ∷ l) e, omega (arith, f))
-take_tally shape k (Empty seen ∷ takes) end w =
-    let (before, after, e, f) = take_tally shape k takes end w in
+    (shape : Shape) (c : Count) (takes : List Take) (end : End) (w : ℕ) →
+    (before : List Take) × (after : List Take) × (takes ≡ before ++ after) × (c.number + tally (sizes (spans C shape c (take_looks takes end))) w ≡ taken_in c.number before)
+take_tally shape c [] Open w = ([], [], refl, omega arith)
+take_tally shape c [] (Closed seen again) w = ([], [], refl, omega arith)
+take_tally shape c (Item seen items ∷ takes) end zero = ([], Item seen items ∷ takes, refl, omega arith)
+take_tally shape c (Item seen items ∷ takes) end (suc w) =
+    let (before, after, e, f) = take_tally shape (count_after shape c (Item seen items)) takes end w in
+    (Item seen items ∷ before, after, ap (λ l. Item seen items ∷ l) e, omega (arith, f, past_is c.number items))
+take_tally shape c (ItemAfterClose seen again items ∷ takes) end zero = ([], ItemAfterClose seen again items ∷ takes, refl, omega arith)
+take_tally shape c (ItemAfterClose seen again items ∷ takes) end (suc w) =
+    let (before, after, e, f) = take_tally shape (count_after shape c (ItemAfterClose seen again items)) takes end w in
+    (ItemAfterClose seen again items ∷ before, after, ap (λ l. ItemAfterClose seen again items ∷ l) e, omega (arith, f, past_is c.number items))
+take_tally shape c (Empty seen ∷ takes) end w =
+    let (before, after, e, f) = take_tally shape c takes end w in
     (Empty seen ∷ before, after, ap (λ l. Empty seen ∷ l) e, f)
 
 -- ---- spans that have ended
@@ -131,7 +132,7 @@ ended_counts (y ∷ ys) s n x i (inr st) l =
     omega (arith, ended_counts ys st.0 st.1 x (i - whole y) st.4 (omega (arith, l, st.2)), st.3, ended_past y ys i (i - whole y) (omega (arith, l, st.2)))
 
 -- a take has events
-pub phrase_some : (shape : Shape) (k : ℕ) (x : Take) → 1 ≤ events_in (take_phrase shape k x)
-phrase_some shape k (Item seen item) = omega (arith, take_phrase-item shape k seen item, length-scan (row_read_by C) seen)
-phrase_some shape k (ItemAfterClose seen again item) = omega (arith, take_phrase-after shape k seen again item, length-scan (row_read_by C) seen)
-phrase_some shape k (Empty seen) = omega (arith, take_phrase-empty shape k seen, length-scan (row_read_by C) seen)
+pub phrase_some : (shape : Shape) (c : Count) (x : Take) → 1 ≤ events_in (take_phrase shape c x)
+phrase_some shape c (Item seen items) = omega (arith, take_phrase-item shape c seen items, length-scan (row_read_by C) seen)
+phrase_some shape c (ItemAfterClose seen again items) = omega (arith, take_phrase-after shape c seen again items, length-scan (row_read_by C) seen)
+phrase_some shape c (Empty seen) = omega (arith, take_phrase-empty shape c seen, length-scan (row_read_by C) seen)

@@ -1,19 +1,17 @@
 -- Each call has the spans of its looks, and they stand at its own events.
-use Rattle.std.proofs.Common.{◌≡◌, inl, inr, ℕ, suc, ◌+◌, ◌%◌, true, false, List, [], ◌∷◌, ◌++◌, length, refl, ap, subst, arith, length-append, append-nil}
+use Rattle.std.proofs.Common.{◌≡◌, inl, inr, ℕ, ◌+◌, true, false, List, [], ◌∷◌, ◌++◌, length, refl, subst, arith, length-append}
 use Rattle.bits_core.specs.declared.events.Side.{Side}
 use Rattle.bits_core.specs.declared.events.Side.TheVariants.{P, C}
 use Rattle.bits_core.specs.declared.events.Bit.TheVariants.{X}
 use Rattle.bits_core.specs.declared.shapes.Shape.{Shape}
-use Rattle.bits_core.specs.Shape.{capacity_of, width_of}
 use Rattle.bits_core.specs.Made.{Made, Read}
-use Rattle.register_core.specs.Word.{word_read}
 use Rattle.register_core.specs.ScanState.{scan_phrase, row_read_by}
-use Rattle.ring_core.specs.Counts.{number_past, Count, first_count, count_phrase, batch_phrase}
+use Rattle.ring_core.specs.Counts.{number_past, Count, first_count, batch_phrase}
 use Rattle.ring_core.specs.Puts.{Put, Stored, Full, Puts, stored_in, stored_after, stored_count, words_phrase, put_phrase, put_phrases}
-use Rattle.ring_core.specs.Takes.{Take, Item, ItemAfterClose, Empty, End, Takes, taken_after, taken_in, take_phrase, take_phrases}
+use Rattle.ring_core.specs.Takes.{Take, Item, ItemAfterClose, Empty, End, Takes, taken_in, count_after, taken_count, words_read, take_phrase, take_phrases}
 use Rattle.ring_core.specs.Items.{events_in}
 use Rattle.ring_core.proofs.Spans.{Span, Outcome, Passes, Stops, Asks, counts, whole, IsSpanAt}
-use Rattle.ring_core.proofs.LookSpans.{steps, look, put_looks, take_looks, span_of, spans, put_spans, take_spans}
+use Rattle.ring_core.proofs.LookSpans.{look, put_looks, take_looks, span_of, spans, put_spans, take_spans}
 use Rattle.ring_core.specs.CallsAt.{IsPutAt, IsTakeAt, scan_events}
 use Rattle.ring_core.proofs.CountRow.{past_is}
 
@@ -139,76 +137,83 @@ put_has_span shape calls (Full seen) n start stop r =
 
 abbrev pub take_counts : List Take → ℕ
 take_counts [] = 0
-take_counts (Item seen item ∷ takes) = 1 + take_counts takes
-take_counts (ItemAfterClose seen again item ∷ takes) = 1 + take_counts takes
+take_counts (Item seen items ∷ takes) = length items + take_counts takes
+take_counts (ItemAfterClose seen again items ∷ takes) = length items + take_counts takes
 take_counts (Empty seen ∷ takes) = take_counts takes
 
 pub taken_is : (k : ℕ) (takes : List Take) → taken_in k takes ≡ k + take_counts takes
 taken_is k [] = omega arith
-taken_is k (Item seen item ∷ takes) = omega (arith, taken_is (suc k) takes)
-taken_is k (ItemAfterClose seen again item ∷ takes) = omega (arith, taken_is (suc k) takes)
+taken_is k (Item seen items ∷ takes) = omega (arith, taken_is (number_past k items) takes, past_is k items)
+taken_is k (ItemAfterClose seen again items ∷ takes) = omega (arith, taken_is (number_past k items) takes, past_is k items)
 taken_is k (Empty seen ∷ takes) = taken_is k takes
+
+-- the number of the count behind takes
+pub taken_number : (shape : Shape) (c : Count) (takes : List Take) → (taken_count shape c takes).number ≡ taken_in c.number takes
+taken_number shape c [] = refl
+taken_number shape c (x ∷ takes) = taken_number shape (count_after shape c x) takes
 
 -- the accesses of a take, by the spans of its looks
 pub take_phrase-item :
-    (shape : Shape) (k seen item : ℕ) → events_in (take_phrase shape k (Item seen item)) ≡ whole (span_of C shape (steps shape k) (look seen (Passes (item ∷ []))))
-take_phrase-item shape k seen item =
+    (shape : Shape) (c : Count) (seen : ℕ) (items : List ℕ) → events_in (take_phrase shape c (Item seen items)) ≡ whole (span_of C shape c (look seen (Passes items)))
+take_phrase-item shape c seen items =
     let a : List Made = scan_phrase (row_read_by C) seen in
-    let b : List Made = word_read (width_of shape) (k % capacity_of shape) item in
-    let d : List Made = count_phrase shape C k in
-    omega (arith, length-append a (b ++ d), length-append b d, ap length (append-nil b))
+    let b : List Made = words_read shape c.number items in
+    let d : List Made = batch_phrase shape C c items in
+    omega (arith, length-append a (b ++ d), length-append b d)
 
 pub take_phrase-after :
-    (shape : Shape) (k seen again item : ℕ) →
-    events_in (take_phrase shape k (ItemAfterClose seen again item)) ≡
-    whole (span_of C shape (steps shape k) (look seen (Asks true))) + whole (span_of C shape (steps shape k) (look again (Passes (item ∷ []))))
-take_phrase-after shape k seen again item =
+    (shape : Shape) (c : Count) (seen again : ℕ) (items : List ℕ) →
+    events_in (take_phrase shape c (ItemAfterClose seen again items)) ≡
+    whole (span_of C shape c (look seen (Asks true))) + whole (span_of C shape c (look again (Passes items)))
+take_phrase-after shape c seen again items =
     let a : List Made = scan_phrase (row_read_by C) seen in
     let a' : List Made = scan_phrase (row_read_by C) again in
-    let b : List Made = word_read (width_of shape) (k % capacity_of shape) item in
-    let d : List Made = count_phrase shape C k in
-    omega (arith, length-append (a ++ Read X true ∷ a') (b ++ d), length-append a (Read X true ∷ a'), length-append b d, ap length (append-nil b))
+    let b : List Made = words_read shape c.number items in
+    let d : List Made = batch_phrase shape C c items in
+    omega (arith, length-append (a ++ Read X true ∷ a') (b ++ d), length-append a (Read X true ∷ a'), length-append b d)
 
 pub take_phrase-empty :
-    (shape : Shape) (k seen : ℕ) → events_in (take_phrase shape k (Empty seen)) ≡ whole (span_of C shape (steps shape k) (look seen (Asks false)))
-take_phrase-empty shape k seen = omega (arith, length-append (scan_phrase (row_read_by C) seen) (Read X false ∷ []))
+    (shape : Shape) (c : Count) (seen : ℕ) → events_in (take_phrase shape c (Empty seen)) ≡ whole (span_of C shape c (look seen (Asks false)))
+take_phrase-empty shape c seen = omega (arith, length-append (scan_phrase (row_read_by C) seen) (Read X false ∷ []))
 
 pub behind_takes :
-    (shape : Shape) (k : ℕ) (before rest : List Take) (end : End) (s n : ℕ) (x : Span) →
-    IsSpanAt (spans C shape (steps shape (taken_in k before)) (take_looks rest end)) s n x →
-    IsSpanAt (spans C shape (steps shape k) (take_looks (before ++ rest) end)) (events_in (take_phrases shape k before) + s) (take_counts before + n) x
-behind_takes shape k [] rest end s n x st = stands_at (spans C shape (steps shape k) (take_looks rest end)) s (0 + s) n (0 + n) x (omega arith) (omega arith) st
-behind_takes shape k (Item seen item ∷ before) rest end s n x st =
-    stands_behind (span_of C shape (steps shape k) (look seen (Passes (item ∷ [])))) (spans C shape (steps shape (suc k)) (take_looks (before ++ rest) end))
-    (events_in (take_phrases shape (suc k) before) + s) (take_counts before + n) _ _ x
-    (omega (arith, length-append (take_phrase shape k (Item seen item)) (take_phrases shape (suc k) before), take_phrase-item shape k seen item)) (omega arith)
-    (behind_takes shape (suc k) before rest end s n x st)
-behind_takes shape k (ItemAfterClose seen again item ∷ before) rest end s n x st =
-    let z : Span = span_of C shape (steps shape k) (look again (Passes (item ∷ []))) in
-    let zs : List Span = spans C shape (steps shape (suc k)) (take_looks (before ++ rest) end) in
-    let s' : ℕ = whole z + (events_in (take_phrases shape (suc k) before) + s) in
-    let n' : ℕ = 1 + (take_counts before + n) in
-    stands_behind (span_of C shape (steps shape k) (look seen (Asks true))) (z ∷ zs) s' n' _ _ x
-    (omega (arith, length-append (take_phrase shape k (ItemAfterClose seen again item)) (take_phrases shape (suc k) before), take_phrase-after shape k seen again item))
+    (shape : Shape) (c : Count) (before rest : List Take) (end : End) (s n : ℕ) (x : Span) →
+    IsSpanAt (spans C shape (taken_count shape c before) (take_looks rest end)) s n x →
+    IsSpanAt (spans C shape c (take_looks (before ++ rest) end)) (events_in (take_phrases shape c before) + s) (take_counts before + n) x
+behind_takes shape c [] rest end s n x st = stands_at (spans C shape c (take_looks rest end)) s (0 + s) n (0 + n) x (omega arith) (omega arith) st
+behind_takes shape c (Item seen items ∷ before) rest end s n x st =
+    let next : Count = count_after shape c (Item seen items) in
+    stands_behind (span_of C shape c (look seen (Passes items))) (spans C shape next (take_looks (before ++ rest) end))
+    (events_in (take_phrases shape next before) + s) (take_counts before + n) _ _ x
+    (omega (arith, length-append (take_phrase shape c (Item seen items)) (take_phrases shape next before), take_phrase-item shape c seen items)) (omega arith)
+    (behind_takes shape next before rest end s n x st)
+behind_takes shape c (ItemAfterClose seen again items ∷ before) rest end s n x st =
+    let next : Count = count_after shape c (ItemAfterClose seen again items) in
+    let z : Span = span_of C shape c (look again (Passes items)) in
+    let zs : List Span = spans C shape next (take_looks (before ++ rest) end) in
+    let s' : ℕ = whole z + (events_in (take_phrases shape next before) + s) in
+    let n' : ℕ = length items + (take_counts before + n) in
+    stands_behind (span_of C shape c (look seen (Asks true))) (z ∷ zs) s' n' _ _ x
+    (omega (arith, length-append (take_phrase shape c (ItemAfterClose seen again items)) (take_phrases shape next before), take_phrase-after shape c seen again items))
     (omega arith)
-    (stands_behind z zs (events_in (take_phrases shape (suc k) before) + s) (take_counts before + n) s' n' x refl (omega arith)
-    (behind_takes shape (suc k) before rest end s n x st))
-behind_takes shape k (Empty seen ∷ before) rest end s n x st =
-    stands_behind (span_of C shape (steps shape k) (look seen (Asks false))) (spans C shape (steps shape k) (take_looks (before ++ rest) end))
-    (events_in (take_phrases shape k before) + s) (take_counts before + n) _ _ x
-    (omega (arith, length-append (take_phrase shape k (Empty seen)) (take_phrases shape k before), take_phrase-empty shape k seen)) (omega arith)
-    (behind_takes shape k before rest end s n x st)
+    (stands_behind z zs (events_in (take_phrases shape next before) + s) (take_counts before + n) s' n' x refl (omega arith)
+    (behind_takes shape next before rest end s n x st))
+behind_takes shape c (Empty seen ∷ before) rest end s n x st =
+    stands_behind (span_of C shape c (look seen (Asks false))) (spans C shape c (take_looks (before ++ rest) end))
+    (events_in (take_phrases shape c before) + s) (take_counts before + n) _ _ x
+    (omega (arith, length-append (take_phrase shape c (Empty seen)) (take_phrases shape c before), take_phrase-empty shape c seen)) (omega arith)
+    (behind_takes shape c before rest end s n x st)
 
 take_phrases-push :
-    (shape : Shape) (k : ℕ) (before : List Take) (x : Take) →
-    length (take_phrases shape k (before ++ x ∷ [])) ≡ length (take_phrases shape k before) + length (take_phrase shape (taken_in k before) x)
-take_phrases-push shape k [] x = omega (arith, length-append (take_phrase shape k x) [])
-take_phrases-push shape k (y ∷ before) x =
-    let next : ℕ = taken_after k y in
+    (shape : Shape) (c : Count) (before : List Take) (x : Take) →
+    length (take_phrases shape c (before ++ x ∷ [])) ≡ length (take_phrases shape c before) + length (take_phrase shape (taken_count shape c before) x)
+take_phrases-push shape c [] x = omega (arith, length-append (take_phrase shape c x) [])
+take_phrases-push shape c (y ∷ before) x =
+    let next : Count = count_after shape c y in
     omega (
       arith,
-      length-append (take_phrase shape k y) (take_phrases shape next (before ++ x ∷ [])),
-      length-append (take_phrase shape k y) (take_phrases shape next before),
+      length-append (take_phrase shape c y) (take_phrases shape next (before ++ x ∷ [])),
+      length-append (take_phrase shape c y) (take_phrases shape next before),
       take_phrases-push shape next before x,
     )
 
@@ -217,25 +222,25 @@ abbrev pub second_scan : ℕ → ℕ → ℕ
 second_scan start seen = start + events_in (scan_phrase (row_read_by C) seen ++ Read X true ∷ [])
 
 -- the same, by the span of its first look
-second_is : (shape : Shape) (k seen start : ℕ) → second_scan start seen ≡ start + whole (span_of C shape (steps shape k) (look seen (Asks true)))
-second_is shape k seen start = omega (arith, length-append (scan_phrase (row_read_by C) seen) (Read X true ∷ []))
+second_is : (shape : Shape) (c : Count) (seen start : ℕ) → second_scan start seen ≡ start + whole (span_of C shape c (look seen (Asks true)))
+second_is shape c seen start = omega (arith, length-append (scan_phrase (row_read_by C) seen) (Read X true ∷ []))
 
--- a take that takes an item at once
+-- a take that takes items at once
 pub item_has_span :
-    (shape : Shape) (calls : Takes) (seen item k start stop : ℕ) → IsTakeAt shape calls (Item seen item) k start stop →
-    HasSpan C (take_spans shape calls) k start stop seen (Passes (item ∷ []))
-item_has_span shape calls seen item k start stop r =
-    let m : ℕ = taken_in 0 r.before in
-    let y : Span = span_of C shape (steps shape m) (look seen (Passes (item ∷ []))) in
-    let ys : List Span = spans C shape (steps shape (suc m)) (take_looks r.after calls.end) in
-    let st = behind_takes shape 0 r.before (Item seen item ∷ r.after) calls.end 0 0 y (first_stands y ys) in
+    (shape : Shape) (calls : Takes) (seen : ℕ) (items : List ℕ) (k start stop : ℕ) → IsTakeAt shape calls (Item seen items) k start stop →
+    HasSpan C (take_spans shape calls) k start stop seen (Passes items)
+item_has_span shape calls seen items k start stop r =
+    let c : Count = taken_count shape first_count r.before in
+    let y : Span = span_of C shape c (look seen (Passes items)) in
+    let ys : List Span = spans C shape (count_after shape c (Item seen items)) (take_looks r.after calls.end) in
+    let st = behind_takes shape first_count r.before (Item seen items ∷ r.after) calls.end 0 0 y (first_stands y ys) in
     record {
       span = y;
       stands = rw r.among (stands_at _ _ start _ k y (omega (arith, r.starts)) (omega (arith, r.number, taken_is 0 r.before)) st);
       seen_is = refl;
       outcome_is = refl;
       scan_is = refl;
-      stop_is = omega (arith, r.starts, r.stops, take_phrases-push shape 0 r.before (Item seen item), take_phrase-item shape m seen item);
+      stop_is = omega (arith, r.starts, r.stops, take_phrases-push shape first_count r.before (Item seen items), take_phrase-item shape c seen items);
     }
 
 -- one that finds the ring empty
@@ -243,34 +248,34 @@ pub empty_has_span :
     (shape : Shape) (calls : Takes) (seen k start stop : ℕ) → IsTakeAt shape calls (Empty seen) k start stop →
     HasSpan C (take_spans shape calls) k start stop seen (Asks false)
 empty_has_span shape calls seen k start stop r =
-    let m : ℕ = taken_in 0 r.before in
-    let y : Span = span_of C shape (steps shape m) (look seen (Asks false)) in
-    let ys : List Span = spans C shape (steps shape m) (take_looks r.after calls.end) in
-    let st = behind_takes shape 0 r.before (Empty seen ∷ r.after) calls.end 0 0 y (first_stands y ys) in
+    let c : Count = taken_count shape first_count r.before in
+    let y : Span = span_of C shape c (look seen (Asks false)) in
+    let ys : List Span = spans C shape c (take_looks r.after calls.end) in
+    let st = behind_takes shape first_count r.before (Empty seen ∷ r.after) calls.end 0 0 y (first_stands y ys) in
     record {
       span = y;
       stands = rw r.among (stands_at _ _ start _ k y (omega (arith, r.starts)) (omega (arith, r.number, taken_is 0 r.before)) st);
       seen_is = refl;
       outcome_is = refl;
       scan_is = refl;
-      stop_is = omega (arith, r.starts, r.stops, take_phrases-push shape 0 r.before (Empty seen), take_phrase-empty shape m seen);
+      stop_is = omega (arith, r.starts, r.stops, take_phrases-push shape first_count r.before (Empty seen), take_phrase-empty shape c seen);
     }
 
--- one that takes an item by a second scan
+-- one that takes items by a second scan
 pub after_has_second :
-    (shape : Shape) (calls : Takes) (seen again item k start stop : ℕ) → IsTakeAt shape calls (ItemAfterClose seen again item) k start stop →
-    HasSpan C (take_spans shape calls) k (second_scan start seen) stop again (Passes (item ∷ []))
-after_has_second shape calls seen again item k start stop r =
-    let m : ℕ = taken_in 0 r.before in
-    let y : Span = span_of C shape (steps shape m) (look seen (Asks true)) in
-    let z : Span = span_of C shape (steps shape m) (look again (Passes (item ∷ []))) in
-    let zs : List Span = spans C shape (steps shape (suc m)) (take_looks r.after calls.end) in
-    let st = behind_takes shape 0 r.before (ItemAfterClose seen again item ∷ r.after) calls.end (whole y) 0 z
+    (shape : Shape) (calls : Takes) (seen again : ℕ) (items : List ℕ) (k start stop : ℕ) → IsTakeAt shape calls (ItemAfterClose seen again items) k start stop →
+    HasSpan C (take_spans shape calls) k (second_scan start seen) stop again (Passes items)
+after_has_second shape calls seen again items k start stop r =
+    let c : Count = taken_count shape first_count r.before in
+    let y : Span = span_of C shape c (look seen (Asks true)) in
+    let z : Span = span_of C shape c (look again (Passes items)) in
+    let zs : List Span = spans C shape (count_after shape c (ItemAfterClose seen again items)) (take_looks r.after calls.end) in
+    let st = behind_takes shape first_count r.before (ItemAfterClose seen again items ∷ r.after) calls.end (whole y) 0 z
     (stands_behind y (z ∷ zs) 0 0 (whole y) 0 z (omega arith) (omega arith) (first_stands z zs)) in
     record {
       span = z;
       stands = rw r.among
-          (stands_at _ _ (second_scan start seen) _ k z (omega (arith, r.starts, second_is shape m seen start)) (omega (arith, r.number, taken_is 0 r.before)) st);
+          (stands_at _ _ (second_scan start seen) _ k z (omega (arith, r.starts, second_is shape c seen start)) (omega (arith, r.number, taken_is 0 r.before)) st);
       seen_is = refl;
       outcome_is = refl;
       scan_is = refl;
@@ -278,8 +283,8 @@ after_has_second shape calls seen again item k start stop r =
         arith,
         r.starts,
         r.stops,
-        take_phrases-push shape 0 r.before (ItemAfterClose seen again item),
-        take_phrase-after shape m seen again item,
-        second_is shape m seen start,
+        take_phrases-push shape first_count r.before (ItemAfterClose seen again items),
+        take_phrase-after shape c seen again items,
+        second_is shape c seen start,
       );
     }

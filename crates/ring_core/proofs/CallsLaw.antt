@@ -1,5 +1,5 @@
 -- The law of the ring over calls, from the law over spans.
-use Rattle.std.proofs.Common.{◌≡◌, inl, inr, zero, ℕ, suc, ◌+◌, ◌-◌, ◌*◌, ◌%◌, ◌<◌, ◌≤◌, true, false, Some, List, [], ◌∷◌, ◌++◌, length, sym, ap, subst, ◌∙◌, arith, length-append}
+use Rattle.std.proofs.Common.{◌≡◌, inl, inr, ℕ, suc, ◌+◌, ◌-◌, ◌*◌, ◌%◌, ◌<◌, ◌≤◌, true, false, Some, List, [], ◌∷◌, ◌++◌, length, refl, sym, ap, subst, ◌∙◌, arith, length-append}
 use Rattle.std.specs.Prelude.{slice_get}
 use Rattle.std.proofs.Math.Nat.{suc-mul}
 use Rattle.std.proofs.lemmas.Option.{slice_get_within}
@@ -8,29 +8,28 @@ use Rattle.bits_core.specs.declared.events.Side.TheVariants.{P, C}
 use Rattle.bits_core.specs.declared.events.Bit.TheVariants.{X}
 use Rattle.bits_core.specs.declared.events.Event.{Event}
 use Rattle.bits_core.specs.declared.shapes.Shape.{Shape}
-use Rattle.bits_core.specs.Shape.{AllFit, batch_of, capacity_of, modulus_of, width_of}
+use Rattle.bits_core.specs.Shape.{batch_of, capacity_of, modulus_of, width_of}
 use Rattle.register_core.specs.Phrases.{word_read, word_write}
-use Rattle.register_core.specs.Word.{DigitsTellItems}
 use Rattle.bits_core.specs.Bits.{other}
 use Rattle.bits_core.specs.Made.{Made, Read, own, clock, place_of, IsPlaceOf, IsBeginning}
 use Rattle.register_core.specs.ScanState.{scan_phrase, row_read_by}
-use Rattle.ring_core.specs.Counts.{distance, first_count}
+use Rattle.ring_core.specs.Counts.{distance, first_count, take_batch_of}
 use Rattle.ring_core.specs.Puts.{Put, Puts, Stored, Full, stored_in, close_phrase, put_program}
 use Rattle.ring_core.specs.Takes.{accesses_before_word, Take, Item, ItemAfterClose, Empty, Takes, taken_in, take_program}
 use Rattle.ring_core.specs.Items.{events_in, items_put, items_taken}
-use Rattle.ring_core.proofs.Spans.{Span, items_of, Passes, counts, whole, counts_begun, counts_ended, IsSpanAt, sizes, tally}
+use Rattle.ring_core.proofs.Spans.{Span, items_of, counts, whole, counts_begun, counts_ended, IsSpanAt, sizes, tally}
 use Rattle.ring_core.specs.Items as taken
 use Rattle.ring_core.proofs.LookSpans.{put_looks, take_looks, put_spans, take_spans}
 use Rattle.ring_core.specs.CallsAt.{IsTakeAt, scan_events, puts_begun, puts_ended, takes_begun, takes_ended}
-use Rattle.ring_core.proofs.ItemPlaces.{TakesItem, ItemsAreQuiet}
+use Rattle.ring_core.proofs.ItemPlaces.{ItemsAreQuiet}
 use Rattle.ring_core.proofs.WordPlaces.{WordSpan, word_there}
 use Rattle.ring_core.proofs.WordPlaces.{none-close as no_word}
-use Rattle.ring_core.proofs.Phrases.{same_word_read}
-use Rattle.ring_core.specs.RingLaw.{IsRun, IsInterval, IsWithin, WordsAreQuiet, TakenArePrefix, TakesMatchPuts, EmptyIsFresh, FullIsFresh, FillIsFresh, ClosedIsTrue}
+use Rattle.ring_core.specs.RingLaw.{IsRun, IsInterval, IsWithin, WordsAreQuiet, TakenArePrefix, TakesMatchPuts, EmptyIsFresh, FullIsFresh, FillIsFresh, DrainIsFresh, ClosedIsTrue}
 use Rattle.ring_core.specs.Ranges.{ReadsCount, PutsAreInRange, TakesAreInRange}
 use Rattle.ring_core.proofs.RingOfSpans as by_span
-use Rattle.ring_core.proofs.Timeline.{AllProper, begun_at, ended_at, length-begun_items, length-ended_items}
-use Rattle.ring_core.proofs.Looks.{puts_as_looks, takes_as_looks, proper_puts, proper_takes, puts_items, takes_items, word_is as word_is_long, asks_word, take_fits}
+use Rattle.ring_core.proofs.Timeline.{AllProper, begun_at, length-begun_items, length-ended_items}
+use Rattle.ring_core.proofs.SpanItems.{within_items}
+use Rattle.ring_core.proofs.Looks.{puts_as_looks, takes_as_looks, proper_puts, proper_takes, puts_items, takes_items, asks_word}
 use Rattle.ring_core.proofs.Lengths.{length-scan}
 use Rattle.ring_core.proofs.CloseReads.{OwnFacts}
 use Rattle.ring_core.proofs.CloseEnds.{place_within, not_ended}
@@ -52,52 +51,41 @@ few_at most [] h s n x st = elim st [ ]
 few_at most (y ∷ ys) h s n x (inl st) = omega (arith, h.0.few, ap (λ (z : Span). counts z.outcome) st.2)
 few_at most (y ∷ ys) h s n x (inr st) = few_at most ys h.1 st.0 st.1 x st.4
 
-only_item : (items : List ℕ) (i x : ℕ) → slice_get items i ≡ Some x → length items ≤ 1 → items ≡ x ∷ []
-only_item [] i x e l = absurd (cc)
-only_item (y ∷ []) zero x e l = cc
-only_item (y ∷ []) (suc i) x e l = absurd (cc)
-only_item (y ∷ z ∷ items) i x e l = absurd (omega (arith, l))
-
 -- the take of an item by its span
-pub record HasWord (shape : Shape) (calls : Takes) (k item word stop : ℕ) : Type 0 where
+pub record HasWord (shape : Shape) (calls : Takes) (n index item word stop : ℕ) : Type 0 where
   pub start : ℕ
   pub span : Span
-  pub stands : IsSpanAt (take_spans shape calls) start k span
-  pub outcome_is : span.outcome ≡ Passes (item ∷ [])
-  pub word_is : start + span.scan ≡ word
+  pub stands : IsSpanAt (take_spans shape calls) start n span
+  pub listed : slice_get (items_of span.outcome) index ≡ Some item
+  pub word_is : start + span.scan + 2 * (index * width_of shape) ≡ word
   pub stop_is : stop ≡ start + whole span
 
-has_word : (shape : Shape) (calls : Takes) (k item word stop : ℕ) → TakesItem shape calls k item word stop → HasWord shape calls k item word stop
-has_word shape calls k item word stop r = by_take r.take r.is_take r.has r.reads
-  where
-    by_take :
-        (x : Take) → IsTakeAt shape calls x k r.start stop → taken.item_of x ≡ Some item → word ≡ r.start + events_in (accesses_before_word x) →
-        HasWord shape calls k item word stop
-    by_take (Item seen y) at e f =
-        let z = item_has_span shape calls seen y k r.start stop at in
-        let same : y ≡ item = cc in
-        record {
-          start = r.start;
-          span = z.span;
-          stands = z.stands;
-          outcome_is = z.outcome_is ∙ ap (λ v. Passes (v ∷ [])) same;
-          word_is = omega (arith, z.scan_is, f);
-          stop_is = z.stop_is;
-        }
-    by_take (ItemAfterClose seen again y) at e f =
-        let z = after_has_second shape calls seen again y k r.start stop at in
-        let same : y ≡ item = cc in
-        let a : List Made = scan_phrase (row_read_by C) seen in
-        let b : List Made = scan_phrase (row_read_by C) again in
-        record {
-          start = second_scan r.start seen;
-          span = z.span;
-          stands = z.stands;
-          outcome_is = z.outcome_is ∙ ap (λ v. Passes (v ∷ [])) same;
-          word_is = omega (arith, z.scan_is, f, length-append a (Read X true ∷ b), length-append a (Read X true ∷ []));
-          stop_is = z.stop_is;
-        }
-    by_take (Empty seen) at e f = absurd (cc)
+has_word :
+    (shape : Shape) (calls : Takes) (x : Take) (n start stop index item word : ℕ) → IsTakeAt shape calls x n start stop → slice_get (taken.taken_of x) index ≡ Some item →
+    word ≡ start + events_in (accesses_before_word x) + 2 * (index * width_of shape) → HasWord shape calls n index item word stop
+has_word shape calls (Item seen items) n start stop index item word at e f =
+    let z = item_has_span shape calls seen items n start stop at in
+    record {
+      start = start;
+      span = z.span;
+      stands = z.stands;
+      listed = ap (λ o. slice_get (items_of o) index) z.outcome_is ∙ e;
+      word_is = omega (arith, z.scan_is, f);
+      stop_is = z.stop_is;
+    }
+has_word shape calls (ItemAfterClose seen again items) n start stop index item word at e f =
+    let z = after_has_second shape calls seen again items n start stop at in
+    let a : List Made = scan_phrase (row_read_by C) seen in
+    let b : List Made = scan_phrase (row_read_by C) again in
+    record {
+      start = second_scan start seen;
+      span = z.span;
+      stands = z.stands;
+      listed = ap (λ o. slice_get (items_of o) index) z.outcome_is ∙ e;
+      word_is = omega (arith, z.scan_is, f, length-append a (Read X true ∷ b), length-append a (Read X true ∷ []));
+      stop_is = z.stop_is;
+    }
+has_word shape calls (Empty seen) n start stop index item word at e f = absurd (cc)
 
 module _ (facts : OwnFacts) (shape : Shape) (h : List Event) (puts : Puts) (takes : Takes) (run : IsRun shape h puts takes)
     (law : by_span.LawOfSpans shape h puts takes) where
@@ -110,10 +98,10 @@ module _ (facts : OwnFacts) (shape : Shape) (h : List Event) (puts : Puts) (take
   puts_ended_are t = sym (puts_ended_is shape puts t ∙ stored_ended_is shape first_count puts.puts t)
 
   takes_begun_are : (t : ℕ) → counts_begun (take_spans shape takes) t ≡ takes_begun shape takes t
-  takes_begun_are t = sym (takes_begun_is shape takes t ∙ taken_begun_is shape 0 takes.takes takes.end t)
+  takes_begun_are t = sym (takes_begun_is shape takes t ∙ taken_begun_is shape first_count takes.takes takes.end t)
 
   takes_ended_are : (t : ℕ) → counts_ended (take_spans shape takes) t ≡ takes_ended shape takes t
-  takes_ended_are t = sym (ap length (takes_items shape 0 takes.takes takes.end t) ∙ length-ended_items (take_spans shape takes) t)
+  takes_ended_are t = sym (ap length (takes_items shape first_count takes.takes takes.end t) ∙ length-ended_items (take_spans shape takes) t)
 
   put_number : (w : ℕ) → (first : List Put) × IsBeginning first puts.puts × (tally (sizes (put_spans shape puts)) w ≡ stored_in 0 first)
   put_number w =
@@ -122,7 +110,7 @@ module _ (facts : OwnFacts) (shape : Shape) (h : List Event) (puts : Puts) (take
 
   take_number : (w : ℕ) → (first : List Take) × IsBeginning first takes.takes × (tally (sizes (take_spans shape takes)) w ≡ taken_in 0 first)
   take_number w =
-      let (before, after, e, f) = take_tally shape 0 takes.takes takes.end w in
+      let (before, after, e, f) = take_tally shape first_count takes.takes takes.end w in
       (before, (after, sym e), omega (arith, f))
 
   pub within : IsWithin shape h puts takes
@@ -180,15 +168,15 @@ module _ (facts : OwnFacts) (shape : Shape) (h : List Event) (puts : Puts) (take
       scan_there P shape first_count (put_looks puts.puts) (close_phrase puts.closes) (none-close P puts.closes) before after seen
       (sym (puts_as_looks shape first_count puts.puts puts.closes) ∙ program) in
       let stands = behind P (batch_of shape) (put_spans shape puts) (proper_puts shape puts run.puts_follow.are) (puts_begun shape puts) puts_begun_are start n seen before start_is n_is z in
-      reads_count P start seen z.span takes.takes (taken_in 0) (takes_ended shape takes) (takes_begun shape takes) (take_spans shape takes) (n - (capacity_of shape + 1)) n
+      reads_count P start seen z.span takes.takes (taken_in 0) (takes_ended shape takes) (takes_begun shape takes) (take_spans shape takes) (n - (capacity_of shape + take_batch_of shape)) n
       takes_ended_are takes_begun_are take_number z.seen_is z.scan_is l (law.put_range start n z.span stands (omega (arith, l, z.scan_is)))
 
   pub take_range : TakesAreInRange shape h puts takes
   take_range k start seen (before, after, program, start_is) l k_is =
       let z : ScanSpan C (take_spans shape takes) (2 * length before) seen =
       scan_there C shape first_count (take_looks takes.takes takes.end) [] tt before after seen
-      (sym (takes_as_looks shape 0 takes.takes takes.end) ∙ program) in
-      let stands = behind C 1 (take_spans shape takes) (proper_takes shape takes) (takes_begun shape takes) takes_begun_are start k seen before start_is k_is z in
+      (sym (takes_as_looks shape first_count takes.takes takes.end) ∙ program) in
+      let stands = behind C (take_batch_of shape) (take_spans shape takes) (proper_takes shape takes run.takes_follow.are) (takes_begun shape takes) takes_begun_are start k seen before start_is k_is z in
       reads_count C start seen z.span puts.puts (stored_in 0) (puts_ended shape puts) (puts_begun shape puts) (put_spans shape puts) (k - batch_of shape) (k + capacity_of shape)
       puts_ended_are puts_begun_are put_number z.seen_is z.scan_is l (law.take_range start k z.span stands (omega (arith, l, z.scan_is)))
 
@@ -198,15 +186,15 @@ module _ (facts : OwnFacts) (shape : Shape) (h : List Event) (puts : Puts) (take
   items_quiet j item word past a k item' word' past' b cell start stop start' stop' on off overlap =
       let w : ℕ = width_of shape in
       let x = put_has_span shape puts (Stored a.seen a.items) a.n a.start past a.is_put in
-      let y = has_word shape takes k item' word' past' b in
+      let y = has_word shape takes b.take b.n b.start past' b.index item' word' b.is_take b.has b.reads in
       let size : suc a.index * w ≡ a.index * w + w = suc-mul a.index w in
-      let one : 1 * w ≡ w = omega arith in
-      let none : 0 * w ≡ 0 = omega arith in
+      let size' : suc b.index * w ≡ b.index * w + w = suc-mul b.index w in
       let digits : 0 < w = shape.has_digits in
       law.quiet a.start a.n a.index x.span x.stands (omega (arith, slice_get_within a.items a.index item a.listed, ap counts x.outcome_is))
-      y.start k y.span y.stands (ap counts y.outcome_is) (ap (λ i. i % capacity_of shape) (sym a.number) ∙ cell) start stop start' stop'
+      y.start b.n b.index y.span y.stands (within_items y.span.outcome b.index item' y.listed)
+      (ap (λ i. i % capacity_of shape) (sym a.number) ∙ cell ∙ ap (λ i. i % capacity_of shape) b.number) start stop start' stop'
       (interval_at P h word _ _ _ start stop (omega (arith, a.writes, x.scan_is)) (omega (arith, a.writes, x.scan_is, size, digits)) on)
-      (interval_at C h word' _ _ _ start' stop' (omega (arith, y.word_is, none)) (omega (arith, y.word_is, one, digits)) off)
+      (interval_at C h word' _ _ _ start' stop' (omega (arith, y.word_is)) (omega (arith, y.word_is, size', digits)) off)
       overlap
 
   pub prefix : TakenArePrefix shape h puts takes
@@ -222,57 +210,32 @@ module _ (facts : OwnFacts) (shape : Shape) (h : List Event) (puts : Puts) (take
   take_word : (before after : List Made) (cell item : ℕ) → take_program shape takes ≡ before ++ (word_read (width_of shape) cell item ++ after) →
       WordSpan C shape 0 (take_spans shape takes) before (word_read (width_of shape) cell item ++ after) cell
   take_word before after cell item program =
-      word_there C shape first_count (take_looks takes.takes takes.end) [] tt before after cell item (sym (takes_as_looks shape 0 takes.takes takes.end) ∙ program)
-
-  -- a look of a take has one item
-  one_item : (before rest : List Made) (cell : ℕ) (y : WordSpan C shape 0 (take_spans shape takes) before rest cell) →
-      (counts y.span.outcome ≡ 1) × (y.index ≡ 0) × (y.items ≡ y.item ∷ [])
-  one_item before rest cell y =
-      let few : counts y.span.outcome ≤ 1 = few_at 1 (take_spans shape takes) (proper_takes shape takes) y.start y.number y.span y.stands in
-      let size : counts y.span.outcome ≡ length y.items = ap counts y.outcome_is in
-      let within : y.index < length y.items = slice_get_within y.items y.index y.item y.listed in
-      (omega (arith, few, size, within), omega (arith, few, size, within), only_item y.items y.index y.item y.listed (omega (arith, few, size)))
+      word_there C shape first_count (take_looks takes.takes takes.end) [] tt before after cell item (sym (takes_as_looks shape first_count takes.takes takes.end) ∙ program)
 
   pub words : WordsAreQuiet shape h puts takes
   words cell item item' word word' (before, after, program, word_is) (before', after', program', word_is') start stop start' stop' on off overlap =
       let w : ℕ = width_of shape in
       let x = put_word before after cell item program in
       let y = take_word before' after' cell item' program' in
-      let (one, first, only) = one_item before' (word_read w cell item' ++ after') cell y in
       let size : suc x.index * w ≡ x.index * w + w = suc-mul x.index w in
-      let single : 1 * w ≡ w = omega arith in
-      let none : 0 * w ≡ 0 = omega arith in
-      let at_first : y.index * w ≡ 0 * w = ap (λ i. i * w) first in
+      let size' : suc y.index * w ≡ y.index * w + w = suc-mul y.index w in
       let digits : 0 < w = shape.has_digits in
       let x_number : 0 + x.number + x.index ≡ x.number + x.index = omega arith in
-      let y_number : 0 + y.number + y.index ≡ y.number = omega (arith, first) in
-      let same : (x.number + x.index) % capacity_of shape ≡ y.number % capacity_of shape =
+      let y_number : 0 + y.number + y.index ≡ y.number + y.index = omega arith in
+      let same : (x.number + x.index) % capacity_of shape ≡ (y.number + y.index) % capacity_of shape =
       ap (λ i. i % capacity_of shape) (sym x_number) ∙ x.cell_is ∙ sym y.cell_is ∙ ap (λ i. i % capacity_of shape) y_number in
       law.quiet x.start x.number x.index x.span x.stands (omega (arith, slice_get_within x.items x.index x.item x.listed, ap counts x.outcome_is))
-      y.start y.number y.span y.stands one same start stop start' stop'
+      y.start y.number y.index y.span y.stands (omega (arith, slice_get_within y.items y.index y.item y.listed, ap counts y.outcome_is)) same start stop start' stop'
       (interval_at P h word _ _ _ start stop (omega (arith, word_is, x.place)) (omega (arith, word_is, x.place, size, digits)) on)
-      (interval_at C h word' _ _ _ start' stop' (omega (arith, word_is', y.place, at_first, none)) (omega (arith, word_is', y.place, at_first, none, single, digits)) off)
+      (interval_at C h word' _ _ _ start' stop' (omega (arith, word_is', y.place)) (omega (arith, word_is', y.place, size', digits)) off)
       overlap
 
-  pub items : DigitsTellItems → TakesMatchPuts shape h puts takes
-  items tell t k cell item word fits (before, after, program, word_is) k_is l =
+  pub items : TakesMatchPuts shape h puts takes
+  items t k i item start stop x at has l =
       let w : ℕ = width_of shape in
-      let y = take_word before after cell item program in
-      let (one, first, only) = one_item before (word_read w cell item ++ after) cell y in
-      let at_first : y.index * w ≡ 0 * w = ap (λ i. i * w) first in
-      let none : 0 * w ≡ 0 = omega arith in
-      let outcome : y.span.outcome ≡ Passes (y.item ∷ []) = y.outcome_is ∙ ap Passes only in
-      let fit : AllFit shape (items_of y.span.outcome) = (take_fits shape first_count takes.takes takes.end run.takes_follow.are y.start y.number y.span y.stands).items in
-      let fits' : AllFit shape (y.item ∷ []) = subst (λ o. AllFit shape (items_of o)) outcome fit in
-      let (same, left) = same_word_read tell w cell item y.item after y.after fits fits'.0 y.there in
-      let digits : 0 < w = shape.has_digits in
-      let long : y.span.word ≡ 2 * w = word_is_long C shape (take_looks takes.takes takes.end) y.start y.number y.span y.stands one in
-      let place : y.start + y.span.scan ≡ word = omega (arith, word_is, y.place, at_first, none) in
-      let number : k ≡ y.number =
-      k_is ∙ sym (takes_ended_are word) ∙ ap (counts_ended (take_spans shape takes)) (sym place) ∙
-      ended_at 1 (take_spans shape takes) (proper_takes shape takes) y.start y.number y.span y.stands y.span.scan (omega (arith, long, digits)) in
-      ap (slice_get (items_put shape first_count puts.puts (clock P h t))) number ∙
-      law.items t y.start y.number y.span y.item y.stands outcome (omega (arith, place, long, l)) ∙ ap Some (sym same)
+      let y = has_word shape takes x k start stop i item (start + events_in (accesses_before_word x) + 2 * (i * w)) at has refl in
+      let size : suc i * w ≡ i * w + w = suc-mul i w in
+      law.items t y.start k i y.span item y.stands y.listed (omega (arith, y.word_is, l, size))
 
   -- ---- empty and full
 
@@ -310,6 +273,18 @@ module _ (facts : OwnFacts) (shape : Shape) (h : List Event) (puts : Puts) (take
       let filled : d z.span.seen + counts z.span.outcome ≡ capacity_of shape = ap (λ v. d v + counts z.span.outcome) z.seen_is ∙ ap (λ m. d seen + m) size ∙ fills in
       let few = law.fill start n z.span z.stands filled (omega (arith, l, z.scan_is)) first is_first in
       (first, is_first, omega (arith, few, size, takes_ended_are (clock C h first)))
+
+  pub drain : DrainIsFresh shape h puts takes
+  drain seen items k start stop at l drains some_items =
+      let z = item_has_span shape takes seen items k start stop at in
+      let some : 1 ≤ scan_events C seen = scan_some C seen in
+      let first : ℕ = place_of C h start in
+      let is_first : IsPlaceOf C h start first = facts.has_place C h start (omega (arith, l, some)) in
+      let size : counts z.span.outcome ≡ length items = ap counts z.outcome_is in
+      let d : ℕ → ℕ = λ v. distance (modulus_of shape) v (k % modulus_of shape) in
+      let drained : d z.span.seen ≡ counts z.span.outcome = ap d z.seen_is ∙ drains ∙ sym size in
+      let few = law.drain start k z.span z.stands (omega (arith, size, some_items)) drained (omega (arith, l, z.scan_is)) first is_first in
+      (first, is_first, omega (arith, few, size, puts_ended_are (clock P h first)))
 
   pub closed : ClosedIsTrue shape h puts takes
   closed = law.closed

@@ -19,11 +19,11 @@ use Rattle.bits_core.specs.Made.{Made, Read, Write, access_of, own, place_of, Is
 use Rattle.register_core.specs.Row.{RowWrite, row_bit, writes_in}
 use Rattle.register_core.specs.Word.{digit, digit_reads, digit_writes, word_read, word_write}
 use Rattle.register_core.specs.ScanState.{zero_reads, scan_phrase, row_read_by}
-use Rattle.ring_core.specs.Counts.{Count, first_count, count_bits, count_phrase, batch_phrase}
+use Rattle.ring_core.specs.Counts.{Count, first_count, count_bits, batch_phrase}
 use Rattle.ring_core.specs.Puts.{Put, Puts, Stored, Full, stored_in, stored_after, words_phrase, put_phrase, put_phrases, close_phrase, put_program}
-use Rattle.ring_core.specs.Takes.{accesses_before_word, Take, Takes, Item, ItemAfterClose, Empty, End, Open, Closed, taken_after, taken_in, item_phrase, take_phrase, take_phrases, end_phrase, take_program}
+use Rattle.ring_core.specs.Takes.{accesses_before_word, Take, Takes, Item, ItemAfterClose, Empty, End, Open, Closed, taken_in, count_after, words_read, items_phrase, take_phrase, take_phrases, end_phrase, take_program}
 use Rattle.ring_core.specs.Items.{events_in}
-use Rattle.ring_core.specs.Items.{item_of}
+use Rattle.ring_core.specs.Items.{taken_of}
 use Rattle.ring_core.specs.CallsAt.{scan_events}
 use Rattle.ring_core.specs.RingLaw.{IsRun, IsInterval, CellsAreQuiet}
 use Rattle.ring_core.proofs.ItemPlaces.{StoresItem, TakesItem, ItemsAreQuiet}
@@ -229,25 +229,48 @@ none-close false = none-nil
 
 -- ---- the word of a take
 
-pub record InTake (shape : Shape) (k : ℕ) (takes : List Take) (m j : ℕ) : Type 0 where
+length-reads : (cell item n : ℕ) → length (digit_reads cell item n) ≡ n
+length-reads cell item zero = refl
+length-reads cell item (suc n) = omega (arith, length-reads cell item n, length-append (digit_reads cell item n) (Read (Cell cell n) (digit n item) ∷ []))
+
+in_reads : (shape : Shape) (n : ℕ) (items : List ℕ) (m j : ℕ) → AtCell (words_read shape n items) m j → InWords shape n items m j
+in_reads shape n [] m j (y, e, f) = absurd (cc)
+in_reads shape n (item ∷ items) m j at =
+    let w : ℕ = width_of shape in
+    let cell : ℕ = n % capacity_of shape in
+    let long : length (word_read w cell item) ≡ w = length-reads cell item w in
+    let none : 0 * w ≡ 0 = omega arith in
+    let same : n + 0 ≡ n = omega arith in
+    elim (at_parts (word_read w cell item) (words_read shape (suc n) items) m j at) [
+      | inl (l, here) ↦ (0, item, refl, ap (λ k. k % capacity_of shape) same ∙ in_cell_read cell item w m j here, omega (arith, none), omega (arith, none, l, long))
+      | inr (i, e, later) ↦ (
+          let (index, x, listed, cell_is, low, high) = in_reads shape (suc n) items i j later in
+          let next : suc n + index ≡ n + suc index = omega arith in
+          let size : suc index * w ≡ index * w + w = suc-mul index w in
+          (suc index, x, listed, ap (λ k. k % capacity_of shape) (sym next) ∙ cell_is, omega (arith, e, long, low, size), omega (arith, e, long, high, size)))
+    ]
+
+pub record InTake (shape : Shape) (c : Count) (takes : List Take) (m j : ℕ) : Type 0 where
   pub before : List Take
   pub take : Take
   pub after : List Take
+  pub index : ℕ
   pub item : ℕ
   pub among : takes ≡ before ++ take ∷ after
-  pub has : item_of take ≡ Some item
-  pub cell : taken_in k before % capacity_of shape ≡ j
-  pub low : length (take_phrases shape k before) + length (accesses_before_word take) ≤ m
-  pub high : m < length (take_phrases shape k before) + length (accesses_before_word take) + width_of shape
+  pub has : slice_get (taken_of take) index ≡ Some item
+  pub cell : (taken_in c.number before + index) % capacity_of shape ≡ j
+  pub low : length (take_phrases shape c before) + length (accesses_before_word take) + index * width_of shape ≤ m
+  pub high : m < length (take_phrases shape c before) + length (accesses_before_word take) + index * width_of shape + width_of shape
 
-behind_take : (shape : Shape) (k : ℕ) (x : Take) (takes : List Take) (m n j : ℕ) → m ≡ length (take_phrase shape k x) + n →
-    InTake shape (taken_after k x) takes n j → InTake shape k (x ∷ takes) m j
-behind_take shape k x takes m n j e r =
-    let long = length-append (take_phrase shape k x) (take_phrases shape (taken_after k x) r.before) in
+behind_take : (shape : Shape) (c : Count) (x : Take) (takes : List Take) (m n j : ℕ) → m ≡ length (take_phrase shape c x) + n →
+    InTake shape (count_after shape c x) takes n j → InTake shape c (x ∷ takes) m j
+behind_take shape c x takes m n j e r =
+    let long = length-append (take_phrase shape c x) (take_phrases shape (count_after shape c x) r.before) in
     record {
       before = x ∷ r.before;
       take = r.take;
       after = r.after;
+      index = r.index;
       item = r.item;
       among = ap (λ l. x ∷ l) r.among;
       has = r.has;
@@ -256,33 +279,28 @@ behind_take shape k x takes m n j e r =
       high = omega (arith, e, long, r.high);
     }
 
--- behind what comes before its word, a take of an item has its word, and then its count write
-in_item : (shape : Shape) (k item : ℕ) (m j : ℕ) → AtCell (item_phrase shape k item) m j → (k % capacity_of shape ≡ j) × (m < width_of shape)
-in_item shape k item m j at =
-    let w : ℕ = width_of shape in
-    let cell : ℕ = k % capacity_of shape in
-    elim (at_parts (word_read w cell item) (count_phrase shape C k) m j at) [
-      | inl (l, word) ↦ (in_cell_read cell item w m j word, omega (arith, l, length-digits cell item w))
-      | inr (n, e, in_count) ↦ absurd (none-row C _ n j in_count)
+-- behind what comes before its words, a take of items has them, and then its count write
+in_items : (shape : Shape) (c : Count) (items : List ℕ) (m j : ℕ) → AtCell (items_phrase shape c items) m j → InWords shape c.number items m j
+in_items shape c items m j at =
+    elim (at_parts (words_read shape c.number items) (batch_phrase shape C c items) m j at) [
+      | inl (l, word) ↦ in_reads shape c.number items m j word
+      | inr (n, e, in_count) ↦ absurd (none-row C (count_bits shape c items) n j in_count)
     ]
-  where
-    length-digits : (cell item n : ℕ) → length (digit_reads cell item n) ≡ n
-    length-digits cell item zero = refl
-    length-digits cell item (suc n) = omega (arith, length-digits cell item n, length-append (digit_reads cell item n) (Read (Cell cell n) (digit n item) ∷ []))
 
 first_take :
-    (shape : Shape) (k : ℕ) (x : Take) (takes : List Take) (item m n j : ℕ) → item_of x ≡ Some item → m ≡ length (accesses_before_word x) + n →
-    (k % capacity_of shape ≡ j) × (n < width_of shape) → InTake shape k (x ∷ takes) m j
-first_take shape k x takes item m n j has e (cell, few) = record {
+    (shape : Shape) (c : Count) (x : Take) (takes : List Take) (m n j : ℕ) → m ≡ length (accesses_before_word x) + n →
+    InWords shape c.number (taken_of x) n j → InTake shape c (x ∷ takes) m j
+first_take shape c x takes m n j e (index, item, listed, cell, low, high) = record {
   before = [];
   take = x;
   after = takes;
+  index = index;
   item = item;
   among = refl;
-  has = has;
+  has = listed;
   cell = cell;
-  low = omega (arith, e);
-  high = omega (arith, e, few);
+  low = omega (arith, e, low);
+  high = omega (arith, e, high);
 }
 
 none-asks : (seen : ℕ) (answer : Bool) → NoCells (scan_phrase (row_bit P) seen ++ Read X answer ∷ [])
@@ -293,27 +311,29 @@ none-twice seen again =
     none-append (scan_phrase (row_bit P) seen) (Read X true ∷ scan_phrase (row_bit P) again) (none-scan P seen)
     (none-append (Read X true ∷ []) (scan_phrase (row_bit P) again) (none-one (Read X true) refl) (none-scan P again))
 
-in_takes : (shape : Shape) (k : ℕ) (takes : List Take) (m j : ℕ) → AtCell (take_phrases shape k takes) m j → InTake shape k takes m j
-in_takes shape k [] m j (y, e, f) = absurd (cc)
-in_takes shape k (Empty seen ∷ takes) m j at =
-    elim (at_parts (take_phrase shape k (Empty seen)) (take_phrases shape k takes) m j at) [
+in_takes : (shape : Shape) (c : Count) (takes : List Take) (m j : ℕ) → AtCell (take_phrases shape c takes) m j → InTake shape c takes m j
+in_takes shape c [] m j (y, e, f) = absurd (cc)
+in_takes shape c (Empty seen ∷ takes) m j at =
+    elim (at_parts (take_phrase shape c (Empty seen)) (take_phrases shape c takes) m j at) [
       | inl (l, here) ↦ absurd (none-asks seen false m j here)
-      | inr (n, e, later) ↦ behind_take shape k (Empty seen) takes m n j e (in_takes shape k takes n j later)
+      | inr (n, e, later) ↦ behind_take shape c (Empty seen) takes m n j e (in_takes shape c takes n j later)
     ]
-in_takes shape k (Item seen item ∷ takes) m j at =
-    elim (at_parts (take_phrase shape k (Item seen item)) (take_phrases shape (suc k) takes) m j at) [
-      | inr (n, e, later) ↦ behind_take shape k (Item seen item) takes m n j e (in_takes shape (suc k) takes n j later)
-      | inl (l, here) ↦ elim (at_parts (accesses_before_word (Item seen item)) (item_phrase shape k item) m j here) [
+in_takes shape c (Item seen items ∷ takes) m j at =
+    let next : Count = count_after shape c (Item seen items) in
+    elim (at_parts (take_phrase shape c (Item seen items)) (take_phrases shape next takes) m j at) [
+      | inr (n, e, later) ↦ behind_take shape c (Item seen items) takes m n j e (in_takes shape next takes n j later)
+      | inl (l, here) ↦ elim (at_parts (accesses_before_word (Item seen items)) (items_phrase shape c items) m j here) [
         | inl (l', front) ↦ absurd (none-scan P seen m j front)
-        | inr (n, e, word) ↦ first_take shape k (Item seen item) takes item m n j refl e (in_item shape k item n j word)
+        | inr (n, e, word) ↦ first_take shape c (Item seen items) takes m n j e (in_items shape c items n j word)
       ]
     ]
-in_takes shape k (ItemAfterClose seen again item ∷ takes) m j at =
-    elim (at_parts (take_phrase shape k (ItemAfterClose seen again item)) (take_phrases shape (suc k) takes) m j at) [
-      | inr (n, e, later) ↦ behind_take shape k (ItemAfterClose seen again item) takes m n j e (in_takes shape (suc k) takes n j later)
-      | inl (l, here) ↦ elim (at_parts (accesses_before_word (ItemAfterClose seen again item)) (item_phrase shape k item) m j here) [
+in_takes shape c (ItemAfterClose seen again items ∷ takes) m j at =
+    let next : Count = count_after shape c (ItemAfterClose seen again items) in
+    elim (at_parts (take_phrase shape c (ItemAfterClose seen again items)) (take_phrases shape next takes) m j at) [
+      | inr (n, e, later) ↦ behind_take shape c (ItemAfterClose seen again items) takes m n j e (in_takes shape next takes n j later)
+      | inl (l, here) ↦ elim (at_parts (accesses_before_word (ItemAfterClose seen again items)) (items_phrase shape c items) m j here) [
         | inl (l', front) ↦ absurd (none-twice seen again m j front)
-        | inr (n, e, word) ↦ first_take shape k (ItemAfterClose seen again item) takes item m n j refl e (in_item shape k item n j word)
+        | inr (n, e, word) ↦ first_take shape c (ItemAfterClose seen again items) takes m n j e (in_items shape c items n j word)
       ]
     ]
 
@@ -378,16 +398,16 @@ digits_are_quiet facts shape h puts takes run words j d d' a a' start stop start
     let y_cell : cell_of y ≡ Some j = cell_is y ∙ ap (λ e. cell_number (bit_of e)) y_is ∙ ap cell_number of_c in
     elim (at_parts (put_phrases shape first_count puts.puts) (close_phrase puts.closes) m j (x, x_at, x_cell)) [
       | inr (n, e, at) ↦ none-close puts.closes n j at
-      | inl (l, at) ↦ elim (at_parts (take_phrases shape 0 takes.takes) (end_phrase takes.end) m' j (y, y_at, y_cell)) [
+      | inl (l, at) ↦ elim (at_parts (take_phrases shape first_count takes.takes) (end_phrase takes.end) m' j (y, y_at, y_cell)) [
         | inr (n', e', at') ↦ none-end takes.end n' j at'
         | inl (l', at') ↦ (
             let w : ℕ = width_of shape in
             let r : InPut shape first_count puts.puts m j = in_puts shape first_count puts.puts m j at in
-            let q : InTake shape 0 takes.takes m' j = in_takes shape 0 takes.takes m' j at' in
+            let q : InTake shape first_count takes.takes m' j = in_takes shape first_count takes.takes m' j at' in
             let s : ℕ = events_in (put_phrases shape first_count r.before) in
-            let s' : ℕ = events_in (take_phrases shape 0 q.before) in
+            let s' : ℕ = events_in (take_phrases shape first_count q.before) in
             let word : ℕ = s + scan_events P r.seen + 2 * (r.index * w) in
-            let word' : ℕ = s' + events_in (accesses_before_word q.take) in
+            let word' : ℕ = s' + events_in (accesses_before_word q.take) + 2 * (q.index * w) in
             let stores : StoresItem shape puts (stored_in 0 r.before + r.index) r.item word _ =
             record {
               seen = r.seen;
@@ -400,12 +420,15 @@ digits_are_quiet facts shape h puts takes run words j d d' a a' start stop start
               number = refl;
               writes = refl;
             } in
-            let takes_it : TakesItem shape takes (taken_in 0 q.before) q.item word' _ =
+            let takes_it : TakesItem shape takes (taken_in 0 q.before + q.index) q.item word' _ =
             record {
               take = q.take;
+              n = taken_in 0 q.before;
               start = s';
+              index = q.index;
               is_take = record { before = q.before; after = q.after; among = q.among; number = refl; starts = refl; stops = refl };
               has = q.has;
+              number = refl;
               reads = refl;
             } in
             let (from, to, on, from_l, to_l) = around facts.has_place P h m x start stop word (2 * width_of shape) made (omega (arith, r.low)) (omega (arith, r.high)) in

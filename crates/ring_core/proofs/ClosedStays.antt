@@ -41,5 +41,5 @@ closed-stays holds puts_read takes_read shape h h' puts puts' takes takes' run r
     let end_p : clock P h' (length h') ≡ length (own P h') = ap (λ l. length (own P l)) (take-length h') in
     let end_c : clock C h' (length h') ≡ length (own C h') = ap (λ l. length (own C l)) (take-length h') in (
       ap (items_put shape first_count puts'.puts) (sym end_p) ∙ end.0 ∙ sym here.0 ∙ ap (items_put shape first_count puts'.puts) (clock_there P h h' begins) ∙ sym put_same,
-      ap (items_taken shape 0 takes'.takes) (sym end_c) ∙ end.1 ∙ sym here.1 ∙ ap (items_taken shape 0 takes'.takes) (clock_there C h h' begins) ∙ sym taken_same,
+      ap (items_taken shape first_count takes'.takes) (sym end_c) ∙ end.1 ∙ sym here.1 ∙ ap (items_taken shape first_count takes'.takes) (clock_there C h h' begins) ∙ sym taken_same,
     )

@@ -6,12 +6,13 @@ use Rattle.std.proofs.lemmas.List.{length-map}
 use Rattle.std.proofs.lemmas.Nat.{mod_below}
 use Rattle.std.proofs.Math.Nat.{suc-mod, mod_self, mod-eq_of_lt, zero-mod}
 use Rattle.bits_core.specs.declared.events.Side.{Side}
+use Rattle.bits_core.specs.declared.events.Side.TheVariants.{P, C}
 use Rattle.bits_core.specs.declared.shapes.Shape.{Shape}
 use Rattle.bits_core.specs.Shape.{batch_of, capacity_of, modulus_of}
 use Rattle.bits_core.specs.Made.{Write}
 use Rattle.register_core.specs.Row.{RowWrite, row_bit, first_bits, bits_with, bits_after}
 use Rattle.register_core.specs.Unary.{clearing, setting, unary_phrase, unary_writes, row_writes, writes_of}
-use Rattle.ring_core.specs.Counts.{bits_held, counted, count_phrase, number_past, Count, first_count, count_bits, batch_phrase, IsCount}
+use Rattle.ring_core.specs.Counts.{bits_held, counted, count_phrase, number_past, Count, first_count, count_bits, batch_phrase, take_batch_of, batch_by, IsCount}
 use Rattle.ring_core.proofs.Distances.{apart}
 
 -- ---- a unary write over any bits
@@ -301,16 +302,39 @@ batch_fits shape = omega (arith, shape.room_to_count)
 pub has_batch : (shape : Shape) → 1 ≤ batch_of shape
 has_batch shape = omega (arith, shape.has_batch)
 
+pub batch_below : (shape : Shape) → batch_of shape < modulus_of shape
+batch_below shape = omega (arith, shape.room_to_count)
+
+-- and so is a batch of takes
+pub take_batch_fits : (shape : Shape) → suc (capacity_of shape + take_batch_of shape) ≤ modulus_of shape
+unfolding take_batch_of
+take_batch_fits shape = omega (arith, shape.room_to_count, shape.has_batch)
+
+pub has_take_batch : (shape : Shape) → 1 ≤ take_batch_of shape
+unfolding take_batch_of
+has_take_batch shape = omega arith
+
+pub small_take_batch : (shape : Shape) → take_batch_of shape ≤ capacity_of shape
+unfolding take_batch_of
+small_take_batch shape = omega (arith, shape.has_cells)
+
+pub take_batch_below : (shape : Shape) → take_batch_of shape < modulus_of shape
+take_batch_below shape = omega (arith, take_batch_fits shape)
+
+pub batch_by_below : (shape : Shape) (s : Side) → batch_by shape s < modulus_of shape
+batch_by_below shape P = batch_below shape
+batch_by_below shape C = take_batch_below shape
+
 -- a write that counts some items has a bit write
 pub bits_long :
-    (shape : Shape) (c : Count) (items : List ℕ) → IsCount shape c → 1 ≤ length items → length items ≤ batch_of shape → 1 ≤ length (count_bits shape c items)
+    (shape : Shape) (c : Count) (items : List ℕ) → IsCount shape c → 1 ≤ length items → length items < modulus_of shape → 1 ≤ length (count_bits shape c items)
 bits_long shape c items is some few =
     let v : ℕ = c.number % modulus_of shape in
     let v' : ℕ = number_past c.number items % modulus_of shape in
     let whole : length (unary_phrase c.bits v') ≡ length (setting c.bits v') + length (clearing c.bits v') = length_phrase c.bits v' in
     let other : v' ≡ v → ⊥ =
     apart (modulus_of shape) c.number (number_past c.number items) (omega (arith, past_is c.number items, some))
-    (omega (arith, past_is c.number items, few, batch_fits shape)) in
+    (omega (arith, past_is c.number items, few)) in
     elim (cases_lt v v') [
       | inl l ↦ omega (arith, whole, clearing_some c.bits v v' is.set l)
       | inr l ↦ elim (cases_lt v' v) [
@@ -323,7 +347,7 @@ bits_long shape c items is some few =
 
 -- and an access
 pub batch_long :
-    (shape : Shape) (s : Side) (c : Count) (items : List ℕ) → IsCount shape c → 1 ≤ length items → length items ≤ batch_of shape →
+    (shape : Shape) (s : Side) (c : Count) (items : List ℕ) → IsCount shape c → 1 ≤ length items → length items < modulus_of shape →
     1 ≤ length (batch_phrase shape s c items)
 batch_long shape s c items is some few =
     omega (arith, length-map (count_bits shape c items) (λ w. Write (row_bit s w.bit) w.value), bits_long shape c items is some few)

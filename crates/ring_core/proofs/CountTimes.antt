@@ -12,7 +12,7 @@ use Rattle.bits_core.specs.declared.events.Bit.{Bit}
 use Rattle.bits_core.specs.declared.events.Bit.TheVariants.{X, Cell}
 use Rattle.bits_core.specs.declared.events.Event.{Event}
 use Rattle.bits_core.specs.declared.shapes.Shape.{Shape}
-use Rattle.bits_core.specs.Shape.{batch_of, capacity_of, modulus_of, width_of}
+use Rattle.bits_core.specs.Shape.{capacity_of, modulus_of, width_of}
 use Rattle.bits_core.specs.Made.{Made, Read, Write, begin_event, end_event, events_of}
 use Rattle.register_core.specs.Row.{RowWrite, row_bit, row_write, writes_in}
 use Rattle.register_core.specs.Unary.{unary_phrase, UnaryWrite, unary_writes, row_writes, writes_of, has_write, having_writes, numbered_of, numbered_value}
@@ -220,31 +220,33 @@ kept u (w ∷ ws) us e l = ap (λ v. if has_write v then u ∷ having_writes us 
 
 -- so all are
 numbered_part :
-    (shape : Shape) (c : Count) (o : Outcome) (vs : List ℕ) → IsCount shape c → Passing (batch_of shape) o →
+    (most : ℕ) (shape : Shape) (c : Count) (o : Outcome) (vs : List ℕ) → most < modulus_of shape → IsCount shape c → Passing most o →
     having_writes (unary_writes (look_bits shape c o) vs) ≡ unary_writes (look_bits shape c o) vs →
     having_writes (unary_writes c.bits (value_of shape c.number o ++ vs)) ≡ unary_writes c.bits (value_of shape c.number o ++ vs)
-numbered_part shape c (Passes items) vs is (some, few) e =
+numbered_part most shape c (Passes items) vs fits is (some, few) e =
     let ws : List RowWrite = count_bits shape c items in
     let u : UnaryWrite = record { value = number_past c.number items % modulus_of shape; writes = ws } in
     let us : List UnaryWrite = unary_writes (look_bits shape c (Passes items)) vs in
-    kept u ws us refl (bits_long shape c items is some few) ∙ ap (λ us. u ∷ us) e
-numbered_part shape c Stops vs is p e = e
-numbered_part shape c (Asks answer) vs is p e = e
+    kept u ws us refl (bits_long shape c items is some (omega (arith, few, fits))) ∙ ap (λ us. u ∷ us) e
+numbered_part most shape c Stops vs fits is p e = e
+numbered_part most shape c (Asks answer) vs fits is p e = e
 
 all_numbered :
-    (shape : Shape) (c : Count) (looks : List Look) → IsCount shape c → AllPassing (batch_of shape) looks →
+    (most : ℕ) (shape : Shape) (c : Count) (looks : List Look) → most < modulus_of shape → IsCount shape c → AllPassing most looks →
     having_writes (writes_from shape c looks) ≡ writes_from shape c looks
-all_numbered shape c [] is p = refl
-all_numbered shape c (l ∷ looks) is p =
-    numbered_part shape c l.outcome (values_from shape (look_number c.number l.outcome) looks) is p.0
-    (all_numbered shape (after_look shape c l.outcome) looks (look_is_count shape c l.outcome is) p.1)
+all_numbered most shape c [] fits is p = refl
+all_numbered most shape c (l ∷ looks) fits is p =
+    numbered_part most shape c l.outcome (values_from shape (look_number c.number l.outcome) looks) fits is p.0
+    (all_numbered most shape (after_look shape c l.outcome) looks fits (look_is_count shape c l.outcome is) p.1)
 
 -- the values of the unary writes of a program's count
 abbrev pub counted_in : Shape → List Look → List ℕ
 counted_in shape looks = values_from shape 0 looks
 
-numbered_is : (shape : Shape) (looks : List Look) → AllPassing (batch_of shape) looks → numbered_of (counted_in shape looks) ≡ writes_from shape first_count looks
-numbered_is shape looks p = all_numbered shape first_count looks (first_is_count shape) p
+numbered_is :
+    (most : ℕ) (shape : Shape) (looks : List Look) → most < modulus_of shape → AllPassing most looks →
+    numbered_of (counted_in shape looks) ≡ writes_from shape first_count looks
+numbered_is most shape looks fits p = all_numbered most shape first_count looks fits (first_is_count shape) p
 
 -- the value of unary write number u is what the writes up to it count, modulo the modulus
 value_none : (v : ℕ) (u : ℕ) → numbered_value v [] u ≡ v
@@ -276,11 +278,11 @@ value_from shape c (l ∷ looks) u =
     (λ v. value_from shape (after_look shape c l.outcome) looks v) u
 
 pub counted_value :
-    (shape : Shape) (looks : List Look) (u : ℕ) → AllPassing (batch_of shape) looks →
+    (most : ℕ) (shape : Shape) (looks : List Look) (u : ℕ) → most < modulus_of shape → AllPassing most looks →
     numbered_value 0 (numbered_of (counted_in shape looks)) u ≡ tally (sizes_in looks) u % modulus_of shape
-counted_value shape looks u p =
+counted_value most shape looks u fits p =
     let same : 0 + tally (sizes_in looks) u ≡ tally (sizes_in looks) u = omega arith in
-    ap (λ us. numbered_value 0 us u) (numbered_is shape looks p) ∙ ap (λ v. numbered_value v (writes_from shape first_count looks) u) (sym (zero-mod (modulus_of shape))) ∙
+    ap (λ us. numbered_value 0 us u) (numbered_is most shape looks fits p) ∙ ap (λ v. numbered_value v (writes_from shape first_count looks) u) (sym (zero-mod (modulus_of shape))) ∙
     value_from shape first_count looks u ∙ ap (λ m. m % modulus_of shape) same
 
 -- ---- the count writes of looks
@@ -444,11 +446,11 @@ ended_step most s shape c (Asks answer) ms vs after xs place proper rest i =
     omega (arith, here, rest (i - (place + 0)), no_one (nat_le (place + 0) i))
 
 ended_from_look :
-    (s : Side) (shape : Shape) (c : Count) (looks : List Look) (behind : List Made) → IsCount shape c → AllPassing (batch_of shape) looks → (i : ℕ) →
+    (most : ℕ) (s : Side) (shape : Shape) (c : Count) (looks : List Look) (behind : List Made) → most < modulus_of shape → IsCount shape c → AllPassing most looks → (i : ℕ) →
     counts_ended (spans s shape c looks) i ≤
     tally (sizes_in looks) (unary.ended (writes_from shape c looks) (bit_writes s (events_of s (look_accesses s shape c looks behind)) (i - 1)))
-ended_from_look s shape c [] behind is p i = omega arith
-ended_from_look s shape c (l ∷ looks) behind is p i =
+ended_from_look most s shape c [] behind fits is p i = omega arith
+ended_from_look most s shape c (l ∷ looks) behind fits is p i =
     let a : List Made = scan_phrase (row_read_by s) l.seen in
     let b : List Made = word_part s shape c.number l.outcome in
     let next : Count = after_look shape c l.outcome in
@@ -457,25 +459,25 @@ ended_from_look s shape c (l ∷ looks) behind is p i =
     let d : List Made = count_part s shape c l.outcome ++ after in
     let number_past : bit_writes s (events_of s (a ++ (b ++ d))) (i - 1) ≡ bit_writes s (events_of s d) (i - 1 - (2 * length a + 2 * length b)) =
     past_quiet s a b d (i - 1) (quiet_scan s (row_read_by s) l.seen) (quiet_word s shape c.number l.outcome) in
-    rw number_past (ended_step (batch_of shape) s shape c l.outcome (sizes_in looks) (values_from shape next.number looks) after (spans s shape next looks)
-    (2 * length a + 2 * length b) (all_proper (batch_of shape) s shape next looks (omega arith) next_is p.1)
-    (λ j. ended_from_look s shape next looks behind next_is p.1 j) i)
+    rw number_past (ended_step most s shape c l.outcome (sizes_in looks) (values_from shape next.number looks) after (spans s shape next looks)
+    (2 * length a + 2 * length b) (all_proper most s shape next looks fits next_is p.1)
+    (λ j. ended_from_look most s shape next looks behind fits next_is p.1 j) i)
 
 -- ---- the count writes of a whole program
 
 -- of these no more have begun, after so many events of the side, than of the spans' count writes
 pub count_writes_begun :
-    (s : Side) (shape : Shape) (looks : List Look) (behind : List Made) → AllPassing (batch_of shape) looks → (i : ℕ) →
+    (most : ℕ) (s : Side) (shape : Shape) (looks : List Look) (behind : List Made) → most < modulus_of shape → AllPassing most looks → (i : ℕ) →
     tally (sizes_in looks) (unary.begun_writes (numbered_of (counted_in shape looks)) (bit_writes s (events_of s (look_accesses s shape first_count looks behind)) i)) ≤
     counts_begun (spans s shape first_count looks) i
-count_writes_begun s shape looks behind p i = rw (numbered_is shape looks p) (begun_from_look s shape first_count looks behind i)
+count_writes_begun most s shape looks behind fits p i = rw (numbered_is most shape looks fits p) (begun_from_look s shape first_count looks behind i)
 
 -- where a count write of the spans has ended, its unary write had begun all its bit writes one event before
 pub count_writes_ended :
-    (s : Side) (shape : Shape) (looks : List Look) (behind : List Made) → AllPassing (batch_of shape) looks → (i : ℕ) →
+    (most : ℕ) (s : Side) (shape : Shape) (looks : List Look) (behind : List Made) → most < modulus_of shape → AllPassing most looks → (i : ℕ) →
     counts_ended (spans s shape first_count looks) i ≤
     tally (sizes_in looks) (unary.ended (numbered_of (counted_in shape looks)) (bit_writes s (events_of s (look_accesses s shape first_count looks behind)) (i - 1)))
-count_writes_ended s shape looks behind p i = rw (numbered_is shape looks p) (ended_from_look s shape first_count looks behind (first_is_count shape) p i)
+count_writes_ended most s shape looks behind fits p i = rw (numbered_is most shape looks fits p) (ended_from_look most s shape first_count looks behind fits (first_is_count shape) p i)
 
 -- the bit writes of one look and those that follow
 part_writes :

@@ -5,9 +5,9 @@ use Rattle.bits_core.specs.declared.events.Bit.TheVariants.{S, R, X, Cell}
 use Rattle.bits_core.specs.declared.shapes.Shape.{Shape}
 use Rattle.bits_core.specs.Made.{Read, Write}
 use Rattle.register_core.specs.ScanState.{scan_phrase, row_read_by}
-use Rattle.ring_core.specs.Counts.{first_count}
+use Rattle.ring_core.specs.Counts.{first_count, take_batch_of}
 use Rattle.ring_core.specs.Puts.{Puts, Stored, put_program, ArePuts}
-use Rattle.ring_core.specs.Takes.{Takes, Item, ItemAfterClose, Empty, Open, Closed, take_phrases, take_program, AreTakes}
+use Rattle.ring_core.specs.Takes.{Takes, Item, ItemAfterClose, Empty, Open, Closed, take_phrases, take_program, IsTakeBatch, AreTakes}
 use Rattle.ring_core.specs.Items.{items_put, items_taken, IsTold}
 use Rattle.ring_core.specs.CallsAt.{IsPutAt, IsTakeAt, IsPartAt, puts_ended, takes_begun}
 use Rattle.ring_core.proofs.ItemPlaces.{StoresItem, TakesItem}
@@ -35,7 +35,7 @@ abbrev one_put : Puts
 one_put = record { puts = Stored 0 (1 ∷ []) ∷ []; closes = false }
 
 abbrev one_take : Takes
-one_take = record { takes = Item 1 1 ∷ []; end = Open }
+one_take = record { takes = Item 1 (1 ∷ []) ∷ []; end = Open }
 
 one_put-is : put_program one_cell one_put ≡ Read (R 0) true ∷ Write (Cell 0 0) true ∷ Write (S 1) true ∷ Write (S 0) false ∷ []
 unfolding one_cell
@@ -49,19 +49,24 @@ one_take-is : take_program one_cell one_take ≡ Read (S 0) false ∷ Read (S 1)
 unfolding one_cell
 one_take-is = refl
 
+-- one item of one digit is taken under one count write
+one_fits : IsTakeBatch one_cell (1 ∷ [])
+unfolding one_cell take_batch_of
+one_fits = record { some = omega arith; few = omega arith; fit = (omega arith, tt) }
+
 one_take-are : AreTakes one_cell 0 one_take.takes one_take.end
-unfolding one_cell
-one_take-are = (((omega arith, (omega arith, omega arith)), omega arith), record {})
+unfolding one_cell take_batch_of
+one_take-are = (((omega arith, omega arith, omega arith), one_fits), record {})
 
 -- the item is put with the begin of its count write, which is event 4 of the producer, and taken with its take's last event
-one_put-item : (items_put one_cell first_count one_put.puts 4 ≡ []) × (items_put one_cell first_count one_put.puts 5 ≡ 1 ∷ []) × (items_taken one_cell 0 one_take.takes 9 ≡ []) × (items_taken one_cell 0 one_take.takes 10 ≡ 1 ∷ [])
+one_put-item : (items_put one_cell first_count one_put.puts 4 ≡ []) × (items_put one_cell first_count one_put.puts 5 ≡ 1 ∷ []) × (items_taken one_cell first_count one_take.takes 9 ≡ []) × (items_taken one_cell first_count one_take.takes 10 ≡ 1 ∷ [])
 unfolding one_cell
 one_put-item = (refl, refl, refl, refl)
 
 -- ---- a count write is open, and then the old count is seen: the first scan gives 1 and the second one 0
 
 abbrev seen_old : Takes
-seen_old = record { takes = Item 1 1 ∷ Empty 0 ∷ []; end = Open }
+seen_old = record { takes = Item 1 (1 ∷ []) ∷ Empty 0 ∷ []; end = Open }
 
 seen_old-is :
     take_program one_cell seen_old ≡
@@ -71,8 +76,8 @@ unfolding one_cell
 seen_old-is = refl
 
 seen_old-are : AreTakes one_cell 0 seen_old.takes seen_old.end
-unfolding one_cell
-seen_old-are = (((omega arith, (omega arith, omega arith)), omega arith), ((omega arith, λ (low, high). omega (arith, high)), record {}))
+unfolding one_cell take_batch_of
+seen_old-are = (((omega arith, omega arith, omega arith), one_fits), ((omega arith, λ (low, high). omega (arith, high)), record {}))
 
 -- ---- a second scan finds the item, and the next take is told that the ring is closed
 
@@ -80,7 +85,7 @@ abbrev pub put_and_close : Puts
 put_and_close = record { puts = Stored 0 (1 ∷ []) ∷ []; closes = true }
 
 abbrev pub second_scan : Takes
-second_scan = record { takes = ItemAfterClose 0 1 1 ∷ []; end = Closed 1 1 }
+second_scan = record { takes = ItemAfterClose 0 1 (1 ∷ []) ∷ []; end = Closed 1 1 }
 
 put_and_close-is :
     put_program one_cell put_and_close ≡ Read (R 0) true ∷ Write (Cell 0 0) true ∷ Write (S 1) true ∷ Write (S 0) false ∷ Write X true ∷ []
@@ -98,9 +103,9 @@ unfolding one_cell
 second_scan-is = refl
 
 pub second_scan-are : AreTakes one_cell 0 second_scan.takes second_scan.end
-unfolding one_cell
+unfolding one_cell take_batch_of
 second_scan-are = (
-  ((omega arith, λ (low, high). omega (arith, low)), (omega arith, (omega arith, omega arith)), omega arith),
+  ((omega arith, λ (low, high). omega (arith, low)), (omega arith, omega arith, omega arith), one_fits),
   ((omega arith, λ (low, high). omega (arith, low)), (omega arith, λ (low, high). omega (arith, low))),
 )
 
@@ -153,7 +158,7 @@ abbrev wraps : Puts
 wraps = record { puts = Stored 0 (1 ∷ []) ∷ Stored 1 (0 ∷ []) ∷ Stored 2 (1 ∷ []) ∷ []; closes = false }
 
 abbrev wrap_takes : Takes
-wrap_takes = record { takes = Item 1 1 ∷ Item 2 0 ∷ Empty 2 ∷ Item 0 1 ∷ []; end = Open }
+wrap_takes = record { takes = Item 1 (1 ∷ []) ∷ Item 2 (0 ∷ []) ∷ Empty 2 ∷ Item 0 (1 ∷ []) ∷ []; end = Open }
 
 wraps-is :
     put_program one_cell wraps ≡
@@ -204,7 +209,7 @@ wrap_takes-begun = (refl, refl)
 wrap_takes-third : IsTakeAt one_cell wrap_takes (Empty 2) 2 22 30
 unfolding one_cell
 wrap_takes-third =
-    record { before = Item 1 1 ∷ Item 2 0 ∷ []; after = Item 0 1 ∷ []; among = refl; number = refl; starts = refl; stops = refl }
+    record { before = Item 1 (1 ∷ []) ∷ Item 2 (0 ∷ []) ∷ []; after = Item 0 (1 ∷ []) ∷ []; among = refl; number = refl; starts = refl; stops = refl }
 
 -- item 1 of the batch is written with events 4 and 5, and its put ends with event 11
 three_at_once-second : StoresItem three_cells three_at_once 1 0 4 12
@@ -226,13 +231,16 @@ three_at_once-second = record {
 second_scan-item : TakesItem one_cell second_scan 0 1 8 14
 unfolding one_cell
 second_scan-item = record {
-  take = ItemAfterClose 0 1 1;
+  take = ItemAfterClose 0 1 (1 ∷ []);
+  n = 0;
   start = 0;
+  index = 0;
   is_take = record { before = []; after = []; among = refl; number = refl; starts = refl; stops = refl };
   has = refl;
+  number = refl;
   reads = refl;
 }
 
 second_scan-last : IsPartAt (take_program one_cell second_scan) (scan_phrase (row_read_by C) 1) 20
 unfolding one_cell
-second_scan-last = (take_phrases one_cell 0 second_scan.takes ++ (scan_phrase (row_read_by C) 1 ++ Read X true ∷ []), [], refl, refl)
+second_scan-last = (take_phrases one_cell first_count second_scan.takes ++ (scan_phrase (row_read_by C) 1 ++ Read X true ∷ []), [], refl, refl)

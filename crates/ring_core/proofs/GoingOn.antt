@@ -1,6 +1,6 @@
 -- The access that a call under way goes on with is the only one: the accesses of two calls that were answered alike so far are
 -- of the same bit next.
-use Rattle.std.proofs.Common.{◌≡◌, ◌⊎◌, inl, inr, ℕ, zero, suc, ◌+◌, ◌-◌, ◌%◌, ◌<◌, Bool, true, false, List, [], ◌∷◌, ◌++◌, take, refl, sym, ap, subst, ◌∙◌, arith, append_assoc, append-nil}
+use Rattle.std.proofs.Common.{◌≡◌, ◌⊎◌, inl, inr, ℕ, zero, suc, ◌+◌, ◌-◌, ◌%◌, ◌<◌, ◌≤◌, Bool, true, false, List, [], ◌∷◌, ◌++◌, length, take, refl, sym, ap, subst, ◌∙◌, arith, append_assoc, append-nil}
 use Rattle.bits_core.specs.declared.events.Bit.{Bit}
 use Rattle.bits_core.specs.declared.events.Bit.TheVariants.{X, Cell}
 use Rattle.bits_core.specs.declared.events.Side.TheVariants.{P, C}
@@ -11,13 +11,16 @@ use Rattle.bits_core.specs.Shape.{capacity_of, modulus_of, width_of}
 use Rattle.bits_core.specs.Made.{Made, Read, access_of, answered, IsBeginning}
 use Rattle.register_core.specs.Word.{digit, digit_reads}
 use Rattle.register_core.specs.ScanState.{zero_reads, scan_phrase, row_read_by}
-use Rattle.ring_core.specs.Counts.{ShowsItem, Count, first_count, batch_phrase, count_phrase}
+use Rattle.ring_core.specs.Counts.{ShowsItem, distance, number_past, Count, first_count, batch_phrase}
+use Rattle.register_core.specs.Phrases.{word_read, row_bit, writes_in, unary_phrase}
+use Rattle.ring_core.proofs.CountRow.{past_is}
 use Rattle.ring_core.specs.Puts.{Puts, Stored, Full, words_phrase, put_phrase, put_phrases, put_program, IsPut}
 use Rattle.ring_core.specs.Puts as puts
-use Rattle.ring_core.specs.Takes.{Take, Takes, Item, ItemAfterClose, Empty, Closed, taken_in, item_phrase, take_phrase, take_phrases, end_phrase, take_program, IsTake, SeesItem, SeesNone, AreTakes}
+use Rattle.ring_core.specs.Takes.{Take, Takes, Item, ItemAfterClose, Empty, Closed, words_read, items_phrase, take_phrase, take_phrases, end_phrase, take_program, IsTake, SeesItems, SeesNone, AreTakes}
 use Rattle.ring_core.specs.ProducerState.{Put, Close}
 use Rattle.ring_core.specs.ProducerCalls.{count_of, room_in, IsPutOf}
-use Rattle.ring_core.specs.ConsumerCalls.{HasTakeMore}
+use Rattle.ring_core.specs.ConsumerCalls.{HasTakeMore, IsTakeOf, TakesAll}
+use Rattle.ring_core.specs.ConsumerCalls as takes
 use Rattle.ring_core.specs.GoingOn.{PutsGoOnByOne, TakesGoOnByOne}
 use Rattle.ring_core.proofs.PutCalls as put_calls
 use Rattle.ring_core.proofs.TakeCalls as take_calls
@@ -49,7 +52,7 @@ alike-next :
 alike-next [] rest rest' x y alike = alike.0
 alike-next (z ∷ made) rest rest' x y alike = alike-next made rest rest' x y (alike.1 refl)
 
-access_back : (a : Access) (answer : Bool) → access_of (answered a answer) ≡ a
+pub access_back : (a : Access) (answer : Bool) → access_of (answered a answer) ≡ a
 access_back (begins.Read b) answer = refl
 access_back (begins.Write b v) answer = refl
 
@@ -173,99 +176,132 @@ digits_alike cell a b (suc n) xs ys alike =
     (subst (λ l. AskAlike (digit_reads cell a n ++ x ∷ xs) l) (sym (append_assoc (digit_reads cell b n) (y ∷ []) ys))
     (digits_alike cell a b n (x ∷ xs) (y ∷ ys) (refl, (λ e. alike))))
 
--- what a take makes behind its scans: of an item, its word and the count; else the read of the close bit, and the rest
-abbrev TakesOne : Shape → ℕ → List Made → Type 0
-TakesOne shape k rest = (item : ℕ) × (rest ≡ item_phrase shape k item)
+words_alike :
+    (shape : Shape) (n : ℕ) (us vs : List ℕ) (xs ys : List Made) → length us ≡ length vs → AskAlike xs ys →
+    AskAlike (words_read shape n us ++ xs) (words_read shape n vs ++ ys)
+words_alike shape n [] [] xs ys e alike = alike
+words_alike shape n [] (b ∷ vs) xs ys e alike = absurd (omega (arith, e))
+words_alike shape n (a ∷ us) [] xs ys e alike = absurd (omega (arith, e))
+words_alike shape n (a ∷ us) (b ∷ vs) xs ys e alike =
+    let cell : ℕ = n % capacity_of shape in
+    let more : List Made = words_read shape (suc n) us in
+    let more' : List Made = words_read shape (suc n) vs in
+    subst (λ l. AskAlike l ((word_read (width_of shape) cell b ++ more') ++ ys)) (sym (append_assoc (word_read (width_of shape) cell a) more xs))
+    (subst (λ l. AskAlike (word_read (width_of shape) cell a ++ (more ++ xs)) l) (sym (append_assoc (word_read (width_of shape) cell b) more' ys))
+    (digits_alike cell a b (width_of shape) (more ++ xs) (more' ++ ys) (words_alike shape (suc n) us vs xs ys (omega (arith, e)) alike)))
 
-abbrev LooksAgain : Shape → ℕ → List Made → Type 0
-LooksAgain shape k rest =
+-- what a take makes behind its scans: of items, their words and the count; else the read of the close bit, and the rest
+abbrev TakesSome : Shape → Count → ℕ → List Made → Type 0
+TakesSome shape k m rest = (items : List ℕ) × (length items ≡ m) × (rest ≡ items_phrase shape k items)
+
+abbrev pub Shows : Shape → ℕ → (wanted seen m : ℕ) → Type 0
+Shows shape k wanted seen m = (1 ≤ m) × (SeesItems shape k seen m) × (TakesAll shape k wanted seen m)
+
+abbrev LooksAgain : Shape → Count → ℕ → List Made → Type 0
+LooksAgain shape k wanted rest =
     (again : ℕ) × (last : List Made) × (rest ≡ Read X true ∷ (scan_phrase (row_read_by C) again ++ last)) ×
-    ((SeesItem shape k again × TakesOne shape k last) ⊎ (SeesNone shape k again × (last ≡ [])))
+    (((m : ℕ) × Shows shape k.number wanted again m × TakesSome shape k m last) ⊎ (SeesNone shape k.number again × (last ≡ [])))
 
-abbrev LooksOnce : Shape → ℕ → List Made → Type 0
-LooksOnce shape k phrase =
+abbrev LooksOnce : Shape → Count → ℕ → List Made → Type 0
+LooksOnce shape k wanted phrase =
     (seen : ℕ) × (rest : List Made) × (phrase ≡ scan_phrase (row_read_by C) seen ++ rest) ×
-    ((SeesItem shape k seen × TakesOne shape k rest) ⊎ (SeesNone shape k seen × ((rest ≡ Read X false ∷ []) ⊎ LooksAgain shape k rest)))
+    (((m : ℕ) × Shows shape k.number wanted seen m × TakesSome shape k m rest) ⊎ (SeesNone shape k.number seen × ((rest ≡ Read X false ∷ []) ⊎ LooksAgain shape k wanted rest)))
 
-ones_alike : (shape : Shape) (k : ℕ) (xs ys : List Made) → TakesOne shape k xs → TakesOne shape k ys → AskAlike xs ys
-ones_alike shape k xs ys (a, e) (b, f) =
+some_alike : (shape : Shape) (k : Count) (m m' : ℕ) (xs ys : List Made) → m ≡ m' → TakesSome shape k m xs → TakesSome shape k m' ys → AskAlike xs ys
+some_alike shape k m m' xs ys same (us, la, e) (vs, lb, f) =
+    let long : length us ≡ length vs = la ∙ same ∙ sym lb in
+    let past : number_past k.number us ≡ number_past k.number vs = omega (arith, past_is k.number us, past_is k.number vs, long) in
+    let counts : batch_phrase shape C k us ≡ batch_phrase shape C k vs =
+    ap (λ v. writes_in (row_bit C) (unary_phrase k.bits (v % modulus_of shape))) past in
     subst (λ l. AskAlike l ys) (sym e)
-    (subst (λ l. AskAlike (item_phrase shape k a) l) (sym f)
-    (digits_alike (k % capacity_of shape) a b (width_of shape) (count_phrase shape C k) (count_phrase shape C k) (alike-same (count_phrase shape C k))))
+    (subst (λ l. AskAlike (items_phrase shape k us) l) (sym f)
+    (words_alike shape k.number us vs (batch_phrase shape C k us) (batch_phrase shape C k vs) long (alike-equal (batch_phrase shape C k us) (batch_phrase shape C k vs) counts)))
 
-clash : (shape : Shape) (k seen seen' : ℕ) → seen ≡ seen' → SeesItem shape k seen → SeesNone shape k seen' → ⊥
-clash shape k seen seen' same item none = none.1 (subst (λ n. ShowsItem shape n (k % modulus_of shape)) same item.1)
+pub same_many : (shape : Shape) (k wanted c d m m' : ℕ) → c ≡ d → Shows shape k wanted c m → Shows shape k wanted d m' → m ≡ m'
+same_many shape k wanted c d m m' same (some, (below, few, room), (less, all)) (some', (below', few', room'), (less', all')) =
+    which m m' wanted (distance (modulus_of shape) c (k % modulus_of shape)) (distance (modulus_of shape) d (k % modulus_of shape))
+    (ap (λ n. distance (modulus_of shape) n (k % modulus_of shape)) same) few few' less less' all all'
+  where
+    which : (m m' w a b : ℕ) → a ≡ b → m ≤ a → m' ≤ b → m ≤ w → m' ≤ w → (m ≡ w) ⊎ (m ≡ a) → (m' ≡ w) ⊎ (m' ≡ b) → m ≡ m'
+    which m m' w a b e f g h i (inl x) (inl y) = omega (arith, x, y)
+    which m m' w a b e f g h i (inl x) (inr y) = omega (arith, e, f, g, h, i, x, y)
+    which m m' w a b e f g h i (inr x) (inl y) = omega (arith, e, f, g, h, i, x, y)
+    which m m' w a b e f g h i (inr x) (inr y) = omega (arith, e, x, y)
 
-again_alike : (shape : Shape) (k : ℕ) (xs ys : List Made) → LooksAgain shape k xs → LooksAgain shape k ys → AskAlike xs ys
-again_alike shape k xs ys (c, last, e, sees) (d, last', f, sees') =
+pub clash : (shape : Shape) (k wanted seen seen' m : ℕ) → seen ≡ seen' → Shows shape k wanted seen m → SeesNone shape k seen' → ⊥
+clash shape k wanted seen seen' m same (some, (below, few, room), all) none =
+    none.1 (subst (λ n. ShowsItem shape n (k % modulus_of shape)) same (omega (arith, some, few), room))
+
+again_alike : (shape : Shape) (k : Count) (wanted : ℕ) (xs ys : List Made) → LooksAgain shape k wanted xs → LooksAgain shape k wanted ys → AskAlike xs ys
+again_alike shape k wanted xs ys (c, last, e, sees) (d, last', f, sees') =
     subst (λ l. AskAlike l ys) (sym e)
     (subst (λ l. AskAlike (Read X true ∷ (scan_phrase (row_read_by C) c ++ last)) l) (sym f)
     (refl, (λ same_x. scans_alike (row_read_by C) c d last last' (λ same. behind same sees sees'))))
   where
-    behind : c ≡ d → (SeesItem shape k c × TakesOne shape k last) ⊎ (SeesNone shape k c × (last ≡ [])) →
-        (SeesItem shape k d × TakesOne shape k last') ⊎ (SeesNone shape k d × (last' ≡ [])) → AskAlike last last'
-    behind same (inl (item, one)) (inl (item', one')) = ones_alike shape k last last' one one'
-    behind same (inl (item, one)) (inr (none, nil)) = subst (λ l. AskAlike last l) (sym nil) (alike-none last)
+    behind : c ≡ d → ((m : ℕ) × Shows shape k.number wanted c m × TakesSome shape k m last) ⊎ (SeesNone shape k.number c × (last ≡ [])) →
+        ((m : ℕ) × Shows shape k.number wanted d m × TakesSome shape k m last') ⊎ (SeesNone shape k.number d × (last' ≡ [])) → AskAlike last last'
+    behind same (inl (m, shows, some)) (inl (m', shows', some')) = some_alike shape k m m' last last' (same_many shape k.number wanted c d m m' same shows shows') some some'
+    behind same (inl (m, shows, some)) (inr (none, nil)) = subst (λ l. AskAlike last l) (sym nil) (alike-none last)
     behind same (inr (none, nil)) sees' = subst (λ l. AskAlike l last') (sym nil) tt
 
-once_alike : (shape : Shape) (k : ℕ) (xs ys : List Made) → LooksOnce shape k xs → LooksOnce shape k ys → AskAlike xs ys
-once_alike shape k xs ys (c, rest, e, sees) (d, rest', f, sees') =
+once_alike : (shape : Shape) (k : Count) (wanted : ℕ) (xs ys : List Made) → LooksOnce shape k wanted xs → LooksOnce shape k wanted ys → AskAlike xs ys
+once_alike shape k wanted xs ys (c, rest, e, sees) (d, rest', f, sees') =
     subst (λ l. AskAlike l ys) (sym e)
     (subst (λ l. AskAlike (scan_phrase (row_read_by C) c ++ rest) l) (sym f) (scans_alike (row_read_by C) c d rest rest' (λ same. behind same sees sees')))
   where
-    asked : (rest ≡ Read X false ∷ []) ⊎ LooksAgain shape k rest → (rest' ≡ Read X false ∷ []) ⊎ LooksAgain shape k rest' → AskAlike rest rest'
+    asked : (rest ≡ Read X false ∷ []) ⊎ LooksAgain shape k wanted rest → (rest' ≡ Read X false ∷ []) ⊎ LooksAgain shape k wanted rest' → AskAlike rest rest'
     asked (inl e) (inl f) = alike-equal rest rest' (e ∙ sym f)
     asked (inl e) (inr (again, last, f, sees)) = subst (λ l. AskAlike l rest') (sym e) (subst (λ l. AskAlike (Read X false ∷ []) l) (sym f) (refl, (λ x. tt)))
     asked (inr (again, last, e, sees)) (inl f) =
         let more : List Made = scan_phrase (row_read_by C) again ++ last in
         subst (λ l. AskAlike l rest') (sym e) (subst (λ l. AskAlike (Read X true ∷ more) l) (sym f) (refl, (λ x. alike-none more)))
-    asked (inr looks) (inr looks') = again_alike shape k rest rest' looks looks'
+    asked (inr looks) (inr looks') = again_alike shape k wanted rest rest' looks looks'
 
     behind :
-        c ≡ d → (SeesItem shape k c × TakesOne shape k rest) ⊎ (SeesNone shape k c × ((rest ≡ Read X false ∷ []) ⊎ LooksAgain shape k rest)) →
-        (SeesItem shape k d × TakesOne shape k rest') ⊎ (SeesNone shape k d × ((rest' ≡ Read X false ∷ []) ⊎ LooksAgain shape k rest')) → AskAlike rest rest'
-    behind same (inl (item, one)) (inl (item', one')) = ones_alike shape k rest rest' one one'
-    behind same (inl (item, one)) (inr (none, more)) = absurd (clash shape k c d same item none)
-    behind same (inr (none, more)) (inl (item, one)) = absurd (clash shape k d c (sym same) item none)
+        c ≡ d → ((m : ℕ) × Shows shape k.number wanted c m × TakesSome shape k m rest) ⊎ (SeesNone shape k.number c × ((rest ≡ Read X false ∷ []) ⊎ LooksAgain shape k wanted rest)) →
+        ((m : ℕ) × Shows shape k.number wanted d m × TakesSome shape k m rest') ⊎ (SeesNone shape k.number d × ((rest' ≡ Read X false ∷ []) ⊎ LooksAgain shape k wanted rest')) → AskAlike rest rest'
+    behind same (inl (m, shows, some)) (inl (m', shows', some')) = some_alike shape k m m' rest rest' (same_many shape k.number wanted c d m m' same shows shows') some some'
+    behind same (inl (m, shows, some)) (inr (none, more)) = absurd (clash shape k.number wanted c d m same shows none)
+    behind same (inr (none, more)) (inl (m, shows, some)) = absurd (clash shape k.number wanted d c m (sym same) shows none)
     behind same (inr (none, more)) (inr (none', more')) = asked more more'
 
-take_looks : (shape : Shape) (k : ℕ) (x : Take) → IsTake shape k x → LooksOnce shape k (take_phrase shape k x)
-take_looks shape k (Item seen item) is = (seen, item_phrase shape k item, refl, inl (is.0, (item, refl)))
-take_looks shape k (ItemAfterClose seen again item) is = (
+take_looks : (shape : Shape) (k : Count) (wanted : ℕ) (x : Take) → IsTake shape k.number x → IsTakeOf shape k.number wanted x → LooksOnce shape k wanted (take_phrase shape k x)
+take_looks shape k wanted (Item seen items) (sees, batch) of = (seen, items_phrase shape k items, refl, inl (length items, (batch.some, sees, of), (items, refl, refl)))
+take_looks shape k wanted (ItemAfterClose seen again items) (none, sees, batch) of = (
   seen,
-  Read X true ∷ (scan_phrase (row_read_by C) again ++ item_phrase shape k item),
-  append_assoc (scan_phrase (row_read_by C) seen) (Read X true ∷ scan_phrase (row_read_by C) again) (item_phrase shape k item),
-  inr (is.0, inr (again, item_phrase shape k item, refl, inl (is.1, (item, refl)))),
+  Read X true ∷ (scan_phrase (row_read_by C) again ++ items_phrase shape k items),
+  append_assoc (scan_phrase (row_read_by C) seen) (Read X true ∷ scan_phrase (row_read_by C) again) (items_phrase shape k items),
+  inr (none, inr (again, items_phrase shape k items, refl, inl (length items, (batch.some, sees, of), (items, refl, refl)))),
 )
-take_looks shape k (Empty seen) is = (seen, Read X false ∷ [], refl, inr (is, inl refl))
+take_looks shape k wanted (Empty seen) is of = (seen, Read X false ∷ [], refl, inr (is, inl refl))
 
-end_looks : (shape : Shape) (k seen again : ℕ) → SeesNone shape k seen → SeesNone shape k again → LooksOnce shape k (end_phrase (Closed seen again))
-end_looks shape k seen again none none' =
+end_looks : (shape : Shape) (k : Count) (wanted seen again : ℕ) → SeesNone shape k.number seen → SeesNone shape k.number again → LooksOnce shape k wanted (end_phrase (Closed seen again))
+end_looks shape k wanted seen again none none' =
     let scan : List Made = scan_phrase (row_read_by C) again in
     (seen, Read X true ∷ scan, refl, inr (none, inr (again, [], ap (λ l. Read X true ∷ l) (sym (append-nil scan)), inr (none', refl))))
 
 -- one take more is what it makes behind those before it
 more_looks :
-    (shape : Shape) (calls more : Takes) → HasTakeMore shape calls more →
-    (phrase : List Made) × LooksOnce shape (taken_in 0 calls.takes) phrase × (take_program shape more ≡ take_phrases shape 0 calls.takes ++ phrase)
-more_looks shape calls more has =
-    let k : ℕ = taken_in 0 calls.takes in
+    (shape : Shape) (wanted : ℕ) (calls more : Takes) → HasTakeMore shape wanted calls more →
+    (phrase : List Made) × LooksOnce shape (takes.count_taken shape calls) wanted phrase × (take_program shape more ≡ take_phrases shape first_count calls.takes ++ phrase)
+more_looks shape wanted calls more has =
+    let k : Count = takes.count_taken shape calls in
     elim has.is_one_more [
-      | inl (x, more_is) ↦
-          let is : IsTake shape k x = take_calls.are-last shape 0 calls.takes x (subst (λ (m : Takes). AreTakes shape 0 m.takes m.end) more_is has.are) in
-          (take_phrase shape k x, take_looks shape k x is, ap (take_program shape) more_is ∙ take_calls.program-push shape calls x)
+      | inl (x, of, more_is) ↦
+          let is : IsTake shape k.number x = take_calls.are-last shape first_count calls.takes x (subst (λ (m : Takes). AreTakes shape 0 m.takes m.end) more_is has.are) in
+          (take_phrase shape k x, take_looks shape k wanted x is of, ap (take_program shape) more_is ∙ take_calls.program-push shape calls x)
       | inr (seen, again, more_is) ↦
-          let (none, none') = take_calls.end-sees_none shape 0 calls.takes seen again (subst (λ (m : Takes). AreTakes shape 0 m.takes m.end) more_is has.are) in
-          (end_phrase (Closed seen again), end_looks shape k seen again none none', ap (take_program shape) more_is)
+          let (none, none') = take_calls.end-sees_none shape first_count calls.takes seen again (subst (λ (m : Takes). AreTakes shape 0 m.takes m.end) more_is has.are) in
+          (end_phrase (Closed seen again), end_looks shape k wanted seen again none none', ap (take_program shape) more_is)
     ]
 
 pub takes-go_on_by_one : TakesGoOnByOne
-takes-go_on_by_one shape calls made a b goes goes' =
+takes-go_on_by_one shape wanted calls made a b goes goes' =
     let (more, has, begins_x) = goes true (λ due. refl) in
     let (more', has', begins_y) = goes' true (λ due. refl) in
-    let (xs, looks, xs_is) = more_looks shape calls more has in
-    let (ys, looks', ys_is) = more_looks shape calls more' has' in
-    let front : List Made = take_phrases shape 0 calls.takes in
-    same_next made (front ++ xs) (front ++ ys) a b (alike-behind front xs ys (once_alike shape (taken_in 0 calls.takes) xs ys looks looks'))
+    let (xs, looks, xs_is) = more_looks shape wanted calls more has in
+    let (ys, looks', ys_is) = more_looks shape wanted calls more' has' in
+    let front : List Made = take_phrases shape first_count calls.takes in
+    same_next made (front ++ xs) (front ++ ys) a b (alike-behind front xs ys (once_alike shape (takes.count_taken shape calls) wanted xs ys looks looks'))
     (subst (λ l. IsBeginning (made ++ answered a true ∷ []) l) xs_is begins_x)
     (subst (λ l. IsBeginning (made ++ answered b true ∷ []) l) ys_is begins_y)

@@ -7,7 +7,7 @@ use Rattle.bits_core.specs.Shape.{capacity_of, width_of}
 use Rattle.bits_core.specs.Intervals as intervals
 use Rattle.ring_core.specs.Puts.{Stored, Puts}
 use Rattle.ring_core.specs.Takes.{Take, Takes, accesses_before_word}
-use Rattle.ring_core.specs.Items.{events_in, item_of}
+use Rattle.ring_core.specs.Items.{events_in, taken_of}
 use Rattle.ring_core.specs.CallsAt.{IsPutAt, IsTakeAt, scan_events}
 use Rattle.ring_core.specs.RingLaw.{IsInterval}
 
@@ -28,10 +28,13 @@ pub record StoresItem (shape : Shape) (calls : Puts) (j item word stop : ℕ) : 
 -- consumer's own event word on.
 pub record TakesItem (shape : Shape) (calls : Takes) (k item word stop : ℕ) : Type 0 where
   pub take : Take
+  pub n : ℕ
   pub start : ℕ
-  pub is_take : IsTakeAt shape calls take k start stop
-  pub has : item_of take ≡ Some item
-  pub reads : word ≡ start + events_in (accesses_before_word take)
+  pub index : ℕ
+  pub is_take : IsTakeAt shape calls take n start stop
+  pub has : slice_get (taken_of take) index ≡ Some item
+  pub number : k ≡ n + index
+  pub reads : word ≡ start + events_in (accesses_before_word take) + 2 * (index * width_of shape)
 
 -- where two items have the same cell, the word write of the one and the word read of the other do not overlap
 abbrev pub ItemsAreQuiet : Shape → List Event → Puts → Takes → Type 0

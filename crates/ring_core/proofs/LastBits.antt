@@ -10,9 +10,8 @@ use Rattle.bits_core.specs.Made.{Made, Read}
 use Rattle.register_core.specs.Row.{RowWrite, row_bit, writes_in}
 use Rattle.register_core.specs.Word.{digit, digit_reads, word_read}
 use Rattle.register_core.specs.ScanState.{zero_reads, scan_phrase, row_read_by}
-use Rattle.ring_core.specs.Takes.{Take, End, Item, ItemAfterClose, Empty, Open, Closed, taken_after, item_phrase, take_phrase, take_phrases, end_phrase, IsTake, AreTakes}
-use Rattle.ring_core.specs.Counts.{count_phrase, bits_held}
-use Rattle.register_core.specs.Unary.{unary_phrase}
+use Rattle.ring_core.specs.Takes.{Take, End, Item, ItemAfterClose, Empty, Open, Closed, count_after, words_read, items_phrase, take_phrase, take_phrases, end_phrase, IsTake, AreTakes}
+use Rattle.ring_core.specs.Counts.{Count, first_count, count_bits, batch_phrase}
 use Rattle.ring_core.specs.GoingOn.{LastTakesReadOne}
 
 -- where the access reads the last bit of a row, it answers 1
@@ -63,39 +62,44 @@ one-reads modulus cell item (suc n) =
     one-append (row_read_by C) modulus (digit_reads cell item n) (Read (Cell cell n) (digit n item) ∷ []) (one-reads modulus cell item n)
     ((λ i v e last. let bits : Cell cell n ≡ S i = cc in absurd (cc)), record {})
 
-one-item : (shape : Shape) (k item : ℕ) → AllOne (row_read_by C) (modulus_of shape) (item_phrase shape k item)
-one-item shape k item =
-    one-append (row_read_by C) (modulus_of shape) (word_read (width_of shape) (k % capacity_of shape) item) (count_phrase shape C k)
-    (one-reads (modulus_of shape) (k % capacity_of shape) item (width_of shape))
-    (one-writes C (row_bit C) (modulus_of shape) (unary_phrase (bits_held shape k) (suc k % modulus_of shape)))
+one-words : (shape : Shape) (n : ℕ) (items : List ℕ) → AllOne (row_read_by C) (modulus_of shape) (words_read shape n items)
+one-words shape n [] = record {}
+one-words shape n (item ∷ items) =
+    one-append (row_read_by C) (modulus_of shape) (word_read (width_of shape) (n % capacity_of shape) item) (words_read shape (suc n) items)
+    (one-reads (modulus_of shape) (n % capacity_of shape) item (width_of shape)) (one-words shape (suc n) items)
+
+one-items : (shape : Shape) (c : Count) (items : List ℕ) → AllOne (row_read_by C) (modulus_of shape) (items_phrase shape c items)
+one-items shape c items =
+    one-append (row_read_by C) (modulus_of shape) (words_read shape c.number items) (batch_phrase shape C c items)
+    (one-words shape c.number items) (one-writes C (row_bit C) (modulus_of shape) (count_bits shape c items))
 
 one-close : (modulus : ℕ) (v : Bool) (rest : List Made) → AllOne (row_read_by C) modulus rest → AllOne (row_read_by C) modulus (Read X v ∷ rest)
 one-close modulus v rest p = ((λ i w e last. let bits : X ≡ S i = cc in absurd (cc)), p)
 
-one-take : (shape : Shape) (k : ℕ) (x : Take) → IsTake shape k x → AllOne (row_read_by C) (modulus_of shape) (take_phrase shape k x)
-one-take shape k (Item c i) (sees, fits) =
-    one-append (row_read_by C) (modulus_of shape) (scan_phrase (row_read_by C) c) (item_phrase shape k i) (one-scan C (modulus_of shape) c sees.0) (one-item shape k i)
-one-take shape k (ItemAfterClose c d i) (none, sees, fits) =
-    one-append (row_read_by C) (modulus_of shape) (scan_phrase (row_read_by C) c ++ Read X true ∷ scan_phrase (row_read_by C) d) (item_phrase shape k i)
+one-take : (shape : Shape) (z : Count) (x : Take) → IsTake shape z.number x → AllOne (row_read_by C) (modulus_of shape) (take_phrase shape z x)
+one-take shape z (Item c i) (sees, fits) =
+    one-append (row_read_by C) (modulus_of shape) (scan_phrase (row_read_by C) c) (items_phrase shape z i) (one-scan C (modulus_of shape) c sees.0) (one-items shape z i)
+one-take shape z (ItemAfterClose c d i) (none, sees, fits) =
+    one-append (row_read_by C) (modulus_of shape) (scan_phrase (row_read_by C) c ++ Read X true ∷ scan_phrase (row_read_by C) d) (items_phrase shape z i)
     (one-append (row_read_by C) (modulus_of shape) (scan_phrase (row_read_by C) c) (Read X true ∷ scan_phrase (row_read_by C) d) (one-scan C (modulus_of shape) c none.0)
     (one-close (modulus_of shape) true (scan_phrase (row_read_by C) d) (one-scan C (modulus_of shape) d sees.0)))
-    (one-item shape k i)
-one-take shape k (Empty c) none =
+    (one-items shape z i)
+one-take shape z (Empty c) none =
     one-append (row_read_by C) (modulus_of shape) (scan_phrase (row_read_by C) c) (Read X false ∷ []) (one-scan C (modulus_of shape) c none.0)
     (one-close (modulus_of shape) false [] (record {}))
 
 one-calls :
-    (shape : Shape) (k : ℕ) (takes : List Take) (end : End) → AreTakes shape k takes end → AllOne (row_read_by C) (modulus_of shape) (take_phrases shape k takes ++ end_phrase end)
-one-calls shape k [] Open p = record {}
-one-calls shape k [] (Closed c d) (none, none') =
+    (shape : Shape) (z : Count) (takes : List Take) (end : End) → AreTakes shape z.number takes end → AllOne (row_read_by C) (modulus_of shape) (take_phrases shape z takes ++ end_phrase end)
+one-calls shape z [] Open p = record {}
+one-calls shape z [] (Closed c d) (none, none') =
     one-append (row_read_by C) (modulus_of shape) (scan_phrase (row_read_by C) c) (Read X true ∷ scan_phrase (row_read_by C) d) (one-scan C (modulus_of shape) c none.0)
     (one-close (modulus_of shape) true (scan_phrase (row_read_by C) d) (one-scan C (modulus_of shape) d none'.0))
-one-calls shape k (x ∷ takes) end (is, p) =
-    subst (AllOne (row_read_by C) (modulus_of shape)) (sym (append_assoc (take_phrase shape k x) (take_phrases shape (taken_after k x) takes) (end_phrase end)))
-    (one-append (row_read_by C) (modulus_of shape) (take_phrase shape k x) (take_phrases shape (taken_after k x) takes ++ end_phrase end) (one-take shape k x is)
-    (one-calls shape (taken_after k x) takes end p))
+one-calls shape z (x ∷ takes) end (is, p) =
+    subst (AllOne (row_read_by C) (modulus_of shape)) (sym (append_assoc (take_phrase shape z x) (take_phrases shape (count_after shape z x) takes) (end_phrase end)))
+    (one-append (row_read_by C) (modulus_of shape) (take_phrase shape z x) (take_phrases shape (count_after shape z x) takes ++ end_phrase end) (one-take shape z x is)
+    (one-calls shape (count_after shape z x) takes end p))
 
 pub last-takes_read_one : LastTakesReadOne
 last-takes_read_one shape calls p made i v rest e last =
     one_at (row_read_by C) (modulus_of shape) made (Read (row_read_by C i) v) rest
-    (subst (AllOne (row_read_by C) (modulus_of shape)) e (one-calls shape 0 calls.takes calls.end p)) i v refl last
+    (subst (AllOne (row_read_by C) (modulus_of shape)) e (one-calls shape first_count calls.takes calls.end p)) i v refl last

@@ -1,21 +1,21 @@
 -- How many accesses the phrases of a call have.
 use Rattle.std.proofs.Common.{◌≡◌, ℕ, zero, suc, ◌+◌, ◌*◌, ◌%◌, ◌≤◌, true, false, List, [], ◌∷◌, ◌++◌, length, refl, arith, ◌∙◌, length-append}
 use Rattle.std.proofs.lemmas.List.{length-map}
-use Rattle.std.proofs.Math.Nat.{suc-mul}
+use Rattle.std.proofs.Math.Nat.{suc-mul, mul-le-mul_right}
 use Rattle.bits_core.specs.declared.events.Side.TheVariants.{P, C}
 use Rattle.bits_core.specs.declared.events.Bit.{Bit}
 use Rattle.bits_core.specs.declared.events.Bit.TheVariants.{X, Cell}
 use Rattle.bits_core.specs.declared.shapes.Shape.{Shape}
-use Rattle.bits_core.specs.Shape.{capacity_of, width_of}
+use Rattle.bits_core.specs.Shape.{capacity_of, modulus_of, width_of}
 use Rattle.bits_core.specs.Made.{Made, Read, Write}
 use Rattle.register_core.specs.Word.{digit_writes, word_write, word_read}
 use Rattle.register_core.specs.ScanState.{zero_reads, scan_phrase, row_read_by}
-use Rattle.ring_core.specs.Counts.{Count, count_phrase, batch_phrase}
+use Rattle.ring_core.specs.Counts.{Count, IsCount, batch_phrase}
 use Rattle.ring_core.specs.Puts.{words_phrase}
-use Rattle.ring_core.specs.Takes.{Item, ItemAfterClose, Empty, item_phrase}
-use Rattle.ring_core.specs.Lengths.{ItemPutsAreShort, FullPutsAreShort, PutsAreShort, TakesAreShort, EndsAreShort}
+use Rattle.ring_core.specs.Takes.{Item, ItemAfterClose, Empty, words_read, items_phrase}
+use Rattle.ring_core.specs.Lengths.{longest_take, longest_taking, ItemPutsAreShort, FullPutsAreShort, PutsAreShort, TakesAreShort, EndsAreShort}
 use Rattle.ring_core.proofs.Phrases.{length-digit_reads, length-digit_writes}
-use Rattle.ring_core.proofs.CountRow.{count_short, step_short, batch_short}
+use Rattle.ring_core.proofs.CountRow.{step_short, batch_short}
 
 -- ---- phrases
 
@@ -35,6 +35,11 @@ length-word_write width cell item = length-map (digit_writes item width) (λ w. 
 -- a word read has a read for each digit
 pub length-word_read : (width cell item : ℕ) → length (word_read width cell item) ≡ width
 length-word_read width cell item = length-digit_reads cell item width
+
+-- the bound of several items is no lower than that of one
+longest_least : (shape : Shape) (n : ℕ) → longest_take shape ≤ longest_taking shape (suc (suc n))
+longest_least shape n =
+    omega (arith, suc-mul (suc n) (width_of shape), suc-mul n (width_of shape), shape.has_cells, shape.has_batch, shape.room_to_count)
 
 -- ---- calls
 
@@ -78,17 +83,6 @@ full_puts-are_short shape c seen (below, none) = omega (arith, below, length-sca
 pub puts-are_short : PutsAreShort
 puts-are_short shape c seen items is (below, room, batch) = omega (arith, below, length-stored shape c seen items, batch_short shape P c items)
 
--- the accesses that take an item
-length-item : (shape : Shape) (k item : ℕ) → length (item_phrase shape k item) ≤ width_of shape + 2
-length-item shape k item =
-    let word : List Made = word_read (width_of shape) (k % capacity_of shape) item in
-    omega (
-      arith,
-      length-append word (count_phrase shape C k),
-      length-word_read (width_of shape) (k % capacity_of shape) item,
-      count_short shape C k,
-    )
-
 -- two scans with a read of the close bit between them
 length-two_scans :
     (seen again : ℕ) → length (scan_phrase (row_read_by C) seen ++ Read X true ∷ scan_phrase (row_read_by C) again) ≡ suc seen + suc (suc again)
@@ -100,27 +94,64 @@ length-two_scans seen again =
       length-scan (row_read_by C) again,
     )
 
+-- words that are read have an access for each digit
+length-reads : (shape : Shape) (n : ℕ) (items : List ℕ) → length (words_read shape n items) ≡ length items * width_of shape
+length-reads shape n [] = omega arith
+length-reads shape n (item ∷ items) =
+    omega (
+      arith,
+      length-append (word_read (width_of shape) (n % capacity_of shape) item) (words_read shape (suc n) items),
+      length-word_read (width_of shape) (n % capacity_of shape) item,
+      length-reads shape (suc n) items,
+      suc-mul (length items) (width_of shape),
+    )
+
+-- the accesses that take items
+length-items : (shape : Shape) (c : Count) (items : List ℕ) → length (items_phrase shape c items) ≡ length items * width_of shape + length (batch_phrase shape C c items)
+length-items shape c items =
+    omega (arith, length-append (words_read shape c.number items) (batch_phrase shape C c items), length-reads shape c.number items)
+
+-- what follows the scans of a take of items: of one its word and two writes of the count, of several a word each and a write
+items_short :
+    (shape : Shape) (c : Count) (items : List ℕ) (scans : ℕ) → IsCount shape c → 1 ≤ length items → scans ≤ 2 * modulus_of shape + 1 →
+    scans + length (items_phrase shape c items) ≤ longest_taking shape (length items)
+items_short shape c [] scans is some few = absurd (omega (arith, some))
+items_short shape c (item ∷ []) scans is some few =
+    let one : 1 * width_of shape ≡ width_of shape = omega arith in
+    omega (arith, few, length-items shape c (item ∷ []), one, step_short shape C c item is)
+items_short shape c (item ∷ next ∷ items) scans is some few =
+    omega (arith, few, length-items shape c (item ∷ next ∷ items), batch_short shape C c (item ∷ next ∷ items))
+
 -- no take is longer than the bound
 pub takes-are_short : TakesAreShort
-takes-are_short shape k (Item seen item) ((below, shows), fits) =
+takes-are_short shape c (Item seen items) is ((below, few, room), batch) =
     omega (
       arith,
-      below,
-      length-append (scan_phrase (row_read_by C) seen) (item_phrase shape k item),
+      length-append (scan_phrase (row_read_by C) seen) (items_phrase shape c items),
       length-scan (row_read_by C) seen,
-      length-item shape k item,
+      items_short shape c items (suc seen) is batch.some (omega (arith, below)),
     )
-takes-are_short shape k (ItemAfterClose seen again item) ((below, none), (below', shows), fits) =
+takes-are_short shape c (ItemAfterClose seen again items) is ((below, none), (below', few, room), batch) =
     omega (
       arith,
-      below,
-      below',
-      length-append (scan_phrase (row_read_by C) seen ++ Read X true ∷ scan_phrase (row_read_by C) again) (item_phrase shape k item),
+      length-append (scan_phrase (row_read_by C) seen ++ Read X true ∷ scan_phrase (row_read_by C) again) (items_phrase shape c items),
       length-two_scans seen again,
-      length-item shape k item,
+      items_short shape c items (suc seen + suc (suc again)) is batch.some (omega (arith, below, below')),
     )
-takes-are_short shape k (Empty seen) (below, none) =
+takes-are_short shape c (Empty seen) is (below, none) =
     omega (arith, below, length-append (scan_phrase (row_read_by C) seen) (Read X false ∷ []), length-scan (row_read_by C) seen)
+
+-- the bound of more items is no lower
+pub longest_up : (shape : Shape) (m n : ℕ) → m ≤ n → longest_taking shape m ≤ longest_taking shape n
+longest_up shape zero zero l = omega arith
+longest_up shape zero (suc zero) l = omega arith
+longest_up shape zero (suc (suc n)) l = longest_least shape n
+longest_up shape (suc zero) zero l = absurd (omega (arith, l))
+longest_up shape (suc zero) (suc zero) l = omega arith
+longest_up shape (suc zero) (suc (suc n)) l = longest_least shape n
+longest_up shape (suc (suc m)) zero l = absurd (omega (arith, l))
+longest_up shape (suc (suc m)) (suc zero) l = absurd (omega (arith, l))
+longest_up shape (suc (suc m)) (suc (suc n)) l = omega (arith, mul-le-mul_right (width_of shape) l)
 
 -- no take that is told the ring is closed is longer than the bound
 pub ends-are_short : EndsAreShort

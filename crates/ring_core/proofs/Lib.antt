@@ -7,6 +7,7 @@ pub mod CountRow
 pub mod Lengths
 pub mod PutsRead
 pub mod TakesRead
+mod TakesFirst
 pub mod Cuts
 pub mod ItemsRead
 pub mod TakenRead
@@ -58,9 +59,9 @@ pub mod ClosedStays
 pub mod NeverMisses
 pub mod OneMore
 pub mod Witness
-pub mod Alike
 pub mod LastBits
 pub mod PutParts
+mod TakeParts
 pub mod WholeCalls
 pub mod OneCallMore
 pub mod Turns

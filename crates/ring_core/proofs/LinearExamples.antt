@@ -19,10 +19,10 @@ put_and_close-operations = (refl, refl, refl, refl)
 -- it is taken with the first event of the take's count write, number 10, and that the ring is closed is told with the last of the
 -- 24 events
 second_scan-operations :
-    (take_operations one_cell 0 0 second_scan.takes second_scan.end 10 ≡ []) ×
-    (take_operations one_cell 0 0 second_scan.takes second_scan.end 11 ≡ operations C 0 14 (Dequeue 1 ∷ [])) ×
-    (take_operations one_cell 0 0 second_scan.takes second_scan.end 23 ≡ operations C 0 14 (Dequeue 1 ∷ [])) ×
-    (take_operations one_cell 0 0 second_scan.takes second_scan.end 24 ≡ operations C 0 14 (Dequeue 1 ∷ []) ++ operations C 14 24 (FindClosed ∷ []))
+    (take_operations one_cell first_count 0 second_scan.takes second_scan.end 10 ≡ []) ×
+    (take_operations one_cell first_count 0 second_scan.takes second_scan.end 11 ≡ operations C 0 14 (Dequeue 1 ∷ [])) ×
+    (take_operations one_cell first_count 0 second_scan.takes second_scan.end 23 ≡ operations C 0 14 (Dequeue 1 ∷ [])) ×
+    (take_operations one_cell first_count 0 second_scan.takes second_scan.end 24 ≡ operations C 0 14 (Dequeue 1 ∷ []) ++ operations C 14 24 (FindClosed ∷ []))
 unfolding one_cell
 second_scan-operations = (refl, refl, refl, refl)
 

@@ -1,17 +1,16 @@
 -- The calls of a side as looks: each scan of the other side's count with what follows it.
-use Rattle.std.specs.Prelude.{◌≡◌, ℕ, suc, ◌*◌, ◌%◌, Bool, true, false, List, [], ◌∷◌, ◌++◌, length}
+use Rattle.std.specs.Prelude.{◌≡◌, ℕ, ◌*◌, Bool, true, false, List, [], ◌∷◌, ◌++◌, length}
 use Rattle.bits_core.specs.declared.events.Side.{Side}
 use Rattle.bits_core.specs.declared.events.Side.TheVariants.{P, C}
 use Rattle.bits_core.specs.declared.events.Bit.TheVariants.{X}
 use Rattle.bits_core.specs.declared.shapes.Shape.{Shape}
-use Rattle.bits_core.specs.Shape.{capacity_of, width_of}
 use Rattle.bits_core.specs.Made.{Made, Read}
 use Rattle.register_core.specs.Row.{bits_after}
-use Rattle.register_core.specs.Word.{word_read}
 use Rattle.register_core.specs.ScanState.{scan_phrase, row_read_by}
 use Rattle.ring_core.specs.Counts.{bits_held, number_past, Count, first_count, count_bits, batch_phrase}
 use Rattle.ring_core.specs.Puts.{Put, Stored, Full, Puts, words_phrase}
 use Rattle.ring_core.specs.Takes.{Take, Item, ItemAfterClose, Empty, End, Open, Closed, Takes}
+pub use Rattle.ring_core.specs.Takes.{words_read}
 use Rattle.ring_core.proofs.Spans.{Outcome, Passes, Stops, Asks, Span}
 
 -- a count whose writes count one item each, as its writer knows it
@@ -36,14 +35,9 @@ put_looks (Full seen ∷ puts) = look seen Stops ∷ put_looks puts
 abbrev pub take_looks : List Take → End → List Look
 take_looks [] Open = []
 take_looks [] (Closed seen again) = look seen (Asks true) ∷ look again Stops ∷ []
-take_looks (Item seen item ∷ takes) end = look seen (Passes (item ∷ [])) ∷ take_looks takes end
-take_looks (ItemAfterClose seen again item ∷ takes) end = look seen (Asks true) ∷ look again (Passes (item ∷ [])) ∷ take_looks takes end
+take_looks (Item seen items ∷ takes) end = look seen (Passes items) ∷ take_looks takes end
+take_looks (ItemAfterClose seen again items ∷ takes) end = look seen (Asks true) ∷ look again (Passes items) ∷ take_looks takes end
 take_looks (Empty seen ∷ takes) end = look seen (Asks false) ∷ take_looks takes end
-
--- the word reads of items, one after the other, of the cells from that of item number n on
-abbrev pub words_read : Shape → ℕ → List ℕ → List Made
-words_read shape n [] = []
-words_read shape n (item ∷ items) = word_read (width_of shape) (n % capacity_of shape) item ++ words_read shape (suc n) items
 
 -- what a side does after a scan, behind n items: the word accesses or the read of the close bit, and the count write
 abbrev pub word_part : Side → Shape → ℕ → Outcome → List Made

@@ -1,5 +1,5 @@
 -- The calls of each side as looks: their accesses, their items and their rules by spans.
-use Rattle.std.proofs.Common.{◌≡◌, ◌⊎◌, inl, inr, ℕ, zero, suc, ◌+◌, ◌-◌, ◌*◌, ◌^◌, ◌%◌, ◌<◌, ◌≤◌, Bool, true, false, nat_lt, nat_le, if◌then◌else◌, List, [], ◌∷◌, ◌++◌, length, refl, sym, ap, subst, ◌∙◌, arith, append_assoc, append-nil, length-append}
+use Rattle.std.proofs.Common.{◌≡◌, ◌⊎◌, inl, inr, ℕ, zero, suc, ◌+◌, ◌-◌, ◌*◌, ◌%◌, ◌<◌, ◌≤◌, Bool, true, false, nat_lt, nat_le, if◌then◌else◌, List, [], ◌∷◌, ◌++◌, length, refl, sym, ap, subst, ◌∙◌, arith, append_assoc, length-append}
 use Rattle.std.proofs.lemmas.Bool.Decides.{nat_tests}
 use Rattle.std.proofs.Math.Nat.{suc-mul}
 use Rattle.bits_core.specs.declared.events.Side.{Side}
@@ -10,20 +10,20 @@ use Rattle.bits_core.specs.Shape.{AllFit, batch_of, capacity_of, modulus_of, wid
 use Rattle.bits_core.specs.Made.{Made, Read}
 use Rattle.register_core.specs.Word.{word_read}
 use Rattle.register_core.specs.ScanState.{scan_phrase, row_read_by}
-use Rattle.ring_core.specs.Counts.{distance, count_phrase, number_past, Count, first_count, batch_phrase, IsCount}
+use Rattle.ring_core.specs.Counts.{distance, number_past, Count, first_count, batch_phrase, take_batch_of, IsCount}
 use Rattle.ring_core.specs.Puts.{Put, Stored, Full, Puts, stored_after, words_phrase, put_phrases, close_phrase, ArePuts}
-use Rattle.ring_core.specs.Takes.{Take, Item, ItemAfterClose, Empty, End, Open, Closed, Takes, item_phrase, take_phrases, end_phrase, AreTakes}
+use Rattle.ring_core.specs.Takes.{Take, Item, ItemAfterClose, Empty, End, Open, Closed, Takes, count_after, items_phrase, take_phrases, end_phrase, AreTakes}
 use Rattle.ring_core.specs.Items.{items_put, items_taken}
 use Rattle.ring_core.proofs.Spans.{Outcome, Passes, Stops, Asks, Span, counts, items_of, whole, total, begun_items, ended_items, IsSpanAt}
 use Rattle.ring_core.proofs.Clocks as clocks
-use Rattle.ring_core.proofs.LookSpans.{steps, Look, look, put_looks, take_looks, put_spans, take_spans, words_read, word_part, count_part, look_number, after_look, look_accesses, span_of, spans, LookAt}
+use Rattle.ring_core.proofs.LookSpans.{Look, look, put_looks, take_looks, put_spans, take_spans, words_read, word_part, count_part, look_number, after_look, look_accesses, span_of, spans, LookAt}
 use Rattle.ring_core.proofs.Timeline.{AllProper}
 use Rattle.ring_core.proofs.Cuts.{at_most_or_above}
 use Rattle.ring_core.proofs.SpanLaw.{LastTwo, two_last, two_after}
-use Rattle.ring_core.proofs.CountRow.{past_is, first_is_count, counted_is_count, has_batch, batch_long}
+use Rattle.ring_core.proofs.CountRow.{past_is, first_is_count, counted_is_count, batch_below, take_batch_below, batch_long}
 use Rattle.ring_core.proofs.Lengths.{length-scan, length-words, length-word_read}
 use Rattle.ring_core.proofs.PutsRead.{puts_stored, puts_full}
-use Rattle.ring_core.proofs.TakesRead.{item_first, after_first, empty_first, closed_first}
+use Rattle.ring_core.proofs.TakesFirst.{item_first, after_first, empty_first, closed_first}
 
 -- ---- the accesses of the calls are those of their looks
 
@@ -39,30 +39,29 @@ puts_as_looks shape c (Stored seen items ∷ puts) closes =
 puts_as_looks shape c (Full seen ∷ puts) closes =
     puts_full shape c seen puts closes ∙ ap (λ l. scan_phrase (row_read_by P) seen ++ l) (puts_as_looks shape c puts closes)
 
--- an item's word and count, and what follows them
-item_joined :
-    (shape : Shape) (k item : ℕ) (left right : List Made) → left ≡ right →
-    item_phrase shape k item ++ left ≡ words_read shape k (item ∷ []) ++ (count_phrase shape C k ++ right)
-item_joined shape k item left right e =
-    let word : List Made = word_read (width_of shape) (k % capacity_of shape) item in
-    append_assoc word (count_phrase shape C k) left ∙ ap (λ l. word ++ (count_phrase shape C k ++ l)) e ∙
-    ap (λ w. w ++ (count_phrase shape C k ++ right)) (sym (append-nil word))
+-- items' words and the count, and what follows them
+items_joined :
+    (shape : Shape) (c : Count) (items : List ℕ) (left right : List Made) → left ≡ right →
+    items_phrase shape c items ++ left ≡ words_read shape c.number items ++ (batch_phrase shape C c items ++ right)
+items_joined shape c items left right e =
+    let words : List Made = words_read shape c.number items in
+    append_assoc words (batch_phrase shape C c items) left ∙ ap (λ l. words ++ (batch_phrase shape C c items ++ l)) e
 
 -- the accesses of takes and of their end
 pub takes_as_looks :
-    (shape : Shape) (k : ℕ) (takes : List Take) (end : End) →
-    take_phrases shape k takes ++ end_phrase end ≡ look_accesses C shape (steps shape k) (take_looks takes end) []
-takes_as_looks shape k [] Open = refl
-takes_as_looks shape k [] (Closed seen again) = closed_first shape k seen again
-takes_as_looks shape k (Item seen item ∷ takes) end =
-    item_first shape k seen item takes end ∙
-    ap (λ l. scan_phrase (row_read_by C) seen ++ l) (item_joined shape k item _ _ (takes_as_looks shape (suc k) takes end))
-takes_as_looks shape k (ItemAfterClose seen again item ∷ takes) end =
-    after_first shape k seen again item takes end ∙
+    (shape : Shape) (c : Count) (takes : List Take) (end : End) →
+    take_phrases shape c takes ++ end_phrase end ≡ look_accesses C shape c (take_looks takes end) []
+takes_as_looks shape c [] Open = refl
+takes_as_looks shape c [] (Closed seen again) = closed_first shape c seen again
+takes_as_looks shape c (Item seen items ∷ takes) end =
+    item_first shape c seen items takes end ∙
+    ap (λ l. scan_phrase (row_read_by C) seen ++ l) (items_joined shape c items _ _ (takes_as_looks shape (count_after shape c (Item seen items)) takes end))
+takes_as_looks shape c (ItemAfterClose seen again items ∷ takes) end =
+    after_first shape c seen again items takes end ∙
     ap (λ l. scan_phrase (row_read_by C) seen ++ (Read X true ∷ (scan_phrase (row_read_by C) again ++ l)))
-    (item_joined shape k item _ _ (takes_as_looks shape (suc k) takes end))
-takes_as_looks shape k (Empty seen ∷ takes) end =
-    empty_first shape k seen takes end ∙ ap (λ l. scan_phrase (row_read_by C) seen ++ (Read X false ∷ l)) (takes_as_looks shape k takes end)
+    (items_joined shape c items _ _ (takes_as_looks shape (count_after shape c (ItemAfterClose seen again items)) takes end))
+takes_as_looks shape c (Empty seen ∷ takes) end =
+    empty_first shape c seen takes end ∙ ap (λ l. scan_phrase (row_read_by C) seen ++ (Read X false ∷ l)) (takes_as_looks shape c takes end)
 
 -- ---- what looks count
 
@@ -76,18 +75,19 @@ abbrev pub AllPassing : ℕ → List Look → Type 0
 AllPassing most [] = Unit {0}
 AllPassing most (l ∷ looks) = Passing most l.outcome × AllPassing most looks
 
--- those of puts have at most a batch, and those of takes one
+-- those of puts have at most a batch, and those of takes at most a take batch
 pub puts_pass : (shape : Shape) (n : ℕ) (puts : List Put) → ArePuts shape n puts → AllPassing (batch_of shape) (put_looks puts)
 puts_pass shape n [] h = tt
 puts_pass shape n (Stored seen items ∷ puts) ((below, room, batch), h) = ((batch.some, batch.few), puts_pass shape (number_past n items) puts h)
 puts_pass shape n (Full seen ∷ puts) (here, h) = (tt, puts_pass shape n puts h)
 
-pub takes_pass : (most : ℕ) → 1 ≤ most → (takes : List Take) (end : End) → AllPassing most (take_looks takes end)
-takes_pass most some [] Open = tt
-takes_pass most some [] (Closed seen again) = (tt, (tt, tt))
-takes_pass most some (Item seen item ∷ takes) end = ((omega arith, some), takes_pass most some takes end)
-takes_pass most some (ItemAfterClose seen again item ∷ takes) end = (tt, ((omega arith, some), takes_pass most some takes end))
-takes_pass most some (Empty seen ∷ takes) end = (tt, takes_pass most some takes end)
+pub takes_pass : (shape : Shape) (k : ℕ) (takes : List Take) (end : End) → AreTakes shape k takes end → AllPassing (take_batch_of shape) (take_looks takes end)
+takes_pass shape k [] Open h = tt
+takes_pass shape k [] (Closed seen again) h = (tt, (tt, tt))
+takes_pass shape k (Item seen items ∷ takes) end ((sees, batch), h) = ((batch.some, batch.few), takes_pass shape (number_past k items) takes end h)
+takes_pass shape k (ItemAfterClose seen again items ∷ takes) end ((none, sees, batch), h) =
+    (tt, ((batch.some, batch.few), takes_pass shape (number_past k items) takes end h))
+takes_pass shape k (Empty seen ∷ takes) end (none, h) = (tt, takes_pass shape k takes end h)
 
 -- the bits after a look are those of a count
 pub look_is_count : (shape : Shape) (c : Count) (o : Outcome) → IsCount shape c → IsCount shape (after_look shape c o)
@@ -99,7 +99,7 @@ look_is_count shape c (Asks answer) h = h
 
 -- a look that counts some items has an access of the count
 count_some :
-    (most : ℕ) (s : Side) (shape : Shape) (c : Count) (o : Outcome) → most ≤ batch_of shape → IsCount shape c → Passing most o →
+    (most : ℕ) (s : Side) (shape : Shape) (c : Count) (o : Outcome) → most < modulus_of shape → IsCount shape c → Passing most o →
     (counts o ≤ most) × (1 ≤ counts o → 1 ≤ 2 * length (count_part s shape c o))
 count_some most s shape c (Passes items) fits h (some, few) =
     (few, λ o. omega (arith, batch_long shape s c items h some (omega (arith, few, fits))))
@@ -108,7 +108,7 @@ count_some most s shape c (Asks answer) fits h p = (omega arith, λ o. absurd (o
 
 -- each span has an event in its scan, and where it counts one in its count write
 pub all_proper :
-    (most : ℕ) (s : Side) (shape : Shape) (c : Count) (looks : List Look) → most ≤ batch_of shape → IsCount shape c → AllPassing most looks →
+    (most : ℕ) (s : Side) (shape : Shape) (c : Count) (looks : List Look) → most < modulus_of shape → IsCount shape c → AllPassing most looks →
     AllProper most (spans s shape c looks)
 all_proper most s shape c [] fits h p = tt
 all_proper most s shape c (l ∷ looks) fits h p =
@@ -119,10 +119,11 @@ all_proper most s shape c (l ∷ looks) fits h p =
 
 -- the spans of calls that follow one another are proper
 pub proper_puts : (shape : Shape) (puts : Puts) → ArePuts shape 0 puts.puts → AllProper (batch_of shape) (put_spans shape puts)
-proper_puts shape puts are = all_proper (batch_of shape) P shape first_count (put_looks puts.puts) (omega arith) (first_is_count shape) (puts_pass shape 0 puts.puts are)
+proper_puts shape puts are = all_proper (batch_of shape) P shape first_count (put_looks puts.puts) (batch_below shape) (first_is_count shape) (puts_pass shape 0 puts.puts are)
 
-pub proper_takes : (shape : Shape) (takes : Takes) → AllProper 1 (take_spans shape takes)
-proper_takes shape takes = all_proper 1 C shape first_count (take_looks takes.takes takes.end) (has_batch shape) (first_is_count shape) (takes_pass 1 (omega arith) takes.takes takes.end)
+pub proper_takes : (shape : Shape) (takes : Takes) → AreTakes shape 0 takes.takes takes.end → AllProper (take_batch_of shape) (take_spans shape takes)
+proper_takes shape takes are =
+    all_proper (take_batch_of shape) C shape first_count (take_looks takes.takes takes.end) (take_batch_below shape) (first_is_count shape) (takes_pass shape 0 takes.takes takes.end are)
 
 -- the parts of a look, and what follows them, in length
 length_parts : (a b d after : List Made) → length (a ++ (b ++ (d ++ after))) ≡ length a + length b + length d + length after
@@ -285,45 +286,46 @@ two_ended a b t some = grind (arith, nat_tests)
 
 -- the items taken are those of the spans that have ended
 pub takes_items :
-    (shape : Shape) (k : ℕ) (takes : List Take) (end : End) (t : ℕ) →
-    items_taken shape k takes t ≡ ended_items (spans C shape (steps shape k) (take_looks takes end)) t
-takes_items shape k [] Open t = refl
-takes_items shape k [] (Closed seen again) t =
-    let x : Span = span_of C shape (steps shape k) (look seen (Asks true)) in
-    let z : Span = span_of C shape (steps shape k) (look again Stops) in
+    (shape : Shape) (c : Count) (takes : List Take) (end : End) (t : ℕ) →
+    items_taken shape c takes t ≡ ended_items (spans C shape c (take_looks takes end)) t
+takes_items shape c [] Open t = refl
+takes_items shape c [] (Closed seen again) t =
+    let x : Span = span_of C shape c (look seen (Asks true)) in
+    let z : Span = span_of C shape c (look again Stops) in
     no_items (nat_le (whole z) (t - whole x)) [] ∙ no_items (nat_le (whole x) t) ((if nat_le (whole z) (t - whole x) then [] else []) ++ [])
-takes_items shape k (Item seen item ∷ takes) end t =
+takes_items shape c (Item seen items ∷ takes) end t =
     let a : List Made = scan_phrase (row_read_by C) seen in
-    let b : List Made = word_read (width_of shape) (k % capacity_of shape) item in
-    let b' : List Made = words_read shape k (item ∷ []) in
-    let d : List Made = count_phrase shape C k in
-    let number_past : 2 * length (a ++ (b ++ d)) ≡ 2 * length a + 2 * length b' + 2 * length d =
-    omega (arith, length-append a (b ++ d), length-append b d, ap length (append-nil b)) in
-    same_items (nat_le (2 * length (a ++ (b ++ d))) t) (nat_le (2 * length a + 2 * length b' + 2 * length d) t) (item ∷ []) _ _ (ap (λ j. nat_le j t) number_past)
-    (ap (λ j. items_taken shape (suc k) takes (t - j)) number_past ∙ takes_items shape (suc k) takes end (t - (2 * length a + 2 * length b' + 2 * length d)))
-takes_items shape k (ItemAfterClose seen again item ∷ takes) end t =
-    let x : Span = span_of C shape (steps shape k) (look seen (Asks true)) in
-    let z : Span = span_of C shape (steps shape k) (look again (Passes (item ∷ []))) in
+    let b : List Made = words_read shape c.number items in
+    let d : List Made = batch_phrase shape C c items in
+    let next : Count = count_after shape c (Item seen items) in
+    let number_past : 2 * length (a ++ (b ++ d)) ≡ 2 * length a + 2 * length b + 2 * length d =
+    omega (arith, length-append a (b ++ d), length-append b d) in
+    same_items (nat_le (2 * length (a ++ (b ++ d))) t) (nat_le (2 * length a + 2 * length b + 2 * length d) t) items _ _ (ap (λ j. nat_le j t) number_past)
+    (ap (λ j. items_taken shape next takes (t - j)) number_past ∙ takes_items shape next takes end (t - (2 * length a + 2 * length b + 2 * length d)))
+takes_items shape c (ItemAfterClose seen again items ∷ takes) end t =
+    let x : Span = span_of C shape c (look seen (Asks true)) in
+    let z : Span = span_of C shape c (look again (Passes items)) in
     let a : List Made = scan_phrase (row_read_by C) seen in
     let a' : List Made = scan_phrase (row_read_by C) again in
-    let b : List Made = word_read (width_of shape) (k % capacity_of shape) item in
-    let d : List Made = count_phrase shape C k in
+    let b : List Made = words_read shape c.number items in
+    let d : List Made = batch_phrase shape C c items in
+    let next : Count = count_after shape c (ItemAfterClose seen again items) in
     let phrase : List Made = a ++ Read X true ∷ a' ++ (b ++ d) in
     let number_past : 2 * length phrase ≡ whole x + whole z =
-    omega (arith, length-append (a ++ Read X true ∷ a') (b ++ d), length-append a (Read X true ∷ a'), length-append b d, ap length (append-nil b)) in
+    omega (arith, length-append (a ++ Read X true ∷ a') (b ++ d), length-append a (Read X true ∷ a'), length-append b d) in
     let some : 0 < whole z = omega (arith, length-scan (row_read_by C) again) in
     let after : t - 2 * length phrase ≡ t - whole x - whole z = omega (arith, number_past) in
-    same_items (nat_le (2 * length phrase) t) (nat_le (whole z) (t - whole x)) (item ∷ []) _ _
+    same_items (nat_le (2 * length phrase) t) (nat_le (whole z) (t - whole x)) items _ _
     (ap (λ j. nat_le j t) number_past ∙ two_ended (whole x) (whole z) t some)
-    (ap (λ j. items_taken shape (suc k) takes j) after ∙ takes_items shape (suc k) takes end (t - whole x - whole z)) ∙
+    (ap (λ j. items_taken shape next takes j) after ∙ takes_items shape next takes end (t - whole x - whole z)) ∙
     no_items (nat_le (whole x) t)
-    ((if nat_le (whole z) (t - whole x) then item ∷ [] else []) ++ ended_items (spans C shape (steps shape (suc k)) (take_looks takes end)) (t - whole x - whole z))
-takes_items shape k (Empty seen ∷ takes) end t =
-    let x : Span = span_of C shape (steps shape k) (look seen (Asks false)) in
+    ((if nat_le (whole z) (t - whole x) then items else []) ++ ended_items (spans C shape next (take_looks takes end)) (t - whole x - whole z))
+takes_items shape c (Empty seen ∷ takes) end t =
+    let x : Span = span_of C shape c (look seen (Asks false)) in
     let a : List Made = scan_phrase (row_read_by C) seen in
     let number_past : 2 * length (a ++ Read X false ∷ []) ≡ whole x = omega (arith, length-append a (Read X false ∷ [])) in
-    ap (λ j. items_taken shape k takes (t - j)) number_past ∙ takes_items shape k takes end (t - whole x) ∙
-    no_items (nat_le (whole x) t) (ended_items (spans C shape (steps shape k) (take_looks takes end)) (t - whole x))
+    ap (λ j. items_taken shape c takes (t - j)) number_past ∙ takes_items shape c takes end (t - whole x) ∙
+    no_items (nat_le (whole x) t) (ended_items (spans C shape c (take_looks takes end)) (t - whole x))
 
 -- ---- the rules
 
@@ -350,8 +352,8 @@ pub record FitsShape (shape : Shape) (seen : ℕ) (o : Outcome) : Type 0 where
   pub below : seen < modulus_of shape
   pub items : AllFit shape (items_of o)
 
-passes_fits : (shape : Shape) (seen item : ℕ) → seen < modulus_of shape → item < 2 ^ width_of shape → FitsShape shape seen (Passes (item ∷ []))
-passes_fits shape seen item below fits = record { below = below; items = (fits, tt) }
+passes_fits : (shape : Shape) (seen : ℕ) (items : List ℕ) → seen < modulus_of shape → AllFit shape items → FitsShape shape seen (Passes items)
+passes_fits shape seen items below fits = record { below = below; items = fits }
 
 stops_fits : (shape : Shape) (seen : ℕ) → seen < modulus_of shape → FitsShape shape seen Stops
 stops_fits shape seen below = record { below = below; items = tt }
@@ -397,11 +399,11 @@ takes_keep shape k [] (Closed seen again) ((below, none), (below', none')) = (
   (asks_fits shape seen true below, λ e. absurd (omega (arith, e)), λ _. not_shown _ _ none),
   ((stops_fits shape again below', λ e. absurd (omega (arith, e)), λ _. not_shown _ _ none'), tt),
 )
-takes_keep shape k (Item seen item ∷ takes) end (((below, shows), fits), h) =
-    ((passes_fits shape seen item below fits, λ _. shows, λ e. absurd (omega (arith, e))), takes_keep shape (suc k) takes end h)
-takes_keep shape k (ItemAfterClose seen again item ∷ takes) end (((below, none), (below', shows), fits), h) = (
+takes_keep shape k (Item seen items ∷ takes) end (((below, few, room), batch), h) =
+    ((passes_fits shape seen items below batch.fit, λ _. (few, room), λ e. absurd (omega (arith, e, batch.some))), takes_keep shape (number_past k items) takes end h)
+takes_keep shape k (ItemAfterClose seen again items ∷ takes) end (((below, none), (below', few, room), batch), h) = (
   (asks_fits shape seen true below, λ e. absurd (omega (arith, e)), λ _. not_shown _ _ none),
-  ((passes_fits shape again item below' fits, λ _. shows, λ e. absurd (omega (arith, e))), takes_keep shape (suc k) takes end h),
+  ((passes_fits shape again items below' batch.fit, λ _. (few, room), λ e. absurd (omega (arith, e, batch.some))), takes_keep shape (number_past k items) takes end h),
 )
 takes_keep shape k (Empty seen ∷ takes) end ((below, none), h) =
     ((asks_fits shape seen false below, λ e. absurd (omega (arith, e)), λ _. not_shown _ _ none), takes_keep shape k takes end h)
@@ -449,7 +451,7 @@ take_fits shape c takes end h start m x st = (take_rule shape c takes end h star
 -- they are a read of the close bit that is 1, and a scan after which nothing is taken
 pub last_two : (shape : Shape) (c : Count) (takes : List Take) (seen again : ℕ) → LastTwo (spans C shape c (take_looks takes (Closed seen again)))
 last_two shape c [] seen again = two_last _ _ refl refl
-last_two shape c (Item u item ∷ takes) seen again = two_after _ _ (last_two shape (after_look shape c (Passes (item ∷ []))) takes seen again)
-last_two shape c (ItemAfterClose u v item ∷ takes) seen again =
-    two_after _ _ (two_after _ _ (last_two shape (after_look shape c (Passes (item ∷ []))) takes seen again))
+last_two shape c (Item u items ∷ takes) seen again = two_after _ _ (last_two shape (after_look shape c (Passes items)) takes seen again)
+last_two shape c (ItemAfterClose u v items ∷ takes) seen again =
+    two_after _ _ (two_after _ _ (last_two shape (after_look shape c (Passes items)) takes seen again))
 last_two shape c (Empty u ∷ takes) seen again = two_after _ _ (last_two shape c takes seen again)

@@ -7,7 +7,7 @@ use Rattle.bits_core.specs.declared.events.Bit.{Bit}
 use Rattle.bits_core.specs.declared.events.Access.{Access}
 use Rattle.bits_core.specs.declared.events.Access.TheVariants.{Read}
 use Rattle.bits_core.specs.declared.shapes.Shape.{Shape}
-use Rattle.bits_core.specs.Shape.{batch_of, modulus_of}
+use Rattle.bits_core.specs.Shape.{modulus_of}
 use Rattle.bits_core.specs.Made.{Made, Write, answered}
 use Rattle.register_core.specs.Row.{RowWrite, row_bit, writes_in}
 use Rattle.register_core.specs.ScanState.{ScanState, ScanStands, IsScanOf, IsValueRead, scan_read, due_scan, row_read_by}
@@ -98,7 +98,7 @@ counting shape row new count (none, value) below e =
 -- the same of a write that counts some items
 pub counting_on :
     (shape : Shape) (row new : UnaryState) (count : ℕ) (items : List ℕ) (m : ℕ) → IsCounted row count → count < modulus_of shape → m ≡ length items →
-    1 ≤ length items → length items ≤ batch_of shape → new ≡ record row { value = (count + m) % modulus_of shape } →
+    1 ≤ length items → length items < modulus_of shape → new ≡ record row { value = (count + m) % modulus_of shape } →
     IsBeingCountedOn new (modulus_of shape) count m
 counting_on shape row new count items m (none, value) below size some few e =
     let bits : ℕ → Bool = bit_in row.bits in

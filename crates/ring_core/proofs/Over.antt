@@ -11,7 +11,7 @@ use Rattle.ring_core.specs.Items.{events_in}
 use Rattle.ring_core.specs.Over.{over, PutsOverAreRead, TakesOverAreRead, puts_over, takes_over}
 use Rattle.ring_core.specs.Puts.{Put, Puts, ArePuts, FollowsPuts, close_phrase, number_after, put_phrase, put_phrases, put_program, stored_after, stored_count}
 use Rattle.ring_core.specs.Readings.{PutsAreFirst, TakesAreFirst}
-use Rattle.ring_core.specs.Takes.{Take, Takes, End, Open, AreTakes, FollowsTakes, end_phrase, take_phrase, take_phrases, take_program, taken_after}
+use Rattle.ring_core.specs.Takes.{Take, Takes, End, Open, AreTakes, FollowsTakes, end_phrase, take_phrase, take_phrases, take_program, count_after}
 use Rattle.ring_core.proofs.Cuts.{cut}
 use Rattle.ring_core.proofs.Following.{events_of-append, length-events}
 
@@ -116,39 +116,39 @@ puts_over-read law shape h a b p q =
 
 -- ---- takes
 
-takes-append : (shape : Shape) (k : ℕ) (xs ys : List Take) → take_phrases shape k (xs ++ ys) ≡ take_phrases shape k xs ++ take_phrases shape (state (λ k x. events_in (take_phrase shape k x)) taken_after k xs) ys
-takes-append shape k [] ys = refl
-takes-append shape k (x ∷ xs) ys =
-    ap (λ l. take_phrase shape k x ++ l) (takes-append shape (taken_after k x) xs ys)
-    ∙ sym (append_assoc (take_phrase shape k x) (take_phrases shape (taken_after k x) xs) _)
+takes-append : (shape : Shape) (c : Count) (xs ys : List Take) → take_phrases shape c (xs ++ ys) ≡ take_phrases shape c xs ++ take_phrases shape (state (λ c x. events_in (take_phrase shape c x)) (count_after shape) c xs) ys
+takes-append shape c [] ys = refl
+takes-append shape c (x ∷ xs) ys =
+    ap (λ l. take_phrase shape c x ++ l) (takes-append shape (count_after shape c x) xs ys)
+    ∙ sym (append_assoc (take_phrase shape c x) (take_phrases shape (count_after shape c x) xs) _)
 
-first_takes : (shape : Shape) (k : ℕ) (xs ys : List Take) (end : End) → AreTakes shape k (xs ++ ys) end → AreTakes shape k xs Open
-first_takes shape k [] ys end p = tt
-first_takes shape k (x ∷ xs) ys end p = (p.0, first_takes shape (taken_after k x) xs ys end p.1)
+first_takes : (shape : Shape) (c : Count) (xs ys : List Take) (end : End) → AreTakes shape c.number (xs ++ ys) end → AreTakes shape c.number xs Open
+first_takes shape c [] ys end p = tt
+first_takes shape c (x ∷ xs) ys end p = (p.0, first_takes shape (count_after shape c x) xs ys end p.1)
 
-pub takes_total : (shape : Shape) (k : ℕ) (xs : List Take) → total (λ k x. events_in (take_phrase shape k x)) taken_after k xs ≡ 2 * length (take_phrases shape k xs)
-takes_total shape k [] = refl
-takes_total shape k (x ∷ xs) =
-    omega (arith, takes_total shape (taken_after k x) xs, length-append (take_phrase shape k x) (take_phrases shape (taken_after k x) xs))
+pub takes_total : (shape : Shape) (c : Count) (xs : List Take) → total (λ c x. events_in (take_phrase shape c x)) (count_after shape) c xs ≡ 2 * length (take_phrases shape c xs)
+takes_total shape c [] = refl
+takes_total shape c (x ∷ xs) =
+    omega (arith, takes_total shape (count_after shape c x) xs, length-append (take_phrase shape c x) (take_phrases shape (count_after shape c x) xs))
 
 takes_begin :
     TakesAreFirst → (shape : Shape) (h : List Event) (a b : Takes) → FollowsTakes shape h a → FollowsTakes shape h b →
-    (rest : List Take) × (b.takes ≡ takes_over shape 0 a.takes (length (own C h)) ++ rest)
+    (rest : List Take) × (b.takes ≡ takes_over shape first_count a.takes (length (own C h)) ++ rest)
 takes_begin law shape h a b p q =
     let t : ℕ = length (own C h) in
-    let xs : List Take = takes_over shape 0 a.takes t in
-    let f = front (λ k x. events_in (take_phrase shape k x)) taken_after 0 a.takes t in
+    let xs : List Take = takes_over shape first_count a.takes t in
+    let f = front (λ c x. events_in (take_phrase shape c x)) (count_after shape) first_count a.takes t in
     let calls : Takes = record { takes = xs; end = Open } in
-    let left : List Made = take_phrases shape (state (λ k x. events_in (take_phrase shape k x)) taken_after 0 xs) f.rest in
+    let left : List Made = take_phrases shape (state (λ c x. events_in (take_phrase shape c x)) (count_after shape) first_count xs) f.rest in
     let program : take_program shape a ≡ take_program shape calls ++ (left ++ end_phrase a.end) =
-    ap (λ l. take_phrases shape 0 l ++ end_phrase a.end) f.parts
-    ∙ ap (λ l. l ++ end_phrase a.end) (takes-append shape 0 xs f.rest)
-    ∙ append_assoc (take_phrases shape 0 xs) left (end_phrase a.end)
-    ∙ ap (λ l. l ++ (left ++ end_phrase a.end)) (sym (append-nil (take_phrases shape 0 xs))) in
-    let size : 2 * length (take_program shape calls) ≤ t = omega (arith, f.within, takes_total shape 0 xs, ap length (append-nil (take_phrases shape 0 xs))) in
-    (law shape calls b (first_takes shape 0 xs f.rest a.end (subst (λ l. AreTakes shape 0 l a.end) f.parts p.are)) q.are
+    ap (λ l. take_phrases shape first_count l ++ end_phrase a.end) f.parts
+    ∙ ap (λ l. l ++ end_phrase a.end) (takes-append shape first_count xs f.rest)
+    ∙ append_assoc (take_phrases shape first_count xs) left (end_phrase a.end)
+    ∙ ap (λ l. l ++ (left ++ end_phrase a.end)) (sym (append-nil (take_phrases shape first_count xs))) in
+    let size : 2 * length (take_program shape calls) ≤ t = omega (arith, f.within, takes_total shape first_count xs, ap length (append-nil (take_phrases shape first_count xs))) in
+    (law shape calls b (first_takes shape first_count xs f.rest a.end (subst (λ l. AreTakes shape 0 l a.end) f.parts p.are)) q.are
     (begin_each C (own C h) (take_program shape calls) _ (take_program shape a) (take_program shape b) size program p.events q.events)).0
 
 pub takes_over-read : TakesAreFirst → TakesOverAreRead
 takes_over-read law shape h a b p q =
-    same_over (λ k x. events_in (take_phrase shape k x)) taken_after 0 a.takes b.takes (length (own C h)) (takes_begin law shape h a b p q) (takes_begin law shape h b a q p)
+    same_over (λ c x. events_in (take_phrase shape c x)) (count_after shape) first_count a.takes b.takes (length (own C h)) (takes_begin law shape h a b p q) (takes_begin law shape h b a q p)

@@ -14,6 +14,7 @@ use Rattle.ring_core.specs.declared.producers.Stage.{Stage}
 use Rattle.ring_core.specs.declared.producers.Stage.TheVariants.{Scanning, Storing, Counting}
 use Rattle.ring_core.specs.Calls.{LastBitIsDue}
 use Rattle.ring_core.specs.ProducerState.{ProducerState, IsProducer, ProducerIsAt, IsPutting, IsWritingWord, due_put, producer_due_at}
+use Rattle.ring_core.proofs.CountRow.{batch_below}
 use Rattle.ring_core.proofs.MachineParts.{scanning, counting_on}
 use Rattle.ring_core.proofs.Batches.{taken_so, taken_batch}
 
@@ -136,7 +137,7 @@ word_keeps p w row is e fed begun =
       row_side = ap (λ (r : UnaryState). r.side) begun ∙ is.row_side;
       row_modulus = ap (λ (r : UnaryState). r.modulus) begun ∙ is.row_modulus;
       at = (
-        counting_on p.shape p.row row p.count (take p.most p.items) p.most counted is.count_below (sym size) batch.some batch.few begun,
+        counting_on p.shape p.row row p.count (take p.most p.items) p.most counted is.count_below (sym size) batch.some (omega (arith, batch.few, batch_below p.shape)) begun,
         same_putting p Counting p.scan w row p.most putting (ap (λ (x : WriterState). x.width) fed) (ap (λ (x : WriterState). x.cell) fed) (ap (λ (x : WriterState). x.item) fed),
         keeping,
       );

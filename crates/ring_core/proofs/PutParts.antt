@@ -16,7 +16,7 @@ use Rattle.ring_core.specs.PutParts.{GoesBehind, count_behind, count_access, Sca
 use Rattle.ring_core.specs.GoingOn.{LastPutsReadOne}
 use Rattle.ring_core.proofs.Phrases.{scan-front, scan_begins, same_scan, same_word_write, same_writes, length-digit_writes, at_or_below}
 use Rattle.ring_core.proofs.PutsRead.{no_close, puts_stored, puts_full, no_room, NoCellFirst, count_first, words_first, digits_first, word_first}
-use Rattle.ring_core.proofs.CountRow.{first_is_count, counted_is_count, bits_long}
+use Rattle.ring_core.proofs.CountRow.{batch_below, first_is_count, counted_is_count, bits_long}
 use Rattle.ring_core.proofs.ItemsRead.{same_stored, same_full}
 use Rattle.ring_core.proofs.LastBits.{AllOne, one-append, one_at, one-scan, one-writes}
 
@@ -248,7 +248,7 @@ module _ (tell : DigitsTellItems) where
           let is : x ∷ rest ≡ batch_phrase shape P c items ++ s.behind_it =
           left.rest_is ∙ ap (λ l. words_phrase shape (number_past c.number items) l ++ (batch_phrase shape P c s.items ++ s.behind_it)) e ∙ ap (λ l. batch_phrase shape P c l ++ s.behind_it) all in
           let batch : IsBatch shape items = subst (IsBatch shape) all s.is_put.2 in
-          let (w, ws, bits) = some_write (count_bits shape c items) (bits_long shape c items s.is_count batch.some batch.few) in
+          let (w, ws, bits) = some_write (count_bits shape c items) (bits_long shape c items s.is_count batch.some (omega (arith, batch.few, batch_below shape))) in
           let first : x ∷ rest ≡ count_access w ∷ (writes_in (row_bit P) ws ++ s.behind_it) = is ∙ ap (λ l. writes_in (row_bit P) l ++ s.behind_it) bits in
           inr (batch.some, w, ws, bits, cc)
       by_more s left (y ∷ ys) e =

@@ -8,7 +8,7 @@ use Rattle.bits_core.specs.declared.shapes.Shape.{Shape}
 use Rattle.bits_core.specs.Shape.{batch_of, capacity_of}
 use Rattle.bits_core.specs.Made.{own, clock, place_of, IsPlaceOf}
 use Rattle.register_core.specs.ScanState.{scan_phrase, row_read_by}
-use Rattle.ring_core.specs.Counts.{number_past, Count, first_count, batch_phrase}
+use Rattle.ring_core.specs.Counts.{number_past, Count, first_count, batch_phrase, take_batch_of}
 use Rattle.ring_core.specs.Puts.{Put, Stored, Full, Puts, stored_after, words_phrase, put_phrase, put_phrases}
 use Rattle.ring_core.specs.Takes.{Takes}
 use Rattle.ring_core.specs.Items.{events_in, items_put}
@@ -161,7 +161,7 @@ put_turns-closed shape c start (Full seen ∷ puts) t l =
 -- ---- what holds of each
 
 module _ (facts : OwnFacts) (shape : Shape) (h : List Event) (puts : Puts) (takes : Takes) (law : LawOfSpans shape h puts takes)
-    (proper_puts : AllProper (batch_of shape) (put_spans shape puts)) (proper_takes : AllProper 1 (take_spans shape takes)) where
+    (proper_puts : AllProper (batch_of shape) (put_spans shape puts)) (proper_takes : AllProper (take_batch_of shape) (take_spans shape takes)) where
   -- the events of all puts
   abbrev all_events : ℕ
   all_events = events_in (put_phrases shape first_count puts.puts)
@@ -259,7 +259,7 @@ module _ (facts : OwnFacts) (shape : Shape) (h : List Event) (puts : Puts) (take
                   begins = omega (arith, e);
                   not_begun = begun_there start c.number y st;
                   ended = λ s. absurd s;
-                  full = λ s m l. omega (arith, few, ended_up 1 (take_spans shape takes) proper_takes (clock C h m) (clock C h first) (clock_rises C h m first (last_place P h start first m is_first l)));
+                  full = λ s m l. omega (arith, few, ended_up (take_batch_of shape) (take_spans shape takes) proper_takes (clock C h m) (clock C h first) (clock_rises C h m first (last_place P h start first m is_first l)));
                   close = λ s. absurd s;
                 },
                 λ s. absurd s,

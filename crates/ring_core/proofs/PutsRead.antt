@@ -14,7 +14,7 @@ use Rattle.ring_core.specs.Counts.{LeavesRoom, LeavesRoomFor, number_past, Count
 use Rattle.ring_core.specs.Puts.{Put, Puts, Stored, Full, stored_after, words_phrase, put_phrases, close_phrase, put_program, IsBatch, ArePuts}
 use Rattle.ring_core.specs.Readings.{PutsAreRead}
 use Rattle.ring_core.proofs.Phrases.{same_accesses, scan_begins, same_scan, same_word_write, joined_two, no_scan}
-use Rattle.ring_core.proofs.CountRow.{first_is_count, counted_is_count, bits_long}
+use Rattle.ring_core.proofs.CountRow.{batch_below, first_is_count, counted_is_count, bits_long}
 
 -- a scan is no close
 pub no_close : (a : Bool) (bit_of : ℕ → Bit) (c : ℕ) (xs : List Made) → close_phrase a ≡ scan_phrase bit_of c ++ xs → ⊥
@@ -69,7 +69,7 @@ row_first (w ∷ writes) behind some j d v rest e = absurd (cc)
 
 pub count_first :
     (shape : Shape) (c : Count) (items : List ℕ) (behind : List Made) → IsCount shape c → IsBatch shape items → NoCellFirst (batch_phrase shape P c items ++ behind)
-count_first shape c items behind is batch = row_first (count_bits shape c items) behind (bits_long shape c items is batch.some batch.few)
+count_first shape c items behind is batch = row_first (count_bits shape c items) behind (bits_long shape c items is batch.some (omega (arith, batch.few, batch_below shape)))
 
 -- a word does
 pub digits_first : (item w : ℕ) → 0 < w → (rest : List RowWrite) × (digit_writes item w ≡ record { bit = 0; value = digit 0 item } ∷ rest)

@@ -13,7 +13,7 @@ use Rattle.ring_core.specs.Over.{puts_over, takes_over}
 use Rattle.ring_core.specs.Puts.{Put, Stored, Full, Puts, close_phrase, put_phrase, put_phrases, put_program, stored_after, words_phrase}
 use Rattle.ring_core.specs.Recorded.{put_answer, put_told, take_answer, take_told, told_or_behind}
 use Rattle.ring_core.specs.RecordedByOne.{events_of_puts, events_of_takes, PutTells, PutsTellByOne, TakeTells, TakesTellByOne}
-use Rattle.ring_core.specs.Takes.{Take, Item, ItemAfterClose, Empty, End, Open, Closed, Takes, end_phrase, item_phrase, take_phrase, take_phrases, take_program, taken_after}
+use Rattle.ring_core.specs.Takes.{Take, Item, ItemAfterClose, Empty, End, Open, Closed, Takes, end_phrase, items_phrase, take_phrase, take_phrases, take_program, count_after}
 use Rattle.ring_core.proofs.Lengths.{length-scan}
 use Rattle.ring_core.proofs.Over.{total, puts_total, takes_total}
 use Rattle.ring_core.proofs.TellsByOne.{IsFirst, IsBetween, IsLast, IsBehind, place, first_told, between_told, last_told, told, Tells, Begins, Ends, Goes, Behind, tells}
@@ -102,81 +102,103 @@ puts-tell shape offers calls i l =
 -- ---- takes
 
 -- a take has its first event and another
-take_long : (shape : Shape) (k : ℕ) (x : Take) → 2 ≤ events_in (take_phrase shape k x)
-take_long shape k (Item seen item) =
+take_long : (shape : Shape) (c : Count) (x : Take) → 2 ≤ events_in (take_phrase shape c x)
+take_long shape c (Item seen items) =
     let scan : List Made = scan_phrase (row_read_by C) seen in
-    omega (arith, length-append scan (item_phrase shape k item), length-scan (row_read_by C) seen)
-take_long shape k (ItemAfterClose seen again item) =
+    omega (arith, length-append scan (items_phrase shape c items), length-scan (row_read_by C) seen)
+take_long shape c (ItemAfterClose seen again items) =
     let scan : List Made = scan_phrase (row_read_by C) seen in
     let more : List Made = Read X true ∷ scan_phrase (row_read_by C) again in
-    omega (arith, length-append (scan ++ more) (item_phrase shape k item), length-append scan more, length-scan (row_read_by C) seen)
-take_long shape k (Empty seen) = omega (arith, length-append (scan_phrase (row_read_by C) seen) (Read X false ∷ []), length-scan (row_read_by C) seen)
+    omega (arith, length-append (scan ++ more) (items_phrase shape c items), length-append scan more, length-scan (row_read_by C) seen)
+take_long shape c (Empty seen) = omega (arith, length-append (scan_phrase (row_read_by C) seen) (Read X false ∷ []), length-scan (row_read_by C) seen)
 
 end_long : (seen again : ℕ) → 2 ≤ events_in (end_phrase (Closed seen again))
 end_long seen again = omega (arith, length-append (scan_phrase (row_read_by C) seen) (Read X true ∷ scan_phrase (row_read_by C) again), length-scan (row_read_by C) seen)
 
--- what an event behind all takes tells
-abbrev take_last : End → ℕ → List Event
-take_last Open i = []
-take_last (Closed seen again) i = told_or_behind (events_in (end_phrase (Closed seen again))) (TakeBegin 1) TakeClosed i []
+abbrev take_events : Shape → Count → Take → ℕ
+take_events shape c x = events_in (take_phrase shape c x)
 
-abbrev take_events : Shape → ℕ → Take → ℕ
-take_events shape k x = events_in (take_phrase shape k x)
+abbrev take_begin : (ℕ → ℕ) → ℕ → Event
+take_begin wants j = TakeBegin (wants j)
+
+-- what an event behind all takes, which are so many, tells
+abbrev take_last : (ℕ → ℕ) → ℕ → End → ℕ → List Event
+take_last wants j Open i = []
+take_last wants j (Closed seen again) i = told_or_behind (events_in (end_phrase (Closed seen again))) (take_begin wants j) TakeClosed i []
 
 take_told_is :
-    (shape : Shape) (j k : ℕ) (takes : List Take) (end : End) (i : ℕ) →
-    take_told shape k takes end i ≡ told (take_events shape) taken_after (λ _. TakeBegin 1) take_answer (take_last end) j k takes i
-take_told_is shape j k [] Open i = refl
-take_told_is shape j k [] (Closed seen again) i = refl
-take_told_is shape j k (x ∷ takes) end i =
-    let long : ℕ = take_events shape k x in
-    ap (λ l. told_or_behind long (TakeBegin 1) (take_answer x) i l) (take_told_is shape (suc j) (taken_after k x) takes end (i - long))
+    (shape : Shape) (wants : ℕ → ℕ) (j : ℕ) (c : Count) (takes : List Take) (end : End) (i : ℕ) →
+    take_told shape wants j c takes end i ≡ told (take_events shape) (count_after shape) (take_begin wants) take_answer (take_last wants (j + length takes) end) j c takes i
+take_told_is shape wants j c [] Open i = refl
+take_told_is shape wants j c [] (Closed seen again) i =
+    let here : j ≡ j + 0 = omega arith in
+    ap (λ n. told_or_behind (events_in (end_phrase (Closed seen again))) (take_begin wants n) TakeClosed i []) here
+take_told_is shape wants j c (x ∷ takes) end i =
+    let long : ℕ = take_events shape c x in
+    let next : suc j + length takes ≡ j + suc (length takes) = omega arith in
+    ap (λ l. told_or_behind long (take_begin wants j) (take_answer x) i l)
+    (take_told_is shape wants (suc j) (count_after shape c x) takes end (i - long) ∙
+    ap (λ n. told (take_events shape) (count_after shape) (take_begin wants) take_answer (take_last wants n end) (suc j) (count_after shape c x) takes (i - long)) next)
 
-abbrev TakesTell : Shape → Takes → ℕ → List Take → List Take → List Event → Type 0
-TakesTell shape calls i before after told = Tells (take_events shape) taken_after (λ _. TakeBegin 1) take_answer (take_last calls.end) 0 0 calls.takes i before after told
+-- what an event tells of the takes, in the words of any calls
+abbrev TakesTell : Shape → (ℕ → ℕ) → Takes → ℕ → List Take → List Take → List Event → Type 0
+TakesTell shape wants calls i before after told =
+    Tells (take_events shape) (count_after shape) (take_begin wants) take_answer (take_last wants (0 + length calls.takes) calls.end) 0 first_count calls.takes i before after told
 
 -- the program's events are those of the takes, and of the last that is told the ring is closed
 take_program_is : (shape : Shape) (calls : Takes) → events_in (take_program shape calls) ≡ events_of_takes shape calls.takes + events_in (end_phrase calls.end)
-take_program_is shape calls = omega (arith, length-append (take_phrases shape 0 calls.takes) (end_phrase calls.end))
+take_program_is shape calls = omega (arith, length-append (take_phrases shape first_count calls.takes) (end_phrase calls.end))
 
 -- an event behind all takes is one of that one
 end_tells :
-    (shape : Shape) (calls : Takes) (i : ℕ) (before after : List Take) (told : List Event) (end : End) → calls.end ≡ end →
+    (shape : Shape) (wants : ℕ → ℕ) (calls : Takes) (i : ℕ) (before after : List Take) (told : List Event) (end : End) → calls.end ≡ end →
     i < events_in (take_program shape calls) → after ≡ before → events_of_takes shape before ≤ i → events_of_takes shape before ≡ events_of_takes shape calls.takes →
-    told ≡ take_last end (i - events_of_takes shape before) → TakeTells shape calls i before after told
-end_tells shape calls i before after told Open e l same past whole is =
+    told ≡ take_last wants (length before) end (i - events_of_takes shape before) → TakeTells shape wants calls i before after told
+end_tells shape wants calls i before after told Open e l same past whole is =
     let none : events_in (end_phrase calls.end) ≡ 0 = ap (λ b. events_in (end_phrase b)) e in
     absurd (omega (arith, l, past, none, whole, take_program_is shape calls))
-end_tells shape calls i before after told (Closed seen again) e l same past whole is =
+end_tells shape wants calls i before after told (Closed seen again) e l same past whole is =
     let first : ℕ = events_of_takes shape before in
+    let begins : Event = take_begin wants (length before) in
     let long : ℕ = events_in (end_phrase (Closed seen again)) in
     let long_is : events_in (end_phrase calls.end) ≡ long = ap (λ b. events_in (end_phrase b)) e in
     elim (place long (i - first) (end_long seen again)) [
-      | IsFirst at ↦ inl (same, omega (arith, past, at), is ∙ first_told long (TakeBegin 1) TakeClosed (i - first) [] (end_long seen again) at)
+      | IsFirst at ↦ inl (same, omega (arith, past, at), is ∙ first_told long begins TakeClosed (i - first) [] (end_long seen again) at)
       | IsBetween some more ↦
-          inr (inr (inr (same, omega (arith, some), (λ _. omega (arith, more, long_is, whole, take_program_is shape calls)), is ∙ between_told long (TakeBegin 1) TakeClosed (i - first) [] some more)))
+          inr (inr (inr (same, omega (arith, some), (λ _. omega (arith, more, long_is, whole, take_program_is shape calls)), is ∙ between_told long begins TakeClosed (i - first) [] some more)))
       | IsLast some at ↦
-          inr (inr (inl (same, subst items.Tells (sym e) tt, omega (arith, some), omega (arith, at, long_is, whole, take_program_is shape calls), is ∙ last_told long (TakeBegin 1) TakeClosed (i - first) [] some at)))
+          inr (inr (inl (
+            same,
+            subst items.Tells (sym e) tt,
+            omega (arith, some),
+            omega (arith, at, long_is, whole, take_program_is shape calls),
+            is ∙ last_told long begins TakeClosed (i - first) [] some at,
+          )))
       | IsBehind more ↦ absurd (omega (arith, more, l, past, long_is, whole, take_program_is shape calls))
     ]
 
 -- the same in the words of the takes
 in_takes :
-    (shape : Shape) (calls : Takes) (i : ℕ) (before after : List Take) (told : List Event) → i < events_in (take_program shape calls) →
-    TakesTell shape calls i before after told → TakeTells shape calls i before after told
-in_takes shape calls i before after told l (Begins same at fewer is) = inl (same, at ∙ takes_total shape 0 before, is)
-in_takes shape calls i before after told l (Ends x one under at is) =
-    inr (inl (x, one, omega (arith, under, takes_total shape 0 before), at ∙ takes_total shape 0 after, is))
-in_takes shape calls i before after told l (Goes same under within is) =
-    inr (inr (inr (same, omega (arith, under, takes_total shape 0 before), λ _. omega (arith, within, takes_total shape 0 calls.takes, take_program_is shape calls), is)))
-in_takes shape calls i before after told l (Behind same all past is) =
+    (shape : Shape) (wants : ℕ → ℕ) (calls : Takes) (i : ℕ) (before after : List Take) (told : List Event) → i < events_in (take_program shape calls) →
+    TakesTell shape wants calls i before after told → TakeTells shape wants calls i before after told
+in_takes shape wants calls i before after told l (Begins same at fewer is) =
+    let number : 0 + length before ≡ length before = omega arith in
+    inl (same, at ∙ takes_total shape first_count before, is ∙ ap (λ n. take_begin wants n ∷ []) number)
+in_takes shape wants calls i before after told l (Ends x one under at is) =
+    inr (inl (x, one, omega (arith, under, takes_total shape first_count before), at ∙ takes_total shape first_count after, is))
+in_takes shape wants calls i before after told l (Goes same under within is) =
+    inr (inr (inr (same, omega (arith, under, takes_total shape first_count before), λ _. omega (arith, within, takes_total shape first_count calls.takes, take_program_is shape calls), is)))
+in_takes shape wants calls i before after told l (Behind same all past is) =
     let whole : events_of_takes shape before ≡ events_of_takes shape calls.takes = ap (events_of_takes shape) all in
-    let total_is : total (take_events shape) taken_after 0 calls.takes ≡ events_of_takes shape before = omega (arith, whole, takes_total shape 0 calls.takes) in
-    end_tells shape calls i before after told calls.end refl l same (omega (arith, past, total_is)) whole (is ∙ ap (λ n. take_last calls.end (i - n)) total_is)
+    let total_is : total (take_events shape) (count_after shape) first_count calls.takes ≡ events_of_takes shape before = omega (arith, whole, takes_total shape first_count calls.takes) in
+    let number : 0 + length calls.takes ≡ length before = omega (arith, ap length all) in
+    end_tells shape wants calls i before after told calls.end refl l same (omega (arith, past, total_is)) whole
+    (is ∙ ap (λ n. take_last wants (0 + length calls.takes) calls.end (i - n)) total_is ∙ ap (λ n. take_last wants n calls.end (i - events_of_takes shape before)) number)
 
 pub takes-tell : TakesTellByOne
-takes-tell shape calls i l =
-    let before : List Take = takes_over shape 0 calls.takes i in
-    let after : List Take = takes_over shape 0 calls.takes (suc i) in
-    subst (TakeTells shape calls i before after) (sym (take_told_is shape 0 0 calls.takes calls.end i))
-    (in_takes shape calls i before after _ l (tells (take_events shape) taken_after (λ _. TakeBegin 1) take_answer (take_last calls.end) (take_long shape) 0 0 calls.takes i))
+takes-tell shape wants calls i l =
+    let before : List Take = takes_over shape first_count calls.takes i in
+    let after : List Take = takes_over shape first_count calls.takes (suc i) in
+    subst (TakeTells shape wants calls i before after) (sym (take_told_is shape wants 0 first_count calls.takes calls.end i))
+    (in_takes shape wants calls i before after _ l
+    (tells (take_events shape) (count_after shape) (take_begin wants) take_answer (take_last wants (0 + length calls.takes) calls.end) (take_long shape) 0 first_count calls.takes i))

@@ -2,17 +2,18 @@
 use Rattle.std.proofs.Common.{◌≡◌, ℕ, suc, ◌+◌, ◌-◌, ◌<◌, ◌≤◌, Bool, true, false, nat_eq, if◌then◌else◌, List, [], ◌∷◌, ◌++◌, length, refl, sym, ap, subst, ◌∙◌, arith, append_assoc, append-nil, length-append}
 use Rattle.std.proofs.lemmas.Bool.Decides.{nat_tests}
 use Rattle.queue_calls.specs.Calls as calls
-use Rattle.queue_calls.specs.Calls.{PutBegin, CloseBegin, CloseEnd, TakeBegin, TakeClosed}
+use Rattle.queue_calls.specs.Calls.{PutBegin, TakeBegin}
 use Rattle.bits_core.specs.declared.events.Side.TheVariants.{P, C}
 use Rattle.bits_core.specs.declared.shapes.Shape.{Shape}
 use Rattle.bits_core.specs.Shape.{batch_of}
-use Rattle.ring_core.specs.Counts.{Count, first_count}
+use Rattle.ring_core.specs.Counts.{Count, first_count, take_batch_of}
 use Rattle.ring_core.specs.Puts.{Put, Stored, Full, Puts, number_after, stored_after, put_phrase, put_phrases, ArePuts}
-use Rattle.ring_core.specs.Takes.{Take, Item, ItemAfterClose, Empty, End, Takes, taken_after, take_phrase, take_phrases, end_phrase, take_program}
-use Rattle.ring_core.specs.Items.{events_in, all_put}
+use Rattle.ring_core.specs.Takes.{Take, Item, ItemAfterClose, Empty, End, Takes, taken_after, count_after, take_phrase, take_phrases, end_phrase, take_program, AreTakes}
+use Rattle.ring_core.specs.Items.{events_in, all_put, taken_of}
 use Rattle.ring_core.specs.Recorded.{call_told, told_or_behind, put_answer, take_answer, put_told, take_told, AreOffered}
+use Rattle.ring_core.specs.GoingOn.{AreWanted}
 use Rattle.ring_core.proofs.Spans.{Passes, Stops, Asks, whole}
-use Rattle.ring_core.proofs.LookSpans.{steps, look, put_looks, take_looks, span_of, spans, put_spans, take_spans}
+use Rattle.ring_core.proofs.LookSpans.{look, put_looks, take_looks, span_of, spans, put_spans, take_spans}
 use Rattle.ring_core.proofs.Looks.{proper_puts, proper_takes}
 use Rattle.ring_core.proofs.CountRow.{past_is}
 use Rattle.ring_core.proofs.CallSpans.{take_phrase-item, take_phrase-after, take_phrase-empty}
@@ -135,76 +136,86 @@ puts_past shape offers puts c start stop stored x rest e b = record {
 
 -- ---- takes
 
--- the items that a take takes
-abbrev pub take_items : Take → List ℕ
-take_items (Item seen item) = item ∷ []
-take_items (ItemAfterClose seen again item) = item ∷ []
-take_items (Empty seen) = []
+-- behind the first of all takes, which were so many with so many events and took these items, come the rest
+pub record TakesBehind (shape : Shape) (wants : ℕ → ℕ) (takes : Takes) (c : Count) (start : ℕ) (taken : List ℕ) (rest : List Take) : Type 0 where
+  pub spans_are : SpansBehind (take_batch_of shape) (take_spans shape takes) start taken (spans C shape c (take_looks rest takes.end))
+  pub made : ℕ
+  pub told : (j : ℕ) → take_told shape wants 0 first_count takes.takes takes.end (start + j) ≡ take_told shape wants made c rest takes.end j
+  pub number : c.number ≡ length taken
+  pub are : AreTakes shape c.number rest takes.end
+  pub wanted : AreWanted shape wants made c.number rest
+  pub among : length takes.takes ≡ made + length rest
+  pub all : events_in (take_program shape takes) ≡ start + events_in (take_phrases shape c rest ++ end_phrase takes.end)
 
--- behind the first of all takes, which have so many events and took these items, come the rest
-pub record TakesBehind (shape : Shape) (takes : Takes) (k start : ℕ) (taken : List ℕ) (rest : List Take) : Type 0 where
-  pub spans_are : SpansBehind 1 (take_spans shape takes) start taken (spans C shape (steps shape k) (take_looks rest takes.end))
-  pub told : (j : ℕ) → take_told shape 0 takes.takes takes.end (start + j) ≡ take_told shape k rest takes.end j
-  pub number : k ≡ length taken
-  pub all : events_in (take_program shape takes) ≡ start + events_in (take_phrases shape k rest ++ end_phrase takes.end)
-
-pub takes_first : (shape : Shape) (takes : Takes) → TakesBehind shape takes 0 0 [] takes.takes
-takes_first shape takes = record {
-  spans_are = spans_first 1 (take_spans shape takes) (proper_takes shape takes);
-  told = λ j. (let same : 0 + j ≡ j = omega arith in ap (take_told shape 0 takes.takes takes.end) same);
+pub takes_first : (shape : Shape) (wants : ℕ → ℕ) (takes : Takes) → AreTakes shape 0 takes.takes takes.end → AreWanted shape wants 0 0 takes.takes →
+    TakesBehind shape wants takes first_count 0 [] takes.takes
+takes_first shape wants takes are wanted = record {
+  spans_are = spans_first (take_batch_of shape) (take_spans shape takes) (proper_takes shape takes are);
+  made = 0;
+  told = λ j. (let same : 0 + j ≡ j = omega arith in ap (take_told shape wants 0 first_count takes.takes takes.end) same);
   number = refl;
+  are = are;
+  wanted = wanted;
+  among = omega arith;
   all = omega arith;
 }
 
-take_told_past : (shape : Shape) (k : ℕ) (x : Take) (rest : List Take) (end : End) (j : ℕ) →
-    take_told shape k (x ∷ rest) end (take_long shape k x + j) ≡ take_told shape (taken_after k x) rest end j
-take_told_past shape k x rest end j =
-    let back : take_long shape k x + j - take_long shape k x ≡ j = omega arith in
-    told_past (take_long shape k x) (TakeBegin 1) (take_answer x) (take_long shape k x + j)
-    (take_told shape (taken_after k x) rest end (take_long shape k x + j - take_long shape k x)) (omega arith) ∙
-    ap (take_told shape (taken_after k x) rest end) back
+take_told_past : (shape : Shape) (wants : ℕ → ℕ) (made : ℕ) (c : Count) (x : Take) (rest : List Take) (end : End) (j : ℕ) →
+    take_told shape wants made c (x ∷ rest) end (take_long shape c x + j) ≡ take_told shape wants (suc made) (count_after shape c x) rest end j
+take_told_past shape wants made c x rest end j =
+    let back : take_long shape c x + j - take_long shape c x ≡ j = omega arith in
+    told_past (take_long shape c x) (TakeBegin (wants made)) (take_answer x) (take_long shape c x + j)
+    (take_told shape wants (suc made) (count_after shape c x) rest end (take_long shape c x + j - take_long shape c x)) (omega arith) ∙
+    ap (take_told shape wants (suc made) (count_after shape c x) rest end) back
 
-take_spans_past : (shape : Shape) (takes : Takes) (k start : ℕ) (taken : List ℕ) (x : Take) (rest : List Take) →
-    SpansBehind 1 (take_spans shape takes) start taken (spans C shape (steps shape k) (take_looks (x ∷ rest) takes.end)) →
-    SpansBehind 1 (take_spans shape takes) (start + take_long shape k x) (taken ++ take_items x) (spans C shape (steps shape (taken_after k x)) (take_looks rest takes.end))
-take_spans_past shape takes k start taken (Item seen item) rest b =
-    spans_past 1 (take_spans shape takes) start (start + take_long shape k (Item seen item)) taken (span_of C shape (steps shape k) (look seen (Passes (item ∷ [])))) _
-    (omega (arith, take_phrase-item shape k seen item)) b
-take_spans_past shape takes k start taken (ItemAfterClose seen again item) rest b =
-    let y = span_of C shape (steps shape k) (look seen (Asks true)) in
-    let z = span_of C shape (steps shape k) (look again (Passes (item ∷ []))) in
-    let one = spans_past 1 (take_spans shape takes) start (start + whole y) taken y (z ∷ spans C shape (steps shape (suc k)) (take_looks rest takes.end)) refl b in
-    let two = spans_past 1 (take_spans shape takes) (start + whole y) (start + take_long shape k (ItemAfterClose seen again item)) (taken ++ []) z _
-    (omega (arith, take_phrase-after shape k seen again item)) one in
-    subst (λ l. SpansBehind 1 (take_spans shape takes) (start + take_long shape k (ItemAfterClose seen again item)) (l ++ item ∷ [])
-    (spans C shape (steps shape (suc k)) (take_looks rest takes.end))) (append-nil taken) two
-take_spans_past shape takes k start taken (Empty seen) rest b =
-    spans_past 1 (take_spans shape takes) start (start + take_long shape k (Empty seen)) taken (span_of C shape (steps shape k) (look seen (Asks false))) _
-    (omega (arith, take_phrase-empty shape k seen)) b
+take_spans_past : (shape : Shape) (takes : Takes) (c : Count) (start : ℕ) (taken : List ℕ) (x : Take) (rest : List Take) →
+    SpansBehind (take_batch_of shape) (take_spans shape takes) start taken (spans C shape c (take_looks (x ∷ rest) takes.end)) →
+    SpansBehind (take_batch_of shape) (take_spans shape takes) (start + take_long shape c x) (taken ++ taken_of x) (spans C shape (count_after shape c x) (take_looks rest takes.end))
+take_spans_past shape takes c start taken (Item seen items) rest b =
+    spans_past (take_batch_of shape) (take_spans shape takes) start (start + take_long shape c (Item seen items)) taken (span_of C shape c (look seen (Passes items))) _
+    (omega (arith, take_phrase-item shape c seen items)) b
+take_spans_past shape takes c start taken (ItemAfterClose seen again items) rest b =
+    let most : ℕ = take_batch_of shape in
+    let next : Count = count_after shape c (ItemAfterClose seen again items) in
+    let y = span_of C shape c (look seen (Asks true)) in
+    let z = span_of C shape c (look again (Passes items)) in
+    let one = spans_past most (take_spans shape takes) start (start + whole y) taken y (z ∷ spans C shape next (take_looks rest takes.end)) refl b in
+    let two = spans_past most (take_spans shape takes) (start + whole y) (start + take_long shape c (ItemAfterClose seen again items)) (taken ++ []) z _
+    (omega (arith, take_phrase-after shape c seen again items)) one in
+    subst (λ l. SpansBehind most (take_spans shape takes) (start + take_long shape c (ItemAfterClose seen again items)) (l ++ items)
+    (spans C shape next (take_looks rest takes.end))) (append-nil taken) two
+take_spans_past shape takes c start taken (Empty seen) rest b =
+    spans_past (take_batch_of shape) (take_spans shape takes) start (start + take_long shape c (Empty seen)) taken (span_of C shape c (look seen (Asks false))) _
+    (omega (arith, take_phrase-empty shape c seen)) b
 
-taken_past : (k : ℕ) (taken : List ℕ) (x : Take) → k ≡ length taken → taken_after k x ≡ length (taken ++ take_items x)
-taken_past k taken (Item seen item) e = omega (arith, e, length-append taken (item ∷ []))
-taken_past k taken (ItemAfterClose seen again item) e = omega (arith, e, length-append taken (item ∷ []))
+taken_past : (k : ℕ) (taken : List ℕ) (x : Take) → k ≡ length taken → taken_after k x ≡ length (taken ++ taken_of x)
+taken_past k taken (Item seen items) e = omega (arith, e, past_is k items, length-append taken items)
+taken_past k taken (ItemAfterClose seen again items) e = omega (arith, e, past_is k items, length-append taken items)
 taken_past k taken (Empty seen) e = omega (arith, e, ap length (append-nil taken))
 
 -- behind one take more
-pub takes_past : (shape : Shape) (takes : Takes) (k start stop : ℕ) (taken : List ℕ) (x : Take) (rest : List Take) →
-    stop ≡ start + take_long shape k x → TakesBehind shape takes k start taken (x ∷ rest) → TakesBehind shape takes (taken_after k x) stop (taken ++ take_items x) rest
-takes_past shape takes k start stop taken x rest e b = record {
-  spans_are = subst (λ s. SpansBehind 1 (take_spans shape takes) s (taken ++ take_items x) (spans C shape (steps shape (taken_after k x)) (take_looks rest takes.end))) (sym e)
-      (take_spans_past shape takes k start taken x rest b.spans_are);
+pub takes_past : (shape : Shape) (wants : ℕ → ℕ) (takes : Takes) (c : Count) (start stop : ℕ) (taken : List ℕ) (x : Take) (rest : List Take) →
+    stop ≡ start + take_long shape c x →
+    TakesBehind shape wants takes c start taken (x ∷ rest) → TakesBehind shape wants takes (count_after shape c x) stop (taken ++ taken_of x) rest
+takes_past shape wants takes c start stop taken x rest e b = record {
+  spans_are = subst (λ s. SpansBehind (take_batch_of shape) (take_spans shape takes) s (taken ++ taken_of x) (spans C shape (count_after shape c x) (take_looks rest takes.end))) (sym e)
+      (take_spans_past shape takes c start taken x rest b.spans_are);
+  made = suc b.made;
   told = λ j.
-      (let on : stop + j ≡ start + (take_long shape k x + j) = omega (arith, e) in
-      ap (take_told shape 0 takes.takes takes.end) on ∙ b.told (take_long shape k x + j) ∙ take_told_past shape k x rest takes.end j);
-  number = taken_past k taken x b.number;
+      (let on : stop + j ≡ start + (take_long shape c x + j) = omega (arith, e) in
+      ap (take_told shape wants 0 first_count takes.takes takes.end) on ∙ b.told (take_long shape c x + j) ∙ take_told_past shape wants b.made c x rest takes.end j);
+  number = taken_past c.number taken x b.number;
+  are = b.are.1;
+  wanted = b.wanted.1;
+  among = omega (arith, b.among);
   all =
-      let more = take_phrases shape (taken_after k x) rest in
+      let more = take_phrases shape (count_after shape c x) rest in
       omega (
         arith,
         e,
         b.all,
-        length-append (take_phrase shape k x ++ more) (end_phrase takes.end),
-        length-append (take_phrase shape k x) more,
+        length-append (take_phrase shape c x ++ more) (end_phrase takes.end),
+        length-append (take_phrase shape c x) more,
         length-append more (end_phrase takes.end),
       );
 }

@@ -1,5 +1,5 @@
 -- The recorded calls of small runs.
-use Rattle.std.proofs.Common.{◌≡◌, ℕ, zero, suc, true, List, [], ◌∷◌, ◌++◌, take, refl, arith}
+use Rattle.std.proofs.Common.{◌≡◌, inl, ℕ, zero, suc, true, List, [], ◌∷◌, ◌++◌, take, refl, arith}
 use Rattle.queue_calls.specs.Calls.{PutBegin, PutStored, PutFull, CloseBegin, CloseEnd, TakeBegin, TakeItems, TakeClosed}
 use Rattle.bits_core.specs.declared.events.Side.TheVariants.{P, C}
 use Rattle.bits_core.specs.declared.events.Event.{Event}
@@ -7,6 +7,7 @@ use Rattle.bits_core.specs.Made.{events_of}
 use Rattle.ring_core.specs.Puts.{Puts, Stored, Full, put_program}
 use Rattle.ring_core.specs.Takes.{take_program}
 use Rattle.ring_core.specs.Recorded.{recorded, AreOffered}
+use Rattle.ring_core.specs.GoingOn.{AreWanted}
 use Rattle.ring_core.proofs.Examples.{one_cell, put_and_close, second_scan}
 
 -- two items are offered, of which one fits
@@ -17,13 +18,21 @@ two_items-offered : AreOffered one_cell two_items 0 0 put_and_close.puts
 unfolding one_cell
 two_items-offered = (omega arith, refl, tt)
 
+-- each take wants one item
+abbrev one_each : ℕ → ℕ
+one_each j = 1
+
+one_each-wanted : AreWanted one_cell one_each 0 0 second_scan.takes
+unfolding one_cell
+one_each-wanted = ((omega arith, inl refl), tt)
+
 -- all of the producer's events, and then all of the consumer's: a second scan finds the item, and the next take is told that the ring
 -- is closed
 abbrev one_by_one : List Event
 one_by_one = events_of P (put_program one_cell put_and_close) ++ events_of C (take_program one_cell second_scan)
 
 one_by_one-recorded :
-    recorded one_cell two_items one_by_one put_and_close second_scan ≡
+    recorded one_cell two_items one_each one_by_one put_and_close second_scan ≡
     PutBegin (1 ∷ 0 ∷ []) ∷ PutStored 1 true ∷ CloseBegin ∷ CloseEnd ∷ TakeBegin 1 ∷ TakeItems (1 ∷ []) true ∷ TakeBegin 1 ∷ TakeClosed ∷ []
 unfolding one_cell
 one_by_one-recorded = refl
@@ -40,7 +49,7 @@ abbrev cut_short : List Event
 cut_short = take 11 (events_of P (put_program one_cell full_after_one)) ++ take 13 (events_of C (take_program one_cell second_scan))
 
 cut_short-recorded :
-    recorded one_cell then_one cut_short full_after_one second_scan ≡
+    recorded one_cell then_one one_each cut_short full_after_one second_scan ≡
     PutBegin (1 ∷ 0 ∷ []) ∷ PutStored 1 true ∷ PutBegin (1 ∷ []) ∷ PutFull ∷ CloseBegin ∷ TakeBegin 1 ∷ []
 unfolding one_cell
 cut_short-recorded = refl

@@ -115,19 +115,19 @@ pub prefix_at :
 prefix_at shape h puts takes law t p q rest m =
     let (more, e) = law.prefix t in (
       more,
-      ap (λ l. l ++ more) (ap (ended_items (take_spans shape takes)) (sym (at_q h t p q rest m)) ∙ sym (takes_items shape 0 takes.takes takes.end (clock C h t))) ∙ e ∙
+      ap (λ l. l ++ more) (ap (ended_items (take_spans shape takes)) (sym (at_q h t p q rest m)) ∙ sym (takes_items shape first_count takes.takes takes.end (clock C h t))) ∙ e ∙
           puts_items shape first_count puts.puts (clock P h t) ∙ ap (begun_items (put_spans shape puts)) (at_p h t p q rest m),
     )
 
 -- ---- what is kept at a moment
 
-pub record Now (shape : Shape) (offers : ℕ → List ℕ) (h : List Event) (puts : Puts) (takes : Takes) (t p q : ℕ) (rest : List Event) (k : Kept) : Type 0 where
+pub record Now (shape : Shape) (offers : ℕ → List ℕ) (wants : ℕ → ℕ) (h : List Event) (puts : Puts) (takes : Takes) (t p q : ℕ) (rest : List Event) (k : Kept) : Type 0 where
   pub stored : List ℕ
   pub left : List ℕ
   pub taken : List ℕ
   pub moment : Moment h t p q rest
   pub put : PutAt shape offers h puts p stored left k.put
-  pub take : TakeAt shape h takes q taken k.take
+  pub take : TakeAt shape wants h takes q taken k.take
   pub items : taken ++ k.inside ≡ stored ++ left
   pub shut : k.shut ≡ true → (before_close shape puts < p) × ((before_close shape puts + 2 ≤ p) ⊎ (events_in (take_program shape takes) ≤ q))
   pub closed : before_close shape puts + 2 ≤ p → k.shut ≡ true
@@ -145,13 +145,13 @@ move_on capacity k after (event ∷ []) more m r = (after, m, r)
 move_on capacity k after (event ∷ other ∷ events) more m r = absurd m
 
 -- a step of one side
-pub record Stepped (shape : Shape) (offers : ℕ → List ℕ) (h : List Event) (puts : Puts) (takes : Takes) (t p q : ℕ) (rest : List Event) (k : Kept)
+pub record Stepped (shape : Shape) (offers : ℕ → List ℕ) (wants : ℕ → ℕ) (h : List Event) (puts : Puts) (takes : Takes) (t p q : ℕ) (rest : List Event) (k : Kept)
     (events : List calls.Event) : Type 0 where
   pub after : Kept
   pub moves : Moves (exactly (capacity_of shape)) k events after
-  pub now : Now shape offers h puts takes t p q rest after
+  pub now : Now shape offers wants h puts takes t p q rest after
 
 pub by_events :
-    (shape : Shape) (offers : ℕ → List ℕ) (h : List Event) (puts : Puts) (takes : Takes) (t p q : ℕ) (rest : List Event) (k : Kept) (events told : List calls.Event) →
-    told ≡ events → Stepped shape offers h puts takes t p q rest k events → Stepped shape offers h puts takes t p q rest k told
-by_events shape offers h puts takes t p q rest k events told e s = subst (Stepped shape offers h puts takes t p q rest k) (sym e) s
+    (shape : Shape) (offers : ℕ → List ℕ) (wants : ℕ → ℕ) (h : List Event) (puts : Puts) (takes : Takes) (t p q : ℕ) (rest : List Event) (k : Kept) (events told : List calls.Event) →
+    told ≡ events → Stepped shape offers wants h puts takes t p q rest k events → Stepped shape offers wants h puts takes t p q rest k told
+by_events shape offers wants h puts takes t p q rest k events told e s = subst (Stepped shape offers wants h puts takes t p q rest k) (sym e) s

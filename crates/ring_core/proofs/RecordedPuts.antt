@@ -54,10 +54,10 @@ took_all room items l = elim (at_most_or_above room (length items)) [
 fills : (d room capacity : ℕ) → room ≡ capacity - d → 1 ≤ room → d + room ≡ capacity
 fills d room capacity e l = omega (arith, e, l)
 
-module _ (facts : OwnFacts) (shape : Shape) (offers : ℕ → List ℕ) (h : List Event) (puts : Puts) (takes : Takes) (run : IsRun shape h puts takes)
+module _ (facts : OwnFacts) (shape : Shape) (offers : ℕ → List ℕ) (wants : ℕ → ℕ) (h : List Event) (puts : Puts) (takes : Takes) (run : IsRun shape h puts takes)
     (law : LawOfSpans shape h puts takes) where
   abbrev Here : ℕ → ℕ → ℕ → List Event → Kept → Type 0
-  Here = Now shape offers h puts takes
+  Here = Now shape offers wants h puts takes
 
   -- what the producer's next event tells
   abbrev told : ℕ → List calls.Event
@@ -88,17 +88,17 @@ module _ (facts : OwnFacts) (shape : Shape) (offers : ℕ → List ℕ) (h : Lis
   put_begins :
       (t p q : ℕ) (e : Event) (rest : List Event) (k : Kept) → e.side ≡ P → (now : Here t p q (e ∷ rest) k) →
       (c : Count) (x : Put) (more : List Put) → PutsBehind shape offers puts c p now.stored (x ∷ more) → now.left ≡ [] → k.put ≡ Free →
-      Stepped shape offers h puts takes (suc t) (suc p) q rest k (told p)
+      Stepped shape offers wants h puts takes (suc t) (suc p) q rest k (told p)
   put_begins t p q e rest k by now c x more b none free =
       let items : List ℕ = offers b.made in
       let two = put_two shape c x in
-      let view = take_view shape h takes q now.taken k.take now.take in
+      let view = take_view shape wants h takes q now.taken k.take run.takes_follow.are now.take in
       let here : p ≡ p + 0 = omega arith in
       let past : before_close shape puts ≡ p + events_in (put_phrases shape c (x ∷ more)) = b.all in
       let some : put_long shape c x ≤ events_in (put_phrases shape c (x ∷ more)) = omega (arith, length-append (put_phrase shape c x) (put_phrases shape (stored_after shape c x) more)) in
       let opened : k.shut ≡ false = by_test k.shut (λ s. absurd (omega (arith, now.shut s, past))) (λ s. s) in
       let same : now.taken ++ k.inside ≡ now.stored = now.items ∙ ap (λ l. now.stored ++ l) none ∙ append-nil now.stored in
-      by_events shape offers h puts takes (suc t) (suc p) q rest k (PutBegin items ∷ []) (told p)
+      by_events shape offers wants h puts takes (suc t) (suc p) q rest k (PutBegin items ∷ []) (told p)
       (ap told here ∙ b.told 0 ∙ told_first (put_long shape c x) (PutBegin items) (put_answer x) _ (omega (arith, two)))
       (record {
         after = kept (k.inside ++ items) (Offers (length items) (length k.inside)) k.take false;
@@ -135,12 +135,12 @@ module _ (facts : OwnFacts) (shape : Shape) (offers : ℕ → List ℕ) (h : Lis
   close_begins :
       (t p q : ℕ) (e : Event) (rest : List Event) (k : Kept) → e.side ≡ P → (now : Here t p q (e ∷ rest) k) →
       (c : Count) → PutsBehind shape offers puts c p now.stored [] → now.left ≡ [] → k.put ≡ Free →
-      Stepped shape offers h puts takes (suc t) (suc p) q rest k (told p)
+      Stepped shape offers wants h puts takes (suc t) (suc p) q rest k (told p)
   close_begins t p q e rest k by now c b none free =
       let here : p ≡ p + 0 = omega arith in
       let closes : puts.closes ≡ true =
       some_close puts.closes (omega (arith, next_p h t p q e rest by now.moment, few_puts shape h puts run.puts_follow, b.all)) in
-      by_events shape offers h puts takes (suc t) (suc p) q rest k (CloseBegin ∷ []) (told p)
+      by_events shape offers wants h puts takes (suc t) (suc p) q rest k (CloseBegin ∷ []) (told p)
       (ap told here ∙ b.told 0 ∙ ap (λ d. put_told shape offers b.made c [] d 0) closes ∙ told_first (events_in (close_phrase true)) CloseBegin CloseEnd [] (omega arith))
       (record {
         after = kept k.inside (Closes k.shut) k.take k.shut;
@@ -161,10 +161,10 @@ module _ (facts : OwnFacts) (shape : Shape) (offers : ℕ → List ℕ) (h : Lis
   -- it ends
   close_ends :
       (t p q : ℕ) (e : Event) (rest : List Event) (k : Kept) → e.side ≡ P → (now : Here t p q (e ∷ rest) k) →
-      PutCloses shape offers puts p now.stored now.left k.put → Stepped shape offers h puts takes (suc t) (suc p) q rest k (told p)
+      PutCloses shape offers puts p now.stored now.left k.put → Stepped shape offers wants h puts takes (suc t) (suc p) q rest k (told p)
   close_ends t p q e rest k by now r =
       let b = r.behind in
-      by_events shape offers h puts takes (suc t) (suc p) q rest k (CloseEnd ∷ []) (told p)
+      by_events shape offers wants h puts takes (suc t) (suc p) q rest k (CloseEnd ∷ []) (told p)
       (ap told r.place_is ∙ b.told 1 ∙ ap (λ d. put_told shape offers b.made r.count [] d 1) r.closes ∙
       told_last (events_in (close_phrase true)) CloseBegin CloseEnd 1 [] (omega arith) (omega arith))
       (record {
@@ -187,11 +187,11 @@ module _ (facts : OwnFacts) (shape : Shape) (offers : ℕ → List ℕ) (h : Lis
   put_goes_on :
       (t p q : ℕ) (e : Event) (rest : List Event) (k : Kept) → e.side ≡ P → (now : Here t p q (e ∷ rest) k) →
       (r : PutRuns shape offers h puts p now.stored now.left k.put) → suc p < r.start + put_long shape r.count r.call →
-      Stepped shape offers h puts takes (suc t) (suc p) q rest k (told p)
+      Stepped shape offers wants h puts takes (suc t) (suc p) q rest k (told p)
   put_goes_on t p q e rest k by now r l =
       let j : ℕ = p - r.start in
       let on : p ≡ r.start + j = omega (arith, r.begun) in
-      by_events shape offers h puts takes (suc t) (suc p) q rest k [] (told p)
+      by_events shape offers wants h puts takes (suc t) (suc p) q rest k [] (told p)
       (ap told on ∙ r.behind.told j ∙ told_between (put_long shape r.count r.call) (PutBegin (offers r.behind.made)) (put_answer r.call) j _ (omega (arith, r.begun)) (omega (arith, l, r.begun)))
       (record {
         after = k;
@@ -234,7 +234,7 @@ module _ (facts : OwnFacts) (shape : Shape) (offers : ℕ → List ℕ) (h : Lis
       let items : List ℕ = put_items r.call in
       let after : List ℕ = now.stored ++ items in
       let m = past_p h t p q e rest by now.moment in
-      let view = take_view shape h takes q now.taken k.take now.take in
+      let view = take_view shape wants h takes q now.taken k.take run.takes_follow.are now.take in
       let next = puts_past shape offers puts r.count r.start (suc p) now.stored r.call r.rest stop r.behind in
       let (gone, left_is) = first_stored shape r.count.number (offers r.behind.made) r.call r.behind.offered.1 in
       let (a, taken_first) = view.first in
@@ -274,7 +274,7 @@ module _ (facts : OwnFacts) (shape : Shape) (offers : ℕ → List ℕ) (h : Lis
       (t p q : ℕ) (rest : List Event) (k : Kept) (stored left : List ℕ) (c : Count) (start before : ℕ) (x : Put) (more : List Put) →
       PutsBehind shape offers puts c start stored (x ∷ more) → k.put ≡ Offers (length left) before → 0 < length left → length (put_items x) ≤ length left →
       (length (put_items x) < length left → capacity_of shape ≤ before + length (put_items x)) → PutLeft t p q rest k stored left (put_items x) →
-      Stepped shape offers h puts takes t p q rest k (put_answer x ∷ [])
+      Stepped shape offers wants h puts takes t p q rest k (put_answer x ∷ [])
   put_told_end t p q rest k stored left c start before (Stored seen items) more b offered some few lacks r = record {
     after = kept (without (length left - length items) k.inside) Free k.take k.shut;
     moves = (length left, before, offered, b.are.0.2.some, few, (λ says l. omega (arith, lacks l)), r.ends);
@@ -297,13 +297,13 @@ module _ (facts : OwnFacts) (shape : Shape) (offers : ℕ → List ℕ) (h : Lis
   put_ends :
       (t p q : ℕ) (e : Event) (rest : List Event) (k : Kept) → e.side ≡ P → (now : Here t p q (e ∷ rest) k) →
       (r : PutRuns shape offers h puts p now.stored now.left k.put) → suc p ≡ r.start + put_long shape r.count r.call →
-      Stepped shape offers h puts takes (suc t) (suc p) q rest k (told p)
+      Stepped shape offers wants h puts takes (suc t) (suc p) q rest k (told p)
   put_ends t p q e rest k by now r stop =
       let j : ℕ = p - r.start in
       let on : p ≡ r.start + j = omega (arith, r.begun) in
       let (gone, left_is) = first_stored shape r.count.number (offers r.behind.made) r.call r.behind.offered.1 in
       let size = ap length (r.left_is ∙ sym left_is) ∙ length-append (put_items r.call) gone in
-      by_events shape offers h puts takes (suc t) (suc p) q rest k (put_answer r.call ∷ []) (told p)
+      by_events shape offers wants h puts takes (suc t) (suc p) q rest k (put_answer r.call ∷ []) (told p)
       (ap told on ∙ r.behind.told j ∙ told_last (put_long shape r.count r.call) (PutBegin (offers r.behind.made)) (put_answer r.call) j _ (omega (arith, r.begun)) (omega (arith, stop, r.begun)))
       (put_told_end (suc t) (suc p) q rest k now.stored now.left r.count r.start r.before r.call r.rest r.behind r.put_is
       (omega (arith, r.behind.offered.0, ap length r.left_is)) (omega (arith, size)) (r.no_room (omega (arith, stop, next_p h t p q e rest by now.moment)))
@@ -312,12 +312,12 @@ module _ (facts : OwnFacts) (shape : Shape) (offers : ℕ → List ℕ) (h : Lis
   put_idle :
       (t p q : ℕ) (e : Event) (rest : List Event) (k : Kept) → e.side ≡ P → (now : Here t p q (e ∷ rest) k) →
       (c : Count) (more : List Put) → PutsBehind shape offers puts c p now.stored more → now.left ≡ [] → k.put ≡ Free →
-      Stepped shape offers h puts takes (suc t) (suc p) q rest k (told p)
+      Stepped shape offers wants h puts takes (suc t) (suc p) q rest k (told p)
   put_idle t p q e rest k by now c [] b none free = close_begins t p q e rest k by now c b none free
   put_idle t p q e rest k by now c (x ∷ more) b none free = put_begins t p q e rest k by now c x more b none free
 
   pub put_step :
-      (t p q : ℕ) (e : Event) (rest : List Event) (k : Kept) → e.side ≡ P → Here t p q (e ∷ rest) k → Stepped shape offers h puts takes (suc t) (suc p) q rest k (told p)
+      (t p q : ℕ) (e : Event) (rest : List Event) (k : Kept) → e.side ≡ P → Here t p q (e ∷ rest) k → Stepped shape offers wants h puts takes (suc t) (suc p) q rest k (told p)
   put_step t p q e rest k by now = elim now.put [
     | inl r ↦ put_idle t p q e rest k by now r.count r.rest r.behind r.left_is r.put_is
     | inr (inl r) ↦ elim (at_most_or_above (r.start + put_long shape r.count r.call) (suc p)) [

@@ -1,5 +1,5 @@
 -- The recorded calls of every run of the ring can be counted, one event after the other.
-use Rattle.std.proofs.Common.{◌≡◌, ◌⊎◌, inl, inr, ℕ, suc, false, List, [], ◌∷◌, ◌++◌, refl, sym, subst, arith}
+use Rattle.std.proofs.Common.{◌≡◌, ◌⊎◌, inl, inr, ℕ, suc, ◌<◌, false, List, [], ◌∷◌, ◌++◌, refl, sym, subst, arith}
 use Rattle.queue_calls.specs.Queue.{exactly}
 use Rattle.queue_calls.specs.Calls as calls
 use Rattle.queue_calls.specs.Counting.{Kept, kept, AreCounted}
@@ -15,6 +15,7 @@ use Rattle.ring_core.specs.Puts.{Puts}
 use Rattle.ring_core.specs.Takes.{Takes}
 use Rattle.ring_core.specs.RingLaw.{IsRun}
 use Rattle.ring_core.specs.Recorded.{put_told, take_told, by_side, calls_told, recorded, AreOffered}
+use Rattle.ring_core.specs.GoingOn.{AreWanted}
 use Rattle.ring_core.proofs.RingOfSpans.{LawOfSpans}
 use Rattle.ring_core.proofs.CloseReads.{OwnFacts}
 use Rattle.ring_core.proofs.RecordedCalls.{puts_first, takes_first}
@@ -30,30 +31,32 @@ side_of C = inr refl
 abbrev told_by : (f g : ℕ → List calls.Event) → (p q : ℕ) → List Event → Side → List calls.Event
 told_by f g p q rest s = by_side s (f p) (g q) ++ calls_told f g (by_side s (suc p) p) (by_side s q (suc q)) rest
 
-module _ (facts : OwnFacts) (shape : Shape) (offers : ℕ → List ℕ) (h : List Event) (puts : Puts) (takes : Takes) (run : IsRun shape h puts takes)
-    (law : LawOfSpans shape h puts takes) where
+-- every take wants an item, also the one that is told the ring is closed
+module _ (facts : OwnFacts) (shape : Shape) (offers : ℕ → List ℕ) (wants : ℕ → ℕ) (h : List Event) (puts : Puts) (takes : Takes) (run : IsRun shape h puts takes)
+    (law : LawOfSpans shape h puts takes) (some_wanted : (j : ℕ) → 0 < wants j) where
   abbrev f : ℕ → List calls.Event
   f = put_told shape offers 0 first_count puts.puts puts.closes
 
   abbrev g : ℕ → List calls.Event
-  g = take_told shape 0 takes.takes takes.end
+  g = take_told shape wants 0 first_count takes.takes takes.end
 
   goes :
-      (rest : List Event) (t p q : ℕ) (k : Kept) → Now shape offers h puts takes t p q rest k → AreCounted (exactly (capacity_of shape)) k (calls_told f g p q rest)
+      (rest : List Event) (t p q : ℕ) (k : Kept) → Now shape offers wants h puts takes t p q rest k → AreCounted (exactly (capacity_of shape)) k (calls_told f g p q rest)
   goes [] t p q k now = tt
   goes (e ∷ rest) t p q k now = elim (side_of e.side) [
     | inl by ↦ (
-        let s = put_step facts shape offers h puts takes run law t p q e rest k by now in
+        let s = put_step facts shape offers wants h puts takes run law t p q e rest k by now in
         subst (λ x. AreCounted (exactly (capacity_of shape)) k (told_by f g p q rest x)) (sym by)
         (move_on (exactly (capacity_of shape)) k s.after (f p) (calls_told f g (suc p) q rest) s.moves (goes rest (suc t) (suc p) q s.after s.now)))
     | inr by ↦ (
-        let s = take_step facts shape offers h puts takes run law t p q e rest k by now in
+        let s = take_step facts shape offers wants h puts takes run law some_wanted t p q e rest k by now in
         subst (λ x. AreCounted (exactly (capacity_of shape)) k (told_by f g p q rest x)) (sym by)
         (move_on (exactly (capacity_of shape)) k s.after (g q) (calls_told f g p (suc q) rest) s.moves (goes rest (suc t) p (suc q) s.after s.now)))
   ]
 
-  pub recorded_are_counted : AreOffered shape offers 0 0 puts.puts → AreCounted (exactly (capacity_of shape)) (kept [] Free Rests false) (recorded shape offers h puts takes)
-  recorded_are_counted offered =
+  pub recorded_are_counted : AreOffered shape offers 0 0 puts.puts → AreWanted shape wants 0 0 takes.takes →
+      AreCounted (exactly (capacity_of shape)) (kept [] Free Rests false) (recorded shape offers wants h puts takes)
+  recorded_are_counted offered wanted =
       goes h 0 0 0 (kept [] Free Rests false)
       (record {
         stored = [];
@@ -61,7 +64,7 @@ module _ (facts : OwnFacts) (shape : Shape) (offers : ℕ → List ℕ) (h : Lis
         taken = [];
         moment = moment_first h;
         put = inl (record { count = first_count; rest = puts.puts; behind = puts_first shape offers puts run.puts_follow.are offered; left_is = refl; put_is = refl });
-        take = inl (record { number = 0; rest = takes.takes; behind = takes_first shape takes; take_is = refl });
+        take = inl (record { count = first_count; rest = takes.takes; behind = takes_first shape wants takes run.takes_follow.are wanted; take_is = refl });
         items = refl;
         shut = λ s. absurd (cc);
         closed = λ l. absurd (omega (arith, l));

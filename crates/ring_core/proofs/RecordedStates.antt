@@ -10,19 +10,20 @@ use Rattle.bits_core.specs.declared.events.Event.{Event}
 use Rattle.bits_core.specs.declared.shapes.Shape.{Shape}
 use Rattle.bits_core.specs.Shape.{batch_of, capacity_of, modulus_of}
 use Rattle.bits_core.specs.Made.{own, IsBeginning}
-use Rattle.ring_core.specs.Counts.{Count, first_count}
+use Rattle.ring_core.specs.Counts.{Count, first_count, take_batch_of}
 use Rattle.ring_core.specs.Puts.{Put, Stored, Full, Puts, stored_after, put_phrase, put_phrases, IsPutOf, room_in}
-use Rattle.ring_core.specs.Takes.{Take, Item, ItemAfterClose, Empty, End, Open, Closed, Takes, take_program}
-use Rattle.ring_core.specs.Items.{events_in, all_put}
+use Rattle.ring_core.specs.Takes.{Take, Item, ItemAfterClose, Empty, End, Open, Closed, Takes, take_program, AreTakes}
+use Rattle.ring_core.specs.ConsumerCalls.{IsTakeOf}
+use Rattle.ring_core.specs.Items.{events_in, all_put, taken_of}
 use Rattle.ring_core.proofs.Spans.{Passes, Stops, counts_begun, counts_ended, begun_items, ended_items}
-use Rattle.ring_core.proofs.LookSpans.{steps, look, take_looks, span_of, spans, put_spans, take_spans}
+use Rattle.ring_core.proofs.LookSpans.{look, take_looks, span_of, spans, put_spans, take_spans}
 use Rattle.ring_core.proofs.Looks.{proper_takes}
 use Rattle.ring_core.proofs.Timeline.{begun_up, length-begun_items}
 use Rattle.ring_core.proofs.PutTurns.{put_long}
 use Rattle.ring_core.proofs.PutTurnFacts.{long_is}
 use Rattle.ring_core.proofs.TakeTurns.{take_long, end_long}
 use Rattle.ring_core.proofs.RecordedSpans.{passed_begun, passed_ended, begun_here, counted_here, begun_within}
-use Rattle.ring_core.proofs.RecordedCalls.{put_items, PutsBehind, take_items, TakesBehind, takes_past}
+use Rattle.ring_core.proofs.RecordedCalls.{put_items, PutsBehind, TakesBehind, takes_past}
 
 -- the events of all puts
 abbrev pub before_close : Shape → Puts → ℕ
@@ -165,52 +166,55 @@ put_view shape offers h puts p stored left put (inr (inr (inr r))) =
 -- ---- the consumer
 
 -- behind q own events it is in no call; these items were taken
-pub record TakeIdle (shape : Shape) (takes : Takes) (q : ℕ) (taken : List ℕ) (take : TakeTurn) : Type 0 where
-  pub number : ℕ
+pub record TakeIdle (shape : Shape) (wants : ℕ → ℕ) (takes : Takes) (q : ℕ) (taken : List ℕ) (take : TakeTurn) : Type 0 where
+  pub count : Count
   pub rest : List Take
-  pub behind : TakesBehind shape takes number q taken rest
+  pub behind : TakesBehind shape wants takes count q taken rest
   pub take_is : take ≡ Rests
 
--- it is in a take. Where that ends with no item, there was none inside where it began, and the ring was open.
-pub record TakeRuns (shape : Shape) (h : List Event) (takes : Takes) (q : ℕ) (taken : List ℕ) (take : TakeTurn) : Type 0 where
-  pub number : ℕ
+-- it is in a take. Where that ends with fewer items than it wants, no more were inside where it began; and where it ends with none, the
+-- ring was open.
+pub record TakeRuns (shape : Shape) (wants : ℕ → ℕ) (h : List Event) (takes : Takes) (q : ℕ) (taken : List ℕ) (take : TakeTurn) : Type 0 where
+  pub count : Count
   pub start : ℕ
   pub call : Take
   pub rest : List Take
   pub before : ℕ
   pub shut : Bool
-  pub behind : TakesBehind shape takes number start taken (call ∷ rest)
+  pub behind : TakesBehind shape wants takes count start taken (call ∷ rest)
   pub begun : start < q
-  pub not_ended : q < start + take_long shape number call
-  pub take_is : take ≡ Waits 1 before shut
-  pub none : start + take_long shape number call ≤ length (own C h) → take_items call ≡ [] → (before ≡ 0) × (shut ≡ false)
+  pub not_ended : q < start + take_long shape count call
+  pub take_is : take ≡ Waits (wants behind.made) before shut
+  pub no_more : start + take_long shape count call ≤ length (own C h) → length (taken_of call) < wants behind.made → before ≤ length (taken_of call)
+  pub open_then : start + take_long shape count call ≤ length (own C h) → taken_of call ≡ [] → shut ≡ false
 
 -- it is in the take that is told the ring is closed
-pub record TakeEnds (shape : Shape) (takes : Takes) (q : ℕ) (taken : List ℕ) (take : TakeTurn) : Type 0 where
-  pub number : ℕ
+pub record TakeEnds (shape : Shape) (wants : ℕ → ℕ) (takes : Takes) (q : ℕ) (taken : List ℕ) (take : TakeTurn) : Type 0 where
+  pub count : Count
   pub start : ℕ
   pub seen : ℕ
   pub again : ℕ
   pub before : ℕ
   pub shut : Bool
-  pub behind : TakesBehind shape takes number start taken []
+  pub behind : TakesBehind shape wants takes count start taken []
   pub end_is : takes.end ≡ Closed seen again
   pub begun : start < q
   pub not_ended : q < start + end_long seen again
-  pub take_is : take ≡ Waits 1 before shut
+  pub take_is : take ≡ Waits (wants behind.made) before shut
 
 -- that has ended
-pub record TakeOver (shape : Shape) (takes : Takes) (q : ℕ) (taken : List ℕ) (take : TakeTurn) : Type 0 where
-  pub number : ℕ
+pub record TakeOver (shape : Shape) (wants : ℕ → ℕ) (takes : Takes) (q : ℕ) (taken : List ℕ) (take : TakeTurn) : Type 0 where
+  pub count : Count
   pub start : ℕ
-  pub behind : TakesBehind shape takes number start taken []
+  pub behind : TakesBehind shape wants takes count start taken []
   pub begun : start ≤ q
   pub ended : events_in (take_program shape takes) ≤ q
   pub take_is : take ≡ Rests
 
-abbrev pub TakeAt : Shape → List Event → Takes → ℕ → List ℕ → TakeTurn → Type 0
-TakeAt shape h takes q taken take =
-    TakeIdle shape takes q taken take ⊎ TakeRuns shape h takes q taken take ⊎ TakeEnds shape takes q taken take ⊎ TakeOver shape takes q taken take
+abbrev pub TakeAt : Shape → (ℕ → ℕ) → List Event → Takes → ℕ → List ℕ → TakeTurn → Type 0
+TakeAt shape wants h takes q taken take =
+    TakeIdle shape wants takes q taken take ⊎ TakeRuns shape wants h takes q taken take ⊎ TakeEnds shape wants takes q taken take ⊎
+    TakeOver shape wants takes q taken take
 
 -- what the producer's steps need of it
 pub record TakeView (shape : Shape) (takes : Takes) (q : ℕ) (taken : List ℕ) (take : TakeTurn) : Type 0 where
@@ -219,68 +223,72 @@ pub record TakeView (shape : Shape) (takes : Takes) (q : ℕ) (taken : List ℕ)
   pub first : IsBeginning taken (ended_items (take_spans shape takes) q)
 
 first_taken :
-    (shape : Shape) (takes : Takes) (k start : ℕ) (taken : List ℕ) (rest : List Take) (q : ℕ) → start ≤ q → TakesBehind shape takes k start taken rest →
-    IsBeginning taken (ended_items (take_spans shape takes) q)
-first_taken shape takes k start taken rest q l b =
+    (shape : Shape) (wants : ℕ → ℕ) (takes : Takes) (c : Count) (start : ℕ) (taken : List ℕ) (rest : List Take) (q : ℕ) → start ≤ q →
+    TakesBehind shape wants takes c start taken rest → IsBeginning taken (ended_items (take_spans shape takes) q)
+first_taken shape wants takes c start taken rest q l b =
     let on : q ≡ start + (q - start) = omega (arith, l) in
-    (ended_items (spans C shape (steps shape k) (take_looks rest takes.end)) (q - start), sym (ap (ended_items (take_spans shape takes)) on ∙ b.spans_are.ended (q - start)))
+    (ended_items (spans C shape c (take_looks rest takes.end)) (q - start), sym (ap (ended_items (take_spans shape takes)) on ∙ b.spans_are.ended (q - start)))
 
-few_items : (x : Take) → length (take_items x) ≤ 1
-few_items (Item seen item) = omega arith
-few_items (ItemAfterClose seen again item) = omega arith
-few_items (Empty seen) = omega arith
+-- a take takes no more than it wants
+few_items : (shape : Shape) (k wanted : ℕ) (x : Take) → IsTakeOf shape k wanted x → length (taken_of x) ≤ wanted
+few_items shape k wanted (Item seen items) e = e.0
+few_items shape k wanted (ItemAfterClose seen again items) e = e.0
+few_items shape k wanted (Empty seen) e = omega arith
 
 none_if : (t : Bool) (l : List ℕ) → (if t then [] else []) ++ l ≡ l
 none_if true l = refl
 none_if false l = refl
 
 -- the take that is told so counts nothing
-end_begun : (shape : Shape) (k : ℕ) (end : End) (j : ℕ) → begun_items (spans C shape (steps shape k) (take_looks [] end)) j ≡ []
-end_begun shape k Open j = refl
-end_begun shape k (Closed seen again) j = none_if _ _ ∙ none_if _ []
+end_begun : (shape : Shape) (c : Count) (end : End) (j : ℕ) → begun_items (spans C shape c (take_looks [] end)) j ≡ []
+end_begun shape c Open j = refl
+end_begun shape c (Closed seen again) j = none_if _ _ ∙ none_if _ []
 
-pub end_ended : (shape : Shape) (k : ℕ) (end : End) (j : ℕ) → ended_items (spans C shape (steps shape k) (take_looks [] end)) j ≡ []
-end_ended shape k Open j = refl
-end_ended shape k (Closed seen again) j = none_if _ _ ∙ none_if _ []
+pub end_ended : (shape : Shape) (c : Count) (end : End) (j : ℕ) → ended_items (spans C shape c (take_looks [] end)) j ≡ []
+end_ended shape c Open j = refl
+end_ended shape c (Closed seen again) j = none_if _ _ ∙ none_if _ []
 
 over_begun :
-    (shape : Shape) (takes : Takes) (k start : ℕ) (taken : List ℕ) (q : ℕ) → start ≤ q → TakesBehind shape takes k start taken [] →
+    (shape : Shape) (wants : ℕ → ℕ) (takes : Takes) (c : Count) (start : ℕ) (taken : List ℕ) (q : ℕ) → start ≤ q → TakesBehind shape wants takes c start taken [] →
     counts_begun (take_spans shape takes) q ≤ length taken
-over_begun shape takes k start taken q l b =
+over_begun shape wants takes c start taken q l b =
     let on : q ≡ start + (q - start) = omega (arith, l) in
-    let just = ap (begun_items (take_spans shape takes)) on ∙ b.spans_are.begun (q - start) ∙ ap (λ l. taken ++ l) (end_begun shape k takes.end (q - start)) ∙ append-nil taken in
+    let just = ap (begun_items (take_spans shape takes)) on ∙ b.spans_are.begun (q - start) ∙ ap (λ l. taken ++ l) (end_begun shape c takes.end (q - start)) ∙ append-nil taken in
     omega (arith, length-begun_items (take_spans shape takes) q, ap length just)
 
-pub take_view : (shape : Shape) (h : List Event) (takes : Takes) (q : ℕ) (taken : List ℕ) (take : TakeTurn) →
-    TakeAt shape h takes q taken take → TakeView shape takes q taken take
-take_view shape h takes q taken take (inl r) = record {
-  begun = omega (arith, counted_here 1 (take_spans shape takes) q taken _ r.behind.spans_are);
-  ended = passed_ended 1 (take_spans shape takes) q taken _ q (omega arith) r.behind.spans_are;
-  first = first_taken shape takes r.number q taken r.rest q (omega arith) r.behind;
-}
-take_view shape h takes q taken take (inr (inl r)) =
-    let stop : ℕ = r.start + take_long shape r.number r.call in
-    let next = takes_past shape takes r.number r.start stop taken r.call r.rest refl r.behind in
-    let asked : asked_by take ≡ 1 = ap asked_by r.take_is in
+pub take_view : (shape : Shape) (wants : ℕ → ℕ) (h : List Event) (takes : Takes) (q : ℕ) (taken : List ℕ) (take : TakeTurn) → AreTakes shape 0 takes.takes takes.end →
+    TakeAt shape wants h takes q taken take → TakeView shape takes q taken take
+take_view shape wants h takes q taken take are (inl r) =
+    let most : ℕ = take_batch_of shape in
+    record {
+      begun = omega (arith, counted_here most (take_spans shape takes) q taken _ r.behind.spans_are);
+      ended = passed_ended most (take_spans shape takes) q taken _ q (omega arith) r.behind.spans_are;
+      first = first_taken shape wants takes r.count q taken r.rest q (omega arith) r.behind;
+    }
+take_view shape wants h takes q taken take are (inr (inl r)) =
+    let most : ℕ = take_batch_of shape in
+    let stop : ℕ = r.start + take_long shape r.count r.call in
+    let next = takes_past shape wants takes r.count r.start stop taken r.call r.rest refl r.behind in
+    let asked : asked_by take ≡ wants r.behind.made = ap asked_by r.take_is in
     record {
       begun = omega (
         arith,
         asked,
-        counted_here 1 (take_spans shape takes) stop (taken ++ take_items r.call) _ next.spans_are,
-        length-append taken (take_items r.call),
-        few_items r.call,
-        begun_up 1 (take_spans shape takes) (proper_takes shape takes) q stop (omega (arith, r.not_ended)),
+        counted_here most (take_spans shape takes) stop (taken ++ taken_of r.call) _ next.spans_are,
+        length-append taken (taken_of r.call),
+        few_items shape r.count.number (wants r.behind.made) r.call r.behind.wanted.0,
+        begun_up most (take_spans shape takes) (proper_takes shape takes are) q stop (omega (arith, r.not_ended)),
       );
-      ended = passed_ended 1 (take_spans shape takes) r.start taken _ q (omega (arith, r.begun)) r.behind.spans_are;
-      first = first_taken shape takes r.number r.start taken (r.call ∷ r.rest) q (omega (arith, r.begun)) r.behind;
+      ended = passed_ended most (take_spans shape takes) r.start taken _ q (omega (arith, r.begun)) r.behind.spans_are;
+      first = first_taken shape wants takes r.count r.start taken (r.call ∷ r.rest) q (omega (arith, r.begun)) r.behind;
     }
-take_view shape h takes q taken take (inr (inr (inl r))) = record {
-  begun = omega (arith, over_begun shape takes r.number r.start taken q (omega (arith, r.begun)) r.behind);
-  ended = passed_ended 1 (take_spans shape takes) r.start taken _ q (omega (arith, r.begun)) r.behind.spans_are;
-  first = first_taken shape takes r.number r.start taken [] q (omega (arith, r.begun)) r.behind;
+take_view shape wants h takes q taken take are (inr (inr (inl r))) = record {
+  begun = omega (arith, over_begun shape wants takes r.count r.start taken q (omega (arith, r.begun)) r.behind);
+  ended = passed_ended (take_batch_of shape) (take_spans shape takes) r.start taken _ q (omega (arith, r.begun)) r.behind.spans_are;
+  first = first_taken shape wants takes r.count r.start taken [] q (omega (arith, r.begun)) r.behind;
 }
-take_view shape h takes q taken take (inr (inr (inr r))) = record {
-  begun = omega (arith, over_begun shape takes r.number r.start taken q r.begun r.behind);
-  ended = passed_ended 1 (take_spans shape takes) r.start taken _ q r.begun r.behind.spans_are;
-  first = first_taken shape takes r.number r.start taken [] q r.begun r.behind;
+take_view shape wants h takes q taken take are (inr (inr (inr r))) = record {
+  begun = omega (arith, over_begun shape wants takes r.count r.start taken q r.begun r.behind);
+  ended = passed_ended (take_batch_of shape) (take_spans shape takes) r.start taken _ q r.begun r.behind.spans_are;
+  first = first_taken shape wants takes r.count r.start taken [] q r.begun r.behind;
 }

@@ -1,5 +1,5 @@
 -- The law of the unary register, for the scans of one side and the count writes of the other.
-use Rattle.std.proofs.Common.{◌≡◌, ℕ, suc, ◌+◌, ◌-◌, ◌*◌, ◌≤◌, List, [], ◌++◌, length, take, sym, ap, subst, ◌∙◌, arith}
+use Rattle.std.proofs.Common.{◌≡◌, ℕ, suc, ◌+◌, ◌-◌, ◌*◌, ◌<◌, ◌≤◌, List, [], ◌++◌, length, take, sym, ap, subst, ◌∙◌, arith}
 use Rattle.std.proofs.lemmas.List.{take-append-le}
 use Rattle.std.proofs.lemmas.List.Elements.{filter_map-append}
 use Rattle.bits_core.specs.declared.events.Side.{Side}
@@ -14,7 +14,7 @@ use Rattle.bits_core.specs.Made.{Made, own, clock, place_of, events_of, IsBeginn
 use Rattle.register_core.specs.UnaryLaw.{count_write, count_begun, count_ended, WritesUnary, ended_before, begun_before, IsScan, IsRegularValue, UnaryIsRegular}
 use Rattle.register_core.specs.MadeReads.{begin_place, end_place, ScansAreMade}
 use Rattle.register_core.specs.ScanState.{row_read_by}
-use Rattle.ring_core.specs.Counts.{first_count}
+use Rattle.ring_core.specs.Counts.{first_count, take_batch_of}
 use Rattle.ring_core.specs.Puts.{Puts, close_phrase, FollowsPuts}
 use Rattle.ring_core.specs.Takes.{Takes, FollowsTakes}
 use Rattle.ring_core.proofs.Spans.{Span, counts_begun, counts_ended, IsSpanAt, tally}
@@ -23,7 +23,7 @@ use Rattle.ring_core.proofs.LookSpans.{Look, put_looks, take_looks, look_accesse
 use Rattle.ring_core.proofs.Lengths.{length-scan}
 use Rattle.ring_core.proofs.LookSpans.{LookAt}
 use Rattle.ring_core.proofs.Looks.{look_from_first, puts_as_looks, takes_as_looks, AllPassing, puts_pass, takes_pass}
-use Rattle.ring_core.proofs.CountRow.{has_batch}
+use Rattle.ring_core.proofs.CountRow.{batch_below, take_batch_below}
 use Rattle.ring_core.proofs.CountTimes.{bit_writes, IsQuiet, quiet_close, sizes_in, sizes_are, tally_up, counted_in, counted_value, count_writes_begun, count_writes_ended, count_writes_are}
 use Rattle.ring_core.proofs.OwnEvents.{clock_within, one_place, count_begun_own, count_begun_before, count_ended_before}
 
@@ -48,14 +48,14 @@ module _
   abbrev events : List Event
   events = events_of w (look_accesses w shape first_count looks behind)
 
-  module _ (passing : AllPassing (batch_of shape) looks) where
+  module _ (most : ℕ) (fits : most < modulus_of shape) (passing : AllPassing most looks) where
     -- what the count writes of its spans that had ended before a place count, the unary writes that had do
     ended_there : (place : ℕ) → counts_ended (spans w shape first_count looks) (clock w h place) ≤ tally (sizes_in looks) (ended_before w h (counted_in shape looks) place)
     ended_there place =
         let same : length (count_ended w (take place h)) ≡ bit_writes w events (clock w h place - 1) =
         ap length (count_ended_before shape w h lawful place) ∙
         bits_of_beginning w (own w h) follows.0 events (clock w h place - 1) follows.1 (omega (arith, clock_within w h place)) in
-        rw same (count_writes_ended w shape looks behind passing (clock w h place))
+        rw same (count_writes_ended most w shape looks behind fits passing (clock w h place))
 
     -- what the unary writes that had begun before a place count, the count writes of its spans that had do
     begun_there : (place : ℕ) → tally (sizes_in looks) (begun_before w h (counted_in shape looks) place) ≤ counts_begun (spans w shape first_count looks) (clock w h place)
@@ -63,7 +63,7 @@ module _
         let same : length (count_begun w (take place h)) ≡ bit_writes w events (clock w h place) =
         ap length (count_begun_before shape w h lawful place) ∙
         bits_of_beginning w (own w h) follows.0 events (clock w h place) follows.1 (clock_within w h place) in
-        rw same (count_writes_begun w shape looks behind passing (clock w h place))
+        rw same (count_writes_begun most w shape looks behind fits passing (clock w h place))
 
     -- so the value that the register gives is one that the spans permit
     permitted :
@@ -75,7 +75,7 @@ module _
       tallies = ap (λ ms. tally ms r.number) (sym (sizes_are w shape first_count looks));
       not_older = omega (arith, tally_up (sizes_in looks) (ended_before w h (counted_in shape looks) first) r.number r.not_overwritten, ended_there first);
       not_newer = omega (arith, tally_up (sizes_in looks) r.number (begun_before w h (counted_in shape looks) last) r.has_begun, begun_there last);
-      value = sym r.has_value ∙ counted_value shape looks r.number passing;
+      value = sym r.has_value ∙ counted_value most shape looks r.number fits passing;
     }
 
 -- ---- the reader
@@ -118,7 +118,7 @@ pub take_events :
     (shape : Shape) (h : List Event) (calls : Takes) → FollowsTakes shape h calls →
     IsBeginning (own C h) (events_of C (look_accesses C shape first_count (take_looks calls.takes calls.end) []))
 take_events shape h calls follows =
-    subst (λ (l : List Made). IsBeginning (own C h) (events_of C l)) (takes_as_looks shape 0 calls.takes calls.end) follows.events
+    subst (λ (l : List Made). IsBeginning (own C h) (events_of C l)) (takes_as_looks shape first_count calls.takes calls.end) follows.events
 
 -- the value that the register gives is between those places
 between :
@@ -130,17 +130,18 @@ module _ (regular : UnaryIsRegular) (scans_made : ScansAreMade) (has_place : Own
   -- the scans of one side are regular, in a lawful history whose two sides follow their programs
   pub regular_scans :
       (shape : Shape) (h : List Event) → IsLawful shape h →
-      (s : Side) (looks writes : List Look) (behind behind_writes : List Made) → IsQuiet (other s) behind_writes → AllPassing (batch_of shape) writes →
+      (s : Side) (looks writes : List Look) (behind behind_writes : List Made) → IsQuiet (other s) behind_writes →
+      (most : ℕ) → most < modulus_of shape → AllPassing most writes →
       IsBeginning (own s h) (events_of s (look_accesses s shape first_count looks behind)) →
       IsBeginning (own (other s) h) (events_of (other s) (look_accesses (other s) shape first_count writes behind_writes)) →
       AreRegular (modulus_of shape) (clock s h) (clock (other s) h) (spans s shape first_count looks) (spans (other s) shape first_count writes)
-  regular_scans shape h lawful s looks writes behind behind_writes quiet passing follows follows_writes start n x st first last e is_first is_last ends =
+  regular_scans shape h lawful s looks writes behind behind_writes quiet most fits passing follows follows_writes start n x st first last e is_first is_last ends =
       let scan = scan_there has_place scans_made shape h s looks behind follows start n x st first last e is_first is_last ends in
       let unary_writes : WritesUnary (other s) h (counted_in shape writes) =
       writes_unary shape h lawful (other s) writes behind_writes follows_writes quiet in
       let value : IsRegularValue (other s) h (counted_in shape writes) (scan.0 0) (scan.1 x.seen) x.seen =
       regular shape h lawful (other s) (counted_in shape writes) unary_writes x.seen scan.0 scan.1 scan.2 in
-      permitted shape h lawful (other s) writes behind_writes follows_writes passing first last x.seen
+      permitted shape h lawful (other s) writes behind_writes follows_writes most fits passing first last x.seen
       (between (other s) h (counted_in shape writes) first last (scan.0 0) (scan.1 x.seen) x.seen scan.3 scan.4 value)
 
   -- the scans of puts are regular, over the count writes of takes
@@ -148,7 +149,7 @@ module _ (regular : UnaryIsRegular) (scans_made : ScansAreMade) (has_place : Own
       (shape : Shape) (h : List Event) → IsLawful shape h → (puts : Puts) (takes : Takes) → FollowsPuts shape h puts → FollowsTakes shape h takes →
       AreRegular (modulus_of shape) (clock P h) (clock C h) (put_spans shape puts) (take_spans shape takes)
   puts_regular shape h lawful puts takes follows_puts follows_takes =
-      regular_scans shape h lawful P (put_looks puts.puts) (take_looks takes.takes takes.end) (close_phrase puts.closes) [] tt (takes_pass (batch_of shape) (has_batch shape) takes.takes takes.end)
+      regular_scans shape h lawful P (put_looks puts.puts) (take_looks takes.takes takes.end) (close_phrase puts.closes) [] tt (take_batch_of shape) (take_batch_below shape) (takes_pass shape 0 takes.takes takes.end follows_takes.are)
       (put_events shape h puts follows_puts) (take_events shape h takes follows_takes)
 
   -- the scans of takes are regular, over the count writes of puts
@@ -156,5 +157,5 @@ module _ (regular : UnaryIsRegular) (scans_made : ScansAreMade) (has_place : Own
       (shape : Shape) (h : List Event) → IsLawful shape h → (puts : Puts) (takes : Takes) → FollowsPuts shape h puts → FollowsTakes shape h takes →
       AreRegular (modulus_of shape) (clock C h) (clock P h) (take_spans shape takes) (put_spans shape puts)
   takes_regular shape h lawful puts takes follows_puts follows_takes =
-      regular_scans shape h lawful C (take_looks takes.takes takes.end) (put_looks puts.puts) [] (close_phrase puts.closes) (quiet_close puts.closes) (puts_pass shape 0 puts.puts follows_puts.are)
+      regular_scans shape h lawful C (take_looks takes.takes takes.end) (put_looks puts.puts) [] (close_phrase puts.closes) (quiet_close puts.closes) (batch_of shape) (batch_below shape) (puts_pass shape 0 puts.puts follows_puts.are)
       (take_events shape h takes follows_takes) (put_events shape h puts follows_puts)

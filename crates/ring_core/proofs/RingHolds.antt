@@ -1,6 +1,6 @@
 -- The law of the ring for lawful histories: the rules and the registers of a history make a ring of spans, and its law is read
 -- off that of the spans.
-use Rattle.std.proofs.Common.{◌≡◌, ◌⊎◌, inl, inr, ℕ, suc, ◌+◌, ◌-◌, ◌*◌, ◌%◌, ◌<◌, ◌≤◌, Bool, true, false, Some, List, [], ◌∷◌, ◌++◌, length, refl, sym, ap, subst, ◌∙◌, arith, append_assoc, append-nil, length-append}
+use Rattle.std.proofs.Common.{◌≡◌, ◌⊎◌, inl, inr, ℕ, suc, ◌+◌, ◌-◌, ◌*◌, ◌<◌, ◌≤◌, Bool, true, false, Some, List, [], ◌∷◌, ◌++◌, length, refl, sym, ap, subst, ◌∙◌, arith, append_assoc, append-nil, length-append}
 use Rattle.std.specs.Prelude.{slice_get}
 use Rattle.std.proofs.Math.Nat.{suc-mul}
 use Rattle.bits_core.specs.declared.events.Side.{Side}
@@ -16,24 +16,24 @@ use Rattle.register_core.specs.MadeWrites.{CellWritesAreMade}
 use Rattle.register_core.specs.ScanState.{scan_phrase, row_read_by}
 use Rattle.register_core.specs.UnaryLaw.{UnaryIsRegular}
 use Rattle.register_core.specs.WordLaw.{WordIsSafe}
-use Rattle.ring_core.specs.Counts.{Count, first_count}
+use Rattle.ring_core.specs.Counts.{Count, first_count, take_batch_of}
 use Rattle.ring_core.specs.Puts.{Put, Puts, Stored, Full, stored_after, put_phrases, close_phrase}
 use Rattle.ring_core.specs.Takes.{Takes, Open, Closed, End, take_program}
-use Rattle.ring_core.specs.Items.{events_in, items_put, all_put, Tells}
-use Rattle.ring_core.proofs.Spans.{Span, Asks, counts, items_of, before_count, all_items, total}
+use Rattle.ring_core.specs.Items.{events_in, all_put, Tells}
+use Rattle.ring_core.proofs.Spans.{Span, Asks, counts, before_count, all_items, total}
 use Rattle.ring_core.proofs.Clocks.{IsPlace, AreCloseReads, Ring}
 use Rattle.ring_core.proofs.Clocks as clocks
 use Rattle.ring_core.proofs.LookSpans.{put_looks, take_looks, word_part, count_part, look_accesses, spans, put_spans, take_spans}
 use Rattle.ring_core.specs.RingLaw.{IsRun}
-use Rattle.ring_core.proofs.RingOfSpans.{LawOfSpans, PutsAreInRange, TakesAreInRange, CellsAreQuiet, TakenArePrefix, TakesMatchPuts, EmptyIsFresh, FullIsFresh, FillIsFresh, ClosedIsTrue}
+use Rattle.ring_core.proofs.RingOfSpans.{LawOfSpans, PutsAreInRange, TakesAreInRange, CellsAreQuiet, TakenArePrefix, TakesMatchPuts, EmptyIsFresh, FullIsFresh, FillIsFresh, DrainIsFresh, ClosedIsTrue}
 use Rattle.ring_core.proofs.Cuts.{at_most_or_above}
 use Rattle.ring_core.proofs.SpanLaw.{SpanLaw, span_law, IsToldAt, LastTwo}
 use Rattle.ring_core.proofs.HistoryClocks.{clocks_of}
 use Rattle.ring_core.proofs.OwnEvents.{clock_within, clock_end, clock_rises, one_place}
 use Rattle.ring_core.proofs.Following.{length-events}
 use Rattle.ring_core.proofs.LookSpans.{LookAt}
-use Rattle.ring_core.proofs.Looks.{puts_as_looks, takes_as_looks, proper_puts, proper_takes, total_is, look_from_first, words_are, word_is, asks_word, puts_items, takes_items, put_rules, take_rules, put_fits, take_fits, last_two}
-use Rattle.ring_core.proofs.CountRow.{batch_fits, has_batch}
+use Rattle.ring_core.proofs.Looks.{puts_as_looks, takes_as_looks, proper_puts, proper_takes, total_is, look_from_first, words_are, asks_word, puts_items, takes_items, put_rules, take_rules, put_fits, take_fits, last_two}
+use Rattle.ring_core.proofs.CountRow.{batch_fits, has_batch, take_batch_fits, has_take_batch}
 use Rattle.ring_core.proofs.CellPlaces.{doubled, multiple_up}
 use Rattle.ring_core.proofs.RegularScans.{put_events, take_events, puts_regular, takes_regular}
 use Rattle.ring_core.proofs.CloseReads.{OwnFacts, read_of_close}
@@ -75,7 +75,7 @@ put_total shape calls =
 
 take_total : (shape : Shape) (calls : Takes) → total (take_spans shape calls) ≡ 2 * length (take_program shape calls)
 take_total shape calls =
-    total_is C shape first_count (take_looks calls.takes calls.end) ∙ ap (λ l. 2 * length l) (sym (takes_as_looks shape 0 calls.takes calls.end))
+    total_is C shape first_count (take_looks calls.takes calls.end) ∙ ap (λ l. 2 * length l) (sym (takes_as_looks shape first_count calls.takes calls.end))
 
 -- the items of all puts
 pub all_is : (shape : Shape) (c : Count) (puts : List Put) → all_items (spans P shape c (put_looks puts)) ≡ all_put puts
@@ -116,12 +116,12 @@ module _ (facts : OwnFacts) (regular : UnaryIsRegular) (scans_made : ScansAreMad
       ((λ f. omega (arith, on_zero f, put_total shape puts)), (λ t. omega (arith, on_one t, put_total shape puts)))
 
   -- the two sides of the history make a ring
-  pub ring : Ring (modulus_of shape) (capacity_of shape) (batch_of shape) 1 (2 * width_of shape) (clock P h) (clock C h) (put_spans shape puts) (take_spans shape takes)
+  pub ring : Ring (modulus_of shape) (capacity_of shape) (batch_of shape) (take_batch_of shape) (2 * width_of shape) (clock P h) (clock C h) (put_spans shape puts) (take_spans shape takes)
   ring = record {
     modulus_fits = batch_fits shape;
     has_batch = has_batch shape;
-    modulus_fits_takes = omega (arith, batch_fits shape, has_batch shape);
-    has_more = omega arith;
+    modulus_fits_takes = take_batch_fits shape;
+    has_more = has_take_batch shape;
     clocks = clocks_of h;
     puts_rule = λ s n x st. subst (λ i. clocks.IsPutSpan (modulus_of shape) (capacity_of shape) i x) (from_none n) (put_rules shape first_count puts.puts run.puts_follow.are s n x st);
     takes_rule = λ s k x st. subst (λ i. clocks.IsTakeSpan (modulus_of shape) (capacity_of shape) i x) (from_none k) (take_rules shape first_count takes.takes takes.end run.takes_follow.are s k x st);
@@ -137,9 +137,9 @@ module _ (facts : OwnFacts) (regular : UnaryIsRegular) (scans_made : ScansAreMad
     asks_words = λ s k x answer st e. omega (arith, asks_word C shape (take_looks takes.takes takes.end) s k x answer st e);
   }
 
-  pub law : SpanLaw (modulus_of shape) (capacity_of shape) (batch_of shape) 1 (2 * width_of shape) (clock P h) (clock C h) (put_spans shape puts) (take_spans shape takes)
-  law = span_law (modulus_of shape) (capacity_of shape) (batch_of shape) 1 (2 * width_of shape) (clock P h) (clock C h) (put_spans shape puts) (take_spans shape takes)
-      (proper_puts shape puts run.puts_follow.are) (proper_takes shape takes)
+  pub law : SpanLaw (modulus_of shape) (capacity_of shape) (batch_of shape) (take_batch_of shape) (2 * width_of shape) (clock P h) (clock C h) (put_spans shape puts) (take_spans shape takes)
+  law = span_law (modulus_of shape) (capacity_of shape) (batch_of shape) (take_batch_of shape) (2 * width_of shape) (clock P h) (clock C h) (put_spans shape puts) (take_spans shape takes)
+      (proper_puts shape puts run.puts_follow.are) (proper_takes shape takes run.takes_follow.are)
       ring
 
   -- ---- the law, in the words of calls
@@ -156,17 +156,12 @@ module _ (facts : OwnFacts) (regular : UnaryIsRegular) (scans_made : ScansAreMad
   prefix : TakenArePrefix shape h puts takes
   prefix t =
       let (rest, e) = law.prefix t in
-      (rest, ap (λ l. l ++ rest) (takes_items shape 0 takes.takes takes.end (clock C h t)) ∙ e ∙ sym (puts_items shape first_count puts.puts (clock P h t)))
+      (rest, ap (λ l. l ++ rest) (takes_items shape first_count takes.takes takes.end (clock C h t)) ∙ e ∙ sym (puts_items shape first_count puts.puts (clock P h t)))
 
   items : TakesMatchPuts shape h puts takes
-  items t s k x item st o l =
-      let one : counts x.outcome ≡ 1 = ap counts o in
-      let word : x.word ≡ 2 * width_of shape = word_is C shape (take_looks takes.takes takes.end) s k x st one in
-      let single : 1 * (2 * width_of shape) ≡ 2 * width_of shape = omega arith in
-      let here : k ≡ k + 0 = omega arith in
-      ap (slice_get (items_put shape first_count puts.puts (clock P h t))) here ∙
-      ap (λ l. slice_get l (k + 0)) (puts_items shape first_count puts.puts (clock P h t)) ∙
-      law.items t s k 0 x item st (ap (λ v. slice_get (items_of v) 0) o) (omega (arith, l, word, single))
+  items t s k i x item st at l =
+      let size : suc i * (2 * width_of shape) ≡ 2 * (suc i * width_of shape) = doubled (suc i) (width_of shape) in
+      ap (λ l. slice_get l (k + i)) (puts_items shape first_count puts.puts (clock P h t)) ∙ law.items t s k i x item st at (omega (arith, l, size))
 
   empty : EmptyIsFresh shape h puts takes
   empty s k x st o l first q =
@@ -179,13 +174,16 @@ module _ (facts : OwnFacts) (regular : UnaryIsRegular) (scans_made : ScansAreMad
   fill : FillIsFresh shape h puts takes
   fill s n x st fills l first q = law.fill (length h) s n x st fills (omega (arith, l, clock_end P h)) first (is_place P s first q)
 
+  drain : DrainIsFresh shape h puts takes
+  drain s k x st o drains l first q = law.drain (length h) s k x st o drains (omega (arith, l, clock_end C h)) first (is_place C s first q)
+
   closed : ClosedIsTrue shape h puts takes
   closed t u (tells, ended) l =
       let told : IsToldAt (clock C h) (take_spans shape takes) t = record { two = ends_told takes.end tells; ended = omega (arith, ended, take_total shape takes) } in
       let (put, taken, begun) = law.closed t u told l in
       let behind : events_in (put_phrases shape first_count puts.puts) < clock P h u = omega (arith, begun, put_total shape puts) in (
         puts_items shape first_count puts.puts (clock P h u) ∙ put ∙ all_is shape first_count puts.puts,
-        takes_items shape 0 takes.takes takes.end (clock C h u) ∙ taken ∙ all_is shape first_count puts.puts,
+        takes_items shape first_count takes.takes takes.end (clock C h u) ∙ taken ∙ all_is shape first_count puts.puts,
         is_closed puts.closes run.puts_follow.events (omega (arith, behind, clock_within P h u)),
         behind,
       )
@@ -228,30 +226,29 @@ module _ (facts : OwnFacts) (regular : UnaryIsRegular) (scans_made : ScansAreMad
       absurd (omega (arith, ap (clock P h) same, ap (clock P h) past, clock_end P h, q.before, q.past, clock_within P h (suc start)))
 
   quiet : CellsAreQuiet shape h puts takes
-  quiet s n i x st stores s' k y st' takes_one cell start stop start' stop' a b (not_after, not_before) =
+  quiet s n i x st stores s' k i' y st' takes_it cell start stop start' stop' a b (not_after, not_before) =
       let w : ℕ = width_of shape in
       let digits : 0 < w = shape.has_digits in
       let words : x.word ≡ 2 * (counts x.outcome * w) = words_are P shape (put_looks puts.puts) s n x st (omega (arith, stores)) in
       let within : suc i * w ≤ counts x.outcome * w = multiple_up (suc i) (counts x.outcome) w stores in
       let size : suc i * w ≡ i * w + w = suc-mul i w in
-      let word' : y.word ≡ 2 * w = word_is C shape (take_looks takes.takes takes.end) s' k y st' takes_one in
-      let one : 1 * w ≡ w = omega arith in
-      let none_before : 0 * w ≡ 0 = omega arith in
+      let words' : y.word ≡ 2 * (counts y.outcome * w) = words_are C shape (take_looks takes.takes takes.end) s' k y st' (omega (arith, takes_it)) in
+      let within' : suc i' * w ≤ counts y.outcome * w = multiple_up (suc i') (counts y.outcome) w takes_it in
+      let size' : suc i' * w ≡ i' * w + w = suc-mul i' w in
       let ended : (place : ℕ) → place ≤ stop → clock P h place < s + before_count x =
       (λ place l. omega (arith, clock_rises P h place stop l, at_end P stop (s + x.scan + 2 * (suc i * w) - 1) a.ends, words, within, size, digits)) in
-      let ended' : clock C h stop' ≤ s' + before_count y = omega (arith, at_end C stop' (s' + y.scan + 2 * (1 * w) - 1) b.ends, word', one) in
+      let ended' : clock C h stop' ≤ s' + before_count y = omega (arith, at_end C stop' (s' + y.scan + 2 * (suc i' * w) - 1) b.ends, words', within', size', digits) in
       let order : start' ≤ stop' =
       elim (at_most_or_above start' stop') [
         | inl m ↦ m
-        | inr m ↦ absurd (by_end C start' stop' (s' + y.scan + 2 * (0 * w)) (s' + y.scan + 2 * (1 * w) - 1) b.begins b.ends m (omega (arith, one, none_before, digits)))
+        | inr m ↦ absurd (by_end C start' stop' (s' + y.scan + 2 * (i' * w)) (s' + y.scan + 2 * (suc i' * w) - 1) b.begins b.ends m (omega (arith, size', digits)))
       ] in
       let begun : start < stop' =
       elim (at_most_or_above stop' start) [
         | inr m ↦ m
-        | inl m ↦ absurd (apart start stop' (s + x.scan + 2 * (i * w)) (s' + y.scan + 2 * (1 * w) - 1) a.begins b.ends (same_place start stop' m not_before))
+        | inl m ↦ absurd (apart start stop' (s + x.scan + 2 * (i * w)) (s' + y.scan + 2 * (suc i' * w) - 1) a.begins b.ends (same_place start stop' m not_before))
       ] in
-      let here : k ≡ k + 0 = omega arith in
-      law.quiet s' k 0 y st' (omega (arith, takes_one)) start' stop' order (omega (arith, b.begins.before, none_before)) ended'
+      law.quiet s' k i' y st' takes_it start' stop' order (omega (arith, b.begins.before)) ended'
       (record {
         start = s;
         number = n;
@@ -259,7 +256,7 @@ module _ (facts : OwnFacts) (regular : UnaryIsRegular) (scans_made : ScansAreMad
         index = i;
         stands = st;
         stored = stores;
-        same_cell = cell ∙ ap (λ v. v % capacity_of shape) here;
+        same_cell = cell;
         begun_before = omega (arith, clock_rises P h (suc start) stop' begun, a.begins.past);
         not_ended = ended start' (at_most start' stop not_after);
       })
@@ -281,5 +278,6 @@ module _ (facts : OwnFacts) (regular : UnaryIsRegular) (scans_made : ScansAreMad
     empty = empty;
     full = full;
     fill = fill;
+    drain = drain;
     closed = closed;
   }

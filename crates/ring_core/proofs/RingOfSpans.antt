@@ -1,5 +1,5 @@
 -- The law of the ring over spans, as it is proved: the law over calls is read off it.
-use Rattle.std.specs.Prelude.{◌≡◌, ℕ, suc, ◌+◌, ◌-◌, ◌*◌, ◌<◌, ◌≤◌, ◌%◌, true, false, Some, List, [], ◌∷◌, length, slice_get}
+use Rattle.std.specs.Prelude.{◌≡◌, ℕ, suc, ◌+◌, ◌-◌, ◌*◌, ◌<◌, ◌≤◌, ◌%◌, true, false, Some, List, length, slice_get}
 use Rattle.bits_core.specs.declared.events.Side.{Side}
 use Rattle.bits_core.specs.declared.events.Side.TheVariants.{P, C}
 use Rattle.bits_core.specs.declared.events.Event.{Event}
@@ -7,11 +7,11 @@ use Rattle.bits_core.specs.declared.shapes.Shape.{Shape}
 use Rattle.bits_core.specs.Shape.{batch_of, capacity_of, modulus_of, width_of}
 use Rattle.bits_core.specs.Intervals as intervals
 use Rattle.bits_core.specs.Made.{own, clock, IsPlaceOf, IsBeginning}
-use Rattle.ring_core.specs.Counts.{distance, first_count}
+use Rattle.ring_core.specs.Counts.{distance, first_count, take_batch_of}
 use Rattle.ring_core.specs.Puts.{Puts, put_phrases}
 use Rattle.ring_core.specs.Takes.{Takes}
 use Rattle.ring_core.specs.Items.{events_in, items_put, items_taken, all_put, IsTold}
-use Rattle.ring_core.proofs.Spans.{Span, Passes, Asks, counts, before_count, counts_begun, counts_ended, IsSpanAt, sizes, tally}
+use Rattle.ring_core.proofs.Spans.{Span, Asks, counts, items_of, before_count, counts_begun, counts_ended, IsSpanAt, sizes, tally}
 use Rattle.ring_core.proofs.Clocks.{IsPlace}
 use Rattle.ring_core.proofs.LookSpans.{put_spans, take_spans}
 use Rattle.ring_core.specs.RingLaw.{IsInterval}
@@ -56,7 +56,7 @@ IsWithin shape h puts takes =
 abbrev pub PutsAreInRange : Shape → List Event → Puts → Takes → Type 0
 PutsAreInRange shape h puts takes =
     (s n : ℕ) (x : Span) → IsSpanAt (put_spans shape puts) s n x → s + x.scan ≤ length (own P h) →
-    ReadsCount (modulus_of shape) (clock P h) (clock C h) (take_spans shape takes) s x (n - (capacity_of shape + 1)) n
+    ReadsCount (modulus_of shape) (clock P h) (clock C h) (take_spans shape takes) s x (n - (capacity_of shape + take_batch_of shape)) n
 
 -- take number k reads counts from k - batch to k + capacity
 abbrev pub TakesAreInRange : Shape → List Event → Puts → Takes → Type 0
@@ -68,20 +68,20 @@ TakesAreInRange shape h puts takes =
 abbrev pub CellsAreQuiet : Shape → List Event → Puts → Takes → Type 0
 CellsAreQuiet shape h puts takes =
     (s n i : ℕ) (x : Span) → IsSpanAt (put_spans shape puts) s n x → i < counts x.outcome →
-    (s' k : ℕ) (y : Span) → IsSpanAt (take_spans shape takes) s' k y → counts y.outcome ≡ 1 → (n + i) % capacity_of shape ≡ k % capacity_of shape →
-    (start stop start' stop' : ℕ) → IsWordAccess P shape h s x i start stop → IsWordAccess C shape h s' y 0 start' stop' →
+    (s' k i' : ℕ) (y : Span) → IsSpanAt (take_spans shape takes) s' k y → i' < counts y.outcome → (n + i) % capacity_of shape ≡ (k + i') % capacity_of shape →
+    (start stop start' stop' : ℕ) → IsWordAccess P shape h s x i start stop → IsWordAccess C shape h s' y i' start' stop' →
     ¬ intervals.Overlap start stop start' stop'
 
 -- at every moment the items taken are a prefix of the items put
 abbrev pub TakenArePrefix : Shape → List Event → Puts → Takes → Type 0
 TakenArePrefix shape h puts takes =
-    (t : ℕ) → IsBeginning (items_taken shape 0 takes.takes (clock C h t)) (items_put shape first_count puts.puts (clock P h t))
+    (t : ℕ) → IsBeginning (items_taken shape first_count takes.takes (clock C h t)) (items_put shape first_count puts.puts (clock P h t))
 
--- a take whose word read has ended, also where its count write is still to come, has the item put of its number
+-- word read i of a take behind k items, once it has ended, has item number k + i of those put
 abbrev pub TakesMatchPuts : Shape → List Event → Puts → Takes → Type 0
 TakesMatchPuts shape h puts takes =
-    (t s k : ℕ) (x : Span) (item : ℕ) → IsSpanAt (take_spans shape takes) s k x → x.outcome ≡ Passes (item ∷ []) → s + before_count x ≤ clock C h t →
-    slice_get (items_put shape first_count puts.puts (clock P h t)) k ≡ Some item
+    (t s k i : ℕ) (x : Span) (item : ℕ) → IsSpanAt (take_spans shape takes) s k x → slice_get (items_of x.outcome) i ≡ Some item →
+    s + x.scan + 2 * (suc i * width_of shape) ≤ clock C h t → slice_get (items_put shape first_count puts.puts (clock P h t)) (k + i) ≡ Some item
 
 -- a take that finds the ring empty: each put that stored and had ended where it began was taken by a take that had ended then, and no
 -- close had ended
@@ -106,12 +106,19 @@ FillIsFresh shape h puts takes =
     distance (modulus_of shape) (n % modulus_of shape) x.seen + counts x.outcome ≡ capacity_of shape → s + x.scan ≤ length (own P h) →
     (first : ℕ) → IsPlaceOf P h s first → takes_ended shape h takes first + capacity_of shape ≤ n + counts x.outcome
 
+-- a take that takes all the items that its scan showed
+abbrev pub DrainIsFresh : Shape → List Event → Puts → Takes → Type 0
+DrainIsFresh shape h puts takes =
+    (s k : ℕ) (x : Span) → IsSpanAt (take_spans shape takes) s k x → 1 ≤ counts x.outcome →
+    distance (modulus_of shape) x.seen (k % modulus_of shape) ≡ counts x.outcome → s + x.scan ≤ length (own C h) →
+    (first : ℕ) → IsPlaceOf C h s first → puts_ended shape h puts first ≤ k + counts x.outcome
+
 -- once the consumer was told that the ring is closed, at every later moment all items of the calls were put and taken, and the
 -- close has begun, behind all puts
 abbrev pub ClosedIsTrue : Shape → List Event → Puts → Takes → Type 0
 ClosedIsTrue shape h puts takes =
     (t u : ℕ) → IsTold shape takes (clock C h t) → t ≤ u →
-    (items_put shape first_count puts.puts (clock P h u) ≡ all_put puts.puts) × (items_taken shape 0 takes.takes (clock C h u) ≡ all_put puts.puts) ×
+    (items_put shape first_count puts.puts (clock P h u) ≡ all_put puts.puts) × (items_taken shape first_count takes.takes (clock C h u) ≡ all_put puts.puts) ×
     (puts.closes ≡ true) × (events_in (put_phrases shape first_count puts.puts) < clock P h u)
 
 -- all of these
@@ -125,4 +132,5 @@ pub record LawOfSpans (shape : Shape) (h : List Event) (puts : Puts) (takes : Ta
   pub empty : EmptyIsFresh shape h puts takes
   pub full : FullIsFresh shape h puts takes
   pub fill : FillIsFresh shape h puts takes
+  pub drain : DrainIsFresh shape h puts takes
   pub closed : ClosedIsTrue shape h puts takes

@@ -13,7 +13,7 @@ use Rattle.ring_core.specs.Counts.{distance}
 use Rattle.ring_core.proofs.Gates.{clock_up, place_of, clock_p, clock_c, proper_at, shows_none, leaves_none, within, shown_at, left_at, behind as has_begun, ahead as has_room}
 
 -- an item of an outcome is one of so many
-within_items : (o : Outcome) (i item : ℕ) → slice_get (items_of o) i ≡ Some item → i < counts o
+pub within_items : (o : Outcome) (i item : ℕ) → slice_get (items_of o) i ≡ Some item → i < counts o
 within_items o i item e = omega (arith, counts-items o, slice_get_within (items_of o) i item e)
 
 -- the word accesses up to one that is among them are no longer than all

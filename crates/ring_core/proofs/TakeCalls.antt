@@ -1,89 +1,216 @@
 -- A program of takes with one take more, or with the take that is told the ring is closed.
-use Rattle.std.proofs.Common.{◌≡◌, ℕ, suc, ◌^◌, ◌<◌, Option, Some, List, [], ◌∷◌, ◌++◌, refl, sym, ap, ◌∙◌, append_assoc, append-nil}
+use Rattle.std.proofs.Common.{Bool, true, false, ◌≡◌, ℕ, zero, suc, ◌+◌, ◌%◌, Option, Some, List, [], ◌∷◌, ◌++◌, length, refl, sym, ap, ◌∙◌, arith, append_assoc, append-nil}
+use Rattle.std.proofs.lemmas.List.{map-append}
+use Rattle.std.proofs.lemmas.Nat.{pow_pos}
+use Rattle.bits_core.specs.declared.events.Side.{Side}
 use Rattle.bits_core.specs.declared.shapes.Shape.{Shape}
-use Rattle.bits_core.specs.Shape.{width_of}
+use Rattle.bits_core.specs.Shape.{AllFit, capacity_of, modulus_of, width_of}
+use Rattle.bits_core.specs.Made.{Made, Write}
+use Rattle.register_core.specs.Row.{RowWrite, row_bit, bits_after, first_bits, writes_in}
+use Rattle.register_core.specs.Unary.{unary_phrase, unary_writes, row_writes, writes_of, count_writes}
+use Rattle.register_core.specs.Phrases.{word_read}
 use Rattle.ring_core.specs.declared.consumers.TakeReply.{TakeReply}
-use Rattle.ring_core.specs.declared.consumers.TakeReply.TheVariants as replies
-use Rattle.ring_core.specs.Takes.{Take, Takes, Item, ItemAfterClose, Open, Closed, taken_after, taken_in, item_phrase, take_phrase, take_phrases, end_phrase, take_program, IsTake, SeesNone, AreTakes}
-use Rattle.ring_core.specs.ConsumerCalls.{Finding, Once, Twice, finding_phrase, Finds, and_take, take_reply_to, last_take_reply}
+use Rattle.ring_core.specs.Counts.{number_past, Count, first_count, count_bits, batch_phrase, IsCount}
+use Rattle.ring_core.specs.Takes.{Take, Takes, Item, ItemAfterClose, Empty, Open, Closed, count_after, taken_count, words_read, items_phrase, take_phrase, take_phrases, end_phrase, take_program, IsTake, SeesNone, IsTakeBatch, AreTakes}
+use Rattle.ring_core.specs.Items.{taken_of}
+use Rattle.ring_core.specs.ConsumerCalls.{Finding, Once, Twice, finding_phrase, Finds, IsTakeOf, count_taken, take_values, values_taken, and_take, items_reply, take_reply_to, last_take_reply, last_items, reply_at_end, take_batch_reply, IsReplyToTake, AreItemsOfTake, IsBatchReplyToTake}
+use Rattle.ring_core.proofs.CountRow.{bits_after-append, row_writes-push, first_is_count, counted_is_count}
 
 -- the accesses of takes and one more
 pub phrases-push :
-    (shape : Shape) (k : ℕ) (xs : List Take) (x : Take) →
-    take_phrases shape k (xs ++ x ∷ []) ≡ take_phrases shape k xs ++ take_phrase shape (taken_in k xs) x
-phrases-push shape k [] x = append-nil (take_phrase shape k x)
-phrases-push shape k (y ∷ xs) x =
-    ap (λ l. take_phrase shape k y ++ l) (phrases-push shape (taken_after k y) xs x) ∙
-    sym (append_assoc (take_phrase shape k y) (take_phrases shape (taken_after k y) xs) (take_phrase shape (taken_in (taken_after k y) xs) x))
+    (shape : Shape) (c : Count) (xs : List Take) (x : Take) →
+    take_phrases shape c (xs ++ x ∷ []) ≡ take_phrases shape c xs ++ take_phrase shape (taken_count shape c xs) x
+phrases-push shape c [] x = append-nil (take_phrase shape c x)
+phrases-push shape c (y ∷ xs) x =
+    let next : Count = count_after shape c y in
+    ap (λ l. take_phrase shape c y ++ l) (phrases-push shape next xs x) ∙
+    sym (append_assoc (take_phrase shape c y) (take_phrases shape next xs) (take_phrase shape (taken_count shape next xs) x))
 
--- how many items are taken by them
-pub taken-push : (k : ℕ) (xs : List Take) (x : Take) → taken_in k (xs ++ x ∷ []) ≡ taken_after (taken_in k xs) x
-taken-push k [] x = refl
-taken-push k (y ∷ xs) x = taken-push (taken_after k y) xs x
+-- their count
+pub count-push : (shape : Shape) (c : Count) (xs : List Take) (x : Take) → taken_count shape c (xs ++ x ∷ []) ≡ count_after shape (taken_count shape c xs) x
+count-push shape c [] x = refl
+count-push shape c (y ∷ xs) x = count-push shape (count_after shape c y) xs x
 
 -- they are takes if the last one is
 pub are-push :
-    (shape : Shape) (k : ℕ) (xs : List Take) (x : Take) → AreTakes shape k xs Open → IsTake shape (taken_in k xs) x → AreTakes shape k (xs ++ x ∷ []) Open
-are-push shape k [] x are is = (is, record {})
-are-push shape k (y ∷ xs) x (here, are) is = (here, are-push shape (taken_after k y) xs x are is)
+    (shape : Shape) (c : Count) (xs : List Take) (x : Take) → AreTakes shape c.number xs Open → IsTake shape (taken_count shape c xs).number x →
+    AreTakes shape c.number (xs ++ x ∷ []) Open
+are-push shape c [] x are is = (is, record {})
+are-push shape c (y ∷ xs) x (here, are) is = (here, are-push shape (count_after shape c y) xs x are is)
 
 -- and then the last one is
-pub are-last : (shape : Shape) (k : ℕ) (xs : List Take) (x : Take) → AreTakes shape k (xs ++ x ∷ []) Open → IsTake shape (taken_in k xs) x
-are-last shape k [] x (is, end) = is
-are-last shape k (y ∷ xs) x (here, are) = are-last shape (taken_after k y) xs x are
+pub are-last : (shape : Shape) (c : Count) (xs : List Take) (x : Take) → AreTakes shape c.number (xs ++ x ∷ []) Open → IsTake shape (taken_count shape c xs).number x
+are-last shape c [] x (is, end) = is
+are-last shape c (y ∷ xs) x (here, are) = are-last shape (count_after shape c y) xs x are
 
 -- takes, and then one that is told the ring is closed
 pub are-end :
-    (shape : Shape) (k : ℕ) (xs : List Take) (seen again : ℕ) → AreTakes shape k xs Open → SeesNone shape (taken_in k xs) seen →
-    SeesNone shape (taken_in k xs) again → AreTakes shape k xs (Closed seen again)
-are-end shape k [] seen again are none none' = (none, none')
-are-end shape k (y ∷ xs) seen again (here, are) none none' = (here, are-end shape (taken_after k y) xs seen again are none none')
+    (shape : Shape) (c : Count) (xs : List Take) (seen again : ℕ) → AreTakes shape c.number xs Open → SeesNone shape (taken_count shape c xs).number seen →
+    SeesNone shape (taken_count shape c xs).number again → AreTakes shape c.number xs (Closed seen again)
+are-end shape c [] seen again are none none' = (none, none')
+are-end shape c (y ∷ xs) seen again (here, are) none none' = (here, are-end shape (count_after shape c y) xs seen again are none none')
 
 -- the one that is told so saw no item
 pub end-sees_none :
-    (shape : Shape) (k : ℕ) (xs : List Take) (seen again : ℕ) → AreTakes shape k xs (Closed seen again) →
-    SeesNone shape (taken_in k xs) seen × SeesNone shape (taken_in k xs) again
-end-sees_none shape k [] seen again are = are
-end-sees_none shape k (y ∷ xs) seen again (here, are) = end-sees_none shape (taken_after k y) xs seen again are
+    (shape : Shape) (c : Count) (xs : List Take) (seen again : ℕ) → AreTakes shape c.number xs (Closed seen again) →
+    SeesNone shape (taken_count shape c xs).number seen × SeesNone shape (taken_count shape c xs).number again
+end-sees_none shape c [] seen again are = are
+end-sees_none shape c (y ∷ xs) seen again (here, are) = end-sees_none shape (count_after shape c y) xs seen again are
 
--- the last reply is that to the last take
+-- the last reply is that to the last take, and the last items are its
 pub reply-push : (first : Option TakeReply) (xs : List Take) (x : Take) → last_take_reply first (xs ++ x ∷ []) ≡ Some (take_reply_to x)
 reply-push first [] x = refl
 reply-push first (y ∷ xs) x = reply-push (Some (take_reply_to y)) xs x
 
+pub items-push : (first : List ℕ) (xs : List Take) (x : Take) → last_items first (xs ++ x ∷ []) ≡ taken_of x
+items-push first [] x = refl
+items-push first (y ∷ xs) x = items-push (taken_of y) xs x
+
+-- ---- the count's writes
+
+-- the bits after takes are those that the values' writes leave
+values_hold :
+    (shape : Shape) (c : Count) (xs : List Take) →
+    bits_after c.bits (row_writes (unary_writes c.bits (take_values shape c.number xs))) ≡ (taken_count shape c xs).bits
+values_hold shape c [] = refl
+values_hold shape c (Item seen items ∷ xs) =
+    let next : Count = count_after shape c (Item seen items) in
+    bits_after-append (count_bits shape c items) (row_writes (unary_writes next.bits (take_values shape next.number xs))) c.bits ∙ values_hold shape next xs
+values_hold shape c (ItemAfterClose seen again items ∷ xs) =
+    let next : Count = count_after shape c (ItemAfterClose seen again items) in
+    bits_after-append (count_bits shape c items) (row_writes (unary_writes next.bits (take_values shape next.number xs))) c.bits ∙ values_hold shape next xs
+values_hold shape c (Empty seen ∷ xs) = values_hold shape c xs
+
+-- the writes of one take of items more
+pub values_writes-push :
+    (shape : Shape) (calls : Takes) (items : List ℕ) (s : Side) →
+    count_writes s (values_taken shape calls ++ number_past (count_taken shape calls).number items % modulus_of shape ∷ []) ≡
+    count_writes s (values_taken shape calls) ++ batch_phrase shape s (count_taken shape calls) items
+values_writes-push shape calls items s =
+    let v : ℕ = number_past (count_taken shape calls).number items % modulus_of shape in
+    let old : List RowWrite = writes_of (values_taken shape calls) in
+    ap (writes_in (row_bit s))
+    (row_writes-push (values_taken shape calls) v first_bits ∙ ap (λ b. old ++ unary_phrase b v) (values_hold shape first_count calls.takes)) ∙
+    map-append (λ (w : RowWrite). Write (row_bit s w.bit) w.value) old (count_bits shape (count_taken shape calls) items)
+
+pub values-empty : (shape : Shape) (c : Count) (xs : List Take) (seen : ℕ) → take_values shape c.number (xs ++ Empty seen ∷ []) ≡ take_values shape c.number xs
+values-empty shape c [] seen = refl
+values-empty shape c (Item u i ∷ xs) seen =
+    ap (λ l. number_past c.number i % modulus_of shape ∷ l) (values-empty shape (count_after shape c (Item u i)) xs seen)
+values-empty shape c (ItemAfterClose u v i ∷ xs) seen =
+    ap (λ l. number_past c.number i % modulus_of shape ∷ l) (values-empty shape (count_after shape c (ItemAfterClose u v i)) xs seen)
+values-empty shape c (Empty u ∷ xs) seen = values-empty shape c xs seen
+
+-- the bits after takes are those of a count
+taken_is_count : (shape : Shape) (c : Count) (xs : List Take) → IsCount shape c → IsCount shape (taken_count shape c xs)
+taken_is_count shape c [] is = is
+taken_is_count shape c (Item seen items ∷ xs) is = taken_is_count shape (count_after shape c (Item seen items)) xs (counted_is_count shape c items)
+taken_is_count shape c (ItemAfterClose seen again items ∷ xs) is =
+    taken_is_count shape (count_after shape c (ItemAfterClose seen again items)) xs (counted_is_count shape c items)
+taken_is_count shape c (Empty seen ∷ xs) is = taken_is_count shape (count_after shape c (Empty seen)) xs is
+
+pub calls_are_count : (shape : Shape) (calls : Takes) → IsCount shape (count_taken shape calls)
+calls_are_count shape calls = taken_is_count shape first_count calls.takes (first_is_count shape)
+
 -- the accesses of calls of which none was told that the ring is closed
-pub program_open : (shape : Shape) (calls : Takes) → calls.end ≡ Open → take_program shape calls ≡ take_phrases shape 0 calls.takes
-program_open shape calls e = ap (λ d. take_phrases shape 0 calls.takes ++ end_phrase d) e ∙ append-nil (take_phrases shape 0 calls.takes)
+pub program_open : (shape : Shape) (calls : Takes) → calls.end ≡ Open → take_program shape calls ≡ take_phrases shape first_count calls.takes
+program_open shape calls e = ap (λ d. take_phrases shape first_count calls.takes ++ end_phrase d) e ∙ append-nil (take_phrases shape first_count calls.takes)
 
 -- the accesses of the calls and one take more
 pub program-push :
     (shape : Shape) (calls : Takes) (x : Take) →
-    take_program shape (and_take calls x) ≡ take_phrases shape 0 calls.takes ++ take_phrase shape (taken_in 0 calls.takes) x
-program-push shape calls x = append-nil (take_phrases shape 0 (calls.takes ++ x ∷ [])) ∙ phrases-push shape 0 calls.takes x
+    take_program shape (and_take calls x) ≡ take_phrases shape first_count calls.takes ++ take_phrase shape (count_taken shape calls) x
+program-push shape calls x = append-nil (take_phrases shape first_count (calls.takes ++ x ∷ [])) ∙ phrases-push shape first_count calls.takes x
 
--- ---- a take that found an item
+-- ---- a take that found items
 
--- the take that found an item so
-abbrev pub take_of : Finding → ℕ → Take
-take_of (Once seen) item = Item seen item
-take_of (Twice seen again) item = ItemAfterClose seen again item
+-- the take that found items so
+abbrev pub take_of : Finding → List ℕ → Take
+take_of (Once seen) items = Item seen items
+take_of (Twice seen again) items = ItemAfterClose seen again items
 
--- it is a take if the item fits
-pub take_of-is : (shape : Shape) (k : ℕ) (look : Finding) (item : ℕ) → Finds shape k look → item < 2 ^ width_of shape → IsTake shape k (take_of look item)
-take_of-is shape k (Once seen) item finds fits = (finds, fits)
-take_of-is shape k (Twice seen again) item (none, finds) fits = (none, finds, fits)
+pub take_of-is : (shape : Shape) (k wanted : ℕ) (look : Finding) (items : List ℕ) → Finds shape k wanted look (length items) → IsTakeBatch shape items → IsTake shape k (take_of look items) × IsTakeOf shape k wanted (take_of look items)
+take_of-is shape k wanted (Once seen) items (finds, all) batch = ((finds, batch), all)
+take_of-is shape k wanted (Twice seen again) items (none, finds, all) batch = ((none, finds, batch), all)
 
--- it takes one item
-pub take_of-takes : (k : ℕ) (look : Finding) (item : ℕ) → taken_after k (take_of look item) ≡ suc k
-take_of-takes k (Once seen) item = refl
-take_of-takes k (Twice seen again) item = refl
+-- its items, its reply and its count
+pub take_of-items : (look : Finding) (items : List ℕ) → taken_of (take_of look items) ≡ items
+take_of-items (Once seen) items = refl
+take_of-items (Twice seen again) items = refl
 
--- it is answered the item
-pub take_of-replies : (look : Finding) (item : ℕ) → take_reply_to (take_of look item) ≡ replies.Item item
-take_of-replies (Once seen) item = refl
-take_of-replies (Twice seen again) item = refl
+pub take_of-replies : (look : Finding) (items : List ℕ) → take_reply_to (take_of look items) ≡ items_reply items
+take_of-replies (Once seen) items = refl
+take_of-replies (Twice seen again) items = refl
 
--- its accesses are those by which it found the item, and then those that take the item
-pub take_of-phrase : (shape : Shape) (k : ℕ) (look : Finding) (item : ℕ) → take_phrase shape k (take_of look item) ≡ finding_phrase look ++ item_phrase shape k item
-take_of-phrase shape k (Once seen) item = refl
-take_of-phrase shape k (Twice seen again) item = refl
+pub take_of-takes : (shape : Shape) (c : Count) (look : Finding) (items : List ℕ) → (count_after shape c (take_of look items)).number ≡ number_past c.number items
+take_of-takes shape c (Once seen) items = refl
+take_of-takes shape c (Twice seen again) items = refl
+
+-- what a take is answered by how many items it took
+pub batched-reply :
+    (calls : Takes) (taking : Bool) (reply : Option TakeReply) (items : List ℕ) → IsReplyToTake calls taking reply → AreItemsOfTake calls taking items →
+    IsBatchReplyToTake calls taking (take_batch_reply reply items)
+batched-reply calls true reply items none any = ap (λ r. take_batch_reply r items) none
+batched-reply calls false reply items replied taken = ap (λ r. take_batch_reply r items) replied ∙ ap (take_batch_reply (reply_at_end calls.end calls.takes)) taken
+
+-- the values with it
+pub values-push :
+    (shape : Shape) (c : Count) (xs : List Take) (look : Finding) (items : List ℕ) →
+    take_values shape c.number (xs ++ take_of look items ∷ []) ≡ take_values shape c.number xs ++ number_past (taken_count shape c xs).number items % modulus_of shape ∷ []
+values-push shape c [] (Once seen) items = refl
+values-push shape c [] (Twice seen again) items = refl
+values-push shape c (Item u i ∷ xs) look items =
+    ap (λ l. number_past c.number i % modulus_of shape ∷ l) (values-push shape (count_after shape c (Item u i)) xs look items)
+values-push shape c (ItemAfterClose u v i ∷ xs) look items =
+    ap (λ l. number_past c.number i % modulus_of shape ∷ l) (values-push shape (count_after shape c (ItemAfterClose u v i)) xs look items)
+values-push shape c (Empty u ∷ xs) look items = values-push shape c xs look items
+
+-- its accesses are those by which it found the items, and then those that take them
+pub take_of-phrase : (shape : Shape) (c : Count) (look : Finding) (items : List ℕ) → take_phrase shape c (take_of look items) ≡ finding_phrase look ++ items_phrase shape c items
+take_of-phrase shape c (Once seen) items = refl
+take_of-phrase shape c (Twice seen again) items = refl
+
+-- the words of items and one more
+pub words_read-push :
+    (shape : Shape) (n : ℕ) (items : List ℕ) (item : ℕ) →
+    words_read shape n (items ++ item ∷ []) ≡ words_read shape n items ++ word_read (width_of shape) ((n + length items) % capacity_of shape) item
+words_read-push shape n [] item =
+    let none : n ≡ n + 0 = omega arith in
+    append-nil (word_read (width_of shape) (n % capacity_of shape) item) ∙ ap (λ k. word_read (width_of shape) (k % capacity_of shape) item) none
+words_read-push shape n (x ∷ xs) item =
+    let word : List Made = word_read (width_of shape) (n % capacity_of shape) x in
+    let numbers : suc n + length xs ≡ n + suc (length xs) = omega arith in
+    ap (λ l. word ++ l) (words_read-push shape (suc n) xs item) ∙ sym (append_assoc word (words_read shape (suc n) xs) _) ∙
+    ap (λ k. (word ++ words_read shape (suc n) xs) ++ word_read (width_of shape) (k % capacity_of shape) item) numbers
+
+-- the words of two lists of items
+pub words_read-append :
+    (shape : Shape) (n : ℕ) (xs ys : List ℕ) → words_read shape n (xs ++ ys) ≡ words_read shape n xs ++ words_read shape (n + length xs) ys
+words_read-append shape n [] ys = let none : n ≡ n + 0 = omega arith in ap (λ k. words_read shape k ys) none
+words_read-append shape n (x ∷ xs) ys =
+    let word : List Made = word_read (width_of shape) (n % capacity_of shape) x in
+    let numbers : suc n + length xs ≡ n + suc (length xs) = omega arith in
+    ap (λ l. word ++ l) (words_read-append shape (suc n) xs ys) ∙ sym (append_assoc word (words_read shape (suc n) xs) _) ∙
+    ap (λ k. (word ++ words_read shape (suc n) xs) ++ words_read shape k ys) numbers
+
+-- items of 0
+abbrev pub zeros : ℕ → List ℕ
+zeros zero = []
+zeros (suc n) = 0 ∷ zeros n
+
+pub zeros-long : (n : ℕ) → length (zeros n) ≡ n
+zeros-long zero = refl
+zeros-long (suc n) = ap suc (zeros-long n)
+
+pub zeros-fit : (shape : Shape) (n : ℕ) → AllFit shape (zeros n)
+zeros-fit shape zero = tt
+zeros-fit shape (suc n) = (pow_pos (width_of shape), zeros-fit shape n)
+
+pub fit-append : (shape : Shape) (xs ys : List ℕ) → AllFit shape xs → AllFit shape ys → AllFit shape (xs ++ ys)
+fit-append shape [] ys fit last = last
+fit-append shape (x ∷ xs) ys (here, fit) last = (here, fit-append shape xs ys fit last)
+
+-- items that fit, and one more
+pub fit-push : (shape : Shape) (items : List ℕ) (item : ℕ) → AllFit shape items → AllFit shape (item ∷ []) → AllFit shape (items ++ item ∷ [])
+fit-push shape [] item fit last = last
+fit-push shape (x ∷ xs) item (here, fit) last = (here, fit-push shape xs item fit last)

@@ -7,8 +7,9 @@ use Rattle.bits_core.specs.Made.{Made, answered}
 use Rattle.register_core.specs.ScanState.{ScanState, LastIsDue, scan_read, due_scan}
 use Rattle.ring_core.specs.declared.consumers.Stage.TheVariants.{Scanning, Rescanning}
 use Rattle.ring_core.specs.Calls.{LastBitIsDue, EndsInZeros, IsScanning}
+use Rattle.ring_core.specs.Counts.{first_count}
 use Rattle.ring_core.specs.Takes.{Takes, take_phrases}
-use Rattle.ring_core.specs.ConsumerState.{ConsumerState, IsConsumer, due_take, is_taking}
+use Rattle.ring_core.specs.ConsumerState.{ConsumerState, IsConsumer, IsTaking, due_take, is_taking}
 use Rattle.ring_core.specs.ConsumerCalls.{ConsumerStands, ConsumerHasMoved}
 use Rattle.ring_core.proofs.MachineParts.{ScanGoesOn}
 use Rattle.ring_core.proofs.NextParts.{scan_reads}
@@ -20,13 +21,16 @@ abbrev pub IsAtScan : ConsumerState → Type 0
 IsAtScan p = (p.stage ≡ Scanning) ⊎ (p.stage ≡ Rescanning)
 
 pub scans_there : (p : ConsumerState) → IsAtScan p → IsConsumer p → IsScanning C (modulus_of p.shape) p.scan
-scans_there p at is = ⊎_elim (λ e. (at_stage p Scanning is e).2) (λ e. (at_stage p Rescanning is e).2) at
+scans_there p at is = ⊎_elim (λ e. (at_stage p Scanning is e).3) (λ e. (at_stage p Rescanning is e).3) at
+
+taking_there : (p : ConsumerState) → IsAtScan p → IsConsumer p → IsTaking p
+taking_there p at is = ⊎_elim (λ e. (at_stage p Scanning is e).1) (λ e. (at_stage p Rescanning is e).1) at
 
 pub next_there :
     (p : ConsumerState) (calls : Takes) (made : List Made) (due : Option Access) → IsAtScan p → IsConsumer p → ConsumerStands p calls made → due ≡ due_scan p.scan →
-    Going p.shape (is_taking p) calls made due
+    Going p.shape p.wanted (is_taking p) calls made due
 next_there p calls made due at is stands due_is =
-    ⊎_elim (λ e. next_scan p calls made due e stands (scans_there p at is) due_is) (λ e. next_rescan p calls made due e stands (scans_there p at is) due_is) at
+    ⊎_elim (λ e. next_scan p calls made due e stands (taking_there p at is) (scans_there p at is) due_is) (λ e. next_rescan p calls made due e stands (taking_there p at is) (scans_there p at is) due_is) at
 
 -- a scan whose due bit was read as 0 goes on
 pub zero_keeps :
@@ -46,7 +50,7 @@ scan_zeros :
     LastIsDue p.scan → EndsInZeros p.shape C made
 scan_zeros p calls made e stands scans (not_found, last) =
     let (rests, reads, scan_stands, made_is) = made_at Scanning p calls made e stands in
-    let front : List Made = take_phrases p.shape 0 calls.takes in
+    let front : List Made = take_phrases p.shape first_count calls.takes in
     (front, p.scan.zeros, last ∙ scans.modulus_is, made_is ∙ ap (λ l. front ++ l) (scan_reads C (modulus_of p.shape) p.scan reads scans scan_stands))
 
 -- where the last bit is due, the scan has read 0 in all bits below

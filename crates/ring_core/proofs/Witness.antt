@@ -17,6 +17,7 @@ use Rattle.bits_core.specs.Lawful.{IsLawful}
 use Rattle.bits_core.specs.Laws.{EmptyIsLawful, LawfulByOneMore}
 use Rattle.bits_core.specs.Shape.{belongs}
 use Rattle.bits_core.specs.Steps.{IsAnswer, MayFollow}
+use Rattle.ring_core.specs.Counts.{take_batch_of}
 use Rattle.ring_core.specs.Items.{items_put_in, items_taken_in, ToldIn}
 use Rattle.ring_core.specs.Puts.{Puts, Stored, Full, ArePuts, FollowsPuts}
 use Rattle.ring_core.specs.Takes.{Takes, Empty, ItemAfterClose, Closed, AreTakes, FollowsTakes}
@@ -88,7 +89,7 @@ abbrev puts : Puts
 puts = record { puts = Stored 0 (1 ∷ []) ∷ Full 0 ∷ []; closes = true }
 
 abbrev takes : Takes
-takes = record { takes = Empty 0 ∷ ItemAfterClose 0 1 1 ∷ []; end = Closed 1 1 }
+takes = record { takes = Empty 0 ∷ ItemAfterClose 0 1 (1 ∷ []) ∷ []; end = Closed 1 1 }
 
 -- The consumer finds the ring empty. The first read of its next take has begun when the producer puts, finds the ring full
 -- and closes; then the consumer takes the item, and is told.
@@ -161,11 +162,11 @@ unfolding one_cell
 puts_follow = record { are = puts_are; events = ([], refl) }
 
 takes_are : AreTakes one_cell 0 takes.takes takes.end
-unfolding one_cell
+unfolding one_cell take_batch_of
 takes_are = (
   (omega arith, λ (low, high). omega (arith, low)),
   (
-    ((omega arith, λ (low, high). omega (arith, low)), (omega arith, (omega arith, omega arith)), omega arith),
+    ((omega arith, λ (low, high). omega (arith, low)), (omega arith, omega arith, omega arith), record { some = omega arith; few = omega arith; fit = (omega arith, tt) }),
     ((omega arith, λ (low, high). omega (arith, low)), (omega arith, λ (low, high). omega (arith, low))),
   ),
 )
@@ -191,7 +192,7 @@ overlapped = record {
 -- the first take has the consumer's events 0 to 3, and the second put the producer's events 8 and 9, behind one item
 finds_empty : FindsEmpty one_cell events takes
 unfolding one_cell
-finds_empty = (0, 0, 0, 4, record { before = []; after = ItemAfterClose 0 1 1 ∷ []; among = refl; number = refl; starts = refl; stops = refl }, four)
+finds_empty = (0, 0, 0, 4, record { before = []; after = ItemAfterClose 0 1 (1 ∷ []) ∷ []; among = refl; number = refl; starts = refl; stops = refl }, four)
   where
     four : 4 ≤ 28
     four = omega arith

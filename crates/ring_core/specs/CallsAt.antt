@@ -9,7 +9,7 @@ use Rattle.ring_core.specs.Puts.{Put, Puts, stored_in, put_phrases}
 use Rattle.ring_core.specs.Takes.{Take, Takes, taken_in, take_phrases}
 use Rattle.ring_core.specs.Items.{events_in}
 pub use Rattle.ring_core.specs.Puts.{stored_by}
-pub use Rattle.ring_core.specs.Items.{item_of, items_ended, puts_begun, puts_ended, takes_begun, takes_ended}
+pub use Rattle.ring_core.specs.Items.{taken_of, items_ended, puts_begun, puts_ended, takes_begun, takes_ended}
 
 -- call x of some, behind n items, has its side's own events from start up to stop: the calls before it have so many phrases and items
 pub record IsCallAt {X : Type 0} (phrases : List X → List Made) (items : List X → ℕ) (calls : List X) (x : X) (n start stop : ℕ) : Type 0 where
@@ -25,7 +25,7 @@ abbrev pub IsPutAt : Shape → Puts → Put → (n start stop : ℕ) → Type 0
 IsPutAt shape calls = IsCallAt (put_phrases shape first_count) (stored_in 0) calls.puts
 
 abbrev pub IsTakeAt : Shape → Takes → Take → (k start stop : ℕ) → Type 0
-IsTakeAt shape calls = IsCallAt (take_phrases shape 0) (taken_in 0) calls.takes
+IsTakeAt shape calls = IsCallAt (take_phrases shape first_count) (taken_in 0) calls.takes
 
 -- some of the accesses of a program, which have its side's own events from start on
 abbrev pub IsPartAt : List Made → List Made → ℕ → Type 0

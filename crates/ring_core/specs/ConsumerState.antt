@@ -1,5 +1,5 @@
 -- What the consumer's machine remembers, and the access that is due.
-use Rattle.std.specs.Prelude.{◌≡◌, ℕ, ◌<◌, Bool, true, false, Option, Some, None}
+use Rattle.std.specs.Prelude.{◌≡◌, ℕ, ◌+◌, ◌%◌, ◌<◌, ◌≤◌, Bool, true, false, Option, Some, None, List, [], length}
 use Rattle.bits_core.specs.declared.events.Side.TheVariants.{C}
 use Rattle.bits_core.specs.declared.events.Bit.TheVariants.{X}
 use Rattle.bits_core.specs.declared.events.Access.{Access}
@@ -9,13 +9,15 @@ use Rattle.bits_core.specs.Shape.{capacity_of, modulus_of, width_of}
 use Rattle.register_core.specs.ScanState.{ScanState, due_scan}
 use Rattle.register_core.specs.WordState.{ReaderState, due_read}
 use Rattle.register_core.specs.UnaryState.{UnaryState, due_unary}
-use Rattle.ring_core.specs.Calls.{IsScanning, IsCounted, IsBeingCounted}
+use Rattle.ring_core.specs.Calls.{IsScanning, IsCounted, IsBeingCountedOn}
+use Rattle.ring_core.specs.Counts.{take_batch_of}
 use Rattle.ring_core.specs.declared.consumers.TakeReply.{TakeReply}
 use Rattle.ring_core.specs.declared.consumers.Stage.{Stage}
 use Rattle.ring_core.specs.declared.consumers.Stage.TheVariants.{Idle, Scanning, Checking, Rescanning, Loading, Counting}
 
 -- the shape, the two counts' remainders by the modulus and by the capacity, the machines of the take under way or of the
--- last one, whether a take was told that the ring is closed, and what the last take was answered
+-- last one, whether a take was told that the ring is closed, the items that the take under way has read, or the last one
+-- took, the most that it was asked for, how many it takes, and what the last take was answered
 pub record ConsumerState : Type 0 where
   pub shape : Shape
   pub count : ℕ
@@ -25,6 +27,9 @@ pub record ConsumerState : Type 0 where
   pub word : ReaderState
   pub row : UnaryState
   pub told : Bool
+  pub items : List ℕ
+  pub wanted : ℕ
+  pub most : ℕ
   pub reply : Option TakeReply
 
 -- the access that is due, by the stage
@@ -58,24 +63,34 @@ takes_at Counting = true
 abbrev pub is_taking : ConsumerState → Bool
 is_taking p = takes_at p.stage
 
--- a take is under way
+-- the take under way has read some items, and the first digit of the next cell is due
+pub record IsBetweenWords (p : ConsumerState) : Type 0 where
+  pub stage_is : p.stage ≡ Loading
+  pub unread : p.word.read ≡ 0
+  pub some : 1 ≤ length p.items
+
+-- a take is under way, of some items
 pub record IsTaking (p : ConsumerState) : Type 0 where
   pub not_told : p.told ≡ false
   pub not_answered : p.reply ≡ None
+  pub some : 1 ≤ p.wanted
+  pub few : p.wanted ≤ take_batch_of p.shape
 
--- the word machine reads the consumer's cell
+-- the word machine reads the cell behind those read
 pub record IsLoading (p : ConsumerState) : Type 0 where
   pub width_is : p.word.width ≡ width_of p.shape
-  pub cell_is : p.word.cell ≡ p.cell
+  pub cell_is : p.word.cell ≡ (p.cell + length p.items) % capacity_of p.shape
 
 -- what holds at each stage
 abbrev pub ConsumerIsAt : Stage → ConsumerState → Type 0
 ConsumerIsAt Idle p = IsCounted p.row p.count
-ConsumerIsAt Scanning p = IsCounted p.row p.count × IsTaking p × IsScanning C (modulus_of p.shape) p.scan
-ConsumerIsAt Checking p = IsCounted p.row p.count × IsTaking p
-ConsumerIsAt Rescanning p = IsCounted p.row p.count × IsTaking p × IsScanning C (modulus_of p.shape) p.scan
-ConsumerIsAt Loading p = IsCounted p.row p.count × IsTaking p × IsLoading p × (p.word.read < p.word.width)
-ConsumerIsAt Counting p = IsBeingCounted p.row (modulus_of p.shape) p.count × IsTaking p × IsLoading p × (p.word.read ≡ p.word.width)
+ConsumerIsAt Scanning p = IsCounted p.row p.count × IsTaking p × (p.items ≡ []) × IsScanning C (modulus_of p.shape) p.scan
+ConsumerIsAt Checking p = IsCounted p.row p.count × IsTaking p × (p.items ≡ [])
+ConsumerIsAt Rescanning p = IsCounted p.row p.count × IsTaking p × (p.items ≡ []) × IsScanning C (modulus_of p.shape) p.scan
+ConsumerIsAt Loading p =
+    IsCounted p.row p.count × IsTaking p × IsLoading p × (length p.items < p.most) × (p.most ≤ p.wanted) × (p.word.read < p.word.width)
+ConsumerIsAt Counting p =
+    IsBeingCountedOn p.row (modulus_of p.shape) p.count p.most × IsTaking p × (1 ≤ p.most) × (length p.items ≡ p.most) × (p.most ≤ p.wanted)
 
 pub record IsConsumer (p : ConsumerState) : Type 0 where
   pub count_below : p.count < modulus_of p.shape

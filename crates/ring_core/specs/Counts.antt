@@ -1,8 +1,9 @@
 -- The two counts of a ring, modulo its modulus.
 use Rattle.std.specs.Prelude.{◌≡◌, ℕ, zero, suc, ◌+◌, ◌-◌, ◌%◌, ◌<◌, ◌≤◌, Bool, true, false, List, [], ◌∷◌, ◌++◌}
 use Rattle.bits_core.specs.declared.events.Side.{Side}
+use Rattle.bits_core.specs.declared.events.Side.TheVariants.{P, C}
 use Rattle.bits_core.specs.declared.shapes.Shape.{Shape}
-use Rattle.bits_core.specs.Shape.{capacity_of, modulus_of}
+use Rattle.bits_core.specs.Shape.{batch_of, capacity_of, modulus_of}
 use Rattle.bits_core.specs.Made.{Made}
 use Rattle.register_core.specs.Phrases.{RowWrite, row_bit, first_bits, bits_after, writes_in, unary_phrase}
 
@@ -23,6 +24,15 @@ abbrev pub LeavesRoomFor : Shape → ℕ → ℕ → ℕ → Type 0
 LeavesRoomFor shape n d m = distance (modulus_of shape) n d + m ≤ capacity_of shape
 
 -- ---- a count whose writes count several items
+
+-- how many items one count write of the consumer may count
+unfoldable pub take_batch_of : Shape → ℕ
+take_batch_of shape = 1
+
+-- and one of a side
+abbrev pub batch_by : Shape → Side → ℕ
+batch_by shape P = batch_of shape
+batch_by shape C = take_batch_of shape
 
 -- the number of what comes behind these items, the first of which has number n
 abbrev pub number_past : ℕ → List ℕ → ℕ

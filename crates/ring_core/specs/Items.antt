@@ -1,12 +1,12 @@
 -- What was put, taken and told among the first events of the calls of a side.
-use Rattle.std.specs.Prelude.{◌≡◌, ℕ, ◌-◌, ◌*◌, ◌≤◌, nat_lt, nat_le, Option, Some, None, List, [], ◌∷◌, ◌++◌, length, filter_map, if◌then◌else◌}
+use Rattle.std.specs.Prelude.{◌≡◌, ℕ, ◌-◌, ◌*◌, ◌≤◌, nat_lt, nat_le, List, [], ◌∷◌, ◌++◌, length, if◌then◌else◌}
 use Rattle.bits_core.specs.declared.events.Side.TheVariants.{P, C}
 use Rattle.bits_core.specs.declared.events.Event.{Event}
 use Rattle.bits_core.specs.declared.shapes.Shape.{Shape}
 use Rattle.bits_core.specs.Made.{Made, own}
-use Rattle.ring_core.specs.Counts.{Count, first_count, count_phrase}
+use Rattle.ring_core.specs.Counts.{Count, first_count}
 use Rattle.ring_core.specs.Puts.{Put, Stored, Full, stored_after, accesses_before_count, put_phrase, Puts, FollowsPuts}
-use Rattle.ring_core.specs.Takes.{Take, Item, ItemAfterClose, Empty, End, Open, Closed, taken_after, take_phrase, take_program, Takes, FollowsTakes}
+use Rattle.ring_core.specs.Takes.{Take, Item, ItemAfterClose, Empty, End, Open, Closed, count_after, accesses_before_word, words_read, take_phrase, take_program, Takes, FollowsTakes}
 
 -- how many events these accesses have
 abbrev pub events_in : List Made → ℕ
@@ -33,29 +33,33 @@ all_put [] = []
 all_put (Stored seen items ∷ puts) = items ++ all_put puts
 all_put (Full seen ∷ puts) = all_put puts
 
--- the item that a take takes
-abbrev pub item_of : Take → Option ℕ
-item_of (Item seen item) = Some item
-item_of (ItemAfterClose seen again item) = Some item
-item_of (Empty seen) = None
+-- the items that a take takes
+abbrev pub taken_of : Take → List ℕ
+taken_of (Item seen items) = items
+taken_of (ItemAfterClose seen again items) = items
+taken_of (Empty seen) = []
 
 -- the items of all these takes
 abbrev pub all_taken : List Take → List ℕ
 all_taken [] = []
-all_taken (Item seen item ∷ takes) = item ∷ all_taken takes
-all_taken (ItemAfterClose seen again item ∷ takes) = item ∷ all_taken takes
-all_taken (Empty seen ∷ takes) = all_taken takes
+all_taken (x ∷ takes) = taken_of x ++ all_taken takes
 
--- the item of a take, once it has ended
-abbrev pub take_ended : Shape → ℕ → Take → ℕ → List ℕ
-take_ended shape k (Item seen item) t = (if nat_le (events_in (take_phrase shape k (Item seen item))) t then item ∷ [] else [])
-take_ended shape k (ItemAfterClose seen again item) t =
-    (if nat_le (events_in (take_phrase shape k (ItemAfterClose seen again item))) t then item ∷ [] else [])
-take_ended shape k (Empty seen) t = []
+-- the items of a take, once it has ended
+abbrev pub take_ended : Shape → Count → Take → ℕ → List ℕ
+take_ended shape c (Item seen items) t = (if nat_le (events_in (take_phrase shape c (Item seen items))) t then items else [])
+take_ended shape c (ItemAfterClose seen again items) t = (if nat_le (events_in (take_phrase shape c (ItemAfterClose seen again items))) t then items else [])
+take_ended shape c (Empty seen) t = []
 
--- the items of the takes that have ended within the first t events, where k items were taken before them
-abbrev pub items_taken : Shape → ℕ → List Take → ℕ → List ℕ
-items_taken shape = gathered (take_ended shape) (take_phrase shape) taken_after
+-- and once its count write has begun
+abbrev pub take_begun : Shape → Count → Take → ℕ → List ℕ
+take_begun shape c (Item seen items) t = (if nat_lt (events_in (accesses_before_word (Item seen items) ++ words_read shape c.number items)) t then items else [])
+take_begun shape c (ItemAfterClose seen again items) t =
+    (if nat_lt (events_in (accesses_before_word (ItemAfterClose seen again items) ++ words_read shape c.number items)) t then items else [])
+take_begun shape c (Empty seen) t = []
+
+-- the items of the takes that have ended within the first t events, behind the consumer's count
+abbrev pub items_taken : Shape → Count → List Take → ℕ → List ℕ
+items_taken shape = gathered (take_ended shape) (take_phrase shape) (count_after shape)
 
 -- the items of the puts that have ended within the first t events, behind the producer's count
 abbrev pub items_ended : Shape → Count → List Put → ℕ → List ℕ
@@ -68,14 +72,11 @@ puts_begun shape calls t = length (items_put shape first_count calls.puts t)
 abbrev pub puts_ended : Shape → Puts → ℕ → ℕ
 puts_ended shape calls t = length (items_ended shape first_count calls.puts t)
 
--- the last accesses of a take of an item are its count write
 abbrev pub takes_begun : Shape → Takes → ℕ → ℕ
-takes_begun shape calls t =
-    length (gathered (λ k x t. if nat_lt (events_in (take_phrase shape k x) - events_in (count_phrase shape C k)) t then filter_map item_of (x ∷ []) else [])
-    (take_phrase shape) taken_after 0 calls.takes t)
+takes_begun shape calls t = length (gathered (take_begun shape) (take_phrase shape) (count_after shape) first_count calls.takes t)
 
 abbrev pub takes_ended : Shape → Takes → ℕ → ℕ
-takes_ended shape calls t = length (items_taken shape 0 calls.takes t)
+takes_ended shape calls t = length (items_taken shape first_count calls.takes t)
 
 -- ---- told
 
@@ -94,7 +95,7 @@ abbrev pub items_put_in : Shape → List Event → Puts → List ℕ
 items_put_in shape h calls = items_put shape first_count calls.puts (length (own P h))
 
 abbrev pub items_taken_in : Shape → List Event → Takes → List ℕ
-items_taken_in shape h calls = items_taken shape 0 calls.takes (length (own C h))
+items_taken_in shape h calls = items_taken shape first_count calls.takes (length (own C h))
 
 abbrev pub ToldIn : Shape → List Event → Takes → Type 0
 ToldIn shape h calls = IsTold shape calls (length (own C h))

@@ -1,10 +1,11 @@
 -- How many accesses a call has at most.
-use Rattle.std.specs.Prelude.{ℕ, ◌+◌, ◌*◌, ◌≤◌, List, [], ◌∷◌, length}
+use Rattle.std.specs.Prelude.{ℕ, zero, suc, ◌+◌, ◌*◌, ◌≤◌, List, [], ◌∷◌, length}
 use Rattle.bits_core.specs.declared.shapes.Shape.{Shape}
 use Rattle.bits_core.specs.Shape.{modulus_of, width_of}
 use Rattle.ring_core.specs.Counts.{Count, IsCount}
 use Rattle.ring_core.specs.Puts.{Stored, Full, put_phrase, IsPut}
 use Rattle.ring_core.specs.Takes.{Take, Closed, take_phrase, end_phrase, IsTake, SeesNone}
+use Rattle.ring_core.specs.Items.{taken_of}
 
 -- the most accesses of a put: a scan, a word write and two writes of the count
 abbrev pub longest_put : Shape → ℕ
@@ -17,6 +18,13 @@ longest_take shape = 2 * modulus_of shape + width_of shape + 3
 -- the most accesses of a put of m items: a scan, m word writes, and a write of the count
 abbrev pub longest_batch : Shape → ℕ → ℕ
 longest_batch shape m = 2 * modulus_of shape + m * width_of shape
+
+-- the most accesses of a take of m items, where they are several: two scans, a read of the close bit, m word reads, and a write of
+-- the count
+abbrev pub longest_taking : Shape → ℕ → ℕ
+longest_taking shape zero = longest_take shape
+longest_taking shape (suc zero) = longest_take shape
+longest_taking shape (suc (suc m)) = 3 * modulus_of shape + suc (suc m) * width_of shape + 1
 
 -- a put of one item has no more than the former, and any put no more than the latter
 abbrev pub ItemPutsAreShort : Type 0
@@ -33,7 +41,9 @@ PutsAreShort =
     length (put_phrase shape c (Stored seen items)) ≤ longest_batch shape (length items)
 
 abbrev pub TakesAreShort : Type 0
-TakesAreShort = (shape : Shape) (k : ℕ) (x : Take) → IsTake shape k x → length (take_phrase shape k x) ≤ longest_take shape
+TakesAreShort =
+    (shape : Shape) (c : Count) (x : Take) → IsCount shape c → IsTake shape c.number x →
+    length (take_phrase shape c x) ≤ longest_taking shape (length (taken_of x))
 
 abbrev pub EndsAreShort : Type 0
 EndsAreShort =

@@ -1,18 +1,17 @@
 -- Linearizability (Herlihy and Wing, 1990): the calls of the two sides, which overlap, answer as the operations of a queue do
 -- that come one after the other, in an order that keeps the time of the calls.
-use Rattle.std.specs.Prelude.{◌≡◌, ℕ, suc, ◌+◌, ◌%◌, ◌≤◌, Bool, true, false, List, [], ◌∷◌, ◌++◌, length, filter, map, nat_le, if◌then◌else◌}
+use Rattle.std.specs.Prelude.{◌≡◌, ℕ, suc, ◌+◌, ◌≤◌, Bool, true, false, List, [], ◌∷◌, ◌++◌, length, filter, map, nat_le, if◌then◌else◌}
 use Rattle.queue_calls.specs.Queue.{Does, Enqueue, FindFull, Close, Dequeue, FindEmpty, FindClosed, exactly, queue, IsLegal}
 use Rattle.bits_core.specs.declared.events.Side.{Side}
 use Rattle.bits_core.specs.declared.events.Side.TheVariants.{P, C}
 use Rattle.bits_core.specs.declared.events.Event.{Event}
 use Rattle.bits_core.specs.declared.shapes.Shape.{Shape}
-use Rattle.bits_core.specs.Shape.{capacity_of, width_of}
+use Rattle.bits_core.specs.Shape.{capacity_of}
 use Rattle.bits_core.specs.Bits.{same_side}
 use Rattle.bits_core.specs.Made.{own, clock}
-use Rattle.register_core.specs.Word.{word_read}
 use Rattle.ring_core.specs.Counts.{Count, first_count}
 use Rattle.ring_core.specs.Puts.{Put, Stored, Full, Puts, stored_after, accesses_before_count, put_phrase, close_phrase}
-use Rattle.ring_core.specs.Takes.{Take, Item, ItemAfterClose, Empty, End, Open, Closed, Takes, taken_after, accesses_before_word, take_phrase, end_phrase}
+use Rattle.ring_core.specs.Takes.{Take, Item, ItemAfterClose, Empty, End, Open, Closed, Takes, count_after, words_read, accesses_before_word, take_phrase, end_phrase}
 use Rattle.ring_core.specs.Items.{events_in}
 use Rattle.ring_core.specs.RingLaw.{IsRun}
 
@@ -40,8 +39,8 @@ put_does (Stored seen items) = map Enqueue items
 put_does (Full seen) = FindFull ∷ []
 
 abbrev pub take_does : Take → List Does
-take_does (Item seen item) = Dequeue item ∷ []
-take_does (ItemAfterClose seen again item) = Dequeue item ∷ []
+take_does (Item seen items) = map Dequeue items
+take_does (ItemAfterClose seen again items) = map Dequeue items
 take_does (Empty seen) = FindEmpty ∷ []
 
 -- a call that passes items takes effect with the first event of its count write, any other with its last event
@@ -49,11 +48,11 @@ abbrev pub put_effect : Shape → Count → Put → ℕ
 put_effect shape c (Stored seen items) = suc (events_in (accesses_before_count shape c.number seen items))
 put_effect shape c (Full seen) = events_in (put_phrase shape c (Full seen))
 
-abbrev pub take_effect : Shape → ℕ → Take → ℕ
-take_effect shape k (Item seen item) = suc (events_in (accesses_before_word (Item seen item) ++ word_read (width_of shape) (k % capacity_of shape) item))
-take_effect shape k (ItemAfterClose seen again item) =
-    suc (events_in (accesses_before_word (ItemAfterClose seen again item) ++ word_read (width_of shape) (k % capacity_of shape) item))
-take_effect shape k (Empty seen) = events_in (take_phrase shape k (Empty seen))
+abbrev pub take_effect : Shape → Count → Take → ℕ
+take_effect shape c (Item seen items) = suc (events_in (accesses_before_word (Item seen items) ++ words_read shape c.number items))
+take_effect shape c (ItemAfterClose seen again items) =
+    suc (events_in (accesses_before_word (ItemAfterClose seen again items) ++ words_read shape c.number items))
+take_effect shape c (Empty seen) = events_in (take_phrase shape c (Empty seen))
 
 -- the operations of puts and of the close behind them, from own event start on, behind the producer's count; a close takes effect
 -- with its first event
@@ -65,13 +64,13 @@ put_operations shape c start (x ∷ puts) closes t =
     put_operations shape (stored_after shape c x) (start + events_in (put_phrase shape c x)) puts closes t
 
 -- the operations of takes and of their end, behind k taken items
-abbrev pub take_operations : Shape → ℕ → ℕ → List Take → End → ℕ → List Operation
-take_operations shape k start [] Open t = []
-take_operations shape k start [] (Closed seen again) t =
+abbrev pub take_operations : Shape → Count → ℕ → List Take → End → ℕ → List Operation
+take_operations shape c start [] Open t = []
+take_operations shape c start [] (Closed seen again) t =
     call_operations C start (events_in (end_phrase (Closed seen again))) (events_in (end_phrase (Closed seen again))) t (FindClosed ∷ [])
-take_operations shape k start (x ∷ takes) end t =
-    call_operations C start (events_in (take_phrase shape k x)) (take_effect shape k x) t (take_does x) ++
-    take_operations shape (taken_after k x) (start + events_in (take_phrase shape k x)) takes end t
+take_operations shape c start (x ∷ takes) end t =
+    call_operations C start (events_in (take_phrase shape c x)) (take_effect shape c x) t (take_does x) ++
+    take_operations shape (count_after shape c x) (start + events_in (take_phrase shape c x)) takes end t
 
 -- ---- linearizability
 
@@ -95,7 +94,7 @@ KeepsTime h order = (a b : Operation) (front between rest : List Operation) → 
 -- empty and open at first; and they keep the time of the calls
 pub record IsLinearization (shape : Shape) (h : List Event) (puts : Puts) (takes : Takes) (order : List Operation) : Type 0 where
   pub producer : of_side P order ≡ put_operations shape first_count 0 puts.puts puts.closes (length (own P h))
-  pub consumer : of_side C order ≡ take_operations shape 0 0 takes.takes takes.end (length (own C h))
+  pub consumer : of_side C order ≡ take_operations shape first_count 0 takes.takes takes.end (length (own C h))
   pub legal : IsLegal (exactly (capacity_of shape)) (queue [] false) (done_by order)
   pub keeps_time : KeepsTime h order
 

@@ -5,8 +5,10 @@ use Rattle.bits_core.specs.declared.shapes.Shape.{Shape}
 use Rattle.bits_core.specs.Made.{Write}
 use Rattle.ring_core.specs.Puts.{Put, Puts, put_phrase, put_program, stored_after, IsPut, ArePuts}
 use Rattle.ring_core.specs.ProducerCalls.{count_of, and_put, and_close}
-use Rattle.ring_core.specs.Takes.{Take, Takes, Open, Closed, taken_in, taken_after, take_phrase, end_phrase, take_program, SeesNone, IsTake, AreTakes}
-use Rattle.ring_core.specs.ConsumerCalls.{and_take, and_end, take_reply_to, reply_at_end}
+use Rattle.ring_core.specs.Takes.{Take, Takes, Open, Closed, count_after, take_phrase, end_phrase, take_program, SeesNone, IsTake, AreTakes}
+use Rattle.ring_core.specs.Items.{taken_of}
+use Rattle.ring_core.specs.ConsumerCalls as takes
+use Rattle.ring_core.specs.ConsumerCalls.{and_take, and_end, IsTakeOf, reply_items, take_reply_to, reply_at_end, items_at_end}
 
 -- the calls and one put more: they are puts, their count is that after the put, and its accesses follow theirs
 pub record HasPutMore (shape : Shape) (calls : Puts) (x : Put) : Type 0 where
@@ -21,15 +23,16 @@ PutsByOneMore = (shape : Shape) (calls : Puts) (x : Put) → ArePuts shape 0 cal
 abbrev pub ClosesByOneMore : Type 0
 ClosesByOneMore = (shape : Shape) (calls : Puts) → calls.closes ≡ false → put_program shape (and_close calls) ≡ put_program shape calls ++ Write X true ∷ []
 
--- the calls and one take more: they are takes, its reply is theirs, and its accesses follow theirs
+-- the calls and one take more: they are takes, its reply and its items are theirs, and its accesses follow theirs
 pub record HasOneTakeMore (shape : Shape) (calls : Takes) (x : Take) : Type 0 where
   pub are : AreTakes shape 0 (and_take calls x).takes Open
-  pub taken_is : taken_in 0 (and_take calls x).takes ≡ taken_after (taken_in 0 calls.takes) x
+  pub count_is : takes.count_taken shape (and_take calls x) ≡ count_after shape (takes.count_taken shape calls) x
   pub reply_is : reply_at_end Open (and_take calls x).takes ≡ Some (take_reply_to x)
-  pub program_is : take_program shape (and_take calls x) ≡ take_program shape calls ++ take_phrase shape (taken_in 0 calls.takes) x
+  pub items_are : items_at_end Open (and_take calls x).takes ≡ taken_of x
+  pub program_is : take_program shape (and_take calls x) ≡ take_program shape calls ++ take_phrase shape (takes.count_taken shape calls) x
 
 abbrev pub TakesByOneMore : Type 0
-TakesByOneMore = (shape : Shape) (calls : Takes) (x : Take) → AreTakes shape 0 calls.takes calls.end → calls.end ≡ Open → IsTake shape (taken_in 0 calls.takes) x → HasOneTakeMore shape calls x
+TakesByOneMore = (shape : Shape) (calls : Takes) (x : Take) → AreTakes shape 0 calls.takes calls.end → calls.end ≡ Open → IsTake shape (takes.count_taken shape calls).number x → HasOneTakeMore shape calls x
 
 -- the calls and the take that is told the ring is closed
 pub record HasEndMore (shape : Shape) (calls : Takes) (seen again : ℕ) : Type 0 where
@@ -39,4 +42,10 @@ pub record HasEndMore (shape : Shape) (calls : Takes) (seen again : ℕ) : Type 
 abbrev pub EndsByOneMore : Type 0
 EndsByOneMore =
     (shape : Shape) (calls : Takes) (seen again : ℕ) → AreTakes shape 0 calls.takes calls.end → calls.end ≡ Open →
-    SeesNone shape (taken_in 0 calls.takes) seen → SeesNone shape (taken_in 0 calls.takes) again → HasEndMore shape calls seen again
+    SeesNone shape (takes.count_taken shape calls).number seen → SeesNone shape (takes.count_taken shape calls).number again → HasEndMore shape calls seen again
+
+-- a take of at most one item that is one more takes just what its reply tells
+abbrev pub TakesOfOne : Type 0
+TakesOfOne =
+    (shape : Shape) (calls : Takes) (x : Take) → AreTakes shape 0 (and_take calls x).takes Open → IsTakeOf shape (takes.count_taken shape calls).number 1 x →
+    taken_of x ≡ reply_items (take_reply_to x)

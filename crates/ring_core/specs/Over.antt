@@ -7,7 +7,7 @@ use Rattle.bits_core.specs.Made.{own}
 use Rattle.ring_core.specs.Counts.{Count, first_count}
 use Rattle.ring_core.specs.Items.{events_in}
 use Rattle.ring_core.specs.Puts.{Put, Stored, Full, stored_after, put_phrase, Puts, FollowsPuts}
-use Rattle.ring_core.specs.Takes.{Take, Item, ItemAfterClose, Empty, taken_after, take_phrase, Takes, FollowsTakes}
+use Rattle.ring_core.specs.Takes.{Take, Item, ItemAfterClose, Empty, count_after, take_phrase, Takes, FollowsTakes}
 
 -- the first of some calls, as many as have ended within t events: each has so many events behind a state, and leaves another
 abbrev pub over : {S X : Type 0} → (S → X → ℕ) → (S → X → S) → S → List X → ℕ → List X
@@ -19,14 +19,14 @@ abbrev pub puts_over_in : Shape → List Event → Puts → List Put
 puts_over_in shape h calls = over (λ c x. events_in (put_phrase shape c x)) (stored_after shape) first_count calls.puts (length (own P h))
 
 abbrev pub takes_over_in : Shape → List Event → Takes → List Take
-takes_over_in shape h calls = over (λ k x. events_in (take_phrase shape k x)) taken_after 0 calls.takes (length (own C h))
+takes_over_in shape h calls = over (λ c x. events_in (take_phrase shape c x)) (count_after shape) first_count calls.takes (length (own C h))
 
 -- the same of lists of calls within the first t events: of puts behind the producer's count, and of takes behind k items
 abbrev pub puts_over : Shape → Count → List Put → ℕ → List Put
 puts_over shape = over (λ c x. events_in (put_phrase shape c x)) (stored_after shape)
 
-abbrev pub takes_over : Shape → ℕ → List Take → ℕ → List Take
-takes_over shape = over (λ k x. events_in (take_phrase shape k x)) taken_after
+abbrev pub takes_over : Shape → Count → List Take → ℕ → List Take
+takes_over shape = over (λ c x. events_in (take_phrase shape c x)) (count_after shape)
 
 -- how many of these puts found the ring full, and how many of these takes found it empty
 abbrev pub fulls : List Put → ℕ

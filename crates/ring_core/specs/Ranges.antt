@@ -8,6 +8,7 @@ use Rattle.bits_core.specs.Shape.{batch_of, capacity_of, modulus_of}
 use Rattle.bits_core.specs.Bits.{other}
 use Rattle.bits_core.specs.Made.{own, clock, IsPlaceOf, IsBeginning}
 use Rattle.register_core.specs.Phrases.{scan_phrase, row_read_by}
+use Rattle.ring_core.specs.Counts.{take_batch_of}
 use Rattle.ring_core.specs.Puts.{Puts, stored_in, put_program}
 use Rattle.ring_core.specs.Takes.{Takes, taken_in, take_program}
 use Rattle.ring_core.specs.Items.{puts_begun, puts_ended, takes_begun, takes_ended}
@@ -30,12 +31,12 @@ pub record ReadsCount {X : Type 0}
   pub low : least ≤ items counted
   pub high : items counted ≤ most
 
--- an ended scan of the producer, behind n items, reads a count from n - capacity - 1 to n
+-- an ended scan of the producer, behind n items, reads a count from n - capacity - take batch to n
 abbrev pub PutsAreInRange : Shape → List Event → Puts → Takes → Type 0
 PutsAreInRange shape h puts takes =
     (n start seen : ℕ) → IsPartAt (put_program shape puts) (scan_phrase (row_read_by P) seen) start → start + scan_events P seen ≤ length (own P h) →
     n ≡ puts_begun shape puts start →
-    ReadsCount P shape h start seen takes.takes (taken_in 0) (takes_ended shape takes) (takes_begun shape takes) (n - (capacity_of shape + 1)) n
+    ReadsCount P shape h start seen takes.takes (taken_in 0) (takes_ended shape takes) (takes_begun shape takes) (n - (capacity_of shape + take_batch_of shape)) n
 
 -- an ended scan of the consumer, behind k items, reads a count from k - batch to k + capacity
 abbrev pub TakesAreInRange : Shape → List Event → Puts → Takes → Type 0

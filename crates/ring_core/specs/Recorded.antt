@@ -11,9 +11,10 @@ use Rattle.bits_core.specs.declared.shapes.Shape.{Shape}
 use Rattle.bits_core.specs.Shape.{capacity_of}
 use Rattle.ring_core.specs.Counts.{Count, first_count}
 use Rattle.ring_core.specs.Puts.{Put, Stored, Full, Puts, IsPutOf, number_after, stored_after, put_phrase, close_phrase}
-use Rattle.ring_core.specs.Takes.{Take, Item, ItemAfterClose, Empty, End, Open, Closed, Takes, taken_after, take_phrase, end_phrase}
+use Rattle.ring_core.specs.Takes.{Take, Item, ItemAfterClose, Empty, End, Open, Closed, Takes, count_after, take_phrase, end_phrase}
 use Rattle.ring_core.specs.Items.{events_in}
 use Rattle.ring_core.specs.RingLaw.{IsRun}
+use Rattle.ring_core.specs.GoingOn.{AreWanted}
 
 -- how a put ends, and how a take does
 abbrev pub put_answer : Put → calls.Event
@@ -21,8 +22,8 @@ put_answer (Stored seen items) = PutStored (length items) true
 put_answer (Full seen) = PutFull
 
 abbrev pub take_answer : Take → calls.Event
-take_answer (Item seen item) = TakeItems (item ∷ []) true
-take_answer (ItemAfterClose seen again item) = TakeItems (item ∷ []) true
+take_answer (Item seen items) = TakeItems items true
+take_answer (ItemAfterClose seen again items) = TakeItems items true
 take_answer (Empty seen) = TakeEmpty
 
 -- what event number i of a call tells, counted from 0, of a call that has so many
@@ -42,13 +43,13 @@ put_told shape offers j c (x ∷ puts) closes i =
     told_or_behind (events_in (put_phrase shape c x)) (PutBegin (offers j)) (put_answer x) i
     (put_told shape offers (suc j) (stored_after shape c x) puts closes (i - events_in (put_phrase shape c x)))
 
--- what the consumer's own event number i tells; each take wants one item
-abbrev pub take_told : Shape → ℕ → List Take → End → ℕ → List calls.Event
-take_told shape k [] Open i = []
-take_told shape k [] (Closed seen again) i = told_or_behind (events_in (end_phrase (Closed seen again))) (TakeBegin 1) TakeClosed i []
-take_told shape k (x ∷ takes) end i =
-    told_or_behind (events_in (take_phrase shape k x)) (TakeBegin 1) (take_answer x) i
-    (take_told shape (taken_after k x) takes end (i - events_in (take_phrase shape k x)))
+-- what the consumer's own event number i tells, of takes from number j on, each of which wants at most so many items by its number
+abbrev pub take_told : Shape → (ℕ → ℕ) → ℕ → Count → List Take → End → ℕ → List calls.Event
+take_told shape wants j c [] Open i = []
+take_told shape wants j c [] (Closed seen again) i = told_or_behind (events_in (end_phrase (Closed seen again))) (TakeBegin (wants j)) TakeClosed i []
+take_told shape wants j c (x ∷ takes) end i =
+    told_or_behind (events_in (take_phrase shape c x)) (TakeBegin (wants j)) (take_answer x) i
+    (take_told shape wants (suc j) (count_after shape c x) takes end (i - events_in (take_phrase shape c x)))
 
 -- one of two, by the side
 abbrev pub by_side : {A : Type 0} → Side → A → A → A
@@ -62,16 +63,18 @@ calls_told put_told take_told p c (e ∷ h) =
     by_side e.side (put_told p) (take_told c) ++ calls_told put_told take_told (by_side e.side (suc p) p) (by_side e.side c (suc c)) h
 
 -- the recorded calls of a history; the last of a side may have begun and not ended
-abbrev pub recorded : Shape → (ℕ → List ℕ) → List Event → Puts → Takes → List calls.Event
-recorded shape offers h puts takes = calls_told (put_told shape offers 0 first_count puts.puts puts.closes) (take_told shape 0 takes.takes takes.end) 0 0 h
+abbrev pub recorded : Shape → (ℕ → List ℕ) → (ℕ → ℕ) → List Event → Puts → Takes → List calls.Event
+recorded shape offers wants h puts takes =
+    calls_told (put_told shape offers 0 first_count puts.puts puts.closes) (take_told shape wants 0 first_count takes.takes takes.end) 0 0 h
 
 -- each of these puts, from number j on and behind n items, is one of the items that it is offered
 abbrev pub AreOffered : Shape → (ℕ → List ℕ) → (j n : ℕ) → List Put → Type 0
 AreOffered shape offers j n [] = Unit {0}
 AreOffered shape offers j n (x ∷ puts) = (0 < length (offers j)) × IsPutOf shape n (offers j) x × AreOffered shape offers (suc j) (number_after n x) puts
 
--- the recorded calls of every run are linearizable, as those of a queue of the ring's capacity
+-- the recorded calls of every run, each take of which wants some items, are linearizable, as those of a queue of the ring's capacity
 abbrev pub RecordedIsLinearizable : Type 0
 RecordedIsLinearizable =
-    (shape : Shape) (offers : ℕ → List ℕ) (h : List Event) (puts : Puts) (takes : Takes) → IsRun shape h puts takes → AreOffered shape offers 0 0 puts.puts →
-    calls.IsLinearizable (exactly (capacity_of shape)) (recorded shape offers h puts takes)
+    (shape : Shape) (offers : ℕ → List ℕ) (wants : ℕ → ℕ) (h : List Event) (puts : Puts) (takes : Takes) →
+    IsRun shape h puts takes → AreOffered shape offers 0 0 puts.puts → ((j : ℕ) → 0 < wants j) → AreWanted shape wants 0 0 takes.takes →
+    calls.IsLinearizable (exactly (capacity_of shape)) (recorded shape offers wants h puts takes)

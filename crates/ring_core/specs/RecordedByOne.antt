@@ -15,7 +15,7 @@ abbrev pub events_of_puts : Shape → List Put → ℕ
 events_of_puts shape puts = events_in (put_phrases shape first_count puts)
 
 abbrev pub events_of_takes : Shape → List Take → ℕ
-events_of_takes shape takes = events_in (take_phrases shape 0 takes)
+events_of_takes shape takes = events_in (take_phrases shape first_count takes)
 
 -- a call begins with the event: those over before it have all events before it
 abbrev pub PutBegins : Shape → (ℕ → List ℕ) → Puts → (i : ℕ) → (before after : List Put) → List calls.Event → Type 0
@@ -52,8 +52,8 @@ PutsTellByOne =
     (put_told shape offers 0 first_count calls.puts calls.closes i)
 
 -- the same of takes
-abbrev pub TakeBegins : Shape → (i : ℕ) → (before after : List Take) → List calls.Event → Type 0
-TakeBegins shape i before after told = (after ≡ before) × (i ≡ events_of_takes shape before) × (told ≡ TakeBegin 1 ∷ [])
+abbrev pub TakeBegins : Shape → (ℕ → ℕ) → (i : ℕ) → (before after : List Take) → List calls.Event → Type 0
+TakeBegins shape wants i before after told = (after ≡ before) × (i ≡ events_of_takes shape before) × (told ≡ TakeBegin (wants (length before)) ∷ [])
 
 abbrev pub TakeEnds : Shape → (i : ℕ) → (before after : List Take) → List calls.Event → Type 0
 TakeEnds shape i before after told =
@@ -68,12 +68,13 @@ abbrev pub TakesGo : Shape → Takes → (i : ℕ) → (before after : List Take
 TakesGo shape calls i before after told =
     (after ≡ before) × (events_of_takes shape before < i) × (Tells calls.end → suc i < events_in (take_program shape calls)) × (told ≡ [])
 
-abbrev pub TakeTells : Shape → Takes → (i : ℕ) → (before after : List Take) → List calls.Event → Type 0
-TakeTells shape calls i before after told =
-    TakeBegins shape i before after told ⊎
+abbrev pub TakeTells : Shape → (ℕ → ℕ) → Takes → (i : ℕ) → (before after : List Take) → List calls.Event → Type 0
+TakeTells shape wants calls i before after told =
+    TakeBegins shape wants i before after told ⊎
     (TakeEnds shape i before after told ⊎ (IsToldNow shape calls i before after told ⊎ TakesGo shape calls i before after told))
 
 abbrev pub TakesTellByOne : Type 0
 TakesTellByOne =
-    (shape : Shape) (calls : Takes) (i : ℕ) → i < events_in (take_program shape calls) →
-    TakeTells shape calls i (takes_over shape 0 calls.takes i) (takes_over shape 0 calls.takes (suc i)) (take_told shape 0 calls.takes calls.end i)
+    (shape : Shape) (wants : ℕ → ℕ) (calls : Takes) (i : ℕ) → i < events_in (take_program shape calls) →
+    TakeTells shape wants calls i (takes_over shape first_count calls.takes i) (takes_over shape first_count calls.takes (suc i))
+    (take_told shape wants 0 first_count calls.takes calls.end i)

@@ -1,6 +1,6 @@
 -- The law of the ring, for every lawful history whose two sides follow their programs. A moment is a place of the history;
 -- what stands before it is told by the clocks of the two sides.
-use Rattle.std.specs.Prelude.{◌≡◌, ◌⊎◌, ℕ, ◌+◌, ◌-◌, ◌*◌, ◌^◌, ◌<◌, ◌≤◌, ◌%◌, Bool, true, Some, List, length, slice_get}
+use Rattle.std.specs.Prelude.{◌≡◌, ◌⊎◌, ℕ, suc, ◌+◌, ◌-◌, ◌*◌, ◌<◌, ◌≤◌, ◌%◌, Bool, true, Some, List, length, slice_get}
 use Rattle.bits_core.specs.declared.events.Side.{Side}
 use Rattle.bits_core.specs.declared.events.Side.TheVariants.{P, C}
 use Rattle.bits_core.specs.declared.events.Bit.TheVariants.{X, Cell}
@@ -14,8 +14,8 @@ use Rattle.bits_core.specs.Made.{own, clock, IsPlaceOf, IsBeginning}
 use Rattle.ring_core.specs.Counts.{distance, first_count}
 use Rattle.register_core.specs.Phrases.{word_write, word_read}
 use Rattle.ring_core.specs.Puts.{Stored, Full, Puts, put_phrases, put_program, FollowsPuts}
-use Rattle.ring_core.specs.Takes.{Empty, Takes, take_program, FollowsTakes}
-use Rattle.ring_core.specs.Items.{events_in, items_put, items_taken, all_put, puts_begun, puts_ended, takes_begun, takes_ended, IsTold}
+use Rattle.ring_core.specs.Takes.{Take, Item, Empty, Takes, accesses_before_word, take_program, FollowsTakes}
+use Rattle.ring_core.specs.Items.{taken_of, events_in, items_put, items_taken, all_put, puts_begun, puts_ended, takes_begun, takes_ended, IsTold}
 use Rattle.ring_core.specs.CallsAt.{IsPutAt, IsTakeAt, IsPartAt, scan_events}
 use Rattle.ring_core.specs.Ranges.{PutsAreInRange, TakesAreInRange}
 
@@ -53,14 +53,14 @@ CellsAreQuiet shape h puts takes =
 -- at every moment the items taken are a prefix of the items put
 abbrev pub TakenArePrefix : Shape → List Event → Puts → Takes → Type 0
 TakenArePrefix shape h puts takes =
-    (t : ℕ) → IsBeginning (items_taken shape 0 takes.takes (clock C h t)) (items_put shape first_count puts.puts (clock P h t))
+    (t : ℕ) → IsBeginning (items_taken shape first_count takes.takes (clock C h t)) (items_put shape first_count puts.puts (clock P h t))
 
--- a word read that has ended, behind k taken items, also where the count write is still to come, gives item number k of those put
+-- word read i of a take behind k items, once it has ended, also where the count write is still to come, gives item number k + i of those put
 abbrev pub TakesMatchPuts : Shape → List Event → Puts → Takes → Type 0
 TakesMatchPuts shape h puts takes =
-    (t k cell item word : ℕ) → item < 2 ^ width_of shape → IsPartAt (take_program shape takes) (word_read (width_of shape) cell item) word →
-    k ≡ takes_ended shape takes word → word + 2 * width_of shape ≤ clock C h t →
-    slice_get (items_put shape first_count puts.puts (clock P h t)) k ≡ Some item
+    (t k i item start stop : ℕ) (x : Take) → IsTakeAt shape takes x k start stop → slice_get (taken_of x) i ≡ Some item →
+    start + events_in (accesses_before_word x) + 2 * (suc i * width_of shape) ≤ clock C h t →
+    slice_get (items_put shape first_count puts.puts (clock P h t)) (k + i) ≡ Some item
 
 -- where a take that finds the ring empty begins, it is empty and open: no more items were stored by puts that had ended than takes had
 -- taken that had ended, and no write of the close bit had ended
@@ -84,12 +84,20 @@ FillIsFresh shape h puts takes =
     distance (modulus_of shape) (n % modulus_of shape) seen + length items ≡ capacity_of shape →
     (first : ℕ) × IsPlaceOf P h start first × (takes_ended shape takes (clock C h first) + capacity_of shape ≤ n + length items)
 
+-- and where a take begins that takes all the items that its scan showed, no more items were stored by puts that had ended than were
+-- taken up to and with it
+abbrev pub DrainIsFresh : Shape → List Event → Puts → Takes → Type 0
+DrainIsFresh shape h puts takes =
+    (seen : ℕ) (items : List ℕ) (k start stop : ℕ) → IsTakeAt shape takes (Item seen items) k start stop → start + scan_events C seen ≤ length (own C h) →
+    distance (modulus_of shape) seen (k % modulus_of shape) ≡ length items → 1 ≤ length items →
+    (first : ℕ) × IsPlaceOf C h start first × (puts_ended shape puts (clock P h first) ≤ k + length items)
+
 -- once the consumer was told that the ring is closed, at every later moment all items of the calls were put and taken, and the
 -- close has begun, behind all puts
 abbrev pub ClosedIsTrue : Shape → List Event → Puts → Takes → Type 0
 ClosedIsTrue shape h puts takes =
     (t u : ℕ) → IsTold shape takes (clock C h t) → t ≤ u →
-    (items_put shape first_count puts.puts (clock P h u) ≡ all_put puts.puts) × (items_taken shape 0 takes.takes (clock C h u) ≡ all_put puts.puts) ×
+    (items_put shape first_count puts.puts (clock P h u) ≡ all_put puts.puts) × (items_taken shape first_count takes.takes (clock C h u) ≡ all_put puts.puts) ×
     (puts.closes ≡ true) × (events_in (put_phrases shape first_count puts.puts) < clock P h u)
 
 -- all of these
@@ -104,6 +112,7 @@ pub record RingLaw (shape : Shape) (h : List Event) (puts : Puts) (takes : Takes
   pub empty : EmptyIsFresh shape h puts takes
   pub full : FullIsFresh shape h puts takes
   pub fill : FillIsFresh shape h puts takes
+  pub drain : DrainIsFresh shape h puts takes
   pub closed : ClosedIsTrue shape h puts takes
 
 -- every lawful history whose two sides follow their programs is so

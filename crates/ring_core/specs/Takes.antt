@@ -1,19 +1,19 @@
 -- The consumer's program: takes one after the other, the last perhaps one that is told the ring is closed.
-use Rattle.std.specs.Prelude.{ℕ, suc, ◌^◌, ◌%◌, ◌<◌, true, false, List, [], ◌∷◌, ◌++◌}
+use Rattle.std.specs.Prelude.{ℕ, suc, ◌%◌, ◌<◌, ◌≤◌, Bool, true, false, List, [], ◌∷◌, ◌++◌, length}
 use Rattle.bits_core.specs.declared.events.Side.TheVariants.{C}
 use Rattle.bits_core.specs.declared.events.Bit.TheVariants.{X}
 use Rattle.bits_core.specs.declared.events.Event.{Event}
 use Rattle.bits_core.specs.declared.shapes.Shape.{Shape}
-use Rattle.bits_core.specs.Shape.{capacity_of, modulus_of, width_of}
+use Rattle.bits_core.specs.Shape.{AllFit, capacity_of, modulus_of, width_of}
 use Rattle.bits_core.specs.Made.{Made, Read, events_of, own, IsBeginning}
-use Rattle.register_core.specs.Phrases.{word_read, scan_phrase, row_read_by}
-use Rattle.ring_core.specs.Counts.{ShowsItem, count_phrase}
+use Rattle.register_core.specs.Phrases.{bits_after, word_read, scan_phrase, row_read_by}
+use Rattle.ring_core.specs.Counts.{distance, ShowsItem, number_past, Count, first_count, count_bits, batch_phrase, take_batch_of}
 
--- a take, by the counts that it read: it took an item, at once or by a second scan after the close bit was 1, or it found
--- the ring empty
+-- a take, by the counts that it read: it took some items under one count write, at once or by a second scan after the close bit was 1,
+-- or it found the ring empty
 pub data Take : Type 0 where
-  Item : (seen item : ℕ) → Take
-  ItemAfterClose : (seen again item : ℕ) → Take
+  Item : (seen : ℕ) (items : List ℕ) → Take
+  ItemAfterClose : (seen again : ℕ) (items : List ℕ) → Take
   Empty : (seen : ℕ) → Take
 
 -- the end of the takes: more may come, or the last one was told that the ring is closed
@@ -28,8 +28,8 @@ pub record Takes : Type 0 where
 
 -- how many items are taken, after k of them and this take
 abbrev pub taken_after : ℕ → Take → ℕ
-taken_after k (Item seen item) = suc k
-taken_after k (ItemAfterClose seen again item) = suc k
+taken_after k (Item seen items) = number_past k items
+taken_after k (ItemAfterClose seen again items) = number_past k items
 taken_after k (Empty seen) = k
 
 -- how many are, after these takes
@@ -37,26 +37,45 @@ abbrev pub taken_in : ℕ → List Take → ℕ
 taken_in k [] = k
 taken_in k (x ∷ takes) = taken_in (taken_after k x) takes
 
--- the accesses that take an item, after k taken items: its word, and the consumer's count
-abbrev pub item_phrase : Shape → ℕ → ℕ → List Made
-item_phrase shape k item = word_read (width_of shape) (k % capacity_of shape) item ++ count_phrase shape C k
+-- the bits of the consumer's count after this take
+abbrev pub take_bits : Shape → Count → Take → ℕ → Bool
+take_bits shape c (Item seen items) = bits_after c.bits (count_bits shape c items)
+take_bits shape c (ItemAfterClose seen again items) = bits_after c.bits (count_bits shape c items)
+take_bits shape c (Empty seen) = c.bits
+
+-- the consumer's count after this take, and after these
+abbrev pub count_after : Shape → Count → Take → Count
+count_after shape c x = record { number = taken_after c.number x; bits = take_bits shape c x }
+
+abbrev pub taken_count : Shape → Count → List Take → Count
+taken_count shape c [] = c
+taken_count shape c (x ∷ takes) = taken_count shape (count_after shape c x) takes
+
+-- the word reads of items, one after the other, of the cells from that of item number n on
+abbrev pub words_read : Shape → ℕ → List ℕ → List Made
+words_read shape n [] = []
+words_read shape n (item ∷ items) = word_read (width_of shape) (n % capacity_of shape) item ++ words_read shape (suc n) items
+
+-- the accesses that take items, behind the consumer's count: their words, and one write of the count
+abbrev pub items_phrase : Shape → Count → List ℕ → List Made
+items_phrase shape c items = words_read shape c.number items ++ batch_phrase shape C c items
 
 -- the accesses by which a take looks for an item: a scan of the producer's count; where that shows no item, a read of the
 -- close bit; where that is 1, a second scan
 abbrev pub accesses_before_word : Take → List Made
-accesses_before_word (Item seen item) = scan_phrase (row_read_by C) seen
-accesses_before_word (ItemAfterClose seen again item) = scan_phrase (row_read_by C) seen ++ Read X true ∷ scan_phrase (row_read_by C) again
+accesses_before_word (Item seen items) = scan_phrase (row_read_by C) seen
+accesses_before_word (ItemAfterClose seen again items) = scan_phrase (row_read_by C) seen ++ Read X true ∷ scan_phrase (row_read_by C) again
 accesses_before_word (Empty seen) = scan_phrase (row_read_by C) seen ++ Read X false ∷ []
 
--- the accesses of a take, after k taken items
-abbrev pub take_phrase : Shape → ℕ → Take → List Made
-take_phrase shape k (Item seen item) = accesses_before_word (Item seen item) ++ item_phrase shape k item
-take_phrase shape k (ItemAfterClose seen again item) = accesses_before_word (ItemAfterClose seen again item) ++ item_phrase shape k item
-take_phrase shape k (Empty seen) = accesses_before_word (Empty seen)
+-- the accesses of a take, behind the consumer's count
+abbrev pub take_phrase : Shape → Count → Take → List Made
+take_phrase shape c (Item seen items) = accesses_before_word (Item seen items) ++ items_phrase shape c items
+take_phrase shape c (ItemAfterClose seen again items) = accesses_before_word (ItemAfterClose seen again items) ++ items_phrase shape c items
+take_phrase shape c (Empty seen) = accesses_before_word (Empty seen)
 
-abbrev pub take_phrases : Shape → ℕ → List Take → List Made
-take_phrases shape k [] = []
-take_phrases shape k (x ∷ takes) = take_phrase shape k x ++ take_phrases shape (taken_after k x) takes
+abbrev pub take_phrases : Shape → Count → List Take → List Made
+take_phrases shape c [] = []
+take_phrases shape c (x ∷ takes) = take_phrase shape c x ++ take_phrases shape (count_after shape c x) takes
 
 -- the accesses of a take that is told the ring is closed
 abbrev pub end_phrase : End → List Made
@@ -65,18 +84,26 @@ end_phrase (Closed seen again) = scan_phrase (row_read_by C) seen ++ Read X true
 
 -- the accesses of the consumer's calls
 abbrev pub take_program : Shape → Takes → List Made
-take_program shape calls = take_phrases shape 0 calls.takes ++ end_phrase calls.end
+take_program shape calls = take_phrases shape first_count calls.takes ++ end_phrase calls.end
 
--- a scan is of a count below the modulus; a take has an item exactly where a count that it read shows one
-abbrev pub SeesItem : Shape → ℕ → ℕ → Type 0
-SeesItem shape k seen = (seen < modulus_of shape) × ShowsItem shape seen (k % modulus_of shape)
+-- what may be taken under one count write: some items that fit, no more than the take batch
+pub record IsTakeBatch (shape : Shape) (items : List ℕ) : Type 0 where
+  pub some : 1 ≤ length items
+  pub few : length items ≤ take_batch_of shape
+  pub fit : AllFit shape items
+
+-- a scan is of a count below the modulus; a take has as many items as a count that it read shows, or fewer, and none exactly where
+-- that shows none
+abbrev pub SeesItems : Shape → ℕ → ℕ → ℕ → Type 0
+SeesItems shape k seen m =
+    (seen < modulus_of shape) × (m ≤ distance (modulus_of shape) seen (k % modulus_of shape)) × (distance (modulus_of shape) seen (k % modulus_of shape) ≤ capacity_of shape)
 
 abbrev pub SeesNone : Shape → ℕ → ℕ → Type 0
 SeesNone shape k seen = (seen < modulus_of shape) × ¬ ShowsItem shape seen (k % modulus_of shape)
 
 abbrev pub IsTake : Shape → ℕ → Take → Type 0
-IsTake shape k (Item seen item) = SeesItem shape k seen × (item < 2 ^ width_of shape)
-IsTake shape k (ItemAfterClose seen again item) = SeesNone shape k seen × SeesItem shape k again × (item < 2 ^ width_of shape)
+IsTake shape k (Item seen items) = SeesItems shape k seen (length items) × IsTakeBatch shape items
+IsTake shape k (ItemAfterClose seen again items) = SeesNone shape k seen × SeesItems shape k again (length items) × IsTakeBatch shape items
 IsTake shape k (Empty seen) = SeesNone shape k seen
 
 abbrev pub AreTakes : Shape → ℕ → List Take → End → Type 0

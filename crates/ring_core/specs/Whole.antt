@@ -5,7 +5,7 @@ use Rattle.bits_core.specs.declared.events.Event.{Event}
 use Rattle.bits_core.specs.declared.shapes.Shape.{Shape}
 use Rattle.bits_core.specs.Made.{events_of, own}
 use Rattle.ring_core.specs.Puts.{Puts, put_program, ArePuts}
-use Rattle.ring_core.specs.Takes.{Takes, take_program}
+use Rattle.ring_core.specs.Takes.{Takes, take_program, AreTakes}
 use Rattle.ring_core.specs.Items.{all_put, all_taken, items_put_in, items_taken_in}
 use Rattle.ring_core.specs.CallsAt.{puts_begun, takes_begun}
 
@@ -19,5 +19,5 @@ WholePutsCount =
 -- where the consumer's events are those of whole calls, all their items are taken, and as many are counted so
 abbrev pub WholeTakesCount : Type 0
 WholeTakesCount =
-    (shape : Shape) (h : List Event) (calls : Takes) → own C h ≡ events_of C (take_program shape calls) →
+    (shape : Shape) (h : List Event) (calls : Takes) → AreTakes shape 0 calls.takes calls.end → own C h ≡ events_of C (take_program shape calls) →
     (items_taken_in shape h calls ≡ all_taken calls.takes) × (takes_begun shape calls (length (own C h)) ≡ length (all_taken calls.takes))

@@ -1,10 +1,15 @@
 //! The consumer's machine.
-ghost use Rattle.std.specs.Prelude.{◌≡◌, ◌≢◌, ℕ, ◌+◌, ◌<◌, true, false, Some, None, List, [], ◌∷◌, ◌++◌, ◌↔◌, IsTrue, IfSome, IfNone, length, suc, ⊤};
+ghost use Rattle.std.specs.Prelude.{◌≡◌, ◌≢◌, ◌⊎◌, ℕ, ◌+◌, ◌<◌, ◌≤◌, Bool, true, false, Some, None, List, [], ◌∷◌, ◌++◌, ◌↔◌, IsTrue, IfSome, IfNone, length, suc, ⊤, take};
+ghost use Rattle.bits_core.specs.declared.events.Bit.TheVariants.{R, Cell};
 ghost use Rattle.bits_core.specs.declared.events.Side.TheVariants.{C};
 ghost use Rattle.bits_core.specs.Made.{Made, answered};
 ghost use Rattle.bits_core.specs.Open.{IsOpenRight};
+ghost use Rattle.bits_core.specs.Shape.{modulus_of};
+ghost use Rattle.ring_core.specs.ConsumerCalls.{take_batch_reply, items_reply};
+ghost use Rattle.ring_core.specs.Counts as counts;
+ghost use Rattle.ring_core.specs.Counts.{take_batch_of};
 
-use crate::counts::{has_item, past_in};
+use crate::counts::{distance, has_item, past_in};
 use bits_core::{Access, Bit, Shape, Side};
 use register_core::{UnaryScan, UnaryWriter, WordReader};
 use std::alloc::AllocError;
@@ -22,6 +27,81 @@ pub enum TakeReply {
     Empty,
     /// The ring is closed, and every item put was taken.
     Closed,
+}
+
+/// What a take of several items was answered.
+#[derive(Clone, Copy, PartialEq, Eq, Debug)]
+pub enum TakeBatchReply {
+    /// So many items were taken, which [`Consumer::items`] tells.
+    Taken(u64),
+    /// The ring was empty.
+    Empty,
+    /// The ring is closed, and every item put was taken.
+    Closed,
+}
+
+/// How many items a consumer that has taken `k` takes of at most so many, where the producer's count `c` shows some: those
+/// that it shows, or as many as are wanted. Both are below the modulus.
+#[inline(always)]
+pub fn items_shown(shape: &Shape, c: u64, k: u64, wanted: usize) -> usize
+    requires c { c < modulus_of shape.now }
+    requires k { k < modulus_of shape.now }
+    requires shows { counts.ShowsItem shape.now c k }
+    requires some { 1 ≤ wanted }
+    ensures some { 1 ≤ result }
+    ensures few { result ≤ wanted }
+    ensures shown { result ≤ counts.distance (modulus_of shape.now) c k }
+    ensures all { (result ≡ wanted) ⊎ (result ≡ counts.distance (modulus_of shape.now) c k) }
+{
+    let shown = distance(c, k, shape.modulus());
+    if shown < wanted as u64 {
+        shown as usize
+    } else {
+        wanted
+    }
+}
+
+/// Keeps one item more in place.
+#[inline(always)]
+fn keep_one(kept: &mut [u64; 64], at: usize, item: u64)
+    requires room { at < 64 }
+    ensures kept { take (at + 1) kept.new ≡ take at kept.old ++ item ∷ [] }
+{
+    kept[at] = item;
+}
+
+/// Whether the access reads the first digit of a cell.
+#[inline(always)]
+fn is_first_digit(access: Option<Access>) -> bool
+    ensures { IsTrue result ↔ ((j : ℕ) × (access ≡ Some (Access.Read (Cell j 0)))) }
+{
+    match access {
+        Some(Access::Read(Bit::Cell(_, 0))) => true,
+        _ => false,
+    }
+}
+
+/// What a take of these items is answered: the first of them. No take takes none.
+#[inline(always)]
+fn item_reply(items: &[u64]) -> TakeReply
+    ensures { result ≡ items_reply items.now }
+{
+    match items.first() {
+        Some(&item) => TakeReply::Item(item),
+        None => TakeReply::Item(0),
+    }
+}
+
+/// The answer to a take of these items, by their number.
+#[inline(always)]
+fn by_number(reply: TakeReply, items: &[u64]) -> TakeBatchReply
+    ensures { Some result ≡ take_batch_reply (Some reply) items.now }
+{
+    match reply {
+        TakeReply::Item(_) => TakeBatchReply::Taken(items.len() as u64),
+        TakeReply::Empty => TakeBatchReply::Empty,
+        TakeReply::Closed => TakeBatchReply::Closed,
+    }
 }
 
 /// How far the take under way has come.
@@ -48,17 +128,22 @@ pub struct Consumer {
     word: WordReader,
     row: UnaryWriter,
     told: bool,
+    items: [u64; 64],
+    taken: usize,
+    wanted: usize,
+    most: usize,
     reply: Option<TakeReply>,
 }
 
 impl Model for Consumer {
+    ghost use Rattle.std.specs.Prelude.{◌≤◌, take};
     ghost use Rattle.ring_core.specs.ConsumerState.{ConsumerState, IsConsumer};
 
     ghost Value = { ConsumerState };
 
-    ghost view = { λ p. record { shape = p.shape; count = p.count; cell = p.cell; stage = p.stage; scan = p.scan; word = p.word; row = p.row; told = p.told; reply = p.reply } };
+    ghost view = { λ p. record { shape = p.shape; count = p.count; cell = p.cell; stage = p.stage; scan = p.scan; word = p.word; row = p.row; told = p.told; items = take p.taken p.items; wanted = p.wanted; most = p.most; reply = p.reply } };
 
-    ghost invariant = { λ p. IsConsumer (record { shape = p.shape; count = p.count; cell = p.cell; stage = p.stage; scan = p.scan; word = p.word; row = p.row; told = p.told; reply = p.reply }) };
+    ghost invariant = { λ p. IsConsumer (record { shape = p.shape; count = p.count; cell = p.cell; stage = p.stage; scan = p.scan; word = p.word; row = p.row; told = p.told; items = take p.taken p.items; wanted = p.wanted; most = p.most; reply = p.reply }) × (p.taken ≤ 64) × (p.wanted ≤ 64) × (p.most ≤ 64) };
 }
 
 // By hand, as a derived one clones each field, which costs the proof ten times as much.
@@ -82,9 +167,9 @@ impl Consumer {
     ghost use Rattle.ring_core.specs.declared.consumers.TakeReply.TheVariants.{Closed};
     ghost use Rattle.ring_core.specs.Calls.{LastBitIsDue, EndsInZeros};
     ghost use Rattle.ring_core.specs.Takes.{Takes, take_program};
-    ghost use Rattle.ring_core.specs.Lengths.{longest_take};
-    ghost use Rattle.ring_core.specs.ConsumerState.{IsConsumerButScan, IsConsumerButWord, due_take, is_taking};
-    ghost use Rattle.ring_core.specs.ConsumerCalls.{new_consumer, no_takes, ConsumerStands, TakeGoesOn, ConsumerHasMoved, IsReplyToTake};
+    ghost use Rattle.ring_core.specs.Lengths.{longest_taking};
+    ghost use Rattle.ring_core.specs.ConsumerState.{IsBetweenWords, IsConsumerButScan, IsConsumerButWord, due_take, is_taking};
+    ghost use Rattle.ring_core.specs.ConsumerCalls.{new_consumer, no_takes, ConsumerStands, TakeGoesOn, ConsumerHasMoved, IsReplyToTake, IsBatchReplyToTake, AreItemsOfTake};
 
     /// The consumer of a ring of this shape that has made no access.
     pub fn new(shape: Shape) -> Self
@@ -100,17 +185,36 @@ impl Consumer {
             word: WordReader::new(&shape, 0),
             row: UnaryWriter::new(&shape, Side::C),
             told: false,
+            items: [0; 64],
+            taken: 0,
+            wanted: 0,
+            most: 0,
             reply: None,
         }
     }
 
-    /// Begins a take. No access may be due. The accesses made stay as they were. Once a take was answered
-    /// `Closed`, each is answered so at once, with no access, and nothing else changes.
+    /// Begins a take of one item, as [`take_all`](Self::take_all) of at most one.
     #[inline(always)]
     pub fn take(&mut self)
         requires { due_take self.old ≡ None }
         ensures shape { self.new.shape ≡ self.old.shape }
-        ensures begun { self.old.told ≡ false → is_taking self.new ≡ true }
+        ensures begun { self.old.told ≡ false → (is_taking self.new ≡ true) × (self.new.wanted ≡ 1) }
+        ensures refused { self.old.told ≡ true → self.new ≡ record self.old { reply = Some Closed } }
+        ensures stands { (calls : Takes) (made : List Made) → ConsumerStands self.old calls made → ConsumerStands self.new calls made }
+    {
+        self.take_all(1);
+    }
+
+    /// Begins a take of at most so many items under one count write, at most the shape's take batch. It takes those that
+    /// the producer's count shows, from the first on. No access may be due. The accesses made stay as they were. Once a
+    /// take was answered `Closed`, each is answered so at once, with no access, and nothing else changes.
+    #[inline(always)]
+    pub fn take_all(&mut self, most: u64)
+        requires idle { due_take self.old ≡ None }
+        requires some { 1 ≤ most }
+        requires few { most ≤ take_batch_of self.old.shape }
+        ensures shape { self.new.shape ≡ self.old.shape }
+        ensures begun { self.old.told ≡ false → (is_taking self.new ≡ true) × (self.new.wanted ≡ most) }
         ensures refused { self.old.told ≡ true → self.new ≡ record self.old { reply = Some Closed } }
         ensures stands { (calls : Takes) (made : List Made) → ConsumerStands self.old calls made → ConsumerStands self.new calls made }
     {
@@ -118,6 +222,8 @@ impl Consumer {
             self.reply = Some(TakeReply::Closed);
         } else {
             self.scan = UnaryScan::new(&self.shape, Side::C);
+            self.wanted = most as usize;
+            self.taken = 0;
             self.reply = None;
             self.stage = Stage::Scanning;
         }
@@ -132,8 +238,9 @@ impl Consumer {
         ensures due { result ≡ due_take self.now }
         ensures right { IfSome result (IsOpenRight self.now.shape C) }
         ensures rest { (calls : Takes) (made : List Made) → ConsumerStands self.now calls made → result ≡ None → (is_taking self.now ≡ false) × (made ≡ take_program self.now.shape calls) }
-        ensures goes_on { (calls : Takes) (made : List Made) (access : Access) → ConsumerStands self.now calls made → result ≡ Some access → (is_taking self.now ≡ true) × TakeGoesOn self.now.shape calls made access }
-        ensures bounded { (calls : Takes) (made : List Made) → ConsumerStands self.now calls made → is_taking self.now ≡ true → length made < length (take_program self.now.shape calls) + longest_take self.now.shape }
+        ensures goes_on { (calls : Takes) (made : List Made) (access : Access) → ConsumerStands self.now calls made → result ≡ Some access → (is_taking self.now ≡ true) × TakeGoesOn self.now.shape self.now.wanted calls made access }
+        ensures few { is_taking self.now ≡ true → self.now.wanted ≤ take_batch_of self.now.shape }
+        ensures bounded { (calls : Takes) (made : List Made) → ConsumerStands self.now calls made → is_taking self.now ≡ true → length made < length (take_program self.now.shape calls) + longest_taking self.now.shape self.now.wanted }
     {
         match self.stage {
             Stage::Idle => None,
@@ -146,12 +253,15 @@ impl Consumer {
     }
 
     /// The due access was made and answered so; the answer to a write says nothing. Where
-    /// [`expects_one`](Self::expects_one), the answer must be 1.
+    /// [`expects_one`](Self::expects_one), the answer must be 1. The take wants as many items as before, and once it
+    /// counts them it does so until it is over.
     #[inline(always)]
     pub fn feed(&mut self, answer: bool)
         requires due { due_take self.old ≢ None }
         requires one { LastBitIsDue self.old.shape C (due_take self.old) → answer ≡ true }
         ensures shape { self.new.shape ≡ self.old.shape }
+        ensures wanted { self.new.wanted ≡ self.old.wanted }
+        ensures counting { self.old.stage ≡ Counting → is_taking self.new ≡ true → self.new.stage ≡ Counting }
         ensures stands { (calls : Takes) (made : List Made) (access : Access) → ConsumerStands self.old calls made → due_take self.old ≡ Some access → ConsumerHasMoved self.old self.new calls (made ++ answered access answer ∷ []) }
     {
         match self.stage {
@@ -169,6 +279,7 @@ impl Consumer {
         requires stage { self.old.stage ≡ Scanning }
         requires one { LastBitIsDue self.old.shape C (due_take self.old) → answer ≡ true }
         ensures shape { self.new.shape ≡ self.old.shape }
+        ensures wanted { self.new.wanted ≡ self.old.wanted }
         ensures stands { (calls : Takes) (made : List Made) (access : Access) → ConsumerStands self.old calls made → due_take self.old ≡ Some access → ConsumerHasMoved self.old self.new calls (made ++ answered access answer ∷ []) }
     {
         self.scan.feed(answer);
@@ -176,6 +287,7 @@ impl Consumer {
             None => {}
             Some(seen) => {
                 if has_item(&self.shape, seen, self.count) {
+                    self.most = items_shown(&self.shape, seen, self.count, self.wanted);
                     self.word = WordReader::new(&self.shape, self.cell);
                     self.stage = Stage::Loading;
                 } else {
@@ -189,6 +301,7 @@ impl Consumer {
     fn feed_check(&mut self, answer: bool)
         requires stage { self.old.stage ≡ Checking }
         ensures shape { self.new.shape ≡ self.old.shape }
+        ensures wanted { self.new.wanted ≡ self.old.wanted }
         ensures stands { (calls : Takes) (made : List Made) (access : Access) → ConsumerStands self.old calls made → due_take self.old ≡ Some access → ConsumerHasMoved self.old self.new calls (made ++ answered access answer ∷ []) }
     {
         if answer {
@@ -205,6 +318,7 @@ impl Consumer {
         requires stage { self.old.stage ≡ Rescanning }
         requires one { LastBitIsDue self.old.shape C (due_take self.old) → answer ≡ true }
         ensures shape { self.new.shape ≡ self.old.shape }
+        ensures wanted { self.new.wanted ≡ self.old.wanted }
         ensures stands { (calls : Takes) (made : List Made) (access : Access) → ConsumerStands self.old calls made → due_take self.old ≡ Some access → ConsumerHasMoved self.old self.new calls (made ++ answered access answer ∷ []) }
     {
         self.scan.feed(answer);
@@ -212,6 +326,7 @@ impl Consumer {
             None => {}
             Some(again) => {
                 if has_item(&self.shape, again, self.count) {
+                    self.most = items_shown(&self.shape, again, self.count, self.wanted);
                     self.word = WordReader::new(&self.shape, self.cell);
                     self.stage = Stage::Loading;
                 } else {
@@ -228,12 +343,23 @@ impl Consumer {
     pub fn feed_word(&mut self, answer: bool)
         requires stage { self.old.stage ≡ Loading }
         ensures shape { self.new.shape ≡ self.old.shape }
+        ensures wanted { self.new.wanted ≡ self.old.wanted }
         ensures stands { (calls : Takes) (made : List Made) (access : Access) → ConsumerStands self.old calls made → due_take self.old ≡ Some access → ConsumerHasMoved self.old self.new calls (made ++ answered access answer ∷ []) }
     {
         self.word.feed(answer);
-        if self.word.next().is_none() {
-            self.row.write(past_in(self.count, 1, self.shape.modulus()));
-            self.stage = Stage::Counting;
+        match self.word.value() {
+            None => {}
+            Some(item) => {
+                keep_one(&mut self.items, self.taken, item);
+                self.taken += 1;
+                if self.taken < self.most {
+                    let cell = past_in(self.cell, self.taken as u64, self.shape.capacity());
+                    self.word = WordReader::new(&self.shape, cell);
+                } else {
+                    self.row.write(past_in(self.count, self.most as u64, self.shape.modulus()));
+                    self.stage = Stage::Counting;
+                }
+            }
         }
     }
 
@@ -242,14 +368,16 @@ impl Consumer {
     pub fn feed_count(&mut self, answer: bool)
         requires stage { self.old.stage ≡ Counting }
         ensures shape { self.new.shape ≡ self.old.shape }
+        ensures wanted { self.new.wanted ≡ self.old.wanted }
+        ensures counting { is_taking self.new ≡ true → self.new.stage ≡ Counting }
         ensures left { (x : RowWrite) (rest : List RowWrite) → due_writes self.old.row ≡ x ∷ rest → due_writes self.new.row ≡ rest }
         ensures stands { (calls : Takes) (made : List Made) (access : Access) → ConsumerStands self.old calls made → due_take self.old ≡ Some access → ConsumerHasMoved self.old self.new calls (made ++ answered access answer ∷ []) }
     {
         self.row.feed(answer);
         if self.row.next().is_none() {
-            self.count = past_in(self.count, 1, self.shape.modulus());
-            self.cell = past_in(self.cell, 1, self.shape.capacity());
-            self.reply = self.word.value().map(TakeReply::Item);
+            self.count = past_in(self.count, self.most as u64, self.shape.modulus());
+            self.cell = past_in(self.cell, self.most as u64, self.shape.capacity());
+            self.reply = Some(item_reply(&self.items[..self.taken]));
             self.stage = Stage::Idle;
         }
     }
@@ -297,6 +425,35 @@ impl Consumer {
         }
     }
 
+    /// Whether the take under way is between words: it has read some items, and the first digit of the next cell is due.
+    #[inline(always)]
+    pub fn is_between_words(&self) -> bool
+        ensures { IsTrue result ↔ IsBetweenWords self.now }
+    {
+        match self.stage {
+            Stage::Loading => is_first_digit(self.word.next()) && self.items().len() > 0,
+            _ => false,
+        }
+    }
+
+    /// Has the take under way count the items that it has read, and take no more, as a take of at most so many would. It
+    /// must be between words. Then the first bit write of the count is due; the accesses made stay as they were.
+    #[inline(always)]
+    pub fn count_now(&mut self)
+        requires { IsBetweenWords self.old }
+        ensures shape { self.new.shape ≡ self.old.shape }
+        ensures items { self.new.items ≡ self.old.items }
+        ensures wanted { self.new.wanted ≡ length self.old.items }
+        ensures stage { self.new.stage ≡ Counting }
+        ensures due { (i : ℕ) × (v : Bool) × (due_take self.new ≡ Some (Access.Write (R i) v)) }
+        ensures stands { (calls : Takes) (made : List Made) → ConsumerStands self.old calls made → ConsumerStands self.new calls made }
+    {
+        self.row.write(past_in(self.count, self.taken as u64, self.shape.modulus()));
+        self.wanted = self.taken;
+        self.most = self.taken;
+        self.stage = Stage::Counting;
+    }
+
     /// The consumer comes to where its scan is.
     #[inline(always)]
     pub fn go_on_with_scan(&mut self, scan: TakeScan)
@@ -317,13 +474,35 @@ impl Consumer {
         self.word = word;
     }
 
-    /// What the last take was answered: none before the first one and during a take.
+    /// What the last take was answered, where it took several items by the first of them: none before the first one
+    /// and during a take.
     #[inline(always)]
     pub fn reply(&self) -> Option<TakeReply>
         ensures state { result ≡ self.now.reply }
         ensures stands { (calls : Takes) (made : List Made) → ConsumerStands self.now calls made → IsReplyToTake calls (is_taking self.now) result }
     {
         self.reply
+    }
+
+    /// What the last take was answered, by how many items it took: none before the first one and during a take.
+    #[inline(always)]
+    pub fn batch_reply(&self) -> Option<TakeBatchReply>
+        ensures state { result ≡ take_batch_reply self.now.reply self.now.items }
+        ensures stands { (calls : Takes) (made : List Made) → ConsumerStands self.now calls made → IsBatchReplyToTake calls (is_taking self.now) result }
+    {
+        match self.reply {
+            None => None,
+            Some(reply) => Some(by_number(reply, self.items())),
+        }
+    }
+
+    /// The items that the last take took, in order, and during a take those that it has read so far.
+    #[inline(always)]
+    pub fn items(&self) -> &[u64]
+        ensures state { result.now ≡ self.now.items }
+        ensures stands { (calls : Takes) (made : List Made) → ConsumerStands self.now calls made → AreItemsOfTake calls (is_taking self.now) result.now }
+    {
+        &self.items[..self.taken]
     }
 
     /// Whether the last bit of the producer's count is due. Over a lawful history whose producer follows its
@@ -368,7 +547,7 @@ impl Model for TakeScan {
 impl TakeScan {
     ghost use Rattle.ring_core.specs.Calls.{LastBitIsDue, EndsInZeros};
     ghost use Rattle.ring_core.specs.Takes.{Takes, take_program};
-    ghost use Rattle.ring_core.specs.Lengths.{longest_take};
+    ghost use Rattle.ring_core.specs.Lengths.{longest_taking};
     ghost use Rattle.ring_core.specs.ConsumerState.{due_take, is_taking};
     ghost use Rattle.register_core.specs.ScanState.{scan_read};
     ghost use Rattle.bits_core.specs.Shape.{modulus_of};
@@ -380,8 +559,8 @@ impl TakeScan {
         ensures due { due_take self.now ≡ Some result }
         ensures below { self.now.scan.zeros < modulus_of self.now.shape }
         ensures right { IsOpenRight self.now.shape C result }
-        ensures goes_on { (calls : Takes) (made : List Made) → ConsumerStands self.now calls made → (is_taking self.now ≡ true) × TakeGoesOn self.now.shape calls made result }
-        ensures bounded { (calls : Takes) (made : List Made) → ConsumerStands self.now calls made → is_taking self.now ≡ true → length made < length (take_program self.now.shape calls) + longest_take self.now.shape }
+        ensures goes_on { (calls : Takes) (made : List Made) → ConsumerStands self.now calls made → (is_taking self.now ≡ true) × TakeGoesOn self.now.shape self.now.wanted calls made result }
+        ensures bounded { (calls : Takes) (made : List Made) → ConsumerStands self.now calls made → is_taking self.now ≡ true → length made < length (take_program self.now.shape calls) + longest_taking self.now.shape self.now.wanted }
     {
         match self.scan.next() {
             Some(access) => access,
@@ -437,7 +616,7 @@ impl Model for TakeWord {
 impl TakeWord {
     ghost use Rattle.ring_core.specs.Calls.{LastBitIsDue};
     ghost use Rattle.ring_core.specs.Takes.{Takes, take_program};
-    ghost use Rattle.ring_core.specs.Lengths.{longest_take};
+    ghost use Rattle.ring_core.specs.Lengths.{longest_taking};
     ghost use Rattle.ring_core.specs.ConsumerState.{due_take, is_taking};
     ghost use Rattle.register_core.specs.WordState.{read_digit};
     ghost use Rattle.ring_core.specs.ConsumerCalls.{ConsumerStands, TakeGoesOn, ConsumerHasMoved};
@@ -449,8 +628,8 @@ impl TakeWord {
         ensures below { self.now.word.read < self.now.word.width }
         ensures right { IsOpenRight self.now.shape C result }
         ensures not_last { LastBitIsDue self.now.shape C (due_take self.now) → false ≡ true }
-        ensures goes_on { (calls : Takes) (made : List Made) → ConsumerStands self.now calls made → (is_taking self.now ≡ true) × TakeGoesOn self.now.shape calls made result }
-        ensures bounded { (calls : Takes) (made : List Made) → ConsumerStands self.now calls made → is_taking self.now ≡ true → length made < length (take_program self.now.shape calls) + longest_take self.now.shape }
+        ensures goes_on { (calls : Takes) (made : List Made) → ConsumerStands self.now calls made → (is_taking self.now ≡ true) × TakeGoesOn self.now.shape self.now.wanted calls made result }
+        ensures bounded { (calls : Takes) (made : List Made) → ConsumerStands self.now calls made → is_taking self.now ≡ true → length made < length (take_program self.now.shape calls) + longest_taking self.now.shape self.now.wanted }
     {
         match self.word.next() {
             Some(access) => access,

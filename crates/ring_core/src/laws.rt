@@ -6,17 +6,17 @@
 //! - The laws of programs, as `last_bit_is_one`: for who drives a machine, as `uses::by_hand` does.
 ghost use Rattle.ring_core.specs.CountWrites.{CountsAreWritten, CountsShowNumbers};
 ghost use Rattle.ring_core.specs.Following.{PutsAreFollowed, TakesAreFollowed};
-ghost use Rattle.ring_core.specs.GoingOn.{LastPutsReadOne, LastTakesReadOne, PutsGoOnByOne, TakesGoOnAlike, TakesGoOnByOne};
+ghost use Rattle.ring_core.specs.GoingOn.{LastPutsReadOne, LastTakesReadOne, PutsGoOnByOne, TakesGoOn, TakesGoOnByOne};
 ghost use Rattle.ring_core.specs.Items.{ItemsAreRead, TakenAreRead};
 ghost use Rattle.ring_core.specs.Lengths.{ItemPutsAreShort, FullPutsAreShort, PutsAreShort, TakesAreShort, EndsAreShort};
 ghost use Rattle.ring_core.specs.Linear.{IsLinearizableRun};
-ghost use Rattle.ring_core.specs.OneCallMore.{ClosesByOneMore, EndsByOneMore, PutsByOneMore, TakesByOneMore};
+ghost use Rattle.ring_core.specs.OneCallMore.{ClosesByOneMore, EndsByOneMore, PutsByOneMore, TakesByOneMore, TakesOfOne};
 ghost use Rattle.ring_core.specs.Over.{PutsOverAreRead, TakesOverAreRead};
 ghost use Rattle.ring_core.specs.PutParts.{CountsOn, ScansOn, ScansOrCloses, StoresOn, StoresOrCounts};
 ghost use Rattle.ring_core.specs.Readings.{PutsAreFirst, PutsAreRead, TakesAreFirst, TakesAreRead};
 ghost use Rattle.ring_core.specs.Recorded.{RecordedIsLinearizable};
 ghost use Rattle.ring_core.specs.RecordedByOne.{PutsTellByOne, TakesTellByOne};
-ghost use Rattle.ring_core.specs.RingLaw.{CellsAreQuiet, ClosedIsTrue, EmptyIsFresh, FillIsFresh, FullIsFresh, InEveryRun, IsWithin, TakenArePrefix, TakesMatchPuts, WordsAreQuiet};
+ghost use Rattle.ring_core.specs.RingLaw.{CellsAreQuiet, ClosedIsTrue, EmptyIsFresh, FillIsFresh, DrainIsFresh, FullIsFresh, InEveryRun, IsWithin, TakenArePrefix, TakesMatchPuts, WordsAreQuiet};
 ghost use Rattle.ring_core.specs.Ranges.{PutsAreInRange, TakesAreInRange};
 ghost use Rattle.ring_core.specs.RunLaws.{ClosedStays, HasARun, PutsAreSeen, RunsByPut, RunsByTake, TakesAreSeen};
 ghost use Rattle.ring_core.specs.Whole.{WholePutsCount, WholeTakesCount};
@@ -109,12 +109,13 @@ pub fn calls_are_short()
 {}
 
 /// Behind the whole calls of a program that is not over another put, a close, or another take may follow; its accesses
-/// come behind theirs, and what they count and answer is what it does.
+/// come behind theirs, and what they count and answer is what it does. A take of one brings the item that its reply tells.
 pub fn programs_by_one_call()
     ensures puts { PutsByOneMore }
     ensures closes { ClosesByOneMore }
     ensures takes { TakesByOneMore }
     ensures ends { EndsByOneMore }
+    ensures one { TakesOfOne }
 {}
 
 /// The access that a call under way goes on with, whatever it is answered, is the only one: behind the same calls and
@@ -125,10 +126,13 @@ pub fn calls_go_on_by_one()
 {}
 
 /// What a consumer does next follows from the accesses that it has made and their answers: programs that begin with
-/// these go on with the same access.
-pub fn takes_go_on_alike()
-    ensures { TakesGoOnAlike }
-{}
+/// these go on with the same access. But behind a whole word a take may read the next one, where it may take more,
+/// or count those that it has read.
+pub fn takes_go_on()
+    ensures { TakesGoOn }
+{
+    digits_tell_items();
+}
 
 /// What a producer may do next, by how far its put under way has come: it scans or closes; it scans on; it writes a
 /// word, where there is room for one more, or the count; it writes the next digit; it writes the next bit of the count.
@@ -218,6 +222,7 @@ pub fn ring_law()
     ensures empty { InEveryRun EmptyIsFresh }
     ensures full { InEveryRun FullIsFresh }
     ensures fill { InEveryRun FillIsFresh }
+    ensures drain { InEveryRun DrainIsFresh }
     ensures closed { InEveryRun ClosedIsTrue }
 {
     digits_tell_items();
@@ -255,7 +260,8 @@ pub fn ring_is_linearizable()
 
 /// The calls of every run of the ring, as a recorder would tell them, are a linearizable history of a queue of the ring's
 /// capacity: an auditor of recorded calls accepts each event. A put may have been offered more items than it stored; it
-/// then found no room for one more before it stored the first. A call that is cut has begun and has not ended.
+/// then found no room for one more before it stored the first. A take may have wanted more items than it took; the
+/// ring then held no more. A call that is cut has begun and has not ended.
 pub fn recorded_is_linearizable()
     ensures { RecordedIsLinearizable }
 {

@@ -7,6 +7,6 @@ mod counts;
 pub mod laws;
 mod producers;
 
-pub use consumers::{Consumer, TakeReply, TakeScan, TakeWord};
+pub use consumers::{Consumer, TakeBatchReply, TakeReply, TakeScan, TakeWord, items_shown};
 pub use counts::{distance, has_item, has_room};
 pub use producers::{BatchReply, Producer, PutReply, PutScan, PutWord};

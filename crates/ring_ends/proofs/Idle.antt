@@ -25,8 +25,10 @@ pub machine_idle : LawsBelow → (k : Machine) → MachineLaws k → (e : RingEn
 machine_idle laws k ks e m whole i none = ap (open_access k.side) (rest_list k ks e m i.calls i.made i.at none) ∙ laws.made_idle k.side (k.program e.ring.shape i.calls)
 
 never_closed : (x : Take) → closed_reply (Some (take_reply_to x)) ≡ false
-never_closed (takes.Item seen item) = refl
-never_closed (takes.ItemAfterClose seen again item) = refl
+never_closed (takes.Item seen []) = refl
+never_closed (takes.Item seen (item ∷ items)) = refl
+never_closed (takes.ItemAfterClose seen again []) = refl
+never_closed (takes.ItemAfterClose seen again (item ∷ items)) = refl
 never_closed (takes.Empty seen) = refl
 
 last_not : (first : Option TakeReply) (xs : List Take) → closed_reply first ≡ false → closed_reply (last_take_reply first xs) ≡ false

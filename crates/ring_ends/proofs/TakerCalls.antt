@@ -1,63 +1,76 @@
 -- The consumer's machine, and a step call of its end.
-use Rattle.std.proofs.Common.{◌≡◌, ◌⊎◌, inl, inr, ⊎_elim, ℕ, ◌+◌, ◌<◌, Bool, true, false, true≢false, Option, Some, None, IsTrue, ◌↔◌, List, [], ◌∷◌, ◌++◌, length, refl, ap, sym, subst, ◌∙◌}
+use Rattle.std.proofs.Common.{◌≡◌, ◌⊎◌, inl, inr, ⊎_elim, ℕ, zero, suc, ◌+◌, ◌<◌, ◌≤◌, Bool, true, false, true≢false, Option, Some, None, IsTrue, ◌↔◌, List, [], ◌∷◌, ◌++◌, length, refl, ap, sym, subst, ◌∙◌, arith}
+use Rattle.std.proofs.Math.Nat.{mul-le-mul_right}
 use Rattle.std.specs.Prelude.{IfSome, IfNone}
 use Rattle.bits_core.specs.declared.events.Side.TheVariants.{C}
 use Rattle.bits_core.specs.declared.events.Access.{Access}
 use Rattle.bits_core.specs.declared.events.Event.{Event}
 use Rattle.bits_core.specs.declared.shapes.Shape.{Shape}
+use Rattle.bits_core.specs.Shape.{width_of}
 use Rattle.bits_core.specs.Made.{Made, answered, events_of}
 use Rattle.bits_core.specs.Open.{IsOpenRight}
 use Rattle.ring_core.specs.Calls.{LastBitIsDue, EndsInZeros}
+use Rattle.ring_core.specs.Counts.{take_batch_of}
+use Rattle.ring_core.proofs.CountRow.{small_take_batch}
 use Rattle.ring_core.specs.declared.consumers.Stage.{Stage}
 use Rattle.ring_core.specs.declared.consumers.Stage.TheVariants.{Idle, Scanning, Checking, Rescanning, Loading, Counting}
 use Rattle.ring_core.specs.declared.consumers.TakeReply as replies
 use Rattle.ring_core.specs.declared.consumers.TakeReply.TheVariants as reply
-use Rattle.ring_core.specs.Lengths.{longest_take}
+use Rattle.ring_core.specs.Lengths.{longest_taking}
 use Rattle.ring_core.specs.Takes.{Take, Takes, take_program, AreTakes}
 use Rattle.ring_core.specs.ConsumerState.{due_take, ConsumerState, is_taking, takes_at, consumer_due_at}
 use Rattle.ring_core.specs.ConsumerCalls.{ConsumerHasMoved, ConsumerStands, ConsumerMadeAt, TakeGoesOn, HasTakeMore, IsAfterTake, IsReplyToTake, last_take_reply, reply_at_end, take_reply_to, ends_closed}
 use Rattle.ring_seats.specs.Ring.{RingEnd}
 use Rattle.ring_seats.specs.Steppers.{Grows}
-use Rattle.ring_ends.specs.Ends.{HasTakes, HasTaken, HasTakePart, TakeAdds, TakerState, whole_take, takes_whole}
-use Rattle.ring_ends.specs.Machines.{IsMarked, MachineStep, MachineAt, IsMachine, CallBegins, consuming, without_last, longest_taking}
+use Rattle.ring_ends.specs.Ends.{HasTakes, HasTakenOf, HasTakePart, TakeAdds, TakerState, wants_next, whole_take, takes_whole}
+use Rattle.ring_ends.specs.Machines.{IsMarked, MachineStep, MachineAt, IsMachine, CallBegins, consuming, without_last, longest_while}
 use Rattle.ring_ends.proofs.MachineMoves.{Due, MachineLaws}
 use Rattle.ring_ends.proofs.MachineCalls.{Begun, Step, Outcome, Refused, Goes, Over, one_step, out, shape_there, step_invariant, stays, whole_there}
 use Rattle.ring_ends.proofs.Steps.{none-some}
 
 -- ---- the machine
 
-rest_at : (s : Stage) (m : ConsumerState) (calls : Takes) (k : ℕ) (made : List Made) → takes_at s ≡ false → ConsumerMadeAt s m calls k made → (made ≡ take_program m.shape calls) × (consumer_due_at s m ≡ None)
-rest_at Idle m calls k made is at = (at.1, refl)
-rest_at Scanning m calls k made is at = absurd (true≢false is)
-rest_at Checking m calls k made is at = absurd (true≢false is)
-rest_at Rescanning m calls k made is at = absurd (true≢false is)
-rest_at Loading m calls k made is at = absurd (true≢false is)
-rest_at Counting m calls k made is at = absurd (true≢false is)
+rest_at : (s : Stage) (m : ConsumerState) (calls : Takes) (made : List Made) → takes_at s ≡ false → ConsumerMadeAt s m calls made → (made ≡ take_program m.shape calls) × (consumer_due_at s m ≡ None)
+rest_at Idle m calls made is at = (at.1, refl)
+rest_at Scanning m calls made is at = absurd (true≢false is)
+rest_at Checking m calls made is at = absurd (true≢false is)
+rest_at Rescanning m calls made is at = absurd (true≢false is)
+rest_at Loading m calls made is at = absurd (true≢false is)
+rest_at Counting m calls made is at = absurd (true≢false is)
 
-either_way : (b : Bool) → (b ≡ false) ⊎ (Unit {0} × (b ≡ true))
+either_way : (b : Bool) → (b ≡ false) ⊎ (b ≡ true)
 either_way false = inl refl
-either_way true = inr (tt, refl)
+either_way true = inr refl
+
+-- what a take comes to by one access more, as the machine's states tell it
+after_so :
+    (shape : Shape) (wanted : ℕ) (a b c d : Bool) (calls more : Takes) → a ≡ c → b ≡ d → IsAfterTake shape wanted a b calls more → IsAfterTake shape wanted c d calls more
+after_so shape wanted a b c d calls more e f after = subst (λ (z : Bool × Bool). IsAfterTake shape wanted z.0 z.1 calls more) (λ i. (e i, f i)) after
 
 pub take_laws : MachineLaws consuming
 take_laws = record {
-  either = λ m. either_way (is_taking m);
-  never = λ m c none is. true≢false (sym is ∙ none);
-  one = λ m c d is on. refl;
-  at_rest = λ m calls made st none. rest_at m.stage m calls _ made none st.made_is;
+  either = λ m. ⊎_elim (λ none. inl none) (λ is. inr (m.wanted, (is, refl))) (either_way (is_taking m));
+  never = λ m c none is. true≢false (sym is.0 ∙ none);
+  one = λ m c d is on. sym is.1 ∙ on.1;
+  at_rest = λ m calls made st none. rest_at m.stage m calls made none st.made_is;
   follows = λ shape c calls more list is_more begins. (more, is_more.are, begins);
   part = λ m c calls more made list stands is_more begins. record { calls = calls; before = record { are = stands.are; list_is = refl }; more = more; is_more = is_more; part = begins };
-  stays = λ m c calls is. subst (λ (t : Bool). IsAfterTake m.shape t t calls calls) (sym is) refl;
-  goes = λ m m' c d calls more is on after. (refl, subst (λ (z : Bool × Bool). IsAfterTake m.shape z.0 z.1 calls more) (λ i. (is i, on i)) after);
-  over = λ m m' c calls more is none after. subst (λ (z : Bool × Bool). IsAfterTake m.shape z.0 z.1 calls more) (λ i. (is i, none i)) after;
+  stays = λ m c calls is. (after_so m.shape m.wanted true true (is_taking m) (is_taking m) calls calls (sym is.0) (sym is.0) refl, refl);
+  goes = λ m m' c d calls more is on after. (
+    sym on.1 ∙ after.1 ∙ is.1,
+    after_so m.shape m.wanted (is_taking m) (is_taking m') true true calls more is.0 on.0 after.0,
+  );
+  over = λ m m' c calls more is none after.
+      subst (λ (w : ℕ). HasTakeMore m.shape w calls more) is.1 (after_so m.shape m.wanted (is_taking m) (is_taking m') true false calls more is.0 none after.0);
   whole_rests = λ m list start none. ap (λ (t : Bool). whole_take t list start) none;
-  whole_busy = λ m c list start is. ap (λ (t : Bool). whole_take t list start) is;
-  most_rests = λ m none. ap (longest_taking m.shape) none;
-  most_busy = λ m c is. ap (longest_taking m.shape) is;
+  whole_busy = λ m c list start is. ap (λ (t : Bool). whole_take t list start) is.0;
+  most_rests = λ m none. ap (λ (t : Bool). longest_while m.shape t m.wanted) none;
+  most_busy = λ m c is. ap (λ (t : Bool). longest_while m.shape t m.wanted) is.0 ∙ ap (longest_taking m.shape) is.1;
 }
 
 -- what the machine tells of its due access
-pub take_due : (m : ConsumerState) (a : Access) → due_take m ≡ Some a → IsOpenRight m.shape C a → ((calls : Takes) (made : List Made) → ConsumerStands m calls made → (is_taking m ≡ true) × TakeGoesOn m.shape calls made a) →
-    ((calls : Takes) (made : List Made) → ConsumerStands m calls made → is_taking m ≡ true → length made < length (take_program m.shape calls) + longest_take m.shape) →
+pub take_due : (m : ConsumerState) (a : Access) → due_take m ≡ Some a → IsOpenRight m.shape C a → ((calls : Takes) (made : List Made) → ConsumerStands m calls made → (is_taking m ≡ true) × TakeGoesOn m.shape m.wanted calls made a) →
+    ((calls : Takes) (made : List Made) → ConsumerStands m calls made → is_taking m ≡ true → length made < length (take_program m.shape calls) + longest_taking m.shape m.wanted) →
     (expects : Bool) → IsTrue expects ↔ LastBitIsDue m.shape C (due_take m) → ((calls : Takes) (made : List Made) → ConsumerStands m calls made → IsTrue expects → EndsInZeros m.shape C made) → Due consuming m a
 take_due m a due right goes_on bounded expects one zeros = record {
   is = due;
@@ -65,13 +78,33 @@ take_due m a due right goes_on bounded expects one zeros = record {
   expects = expects;
   one = one;
   zeros = zeros;
-  next = λ calls made st. let (is, goes) = goes_on calls made st in record { one = tt; is = is; goes = goes; few = bounded calls made st is };
+  next = λ calls made st. let (is, goes) = goes_on calls made st in record { one = m.wanted; is = (is, refl); goes = goes; few = bounded calls made st is };
 }
 
 -- what a machine that came to where a part of its call is makes of the answer, it makes of that part
 pub take_fed : (part m m' : ConsumerState) → m ≡ part → (a : Access) (v : Bool) → ((calls : Takes) (made : List Made) (b : Access) → ConsumerStands m calls made → due_take m ≡ Some b → ConsumerHasMoved m m' calls (made ++ answered b v ∷ [])) → due_take part ≡ Some a →
     (calls : Takes) (made : List Made) → ConsumerStands part calls made → ConsumerHasMoved part m' calls (made ++ answered a v ∷ [])
 take_fed part m m' is a v fed due calls made st = subst (λ (p : ConsumerState). ConsumerHasMoved p m' calls (made ++ answered a v ∷ [])) is (fed calls made a (subst (λ (p : ConsumerState). ConsumerStands p calls made) (sym is) st) (ap due_take is ∙ due))
+
+-- no take has many accesses
+few_reads : (shape : Shape) (wanted : ℕ) → wanted ≤ take_batch_of shape → longest_taking shape wanted ≤ 4865
+few_reads shape zero few = omega (arith, shape.small_modulus, shape.few_digits)
+few_reads shape (suc zero) few = omega (arith, shape.small_modulus, shape.few_digits)
+few_reads shape (suc (suc m)) few =
+    let few' : suc (suc m) ≤ 64 = omega (arith, few, small_take_batch shape, shape.few_cells) in
+    omega (arith, shape.small_modulus, shape.few_digits, mul-le-mul_right (width_of shape) few')
+
+pub few_taken :
+    (shape : Shape) (taking : Bool) (wanted n : ℕ) (list : List Event) → IsMarked n list (longest_while shape taking wanted) →
+    (taking ≡ true → wanted ≤ take_batch_of shape) → n < 10000
+few_taken shape false wanted n list marked few = omega (arith, marked.1)
+few_taken shape true wanted n list marked few = omega (arith, marked.1, few_reads shape wanted (few refl))
+
+-- where the machine keeps how many items the take wants, it has moved as a machine of a side
+pub take_moved :
+    (m m' : ConsumerState) (calls : Takes) (made : List Made) → m'.wanted ≡ m.wanted → ConsumerHasMoved m m' calls made →
+    (more : Takes) × ConsumerStands m' more made × consuming.After m m' calls more
+take_moved m m' calls made kept moved = (moved.0, moved.1, (moved.2, kept))
 
 -- ---- replies
 
@@ -80,16 +113,18 @@ last-snoc first [] x = refl
 last-snoc first (y ∷ takes) x = last-snoc (Some (take_reply_to y)) takes x
 
 -- a call that is over has a reply
-pub over_reply : (shape : Shape) (calls more : Takes) → HasTakeMore shape calls more → (x : replies.TakeReply) × (reply_at_end more.end more.takes ≡ Some x)
-over_reply shape calls more is_more = ⊎_elim
-    (λ one. (take_reply_to one.0, ap (λ (t : Takes). reply_at_end t.end t.takes) one.1 ∙ last-snoc None calls.takes one.0))
+pub over_reply : (shape : Shape) (wanted : ℕ) (calls more : Takes) → HasTakeMore shape wanted calls more → (x : replies.TakeReply) × (reply_at_end more.end more.takes ≡ Some x)
+over_reply shape wanted calls more is_more = ⊎_elim
+    (λ one. (take_reply_to one.0, ap (λ (t : Takes). reply_at_end t.end t.takes) one.2 ∙ last-snoc None calls.takes one.0))
     (λ told. (reply.Closed, ap (λ (t : Takes). reply_at_end t.end t.takes) told.2))
     is_more.is_one_more
 
 -- what a take that is over adds
-pub over_adds : (shape : Shape) (calls more : Takes) → HasTakeMore shape calls more → (whole list : List Event) → list ≡ events_of C (take_program shape more) → (x : replies.TakeReply) → Some x ≡ reply_at_end more.end more.takes → TakeAdds (ends_closed calls.end) shape calls x whole list
-over_adds shape calls more is_more whole list list_is x replied =
-    subst (λ (t : Bool). TakeAdds t shape calls x whole list) (sym (ap ends_closed is_more.not_over)) (more, is_more, replied, record { are = is_more.are; list_is = list_is })
+pub over_adds :
+    (shape : Shape) (wanted : ℕ) (calls more : Takes) → HasTakeMore shape wanted calls more → (whole list : List Event) → list ≡ events_of C (take_program shape more) →
+    (x : replies.TakeReply) → Some x ≡ reply_at_end more.end more.takes → TakeAdds (ends_closed calls.end) shape wanted calls x whole list
+over_adds shape wanted calls more is_more whole list list_is x replied =
+    subst (λ (t : Bool). TakeAdds t shape wanted calls x whole list) (sym (ap ends_closed is_more.not_over)) (more, is_more, replied, record { are = is_more.are; list_is = list_is })
 
 -- ---- the end as it is seen
 
@@ -100,10 +135,14 @@ take_seen {O} e F h = subst (λ (z : TakerState O). F z.end z.oracle) e h
 pub taking_seen : {O : Type 0} {a s : TakerState O} → a ≡ s → a.taking ≡ s.taking
 taking_seen {O} e = ap (λ (z : TakerState O). z.taking) e
 
-module _ {O : Type 0} (o : O) (e : RingEnd) (m : ConsumerState) (n : ℕ) (s : TakerState O) (view : record { end = e; taking = is_taking m; start = without_last n e.list; oracle = o } ≡ s)
-    (was : IsMachine consuming e m (whole_take (is_taking m) e.list (without_last n e.list)) × IsMarked n e.list (longest_taking m.shape (is_taking m))) (now : ConsumerState) (begins : (calls : Takes) (made : List Made) → ConsumerStands m calls made → CallBegins consuming m now calls made tt) where
+module _ {O : Type 0} (o : O) (e : RingEnd) (m : ConsumerState) (n : ℕ) (s : TakerState O) (view : record { end = e; taking = is_taking m; wanted = m.wanted; start = without_last n e.list; oracle = o } ≡ s)
+    (was : IsMachine consuming e m (whole_take (is_taking m) e.list (without_last n e.list)) × IsMarked n e.list (longest_while m.shape (is_taking m) m.wanted)) (now : ConsumerState)
+    (begins : (calls : Takes) (made : List Made) → ConsumerStands m calls made → CallBegins consuming m now calls made (wants_next (is_taking m) m.wanted)) where
+  pub wanted_is : wants_next (is_taking m) m.wanted ≡ wants_next s.taking s.wanted
+  wanted_is = ap (λ (z : TakerState O). wants_next z.taking z.wanted) view
+
   -- a take that is begun, or goes on
-  abbrev pub take_begun : Begun consuming tt
+  abbrev pub take_begun : Begun consuming (wants_next s.taking s.wanted)
   take_begun = record {
     seen = s.end;
     whole = takes_whole s;
@@ -114,16 +153,16 @@ module _ {O : Type 0} (o : O) (e : RingEnd) (m : ConsumerState) (n : ℕ) (s : T
     whole_is = ap (λ (z : TakerState O). takes_whole z) view;
     was = was;
     now = now;
-    begins = begins was.0.calls was.0.made was.0.at.stands;
+    begins = subst (CallBegins consuming m now was.0.calls was.0.made) wanted_is (begins was.0.calls was.0.made was.0.at.stands);
   }
 
   -- and one step of it
-  abbrev pub take_step : (e' : RingEnd) (m' : ConsumerState) → (is_taking now ≡ false → (m' ≡ now) × (e' ≡ e)) → ((calls : Takes) (made : List Made) → MachineAt consuming e now calls made → is_taking now ≡ true → MachineStep consuming e now e' m' calls) → Step consuming tt
-  take_step e' m' rests steps = record { begun = take_begun; e = e'; m = m'; rests = rests; steps = steps was.0.calls was.0.made }
+  abbrev pub take_step : (e' : RingEnd) (m' : ConsumerState) → (is_taking now ≡ false → (m' ≡ now) × (e' ≡ e)) → ((calls : Takes) (made : List Made) → MachineAt consuming e now calls made → is_taking now ≡ true → MachineStep consuming e now e' m' calls) → Step consuming (wants_next s.taking s.wanted)
+  take_step e' m' rests steps = record { begun = take_begun; e = e'; m = m'; rests = rests; steps = λ at is. steps was.0.calls was.0.made at is.0 }
 
 -- ---- the clauses of a step
 
-module _ (s : Step consuming tt) where
+module _ (wanted : ℕ) (s : Step consuming wanted) where
   abbrev calls : Takes
   calls = s.begun.was.0.calls
 
@@ -131,43 +170,52 @@ module _ (s : Step consuming tt) where
   whole = s.begun.whole
 
   abbrev TakeOf : Type 0
-  TakeOf = Outcome consuming s.begun.seen s.e s.m calls tt
+  TakeOf = Outcome consuming s.begun.seen s.e s.m calls wanted
 
   before_is : HasTakes s.e.ring.shape whole calls
   before_is = record { are = subst (λ (z : Shape). AreTakes z 0 calls.takes calls.end) (shape_there consuming take_laws s) s.begun.was.0.at.stands.are; list_is = whole_there consuming take_laws s }
 
-  some_of : (o : Option replies.TakeReply) → s.m.reply ≡ o → TakeOf → IfSome o (λ x. (is_taking s.m ≡ false) × HasTaken s.e.ring.shape whole s.e.list x)
+  some_of : (o : Option replies.TakeReply) → s.m.reply ≡ o → TakeOf → IfSome o (λ x. (is_taking s.m ≡ false) × HasTakenOf s.e.ring.shape wanted whole s.e.list x)
   some_of None is o = tt
   some_of (Some x) is (Refused same none refused list) =
-      (none, record { calls = calls; before_is = before_is; adds = subst (λ (t : Bool). TakeAdds t s.e.ring.shape calls x whole s.e.list) (sym refused.0) (let q : Some x ≡ Some reply.Closed = sym is ∙ refused.1 in (cc, list ∙ sym (whole_there consuming take_laws s))) })
+      (none, record { calls = calls; before_is = before_is; adds = subst (λ (t : Bool). TakeAdds t s.e.ring.shape wanted calls x whole s.e.list) (sym refused.0) (let q : Some x ≡ Some reply.Closed = sym is ∙ refused.1 in (cc, list ∙ sym (whole_there consuming take_laws s))) })
   some_of (Some x) is (Goes event grows same part more made stands) =
-      absurd (none-some x (sym (subst (λ (z : Bool). IsReplyToTake more z s.m.reply) same stands.reply_is) ∙ is))
+      absurd (none-some x (sym (subst (λ (z : Bool). IsReplyToTake more z s.m.reply) same.0 stands.reply_is) ∙ is))
   some_of (Some x) is (Over event grows none more is_more list made stands) =
-      (none, record { calls = calls; before_is = before_is; adds = over_adds s.e.ring.shape calls more is_more whole s.e.list list x (sym is ∙ subst (λ (z : Bool). IsReplyToTake more z s.m.reply) none stands.reply_is) })
+      (none, record { calls = calls; before_is = before_is; adds = over_adds s.e.ring.shape wanted calls more is_more whole s.e.list list x (sym is ∙ subst (λ (z : Bool). IsReplyToTake more z s.m.reply) none stands.reply_is) })
+
+  -- a take that goes on wants as many items
+  wanted_of : TakeOf → is_taking s.m ≡ true → s.m.wanted ≡ wanted
+  wanted_of (Refused same none refused list) is = absurd (true≢false (sym is ∙ none))
+  wanted_of (Goes event grows same part more made stands) is = same.1
+  wanted_of (Over event grows none more is_more list made stands) is = absurd (true≢false (sym is ∙ none))
+
+  pub take_wanted : is_taking s.m ≡ true → s.m.wanted ≡ wanted
+  take_wanted = wanted_of (out consuming take_laws s)
 
   module _ (r : Option replies.TakeReply) (r_is : r ≡ s.m.reply) where
     pub take_one : ((r ≡ Some reply.Closed) × (s.e ≡ s.begun.seen)) ⊎ ((x : Event) × Grows s.begun.seen s.e x)
     take_one = ⊎_elim (λ refused. inl (r_is ∙ refused.0.1, refused.1)) (λ grows. inr grows) (one_step consuming take_laws s)
 
-    pub take_some : IfSome r (λ x. (is_taking s.m ≡ false) × HasTaken s.e.ring.shape whole s.e.list x)
-    take_some = subst (λ (z : Option replies.TakeReply). IfSome z (λ x. (is_taking s.m ≡ false) × HasTaken s.e.ring.shape whole s.e.list x)) (sym r_is) (some_of s.m.reply refl (out consuming take_laws s))
+    pub take_some : IfSome r (λ x. (is_taking s.m ≡ false) × HasTakenOf s.e.ring.shape wanted whole s.e.list x)
+    take_some = subst (λ (z : Option replies.TakeReply). IfSome z (λ x. (is_taking s.m ≡ false) × HasTakenOf s.e.ring.shape wanted whole s.e.list x)) (sym r_is) (some_of s.m.reply refl (out consuming take_laws s))
 
   module _ (n' : ℕ) (n_rests : is_taking s.m ≡ false → n' ≡ 0) (n_goes : is_taking s.m ≡ true → n' ≡ s.begun.n + 1) where
     abbrev new : List Event
     new = whole_take (is_taking s.m) s.e.list (without_last n' s.e.list)
 
-    pub take_invariant : IsMachine consuming s.e s.m (whole_take (is_taking s.m) s.e.list (without_last n' s.e.list)) × IsMarked n' s.e.list (longest_taking s.m.shape (is_taking s.m))
-    take_invariant = step_invariant consuming take_laws s n' n_rests (λ _. n_goes)
+    pub take_invariant : IsMachine consuming s.e s.m (whole_take (is_taking s.m) s.e.list (without_last n' s.e.list)) × IsMarked n' s.e.list (longest_while s.m.shape (is_taking s.m) s.m.wanted)
+    take_invariant = step_invariant consuming take_laws s n' n_rests (λ _ is. n_goes is.0)
 
-    none_of : (o : Option replies.TakeReply) → s.m.reply ≡ o → TakeOf → IfNone o ((is_taking s.m ≡ true) × (new ≡ whole) × HasTakePart s.e.ring.shape new s.e.list)
+    none_of : (o : Option replies.TakeReply) → s.m.reply ≡ o → TakeOf → IfNone o ((is_taking s.m ≡ true) × (new ≡ whole) × HasTakePart s.e.ring.shape wanted new s.e.list)
     none_of (Some x) is o = tt
     none_of None is (Refused same none refused list) = absurd (none-some reply.Closed (sym is ∙ refused.1))
     none_of None is (Goes event grows same part more made stands) =
-        let stay = stays consuming take_laws s n' n_rests (λ _. n_goes) same in
-        (same, stay, subst (λ (l : List Event). HasTakePart s.e.ring.shape l s.e.list) (sym (whole_there consuming take_laws s) ∙ sym stay) part)
+        let stay = stays consuming take_laws s n' n_rests (λ _ is. n_goes is.0) same in
+        (same.0, stay, subst (λ (l : List Event). HasTakePart s.e.ring.shape wanted l s.e.list) (sym (whole_there consuming take_laws s) ∙ sym stay) part)
     none_of None is (Over event grows none more is_more list made stands) =
-        let some = over_reply s.e.ring.shape calls more is_more in
+        let some = over_reply s.e.ring.shape wanted calls more is_more in
         absurd (none-some some.0 (sym is ∙ (subst (λ (x : Bool). IsReplyToTake more x s.m.reply) none stands.reply_is ∙ some.1)))
 
-    pub take_none : (r : Option replies.TakeReply) → r ≡ s.m.reply → IfNone r ((is_taking s.m ≡ true) × (new ≡ whole) × HasTakePart s.e.ring.shape new s.e.list)
-    take_none r r_is = subst (λ (z : Option replies.TakeReply). IfNone z ((is_taking s.m ≡ true) × (new ≡ whole) × HasTakePart s.e.ring.shape new s.e.list)) (sym r_is) (none_of s.m.reply refl (out consuming take_laws s))
+    pub take_none : (r : Option replies.TakeReply) → r ≡ s.m.reply → IfNone r ((is_taking s.m ≡ true) × (new ≡ whole) × HasTakePart s.e.ring.shape wanted new s.e.list)
+    take_none r r_is = subst (λ (z : Option replies.TakeReply). IfNone z ((is_taking s.m ≡ true) × (new ≡ whole) × HasTakePart s.e.ring.shape wanted new s.e.list)) (sym r_is) (none_of s.m.reply refl (out consuming take_laws s))

@@ -15,8 +15,8 @@ use Rattle.ring_core.specs.Takes.{Takes, AreTakes}
 use Rattle.ring_core.specs.ConsumerState.{ConsumerState, IsConsumerButScan, IsConsumerButWord, consumer_due_at, due_take, is_taking, takes_at}
 use Rattle.ring_core.specs.ConsumerCalls.{ConsumerStands, IsReplyToTake, reply_at_end}
 use Rattle.ring_seats.specs.Ring.{RingEnd}
-use Rattle.ring_ends.specs.Ends.{HasTakes, HasTaken, TakeAdds, TakerState, whole_take}
-use Rattle.ring_ends.specs.Machines.{IsMachine, IsMarked, MachineEnded, CallBegins, consuming, longest_taking, without_last}
+use Rattle.ring_ends.specs.Ends.{HasTakes, HasTaken, HasTakenOf, TakeAdds, TakerState, wants_next, whole_take}
+use Rattle.ring_ends.specs.Machines.{IsMachine, IsMarked, MachineEnded, CallBegins, consuming, longest_while, without_last}
 use Rattle.ring_ends.proofs.MachineWhole.{Ended, More, Refused, Whole, ending, list_there, more_there, over_list, shape_whole, writes_left}
 use Rattle.ring_ends.proofs.TakerCalls.{over_adds, over_reply, take_begun, take_laws}
 
@@ -37,30 +37,37 @@ more_word p q r w e f = f ∙ ap (λ (x : ConsumerState). record x { word = w })
 
 -- ---- a whole take
 
-module _ {O : Type 0} (o : O) (e : RingEnd) (m : ConsumerState) (n : ℕ) (s : TakerState O) (view : record { end = e; taking = is_taking m; start = without_last n e.list; oracle = o } ≡ s)
-    (was : IsMachine consuming e m (whole_take (is_taking m) e.list (without_last n e.list)) × IsMarked n e.list (longest_taking m.shape (is_taking m))) (idle : s.taking ≡ false) (now : ConsumerState) (begins : (calls : Takes) (made : List Made) → ConsumerStands m calls made → CallBegins consuming m now calls made tt) where
+module _ {O : Type 0} (o : O) (e : RingEnd) (m : ConsumerState) (n : ℕ) (s : TakerState O) (view : record { end = e; taking = is_taking m; wanted = m.wanted; start = without_last n e.list; oracle = o } ≡ s)
+    (was : IsMachine consuming e m (whole_take (is_taking m) e.list (without_last n e.list)) × IsMarked n e.list (longest_while m.shape (is_taking m) m.wanted)) (idle : s.taking ≡ false) (now : ConsumerState) (begins : (calls : Takes) (made : List Made) → ConsumerStands m calls made → CallBegins consuming m now calls made (wants_next (is_taking m) m.wanted)) where
   pub idle_there : is_taking m ≡ false
   idle_there = ap (λ (z : TakerState O). z.taking) view ∙ idle
 
   -- a take, and what its accesses came to
-  abbrev pub take_whole : (e' : RingEnd) (m' : ConsumerState) {before after : ℕ → Bool} → MachineEnded consuming e now e' m' before after → Whole consuming tt
+  abbrev pub take_whole : (e' : RingEnd) (m' : ConsumerState) {before after : ℕ → Bool} → MachineEnded consuming e now e' m' before after → Whole consuming (wants_next s.taking s.wanted)
   take_whole e' m' {before} {after} ended = record { begun = take_begun o e m n s view was now begins; idle = idle_there; e = e'; m = m'; old = before; now = after; ended = ended }
 
 -- a take was answered, and this is what it added
-pub take_ended : (w : Whole consuming tt) → (x : replies.TakeReply) × (w.m.reply ≡ Some x) × HasTaken w.e.ring.shape w.begun.seen.list w.e.list x
-take_ended w = by (ending consuming take_laws w)
+pub take_ended : (wanted : ℕ) (w : Whole consuming wanted) → (x : replies.TakeReply) × (w.m.reply ≡ Some x) × HasTakenOf w.e.ring.shape wanted w.begun.seen.list w.e.list x
+take_ended wanted w = by (ending consuming take_laws w)
   where
     before_is : HasTakes w.e.ring.shape w.begun.seen.list w.begun.was.0.calls
     before_is = record { are = subst (λ (z : Shape). AreTakes z 0 w.begun.was.0.calls.takes w.begun.was.0.calls.end) (shape_whole consuming take_laws w) w.begun.was.0.at.stands.are; list_is = list_there consuming take_laws w }
 
-    by : Ended consuming w.begun.seen w.e w.begun.now w.m w.begun.was.0.calls tt → (x : replies.TakeReply) × (w.m.reply ≡ Some x) × HasTaken w.e.ring.shape w.begun.seen.list w.e.list x
+    by : Ended consuming w.begun.seen w.e w.begun.now w.m w.begun.was.0.calls wanted → (x : replies.TakeReply) × (w.m.reply ≡ Some x) × HasTakenOf w.e.ring.shape wanted w.begun.seen.list w.e.list x
     by (More z) =
         let is_more = more_there consuming take_laws w z in
-        let told = over_reply w.e.ring.shape w.begun.was.0.calls z.more is_more in
+        let told = over_reply w.e.ring.shape wanted w.begun.was.0.calls z.more is_more in
         let replied : w.m.reply ≡ reply_at_end (z.more).end (z.more).takes = subst (λ (t : Bool). IsReplyToTake z.more t w.m.reply) z.rests z.at.stands.reply_is in
-        (told.0, replied ∙ told.1, record { calls = w.begun.was.0.calls; before_is = before_is; adds = over_adds w.e.ring.shape w.begun.was.0.calls z.more is_more w.begun.seen.list w.e.list (over_list consuming take_laws w z) told.0 (sym told.1) })
+        (told.0, replied ∙ told.1, record { calls = w.begun.was.0.calls; before_is = before_is; adds = over_adds w.e.ring.shape wanted w.begun.was.0.calls z.more is_more w.begun.seen.list w.e.list (over_list consuming take_laws w z) told.0 (sym told.1) })
     by (Refused same_end same_m none refused) = (
       reply.Closed,
       refused.1,
-      record { calls = w.begun.was.0.calls; before_is = before_is; adds = subst (λ (t : Bool). TakeAdds t w.e.ring.shape w.begun.was.0.calls reply.Closed w.begun.seen.list w.e.list) (sym refused.0) (refl, ap (λ (x : RingEnd). x.list) same_end) },
+      record { calls = w.begun.was.0.calls; before_is = before_is; adds = subst (λ (t : Bool). TakeAdds t w.e.ring.shape wanted w.begun.was.0.calls reply.Closed w.begun.seen.list w.e.list) (sym refused.0) (refl, ap (λ (x : RingEnd). x.list) same_end) },
     )
+
+-- and of a take of one
+pub take_ended_one :
+    (wanted : ℕ) → wanted ≡ 1 → (w : Whole consuming wanted) → (x : replies.TakeReply) × (w.m.reply ≡ Some x) × HasTaken w.e.ring.shape w.begun.seen.list w.e.list x
+take_ended_one wanted one w =
+    let (x, is, taken) = take_ended wanted w in
+    (x, is, subst (λ n. HasTakenOf w.e.ring.shape n w.begun.seen.list w.e.list x) one taken)

@@ -72,12 +72,19 @@ pub record HasClosed (shape : Shape) (before after : List Event) : Type 0 where
 
 -- ---- the consumer's end
 
--- a taker: its end, whether a take is under way, what its list was where that began, and its oracle
+-- a taker: its end, whether a take is under way, how many items that or the last one wants, what its list was where a take under
+-- way began, and its oracle
 pub record TakerState (O : Type 0) : Type 0 where
   pub end : RingEnd
   pub taking : Bool
+  pub wanted : ℕ
   pub start : List Event
   pub oracle : O
+
+-- the most items that a take wants which is under way, or which is begun now as a take of one
+abbrev pub wants_next : Bool → ℕ → ℕ
+wants_next false wanted = 1
+wants_next true wanted = wanted
 
 abbrev pub whole_take : Bool → List Event → List Event → List Event
 whole_take false list start = list
@@ -86,19 +93,25 @@ whole_take true list start = start
 abbrev pub takes_whole : {O : Type 0} → TakerState O → List Event
 takes_whole t = whole_take t.taking t.end.list t.start
 
-pub record HasTakePart (shape : Shape) (whole list : List Event) : Type 0 where
+pub record HasTakePart (shape : Shape) (wanted : ℕ) (whole list : List Event) : Type 0 where
   pub calls : Takes
   pub before : HasTakes shape whole calls
   pub more : Takes
-  pub is_more : takes.HasTakeMore shape calls more
+  pub is_more : takes.HasTakeMore shape wanted calls more
   pub part : IsBeginning list (events_of C (take_program shape more))
 
--- A take added exactly its phrase, and this is the phrase's reply. Once one was told that the ring is closed it is answered so and adds nothing.
-abbrev pub TakeAdds : Bool → Shape → Takes → take_replies.TakeReply → List Event → List Event → Type 0
-TakeAdds true shape calls reply before after = (reply ≡ take_reply.Closed) × (after ≡ before)
-TakeAdds false shape calls reply before after = (more : Takes) × takes.HasTakeMore shape calls more × IsTakeReply more reply × HasTakes shape after more
+-- A take of at most so many items added exactly its phrase, and this is the phrase's reply. Once one was told that the ring is closed
+-- it is answered so and adds nothing.
+abbrev pub TakeAdds : Bool → Shape → ℕ → Takes → take_replies.TakeReply → List Event → List Event → Type 0
+TakeAdds true shape wanted calls reply before after = (reply ≡ take_reply.Closed) × (after ≡ before)
+TakeAdds false shape wanted calls reply before after =
+    (more : Takes) × takes.HasTakeMore shape wanted calls more × IsTakeReply more reply × HasTakes shape after more
 
-pub record HasTaken (shape : Shape) (before after : List Event) (reply : take_replies.TakeReply) : Type 0 where
+pub record HasTakenOf (shape : Shape) (wanted : ℕ) (before after : List Event) (reply : take_replies.TakeReply) : Type 0 where
   pub calls : Takes
   pub before_is : HasTakes shape before calls
-  pub adds : TakeAdds (takes.ends_closed calls.end) shape calls reply before after
+  pub adds : TakeAdds (takes.ends_closed calls.end) shape wanted calls reply before after
+
+-- a take of one
+abbrev pub HasTaken : Shape → List Event → List Event → take_replies.TakeReply → Type 0
+HasTaken shape = HasTakenOf shape 1

@@ -15,7 +15,7 @@ use Rattle.ring_core.specs.ProducerState.{ProducerState, Call, Put, Close, due_p
 use Rattle.ring_core.specs.ConsumerState.{ConsumerState, due_take, is_taking}
 use Rattle.ring_core.specs.ProducerCalls as puts
 use Rattle.ring_core.specs.ConsumerCalls as takes
-use Rattle.ring_core.specs.Lengths.{longest_take}
+use Rattle.ring_core.specs.Lengths.{longest_taking}
 use Rattle.ring_seats.specs.Ring.{RingEnd}
 use Rattle.ring_seats.specs.Programs.{begin_of}
 use Rattle.ring_seats.specs.Steppers.{AreAnswered, Grows, IsSameEnd, StandsAs}
@@ -38,14 +38,14 @@ abbrev pub IsRefusedAtOnce : Call → Option replies.BatchReply → Type 0
 IsRefusedAtOnce (Put items) answer = answer ≡ Some reply.Closed
 IsRefusedAtOnce Close answer = Unit {0}
 
--- the most accesses of a call, and of a take, if one is under way
+-- the most accesses of a call, and of a take of so many items, if one is under way
 abbrev pub longest_at : Shape → Option Call → ℕ
 longest_at shape None = 0
 longest_at shape (Some c) = puts.longest shape c
 
-abbrev pub longest_taking : Shape → Bool → ℕ
-longest_taking shape false = 0
-longest_taking shape true = longest_take shape
+abbrev pub longest_while : Shape → Bool → ℕ → ℕ
+longest_while shape false wanted = 0
+longest_while shape true wanted = longest_taking shape wanted
 
 -- ---- a side's machine
 
@@ -99,22 +99,22 @@ abbrev pub consuming : Machine
 consuming = record {
   State = ConsumerState;
   Calls = Takes;
-  Call = Unit {0};
+  Call = ℕ;
   side = C;
   shape_of = λ (m : ConsumerState). m.shape;
   due = due_take;
-  Busy = λ (m : ConsumerState) (_ : Unit {0}). is_taking m ≡ true;
+  Busy = λ (m : ConsumerState) (wanted : ℕ). (is_taking m ≡ true) × (m.wanted ≡ wanted);
   Rests = λ (m : ConsumerState). is_taking m ≡ false;
   is_batch = λ (m : ConsumerState). false;
   program = take_program;
-  More = λ (shape : Shape) (_ : Unit {0}) (calls more : Takes). takes.HasTakeMore shape calls more;
-  longest = λ (shape : Shape) (_ : Unit {0}). longest_take shape;
-  Part = λ (shape : Shape) (_ : Unit {0}) (whole list : List Event). HasTakePart shape whole list;
+  More = takes.HasTakeMore;
+  longest = longest_taking;
+  Part = HasTakePart;
   Stands = takes.ConsumerStands;
-  After = λ (m m' : ConsumerState) (calls more : Takes). takes.IsAfterTake m.shape (is_taking m) (is_taking m') calls more;
-  Refuses = λ (_ : Unit {0}) (calls : Takes) (m : ConsumerState). (takes.ends_closed calls.end ≡ true) × (m.reply ≡ Some take_reply.Closed);
+  After = λ (m m' : ConsumerState) (calls more : Takes). takes.IsAfterTake m.shape m.wanted (is_taking m) (is_taking m') calls more × (m'.wanted ≡ m.wanted);
+  Refuses = λ (_ : ℕ) (calls : Takes) (m : ConsumerState). (takes.ends_closed calls.end ≡ true) × (m.reply ≡ Some take_reply.Closed);
   whole = λ (m : ConsumerState). whole_take (is_taking m);
-  most = λ (m : ConsumerState). longest_taking m.shape (is_taking m);
+  most = λ (m : ConsumerState). longest_while m.shape (is_taking m) m.wanted;
 }
 
 -- ---- beside an end

@@ -3,13 +3,14 @@ ghost use Rattle.std.specs.Prelude.{◌≡◌, ◌≢◌, ◌⊎◌, ℕ, ◌+�
 ghost use Rattle.bits_core.specs.declared.events.Event.{Event};
 ghost use Rattle.bits_core.specs.Made.{Made};
 ghost use Rattle.ring_core.specs.declared.consumers.TakeReply.TheVariants.{Closed};
-ghost use Rattle.ring_core.specs.Lengths.{longest_take};
+ghost use Rattle.ring_core.specs.Counts.{take_batch_of};
+ghost use Rattle.ring_core.specs.Lengths.{longest_taking};
 ghost use Rattle.ring_core.specs.Takes.{Takes};
 ghost use Rattle.ring_core.specs.ConsumerState.{due_take, is_taking};
 ghost use Rattle.ring_core.specs.ConsumerCalls.{ConsumerStands};
 ghost use Rattle.ring_seats.specs.Steppers.{AreAnswered, Grows, IsAskedOnce, IsSameEnd, StandsAs};
 ghost use Rattle.bits_core.specs.declared.events.Side.TheVariants.{C};
-ghost use Rattle.ring_ends.specs.Ends.{HasTaken, HasTakePart, whole_take, takes_whole};
+ghost use Rattle.ring_ends.specs.Ends.{HasTakenOf, HasTakePart, wants_next, whole_take, takes_whole};
 ghost use Rattle.ring_ends.specs.Machines.{CallBegins, MachineAt, MachineBusy, MachineEnded, MachineReady, MachineStep, MachineWent, consuming};
 
 use crate::ends::TakeEnd;
@@ -42,13 +43,13 @@ pub struct Taker<'a, O: Oracle + Drop> {
 impl<'a, O: Oracle + Drop> Model for Taker<'a, O> {
     ghost use Rattle.ring_core.specs.ConsumerState.{is_taking};
     ghost use Rattle.ring_ends.specs.Ends.{TakerState, whole_take};
-    ghost use Rattle.ring_ends.specs.Machines.{IsMarked, IsMachine, consuming, without_last, longest_taking};
+    ghost use Rattle.ring_ends.specs.Machines.{IsMarked, IsMachine, consuming, without_last, longest_while};
 
     ghost Value = { TakerState O };
 
-    ghost view = { λ p. record { end = p.stepper; taking = is_taking p.machine; start = without_last p.steps p.stepper.list; oracle = p.oracle } };
+    ghost view = { λ p. record { end = p.stepper; taking = is_taking p.machine; wanted = p.machine.wanted; start = without_last p.steps p.stepper.list; oracle = p.oracle } };
 
-    ghost invariant = { λ p. IsMachine consuming p.stepper p.machine (whole_take (is_taking p.machine) p.stepper.list (without_last p.steps p.stepper.list)) × IsMarked p.steps p.stepper.list (longest_taking p.machine.shape (is_taking p.machine)) };
+    ghost invariant = { λ p. IsMachine consuming p.stepper p.machine (whole_take (is_taking p.machine) p.stepper.list (without_last p.steps p.stepper.list)) × IsMarked p.steps p.stepper.list (longest_while p.machine.shape (is_taking p.machine) p.machine.wanted) };
 }
 
 // One step of the take under way.
@@ -60,6 +61,7 @@ fn advance<'a, O: Oracle>(
     requires at { (calls : Takes) × (made : List Made) × MachineAt consuming stepper.old machine.old calls made }
     ensures rests { is_taking machine.old ≡ false → (machine.new ≡ machine.old) × (stepper.new ≡ stepper.old) }
     ensures steps { (calls : Takes) (made : List Made) → MachineAt consuming stepper.old machine.old calls made → is_taking machine.old ≡ true → MachineStep consuming stepper.old machine.old stepper.new machine.new calls }
+    ensures wanted { machine.new.wanted ≡ machine.old.wanted }
     ensures oracle { IsAskedOnce O.answers oracle.old oracle.new }
     ensures answered { AreAnswered stepper.old stepper.new (O.answers oracle.old) (O.answers oracle.new) }
 {
@@ -195,7 +197,8 @@ fn steps_behind(steps: u64, machine: &Consumer) -> u64
 #[inline(always)]
 fn begin_take(machine: &mut Consumer)
     requires stands { (calls : Takes) × (made : List Made) × ConsumerStands machine.old calls made }
-    ensures begins { (calls : Takes) (made : List Made) → ConsumerStands machine.old calls made → CallBegins consuming machine.old machine.new calls made tt }
+    ensures few { is_taking machine.old ≡ true → machine.old.wanted ≤ take_batch_of machine.old.shape }
+    ensures begins { (calls : Takes) (made : List Made) → ConsumerStands machine.old calls made → CallBegins consuming machine.old machine.new calls made (wants_next (is_taking machine.old) machine.old.wanted) }
 {
     if machine.next().is_none() {
         machine.take();
@@ -203,15 +206,16 @@ fn begin_take(machine: &mut Consumer)
 }
 
 impl<'a, O: Oracle + Drop> Taker<'a, O> {
-    /// One step of a take: one event of its accesses. The take begins where none is under way, and the reply comes with
+    /// One step of a take: one event of its accesses. A take of one begins where none is under way, and the reply comes with
     /// its last step. Once a take was told `Closed`, each is answered so at once, with no step.
     pub fn step_take(&mut self) -> Option<TakeReply>
         ensures same { IsSameEnd self.old.end self.new.end }
         ensures lawful { StandsAs C self.new.end }
         ensures one { ((result ≡ Some Closed) × (self.new.end ≡ self.old.end)) ⊎ ((e : Event) × Grows self.old.end self.new.end e) }
-        ensures none { IfNone result ((self.new.taking ≡ true) × (takes_whole self.new ≡ takes_whole self.old) × HasTakePart self.new.end.ring.shape (takes_whole self.new) self.new.end.list) }
-        ensures some { IfSome result (λ r. (self.new.taking ≡ false) × HasTaken self.new.end.ring.shape (takes_whole self.old) self.new.end.list r) }
-        ensures few { length self.new.end.list ≤ length (takes_whole self.old) + 2 * longest_take self.new.end.ring.shape }
+        ensures none { IfNone result ((self.new.taking ≡ true) × (takes_whole self.new ≡ takes_whole self.old) × HasTakePart self.new.end.ring.shape (wants_next self.old.taking self.old.wanted) (takes_whole self.new) self.new.end.list) }
+        ensures some { IfSome result (λ r. (self.new.taking ≡ false) × HasTakenOf self.new.end.ring.shape (wants_next self.old.taking self.old.wanted) (takes_whole self.old) self.new.end.list r) }
+        ensures wanted { self.new.taking ≡ true → self.new.wanted ≡ wants_next self.old.taking self.old.wanted }
+        ensures few { length self.new.end.list ≤ length (takes_whole self.old) + 2 * longest_taking self.new.end.ring.shape (wants_next self.old.taking self.old.wanted) }
         ensures oracle { IsAskedOnce O.answers self.old.oracle self.new.oracle }
         ensures answered { AreAnswered self.old.end self.new.end (O.answers self.old.oracle) (O.answers self.new.oracle) }
     {

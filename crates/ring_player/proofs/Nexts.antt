@@ -1,5 +1,5 @@
 -- What the next access of a machine says, by cases of the call under way and of the access.
-use Rattle.std.proofs.Common.{◌≡◌, Bool, true, false, Option, Some, None, List, refl, sym, subst}
+use Rattle.std.proofs.Common.{◌≡◌, ℕ, Bool, true, false, Option, Some, None, List, refl, sym, subst}
 use Rattle.bits_core.specs.declared.events.Access.{Access}
 use Rattle.bits_core.specs.declared.shapes.Shape.{Shape}
 use Rattle.bits_core.specs.Made.{Made}
@@ -31,23 +31,24 @@ put_next p (Some a) rest on calls made s =
     let (c, is, goes) = on calls made a s refl in
     subst (λ d. IsNextPut p.shape calls d made (Some a)) (sym is) goes
 
-abbrev pub IsNextTake : Shape → Takes → Bool → List Made → Option Access → Type 0
-IsNextTake shape calls false made None = made ≡ take_program shape calls
-IsNextTake shape calls true made None = ⊥
-IsNextTake shape calls false made (Some a) = ⊥
-IsNextTake shape calls true made (Some a) = TakeGoesOn shape calls made a
+-- of a take of at most so many items
+abbrev pub IsNextTake : Shape → ℕ → Takes → Bool → List Made → Option Access → Type 0
+IsNextTake shape wanted calls false made None = made ≡ take_program shape calls
+IsNextTake shape wanted calls true made None = ⊥
+IsNextTake shape wanted calls false made (Some a) = ⊥
+IsNextTake shape wanted calls true made (Some a) = TakeGoesOn shape wanted calls made a
 
 abbrev pub NextTake : ConsumerState → Option Access → Type 0
-NextTake p due = (calls : Takes) (made : List Made) → ConsumerStands p calls made → IsNextTake p.shape calls (is_taking p) made due
+NextTake p due = (calls : Takes) (made : List Made) → ConsumerStands p calls made → IsNextTake p.shape p.wanted calls (is_taking p) made due
 
 pub take_next :
     (p : ConsumerState) (due : Option Access) →
     ((calls : Takes) (made : List Made) → ConsumerStands p calls made → due ≡ None → (is_taking p ≡ false) × (made ≡ take_program p.shape calls)) →
-    ((calls : Takes) (made : List Made) (a : Access) → ConsumerStands p calls made → due ≡ Some a → (is_taking p ≡ true) × TakeGoesOn p.shape calls made a) →
+    ((calls : Takes) (made : List Made) (a : Access) → ConsumerStands p calls made → due ≡ Some a → (is_taking p ≡ true) × TakeGoesOn p.shape p.wanted calls made a) →
     NextTake p due
 take_next p None rest on calls made s =
     let (none, all) = rest calls made s refl in
-    subst (λ t. IsNextTake p.shape calls t made None) (sym none) all
+    subst (λ t. IsNextTake p.shape p.wanted calls t made None) (sym none) all
 take_next p (Some a) rest on calls made s =
     let (is, goes) = on calls made a s refl in
-    subst (λ t. IsNextTake p.shape calls t made (Some a)) (sym is) goes
+    subst (λ t. IsNextTake p.shape p.wanted calls t made (Some a)) (sym is) goes

@@ -6,7 +6,7 @@ use Rattle.ring_core.specs.Counts.{Count}
 use Rattle.ring_core.specs.Items.{events_in}
 use Rattle.ring_core.specs.Over.{over, puts_over, takes_over}
 use Rattle.ring_core.specs.Puts.{Put, put_phrase, put_phrases, stored_after}
-use Rattle.ring_core.specs.Takes.{Take, take_phrase, take_phrases, taken_after}
+use Rattle.ring_core.specs.Takes.{Take, count_after, take_phrase, take_phrases}
 
 module _ {S X : Type 0} (events : S → X → ℕ) (after : S → X → S) where
   abbrev total : S → List X → ℕ
@@ -36,9 +36,9 @@ puts_total : (shape : Shape) (c : Count) (xs : List Put) → total (λ c x. even
 puts_total shape c [] = refl
 puts_total shape c (x ∷ xs) = omega (arith, puts_total shape (stored_after shape c x) xs, length-append (put_phrase shape c x) (put_phrases shape (stored_after shape c x) xs))
 
-takes_total : (shape : Shape) (k : ℕ) (xs : List Take) → total (λ k x. events_in (take_phrase shape k x)) taken_after k xs ≡ 2 * length (take_phrases shape k xs)
-takes_total shape k [] = refl
-takes_total shape k (x ∷ xs) = omega (arith, takes_total shape (taken_after k x) xs, length-append (take_phrase shape k x) (take_phrases shape (taken_after k x) xs))
+takes_total : (shape : Shape) (c : Count) (xs : List Take) → total (λ c x. events_in (take_phrase shape c x)) (count_after shape) c xs ≡ 2 * length (take_phrases shape c xs)
+takes_total shape c [] = refl
+takes_total shape c (x ∷ xs) = omega (arith, takes_total shape (count_after shape c x) xs, length-append (take_phrase shape c x) (take_phrases shape (count_after shape c x) xs))
 
 pub puts_all_over :
     (shape : Shape) (c : Count) (xs : List Put) (t : ℕ) → 2 * length (put_phrases shape c xs) ≤ t → over (λ c x. events_in (put_phrase shape c x)) (stored_after shape) c xs t ≡ xs
@@ -51,14 +51,14 @@ puts_cut_over shape c xs x t l m =
     cut_over (λ c x. events_in (put_phrase shape c x)) (stored_after shape) c xs x t (omega (arith, l, puts_total shape c xs)) (omega (arith, m, puts_total shape c (xs ++ x ∷ [])))
 
 pub takes_all_over :
-    (shape : Shape) (k : ℕ) (xs : List Take) (t : ℕ) → 2 * length (take_phrases shape k xs) ≤ t → over (λ k x. events_in (take_phrase shape k x)) taken_after k xs t ≡ xs
-takes_all_over shape k xs t l = all_over (λ k x. events_in (take_phrase shape k x)) taken_after k xs t (omega (arith, l, takes_total shape k xs))
+    (shape : Shape) (c : Count) (xs : List Take) (t : ℕ) → 2 * length (take_phrases shape c xs) ≤ t → over (λ c x. events_in (take_phrase shape c x)) (count_after shape) c xs t ≡ xs
+takes_all_over shape c xs t l = all_over (λ c x. events_in (take_phrase shape c x)) (count_after shape) c xs t (omega (arith, l, takes_total shape c xs))
 
 pub takes_cut_over :
-    (shape : Shape) (k : ℕ) (xs : List Take) (x : Take) (t : ℕ) → 2 * length (take_phrases shape k xs) ≤ t → t < 2 * length (take_phrases shape k (xs ++ x ∷ [])) →
-    over (λ k x. events_in (take_phrase shape k x)) taken_after k (xs ++ x ∷ []) t ≡ xs
-takes_cut_over shape k xs x t l m =
-    cut_over (λ k x. events_in (take_phrase shape k x)) taken_after k xs x t (omega (arith, l, takes_total shape k xs)) (omega (arith, m, takes_total shape k (xs ++ x ∷ [])))
+    (shape : Shape) (c : Count) (xs : List Take) (x : Take) (t : ℕ) → 2 * length (take_phrases shape c xs) ≤ t → t < 2 * length (take_phrases shape c (xs ++ x ∷ [])) →
+    over (λ c x. events_in (take_phrase shape c x)) (count_after shape) c (xs ++ x ∷ []) t ≡ xs
+takes_cut_over shape c xs x t l m =
+    cut_over (λ c x. events_in (take_phrase shape c x)) (count_after shape) c xs x t (omega (arith, l, takes_total shape c xs)) (omega (arith, m, takes_total shape c (xs ++ x ∷ [])))
 
 -- none is over before the first event
 over_within : {S X : Type 0} (events : S → X → ℕ) (after : S → X → S) (s : S) (xs : List X) (t : ℕ) → total events after s (over events after s xs t) ≤ t
@@ -75,6 +75,6 @@ pub none_over_puts : (shape : Shape) (c : Count) (xs : List Put) → events_in (
 none_over_puts shape c xs =
     omega (arith, over_within (λ c x. events_in (put_phrase shape c x)) (stored_after shape) c xs 0, puts_total shape c (puts_over shape c xs 0))
 
-pub none_over_takes : (shape : Shape) (k : ℕ) (xs : List Take) → events_in (take_phrases shape k (takes_over shape k xs 0)) ≡ 0
-none_over_takes shape k xs =
-    omega (arith, over_within (λ k x. events_in (take_phrase shape k x)) taken_after k xs 0, takes_total shape k (takes_over shape k xs 0))
+pub none_over_takes : (shape : Shape) (c : Count) (xs : List Take) → events_in (take_phrases shape c (takes_over shape c xs 0)) ≡ 0
+none_over_takes shape c xs =
+    omega (arith, over_within (λ c x. events_in (take_phrase shape c x)) (count_after shape) c xs 0, takes_total shape c (takes_over shape c xs 0))

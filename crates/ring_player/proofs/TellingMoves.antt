@@ -13,8 +13,9 @@ use Rattle.queue_calls.specs.Calls as calls
 use Rattle.queue_calls.specs.Calls.{IsLinearizable}
 use Rattle.queue_calls.specs.Queue.{exactly}
 use Rattle.ring_core.specs.Counts.{first_count}
+use Rattle.ring_core.specs.GoingOn.{AreWanted}
 use Rattle.ring_core.specs.Items.{all_taken, events_in, IsTold, ToldIn}
-use Rattle.ring_core.specs.Over.{empties, fulls, puts_over, puts_over_in, takes_over, takes_over_in}
+use Rattle.ring_core.specs.Over.{empties, fulls, puts_over, puts_over_in, takes_over, takes_over_in, TakesOverAreRead}
 use Rattle.ring_core.specs.Puts.{FollowsPuts, IsPutOf, Put, Puts, number_after, put_program, stored_in}
 use Rattle.ring_core.specs.Recorded.{AreOffered, by_side, calls_told, put_told, RecordedIsLinearizable, take_told}
 use Rattle.ring_core.specs.Takes.{FollowsTakes, Takes, take_program}
@@ -29,8 +30,9 @@ use Rattle.ring_player.specs.declared.tellings.TakeStage.TheVariants as taking
 use Rattle.queue_calls.specs.declared.events.CallEvent.{CallEvent}
 use Rattle.ring_script.specs.Content.{Content}
 use Rattle.ring_player.proofs.Moves.{by_side as is_by_side, length-events, not_by, own_by, own_other}
-use Rattle.ring_player.proofs.Overs.{none_over_puts, none_over_takes}
+use Rattle.ring_player.proofs.Overs.{none_over_puts, none_over_takes, over_front}
 use Rattle.ring_player.proofs.Puttings.{left_some, stored-more, taken_some}
+use Rattle.ring_player.proofs.Takings.{wanted_front}
 use Rattle.ring_player.proofs.TellingSteps.{take_front}
 
 -- ---- one event more
@@ -122,7 +124,7 @@ module _ (owns : OwnChanges) (script : Content) (h h' : List Event) (e : Event) 
       )),
       (λ events tells puts takes r.
           let f : Telling = put_told script.shape (offers_of script puts) 0 first_count puts.puts puts.closes in
-          let g : Telling = take_told script.shape 0 takes.takes takes.end in
+          let g : Telling = take_told script.shape (λ _. 1) 0 first_count takes.takes takes.end in
           ap₂ (λ (a : List calls.Event) (b : List calls.Event). a ++ b) (tells puts takes (put_reading puts takes r))
           ((said puts takes r).0 ∙ sym (ap (λ s. by_side s (f (length (own P h))) (g (length (own C h)))) by))
           ∙ sym (told-last f g h e) ∙ ap (calls_told f g 0 0) (sym is)),
@@ -163,15 +165,16 @@ module _ (owns : OwnChanges) (script : Content) (h h' : List Event) (e : Event) 
 
     pub take_moves :
         SaysTake t taken empty now next told → taken ≡ length before.taken → empty ≡ before.empty → AreAt stage t script h → IsCounted h before → IsCounted h' now →
+        ((takes : Takes) → FollowsTakes script.shape h' takes → AreWanted script.shape (λ _. 1) 0 0 (takes_over_in script.shape h' takes)) →
         AreAt stage next script h' × ((events : List calls.Event) → TellsCalls script h events → TellsCalls script h' (events ++ told_in script told))
-    take_moves says same_taken same_empty at counted counted' = (
+    take_moves says same_taken same_empty at counted counted' wanted = (
       (λ puts takes r. (
         subst (λ l. IsPutStage stage script puts (length l)) (sym (ap (own P) is ∙ own_other owns C h e by)) (at puts takes (take_reading puts takes r)).0,
         subst (IsTakeStage next script takes) (sym one_take_more) (said puts takes r).1,
       )),
       (λ events tells puts takes r.
           let f : Telling = put_told script.shape (offers_of script puts) 0 first_count puts.puts puts.closes in
-          let g : Telling = take_told script.shape 0 takes.takes takes.end in
+          let g : Telling = take_told script.shape (λ _. 1) 0 first_count takes.takes takes.end in
           ap₂ (λ (a : List calls.Event) (b : List calls.Event). a ++ b) (tells puts takes (take_reading puts takes r))
           ((said puts takes r).0 ∙ sym (ap (λ s. by_side s (f (length (own P h))) (g (length (own C h)))) by))
           ∙ sym (told-last f g h e) ∙ ap (calls_told f g 0 0) (sym is)),
@@ -179,13 +182,14 @@ module _ (owns : OwnChanges) (script : Content) (h h' : List Event) (e : Event) 
       where
         said :
             (puts : Puts) (takes : Takes) → IsReadingAsked script h' puts takes →
-            (told_in script told ≡ take_told script.shape 0 takes.takes takes.end (length (own C h))) × IsTakeStage next script takes (suc (length (own C h)))
+            (told_in script told ≡ take_told script.shape (λ _. 1) 0 first_count takes.takes takes.end (length (own C h))) × IsTakeStage next script takes (suc (length (own C h)))
         said puts takes r =
             let r' = take_reading puts takes r in
             let (now_taken, now_empty, now_told) = counted' takes r.takes_follow in
-            says script takes (length (own C h)) before same_taken same_empty (take_few takes r.takes_follow) (at puts takes r').1 (counted takes r'.takes_follow) (
-              now_taken ∙ ap (λ n. all_taken (takes_over script.shape 0 takes.takes n)) one_take_more,
-              now_empty ∙ ap (λ n. empties (takes_over script.shape 0 takes.takes n)) one_take_more,
+            says script takes (length (own C h)) before same_taken same_empty (take_few takes r.takes_follow) r.takes_follow.are
+            (subst (λ n. AreWanted script.shape (λ _. 1) 0 0 (takes_over script.shape first_count takes.takes n)) one_take_more (wanted takes r.takes_follow)) (at puts takes r').1 (counted takes r'.takes_follow) (
+              now_taken ∙ ap (λ n. all_taken (takes_over script.shape first_count takes.takes n)) one_take_more,
+              now_empty ∙ ap (λ n. empties (takes_over script.shape first_count takes.takes n)) one_take_more,
               subst (λ n. (now.told ≡ true) ↔ IsTold script.shape takes n) one_take_more now_told,
             )
 
@@ -194,7 +198,7 @@ pub nothing_told : (script : Content) → TellsCalls script [] []
 nothing_told script puts takes r = refl
 
 pub at_first : (script : Content) → AreAt put.Between taking.Between script []
-at_first script puts takes r = (none_over_puts script.shape first_count puts.puts, none_over_takes script.shape 0 takes.takes)
+at_first script puts takes r = (none_over_puts script.shape first_count puts.puts, none_over_takes script.shape first_count takes.takes)
 
 -- ---- the play
 
@@ -218,13 +222,13 @@ pub records :
     RecordsPlay script h told
 records law script letters h told play tells =
     let (puts, asked, begins) = play.plays.played.puts in
-    let (takes, are, begins') = play.plays.played.takes in
-    let r : IsReadingAsked script h puts takes = record { asked = asked; puts_follow = record { are = asked.are; events = begins }; takes_follow = record { are = are; events = begins' } } in
+    let (takes, asked', begins') = play.plays.played.takes in
+    let r : IsReadingAsked script h puts takes = record { asked = asked; puts_follow = record { are = asked.are; events = begins }; takes_follow = record { are = asked'.are; events = begins' } } in
     record {
       tells = tells;
       linearizable = subst (IsLinearizable (exactly (capacity_of script.shape))) (sym (tells puts takes r))
-          (law script.shape (offers_of script puts) h puts takes (record { lawful = play.plays.played.lawful; puts_follow = r.puts_follow; takes_follow = r.takes_follow })
-          (offered_all script puts [] puts.puts 0 0 refl refl refl asked.attempts));
+          (law script.shape (offers_of script puts) (λ _. 1) h puts takes (record { lawful = play.plays.played.lawful; puts_follow = r.puts_follow; takes_follow = r.takes_follow })
+          (offered_all script puts [] puts.puts 0 0 refl refl refl asked.attempts) (λ j. omega arith) asked'.wanted);
     }
 
 -- ---- one step of the world
@@ -254,13 +258,24 @@ AreTakesCounted script h kept =
     (kept.taken ≡ all_taken (takes_over_in script.shape h takes)) × (kept.empty ≡ empties (takes_over_in script.shape h takes)) ×
     ((kept.told ≡ true) ↔ ToldIn script.shape h takes)
 
+-- in a play the takes that are over are of one item each, whichever takes its history is read as
+takes_of_one :
+    TakesOverAreRead → (script : Content) (letters : List Side) (h : List Event) → Plays script letters h → (takes : Takes) → FollowsTakes script.shape h takes →
+    AreWanted script.shape (λ _. 1) 0 0 (takes_over_in script.shape h takes)
+takes_of_one read script letters h plays takes follows =
+    let (mine, asked, begins) = plays.played.takes in
+    let (rest, e) = over_front _ _ first_count mine.takes (length (own C h)) in
+    subst (AreWanted script.shape (λ _. 1) 0 0) (read script.shape h mine takes (record { are = asked.are; events = begins }) follows)
+    (wanted_front script.shape 0 0 (takes_over_in script.shape h mine) rest (subst (AreWanted script.shape (λ _. 1) 0 0) e asked.wanted))
+
 pub take_stepped :
-    OwnChanges → (script script' : Content) (h h' : List Event) (stage : PutStage) (t next : TakeStage) (taken empty : ℕ) (before now : TakeTally) (told : Option (CallEvent ℕ ℕ)) → script' ≡ script →
+    OwnChanges → TakesOverAreRead → (script script' : Content) (h h' : List Event) (stage : PutStage) (t next : TakeStage) (taken empty : ℕ) (before now : TakeTally) (told : Option (CallEvent ℕ ℕ)) → script' ≡ script →
     IsMove script C true h h' → SaysTake t taken empty now next told → taken ≡ length before.taken → empty ≡ before.empty → AreAt stage t script h → AreTakesCounted script h before →
-    AreTakesCounted script' h' now → Stepped script script' h h' stage next told
-take_stepped owns script script' h h' stage t next taken empty before now told same (e, is, by, not) says same_taken same_empty at counted counted' =
+    AreTakesCounted script' h' now → (letters : List Side) → Plays script' letters h' → Stepped script script' h h' stage next told
+take_stepped owns read script script' h h' stage t next taken empty before now told same (e, is, by, not) says same_taken same_empty at counted counted' letters plays =
     subst (λ s. Stepped script s h h' stage next told) (sym same)
-    (take_moves owns script h h' e is by stage t next taken empty before now told says same_taken same_empty at counted (subst (λ s. AreTakesCounted s h' now) same counted'))
+    (take_moves owns script h h' e is by stage t next taken empty before now told says same_taken same_empty at counted (subst (λ s. AreTakesCounted s h' now) same counted')
+    (takes_of_one read script letters h' (subst (λ s. Plays s letters h') same plays)))
 
 -- where the side was done
 pub not_stepped :

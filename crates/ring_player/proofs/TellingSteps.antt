@@ -3,12 +3,14 @@ use Rattle.std.proofs.Common.{◌≡◌, ◌⊎◌, inl, inr, ℕ, suc, ◌+◌,
 use Rattle.bits_core.specs.declared.shapes.Shape.{Shape}
 use Rattle.queue_calls.specs.Calls as calls
 use Rattle.ring_core.specs.Counts.{first_count}
-use Rattle.ring_core.specs.Items.{all_taken, events_in, IsTold}
+use Rattle.ring_core.specs.GoingOn.{AreWanted}
+use Rattle.ring_core.specs.Items.{all_taken, events_in, IsTold, taken_of}
 use Rattle.ring_core.specs.Over.{empties, fulls, puts_over, takes_over}
 use Rattle.ring_core.specs.Puts.{ArePuts, Full, IsPut, number_after, Put, Puts, put_phrases, put_program, close_phrase, Stored, stored_in}
 use Rattle.ring_core.specs.Recorded.{put_answer, put_told, take_answer, take_told}
 use Rattle.ring_core.specs.RecordedByOne.{events_of_puts, events_of_takes, PutTells, PutsTellByOne, TakeTells, TakesTellByOne}
-use Rattle.ring_core.specs.Takes.{Empty, Item, ItemAfterClose, Take, Takes, take_program}
+use Rattle.ring_core.specs.ConsumerCalls.{IsTakeOf}
+use Rattle.ring_core.specs.Takes.{AreTakes, Empty, IsTake, Item, ItemAfterClose, Take, Takes, take_program, taken_in}
 use Rattle.ring_player.specs.Plays.{AreAttempts, ArePutsOf, offered}
 use Rattle.ring_player.specs.Tellings.{IsPutStage, IsTakeStage, offers_of}
 use Rattle.ring_player.specs.declared.tellings.PutStage.TheVariants as put
@@ -17,7 +19,7 @@ use Rattle.ring_script.specs.Content.{Content}
 use Rattle.ring_player.proofs.Headlines.{past_is}
 use Rattle.ring_player.proofs.Overs.{over_front}
 use Rattle.ring_player.proofs.Puttings.{fulls-more, stored-more}
-use Rattle.ring_player.proofs.Takings.{all-more, empties-more, item_of}
+use Rattle.ring_player.proofs.Takings.{all-more, empties-more, take_at, wanted_at}
 
 -- ---- lists
 
@@ -181,16 +183,16 @@ module _ (law : TakesTellByOne) (script : Content) (takes : Takes) (i : ℕ) (fe
   shape_of = script.shape
 
   abbrev over_before : List Take
-  over_before = takes_over shape_of 0 takes.takes i
+  over_before = takes_over shape_of first_count takes.takes i
 
   abbrev over_after : List Take
-  over_after = takes_over shape_of 0 takes.takes (suc i)
+  over_after = takes_over shape_of first_count takes.takes (suc i)
 
   abbrev told_of : List calls.Event
-  told_of = take_told shape_of 0 takes.takes takes.end i
+  told_of = take_told shape_of (λ _. 1) 0 first_count takes.takes takes.end i
 
-  take_tells : TakeTells shape_of takes i over_before over_after told_of
-  take_tells = law shape_of takes i few
+  take_tells : TakeTells shape_of (λ _. 1) takes i over_before over_after told_of
+  take_tells = law shape_of (λ _. 1) takes i few
 
   pub take_begins : IsTakeStage taking.Between script takes i → (calls.TakeBegin 1 ∷ [] ≡ told_of) × IsTakeStage taking.Taking script takes (suc i)
   take_begins e = elim take_tells [
@@ -209,16 +211,16 @@ module _ (law : TakesTellByOne) (script : Content) (takes : Takes) (i : ℕ) (fe
 
   -- a take goes on, or it ends, by what is counted
   pub take_goes :
-      (taken taken' : List ℕ) (empty empty' : ℕ) → IsTakeStage taking.Taking script takes i → taken ≡ all_taken over_before → empty ≡ empties over_before → taken' ≡ all_taken over_after →
+      (taken taken' : List ℕ) (empty empty' : ℕ) → AreTakes shape_of 0 takes.takes takes.end → AreWanted shape_of (λ _. 1) 0 0 over_after → IsTakeStage taking.Taking script takes i → taken ≡ all_taken over_before → empty ≡ empties over_before → taken' ≡ all_taken over_after →
       empty' ≡ empties over_after →
       Ends taken taken' empty empty' ⊎
       ((taken' ≡ taken) × (empty' ≤ empty) ×
       ((IsTold shape_of takes (suc i) × (calls.TakeClosed ∷ [] ≡ told_of) × IsTakeStage taking.Told script takes (suc i)) ⊎
       ((¬ IsTold shape_of takes (suc i)) × ([] ≡ told_of) × IsTakeStage taking.Taking script takes (suc i))))
-  take_goes taken taken' empty empty' at is_taken is_empty now_taken now_empty = elim take_tells [
+  take_goes taken taken' empty empty' are wanted at is_taken is_empty now_taken now_empty = elim take_tells [
     | inl z ↦ absurd (omega (arith, at, z.1))
     | inr y ↦ elim y [
-      | inl z ↦ (let (x, is, less, ends, t) = z in inl (by_take x is ends t))
+      | inl z ↦ (let (x, is, less, ends, t) = z in inl (by_take x is ends t (is_take x is) (is_of x is)))
       | inr v ↦ elim v [
         | inl z ↦ inr (
           now_taken ∙ ap all_taken z.0 ∙ sym is_taken,
@@ -234,13 +236,28 @@ module _ (law : TakesTellByOne) (script : Content) (takes : Takes) (i : ℕ) (fe
     ]
   ]
     where
-      more : (x : Take) → over_after ≡ over_before ++ x ∷ [] → taken' ≡ taken ++ item_of x
-      more x is = now_taken ∙ ap all_taken is ∙ all-more over_before x ∙ ap (λ l. l ++ item_of x) (sym is_taken)
+      more : (x : Take) → over_after ≡ over_before ++ x ∷ [] → taken' ≡ taken ++ taken_of x
+      more x is = now_taken ∙ ap all_taken is ∙ all-more over_before x ∙ ap (λ l. l ++ taken_of x) (sym is_taken)
 
-      by_take : (x : Take) → over_after ≡ over_before ++ x ∷ [] → suc i ≡ events_of_takes shape_of over_after → told_of ≡ take_answer x ∷ [] → Ends taken taken' empty empty'
-      by_take (Item seen item) is ends t = inl (item, more (Item seen item) is, sym t, sym ends)
-      by_take (ItemAfterClose seen again item) is ends t = inl (item, more (ItemAfterClose seen again item) is, sym t, sym ends)
-      by_take (Empty seen) is ends t =
+      is_take : (x : Take) → over_after ≡ over_before ++ x ∷ [] → IsTake shape_of (taken_in 0 over_before) x
+      is_take x is =
+          let (rest, e) = over_front _ _ first_count takes.takes (suc i) in
+          take_at shape_of 0 over_before x rest takes.end
+          (subst (λ (l : List Take). AreTakes shape_of 0 l takes.end) (e ∙ ap (λ l. l ++ rest) is ∙ append_assoc over_before (x ∷ []) rest) are)
+
+      is_of : (x : Take) → over_after ≡ over_before ++ x ∷ [] → IsTakeOf shape_of (taken_in 0 over_before) 1 x
+      is_of x is = wanted_at shape_of 0 0 over_before x [] (subst (AreWanted shape_of (λ _. 1) 0 0) is wanted)
+
+      by_take :
+          (x : Take) → over_after ≡ over_before ++ x ∷ [] → suc i ≡ events_of_takes shape_of over_after → told_of ≡ take_answer x ∷ [] → IsTake shape_of (taken_in 0 over_before) x →
+          IsTakeOf shape_of (taken_in 0 over_before) 1 x → Ends taken taken' empty empty'
+      by_take (Item seen []) is ends t one of = absurd (omega (arith, one.1.some))
+      by_take (Item seen (item ∷ [])) is ends t one of = inl (item, more (Item seen (item ∷ [])) is, sym t, sym ends)
+      by_take (Item seen (item ∷ next ∷ items)) is ends t one of = absurd (omega (arith, of.0))
+      by_take (ItemAfterClose seen again []) is ends t one of = absurd (omega (arith, one.2.some))
+      by_take (ItemAfterClose seen again (item ∷ [])) is ends t one of = inl (item, more (ItemAfterClose seen again (item ∷ [])) is, sym t, sym ends)
+      by_take (ItemAfterClose seen again (item ∷ next ∷ items)) is ends t one of = absurd (omega (arith, of.0))
+      by_take (Empty seen) is ends t one of =
           inr (more (Empty seen) is ∙ append-nil taken, omega (arith, now_empty, ap empties is, empties-more over_before (Empty seen), is_empty), sym t, sym ends)
 
   pub told_is_last : IsTakeStage taking.Told script takes i → ⊥

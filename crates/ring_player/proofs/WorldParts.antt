@@ -224,8 +224,8 @@ few_of script ps cs h pd cd pt ct put taken kept told empty same_p same_c p t pu
     subst (λ (x : Content). TakenSoFar x.shape (own C h) taken told empty) same_c (subst (λ l. TakenSoFar cs.shape l taken told empty) (sym t.own_is) takes) in
     let (rest, is) = (holds u.puts v.takes (record { are = u.are; events = u.begins }) (record { are = v.are; events = v.begins })).prefix (length h) in
     let put_so : items_put script.shape first_count u.puts.puts (clock P h (length h)) ≡ put = ap (items_put script.shape first_count u.puts.puts) (clock_end P h) ∙ u.items in
-    let taken_so : items_taken script.shape 0 v.takes.takes (clock C h (length h)) ≡ taken = ap (items_taken script.shape 0 v.takes.takes) (clock_end C h) ∙ v.items in
-    omega (arith, ap length is, length-append (items_taken script.shape 0 v.takes.takes (clock C h (length h))) rest, ap length put_so, ap length taken_so)
+    let taken_so : items_taken script.shape first_count v.takes.takes (clock C h (length h)) ≡ taken = ap (items_taken script.shape first_count v.takes.takes) (clock_end C h) ∙ v.items in
+    omega (arith, ap length is, length-append (items_taken script.shape first_count v.takes.takes (clock C h (length h))) rest, ap length put_so, ap length taken_so)
 
 -- ---- the schedule
 

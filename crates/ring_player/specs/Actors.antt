@@ -19,6 +19,7 @@ use Rattle.ring_core.specs.declared.consumers.TakeReply.TheVariants as taken
 use Rattle.ring_core.specs.declared.producers.BatchReply.{BatchReply}
 use Rattle.ring_core.specs.declared.producers.BatchReply.TheVariants as reply
 use Rattle.bits_core.specs.Shape.{width_of}
+use Rattle.ring_core.specs.GoingOn.{AreWanted}
 use Rattle.ring_core.specs.Items.{all_taken}
 use Rattle.ring_core.specs.Over.{empties, fulls}
 use Rattle.ring_core.specs.Puts.{Puts, stored_in, put_program}
@@ -145,7 +146,7 @@ empty_in (Some (taken.Item item)) = 0
 empty_in (Some taken.Empty) = 1
 empty_in (Some taken.Closed) = 0
 
--- it stands after these accesses, with this one open
+-- it stands after these accesses, with this one open; its takes are of one item each
 pub record TakeActorStands (script : Content) (p : ConsumerState) (taken : List ℕ) (told : Bool) (empty : ℕ) (list : List Made) (opened : Option Access) : Type 0 where
   pub calls : Takes
   pub there : ConsumerStands p calls list
@@ -153,6 +154,8 @@ pub record TakeActorStands (script : Content) (p : ConsumerState) (taken : List 
   pub taken_is : taken ≡ all_taken calls.takes
   pub told_is : told ≡ ends_closed calls.end
   pub empty_is : empty ≡ empties calls.takes
+  pub one : AreWanted script.shape (λ _. 1) 0 0 calls.takes
+  pub wants : is_taking p ≡ true → p.wanted ≡ 1
   pub few : taken_in 0 calls.takes ≤ script.takes
   pub long : length (take_program script.shape calls) ≤ length list
   pub asked : is_taking p ≡ true → taken_in 0 calls.takes < script.takes

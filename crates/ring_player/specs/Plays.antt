@@ -8,6 +8,7 @@ use Rattle.bits_core.specs.Intervals.{HasOverlap, IsRead}
 use Rattle.bits_core.specs.Lawful.{IsLawful}
 use Rattle.bits_core.specs.Made.{events_of, own, IsBeginning}
 use Rattle.bits_core.specs.Shape.{batch_of}
+use Rattle.ring_core.specs.GoingOn.{AreWanted}
 use Rattle.ring_core.specs.Items.{Tells}
 use Rattle.ring_core.specs.ProducerCalls.{IsPutOf}
 use Rattle.ring_core.specs.Puts.{Put, Puts, number_after, stored_in, put_program, ArePuts}
@@ -29,11 +30,15 @@ pub record ArePutsOf (script : Content) (calls : Puts) : Type 0 where
   pub attempts : AreAttempts script 0 calls.puts
   pub closes : calls.closes ≡ true → (script.closes ≡ true) × (stored_in 0 calls.puts ≡ length script.items)
 
+-- the takes are of one item each
+pub record AreTakesOf (script : Content) (calls : Takes) : Type 0 where
+  pub are : AreTakes script.shape 0 calls.takes calls.end
+  pub wanted : AreWanted script.shape (λ _. 1) 0 0 calls.takes
+
 -- these events of a side are a beginning of those of calls that the script asks for
 abbrev pub IsProgram : Content → Side → List Event → Type 0
 IsProgram script P events = (calls : Puts) × ArePutsOf script calls × IsBeginning events (events_of P (put_program script.shape calls))
-IsProgram script C events =
-    (calls : Takes) × AreTakes script.shape 0 calls.takes calls.end × IsBeginning events (events_of C (take_program script.shape calls))
+IsProgram script C events = (calls : Takes) × AreTakesOf script calls × IsBeginning events (events_of C (take_program script.shape calls))
 
 -- they are those of whole calls: of puts that store all items, with the close if the script closes; or of takes that take as
 -- many items as the script wants, or of which the last is told that the ring is closed

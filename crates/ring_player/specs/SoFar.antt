@@ -25,7 +25,7 @@ pub record TakenSoFar (shape : Shape) (events : List Event) (taken : List ℕ) (
   pub takes : Takes
   pub are : AreTakes shape 0 takes.takes takes.end
   pub begins : IsBeginning events (events_of C (take_program shape takes))
-  pub items : items_taken shape 0 takes.takes (length events) ≡ taken
+  pub items : items_taken shape first_count takes.takes (length events) ≡ taken
   pub tells : (told ≡ true) ↔ IsTold shape takes (length events)
-  pub over : empties (takes_over shape 0 takes.takes (length events)) ≡ empty
-  pub ended : all_taken (takes_over shape 0 takes.takes (length events)) ≡ taken
+  pub over : empties (takes_over shape first_count takes.takes (length events)) ≡ empty
+  pub ended : all_taken (takes_over shape first_count takes.takes (length events)) ≡ taken

@@ -10,12 +10,13 @@ use Rattle.queue_calls.specs.Queue.{exactly}
 use Rattle.queue_calls.specs.Told.{event_by}
 use Rattle.queue_calls.specs.declared.events.CallEvent.{CallEvent}
 use Rattle.ring_core.specs.Counts.{first_count}
+use Rattle.ring_core.specs.GoingOn.{AreWanted}
 use Rattle.ring_core.specs.Items.{all_taken, events_in, IsTold}
 use Rattle.ring_core.specs.Over.{empties, fulls, puts_over, takes_over}
 use Rattle.ring_core.specs.Puts.{FollowsPuts, Puts, put_program, stored_in}
 use Rattle.ring_core.specs.Recorded.{put_told, recorded, take_told}
 use Rattle.ring_core.specs.RecordedByOne.{events_of_puts, events_of_takes}
-use Rattle.ring_core.specs.Takes.{FollowsTakes, Takes, take_program}
+use Rattle.ring_core.specs.Takes.{AreTakes, FollowsTakes, Takes, take_program}
 use Rattle.ring_player.specs.Actors.{PutTally}
 use Rattle.ring_player.specs.Plays.{ArePutsOf, offered}
 use Rattle.ring_player.specs.declared.tellings.PutStage.{PutStage}
@@ -36,7 +37,7 @@ offers_of script puts j = offered script (stored_in 0 (take j puts.puts))
 
 -- the events are the recorded calls of the history, whichever calls it is read as
 abbrev pub TellsCalls : Content → List Event → List calls.Event → Type 0
-TellsCalls script h events = (puts : Puts) (takes : Takes) → IsReadingAsked script h puts takes → events ≡ recorded script.shape (offers_of script puts) h puts takes
+TellsCalls script h events = (puts : Puts) (takes : Takes) → IsReadingAsked script h puts takes → events ≡ recorded script.shape (offers_of script puts) (λ _. 1) h puts takes
 
 -- what is told, as an event of calls: a put is of the items behind so many, as many as a batch has, and a take took one item
 abbrev pub event_of : Content → CallEvent ℕ ℕ → calls.Event
@@ -63,8 +64,8 @@ IsPutStage put.Closing script puts i =
 IsPutStage put.Closed script puts i = events_in (put_program script.shape puts) ≤ i
 
 abbrev pub IsTakeStage : TakeStage → Content → Takes → ℕ → Type 0
-IsTakeStage taking.Between script takes i = events_of_takes script.shape (takes_over script.shape 0 takes.takes i) ≡ i
-IsTakeStage taking.Taking script takes i = events_of_takes script.shape (takes_over script.shape 0 takes.takes i) < i
+IsTakeStage taking.Between script takes i = events_of_takes script.shape (takes_over script.shape first_count takes.takes i) ≡ i
+IsTakeStage taking.Taking script takes i = events_of_takes script.shape (takes_over script.shape first_count takes.takes i) < i
 IsTakeStage taking.Told script takes i = events_in (take_program script.shape takes) ≤ i
 
 -- whichever calls the history is read as
@@ -104,11 +105,13 @@ pub record TakeTally : Type 0 where
 
 abbrev pub IsTakeTally : Content → Takes → ℕ → TakeTally → Type 0
 IsTakeTally script takes i kept =
-    (kept.taken ≡ all_taken (takes_over script.shape 0 takes.takes i)) × (kept.empty ≡ empties (takes_over script.shape 0 takes.takes i)) ×
+    (kept.taken ≡ all_taken (takes_over script.shape first_count takes.takes i)) × (kept.empty ≡ empties (takes_over script.shape first_count takes.takes i)) ×
     ((kept.told ≡ true) ↔ IsTold script.shape takes i)
 
+-- what is told of an event of the consumer, whose takes that are over with it are of one item each
 abbrev pub SaysTake : TakeStage → (taken : ℕ) → (empty : ℕ) → (now : TakeTally) → TakeStage → Option (CallEvent ℕ ℕ) → Type 0
 SaysTake stage taken empty now next told =
     (script : Content) (takes : Takes) (i : ℕ) (before : TakeTally) → taken ≡ length before.taken → empty ≡ before.empty → i < events_in (take_program script.shape takes) →
+    AreTakes script.shape 0 takes.takes takes.end → AreWanted script.shape (λ _. 1) 0 0 (takes_over script.shape first_count takes.takes (suc i)) →
     IsTakeStage stage script takes i → IsTakeTally script takes i before → IsTakeTally script takes (suc i) now →
-    (told_in script told ≡ take_told script.shape 0 takes.takes takes.end i) × IsTakeStage next script takes (suc i)
+    (told_in script told ≡ take_told script.shape (λ _. 1) 0 first_count takes.takes takes.end i) × IsTakeStage next script takes (suc i)

@@ -15,7 +15,7 @@ use crate::worlds::World;
 use bits_core::laws::own_changes;
 use bits_core::{Event, Side, Store};
 use queue_calls::CallEvent;
-use ring_core::laws::{events_tell_by_one, recorded_is_linearizable};
+use ring_core::laws::{calls_over_are_read, events_tell_by_one, recorded_is_linearizable};
 use ring_script::Script;
 use std::alloc::{AllocError, Allocator};
 
@@ -177,6 +177,7 @@ fn take_step<E: Store<Event>, T: Store<u64>>(
     ensures letters { OnOk result ((letters : List Side) → Plays world.old.script letters world.old.history → Plays world.new.script (letters ++ side_is.C ∷ []) world.new.history) }
 {
     own_changes();
+    calls_over_are_read();
     let told = world.told();
     let taken = world.ended_items().len();
     let empty = world.empty();

@@ -15,8 +15,8 @@ use Rattle.bits_core.specs.Made.{Made, Write, events_of, own, clock, place_of, I
 use Rattle.ring_core.specs.declared.consumers.TakeReply.TheVariants as reply
 use Rattle.ring_core.specs.Counts.{Count, first_count, number_past}
 use Rattle.ring_core.specs.Puts.{Put, Stored, Full, Puts, stored_after, put_phrase, put_phrases, close_phrase, put_program}
-use Rattle.ring_core.specs.Takes.{Take, Item, ItemAfterClose, Empty, End, Open, Takes, taken_in, taken_after, take_phrase, take_phrases, end_phrase, take_program}
-use Rattle.ring_core.specs.Items.{events_in, items_taken, all_put, all_taken}
+use Rattle.ring_core.specs.Takes.{Take, Item, ItemAfterClose, Empty, End, Open, Takes, taken_count, count_after, take_phrase, take_phrases, end_phrase, take_program, taken_in}
+use Rattle.ring_core.specs.Items.{events_in, items_taken, all_put, all_taken, taken_of}
 use Rattle.ring_core.specs.CallsAt.{IsTakeAt, items_ended, puts_ended, takes_ended}
 use Rattle.ring_core.specs.Readings.{PutsAreFirst, TakesAreRead}
 use Rattle.ring_core.specs.RingLaw.{IsRun, InEveryRun, EmptyIsFresh}
@@ -33,9 +33,9 @@ by_true : (b : Bool) (xs ys : List ℕ) → b ≡ true → length ((if b then xs
 by_true true xs ys e = length-append xs ys
 by_true false xs ys e = absurd (cc)
 
-at_most : (b : Bool) (x : ℕ) (ys : List ℕ) → length ((if b then x ∷ [] else []) ++ ys) ≤ suc (length ys)
-at_most true x ys = omega arith
-at_most false x ys = omega arith
+at_most : (b : Bool) (xs ys : List ℕ) → length ((if b then xs else []) ++ ys) ≤ length xs + length ys
+at_most true xs ys = omega (arith, length-append xs ys)
+at_most false xs ys = omega arith
 
 pub past_is : (n : ℕ) (items : List ℕ) → number_past n items ≡ n + length items
 past_is n [] = omega arith
@@ -61,21 +61,21 @@ ended_least shape c (x ∷ puts) more t l =
     one_more_put (Full seen) puts = omega arith
 
 -- takes take no more items than all of them
-ended_most : (shape : Shape) (k : ℕ) (takes : List Take) (t : ℕ) → length (items_taken shape k takes t) ≤ length (all_taken takes)
-ended_most shape k [] t = omega arith
-ended_most shape k (Item seen item ∷ takes) t =
-    let phrase : ℕ = events_in (take_phrase shape k (Item seen item)) in
-    omega (arith, at_most (nat_le phrase t) item (items_taken shape (suc k) takes (t - phrase)), ended_most shape (suc k) takes (t - phrase))
-ended_most shape k (ItemAfterClose seen again item ∷ takes) t =
-    let phrase : ℕ = events_in (take_phrase shape k (ItemAfterClose seen again item)) in
-    omega (arith, at_most (nat_le phrase t) item (items_taken shape (suc k) takes (t - phrase)), ended_most shape (suc k) takes (t - phrase))
-ended_most shape k (Empty seen ∷ takes) t = ended_most shape k takes (t - events_in (take_phrase shape k (Empty seen)))
+ended_most : (shape : Shape) (c : Count) (takes : List Take) (t : ℕ) → length (items_taken shape c takes t) ≤ length (all_taken takes)
+ended_most shape c [] t = omega arith
+ended_most shape c (Item seen items ∷ takes) t =
+    let phrase : ℕ = events_in (take_phrase shape c (Item seen items)) in
+    let next : Count = count_after shape c (Item seen items) in
+    omega (arith, at_most (nat_le phrase t) items (items_taken shape next takes (t - phrase)), ended_most shape next takes (t - phrase), length-append items (all_taken takes))
+ended_most shape c (ItemAfterClose seen again items ∷ takes) t =
+    let phrase : ℕ = events_in (take_phrase shape c (ItemAfterClose seen again items)) in
+    let next : Count = count_after shape c (ItemAfterClose seen again items) in
+    omega (arith, at_most (nat_le phrase t) items (items_taken shape next takes (t - phrase)), ended_most shape next takes (t - phrase), length-append items (all_taken takes))
+ended_most shape c (Empty seen ∷ takes) t = ended_most shape (count_after shape c (Empty seen)) takes (t - events_in (take_phrase shape c (Empty seen)))
 
 none_more : (xs : List Take) (seen : ℕ) → all_taken (xs ++ Empty seen ∷ []) ≡ all_taken xs
 none_more [] seen = refl
-none_more (Item s i ∷ xs) seen = ap (λ l. i ∷ l) (none_more xs seen)
-none_more (ItemAfterClose s a i ∷ xs) seen = ap (λ l. i ∷ l) (none_more xs seen)
-none_more (Empty s ∷ xs) seen = none_more xs seen
+none_more (x ∷ xs) seen = ap (λ l. taken_of x ++ l) (none_more xs seen)
 
 -- ---- own events
 
@@ -150,19 +150,19 @@ module _ (law : InEveryRun EmptyIsFresh) (first : PutsAreFirst) (made : MadeIsAc
   }
 
   start : ℕ
-  start = events_in (take_phrases shape 0 calls.takes)
+  start = events_in (take_phrases shape first_count calls.takes)
 
-  is_take : IsTakeAt shape more (Empty seen) (taken_in 0 calls.takes) start (events_in (take_phrases shape 0 (calls.takes ++ Empty seen ∷ [])))
+  is_take : IsTakeAt shape more (Empty seen) (taken_in 0 calls.takes) start (events_in (take_phrases shape first_count (calls.takes ++ Empty seen ∷ [])))
   unfolding start
   is_take = record { before = calls.takes; after = []; among = refl; number = refl; starts = refl; stops = refl }
 
-  over : events_in (take_phrases shape 0 (calls.takes ++ Empty seen ∷ [])) ≤ length (own C h)
+  over : events_in (take_phrases shape first_count (calls.takes ++ Empty seen ∷ [])) ≤ length (own C h)
   over =
-      omega (arith, ap length (st.list_is ∙ has.list_is), length-events_of C (take_program shape more), length-append (take_phrases shape 0 (calls.takes ++ Empty seen ∷ [])) [])
+      omega (arith, ap length (st.list_is ∙ has.list_is), length-events_of C (take_program shape more), length-append (take_phrases shape first_count (calls.takes ++ Empty seen ∷ [])) [])
 
   fresh : (first : ℕ) × IsPlaceOf C h start first × (puts_ended shape st.ring.puts (clock P h first) ≤ takes_ended shape more (clock C h first)) ×
       ((v : Bool) (from to : ℕ) → IsWrite h X v from to → ¬ (to < first))
-  fresh = law shape h st.ring.puts more run seen (taken_in 0 calls.takes) start (events_in (take_phrases shape 0 (calls.takes ++ Empty seen ∷ []))) is_take over
+  fresh = law shape h st.ring.puts more run seen (taken_in 0 calls.takes) start (events_in (take_phrases shape first_count (calls.takes ++ Empty seen ∷ []))) is_take over
 
   abbrev place : ℕ
   place = fresh.0
@@ -171,7 +171,7 @@ module _ (law : InEveryRun EmptyIsFresh) (first : PutsAreFirst) (made : MadeIsAc
   unfolding start
   before_long =
       ap length was.list_is ∙ length-events_of C (take_program shape calls) ∙
-      ap (λ (l : List Made). 2 * length l) (ap (λ (e : End). take_phrases shape 0 calls.takes ++ end_phrase e) is_open ∙ append-nil (take_phrases shape 0 calls.takes))
+      ap (λ (l : List Made). 2 * length l) (ap (λ (e : End). take_phrases shape first_count calls.takes ++ end_phrase e) is_open ∙ append-nil (take_phrases shape first_count calls.takes))
 
   -- it began behind what is known
   later : length known ≤ place
@@ -201,7 +201,7 @@ module _ (law : InEveryRun EmptyIsFresh) (first : PutsAreFirst) (made : MadeIsAc
       ended_least shape first_count puts.puts are_first.0.0 (clock P h place) (omega (arith, known_long, behind_known place later)) in
       let same : puts_ended shape st.ring.puts (clock P h place) ≡ length (items_ended shape first_count (puts.puts ++ are_first.0.0) (clock P h place)) =
       ap (λ l. length (items_ended shape first_count l (clock P h place))) are_first.0.1 in
-      omega (arith, ended, same, fresh.2, ended_most shape 0 more.takes (clock C h place), ap length (none_more calls.takes seen))
+      omega (arith, ended, same, fresh.2, ended_most shape first_count more.takes (clock C h place), ap length (none_more calls.takes seen))
 
   -- and no close is among them
   pub open_yet : puts.closes ≡ false
@@ -222,27 +222,29 @@ module _ (law : InEveryRun EmptyIsFresh) (first : PutsAreFirst) (made : MadeIsAc
 -- ---- the law
 
 empty_of : (x : Take) → takes.take_reply_to x ≡ reply.Empty → (seen : ℕ) × (x ≡ Empty seen)
-empty_of (Item seen item) e = absurd (cc)
-empty_of (ItemAfterClose seen again item) e = absurd (cc)
+empty_of (Item seen []) e = absurd (cc)
+empty_of (Item seen (item ∷ items)) e = absurd (cc)
+empty_of (ItemAfterClose seen again []) e = absurd (cc)
+empty_of (ItemAfterClose seen again (item ∷ items)) e = absurd (cc)
 empty_of (Empty seen) e = (seen, refl)
 
 -- the take that was answered so
 empty_adds :
-    (shape : Shape) (before after : List Event) (calls : Takes) (told : Bool) → TakeAdds told shape calls reply.Empty before after →
+    (shape : Shape) (before after : List Event) (calls : Takes) (told : Bool) → TakeAdds told shape 1 calls reply.Empty before after →
     (seen : ℕ) × (calls.end ≡ Open) × HasTakes shape after (and_take calls (Empty seen))
 empty_adds shape before after calls true a = absurd (cc)
 empty_adds shape before after calls false (more, is_more, replied, has) = ⊎_elim
-    (λ (one : (x : Take) × (more ≡ and_take calls x)).
-    let q : Some reply.Empty ≡ Some (takes.take_reply_to one.0) = replied ∙ ap (λ (t : Takes). reply_at_end t.end t.takes) one.1 ∙ last-snoc None calls.takes one.0 in
+    (λ one.
+    let q : Some reply.Empty ≡ Some (takes.take_reply_to one.0) = replied ∙ ap (λ (t : Takes). reply_at_end t.end t.takes) one.2 ∙ last-snoc None calls.takes one.0 in
     let (seen, x_is) = empty_of one.0 (let e : reply.Empty ≡ takes.take_reply_to one.0 = cc in sym e) in
-    (seen, is_more.not_over, subst (HasTakes shape after) (one.1 ∙ ap (and_take calls) x_is) has))
+    (seen, is_more.not_over, subst (HasTakes shape after) (one.2 ∙ ap (and_take calls) x_is) has))
     (λ told. absurd (let q : Some reply.Empty ≡ Some reply.Closed = replied ∙ ap (λ (t : Takes). reply_at_end t.end t.takes) told.2 in cc))
     is_more.is_one_more
 
 pub empty-after : InEveryRun EmptyIsFresh → PutsAreFirst → TakesAreRead → MadeIsAccess → EmptyAfterMeeting
 empty-after law first read made shape known before after puts calls whole was begins st taken =
     let same : taken.calls ≡ calls = read shape taken.calls calls taken.before_is.are was.are (sym taken.before_is.list_is ∙ was.list_is) in
-    let adds : TakeAdds (ends_closed calls.end) shape calls reply.Empty before after = subst (λ (t : Takes). TakeAdds (ends_closed t.end) shape t reply.Empty before after) same taken.adds in
+    let adds : TakeAdds (ends_closed calls.end) shape 1 calls reply.Empty before after = subst (λ (t : Takes). TakeAdds (ends_closed t.end) shape 1 t reply.Empty before after) same taken.adds in
     let (seen, is_open, has) = empty_adds shape before after calls (ends_closed calls.end) adds in (
       items law first made shape known before after puts calls seen is_open whole was begins st has,
       open_yet law first made shape known before after puts calls seen is_open whole was begins st has,
@@ -250,29 +252,30 @@ empty-after law first read made shape known before after puts calls whole was be
 
 -- ---- a take adds to the list
 
-take_phrases-append : (shape : Shape) (k : ℕ) (xs ys : List Take) → take_phrases shape k (xs ++ ys) ≡ take_phrases shape k xs ++ take_phrases shape (taken_in k xs) ys
-take_phrases-append shape k [] ys = refl
-take_phrases-append shape k (x ∷ xs) ys =
-    ap (λ l. take_phrase shape k x ++ l) (take_phrases-append shape (taken_after k x) xs ys) ∙
-    sym (append_assoc (take_phrase shape k x) (take_phrases shape (taken_after k x) xs) (take_phrases shape (taken_in (taken_after k x) xs) ys))
+take_phrases-append :
+    (shape : Shape) (c : Count) (xs ys : List Take) → take_phrases shape c (xs ++ ys) ≡ take_phrases shape c xs ++ take_phrases shape (taken_count shape c xs) ys
+take_phrases-append shape c [] ys = refl
+take_phrases-append shape c (x ∷ xs) ys =
+    ap (λ l. take_phrase shape c x ++ l) (take_phrases-append shape (count_after shape c x) xs ys) ∙
+    sym (append_assoc (take_phrase shape c x) (take_phrases shape (count_after shape c x) xs) (take_phrases shape (taken_count shape (count_after shape c x) xs) ys))
 
 -- the accesses of calls that are not over begin those of one take more
-one_more : (shape : Shape) (calls more : Takes) → takes.HasTakeMore shape calls more → (rest : List Made) × (take_program shape more ≡ take_program shape calls ++ rest)
-one_more shape calls more is_more =
-    let phrases : List Made = take_phrases shape 0 calls.takes in
+one_more : (shape : Shape) (wanted : ℕ) (calls more : Takes) → takes.HasTakeMore shape wanted calls more → (rest : List Made) × (take_program shape more ≡ take_program shape calls ++ rest)
+one_more shape wanted calls more is_more =
+    let phrases : List Made = take_phrases shape first_count calls.takes in
     let program : take_program shape calls ≡ phrases = ap (λ (e : End). phrases ++ end_phrase e) is_more.not_over ∙ append-nil phrases in
     ⊎_elim
-    (λ (one : (x : Take) × (more ≡ and_take calls x)).
-    let last : List Made = take_phrases shape (taken_in 0 calls.takes) (one.0 ∷ []) in
-    (last, ap (take_program shape) one.1 ∙ append-nil (take_phrases shape 0 (calls.takes ++ one.0 ∷ [])) ∙ take_phrases-append shape 0 calls.takes (one.0 ∷ []) ∙ ap (λ l. l ++ last) (sym program)))
+    (λ one.
+    let last : List Made = take_phrases shape (takes.count_taken shape calls) (one.0 ∷ []) in
+    (last, ap (take_program shape) one.2 ∙ append-nil (take_phrases shape first_count (calls.takes ++ one.0 ∷ [])) ∙ take_phrases-append shape first_count calls.takes (one.0 ∷ []) ∙ ap (λ l. l ++ last) (sym program)))
     (λ told. (end_phrase (takes.and_end calls told.0 told.1).end, ap (take_program shape) told.2 ∙ ap (λ l. l ++ end_phrase (takes.and_end calls told.0 told.1).end) (sym program)))
     is_more.is_one_more
 
 pub takes-add : TakesAdd
 takes-add shape before after answer taken = go (ends_closed taken.calls.end) taken.adds
   where
-    go : (told : Bool) → TakeAdds told shape taken.calls answer before after → IsBeginning before after
+    go : (told : Bool) → TakeAdds told shape 1 taken.calls answer before after → IsBeginning before after
     go true a = ([], append-nil before ∙ sym a.1)
     go false (more, is_more, replied, has) =
-        let (rest, is) = one_more shape taken.calls more is_more in
+        let (rest, is) = one_more shape 1 taken.calls more is_more in
         (events_of C rest, ap (λ l. l ++ events_of C rest) taken.before_is.list_is ∙ sym (events_of-append C (take_program shape taken.calls) rest) ∙ ap (events_of C) (sym is) ∙ sym has.list_is)

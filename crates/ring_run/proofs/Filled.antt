@@ -12,7 +12,7 @@ use Rattle.ring_core.specs.declared.producers.BatchReply.{BatchReply}
 use Rattle.ring_core.specs.declared.producers.BatchReply.TheVariants as reply
 use Rattle.ring_core.specs.Counts.{Count, first_count, number_past}
 use Rattle.ring_core.specs.Puts.{Put, Stored, Full, Puts, stored_in, stored_after, stored_count, put_phrase, put_phrases, close_phrase, put_program}
-use Rattle.ring_core.specs.Takes.{Take, Item, ItemAfterClose, Empty, Takes, take_phrase, take_phrases, end_phrase, take_program}
+use Rattle.ring_core.specs.Takes.{Take, Item, ItemAfterClose, Empty, Takes, count_after, take_phrase, take_phrases, end_phrase, take_program}
 use Rattle.ring_core.specs.Items.{events_in, all_put, all_taken, items_taken}
 use Rattle.ring_core.specs.CallsAt.{IsPutAt, takes_ended}
 use Rattle.ring_core.specs.Readings.{PutsAreRead, TakesAreFirst}
@@ -36,29 +36,34 @@ stored_is n (Stored seen items ∷ puts) = omega (arith, stored_is (number_past 
 is_within : (a b : ℕ) → a ≤ b → nat_le a b ≡ true
 is_within a b le = grind (arith, nat_tests)
 
-one_longer : (b : Bool) (item : ℕ) (rest : List ℕ) → b ≡ true → length ((if b then item ∷ [] else []) ++ rest) ≡ suc (length rest)
-one_longer true item rest e = refl
-one_longer false item rest e = absurd (cc)
+so_longer : (b : Bool) (items rest : List ℕ) → b ≡ true → length ((if b then items else []) ++ rest) ≡ length items + length rest
+so_longer true items rest e = length-append items rest
+so_longer false items rest e = absurd (cc)
 
 -- whole takes have ended, also where more follow
-all_ended : (shape : Shape) (k : ℕ) (xs more : List Take) (t : ℕ) → events_in (take_phrases shape k xs) ≤ t → length (all_taken xs) ≤ length (items_taken shape k (xs ++ more) t)
-all_ended shape k [] more t le = omega arith
-all_ended shape k (Item seen item ∷ xs) more t le =
-    let first : List Made = take_phrase shape k (Item seen item) in
-    let long = length-append first (take_phrases shape (suc k) xs) in
-    let rest : List ℕ = items_taken shape (suc k) (xs ++ more) (t - events_in first) in
-    let ended : length (all_taken xs) ≤ length rest = all_ended shape (suc k) xs more (t - events_in first) (omega (arith, le, long)) in
-    omega (arith, ended, one_longer (nat_le (events_in first) t) item rest (is_within (events_in first) t (omega (arith, le, long))))
-all_ended shape k (ItemAfterClose seen again item ∷ xs) more t le =
-    let first : List Made = take_phrase shape k (ItemAfterClose seen again item) in
-    let long = length-append first (take_phrases shape (suc k) xs) in
-    let rest : List ℕ = items_taken shape (suc k) (xs ++ more) (t - events_in first) in
-    let ended : length (all_taken xs) ≤ length rest = all_ended shape (suc k) xs more (t - events_in first) (omega (arith, le, long)) in
-    omega (arith, ended, one_longer (nat_le (events_in first) t) item rest (is_within (events_in first) t (omega (arith, le, long))))
-all_ended shape k (Empty seen ∷ xs) more t le =
-    let first : List Made = take_phrase shape k (Empty seen) in
-    let long = length-append first (take_phrases shape k xs) in
-    all_ended shape k xs more (t - events_in first) (omega (arith, le, long))
+all_ended :
+    (shape : Shape) (c : Count) (xs more : List Take) (t : ℕ) → events_in (take_phrases shape c xs) ≤ t →
+    length (all_taken xs) ≤ length (items_taken shape c (xs ++ more) t)
+all_ended shape c [] more t le = omega arith
+all_ended shape c (Item seen items ∷ xs) more t le =
+    let first : List Made = take_phrase shape c (Item seen items) in
+    let next : Count = count_after shape c (Item seen items) in
+    let long = length-append first (take_phrases shape next xs) in
+    let rest : List ℕ = items_taken shape next (xs ++ more) (t - events_in first) in
+    let ended : length (all_taken xs) ≤ length rest = all_ended shape next xs more (t - events_in first) (omega (arith, le, long)) in
+    omega (arith, ended, length-append items (all_taken xs), so_longer (nat_le (events_in first) t) items rest (is_within (events_in first) t (omega (arith, le, long))))
+all_ended shape c (ItemAfterClose seen again items ∷ xs) more t le =
+    let first : List Made = take_phrase shape c (ItemAfterClose seen again items) in
+    let next : Count = count_after shape c (ItemAfterClose seen again items) in
+    let long = length-append first (take_phrases shape next xs) in
+    let rest : List ℕ = items_taken shape next (xs ++ more) (t - events_in first) in
+    let ended : length (all_taken xs) ≤ length rest = all_ended shape next xs more (t - events_in first) (omega (arith, le, long)) in
+    omega (arith, ended, length-append items (all_taken xs), so_longer (nat_le (events_in first) t) items rest (is_within (events_in first) t (omega (arith, le, long))))
+all_ended shape c (Empty seen ∷ xs) more t le =
+    let first : List Made = take_phrase shape c (Empty seen) in
+    let next : Count = count_after shape c (Empty seen) in
+    let long = length-append first (take_phrases shape next xs) in
+    all_ended shape next xs more (t - events_in first) (omega (arith, le, long))
 
 -- ---- the put that finds the ring full
 
@@ -122,16 +127,16 @@ module _ (law : InEveryRun FullIsFresh) (first : TakesAreFirst)
       (first shape takes st.ring.takes whole.are follows.are
       (both, ap (λ l. l ++ both) (sym whole.list_is) ∙ sym (append_assoc (own C known) own_known.0 follows.events.0) ∙ ap (λ l. l ++ follows.events.0) own_known.1 ∙ follows.events.1)).0
 
-  known_long : length (own C known) ≡ 2 * (length (take_phrases shape 0 takes.takes) + length (end_phrase takes.end))
-  known_long = omega (arith, ap length whole.list_is, length-events_of C (take_program shape takes), length-append (take_phrases shape 0 takes.takes) (end_phrase takes.end))
+  known_long : length (own C known) ≡ 2 * (length (take_phrases shape first_count takes.takes) + length (end_phrase takes.end))
+  known_long = omega (arith, ap length whole.list_is, length-events_of C (take_program shape takes), length-append (take_phrases shape first_count takes.takes) (end_phrase takes.end))
 
   -- the known takes had ended where it began
   pub filled : length (all_taken takes.takes) + capacity_of shape ≤ length (all_put calls.puts)
   filled =
       let t : ℕ = clock C h place in
       let late : length (own C known) ≤ t = subst (λ l. length (own C known) ≤ clock C l place) h_is (behind C known rest place later) in
-      let ended : length (all_taken takes.takes) ≤ length (items_taken shape 0 (takes.takes ++ are_first.0) t) = all_ended shape 0 takes.takes are_first.0 t (omega (arith, late, known_long)) in
-      omega (arith, ended, ap (λ l. length (items_taken shape 0 l t)) are_first.1, fresh.2, stored_is 0 calls.puts)
+      let ended : length (all_taken takes.takes) ≤ length (items_taken shape first_count (takes.takes ++ are_first.0) t) = all_ended shape first_count takes.takes are_first.0 t (omega (arith, late, known_long)) in
+      omega (arith, ended, ap (λ l. length (items_taken shape first_count l t)) are_first.1, fresh.2, stored_is 0 calls.puts)
 
 -- ---- the law
 

@@ -15,13 +15,14 @@ use Rattle.ring_core.specs.Counts.{Count, first_count}
 use Rattle.ring_core.specs.Puts as puts
 use Rattle.ring_core.specs.Puts.{Put, Puts, IsBatch}
 use Rattle.ring_core.specs.Takes as takes
-use Rattle.ring_core.specs.Takes.{Take, Takes}
-use Rattle.ring_core.specs.Items.{all_put, all_taken}
+use Rattle.ring_core.specs.OneCallMore.{TakesOfOne}
+use Rattle.ring_core.specs.Takes.{Take, Takes, Open, AreTakes}
+use Rattle.ring_core.specs.Items.{all_put, all_taken, taken_of}
 use Rattle.ring_core.specs.Over.{fulls, empties}
 use Rattle.ring_core.specs.Readings.{PutsAreRead, TakesAreRead}
 use Rattle.ring_core.specs.ProducerCalls.{and_put, and_close, no_puts, IsPutOf}
 use Rattle.ring_core.specs.ProducerCalls as put_calls
-use Rattle.ring_core.specs.ConsumerCalls.{and_take, and_end, no_takes, ends_closed, HasTakeMore, reply_at_end, last_take_reply}
+use Rattle.ring_core.specs.ConsumerCalls.{and_take, and_end, no_takes, ends_closed, HasTakeMore, reply_at_end, reply_items, last_take_reply}
 use Rattle.ring_core.specs.ConsumerCalls as take_calls
 use Rattle.ring_ends.specs.Ends.{HasPuts, HasPutAll, PutAdds, HasClosed, CloseAdds, HasTakes, HasTaken, TakeAdds}
 use Rattle.ring_run.proofs.Lists.{last-snoc}
@@ -237,57 +238,52 @@ no_takes_are shape list is = record {
   told_is = refl;
 }
 
--- the items and the empty takes of one take more
-gives : take_replies.TakeReply → List ℕ
-gives (take_reply.Item i) = i ∷ []
-gives take_reply.Empty = []
-gives take_reply.Closed = []
-
+-- the empty takes of one take more
 empty_one : take_replies.TakeReply → ℕ
 empty_one (take_reply.Item i) = 0
 empty_one take_reply.Empty = 1
 empty_one take_reply.Closed = 0
 
-taken_snoc : (xs : List Take) (x : Take) → all_taken (xs ++ x ∷ []) ≡ all_taken xs ++ gives (take_calls.take_reply_to x)
-unfolding gives
-taken_snoc [] (takes.Item seen item) = refl
-taken_snoc [] (takes.ItemAfterClose seen again item) = refl
-taken_snoc [] (takes.Empty seen) = refl
-taken_snoc (takes.Item s i ∷ xs) x = ap (λ (l : List ℕ). i ∷ l) (taken_snoc xs x)
-taken_snoc (takes.ItemAfterClose s a i ∷ xs) x = ap (λ (l : List ℕ). i ∷ l) (taken_snoc xs x)
-taken_snoc (takes.Empty s ∷ xs) x = taken_snoc xs x
+taken_snoc : (xs : List Take) (x : Take) → all_taken (xs ++ x ∷ []) ≡ all_taken xs ++ taken_of x
+taken_snoc [] x = append-nil (taken_of x)
+taken_snoc (y ∷ xs) x = ap (λ (l : List ℕ). taken_of y ++ l) (taken_snoc xs x) ∙ sym (append_assoc (taken_of y) (all_taken xs) (taken_of x))
 
 empties_snoc : (xs : List Take) (x : Take) → empties (xs ++ x ∷ []) ≡ empties xs + empty_one (take_calls.take_reply_to x)
 unfolding empty_one
-empties_snoc [] (takes.Item seen item) = refl
-empties_snoc [] (takes.ItemAfterClose seen again item) = refl
+empties_snoc [] (takes.Item seen []) = refl
+empties_snoc [] (takes.Item seen (item ∷ items)) = refl
+empties_snoc [] (takes.ItemAfterClose seen again []) = refl
+empties_snoc [] (takes.ItemAfterClose seen again (item ∷ items)) = refl
 empties_snoc [] (takes.Empty seen) = refl
 empties_snoc (takes.Item s i ∷ xs) x = empties_snoc xs x
 empties_snoc (takes.ItemAfterClose s a i ∷ xs) x = empties_snoc xs x
 empties_snoc (takes.Empty s ∷ xs) x = omega (arith, empties_snoc xs x)
 
 never_closed : (x : Take) → take_calls.take_reply_to x ≢ take_reply.Closed
-never_closed (takes.Item seen item) e = cc
-never_closed (takes.ItemAfterClose seen again item) e = cc
+never_closed (takes.Item seen []) e = cc
+never_closed (takes.Item seen (item ∷ items)) e = cc
+never_closed (takes.ItemAfterClose seen again []) e = cc
+never_closed (takes.ItemAfterClose seen again (item ∷ items)) e = cc
 never_closed (takes.Empty seen) e = cc
 
-module _ (read : TakesAreRead) (shape : Shape) (list list' : List Event) (taken : List ℕ) (empty : ℕ) (p : TakesAre shape list taken empty false) where
-  adds_take : (reply : take_replies.TakeReply) → HasTaken shape list list' reply → TakeAdds false shape p.calls reply list list'
+module _ (read : TakesAreRead) (single : TakesOfOne) (shape : Shape) (list list' : List Event) (taken : List ℕ) (empty : ℕ) (p : TakesAre shape list taken empty false) where
+  adds_take : (reply : take_replies.TakeReply) → HasTaken shape list list' reply → TakeAdds false shape 1 p.calls reply list list'
   adds_take reply h =
       let same : h.calls ≡ p.calls = same_takes read shape list h.calls p.calls h.before_is p.list_is in
-      subst (λ (z : Takes × Bool). TakeAdds z.1 shape z.0 reply list list') (λ i. (same i, (ap (λ (q : Takes). ends_closed q.end) same ∙ p.told_is) i)) h.adds
+      subst (λ (z : Takes × Bool). TakeAdds z.1 shape 1 z.0 reply list list') (λ i. (same i, (ap (λ (q : Takes). ends_closed q.end) same ∙ p.told_is) i)) h.adds
 
-  one_more : (reply : take_replies.TakeReply) → reply ≢ take_reply.Closed → HasTaken shape list list' reply → TakesAre shape list' (taken ++ gives reply) (empty + empty_one reply) false
+  one_more : (reply : take_replies.TakeReply) → reply ≢ take_reply.Closed → HasTaken shape list list' reply → TakesAre shape list' (taken ++ reply_items reply) (empty + empty_one reply) false
   one_more reply open_yet h =
       let a = adds_take reply h in
       ⊎_elim
       (λ one.
       let x : Take = one.0 in
-      let is : reply ≡ take_calls.take_reply_to x = let q : Some reply ≡ Some (take_calls.take_reply_to x) = a.2 ∙ ap (λ (t : Takes). reply_at_end t.end t.takes) one.1 ∙ last-snoc None p.calls.takes x in cc in
+      let is : reply ≡ take_calls.take_reply_to x = let q : Some reply ≡ Some (take_calls.take_reply_to x) = a.2 ∙ ap (λ (t : Takes). reply_at_end t.end t.takes) one.2 ∙ last-snoc None p.calls.takes x in cc in
+      let are : AreTakes shape 0 (and_take p.calls x).takes Open = subst (λ (t : Takes). AreTakes shape 0 t.takes t.end) one.2 a.1.are in
       record {
         calls = and_take p.calls x;
-        list_is = subst (HasTakes shape list') one.1 a.3;
-        taken_is = taken_snoc p.calls.takes x ∙ (λ i. p.taken_is i ++ gives (sym is i));
+        list_is = subst (HasTakes shape list') one.2 a.3;
+        taken_is = taken_snoc p.calls.takes x ∙ (λ i. p.taken_is i ++ (single shape p.calls x are one.1 ∙ ap reply_items (sym is)) i);
         empty_is = empties_snoc p.calls.takes x ∙ (λ i. p.empty_is i + empty_one (sym is i));
         told_is = refl;
       })
@@ -295,11 +291,11 @@ module _ (read : TakesAreRead) (shape : Shape) (list list' : List Event) (taken 
       a.1.is_one_more
 
   pub took : (item : ℕ) → HasTaken shape list list' (take_reply.Item item) → TakesAre shape list' (taken ++ item ∷ []) empty false
-  unfolding gives empty_one
+  unfolding empty_one
   took item h = subst (λ (n : ℕ). TakesAre shape list' (taken ++ item ∷ []) n false) (omega arith) (one_more (take_reply.Item item) (λ e. cc) h)
 
   pub was_empty : HasTaken shape list list' take_reply.Empty → TakesAre shape list' taken (suc empty) false
-  unfolding gives empty_one
+  unfolding empty_one
   was_empty h =
       let plus : empty + 1 ≡ suc empty = omega arith in
       subst (λ (z : List ℕ × ℕ). TakesAre shape list' z.0 z.1 false) (λ i. (append-nil taken i, plus i)) (one_more take_reply.Empty (λ e. cc) h)
@@ -308,7 +304,7 @@ module _ (read : TakesAreRead) (shape : Shape) (list list' : List Event) (taken 
   was_told h =
       let a = adds_take take_reply.Closed h in
       ⊎_elim
-      (λ one. absurd (never_closed one.0 (let q : Some take_reply.Closed ≡ Some (take_calls.take_reply_to one.0) = a.2 ∙ ap (λ (t : Takes). reply_at_end t.end t.takes) one.1 ∙ last-snoc None p.calls.takes one.0 in cc)))
+      (λ one. absurd (never_closed one.0 (let q : Some take_reply.Closed ≡ Some (take_calls.take_reply_to one.0) = a.2 ∙ ap (λ (t : Takes). reply_at_end t.end t.takes) one.2 ∙ last-snoc None p.calls.takes one.0 in cc)))
       (λ told. record {
         calls = and_end p.calls told.0 told.1;
         list_is = subst (HasTakes shape list') told.2 a.3;

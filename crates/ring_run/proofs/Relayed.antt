@@ -44,8 +44,8 @@ module _ (shape : Shape) (items : List ℕ) (put made full : ℕ) (closes : Bool
   put_of : WholePutsCount → items_put shape first_count ps.calls.puts (clock P h (length h)) ≡ take put items
   put_of count = ap (items_put shape first_count ps.calls.puts) (clock_at_end P h) ∙ (count shape h ps.calls ps.list_is.are ps.list_is.list_is).0 ∙ ps.in_order
 
-  taken_of : WholeTakesCount → items_taken shape 0 ts.calls.takes (clock C h (length h)) ≡ taken
-  taken_of count = ap (items_taken shape 0 ts.calls.takes) (clock_at_end C h) ∙ (count shape h ts.calls ts.list_is.list_is).0 ∙ ts.taken_is
+  taken_of : WholeTakesCount → items_taken shape first_count ts.calls.takes (clock C h (length h)) ≡ taken
+  taken_of count = ap (items_taken shape first_count ts.calls.takes) (clock_at_end C h) ∙ (count shape h ts.calls ts.list_is.are ts.list_is.list_is).0 ∙ ts.taken_is
 
   prefix_of : InEveryRun TakenArePrefix → WholePutsCount → WholeTakesCount → IsBeginning taken (take put items)
   prefix_of prefix puts_count takes_count = subst (λ (z : List ℕ × List ℕ). IsBeginning z.0 z.1) (λ i. (taken_of takes_count i, put_of puts_count i)) (prefix shape h ps.calls ts.calls run_of (length h))
@@ -73,7 +73,7 @@ module _ (within : InEveryRun IsWithin) (prefix : InEveryRun TakenArePrefix) (cl
   put_is : items_put shape first_count puts.puts (clock P h (length h)) ≡ take put items
   put_is = put_of shape items put made full (put == length items) taken empty closed h r.ring r.puts.puts r.takes.takes puts_count
 
-  taken_is : items_taken shape 0 takes.takes (clock C h (length h)) ≡ taken
+  taken_is : items_taken shape first_count takes.takes (clock C h (length h)) ≡ taken
   taken_is = taken_of shape items put made full (put == length items) taken empty closed h r.ring r.puts.puts r.takes.takes takes_count
 
   pub relayed_prefix : IsBeginning taken (take put items)
@@ -94,7 +94,7 @@ module _ (within : InEveryRun IsWithin) (prefix : InEveryRun TakenArePrefix) (cl
   relayed_within =
       let w = within shape h puts takes run (length h) in
       let p = (puts_count shape h puts r.puts.puts.list_is.are r.puts.puts.list_is.list_is).1 in
-      let t = (takes_count shape h takes r.takes.takes.list_is.list_is).1 in
+      let t = (takes_count shape h takes r.takes.takes.list_is.are r.takes.takes.list_is.list_is).1 in
       omega (arith, w.1, ap (puts_begun shape puts) (clock_at_end P h), ap (takes_begun shape takes) (clock_at_end C h), p, t, ap length r.puts.puts.in_order, length_first put items r.puts.puts.within, ap length r.takes.takes.taken_is)
 
 -- what a relay's ends and their meeting say, of one history

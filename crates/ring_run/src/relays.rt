@@ -8,7 +8,9 @@ ghost use Rattle.ring_run.specs.Relays.{HasMadePuts, HasRelayedPuts, HasRelayedT
 use crate::gates::Gate;
 use bits_core::{Oracle, Shape, Side};
 use queue_calls::Event;
-use ring_core::laws::{puts_are_read, ring_law, takes_are_read, whole_calls_count};
+use ring_core::laws::{
+    programs_by_one_call, puts_are_read, ring_law, takes_are_read, whole_calls_count,
+};
 use ring_core::{BatchReply, TakeReply};
 use ring_ends::{CounterRing, FlickerRing, PutEnd, RingOf, RunFault, TakeEnd};
 use std::alloc::Allocator;
@@ -115,6 +117,7 @@ fn take_all<A: Allocator, E: TakeEnd, G: Gate>(
     ensures fault { IfErr result (λ _. HasTakenMore (E.end taker.new).ring.shape (E.end taker.new).list limit (vec_capacity items.old)) }
 {
     takes_are_read();
+    programs_by_one_call();
     let mut empty = 0;
     let mut closed = false;
     let mut waits = 0;

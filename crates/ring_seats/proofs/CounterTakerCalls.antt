@@ -1,57 +1,75 @@
 -- The calls of a counter ring's taker, step by step, over its ends.
-use Rattle.std.proofs.Common.{◌≡◌, inl, inr, ℕ, suc, ◌+◌, ◌%◌, ◌^◌, ◌<◌, Bool, true, false, Some, None, List, [], ◌∷◌, ◌++◌, refl, ap, sym, subst, ◌∙◌, arith, append_assoc}
-use Rattle.std.proofs.Math.Nat.{mod-add-mod}
+use Rattle.std.proofs.Common.{◌≡◌, ◌⊎◌, inl, inr, ℕ, suc, ◌+◌, ◌-◌, ◌%◌, ◌^◌, ◌<◌, ◌≤◌, Bool, true, false, Some, List, [], ◌∷◌, ◌++◌, length, refl, ap, sym, subst, ◌∙◌, arith, append_assoc, append-nil, length-append}
+use Rattle.std.proofs.Math.Nat.{mod-add-mod, mod-eq_of_lt, mod-mod}
 use Rattle.std.proofs.lemmas.Nat.{mod_below}
 use Rattle.bits_core.specs.declared.shapes.Shape.{Shape}
 use Rattle.bits_core.specs.declared.events.Side.{Side}
 use Rattle.bits_core.specs.declared.events.Side.TheVariants.{C}
 use Rattle.bits_core.specs.declared.events.Bit.TheVariants.{X}
 use Rattle.bits_core.specs.declared.events.Event.{Event}
-use Rattle.bits_core.specs.Shape.{capacity_of, modulus_of, width_of}
+use Rattle.bits_core.specs.Shape.{AllFit, capacity_of, modulus_of, width_of}
 use Rattle.bits_core.specs.Made.{Made, Read, events_of}
 use Rattle.register_core.specs.Word.{word_read}
 use Rattle.register_core.specs.ScanState.{scan_phrase, row_read_by}
 use Rattle.ring_core.specs.declared.consumers.TakeReply.{TakeReply}
 use Rattle.ring_core.specs.declared.consumers.TakeReply.TheVariants as reply
-use Rattle.ring_core.specs.Counts.{ShowsItem}
-use Rattle.ring_core.specs.Takes.{Take, Takes, Empty, Open, taken_in, taken_after, SeesNone, IsTake}
-use Rattle.ring_core.specs.ConsumerCalls.{Once, Twice, finding_phrase, and_take, and_end, take_reply_to, HasTakeMore}
+use Rattle.ring_core.specs.Counts.{distance, ShowsItem, Count, number_past}
+use Rattle.ring_core.specs.Takes.{Take, Takes, Empty, Open, taken_after, words_read, SeesItems, SeesNone, IsTakeBatch, IsTake}
+use Rattle.ring_core.specs.Items.{taken_of}
+use Rattle.ring_core.specs.ConsumerCalls.{Finding, Once, Twice, Finds, finding_phrase, count_taken, and_take, and_end, items_reply, take_reply_to, HasTakeMore, IsTakeOf, TakesAll}
+use Rattle.ring_seats.specs.declared.counter_calls.Scanned.TheVariants.{Shows, Over}
+use Rattle.ring_core.proofs.TakeCalls.{words_read-append, zeros, zeros-long, zeros-fit, fit-append, fit-push}
 use Rattle.ring_seats.specs.Below.{LawsBelow}
 use Rattle.ring_seats.specs.Ring.{RingEnd}
 use Rattle.ring_seats.specs.Programs.{Follows}
 use Rattle.ring_seats.specs.Steppers.{IsSameEnd, StandsAs}
+use Rattle.ring_seats.specs.Rule.{Stands}
 use Rattle.ring_seats.specs.Calls.{HasTakes, closed_reply}
 use Rattle.ring_seats.specs.Counters.{GrowsBy, unary_over}
-use Rattle.ring_seats.specs.CounterEnds.{TakerList, items_brought, TakeMade, TakeKept, HasFound, LookMade, HasLooked}
-use Rattle.ring_seats.proofs.Blocks.{events_of-append}
+use Rattle.ring_seats.specs.CounterEnds.{TakerList, TakeMade, TakeKept, HasFound, LookMade, HasLooked}
+use Rattle.ring_seats.proofs.Blocks.{follows_shorter, events_of-append}
+use Rattle.ring_seats.proofs.CounterPuts.{past_is}
 use Rattle.ring_seats.proofs.CounterPutterCalls.{same_shape, same_end, stands_as, stands_still}
-use Rattle.ring_seats.proofs.CounterTakes.{take_of, take_of-takes, take_of-replies, take_more, whole_take, whole_end, can_scan, can_ask, can_rescan, can_read, can_count, is_take, taken_is}
+use Rattle.ring_seats.proofs.CounterTakes.{take_of, take_of-takes, take_of-items, take_of-replies, reads_same, take_more, whole_take, whole_end, can_scan, can_ask, can_rescan, can_read, can_count, is_take, taken_is}
 
 -- ---- a take that is over
 
 -- one take more, at the ring of another end
-made_take : LawsBelow → (a b : RingEnd) (count cell : ℕ) (calls : Takes) → TakerList a count cell calls → calls.end ≡ Open → IsSameEnd a b → StandsAs C b → (x : Take) (r : TakeReply) → IsTake a.ring.shape (taken_in 0 calls.takes) x
-    → take_reply_to x ≡ r → closed_reply (Some r) ≡ false → taken_after (taken_in 0 calls.takes) x ≡ taken_in 0 calls.takes + items_brought r → HasTakes a.ring.shape b.list (and_take calls x) → TakeMade a b calls r
-made_take laws a b count cell calls p opened same stands x r is answered open_still number has =
+-- the takes count so many items more
+abbrev CountsMore : Shape → Takes → Takes → ℕ → Type 0
+CountsMore shape calls more m = (count_taken shape more).number ≡ (count_taken shape calls).number + m
+
+made_take :
+    LawsBelow → (a b : RingEnd) (count cell : ℕ) (calls : Takes) → TakerList a count cell calls → calls.end ≡ Open → IsSameEnd a b → StandsAs C b →
+    (wanted : ℕ) (x : Take) (r : TakeReply) (items : List ℕ) → IsTake a.ring.shape (count_taken a.ring.shape calls).number x →
+    IsTakeOf a.ring.shape (count_taken a.ring.shape calls).number wanted x → take_reply_to x ≡ r → taken_of x ≡ items → closed_reply (Some r) ≡ false →
+    taken_after (count_taken a.ring.shape calls).number x ≡ (count_taken a.ring.shape calls).number + length items → HasTakes a.ring.shape b.list (and_take calls x) →
+    TakeMade a b calls wanted r items
+made_take laws a b count cell calls p opened same stands wanted x r items is of answered brings open_still number has =
     let m = take_more laws a.ring.shape a.list calls p.has opened x is in
+    let there : a.ring.shape ≡ b.ring.shape = sym (same_shape a b same) in
     record {
       same = same;
       stands = stands;
       more = and_take calls x;
-      is_more = subst (λ (s : Shape). HasTakeMore s calls (and_take calls x)) (sym (same_shape a b same)) (record { is_one_more = inl (x, refl); are = m.are; not_over = opened });
+      is_more = subst (λ (s : Shape). HasTakeMore s wanted calls (and_take calls x)) there (record { is_one_more = inl (x, of, refl); are = m.are; not_over = opened });
       replied = ap (λ (t : TakeReply). Some t) (sym answered) ∙ sym m.reply_is;
-      has = subst (λ (s : Shape). HasTakes s b.list (and_take calls x)) (sym (same_shape a b same)) has;
-      number = m.taken_is ∙ number;
+      brought = sym brings ∙ sym m.items_are;
+      has = subst (λ (s : Shape). HasTakes s b.list (and_take calls x)) there has;
+      number = subst (λ (s : Shape). CountsMore s calls (and_take calls x) (length items)) there (ap (λ (c : Count). c.number) m.count_is ∙ number);
       told = open_still;
     }
 
-made_end : (a b : RingEnd) (calls : Takes) (seen again : ℕ) → calls.end ≡ Open → IsSameEnd a b → StandsAs C b → HasTakes a.ring.shape b.list (and_end calls seen again) → TakeMade a b calls reply.Closed
-made_end a b calls seen again opened same stands has = record {
+made_end :
+    (a b : RingEnd) (calls : Takes) (wanted seen again : ℕ) → calls.end ≡ Open → IsSameEnd a b → StandsAs C b → HasTakes a.ring.shape b.list (and_end calls seen again) →
+    TakeMade a b calls wanted reply.Closed []
+made_end a b calls wanted seen again opened same stands has = record {
   same = same;
   stands = stands;
   more = and_end calls seen again;
-  is_more = subst (λ (s : Shape). HasTakeMore s calls (and_end calls seen again)) (sym (same_shape a b same)) (record { is_one_more = inr (seen, again, refl); are = has.are; not_over = opened });
+  is_more = subst (λ (s : Shape). HasTakeMore s wanted calls (and_end calls seen again)) (sym (same_shape a b same)) (record { is_one_more = inr (seen, again, refl); are = has.are; not_over = opened });
   replied = refl;
+  brought = refl;
   has = subst (λ (s : Shape). HasTakes s b.list (and_end calls seen again)) (sym (same_shape a b same)) has;
   number = omega arith;
   told = refl;
@@ -59,7 +77,25 @@ made_end a b calls seen again opened same stands has = record {
 
 -- ---- the scans
 
-module _ (laws : LawsBelow) (a : RingEnd) (count cell : ℕ) (calls : Takes) (p : TakerList a count cell calls) (opened : calls.end ≡ Open) where
+-- of a count that shows items, so many are taken where so many are wanted
+pub record ShownOf (shape : Shape) (seen count wanted most : ℕ) : Type 0 where
+  pub shows : ShowsItem shape seen count
+  pub some : 1 ≤ most
+  pub few : most ≤ wanted
+  pub shown : most ≤ distance (modulus_of shape) seen count
+  pub all : (most ≡ wanted) ⊎ (most ≡ distance (modulus_of shape) seen count)
+
+shown_once :
+    (shape : Shape) (seen count k wanted most : ℕ) → seen < modulus_of shape → count ≡ k % modulus_of shape → ShownOf shape seen count wanted most →
+    SeesItems shape k seen most × TakesAll shape k wanted seen most
+shown_once shape seen count k wanted most lt is s =
+    subst (λ (n : ℕ). ((seen < modulus_of shape) × (most ≤ distance (modulus_of shape) seen n) × (distance (modulus_of shape) seen n ≤ capacity_of shape)) ×
+    ((most ≤ wanted) × ((most ≡ wanted) ⊎ (most ≡ distance (modulus_of shape) seen n)))) is ((lt, s.shown, s.shows.1), (s.few, s.all))
+
+module _ (laws : LawsBelow) (a : RingEnd) (count cell wanted : ℕ) (calls : Takes) (p : TakerList a count cell calls) (opened : calls.end ≡ Open) where
+  abbrev k_now : ℕ
+  k_now = (count_taken a.ring.shape calls).number
+
   pub to_scan : (c : ℕ) → c < modulus_of a.ring.shape → Follows a.ring.shape a.side (a.list ++ events_of a.side (scan_phrase (row_read_by a.side) c))
   to_scan c lt = subst (λ (s : Side). Follows a.ring.shape s (a.list ++ events_of s (scan_phrase (row_read_by s) c))) (sym p.side_is) (can_scan laws a.ring.shape a.list calls p.has opened c lt)
 
@@ -67,11 +103,14 @@ module _ (laws : LawsBelow) (a : RingEnd) (count cell : ℕ) (calls : Takes) (p 
     at1 : b.list ≡ a.list ++ events_of C (scan_phrase (row_read_by C) seen)
     at1 = g.list ∙ ap (λ (s : Side). a.list ++ events_of s (scan_phrase (row_read_by s) seen)) p.side_is
 
-    pub found_once : ShowsItem a.ring.shape seen count → LookMade a b calls None
-    found_once shows = (Once seen, record { same = g.same; stands = stands_as a b C g.same p.side_is g.stands; finds = (lt, subst (ShowsItem a.ring.shape seen) p.count_is shows); list_is = at1 })
+    pub found_once : (most : ℕ) → ShownOf a.ring.shape seen count wanted most → LookMade a b calls wanted (Shows most)
+    found_once most shown = (
+      Once seen,
+      record { same = g.same; stands = stands_as a b C g.same p.side_is g.stands; some = shown.some; finds = shown_once a.ring.shape seen count k_now wanted most lt p.count_is shown; list_is = at1 },
+    )
 
     module _ (not_shown : ¬ ShowsItem a.ring.shape seen count) where
-      none : SeesNone a.ring.shape (taken_in 0 calls.takes) seen
+      none : SeesNone a.ring.shape (count_taken a.ring.shape calls).number seen
       none = (lt, subst (λ (n : ℕ). ¬ ShowsItem a.ring.shape seen n) p.count_is not_shown)
 
       -- behind the first scan
@@ -89,14 +128,14 @@ module _ (laws : LawsBelow) (a : RingEnd) (count cell : ℕ) (calls : Takes) (p 
         both : IsSameEnd a b2
         both = same_end a b b2 g.same g2.same
 
-        pub found_empty : v ≡ false → LookMade a b2 calls (Some reply.Empty)
+        pub found_empty : v ≡ false → LookMade a b2 calls wanted (Over reply.Empty)
         found_empty is = (
-          made_take laws a b2 count cell calls p opened both (stands_as a b2 C both p.side_is g2.stands) (Empty seen) reply.Empty none refl refl same_number
+          made_take laws a b2 count cell calls p opened both (stands_as a b2 C both p.side_is g2.stands) wanted (Empty seen) reply.Empty [] none tt refl refl refl same_number
               (whole_take laws a.ring.shape a.list calls p.has opened (Empty seen) b2.list none (at2 ∙ (ap (λ (w : Bool). b.list ++ events_of C (Read X w ∷ [])) is ∙ sym (behind (Read X false ∷ []))))),
           refl,
         )
           where
-            same_number : taken_in 0 calls.takes ≡ taken_in 0 calls.takes + 0
+            same_number : (count_taken a.ring.shape calls).number ≡ (count_taken a.ring.shape calls).number + 0
             same_number = omega arith
 
         module _ (is : v ≡ true) where
@@ -119,26 +158,40 @@ module _ (laws : LawsBelow) (a : RingEnd) (count cell : ℕ) (calls : Takes) (p 
             all : IsSameEnd a b3
             all = same_end a b2 b3 both g3.same
 
-            pub found_twice : ShowsItem a.ring.shape again count → LookMade a b3 calls None
-            found_twice shows = (Twice seen again, record { same = all; stands = stands_as a b3 C all p.side_is g3.stands; finds = (none, (below, subst (ShowsItem a.ring.shape again) p.count_is shows)); list_is = at3 })
+            pub found_twice : (most : ℕ) → ShownOf a.ring.shape again count wanted most → LookMade a b3 calls wanted (Shows most)
+            found_twice most shown =
+                let (sees, of) = shown_once a.ring.shape again count k_now wanted most below p.count_is shown in
+                (Twice seen again, record { same = all; stands = stands_as a b3 C all p.side_is g3.stands; some = shown.some; finds = (none, sees, of); list_is = at3 })
 
-            pub found_closed : ¬ ShowsItem a.ring.shape again count → LookMade a b3 calls (Some reply.Closed)
+            pub found_closed : ¬ ShowsItem a.ring.shape again count → LookMade a b3 calls wanted (Over reply.Closed)
             found_closed not_again = (
-              made_end a b3 calls seen again opened all (stands_as a b3 C all p.side_is g3.stands)
+              made_end a b3 calls wanted seen again opened all (stands_as a b3 C all p.side_is g3.stands)
                   (whole_end laws a.ring.shape a.list calls p.has opened seen again b3.list none (below, subst (λ (n : ℕ). ¬ ShowsItem a.ring.shape again n) p.count_is not_again) at3),
               refl,
             )
 
--- ---- the item
+-- ---- the items
 
-module _ (laws : LawsBelow) (a b : RingEnd) (count cell : ℕ) (calls : Takes) (l : HasLooked a b count cell calls) where
+-- a take counts no more items than it wants
+pub few_found : (shape : Shape) (k wanted most : ℕ) (look : Finding) → Finds shape k wanted look most → most ≤ wanted
+few_found shape k wanted most (Once seen) finds = finds.1.0
+few_found shape k wanted most (Twice seen again) finds = finds.2.0
+
+-- so a take of one finds one
+pub one_found : (a b : RingEnd) (calls : Takes) (look : Finding) (most : ℕ) → HasFound a b calls 1 look most → HasFound a b calls 1 look 1
+one_found a b calls look most f = subst (HasFound a b calls 1 look) one f
+  where
+    one : most ≡ 1
+    one = omega (arith, f.some, few_found a.ring.shape (count_taken a.ring.shape calls).number 1 most look f.finds)
+
+module _ (laws : LawsBelow) (a b : RingEnd) (count cell : ℕ) (calls : Takes) (wanted most : ℕ) (l : HasLooked a b count cell calls wanted most) where
   abbrev k_of : ℕ
-  k_of = taken_in 0 calls.takes
+  k_of = (count_taken a.ring.shape calls).number
 
   abbrev p : TakerList a count cell calls
   p = l.at
 
-  abbrev f : HasFound a b calls l.look
+  abbrev f : HasFound a b calls wanted l.look most
   f = l.found
 
   shape_is : b.ring.shape ≡ a.ring.shape
@@ -150,53 +203,125 @@ module _ (laws : LawsBelow) (a b : RingEnd) (count cell : ℕ) (calls : Takes) (
   pub cell_below : cell < capacity_of b.ring.shape
   cell_below = subst (λ (s : Shape). cell < capacity_of s) (sym shape_is) (subst (λ (n : ℕ). n < capacity_of a.ring.shape) (sym p.cell_is) (mod_below k_of (capacity_of a.ring.shape) a.ring.shape.has_cells))
 
-  word_list : (item : ℕ) → a.list ++ events_of C (finding_phrase l.look ++ word_read (width_of a.ring.shape) (k_of % capacity_of a.ring.shape) item) ≡ b.list ++ events_of C (word_read (width_of b.ring.shape) cell item)
-  word_list item =
-      ap (λ (t : List Event). a.list ++ t) (events_of-append C (finding_phrase l.look) (word_read (width_of a.ring.shape) (k_of % capacity_of a.ring.shape) item)) ∙
-      (sym (append_assoc a.list (events_of C (finding_phrase l.look)) (events_of C (word_read (width_of a.ring.shape) (k_of % capacity_of a.ring.shape) item))) ∙
-      (λ i. sym f.list_is i ++ events_of C (word_read (width_of (sym shape_is i)) (sym p.cell_is i) item)))
+  batch_of_items : (items : List ℕ) → length items ≡ most → AllFit a.ring.shape items → IsTakeBatch a.ring.shape items
+  batch_of_items items long fit = record { some = omega (arith, long, f.some); few = omega (arith, long, few_found a.ring.shape k_of wanted most l.look f.finds, l.few); fit = fit }
 
-  pub to_read : (item : ℕ) → item < 2 ^ width_of b.ring.shape → Follows b.ring.shape C (b.list ++ events_of C (word_read (width_of b.ring.shape) cell item))
-  to_read item fits = subst (λ (z : Shape × List Event). Follows z.0 C z.1) (λ i. (sym shape_is i, word_list item i))
-      (can_read laws a.ring.shape a.list calls p.has l.opened l.look f.finds item (subst (λ (s : Shape). item < 2 ^ width_of s) shape_is fits))
+  finds_items : (items : List ℕ) → length items ≡ most → Finds a.ring.shape k_of wanted l.look (length items)
+  finds_items items long = subst (Finds a.ring.shape k_of wanted l.look) (sym long) f.finds
 
-  module _ (item : ℕ) (small : item < 2 ^ width_of b.ring.shape) (b2 : RingEnd) (g : GrowsBy b b2 (word_read (width_of b.ring.shape) cell item)) (next : ℕ) (next_is : next ≡ (count + 1) % modulus_of a.ring.shape) where
-    fits : item < 2 ^ width_of a.ring.shape
-    fits = subst (λ (s : Shape). item < 2 ^ width_of s) shape_is small
+  -- the cell of the next item by its number
+  near : k_of % capacity_of a.ring.shape ≡ cell % capacity_of a.ring.shape
+  near = sym (mod-mod k_of (capacity_of a.ring.shape)) ∙ ap (λ (n : ℕ). n % capacity_of a.ring.shape) (sym p.cell_is)
 
-    till_item : IsSameEnd a b2
-    till_item = same_end a b b2 f.same g.same
+  words_list : (items : List ℕ) → a.list ++ events_of C (finding_phrase l.look ++ words_read a.ring.shape k_of items) ≡ b.list ++ events_of C (words_read b.ring.shape cell items)
+  words_list items =
+      ap (λ (t : List Event). a.list ++ t) (events_of-append C (finding_phrase l.look) (words_read a.ring.shape k_of items)) ∙
+      (sym (append_assoc a.list (events_of C (finding_phrase l.look)) (events_of C (words_read a.ring.shape k_of items))) ∙
+      ((λ i. sym f.list_is i ++ events_of C (reads_same a.ring.shape items k_of cell near i)) ∙
+      ap (λ (s : Shape). b.list ++ events_of C (words_read s cell items)) (sym shape_is)))
 
-    at_item : b2.list ≡ a.list ++ events_of C (finding_phrase l.look ++ word_read (width_of a.ring.shape) (k_of % capacity_of a.ring.shape) item)
-    at_item = g.list ∙ (ap (λ (s : Side). b.list ++ events_of s (word_read (width_of b.ring.shape) cell item)) side_now ∙ sym (word_list item))
+  pub to_read : (items : List ℕ) → length items ≡ most → AllFit b.ring.shape items → Follows b.ring.shape C (b.list ++ events_of C (words_read b.ring.shape cell items))
+  to_read items long fit =
+      let fit' : AllFit a.ring.shape items = subst (λ (s : Shape). AllFit s items) shape_is fit in
+      subst (λ (z : Shape × List Event). Follows z.0 C z.1) (λ i. (sym shape_is i, words_list items i))
+      (can_read laws a.ring.shape a.list calls p.has l.opened wanted l.look items (finds_items items long) (batch_of_items items long fit'))
 
-    counts_on : next ≡ suc k_of % modulus_of a.ring.shape
-    counts_on = next_is ∙ (ap (λ (n : ℕ). (n + 1) % modulus_of a.ring.shape) p.count_is ∙ (mod-add-mod k_of (modulus_of a.ring.shape) 1 ∙ ap (λ (n : ℕ). n % modulus_of a.ring.shape) plus))
+  module _ (items : List ℕ) (long : length items ≡ most) (small : AllFit b.ring.shape items) (b2 : RingEnd) (g : GrowsBy b b2 (words_read b.ring.shape cell items)) (next : ℕ) (next_is : next ≡ (count + most) % modulus_of a.ring.shape) where
+    fits : AllFit a.ring.shape items
+    fits = subst (λ (s : Shape). AllFit s items) shape_is small
+
+    till_items : IsSameEnd a b2
+    till_items = same_end a b b2 f.same g.same
+
+    at_items : b2.list ≡ a.list ++ events_of C (finding_phrase l.look ++ words_read a.ring.shape k_of items)
+    at_items = g.list ∙ (ap (λ (s : Side). b.list ++ events_of s (words_read b.ring.shape cell items)) side_now ∙ sym (words_list items))
+
+    counts_on : next ≡ number_past k_of items % modulus_of a.ring.shape
+    counts_on = next_is ∙ (ap (λ (n : ℕ). (n + most) % modulus_of a.ring.shape) p.count_is ∙ (mod-add-mod k_of (modulus_of a.ring.shape) most ∙ ap (λ (n : ℕ). n % modulus_of a.ring.shape) plus))
       where
-        plus : k_of + 1 ≡ suc k_of
-        plus = omega arith
+        plus : (count_taken a.ring.shape calls).number + most ≡ number_past (count_taken a.ring.shape calls).number items
+        plus = omega (arith, past_is (count_taken a.ring.shape calls).number items, long)
 
     pub to_count : Follows b2.ring.shape b2.side (b2.list ++ events_of b2.side (unary_over b2.side b2.list next))
-    to_count = subst (λ (z : Shape × Side). Follows z.0 z.1 (b2.list ++ events_of z.1 (unary_over z.1 b2.list next))) (λ i. (sym (same_shape a b2 till_item) i, sym (till_item.side ∙ p.side_is) i))
-        (can_count laws a.ring.shape a.list calls p.has l.opened l.look f.finds item fits b2.list at_item next counts_on)
+    to_count = subst (λ (z : Shape × Side). Follows z.0 z.1 (b2.list ++ events_of z.1 (unary_over z.1 b2.list next))) (λ i. (sym (same_shape a b2 till_items) i, sym (till_items.side ∙ p.side_is) i))
+        (can_count laws a.ring.shape a.list calls p.has l.opened wanted l.look items (finds_items items long) (batch_of_items items long fits) b2.list at_items next counts_on)
 
-    pub fetched : (b3 : RingEnd) → GrowsBy b2 b3 (unary_over b2.side b2.list next) → TakeMade a b3 calls (reply.Item item)
+    pub fetched : (b3 : RingEnd) → GrowsBy b2 b3 (unary_over b2.side b2.list next) → TakeMade a b3 calls wanted (items_reply items) items
     fetched b3 g3 =
-        let all : IsSameEnd a b3 = same_end a b2 b3 till_item g3.same in
-        made_take laws a b3 count cell calls p l.opened all (stands_as a b3 C all p.side_is g3.stands) (take_of l.look item) (reply.Item item)
-        (is_take laws a.ring.shape a.list calls p.has l.opened l.look f.finds item fits b2.list at_item next counts_on)
-        (take_of-replies l.look item) refl (take_of-takes k_of l.look item ∙ plus)
-        (subst (λ (t : List Event). HasTakes a.ring.shape t (and_take calls (take_of l.look item))) (sym (g3.list ∙ ap (λ (s : Side). b2.list ++ events_of s (unary_over s b2.list next)) (till_item.side ∙ p.side_is)))
-        (taken_is laws a.ring.shape a.list calls p.has l.opened l.look f.finds item fits b2.list at_item next counts_on))
+        let all : IsSameEnd a b3 = same_end a b2 b3 till_items g3.same in
+        let is = is_take laws a.ring.shape a.list calls p.has l.opened wanted l.look items (finds_items items long) (batch_of_items items long fits) in
+        made_take laws a b3 count cell calls p l.opened all (stands_as a b3 C all p.side_is g3.stands) wanted (take_of l.look items) (items_reply items) items
+        is.0 is.1 (take_of-replies l.look items) (take_of-items l.look items) (not_told items) (take_of-takes k_of l.look items ∙ past_is k_of items)
+        (subst (λ (t : List Event). HasTakes a.ring.shape t (and_take calls (take_of l.look items))) (sym (g3.list ∙ ap (λ (s : Side). b2.list ++ events_of s (unary_over s b2.list next)) (till_items.side ∙ p.side_is)))
+        (taken_is laws a.ring.shape a.list calls p.has l.opened wanted l.look items (finds_items items long) (batch_of_items items long fits) b2.list at_items next counts_on))
       where
-        plus : suc k_of ≡ k_of + 1
-        plus = omega arith
+        not_told : (items : List ℕ) → closed_reply (Some (items_reply items)) ≡ false
+        not_told [] = refl
+        not_told (item ∷ items) = refl
+
+-- the read of one word, of a cell below the capacity
+pub one_word : (shape : Shape) (cell item : ℕ) → cell < capacity_of shape → words_read shape cell (item ∷ []) ≡ word_read (width_of shape) cell item
+one_word shape cell item lt = append-nil (word_read (width_of shape) (cell % capacity_of shape) item) ∙ ap (λ (j : ℕ). word_read (width_of shape) j item) (mod-eq_of_lt lt)
+
+pub one_read :
+    (a b : RingEnd) (cell item : ℕ) → cell < capacity_of a.ring.shape → GrowsBy a b (word_read (width_of a.ring.shape) cell item) →
+    GrowsBy a b (words_read a.ring.shape cell (item ∷ []))
+one_read a b cell item lt grows = subst (GrowsBy a b) (sym (one_word a.ring.shape cell item lt)) grows
+
+-- the loads of several items, one cell behind the other
+module _ (a : RingEnd) (cell : ℕ) (side : a.side ≡ C) where
+  pub no_loads : StandsAs C a → GrowsBy a a (words_read a.ring.shape cell [])
+  no_loads stands = record { same = record { ring = refl; side = refl; known = refl }; list = sym (append-nil a.list); stands = subst (λ (s : Side). Stands a.ring.shape s a.list a.known) (sym side) stands }
+
+  module _ (b : RingEnd) (place : ℕ) (items : List ℕ) (g : GrowsBy a b (words_read a.ring.shape cell items)) (is : place ≡ (cell + length items) % capacity_of a.ring.shape) where
+    so_far : b.list ≡ a.list ++ events_of C (words_read a.ring.shape cell items)
+    so_far = g.list ∙ ap (λ (s : Side). a.list ++ events_of s (words_read a.ring.shape cell items)) side
+
+    one_more : (item : ℕ) → b.list ++ events_of C (word_read (width_of a.ring.shape) place item) ≡ a.list ++ events_of C (words_read a.ring.shape cell (items ++ item ∷ []))
+    one_more item =
+        let before : List Made = words_read a.ring.shape cell items in
+        let word : List Made = word_read (width_of a.ring.shape) ((cell + length items) % capacity_of a.ring.shape) item in
+        (λ j. so_far j ++ events_of C (word_read (width_of a.ring.shape) (is j) item)) ∙
+        (append_assoc a.list (events_of C before) (events_of C word) ∙
+        ap (λ (l : List Event). a.list ++ l) (sym (events_of-append C before word) ∙
+        ap (events_of C) (sym (words_read-append a.ring.shape cell items (item ∷ []) ∙ ap (λ (l : List Made). before ++ l) (append-nil word)))))
+
+    -- the next of so many loads, as those behind it may load items of 0
+    pub next_load :
+        (wanted item : ℕ) → length items < wanted → AllFit a.ring.shape items → item < 2 ^ width_of b.ring.shape →
+        ((all : List ℕ) → length all ≡ wanted → AllFit a.ring.shape all → Follows a.ring.shape C (a.list ++ events_of C (words_read a.ring.shape cell all))) →
+        Follows b.ring.shape C (b.list ++ events_of C (word_read (width_of b.ring.shape) place item))
+    next_load wanted item lt fit small program =
+        let shape : Shape = a.ring.shape in
+        let some : List ℕ = items ++ item ∷ [] in
+        let rest : List ℕ = zeros (wanted - suc (length items)) in
+        let last : item < 2 ^ width_of a.ring.shape = subst (λ (s : Shape). item < 2 ^ width_of s) (same_shape a b g.same) small in
+        let more : List Event = events_of C (words_read shape (cell + length some) rest) in
+        let whole : a.list ++ events_of C (words_read shape cell (some ++ rest)) ≡ (a.list ++ events_of C (words_read shape cell some)) ++ more =
+        ap (λ (l : List Made). a.list ++ events_of C l) (words_read-append shape cell some rest) ∙
+        (ap (λ (l : List Event). a.list ++ l) (events_of-append C (words_read shape cell some) (words_read shape (cell + length some) rest)) ∙
+        sym (append_assoc a.list (events_of C (words_read shape cell some)) more)) in
+        let long : length (some ++ rest) ≡ wanted = omega (arith, lt, length-append some rest, length-append items (item ∷ []), zeros-long (wanted - suc (length items))) in
+        subst (λ (s : Shape). Follows s C (b.list ++ events_of C (word_read (width_of s) place item))) (sym (same_shape a b g.same))
+        (subst (Follows shape C) (sym (one_more item))
+        (follows_shorter shape C (a.list ++ events_of C (words_read shape cell some)) more
+        (subst (Follows shape C) whole (program (some ++ rest) long (fit-append shape some rest (fit-push shape items item fit (last, tt)) (zeros-fit shape (wanted - suc (length items))))))))
+
+    pub loaded_one : (c : RingEnd) (item : ℕ) → GrowsBy b c (word_read (width_of b.ring.shape) place item) → GrowsBy a c (words_read a.ring.shape cell (items ++ item ∷ []))
+    loaded_one c item h = record {
+      same = same_end a b c g.same h.same;
+      list = h.list ∙ ((λ j. b.list ++ events_of ((g.same.side ∙ side) j) (word_read (width_of (same_shape a b g.same j)) place item)) ∙
+          (one_more item ∙ ap (λ (s : Side). a.list ++ events_of s (words_read a.ring.shape cell (items ++ item ∷ []))) (sym side)));
+      stands = h.stands;
+    }
 
 -- ---- whole calls
 
-pub kept_take : (a b : RingEnd) (count cell : ℕ) (calls : Takes) (r : TakeReply) → TakerList a count cell calls → (m : TakeMade a b calls r) → (next next' : ℕ)
-    → next ≡ (count + items_brought r) % modulus_of a.ring.shape → next' ≡ (cell + items_brought r) % capacity_of a.ring.shape → TakeKept a b next next' calls r
-kept_take a b count cell calls r p m next next' is is' = record {
+pub kept_take :
+    (a b : RingEnd) (count cell : ℕ) (calls : Takes) (wanted : ℕ) (r : TakeReply) (items : List ℕ) → TakerList a count cell calls → (m : TakeMade a b calls wanted r items) →
+    (next next' : ℕ) → next ≡ (count + length items) % modulus_of a.ring.shape → next' ≡ (cell + length items) % capacity_of a.ring.shape →
+    TakeKept a b next next' calls wanted r items
+kept_take a b count cell calls wanted r items p m next next' is is' = record {
   made = m;
   at = record {
     side_is = m.same.side ∙ p.side_is;
@@ -207,14 +332,17 @@ kept_take a b count cell calls r p m next next' is is' = record {
   };
 }
   where
-    at_size : (size : Shape → ℕ) (new old : ℕ) → new ≡ (old + items_brought r) % size a.ring.shape → old ≡ taken_in 0 calls.takes % size a.ring.shape → new ≡ taken_in 0 m.more.takes % size b.ring.shape
+    at_size :
+        (size : Shape → ℕ) (new old : ℕ) → new ≡ (old + length items) % size a.ring.shape → old ≡ (count_taken a.ring.shape calls).number % size a.ring.shape →
+        new ≡ (count_taken b.ring.shape m.more).number % size b.ring.shape
     at_size size new old e was =
-        e ∙ (ap (λ (k : ℕ). (k + items_brought r) % size a.ring.shape) was ∙ (mod-add-mod (taken_in 0 calls.takes) (size a.ring.shape) (items_brought r) ∙
-        (λ i. sym m.number i % size (sym (same_shape a b m.same) i))))
+        e ∙ (ap (λ (k : ℕ). (k + length items) % size a.ring.shape) was ∙ (mod-add-mod (count_taken a.ring.shape calls).number (size a.ring.shape) (length items) ∙
+        (ap (λ (s : Shape). ((count_taken s calls).number + length items) % size s) (sym (same_shape a b m.same)) ∙ ap (λ (n : ℕ). n % size b.ring.shape) (sym m.number))))
 
 -- the same, of a take that brought nothing
-pub kept_none : (a b : RingEnd) (count cell : ℕ) (calls : Takes) (r : TakeReply) → TakerList a count cell calls → TakeMade a b calls r × (items_brought r ≡ 0) → TakeKept a b count cell calls r
-kept_none a b count cell calls r p (m, none) = kept_take a b count cell calls r p m count cell (at_size (modulus_of a.ring.shape) count p.count_is) (at_size (capacity_of a.ring.shape) cell p.cell_is)
-  where
-    at_size : (size n : ℕ) → n ≡ taken_in 0 calls.takes % size → n ≡ (n + items_brought r) % size
-    at_size size n is = stands_still n (taken_in 0 calls.takes) size is ∙ ap (λ (k : ℕ). (n + k) % size) (sym none)
+pub kept_none :
+    (a b : RingEnd) (count cell : ℕ) (calls : Takes) (wanted : ℕ) (r : TakeReply) → TakerList a count cell calls → TakeMade a b calls wanted r [] → TakeKept a b count cell calls wanted r []
+kept_none a b count cell calls wanted r p m =
+    kept_take a b count cell calls wanted r [] p m count cell
+    (stands_still count (count_taken a.ring.shape calls).number (modulus_of a.ring.shape) p.count_is)
+    (stands_still cell (count_taken a.ring.shape calls).number (capacity_of a.ring.shape) p.cell_is)

@@ -1,5 +1,6 @@
 -- The takes of a counter ring, from their lists.
-use Rattle.std.proofs.Common.{◌≡◌, ℕ, zero, suc, ◌%◌, ◌^◌, ◌<◌, Bool, true, false, List, [], ◌∷◌, ◌++◌, refl, ap, sym, subst, ◌∙◌, arith, append_assoc, append-nil}
+use Rattle.std.proofs.Common.{◌≡◌, ℕ, zero, suc, ◌%◌, ◌<◌, Bool, true, false, List, [], ◌∷◌, ◌++◌, length, refl, ap, sym, subst, ◌∙◌, arith, append_assoc, append-nil}
+use Rattle.std.proofs.Math.Nat.{suc-mod}
 use Rattle.std.proofs.lemmas.Nat.{pow_pos}
 use native.Mathlib.Decide.{dec_lt}
 use Rattle.bits_core.specs.declared.shapes.Shape.{Shape}
@@ -14,10 +15,11 @@ use Rattle.register_core.specs.Row.{row_bit, writes_in}
 use Rattle.register_core.specs.Unary.{unary_phrase}
 use Rattle.register_core.specs.Word.{digit, digit_reads, word_read}
 use Rattle.register_core.specs.ScanState.{scan_phrase, row_read_by}
-use Rattle.ring_core.specs.declared.consumers.TakeReply.TheVariants as replies
-use Rattle.ring_core.specs.Counts.{distance, ShowsItem, bits_held, count_phrase}
-use Rattle.ring_core.specs.Takes.{Take, Item, ItemAfterClose, Empty, End, Open, Closed, Takes, taken_after, taken_in, item_phrase, take_phrase, take_phrases, end_phrase, take_program, SeesNone, IsTake}
-use Rattle.ring_core.specs.ConsumerCalls.{and_take, and_end, take_reply_to, Finding, Once, Twice, finding_phrase, Finds}
+use Rattle.ring_core.specs.Counts.{distance, ShowsItem, number_past, Count, first_count, count_bits, batch_phrase}
+use Rattle.ring_core.specs.Takes.{Take, Item, ItemAfterClose, Empty, End, Open, Closed, Takes, taken_after, count_after, taken_count, words_read, items_phrase, take_phrase, take_phrases, end_phrase, take_program, SeesItems, SeesNone, IsTakeBatch, IsTake}
+use Rattle.ring_core.specs.Items.{taken_of}
+use Rattle.ring_core.proofs.CountRow.{has_take_batch}
+use Rattle.ring_core.specs.ConsumerCalls.{count_taken, and_take, and_end, items_reply, take_reply_to, IsTakeOf, Finding, Once, Twice, finding_phrase, Finds}
 use Rattle.ring_core.specs.OneCallMore.{HasOneTakeMore, HasEndMore}
 use Rattle.ring_seats.specs.Below.{LawsBelow}
 use Rattle.ring_seats.specs.Programs.{Follows}
@@ -27,33 +29,54 @@ use Rattle.ring_seats.proofs.Blocks.{after, left_by-made, events_of-append}
 use Rattle.ring_seats.proofs.LastWrites.{Spares, spares-append, row_written, row_tells}
 use Rattle.ring_seats.proofs.CounterPuts.{RowIs, scan_spares, first_row, row_spared, row_both}
 
--- ---- a take that found an item
+-- ---- a take that found items
 
-abbrev pub take_of : Finding → ℕ → Take
-take_of (Once seen) item = Item seen item
-take_of (Twice seen again) item = ItemAfterClose seen again item
+abbrev pub take_of : Finding → List ℕ → Take
+take_of (Once seen) items = Item seen items
+take_of (Twice seen again) items = ItemAfterClose seen again items
 
-take_of-is : (shape : Shape) (k : ℕ) (look : Finding) (item : ℕ) → Finds shape k look → item < 2 ^ width_of shape → IsTake shape k (take_of look item)
-take_of-is shape k (Once seen) item finds fits = (finds, fits)
-take_of-is shape k (Twice seen again) item finds fits = (finds.0, finds.1, fits)
+pub take_of-is :
+    (shape : Shape) (k wanted : ℕ) (look : Finding) (items : List ℕ) → Finds shape k wanted look (length items) → IsTakeBatch shape items →
+    IsTake shape k (take_of look items) × IsTakeOf shape k wanted (take_of look items)
+take_of-is shape k wanted (Once seen) items (sees, all) batch = ((sees, batch), all)
+take_of-is shape k wanted (Twice seen again) items (none, sees, all) batch = ((none, sees, batch), all)
 
-pub take_of-takes : (k : ℕ) (look : Finding) (item : ℕ) → taken_after k (take_of look item) ≡ suc k
-take_of-takes k (Once seen) item = refl
-take_of-takes k (Twice seen again) item = refl
+pub take_of-takes : (k : ℕ) (look : Finding) (items : List ℕ) → taken_after k (take_of look items) ≡ number_past k items
+take_of-takes k (Once seen) items = refl
+take_of-takes k (Twice seen again) items = refl
 
-pub take_of-replies : (look : Finding) (item : ℕ) → take_reply_to (take_of look item) ≡ replies.Item item
-take_of-replies (Once seen) item = refl
-take_of-replies (Twice seen again) item = refl
+pub take_of-items : (look : Finding) (items : List ℕ) → taken_of (take_of look items) ≡ items
+take_of-items (Once seen) items = refl
+take_of-items (Twice seen again) items = refl
 
-take_of-phrase : (shape : Shape) (k : ℕ) (look : Finding) (item : ℕ) → take_phrase shape k (take_of look item) ≡ finding_phrase look ++ item_phrase shape k item
-take_of-phrase shape k (Once seen) item = refl
-take_of-phrase shape k (Twice seen again) item = refl
+pub take_of-replies : (look : Finding) (items : List ℕ) → take_reply_to (take_of look items) ≡ items_reply items
+take_of-replies (Once seen) items = refl
+take_of-replies (Twice seen again) items = refl
+
+take_of-phrase : (shape : Shape) (c : Count) (look : Finding) (items : List ℕ) → take_phrase shape c (take_of look items) ≡ finding_phrase look ++ items_phrase shape c items
+take_of-phrase shape c (Once seen) items = refl
+take_of-phrase shape c (Twice seen again) items = refl
+
+-- ---- the words of several items
+
+module _ (shape : Shape) where
+  -- cells are told by their numbers modulo the capacity
+  pub reads_same : (items : List ℕ) (n m : ℕ) → n % capacity_of shape ≡ m % capacity_of shape → words_read shape n items ≡ words_read shape m items
+  reads_same [] n m e = refl
+  reads_same (x ∷ items) n m e = λ i. word_read (width_of shape) (e i) x ++
+      reads_same items (suc n) (suc m) (suc-mod n (capacity_of shape) ∙ (ap (λ (k : ℕ). suc k % capacity_of shape) e ∙ sym (suc-mod m (capacity_of shape)))) i
 
 -- ---- what the consumer's list leaves of its count
 
 digits_spare : (row : ℕ → Bit) (j item n : ℕ) → Spares row (digit_reads j item n)
 digits_spare row j item zero = tt
 digits_spare row j item (suc n) = spares-append row (digit_reads j item n) (Read (Cell j n) (digit n item) ∷ []) (digits_spare row j item n) tt
+
+reads_spare : (shape : Shape) (n : ℕ) (items : List ℕ) → Spares (row_bit C) (words_read shape n items)
+reads_spare shape n [] = tt
+reads_spare shape n (x ∷ items) =
+    spares-append (row_bit C) (word_read (width_of shape) (n % capacity_of shape) x) (words_read shape (suc n) items)
+    (digits_spare (row_bit C) (n % capacity_of shape) x (width_of shape)) (reads_spare shape (suc n) items)
 
 look_spares : (look : Finding) → Spares (row_bit C) (finding_phrase look)
 look_spares (Once seen) = scan_spares (row_bit C) (row_read_by C) seen
@@ -64,39 +87,41 @@ end_spares Open = tt
 end_spares (Closed seen again) = look_spares (Twice seen again)
 
 module _ (shape : Shape) where
-  row_item : (bits : Bit → Bool) (k item : ℕ) → RowIs C bits (bits_held shape k) → RowIs C (after bits (item_phrase shape k item)) (bits_held shape (suc k))
-  row_item bits k item is =
-      let word : List Made = word_read (width_of shape) (k % capacity_of shape) item in
-      row_both C bits word (count_phrase shape C k) (bits_held shape (suc k))
-      (row_written (row_bit C) (row_tells C) (unary_phrase (bits_held shape k) (suc k % modulus_of shape)) (after bits word) (bits_held shape k)
-      (row_spared C bits word (bits_held shape k) (digits_spare (row_bit C) (k % capacity_of shape) item (width_of shape)) is))
+  row_items : (bits : Bit → Bool) (c : Count) (items : List ℕ) → RowIs C bits c.bits → RowIs C (after bits (items_phrase shape c items)) (count_after shape c (Item 0 items)).bits
+  row_items bits c items is =
+      let words : List Made = words_read shape c.number items in
+      let next : ℕ → Bool = (count_after shape c (Item 0 items)).bits in
+      row_both C bits words (batch_phrase shape C c items) next
+      (row_written (row_bit C) (row_tells C) (count_bits shape c items) (after bits words) c.bits (row_spared C bits words c.bits (reads_spare shape c.number items) is))
 
-  row_found : (bits : Bit → Bool) (k item : ℕ) (look : Finding) → RowIs C bits (bits_held shape k) → RowIs C (after bits (finding_phrase look ++ item_phrase shape k item)) (bits_held shape (suc k))
-  row_found bits k item look is =
-      row_both C bits (finding_phrase look) (item_phrase shape k item) (bits_held shape (suc k))
-      (row_item (after bits (finding_phrase look)) k item (row_spared C bits (finding_phrase look) (bits_held shape k) (look_spares look) is))
+  row_found :
+      (bits : Bit → Bool) (c : Count) (items : List ℕ) (look : Finding) → RowIs C bits c.bits →
+      RowIs C (after bits (finding_phrase look ++ items_phrase shape c items)) (count_after shape c (Item 0 items)).bits
+  row_found bits c items look is =
+      row_both C bits (finding_phrase look) (items_phrase shape c items) (count_after shape c (Item 0 items)).bits
+      (row_items (after bits (finding_phrase look)) c items (row_spared C bits (finding_phrase look) c.bits (look_spares look) is))
 
-  row_take : (bits : Bit → Bool) (k : ℕ) (x : Take) → RowIs C bits (bits_held shape k) → RowIs C (after bits (take_phrase shape k x)) (bits_held shape (taken_after k x))
-  row_take bits k (Item seen item) is = row_found bits k item (Once seen) is
-  row_take bits k (ItemAfterClose seen again item) is = row_found bits k item (Twice seen again) is
-  row_take bits k (Empty seen) is =
-      row_spared C bits (scan_phrase (row_read_by C) seen ++ Read X false ∷ []) (bits_held shape k)
+  row_take : (bits : Bit → Bool) (c : Count) (x : Take) → RowIs C bits c.bits → RowIs C (after bits (take_phrase shape c x)) (count_after shape c x).bits
+  row_take bits c (Item seen items) is = row_found bits c items (Once seen) is
+  row_take bits c (ItemAfterClose seen again items) is = row_found bits c items (Twice seen again) is
+  row_take bits c (Empty seen) is =
+      row_spared C bits (scan_phrase (row_read_by C) seen ++ Read X false ∷ []) c.bits
       (spares-append (row_bit C) (scan_phrase (row_read_by C) seen) (Read X false ∷ []) (scan_spares (row_bit C) (row_read_by C) seen) tt) is
 
-  row_takes : (takes : List Take) (bits : Bit → Bool) (k : ℕ) → RowIs C bits (bits_held shape k) → RowIs C (after bits (take_phrases shape k takes)) (bits_held shape (taken_in k takes))
-  row_takes [] bits k is = is
-  row_takes (x ∷ takes) bits k is =
-      row_both C bits (take_phrase shape k x) (take_phrases shape (taken_after k x) takes) (bits_held shape (taken_in (taken_after k x) takes))
-      (row_takes takes (after bits (take_phrase shape k x)) (taken_after k x) (row_take bits k x is))
+  row_takes : (takes : List Take) (bits : Bit → Bool) (c : Count) → RowIs C bits c.bits → RowIs C (after bits (take_phrases shape c takes)) (taken_count shape c takes).bits
+  row_takes [] bits c is = is
+  row_takes (x ∷ takes) bits c is =
+      row_both C bits (take_phrase shape c x) (take_phrases shape (count_after shape c x) takes) (taken_count shape (count_after shape c x) takes).bits
+      (row_takes takes (after bits (take_phrase shape c x)) (count_after shape c x) (row_take bits c x is))
 
-  pub taker_row : (list : List Event) (calls : Takes) → HasTakes shape list calls → RowIs C (value_left list) (bits_held shape (taken_in 0 calls.takes))
+  pub taker_row : (list : List Event) (calls : Takes) → HasTakes shape list calls → RowIs C (value_left list) (count_taken shape calls).bits
   taker_row list calls has i =
-      let takes : List Made = take_phrases shape 0 calls.takes in
+      let takes : List Made = take_phrases shape first_count calls.takes in
       ap (λ (l : List Event). value_left l (row_bit C i)) has.list_is ∙
       (left_by-made C (take_program shape calls) [] (row_bit C i) ∙
-      row_both C first_value takes (end_phrase calls.end) (bits_held shape (taken_in 0 calls.takes))
-      (row_spared C (after first_value takes) (end_phrase calls.end) (bits_held shape (taken_in 0 calls.takes)) (end_spares calls.end)
-      (row_takes calls.takes first_value 0 (first_row C))) i)
+      row_both C first_value takes (end_phrase calls.end) (count_taken shape calls).bits
+      (row_spared C (after first_value takes) (end_phrase calls.end) (count_taken shape calls).bits (end_spares calls.end)
+      (row_takes calls.takes first_value first_count (first_row C))) i)
 
 shows_or_not : (shape : Shape) (c k : ℕ) → Dec (ShowsItem shape c k)
 shows_or_not shape c k = go (dec_lt 0 (distance (modulus_of shape) c k)) (dec_lt (capacity_of shape) (distance (modulus_of shape) c k))
@@ -109,8 +134,11 @@ shows_or_not shape c k = go (dec_lt 0 (distance (modulus_of shape) c k)) (dec_lt
 -- ---- the list of a taker that was not told that the ring is closed
 
 module _ (laws : LawsBelow) (shape : Shape) (list : List Event) (calls : Takes) (has : HasTakes shape list calls) (opened : calls.end ≡ Open) where
+  abbrev c_of : Count
+  c_of = count_taken shape calls
+
   abbrev k_of : ℕ
-  k_of = taken_in 0 calls.takes
+  k_of = (count_taken shape calls).number
 
   abbrev scan_of : ℕ → List Made
   scan_of seen = scan_phrase (row_read_by C) seen
@@ -118,7 +146,7 @@ module _ (laws : LawsBelow) (shape : Shape) (list : List Event) (calls : Takes) 
   abbrev prog : List Made
   prog = take_program shape calls
 
-  pub take_more : (x : Take) → IsTake shape (taken_in 0 calls.takes) x → HasOneTakeMore shape calls x
+  pub take_more : (x : Take) → IsTake shape (count_taken shape calls).number x → HasOneTakeMore shape calls x
   take_more x is = laws.one_take shape calls x has.are opened is
 
   end_more : (seen again : ℕ) → SeesNone shape k_of seen → SeesNone shape k_of again → HasEndMore shape calls seen again
@@ -131,7 +159,7 @@ module _ (laws : LawsBelow) (shape : Shape) (list : List Event) (calls : Takes) 
   joined a rest = ap (λ (l : List Event). l ++ events_of C rest) (more a) ∙ (sym (events_of-append C (prog ++ a) rest) ∙ ap (events_of C) (append_assoc prog a rest))
 
   -- what was made goes on to a take, or to the one that is told
-  goes : (x : Take) (a rest : List Made) → IsTake shape k_of x → take_phrase shape k_of x ≡ a ++ rest → Follows shape C (list ++ events_of C a)
+  goes : (x : Take) (a rest : List Made) → IsTake shape k_of x → take_phrase shape c_of x ≡ a ++ rest → Follows shape C (list ++ events_of C a)
   goes x a rest is phrase = (
     and_take calls x,
     (take_more x is).are,
@@ -151,20 +179,27 @@ module _ (laws : LawsBelow) (shape : Shape) (list : List Event) (calls : Takes) 
     ),
   )
 
-  pub whole_take : (x : Take) (now : List Event) → IsTake shape (taken_in 0 calls.takes) x → now ≡ list ++ events_of C (take_phrase shape (taken_in 0 calls.takes) x) → HasTakes shape now (and_take calls x)
-  whole_take x now is e = record { are = (take_more x is).are; list_is = e ∙ (more (take_phrase shape k_of x) ∙ ap (events_of C) (sym (take_more x is).program_is)) }
+  pub whole_take : (x : Take) (now : List Event) → IsTake shape (count_taken shape calls).number x → now ≡ list ++ events_of C (take_phrase shape (count_taken shape calls) x) → HasTakes shape now (and_take calls x)
+  whole_take x now is e = record { are = (take_more x is).are; list_is = e ∙ (more (take_phrase shape c_of x) ∙ ap (events_of C) (sym (take_more x is).program_is)) }
 
-  pub whole_end : (seen again : ℕ) (now : List Event) → SeesNone shape (taken_in 0 calls.takes) seen → SeesNone shape (taken_in 0 calls.takes) again → now ≡ list ++ events_of C (end_phrase (Closed seen again)) → HasTakes shape now (and_end calls seen again)
+  pub whole_end : (seen again : ℕ) (now : List Event) → SeesNone shape (count_taken shape calls).number seen → SeesNone shape (count_taken shape calls).number again → now ≡ list ++ events_of C (end_phrase (Closed seen again)) → HasTakes shape now (and_end calls seen again)
   whole_end seen again now none none' e = record { are = (end_more seen again none none').are; list_is = e ∙ (more (end_phrase (Closed seen again)) ∙ ap (events_of C) (sym (end_more seen again none none').program_is)) }
+
+  -- one item may be taken where the count shows some
+  one_shown : (c : ℕ) → c < modulus_of shape → ShowsItem shape c (k_of % modulus_of shape) → SeesItems shape k_of c 1
+  one_shown c lt shows = (lt, shows.0, shows.1)
+
+  one_batch : IsTakeBatch shape (0 ∷ [])
+  one_batch = record { some = omega arith; few = has_take_batch shape; fit = (pow_pos (width_of shape), tt) }
 
   pub can_scan : (c : ℕ) → c < modulus_of shape → Follows shape C (list ++ events_of C (scan_phrase (row_read_by C) c))
   can_scan c lt = go (shows_or_not shape c (k_of % modulus_of shape))
     where
-      go : Dec (ShowsItem shape c (taken_in 0 calls.takes % modulus_of shape)) → Follows shape C (list ++ events_of C (scan_phrase (row_read_by C) c))
-      go (yes shows) = goes (Item c 0) (scan_of c) (item_phrase shape k_of 0) ((lt, shows), pow_pos (width_of shape)) refl
+      go : Dec (ShowsItem shape c ((count_taken shape calls).number % modulus_of shape)) → Follows shape C (list ++ events_of C (scan_phrase (row_read_by C) c))
+      go (yes shows) = goes (Item c (0 ∷ [])) (scan_of c) (items_phrase shape c_of (0 ∷ [])) (one_shown c lt shows, one_batch) refl
       go (no none) = goes (Empty c) (scan_of c) (Read X false ∷ []) (lt, none) refl
 
-  module _ (seen : ℕ) (none : SeesNone shape (taken_in 0 calls.takes) seen) where
+  module _ (seen : ℕ) (none : SeesNone shape (count_taken shape calls).number seen) where
     -- the read of the close bit
     pub can_ask : (v : Bool) → Follows shape C (list ++ events_of C (scan_phrase (row_read_by C) seen ++ Read X v ∷ []))
     can_ask true = tells_so seen seen (scan_of seen ++ Read X true ∷ []) (scan_of seen) none none (sym (append_assoc (scan_of seen) (Read X true ∷ []) (scan_of seen)))
@@ -174,42 +209,42 @@ module _ (laws : LawsBelow) (shape : Shape) (list : List Event) (calls : Takes) 
     pub can_rescan : (c : ℕ) → c < modulus_of shape → Follows shape C (list ++ events_of C (scan_phrase (row_read_by C) seen ++ Read X true ∷ scan_phrase (row_read_by C) c))
     can_rescan c lt = go (shows_or_not shape c (k_of % modulus_of shape))
       where
-        go : Dec (ShowsItem shape c (taken_in 0 calls.takes % modulus_of shape)) → Follows shape C (list ++ events_of C (scan_phrase (row_read_by C) seen ++ Read X true ∷ scan_phrase (row_read_by C) c))
-        go (yes shows) = goes (ItemAfterClose seen c 0) (finding_phrase (Twice seen c)) (item_phrase shape k_of 0) (none, (lt, shows), pow_pos (width_of shape)) refl
+        go : Dec (ShowsItem shape c ((count_taken shape calls).number % modulus_of shape)) → Follows shape C (list ++ events_of C (scan_phrase (row_read_by C) seen ++ Read X true ∷ scan_phrase (row_read_by C) c))
+        go (yes shows) = goes (ItemAfterClose seen c (0 ∷ [])) (finding_phrase (Twice seen c)) (items_phrase shape c_of (0 ∷ [])) (none, one_shown c lt shows, one_batch) refl
         go (no none') = tells_so seen c (end_phrase (Closed seen c)) [] none (lt, none') (sym (append-nil (end_phrase (Closed seen c))))
 
-  module _ (look : Finding) (finds : Finds shape (taken_in 0 calls.takes) look) where
-    -- the word read
-    pub can_read : (item : ℕ) → item < 2 ^ width_of shape → Follows shape C (list ++ events_of C (finding_phrase look ++ word_read (width_of shape) (taken_in 0 calls.takes % capacity_of shape) item))
-    can_read item fits = goes (take_of look item) (finding_phrase look ++ word_read (width_of shape) (k_of % capacity_of shape) item) (count_phrase shape C k_of) (take_of-is shape k_of look item finds fits)
-        (take_of-phrase shape k_of look item ∙ sym (append_assoc (finding_phrase look) (word_read (width_of shape) (k_of % capacity_of shape) item) (count_phrase shape C k_of)))
+  module _ (wanted : ℕ) (look : Finding) (items : List ℕ) (finds : Finds shape (count_taken shape calls).number wanted look (length items)) (batch : IsTakeBatch shape items) where
+    pub is_take : IsTake shape (count_taken shape calls).number (take_of look items) × IsTakeOf shape (count_taken shape calls).number wanted (take_of look items)
+    is_take = take_of-is shape k_of wanted look items finds batch
 
-    module _ (item : ℕ) (fits : item < 2 ^ width_of shape) (now : List Event) (e : now ≡ list ++ events_of C (finding_phrase look ++ word_read (width_of shape) (taken_in 0 calls.takes % capacity_of shape) item)) (new : ℕ) (next : new ≡ suc (taken_in 0 calls.takes) % modulus_of shape) where
-      abbrev word : List Made
-      word = word_read (width_of shape) (k_of % capacity_of shape) item
+    abbrev words : List Made
+    words = words_read shape k_of items
 
-      abbrev made : List Made
-      made = finding_phrase look ++ word
+    abbrev made : List Made
+    made = finding_phrase look ++ words
 
-      row_now : RowIs C (value_left now) (bits_held shape k_of)
+    -- the word reads
+    pub can_read : Follows shape C (list ++ events_of C (finding_phrase look ++ words_read shape (count_taken shape calls).number items))
+    can_read = goes (take_of look items) made (batch_phrase shape C c_of items) is_take.0
+        (take_of-phrase shape c_of look items ∙ sym (append_assoc (finding_phrase look) words (batch_phrase shape C c_of items)))
+
+    module _ (now : List Event) (e : now ≡ list ++ events_of C (finding_phrase look ++ words_read shape (count_taken shape calls).number items)) (new : ℕ) (next : new ≡ number_past (count_taken shape calls).number items % modulus_of shape) where
+      row_now : RowIs C (value_left now) c_of.bits
       row_now i =
           ap (λ (l : List Event). value_left l (row_bit C i)) e ∙
           (left_by-made C made list (row_bit C i) ∙
-          row_spared C (value_left list) made (bits_held shape k_of)
-          (spares-append (row_bit C) (finding_phrase look) word (look_spares look) (digits_spare (row_bit C) (k_of % capacity_of shape) item (width_of shape))) (taker_row shape list calls has) i)
+          row_spared C (value_left list) made c_of.bits
+          (spares-append (row_bit C) (finding_phrase look) words (look_spares look) (reads_spare shape k_of items)) (taker_row shape list calls has) i)
 
-      phrase_is : now ++ events_of C (unary_over C now new) ≡ list ++ events_of C (take_phrase shape k_of (take_of look item))
+      phrase_is : now ++ events_of C (unary_over C now new) ≡ list ++ events_of C (take_phrase shape c_of (take_of look items))
       phrase_is =
           (λ i. e i ++ events_of C (writes_in (row_bit C) (unary_phrase (λ (n : ℕ). row_now n i) (next i)))) ∙
-          (append_assoc list (events_of C made) (events_of C (count_phrase shape C k_of)) ∙
-          (ap (λ (l : List Event). list ++ l) (sym (events_of-append C made (count_phrase shape C k_of))) ∙
-          ap (λ (l : List Made). list ++ events_of C l) (append_assoc (finding_phrase look) word (count_phrase shape C k_of) ∙ sym (take_of-phrase shape k_of look item))))
+          (append_assoc list (events_of C made) (events_of C (batch_phrase shape C c_of items)) ∙
+          (ap (λ (l : List Event). list ++ l) (sym (events_of-append C made (batch_phrase shape C c_of items))) ∙
+          ap (λ (l : List Made). list ++ events_of C l) (append_assoc (finding_phrase look) words (batch_phrase shape C c_of items) ∙ sym (take_of-phrase shape c_of look items))))
 
       pub can_count : Follows shape C (now ++ events_of C (unary_over C now new))
-      can_count = subst (Follows shape C) (sym phrase_is) (goes (take_of look item) (take_phrase shape k_of (take_of look item)) [] (take_of-is shape k_of look item finds fits) (sym (append-nil (take_phrase shape k_of (take_of look item)))))
+      can_count = subst (Follows shape C) (sym phrase_is) (goes (take_of look items) (take_phrase shape c_of (take_of look items)) [] is_take.0 (sym (append-nil (take_phrase shape c_of (take_of look items)))))
 
-      pub is_take : IsTake shape (taken_in 0 calls.takes) (take_of look item)
-      is_take = take_of-is shape k_of look item finds fits
-
-      pub taken_is : HasTakes shape (now ++ events_of C (unary_over C now new)) (and_take calls (take_of look item))
-      taken_is = whole_take (take_of look item) (now ++ events_of C (unary_over C now new)) is_take phrase_is
+      pub taken_is : HasTakes shape (now ++ events_of C (unary_over C now new)) (and_take calls (take_of look items))
+      taken_is = whole_take (take_of look items) (now ++ events_of C (unary_over C now new)) is_take.0 phrase_is

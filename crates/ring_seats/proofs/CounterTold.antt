@@ -9,12 +9,13 @@ use Rattle.bits_core.specs.Shape.{capacity_of, modulus_of, width_of}
 use Rattle.bits_core.specs.Made.{own}
 use Rattle.register_core.specs.Row.{row_bit}
 use Rattle.register_core.specs.Word.{DigitsTellItems}
-use Rattle.ring_core.specs.Counts.{Count, IsCount, bits_held, first_count}
+use Rattle.ring_core.specs.Counts.{Count, IsCount, first_count}
 use Rattle.ring_core.specs.CountWrites.{CountsShowNumbers}
 use Rattle.ring_core.specs.Items.{all_put, all_taken}
+use Rattle.ring_core.specs.ConsumerCalls as takes
 use Rattle.ring_core.specs.ProducerCalls.{count_of}
 use Rattle.ring_core.specs.Puts.{Put, Stored, Full, stored_after, stored_count}
-use Rattle.ring_core.specs.Takes.{Take, Item, ItemAfterClose, Empty, taken_in}
+use Rattle.ring_core.specs.Takes.{Take, Item, ItemAfterClose, Empty, count_after, taken_count}
 use Rattle.ring_seats.specs.Counters.{count_place, cell_place, value_left, ShowsWords}
 use Rattle.ring_seats.specs.Laws.{PutsAreShown, TakesAreShown, WordsAreTold}
 use Rattle.ring_seats.proofs.CounterPuts.{RowIs, past_is, putter_row}
@@ -58,9 +59,12 @@ after_puts numbers shape (Stored seen items ∷ puts) c is = after_puts numbers 
 after_puts numbers shape (Full seen ∷ puts) c is = after_puts numbers shape puts (stored_after shape c (Full seen)) (record { set = is.set; clear = is.clear })
 
 -- and that after takes of the number of items taken
-after_takes : CountsShowNumbers → (shape : Shape) (k : ℕ) → IsCount shape (record { number = k; bits = bits_held shape k })
-after_takes numbers shape zero = (numbers shape).0
-after_takes numbers shape (suc k) = (numbers shape).1 (record { number = k; bits = bits_held shape k }) 0 (0 ∷ [])
+after_takes : CountsShowNumbers → (shape : Shape) (takes : List Take) (c : Count) → IsCount shape c → IsCount shape (taken_count shape c takes)
+after_takes numbers shape [] c is = is
+after_takes numbers shape (Item seen items ∷ takes) c is = after_takes numbers shape takes (count_after shape c (Item seen items)) ((numbers shape).1 c seen items)
+after_takes numbers shape (ItemAfterClose seen again items ∷ takes) c is =
+    after_takes numbers shape takes (count_after shape c (ItemAfterClose seen again items)) ((numbers shape).1 c seen items)
+after_takes numbers shape (Empty seen ∷ takes) c is = after_takes numbers shape takes (count_after shape c (Empty seen)) (record { set = is.set; clear = is.clear })
 
 -- so many are stored, and taken
 stored_number : (shape : Shape) (puts : List Put) (c : Count) → (stored_count shape c puts).number ≡ c.number + length (all_put puts)
@@ -69,11 +73,13 @@ stored_number shape (Stored seen items ∷ puts) c =
     omega (arith, stored_number shape puts (stored_after shape c (Stored seen items)), past_is c.number items, length-append items (all_put puts))
 stored_number shape (Full seen ∷ puts) c = stored_number shape puts (stored_after shape c (Full seen))
 
-taken_number : (takes : List Take) (k : ℕ) → taken_in k takes ≡ k + length (all_taken takes)
-taken_number [] k = omega arith
-taken_number (Item seen item ∷ takes) k = omega (arith, taken_number takes (suc k))
-taken_number (ItemAfterClose seen again item ∷ takes) k = omega (arith, taken_number takes (suc k))
-taken_number (Empty seen ∷ takes) k = taken_number takes k
+taken_number : (shape : Shape) (takes : List Take) (c : Count) → (taken_count shape c takes).number ≡ c.number + length (all_taken takes)
+taken_number shape [] c = omega arith
+taken_number shape (Item seen items ∷ takes) c =
+    omega (arith, taken_number shape takes (count_after shape c (Item seen items)), past_is c.number items, length-append items (all_taken takes))
+taken_number shape (ItemAfterClose seen again items ∷ takes) c =
+    omega (arith, taken_number shape takes (count_after shape c (ItemAfterClose seen again items)), past_is c.number items, length-append items (all_taken takes))
+taken_number shape (Empty seen ∷ takes) c = taken_number shape takes (count_after shape c (Empty seen))
 
 from_none : (n m : ℕ) → n ≡ 0 + m → n ≡ m
 from_none n m e = omega (arith, e)
@@ -92,6 +98,5 @@ puts-shown numbers shape words h calls shows has =
 
 pub takes-shown : CountsShowNumbers → TakesAreShown
 takes-shown numbers shape words h calls shows has =
-    let k : ℕ = taken_in 0 calls.takes in
-    shown_count numbers shape words h shows C (record { number = k; bits = bits_held shape k }) (after_takes numbers shape k) (taker_row shape (own C h) calls has) ∙
-    ap (λ (n : ℕ). n % modulus_of shape) (from_none k (length (all_taken calls.takes)) (taken_number calls.takes 0))
+    shown_count numbers shape words h shows C (takes.count_taken shape calls) (after_takes numbers shape calls.takes first_count (numbers shape).0) (taker_row shape (own C h) calls has) ∙
+    ap (λ (n : ℕ). n % modulus_of shape) (from_none (takes.count_taken shape calls).number (length (all_taken calls.takes)) (taken_number shape calls.takes first_count))

@@ -1,5 +1,5 @@
 -- What the two ends of a counter ring remember of their calls, and what a call of theirs comes to.
-use Rattle.std.specs.Prelude.{◌≡◌, ℕ, zero, suc, ◌+◌, ◌%◌, ◌≤◌, Bool, Option, Some, None, List, ◌++◌, length, take}
+use Rattle.std.specs.Prelude.{◌≡◌, ℕ, zero, suc, ◌+◌, ◌%◌, ◌≤◌, Bool, Some, List, [], ◌++◌, length, take}
 use Rattle.bits_core.specs.declared.events.Side.TheVariants.{P, C}
 use Rattle.bits_core.specs.Shape.{capacity_of, modulus_of}
 use Rattle.bits_core.specs.Made.{events_of}
@@ -7,9 +7,14 @@ use Rattle.ring_core.specs.Puts as puts
 use Rattle.ring_core.specs.Puts.{Put, Puts}
 use Rattle.ring_core.specs.ProducerCalls.{count_of, and_put, IsPutOf}
 use Rattle.ring_core.specs.declared.consumers.TakeReply as take_replies
-use Rattle.ring_core.specs.declared.consumers.TakeReply.TheVariants as take_reply
-use Rattle.ring_core.specs.Takes.{Takes, Open, taken_in}
-use Rattle.ring_core.specs.ConsumerCalls.{Finding, finding_phrase, Finds, HasTakeMore, ends_closed}
+use Rattle.ring_core.specs.declared.consumers.TakeBatchReply as batch_replies
+use Rattle.ring_core.specs.declared.consumers.TakeBatchReply.TheVariants as batch_replied
+use Rattle.ring_core.specs.Takes.{Takes, Open}
+use Rattle.ring_core.specs.ConsumerCalls as takes
+use Rattle.ring_core.specs.ConsumerCalls.{Finding, finding_phrase, Finds, HasTakeMore, take_batch_reply, ends_closed, items_at_end, reply_items}
+use Rattle.ring_core.specs.Counts.{take_batch_of}
+use Rattle.ring_seats.specs.declared.counter_calls.Scanned.{Scanned}
+use Rattle.ring_seats.specs.declared.counter_calls.Scanned.TheVariants.{Shows, Over}
 use Rattle.ring_seats.specs.Ring.{RingEnd}
 use Rattle.ring_seats.specs.Steppers.{IsSameEnd, StandsAs}
 use Rattle.ring_seats.specs.Calls.{HasPuts, HasTakes, IsTakeReply, closed_reply}
@@ -54,49 +59,58 @@ pub record TakerList (e : RingEnd) (count cell : ℕ) (calls : Takes) : Type 0 w
   pub side_is : e.side ≡ C
   pub stands : StandsAs C e
   pub has : HasTakes e.ring.shape e.list calls
-  pub count_is : count ≡ taken_in 0 calls.takes % modulus_of e.ring.shape
-  pub cell_is : cell ≡ taken_in 0 calls.takes % capacity_of e.ring.shape
+  pub count_is : count ≡ (takes.count_taken e.ring.shape calls).number % modulus_of e.ring.shape
+  pub cell_is : cell ≡ (takes.count_taken e.ring.shape calls).number % capacity_of e.ring.shape
 
 abbrev pub IsTakerList : RingEnd → ℕ → ℕ → Bool → Type 0
 IsTakerList e count cell told = (calls : Takes) × TakerList e count cell calls × (told ≡ ends_closed calls.end)
 
--- how many items a reply brings
-abbrev pub items_brought : take_replies.TakeReply → ℕ
-items_brought (take_reply.Item item) = 1
-items_brought take_reply.Empty = 0
-items_brought take_reply.Closed = 0
-
--- one take more was made, and was answered so
-pub record TakeMade (a b : RingEnd) (calls : Takes) (reply : take_replies.TakeReply) : Type 0 where
+-- one take more was made, of at most so many items, was answered so and brought these
+pub record TakeMade (a b : RingEnd) (calls : Takes) (wanted : ℕ) (reply : take_replies.TakeReply) (items : List ℕ) : Type 0 where
   pub same : IsSameEnd a b
   pub stands : StandsAs C b
   pub more : Takes
-  pub is_more : HasTakeMore b.ring.shape calls more
+  pub is_more : HasTakeMore b.ring.shape wanted calls more
   pub replied : IsTakeReply more reply
+  pub brought : items ≡ items_at_end more.end more.takes
   pub has : HasTakes b.ring.shape b.list more
-  pub number : taken_in 0 more.takes ≡ taken_in 0 calls.takes + items_brought reply
+  pub number : (takes.count_taken b.ring.shape more).number ≡ (takes.count_taken b.ring.shape calls).number + length items
   pub told : closed_reply (Some reply) ≡ ends_closed more.end
 
 -- so it was, and the count and the cell are those of the calls
-pub record TakeKept (a b : RingEnd) (count cell : ℕ) (calls : Takes) (reply : take_replies.TakeReply) : Type 0 where
-  pub made : TakeMade a b calls reply
+pub record TakeKept (a b : RingEnd) (count cell : ℕ) (calls : Takes) (wanted : ℕ) (reply : take_replies.TakeReply) (items : List ℕ) : Type 0 where
+  pub made : TakeMade a b calls wanted reply items
   pub at : TakerList b count cell made.more
 
--- the scans of a take found an item, so
-pub record HasFound (a b : RingEnd) (calls : Takes) (look : Finding) : Type 0 where
+-- how many items a take of several brought, by its reply
+abbrev pub number_brought : batch_replies.TakeBatchReply → ℕ
+number_brought (batch_replied.Taken n) = n
+number_brought batch_replied.Empty = 0
+number_brought batch_replied.Closed = 0
+
+-- the same of a take of several, by how many it brought, and where it left them
+abbrev pub TakeAllKept : (a b : RingEnd) (count cell : ℕ) → Takes → ℕ → batch_replies.TakeBatchReply → List ℕ → Type 0
+TakeAllKept a b count cell calls wanted reply into =
+    (first : take_replies.TakeReply) × (items : List ℕ) × TakeKept a b count cell calls wanted first items ×
+    (Some reply ≡ take_batch_reply (Some first) items) × (items ≡ take (length items) into)
+
+-- the scans of a take of at most so many items found some, of which it takes so many
+pub record HasFound (a b : RingEnd) (calls : Takes) (wanted : ℕ) (look : Finding) (most : ℕ) : Type 0 where
   pub same : IsSameEnd a b
   pub stands : StandsAs C b
-  pub finds : Finds a.ring.shape (taken_in 0 calls.takes) look
+  pub some : 1 ≤ most
+  pub finds : Finds a.ring.shape (takes.count_taken a.ring.shape calls).number wanted look most
   pub list_is : b.list ≡ a.list ++ events_of C (finding_phrase look)
 
--- the scans of a take found an item, or the take is over, brought none, and was answered so
-abbrev pub LookMade : RingEnd → RingEnd → Takes → Option take_replies.TakeReply → Type 0
-LookMade a b calls None = (look : Finding) × HasFound a b calls look
-LookMade a b calls (Some reply) = TakeMade a b calls reply × (items_brought reply ≡ 0)
+-- the scans of a take found items, or the take is over, brought none, and was answered so
+abbrev pub LookMade : RingEnd → RingEnd → Takes → ℕ → Scanned → Type 0
+LookMade a b calls wanted (Shows most) = (look : Finding) × HasFound a b calls wanted look most
+LookMade a b calls wanted (Over reply) = TakeMade a b calls wanted reply [] × (reply_items reply ≡ [])
 
--- the end's list is that of whole calls that are not over, and of the scans that found an item; the count and the cell are theirs
-pub record HasLooked (a b : RingEnd) (count cell : ℕ) (calls : Takes) : Type 0 where
+-- the end's list is that of whole calls that are not over, and of the scans that found items; the count and the cell are theirs
+pub record HasLooked (a b : RingEnd) (count cell : ℕ) (calls : Takes) (wanted most : ℕ) : Type 0 where
   pub at : TakerList a count cell calls
   pub opened : calls.end ≡ Open
+  pub few : wanted ≤ take_batch_of a.ring.shape
   pub look : Finding
-  pub found : HasFound a b calls look
+  pub found : HasFound a b calls wanted look most

@@ -1,13 +1,15 @@
 //! The whole calls of a counter ring, by its seats.
-ghost use Rattle.std.specs.Prelude.{◌≡◌, ◌⊎◌, ◌<◌, ◌≤◌, true, false};
+ghost use Rattle.std.specs.Prelude.{◌≡◌, ◌⊎◌, ℕ, ◌<◌, ◌≤◌, true, false, Some, [], ◌∷◌, length, drop};
 ghost use Rattle.bits_core.specs.Shape.{modulus_of};
 ghost use Rattle.bits_core.specs.declared.events.Side.TheVariants.{P};
 ghost use Rattle.ring_core.specs.declared.consumers.TakeReply.TheVariants.{Item};
 ghost use Rattle.ring_core.specs.Puts.{Puts, IsBatch};
 ghost use Rattle.ring_core.specs.Takes.{Takes, Open};
 ghost use Rattle.ring_core.specs.ProducerCalls.{and_close, room_in};
+ghost use Rattle.ring_core.specs.ConsumerCalls.{take_batch_reply, items_reply, reply_items};
+ghost use Rattle.ring_core.specs.Counts.{take_batch_of};
 ghost use Rattle.ring_seats.specs.Calls.{HasPuts};
-ghost use Rattle.ring_seats.specs.CounterEnds.{PutterList, PutKept, TakerList, TakeKept, LookMade, HasLooked};
+ghost use Rattle.ring_seats.specs.CounterEnds.{PutterList, PutKept, TakerList, TakeKept, TakeAllKept, LookMade, HasLooked, number_brought};
 ghost use Rattle.ring_seats.specs.Ring.{RingEnd};
 ghost use Rattle.ring_seats.specs.Steppers.{IsSameEnd, StandsAs};
 
@@ -16,7 +18,7 @@ use crate::counter_words::Counting;
 use crate::laws::laws_below;
 use crate::steppers::Stepper;
 use bits_core::Shape;
-use ring_core::{TakeReply, distance, has_item};
+use ring_core::{TakeBatchReply, TakeReply, distance, has_item, items_shown};
 
 // How many of so many items a producer that has put `n` stores, where it read the consumer's count `seen`.
 fn fitting(shape: &Shape, n: u64, seen: u64, offered: usize) -> usize
@@ -73,32 +75,42 @@ pub fn close_open<'a>(stepper: &mut Stepper<'a, Counting>)
     stepper.write_close();
 }
 
-// The scans of a take: nothing where they found an item, and else the reply. One load, and where it shows no item one
-// of the close word; where that is 1, one load more.
-fn look<'a>(stepper: &mut Stepper<'a, Counting>, count: u64, cell: u64) -> Option<TakeReply>
+// What the scans of a take came to.
+#[derive(Clone, Copy)]
+enum Scanned {
+    // It takes so many items.
+    Shows(usize),
+    // It is over, and was answered so.
+    Over(TakeReply),
+}
+
+// The scans of a take of at most so many items. One load, and where it shows no item one of the close word; where that is 1,
+// one load more.
+fn look<'a>(stepper: &mut Stepper<'a, Counting>, count: u64, cell: u64, wanted: usize) -> Scanned
     requires at { (calls : Takes) × TakerList stepper.old count cell calls × (calls.end ≡ Open) }
-    ensures { (calls : Takes) → TakerList stepper.old count cell calls → calls.end ≡ Open → LookMade stepper.old stepper.new calls result }
+    requires some { 1 ≤ wanted }
+    ensures { (calls : Takes) → TakerList stepper.old count cell calls → calls.end ≡ Open → LookMade stepper.old stepper.new calls wanted result }
 {
     laws_below();
     let shape = stepper.ring.shape();
     let seen = stepper.scan();
     if has_item(&shape, seen, count) {
-        return None;
+        return Scanned::Shows(items_shown(&shape, seen, count, wanted));
     }
     if !stepper.read_close() {
-        return Some(TakeReply::Empty);
+        return Scanned::Over(TakeReply::Empty);
     }
     let again = stepper.scan();
     if has_item(&shape, again, count) {
-        return None;
+        return Scanned::Shows(items_shown(&shape, again, count, wanted));
     }
-    Some(TakeReply::Closed)
+    Scanned::Over(TakeReply::Closed)
 }
 
-// Behind the scans that found an item: one load of its cell, and one store of the count.
+// Behind the scans of a take of one that found an item: one load of its cell, and one store of the count.
 fn fetch<'a>(stepper: &mut Stepper<'a, Counting>, count: &mut u64, cell: &mut u64) -> u64
-    requires at { (before : RingEnd) × (calls : Takes) × HasLooked before stepper.old count.old cell.old calls }
-    ensures { (before : RingEnd) (calls : Takes) → HasLooked before stepper.old count.old cell.old calls → TakeKept before stepper.new count.new cell.new calls (Item result) }
+    requires at { (before : RingEnd) × (calls : Takes) × HasLooked before stepper.old count.old cell.old calls 1 1 }
+    ensures { (before : RingEnd) (calls : Takes) → HasLooked before stepper.old count.old cell.old calls 1 1 → TakeKept before stepper.new count.new cell.new calls 1 (Item result) (result ∷ []) }
 {
     laws_below();
     let shape = stepper.ring.shape();
@@ -119,10 +131,70 @@ pub fn take_open<'a>(
     cell: &mut u64,
 ) -> TakeReply
     requires at { (calls : Takes) × TakerList stepper.old count.old cell.old calls × (calls.end ≡ Open) }
-    ensures { (calls : Takes) → TakerList stepper.old count.old cell.old calls → calls.end ≡ Open → TakeKept stepper.old stepper.new count.new cell.new calls result }
+    ensures { (calls : Takes) → TakerList stepper.old count.old cell.old calls → calls.end ≡ Open → TakeKept stepper.old stepper.new count.new cell.new calls 1 result (reply_items result) }
 {
-    match look(stepper, *count, *cell) {
-        Some(reply) => reply,
-        None => TakeReply::Item(fetch(stepper, count, cell)),
+    match look(stepper, *count, *cell, 1) {
+        Scanned::Over(reply) => reply,
+        Scanned::Shows(_) => TakeReply::Item(fetch(stepper, count, cell)),
+    }
+}
+
+// Behind the scans of a take that found as many items as there are places: a load of each one's cell, and one store of the
+// count.
+fn fetch_all<'a>(
+    stepper: &mut Stepper<'a, Counting>,
+    count: &mut u64,
+    cell: &mut u64,
+    into: &mut [u64],
+)
+    requires at { (before : RingEnd) × (calls : Takes) × (wanted : ℕ) × HasLooked before stepper.old count.old cell.old calls wanted (length into.old) }
+    ensures long { length into.new ≡ length into.old }
+    ensures kept { (before : RingEnd) (calls : Takes) (wanted : ℕ) → HasLooked before stepper.old count.old cell.old calls wanted (length into.old) → TakeKept before stepper.new count.new cell.new calls wanted (items_reply into.new) into.new }
+{
+    laws_below();
+    let shape = stepper.ring.shape();
+    stepper.read_items(*cell, into);
+    *count = past_in(*count, into.len() as u64, shape.modulus());
+    stepper.write_count(*count); // (behind the loads)
+    *cell = past_in(*cell, into.len() as u64, shape.capacity());
+}
+
+// What a take that brought no item was answered, by how many it brought.
+fn of_none(reply: TakeReply) -> TakeBatchReply
+    ensures reply { Some result ≡ take_batch_reply (Some reply) [] }
+    ensures none { number_brought result ≡ 0 }
+{
+    match reply {
+        TakeReply::Item(_) => TakeBatchReply::Taken(0),
+        TakeReply::Empty => TakeBatchReply::Empty,
+        TakeReply::Closed => TakeBatchReply::Closed,
+    }
+}
+
+/// A take of several items under one count write, by a seat that was not told that the ring is closed: one load, and with
+/// items one of each one's cell and one store; without one, a load of the close word, and where that is 1 one load more. It
+/// takes those that the producer's count shows, from the first on, at most as many as there are places, and tells how many;
+/// they are in the first places, and the others stay as they were. There are 1 to as many places as the shape's take batch.
+/// The count and the cell are those of the takes that the seat has made, and go on with the items.
+/// For example, a taker of a counter ring takes so.
+pub fn take_all_open<'a>(
+    stepper: &mut Stepper<'a, Counting>,
+    into: &mut [u64],
+    count: &mut u64,
+    cell: &mut u64,
+) -> TakeBatchReply
+    requires at { (calls : Takes) × TakerList stepper.old count.old cell.old calls × (calls.end ≡ Open) }
+    requires some { 1 ≤ length into.old }
+    requires few { length into.old ≤ take_batch_of stepper.old.ring.shape }
+    ensures long { length into.new ≡ length into.old }
+    ensures others { drop (number_brought result) into.new ≡ drop (number_brought result) into.old }
+    ensures taken { (calls : Takes) → TakerList stepper.old count.old cell.old calls → calls.end ≡ Open → TakeAllKept stepper.old stepper.new count.new cell.new calls (length into.old) result into.new }
+{
+    match look(stepper, *count, *cell, into.len()) {
+        Scanned::Over(reply) => of_none(reply),
+        Scanned::Shows(most) => {
+            fetch_all(stepper, count, cell, &mut into[..most]);
+            TakeBatchReply::Taken(most as u64)
+        }
     }
 }

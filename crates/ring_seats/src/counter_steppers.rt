@@ -1,5 +1,5 @@
 //! The steps of an end of a counter ring.
-ghost use Rattle.std.specs.Prelude.{◌≡◌, ℕ, ◌+◌, ◌%◌, ◌^◌, ◌<◌, ◌≤◌, Bool, true, false, List, [], ◌∷◌, ◌++◌};
+ghost use Rattle.std.specs.Prelude.{◌≡◌, ℕ, ◌+◌, ◌%◌, ◌^◌, ◌<◌, ◌≤◌, Bool, true, false, List, [], ◌∷◌, ◌++◌, length};
 ghost use Rattle.bits_core.specs.declared.events.Side.TheVariants.{P, C};
 ghost use Rattle.bits_core.specs.declared.events.Bit.TheVariants.{X};
 ghost use Rattle.bits_core.specs.Shape.{AllFit, capacity_of, modulus_of, width_of};
@@ -7,6 +7,7 @@ ghost use Rattle.bits_core.specs.Made.{events_of, Read, Write};
 ghost use Rattle.register_core.specs.Word.{word_write, word_read};
 ghost use Rattle.register_core.specs.ScanState.{scan_phrase, row_read_by};
 ghost use Rattle.ring_core.specs.Puts.{words_phrase};
+ghost use Rattle.ring_core.specs.Takes.{words_read};
 ghost use Rattle.ring_seats.specs.Steppers.{StandsAs};
 ghost use Rattle.ring_seats.specs.Programs.{Follows};
 ghost use Rattle.ring_seats.specs.Counters.{GrowsBy, unary_over, count_place, their_place};
@@ -94,6 +95,25 @@ impl<'a> Stepper<'a, Counting> {
         laws_below();
         let word = 3 + cell as usize;
         self.ring.load::<Brand, _>(&mut self.seat, word, &cell)
+    }
+
+    // A load for each place, of the cells one behind the other from this one on: their word reads.
+    pub(crate) fn read_items(&mut self, cell: u64, into: &mut [u64])
+        requires stands { StandsAs C self.old × (self.old.side ≡ C) }
+        requires below { cell < capacity_of self.old.ring.shape }
+        requires program { (items : List ℕ) → length items ≡ length into.old → AllFit self.old.ring.shape items → Follows self.old.ring.shape C (self.old.list ++ events_of C (words_read self.old.ring.shape cell items)) }
+        ensures long { length into.new ≡ length into.old }
+        ensures fit { AllFit self.old.ring.shape into.new }
+        ensures grows { GrowsBy self.old self.new (words_read self.old.ring.shape cell into.new) }
+    {
+        let capacity = self.ring.shape().capacity();
+        let mut index = 0;
+        let mut place = cell;
+        'loads: while index < into.len() {
+            into[index] = self.read_cell(place);
+            place = past_in(place, 1, capacity);
+            index += 1;
+        }
     }
 
     // One load: a read of the close bit.

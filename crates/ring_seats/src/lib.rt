@@ -15,7 +15,7 @@ mod tables;
 mod views;
 mod words;
 
-pub use counter_calls::{close_open, put_open, take_open};
+pub use counter_calls::{close_open, put_open, take_all_open, take_open};
 pub use counter_words::{CounterRule, Counting};
 pub use endings::{LastWords, close_table};
 pub use meetings::{first_steppers, join_steppers, meet_steppers};

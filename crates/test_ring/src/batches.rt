@@ -3,7 +3,7 @@ ghost use Rattle.std.specs.Prelude.{◌≡◌};
 use bits_core::{
     Always, Event, Memory, Oracle, Shape, ShapeFault, Side, Store, Tape, Verdict, audit_bits,
 };
-use ring_core::{BatchReply, Consumer, Producer, PutReply, TakeReply};
+use ring_core::{BatchReply, Consumer, Producer, PutReply, TakeBatchReply, TakeReply};
 use ring_steps::{Step, next_event};
 use std::alloc::AllocGlobal;
 use std::process::Abort;
@@ -112,19 +112,27 @@ fn expect_replies<S: Store<Event>>(
     assert!(rt; puts.producer.batch_reply() == batch);
 }
 
-// A whole take has so many events and is answered so.
+// The events of a take, its reply as a take of one and as one of several, and the items that it took.
+type Take = (usize, TakeReply, TakeBatchReply, &'static [u64]);
+
+fn expect_items(rt: &impl Abort, consumer: &Consumer, items: &[u64]) {
+    assert!(rt; consumer.items() == items);
+}
+
+// A whole take has so many events, is answered so and took these items.
 fn expect_take<S: Store<Event>, O: Oracle>(
     rt: &impl Abort,
     consumer: &mut Consumer,
     memory: &mut Memory<S>,
     oracle: &mut O,
-    events: usize,
-    reply: TakeReply,
+    wanted: &Take,
 ) {
     let before = memory.events().len();
     take(rt, consumer, memory, oracle);
-    assert!(rt; memory.events().len().checked_sub(before) == Some(events));
-    assert!(rt; consumer.reply() == Some(reply));
+    assert!(rt; memory.events().len().checked_sub(before) == Some(wanted.0));
+    assert!(rt; consumer.reply() == Some(wanted.1));
+    assert!(rt; consumer.batch_reply() == Some(wanted.2));
+    expect_items(rt, consumer, wanted.3);
 }
 
 fn expect_lawful<S: Store<Event>>(
@@ -138,14 +146,13 @@ fn expect_lawful<S: Store<Event>>(
     assert!(rt; audit_bits(&memory.shape(), memory.events()) == Verdict::Lawful);
 }
 
-// The events of each take, and its reply.
-static TAKES: [(usize, TakeReply); 4] = [
+static TAKES: [Take; 4] = [
     // scans that read 0 in s0 see the items
-    (14, TakeReply::Item(1)),
-    (14, TakeReply::Item(0)),
-    (14, TakeReply::Item(1)),
+    (14, TakeReply::Item(1), TakeBatchReply::Taken(1), &[1]),
+    (14, TakeReply::Item(0), TakeBatchReply::Taken(1), &[0]),
+    (14, TakeReply::Item(1), TakeBatchReply::Taken(1), &[1]),
     // the next one reads 1 there: the distance from 3 is 4, over the capacity
-    (4, TakeReply::Empty),
+    (4, TakeReply::Empty, TakeBatchReply::Empty, &[]),
 ];
 
 #[test]
@@ -159,15 +166,8 @@ fn a_batch_of_three_goes_through_under_one_count_write(rt: HostRuntime) -> Resul
     puts.put_all(&[1, 0, 1]);
     puts.run(&rt, &mut memory, &mut oracle, 11);
     expect_replies(&rt, &puts, &memory, 11, None, None);
-    for (events, reply) in TAKES.iter() {
-        expect_take(
-            &rt,
-            &mut consumer,
-            &mut memory,
-            &mut oracle,
-            *events,
-            *reply,
-        );
+    for wanted in TAKES.iter() {
+        expect_take(&rt, &mut consumer, &mut memory, &mut oracle, wanted);
     }
     expect_lawful(&rt, &memory, 57, 4);
     Ok(())

@@ -18,11 +18,12 @@ use Rattle.ring_core.specs.Counts.{first_count}
 use Rattle.ring_core.specs.Puts as puts
 use Rattle.ring_core.specs.Puts.{Put, Puts, IsBatch, IsPut, ArePuts, room_in}
 use Rattle.ring_core.specs.Takes as takes
-use Rattle.ring_core.specs.Takes.{Take, Takes, End, Open, Closed, take_program}
-use Rattle.ring_core.specs.Items.{all_put, all_taken, items_put, items_taken, events_in, Tells, IsTold}
+use Rattle.ring_core.specs.Takes.{Take, Takes, AreTakes, End, Open, Closed, take_program}
+use Rattle.ring_core.specs.Items.{all_put, all_taken, taken_of, items_put, items_taken, events_in, Tells, IsTold}
 use Rattle.ring_core.specs.Readings.{PutsAreRead, TakesAreRead}
 use Rattle.ring_core.specs.ProducerCalls.{no_puts, and_put, count_of}
-use Rattle.ring_core.specs.ConsumerCalls.{no_takes, ends_closed, reply_at_end, last_take_reply, take_reply_to}
+use Rattle.ring_core.specs.ConsumerCalls.{no_takes, and_take, ends_closed, reply_at_end, reply_items, last_take_reply, take_reply_to}
+use Rattle.ring_core.specs.OneCallMore.{TakesOfOne}
 use Rattle.ring_core.specs.RingLaw.{IsRun, InEveryRun, TakenArePrefix, ClosedIsTrue}
 use Rattle.ring_core.specs.Whole.{WholePutsCount, WholeTakesCount}
 use Rattle.ring_run.specs.Ring.{Ring, RingEnd}
@@ -31,7 +32,7 @@ use Rattle.ring_run.specs.Meetings.{Meets, TellsAre}
 use Rattle.ring_run.specs.Ends.{HasPuts, HasPut, HasPutAll, PutAdds, HasTakes, HasTaken, TakeAdds}
 use Rattle.ring_run.specs.Counters.{ShowsWords}
 use Rattle.ring_run.specs.Laws.{PutsAreShown, TakesAreShown}
-use Rattle.uses.specs.Passed.{HasStored, HasTook, items_answered}
+use Rattle.uses.specs.Passed.{HasStored, HasTook}
 
 -- ---- lists
 
@@ -213,13 +214,9 @@ module _ (read : PutsAreRead) (a b : RingEnd) (same : b.ring ≡ a.ring) (items 
 
 -- ---- takes
 
-all_taken_snoc : (xs : List Take) (x : Take) → all_taken (xs ++ x ∷ []) ≡ all_taken xs ++ items_answered (take_reply_to x)
-all_taken_snoc [] (takes.Item seen item) = refl
-all_taken_snoc [] (takes.ItemAfterClose seen again item) = refl
-all_taken_snoc [] (takes.Empty seen) = refl
-all_taken_snoc (takes.Item s i ∷ xs) x = ap (λ (l : List ℕ). i ∷ l) (all_taken_snoc xs x)
-all_taken_snoc (takes.ItemAfterClose s a i ∷ xs) x = ap (λ (l : List ℕ). i ∷ l) (all_taken_snoc xs x)
-all_taken_snoc (takes.Empty s ∷ xs) x = all_taken_snoc xs x
+all_taken_snoc : (xs : List Take) (x : Take) → all_taken (xs ++ x ∷ []) ≡ all_taken xs ++ taken_of x
+all_taken_snoc [] x = append-nil (taken_of x)
+all_taken_snoc (y ∷ xs) x = ap (λ (l : List ℕ). taken_of y ++ l) (all_taken_snoc xs x) ∙ sym (append_assoc (taken_of y) (all_taken xs) (taken_of x))
 
 last_reply : (first : Option TakeReply) (xs : List Take) (x : Take) → last_take_reply first (xs ++ x ∷ []) ≡ Some (take_reply_to x)
 last_reply first [] x = refl
@@ -228,7 +225,7 @@ last_reply first (y ∷ xs) x = last_reply (Some (take_reply_to y)) xs x
 pub none_took : (e : RingEnd) → e.list ≡ [] → HasTook e []
 none_took e is = record { calls = no_takes; list_is = record { are = tt; list_is = is }; items_are = refl }
 
-module _ (read : TakesAreRead) (a b : RingEnd) (same : b.ring ≡ a.ring) (items : List ℕ) (before : HasTook a items) where
+module _ (read : TakesAreRead) (single : TakesOfOne) (a b : RingEnd) (same : b.ring ≡ a.ring) (items : List ℕ) (before : HasTook a items) where
   take_there : HasTakes b.ring.shape a.list before.calls
   take_there = subst (λ (r : Ring). HasTakes r.shape a.list before.calls) (sym same) before.list_is
 
@@ -237,36 +234,38 @@ module _ (read : TakesAreRead) (a b : RingEnd) (same : b.ring ≡ a.ring) (items
       let one : calls ≡ before.calls = read b.ring.shape calls before.calls has.are take_there.are (sym has.list_is ∙ take_there.list_is) in
       ap (λ (c : Takes). all_taken c.takes) one ∙ before.items_are
 
-  took_by_one : (calls : Takes) → HasTakes b.ring.shape a.list calls → (over : Bool) (reply : TakeReply) → TakeAdds over b.ring.shape calls reply a.list b.list → HasTook b (items ++ items_answered reply)
-  took_by_one calls has true reply adds =
-      let none : items ++ items_answered reply ≡ items = ap (λ (r : TakeReply). items ++ items_answered r) adds.0 ∙ append-nil items in
+  took_by_one : (calls : Takes) → HasTakes b.ring.shape a.list calls → (over : Bool) (reply : TakeReply) → TakeAdds over b.ring.shape 1 calls reply a.list b.list → ends_closed calls.end ≡ over → HasTook b (items ++ reply_items reply)
+  took_by_one calls has true reply adds was =
+      let none : items ++ reply_items reply ≡ items = ap (λ (r : TakeReply). items ++ reply_items r) adds.0 ∙ append-nil items in
       subst (HasTook b) (sym none) (record {
         calls = calls;
         list_is = subst (λ (l : List Event). HasTakes b.ring.shape l calls) (sym adds.1) has;
         items_are = take_items_of calls has;
       })
-  took_by_one calls has false reply (more, is_more, replied, after) = ⊎_elim
+  took_by_one calls has false reply (more, is_more, replied, after) was = ⊎_elim
       (λ one.
-      let is : reply ≡ take_reply_to one.0 = let q : Some reply ≡ Some (take_reply_to one.0) = replied ∙ ap (λ (t : Takes). reply_at_end t.end t.takes) one.1 ∙ last_reply None calls.takes one.0 in cc in
+      let is : reply ≡ take_reply_to one.0 = let q : Some reply ≡ Some (take_reply_to one.0) = replied ∙ ap (λ (t : Takes). reply_at_end t.end t.takes) one.2 ∙ last_reply None calls.takes one.0 in cc in
+      let are : AreTakes b.ring.shape 0 (and_take calls one.0).takes Open = subst (λ (t : Takes). AreTakes b.ring.shape 0 t.takes t.end) one.2 is_more.are in
+      let takes_one : taken_of one.0 ≡ reply_items reply = single b.ring.shape calls one.0 are one.1 ∙ ap reply_items (sym is) in
       record {
         calls = more;
         list_is = after;
-        items_are = ap (λ (t : Takes). all_taken t.takes) one.1 ∙ all_taken_snoc calls.takes one.0 ∙ (λ i. take_items_of calls has i ++ items_answered (sym is i));
+        items_are = ap (λ (t : Takes). all_taken t.takes) one.2 ∙ all_taken_snoc calls.takes one.0 ∙ (λ i. take_items_of calls has i ++ takes_one i);
       })
       (λ told.
       let is : reply ≡ replies.Closed = let q : Some reply ≡ Some replies.Closed = replied ∙ ap (λ (t : Takes). reply_at_end t.end t.takes) told.2 in cc in
       record {
         calls = more;
         list_is = after;
-        items_are = ap (λ (t : Takes). all_taken t.takes) told.2 ∙ take_items_of calls has ∙ sym (append-nil items) ∙ ap (λ (r : TakeReply). items ++ items_answered r) (sym is);
+        items_are = ap (λ (t : Takes). all_taken t.takes) told.2 ∙ take_items_of calls has ∙ sym (append-nil items) ∙ ap (λ (r : TakeReply). items ++ reply_items r) (sym is);
       })
       is_more.is_one_more
 
   -- a take took the item that it was answered, if it was one
-  pub took_more : (reply : TakeReply) → HasTaken b.ring.shape a.list b.list reply → HasTook b (items ++ items_answered reply)
-  took_more reply h = took_by_one h.calls h.before_is (ends_closed h.calls.end) reply h.adds
+  pub took_more : (reply : TakeReply) → HasTaken b.ring.shape a.list b.list reply → HasTook b (items ++ reply_items reply)
+  took_more reply h = took_by_one h.calls h.before_is (ends_closed h.calls.end) reply h.adds refl
 
-  pub took_none : (reply : TakeReply) → items_answered reply ≡ [] → HasTaken b.ring.shape a.list b.list reply → HasTook b items
+  pub took_none : (reply : TakeReply) → reply_items reply ≡ [] → HasTaken b.ring.shape a.list b.list reply → HasTook b items
   took_none reply none h = subst (HasTook b) (ap (λ (l : List ℕ). items ++ l) none ∙ append-nil items) (took_more reply h)
 
 -- ---- both ends are done
@@ -300,8 +299,8 @@ module _ (p c : RingEnd) (same : p.ring ≡ c.ring) (h : List Event) (meets : Me
     put_is : items_put shape first_count ps.calls.puts (clock P h (length h)) ≡ put
     put_is = ap (items_put shape first_count ps.calls.puts) (clock_at_end P h) ∙ (puts_count shape h ps.calls ps.list_is.are (meets.put ∙ ps.list_is.list_is)).0 ∙ ps.items_are
 
-    taken_is : items_taken shape 0 ts.calls.takes (clock C h (length h)) ≡ taken
-    taken_is = ap (items_taken shape 0 ts.calls.takes) (clock_at_end C h) ∙ (takes_count shape h ts.calls (meets.taken ∙ takes_here.list_is)).0 ∙ ts.items_are
+    taken_is : items_taken shape first_count ts.calls.takes (clock C h (length h)) ≡ taken
+    taken_is = ap (items_taken shape first_count ts.calls.takes) (clock_at_end C h) ∙ (takes_count shape h ts.calls takes_here.are (meets.taken ∙ takes_here.list_is)).0 ∙ ts.items_are
 
     -- by the law of the ring
     pub passed : InEveryRun TakenArePrefix → IsBeginning taken put
@@ -344,9 +343,9 @@ first_put read e item single.Stored h = (item ∷ [], one_stored read (emptied e
 first_put read e item single.Full h = ([], one_full read (emptied e) e refl [] (none_stored (emptied e) refl) item h, (item ∷ [], refl))
 first_put read e item single.Closed h = ([], one_late read (emptied e) e refl [] (none_stored (emptied e) refl) item h, (item ∷ [], refl))
 
-pub first_take : TakesAreRead → (e : RingEnd) (reply : TakeReply) → HasTaken e.ring.shape [] e.list reply → HasTook e (items_answered reply)
+pub first_take : TakesAreRead → TakesOfOne → (e : RingEnd) (reply : TakeReply) → HasTaken e.ring.shape [] e.list reply → HasTook e (reply_items reply)
 unfolding emptied
-first_take read e reply h = took_more read (emptied e) e refl [] (none_took (emptied e) refl) reply h
+first_take read single e reply h = took_more read single (emptied e) e refl [] (none_took (emptied e) refl) reply h
 
 pub then_begins : (xs ys zs : List ℕ) → IsBeginning xs ys → IsBeginning ys zs → IsBeginning xs zs
 then_begins xs ys zs (a, e) (b, f) = (a ++ b, sym (append_assoc xs a b) ∙ ap (λ (l : List ℕ). l ++ b) e ∙ f)

@@ -1,9 +1,7 @@
 -- What the lists of a ring's two ends came to.
-use Rattle.std.specs.Prelude.{◌≡◌, ℕ, List, [], ◌∷◌}
+use Rattle.std.specs.Prelude.{◌≡◌, ℕ, List}
 use Rattle.ring_core.specs.declared.producers.BatchReply.{BatchReply}
 use Rattle.ring_core.specs.declared.producers.BatchReply.TheVariants as several
-use Rattle.ring_core.specs.declared.consumers.TakeReply.{TakeReply}
-use Rattle.ring_core.specs.declared.consumers.TakeReply.TheVariants.{Item, Empty, Closed}
 use Rattle.ring_core.specs.Puts.{Puts}
 use Rattle.ring_core.specs.Takes.{Takes}
 use Rattle.ring_core.specs.Items.{all_put, all_taken}
@@ -21,12 +19,6 @@ pub record HasTook (e : RingEnd) (items : List ℕ) : Type 0 where
   pub calls : Takes
   pub list_is : HasTakes e.ring.shape e.list calls
   pub items_are : all_taken calls.takes ≡ items
-
--- the item that a take was answered, if it was one
-abbrev pub items_answered : TakeReply → List ℕ
-items_answered (Item item) = item ∷ []
-items_answered Empty = []
-items_answered Closed = []
 
 -- how many items a put of several stored, as it was answered
 abbrev pub number_stored : BatchReply → ℕ

@@ -3,7 +3,7 @@ use Rattle.std.specs.Prelude.{◌≡◌, ◌⊎◌, ℕ, false, Option, Some, No
 use Rattle.ring_core.specs.declared.producers.PutReply.{PutReply}
 use Rattle.ring_core.specs.declared.consumers.TakeReply.{TakeReply}
 use Rattle.ring_core.specs.ProducerState as producer
-use Rattle.ring_run.specs.Ends.{PutterState, TakerState, HasPut, HasTaken, puts_whole, takes_whole}
+use Rattle.ring_run.specs.Ends.{PutterState, TakerState, HasPut, HasTaken, wants_next, puts_whole, takes_whole}
 
 -- the putter's first call is a put of the item, which is not begun or under way, or was answered so
 abbrev pub IsFirstPut : {O : Type 0} → ℕ → PutterState O → Option PutReply → Type 0
@@ -12,5 +12,5 @@ IsFirstPut item p (Some reply) = (p.call ≡ None) × HasPut p.end.ring.shape it
 
 -- the taker's first take is not begun or under way, or was answered so
 abbrev pub IsFirstTake : {O : Type 0} → TakerState O → Option TakeReply → Type 0
-IsFirstTake t None = takes_whole t ≡ []
+IsFirstTake t None = (takes_whole t ≡ []) × (wants_next t.taking t.wanted ≡ 1)
 IsFirstTake t (Some reply) = (t.taking ≡ false) × HasTaken t.end.ring.shape [] t.end.list reply

@@ -3,11 +3,13 @@
 ghost use Rattle.std.specs.Prelude.{◌≡◌, ◌^◌, ◌<◌, [], ◌∷◌, IfOk, IfSome};
 ghost use Rattle.bits_core.specs.Made.{IsBeginning};
 ghost use Rattle.bits_core.specs.Shape.{width_of};
-ghost use Rattle.uses.specs.Passed.{items_answered};
+ghost use Rattle.ring_core.specs.ConsumerCalls.{reply_items};
 ghost use Rattle.uses.specs.Stepping.{IsFirstPut, IsFirstTake};
 
 use bits_core::{Always, Oracle, Shape};
-use ring_core::laws::{puts_are_read, ring_law, takes_are_read, whole_calls_count};
+use ring_core::laws::{
+    programs_by_one_call, puts_are_read, ring_law, takes_are_read, whole_calls_count,
+};
 use ring_core::{PutReply, TakeReply};
 use ring_run::{FlickerRing, Putter, RunFault, Taker};
 use std::alloc::Allocator;
@@ -55,12 +57,13 @@ pub fn take_amid_put<A: Allocator + Copy, O: Oracle + Drop>(
     oracle: O,
 ) -> Result<Option<TakeReply>, RunFault>
     requires { item < 2 ^ width_of shape }
-    ensures { IfOk result (λ r. IfSome r (λ reply. IsBeginning (items_answered reply) (item ∷ []))) }
+    ensures { IfOk result (λ r. IfSome r (λ reply. IsBeginning (reply_items reply) (item ∷ []))) }
 {
     ring_law();
     whole_calls_count();
     puts_are_read();
     takes_are_read();
+    programs_by_one_call();
     let (ring, start) = FlickerRing::new(alloc, shape)?;
     let (mut putter, mut taker) = ring.ends(start, Always(false), oracle);
     let mut put = None;

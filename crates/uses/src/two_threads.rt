@@ -9,7 +9,9 @@ ghost use Rattle.uses.specs.Passed.{HasStored, HasTook};
 use crate::batches::put_batch;
 use bits_core::Shape;
 use ring_core::TakeReply;
-use ring_core::laws::{puts_are_read, ring_law, takes_are_read, whole_calls_count};
+use ring_core::laws::{
+    programs_by_one_call, puts_are_read, ring_law, takes_are_read, whole_calls_count,
+};
 use ring_run::laws::counts_are_shown;
 use ring_run::{CounterRing, PutEnd, RunFault, TakeEnd};
 use std::alloc::Allocator;
@@ -52,6 +54,7 @@ fn take_one<A: Allocator, E: TakeEnd>(
     ensures took { IfOk result (λ _. HasTook (E.end taker.new) taken.new.items) }
 {
     takes_are_read();
+    programs_by_one_call();
     match taker.take() {
         TakeReply::Item(item) => {
             taken.push(item)?;

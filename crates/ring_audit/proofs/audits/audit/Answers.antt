@@ -21,6 +21,7 @@ returns-clause-sentence g c =
       empty = law.empty shape h puts takes run;
       full = law.full shape h puts takes run;
       fill = law.fill shape h puts takes run;
+      drain = law.drain shape h puts takes run;
       closed = law.closed shape h puts takes run;
     } in
     says_sentence holds c.closed_stays.ensures c.args.shape.now c.args.events.now (statement c.in_ok-found.found) c.in_ok-found.ensures

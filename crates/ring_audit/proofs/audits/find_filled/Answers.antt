@@ -30,6 +30,7 @@ returns-clause-sentence c =
       empty = law.empty shape h puts takes run;
       full = law.full shape h puts takes run;
       fill = law.fill shape h puts takes run;
+      drain = law.drain shape h puts takes run;
       closed = law.closed shape h puts takes run;
     } in
     says_sentence holds c.closed_stays.ensures c.args.shape.now c.args.events.now (statement_in put.slots.now taken.slots.now found)

@@ -1,6 +1,6 @@
 use Rattle.std.proofs.Common.{◌≡◌, ℕ, ◌+◌, ◌<◌, List, [], length, take, subst, sym, ap, ◌∙◌, refl, arith, length-append, inl, inr}
 use Rattle.std.proofs.Math.Seq.{take-length}
-use Rattle.std.proofs.lemmas.List.{take_more}
+use Rattle.std.proofs.lemmas.List.{take_more, length-take-le}
 use Rattle.bits_core.specs.declared.events.Event.{Event}
 use Rattle.bits_core.specs.Lawful.{IsLawful}
 use Rattle.ring_audit.specs.Audit.{HasTooFewSlots, IsFound, lawful_until}
@@ -23,7 +23,6 @@ loop-i-init g c =
       stands = stands;
       follow = followed r.puts.shape c.args.shape.now r.puts r.takes r.counted (g.S.Store.items c.args.put.now) (g.S.Store.items c.args.taken.now) [] c.new-readers.ensures.put_shape c.told.ensures.follow stands;
       few_put = omega (arith, ap length c.requires.no_put);
-      few_taken = omega (arith, ap length c.requires.none_taken);
       put_room = refl;
       taken_room = refl;
       put_slots = λ first same. same;
@@ -93,8 +92,7 @@ loop-i-preserved g c =
       take_shape = c.in_ok-on.ensures.take_shape ∙ l.take_shape;
       stands = stands;
       follow = followed new.puts.shape shape new.puts new.takes new.counted put taken (take (i + 1) part) (c.in_ok-on.ensures.put_shape ∙ l.put_shape) c.told-in-loop-i.ensures.follow stands;
-      few_put = omega (arith, c.in_ok-on.ensures.few.0, l.few_put);
-      few_taken = omega (arith, c.in_ok-on.ensures.few.1, l.few_taken);
+      few_put = omega (arith, c.in_ok-on.ensures.few, l.few_put);
       put_room = c.in_ok-on.ensures.rooms.0 ∙ l.put_room;
       taken_room = c.in_ok-on.ensures.rooms.1 ∙ l.taken_room;
       put_slots = λ first same. c.in_ok-on.ensures.put_slots first (l.put_slots first same);
@@ -137,11 +135,19 @@ returns-in-Fault-clause-found g c =
 
 pub returns-in_err-on-clause-few : goal.returns-in_err-on-clause-few
 returns-in_err-on-clause-few g c =
-    let long = length_part c.args.events.now c.lawful_length.result c.lawful_length.ensures.within in
+    let h : List Event = c.args.events.now in
+    let n : ℕ = c.lawful_length.result in
+    let i : ℕ = c.loop-i.i in
+    let part : List Event = take n h in
+    let l = c.loop-i.invariant in
+    let r : Reading = reading c.loop-i.readers.puts c.loop-i.readers.takes c.loop-i.readers.counted (g.S.Store.items c.loop-i.put) (g.S.Store.items c.loop-i.taken) in
+    let long = length_part h n c.lawful_length.ensures.within in
+    let within : i < length part = c.loop-i-test.true in
+    let st : ReadingStands r.puts.shape r (take i part) = subst (λ s. ReadingStands s r (take i part)) (sym l.put_shape) l.stands in
     on_err c.from_residual.result
     (elim c.in_err-on.ensures.full [
-      | inl full ↦ inl (omega (arith, long))
-      | inr full ↦ inr (omega (arith, long))
+      | inl full ↦ inl (omega (arith, long, within))
+      | inr full ↦ inr (omega (arith, long, within, full (take i part) st, length-append {A = Event}, length-take-le i part (omega (arith, within))))
     ])
 
 pub returns-in_err-on-clause-put_slots : goal.returns-in_err-on-clause-put_slots

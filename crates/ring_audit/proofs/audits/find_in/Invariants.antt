@@ -10,7 +10,6 @@ invariant-loop-i g l = record {
   stands : ReadingStands l.shape (reading l.readers.puts l.readers.takes l.readers.counted (g.S.Store.items l.put) (g.S.Store.items l.taken)) (take l.i l.lawful);
   follow : BothFollow l.shape (take l.i l.lawful);
   few_put : length (g.S.Store.items l.put) ≤ l.i;
-  few_taken : length (g.S.Store.items l.taken) ≤ l.i;
   put_room : g.S.Store.room l.put ≡ g.S.Store.room l.initial.put;
   taken_room : g.S.Store.room l.taken ≡ g.S.Store.room l.initial.taken;
   put_slots : (first : _) → g.S.Store.same_slots first l.initial.put → g.S.Store.same_slots first l.put;

@@ -15,6 +15,7 @@ returns c =
       empty = c.ring_law.ensures.empty shape h puts takes run;
       full = c.ring_law.ensures.full shape h puts takes run;
       fill = c.ring_law.ensures.fill shape h puts takes run;
+      drain = c.ring_law.ensures.drain shape h puts takes run;
       closed = c.ring_law.ensures.closed shape h puts takes run;
     })
     c.items_put_are_read.ensures c.items_taken_are_read.ensures

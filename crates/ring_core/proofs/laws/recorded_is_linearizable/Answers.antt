@@ -25,6 +25,6 @@ every c = law_of_spans (own c) c.unary_is_regular.ensures c.reads_are_made.ensur
 
 -- the recorded calls can be counted, and what can be counted is linearizable
 pub returns : goal.returns
-returns c shape offers h puts takes run offered =
-    c.counted_is_linearizable.ensures (exactly (capacity_of shape)) (recorded shape offers h puts takes) (shape.has_cells, omega arith)
-    (recorded_are_counted (own c) shape offers h puts takes run (every c shape h puts takes run) offered)
+returns c shape offers wants h puts takes run offered some wanted =
+    c.counted_is_linearizable.ensures (exactly (capacity_of shape)) (recorded shape offers wants h puts takes) (shape.has_cells, omega arith)
+    (recorded_are_counted (own c) shape offers wants h puts takes run (every c shape h puts takes run) some offered wanted)

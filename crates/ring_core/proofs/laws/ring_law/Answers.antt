@@ -39,7 +39,7 @@ pub returns-clause-prefix : goal.returns-clause-prefix
 returns-clause-prefix c shape h puts takes run = calls.prefix (own c) shape h puts takes run (every c shape h puts takes run)
 
 pub returns-clause-items : goal.returns-clause-items
-returns-clause-items c shape h puts takes run = calls.items (own c) shape h puts takes run (every c shape h puts takes run) c.digits_tell_items.ensures
+returns-clause-items c shape h puts takes run = calls.items (own c) shape h puts takes run (every c shape h puts takes run)
 
 pub returns-clause-empty : goal.returns-clause-empty
 returns-clause-empty c shape h puts takes run = calls.empty (own c) shape h puts takes run (every c shape h puts takes run)
@@ -49,6 +49,9 @@ returns-clause-full c shape h puts takes run = calls.full (own c) shape h puts t
 
 pub returns-clause-fill : goal.returns-clause-fill
 returns-clause-fill c shape h puts takes run = calls.fill (own c) shape h puts takes run (every c shape h puts takes run)
+
+pub returns-clause-drain : goal.returns-clause-drain
+returns-clause-drain c shape h puts takes run = calls.drain (own c) shape h puts takes run (every c shape h puts takes run)
 
 pub returns-clause-closed : goal.returns-clause-closed
 returns-clause-closed c shape h puts takes run = calls.closed (own c) shape h puts takes run (every c shape h puts takes run)

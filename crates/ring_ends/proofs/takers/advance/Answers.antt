@@ -27,4 +27,4 @@ returns-in-None-step-clause-steps g c calls made at busy = begun c.laws_below.en
 pub returns-in-Some-step-clause-steps : goal.returns-in-Some-step-clause-steps
 returns-in-Some-step-clause-steps g c calls made at busy =
     let moved = c.feed.ensures.stands calls made c.in-Some.access at.stands (sym c.in-Some.ensures.due) in
-    ended c.laws_below.ensures consuming take_laws c.args.stepper.now c.args.machine.now calls made at c.in-Some.access (due g (goal.at.returns-in-Some-step-clause-steps g c).In-Some) c.step.new.self c.in-Some-step.answer c.in-Some-step.ensures.stepped c.feed.new.self c.feed.ensures.shape moved.0 moved.1 moved.2
+    ended c.laws_below.ensures consuming take_laws c.args.stepper.now c.args.machine.now calls made at c.in-Some.access (due g (goal.at.returns-in-Some-step-clause-steps g c).In-Some) c.step.new.self c.in-Some-step.answer c.in-Some-step.ensures.stepped c.feed.new.self c.feed.ensures.shape moved.0 moved.1 (moved.2, c.feed.ensures.wanted)

@@ -1,9 +1,11 @@
-use Rattle.std.proofs.Common.{refl, sym, arith}
+use Rattle.std.proofs.Common.{◌+◌, ◌<◌, length, refl, sym, subst, arith}
+use Rattle.ring_core.specs.Lengths.{longest_taking}
+use Rattle.ring_core.specs.Takes.{take_program}
 use Rattle.ring_ends.specs.Machines.{MachineWent, consuming}
 use Rattle.ring_ends.proofs.Accesses.{longer}
 use Rattle.ring_ends.proofs.MachineMoves.{Due}
 use Rattle.ring_ends.proofs.MachineWhole.{access_can, access_feeds, access_right, access_went, below, ended_by, going, ready_busy, went_busy, went_nowhere, went_then}
-use Rattle.ring_ends.proofs.TakerCalls.{take_due, take_laws}
+use Rattle.ring_ends.proofs.TakerCalls.{take_due, take_laws, take_moved}
 use Rattle.ring_ends.proofs.takers.finish.Given.{Over}
 use Rattle.ring_ends.proofs.takers.finish.Goals.{After-expects_one-expects, After-write_count}
 use Rattle.ring_ends.proofs.takers.finish.Goals as goal
@@ -49,14 +51,14 @@ pub accesses-smaller : goal.accesses-smaller
 accesses-smaller g c =
     let w = so_far g (goal.at.accesses-smaller g c).After-write_count in
     let on = going consuming take_laws w c.requires.0 c.requires.1 c.in-Some.access (sym c.in-Some.ensures.due) in
-    let far = below consuming take_laws w c.requires.0 c.requires.1 on.0 on.1 on.2 (c.in-Some.ensures.bounded c.requires.0 (on.2).made (on.2).at.stands (on.2).busy) in
+    let far = below consuming take_laws w c.requires.0 c.requires.1 on.0 on.1 on.2 (subst (λ n. length (on.2).made < length (take_program c.write_count.new.machine.shape c.requires.0) + longest_taking c.write_count.new.machine.shape n) (on.2).busy.1 (c.in-Some.ensures.bounded c.requires.0 (on.2).made (on.2).at.stands (on.2).busy.0)) in
     omega (arith, far, longer c.write_count.new.stepper c.make-answer.new.self c.in-Some.access c.make-answer.result c.make-answer.ensures.made, c.finish_scan.ensures.longer, c.read_word.ensures.longer, c.write_count.ensures.longer)
 
 pub accesses-preserved : goal.accesses-preserved
 accesses-preserved g c =
     let w = so_far g (goal.at.accesses-preserved g c).After-write_count in
     let on = going consuming take_laws w c.requires.0 c.requires.1 c.in-Some.access (sym c.in-Some.ensures.due) in
-    access_went c.laws_below.ensures consuming take_laws (ready_busy consuming c.args.stepper.now c.args.machine.now c.requires.0 c.requires.1) w on.0 (on.2).busy c.in-Some.access (due g (goal.at.accesses-preserved g c).After-expects_one-expects) c.make-answer.new.self c.make-answer.result c.make-answer.ensures.made c.feed.new.self c.feed.ensures.shape refl (λ calls made st. c.feed.ensures.stands calls made c.in-Some.access st (sym c.in-Some.ensures.due)) _ c.make-answer.ensures.answered
+    access_went c.laws_below.ensures consuming take_laws (ready_busy consuming c.args.stepper.now c.args.machine.now c.requires.0 c.requires.1) w on.0 (on.2).busy c.in-Some.access (due g (goal.at.accesses-preserved g c).After-expects_one-expects) c.make-answer.new.self c.make-answer.result c.make-answer.ensures.made c.feed.new.self c.feed.ensures.shape refl (λ calls made st. take_moved c.write_count.new.machine c.feed.new.self calls _ c.feed.ensures.wanted (c.feed.ensures.stands calls made c.in-Some.access st (sym c.in-Some.ensures.due))) _ c.make-answer.ensures.answered
 
 pub accesses-init : goal.accesses-init
 accesses-init g c = went_nowhere consuming c.args.stepper.now c.args.machine.now (g.O.Oracle.answers c.args.oracle.now)

@@ -25,7 +25,7 @@ takes-preserved-in-Item g c =
     let s = c.in-Item.ensures in
     let yet : c.takes.closed ≡ false = c.takes-test.true in
     let was : TakesAre a.ring.shape a.list c.takes.items.items c.takes.empty false = subst (TakesAre a.ring.shape a.list c.takes.items.items c.takes.empty) yet i.2 in
-    let now = took c.takes_are_read.ensures b.ring.shape a.list b.list c.takes.items.items c.takes.empty (takes_there a b c.takes.items.items c.takes.empty s.same was) c.in-Item.item s.phrase in
+    let now = took c.takes_are_read.ensures c.programs_by_one_call.ensures.one b.ring.shape a.list b.list c.takes.items.items c.takes.empty (takes_there a b c.takes.items.items c.takes.empty s.same was) c.in-Item.item s.phrase in
     let list : c.push.new.self.items ≡ c.takes.items.items ++ c.in-Item.item ∷ [] = c.in_ok-push-in-Item.ensures.items in (
       s.idle,
       same_trans (g.E.TakeEnd.end c.args.taker.now) a b i.1 s.same,
@@ -44,7 +44,7 @@ takes-preserved-in-Empty g c =
     let s = c.in-Empty.ensures in
     let yet : c.takes.closed ≡ false = c.takes-test.true in
     let was : TakesAre a.ring.shape a.list c.takes.items.items c.takes.empty false = subst (TakesAre a.ring.shape a.list c.takes.items.items c.takes.empty) yet i.2 in
-    let now = was_empty c.takes_are_read.ensures b.ring.shape a.list b.list c.takes.items.items c.takes.empty (takes_there a b c.takes.items.items c.takes.empty s.same was) s.phrase in
+    let now = was_empty c.takes_are_read.ensures c.programs_by_one_call.ensures.one b.ring.shape a.list b.list c.takes.items.items c.takes.empty (takes_there a b c.takes.items.items c.takes.empty s.same was) s.phrase in
     let plus : suc c.takes.empty ≡ c.takes.empty + 1 = omega arith in (
       s.idle,
       same_trans (g.E.TakeEnd.end c.args.taker.now) a b i.1 s.same,
@@ -63,7 +63,7 @@ takes-preserved g c =
     let s = c.in-Closed.ensures in
     let yet : c.takes.closed ≡ false = c.takes-test.true in
     let was : TakesAre a.ring.shape a.list c.takes.items.items c.takes.empty false = subst (TakesAre a.ring.shape a.list c.takes.items.items c.takes.empty) yet i.2 in
-    let now = was_told c.takes_are_read.ensures b.ring.shape a.list b.list c.takes.items.items c.takes.empty (takes_there a b c.takes.items.items c.takes.empty s.same was) s.phrase in (
+    let now = was_told c.takes_are_read.ensures c.programs_by_one_call.ensures.one b.ring.shape a.list b.list c.takes.items.items c.takes.empty (takes_there a b c.takes.items.items c.takes.empty s.same was) s.phrase in (
       s.idle,
       same_trans (g.E.TakeEnd.end c.args.taker.now) a b i.1 s.same,
       now,
@@ -86,7 +86,7 @@ returns-in_err-push-in-Item-clause-fault g c =
     (record {
       taken = c.takes.items.items ++ c.in-Item.item ∷ [];
       empty = c.takes.empty;
-      takes = took c.takes_are_read.ensures b.ring.shape a.list b.list c.takes.items.items c.takes.empty (takes_there a b c.takes.items.items c.takes.empty s.same was) c.in-Item.item s.phrase;
+      takes = took c.takes_are_read.ensures c.programs_by_one_call.ensures.one b.ring.shape a.list b.list c.takes.items.items c.takes.empty (takes_there a b c.takes.items.items c.takes.empty s.same was) c.in-Item.item s.phrase;
       most = omega (arith, long, c.if-len-empty.true, c.len.ensures);
       more = omega (arith, long, i.5, c.in_err-push-in-Item.ensures.full, c.takes.items.ok);
     })

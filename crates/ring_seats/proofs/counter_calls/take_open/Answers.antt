@@ -1,16 +1,25 @@
-use Rattle.ring_seats.proofs.CounterTakerCalls.{kept_none}
+use Rattle.std.proofs.Common.{sym, subst}
+use Rattle.ring_core.proofs.CountRow.{has_take_batch}
+use Rattle.ring_seats.specs.CounterEnds.{TakeKept}
+use Rattle.ring_seats.proofs.CounterTakerCalls.{kept_none, one_found}
 use Rattle.ring_seats.proofs.counter_calls.take_open.Goals as goal
 
 pub fetch-requires : goal.fetch-requires
 fetch-requires c =
     let r = c.requires.at in
-    let found = c.in-None.ensures r.0 r.1 r.2 in
-    record { at = (c.args.stepper.now, r.0, record { at = r.1; opened = r.2; look = found.0; found = found.1 }) }
+    let a = c.args.stepper.now in
+    let found = c.in-Shows.ensures r.0 r.1 r.2 in
+    record { at = (a, r.0, record { at = r.1; opened = r.2; few = has_take_batch a.ring.shape; look = found.0; found = one_found a c.look.new.stepper r.0 found.0 _ found.1 }) }
 
-pub returns-in-Some : goal.returns-in-Some
-returns-in-Some c = λ calls at opened. kept_none c.args.stepper.now c.look.new.stepper c.args.count.now c.args.cell.now calls c.in-Some.reply at (c.in-Some.ensures calls at opened)
+pub returns-in-Over : goal.returns-in-Over
+returns-in-Over c calls at opened =
+    let a = c.args.stepper.now in
+    let over = c.in-Over.ensures calls at opened in
+    subst (TakeKept a c.look.new.stepper c.args.count.now c.args.cell.now calls 1 c.in-Over.reply) (sym over.1)
+    (kept_none a c.look.new.stepper c.args.count.now c.args.cell.now calls 1 c.in-Over.reply at over.0)
 
-pub returns-in-None : goal.returns-in-None
-returns-in-None c = λ calls at opened.
-    let found = c.in-None.ensures calls at opened in
-    c.fetch.ensures c.args.stepper.now calls (record { at = at; opened = opened; look = found.0; found = found.1 })
+pub returns-in-Shows : goal.returns-in-Shows
+returns-in-Shows c calls at opened =
+    let a = c.args.stepper.now in
+    let found = c.in-Shows.ensures calls at opened in
+    c.fetch.ensures a calls (record { at = at; opened = opened; few = has_take_batch a.ring.shape; look = found.0; found = one_found a c.look.new.stepper calls found.0 _ found.1 })

@@ -2,7 +2,7 @@ use Rattle.std.proofs.Common.{◌≡◌, Option, Some, [], ◌∷◌, ap, sym, �
 use Rattle.ring_core.specs.declared.producers.PutReply.{PutReply}
 use Rattle.ring_core.specs.declared.consumers.TakeReply.{TakeReply}
 use Rattle.ring_run.specs.Ring.{RingEnd}
-use Rattle.uses.specs.Passed.{items_answered}
+use Rattle.ring_core.specs.ConsumerCalls.{reply_items}
 use Rattle.uses.specs.Stepping.{IsFirstPut, IsFirstTake}
 use Rattle.uses.proofs.Passing.{first_put, first_take, passed, then_begins}
 use Rattle.uses.proofs.steps.take_amid_put.Goals as goal
@@ -17,7 +17,7 @@ returns-in-Some-Some g c =
     let taking : IsFirstTake c.turns.taker (Some reply) = subst (λ (r : Option TakeReply). IsFirstTake c.turns.taker r) c.in-Some-Some.is-1 i.1 in
     let same : p.ring ≡ t.ring = i.2 ∙ c.lead.invariant.1 ∙ ap (λ (e : RingEnd). e.ring) c.ends-putter.ensures.putter.0 ∙ sym (i.3 ∙ ap (λ (e : RingEnd). e.ring) c.ends-putter.ensures.taker.0) in
     let put = first_put c.puts_are_read.ensures p c.args.item c.in-Some-Some.field-0-0 putting.1 in
-    then_begins (items_answered reply) put.0 (c.args.item ∷ [])
-    (passed p t same c.finish-finished.result.history c.finish-finished.ensures.meets put.0 (items_answered reply) put.1 (first_take c.takes_are_read.ensures t reply taking.1)
+    then_begins (reply_items reply) put.0 (c.args.item ∷ [])
+    (passed p t same c.finish-finished.result.history c.finish-finished.ensures.meets put.0 (reply_items reply) put.1 (first_take c.takes_are_read.ensures c.programs_by_one_call.ensures.one t reply taking.1)
     c.whole_calls_count.ensures.puts c.whole_calls_count.ensures.takes c.ring_law.ensures.prefix)
     put.2

@@ -9,16 +9,16 @@ returns-in_ok-push-in-Item-clause-took g c =
     let a = g.E.TakeEnd.end c.args.taker.now in
     let b = g.E.TakeEnd.end c.take.new.self in
     subst (λ (l : List ℕ). HasTook b l) (sym c.in_ok-push-in-Item.ensures.items)
-    (took_more c.takes_are_read.ensures a b c.in-Item.ensures.same.ring c.args.taken.now.items c.requires.took (Item c.in-Item.item) c.in-Item.ensures.phrase)
+    (took_more c.takes_are_read.ensures c.programs_by_one_call.ensures.one a b c.in-Item.ensures.same.ring c.args.taken.now.items c.requires.took (Item c.in-Item.item) c.in-Item.ensures.phrase)
 
 pub returns-in-Empty-clause-took : goal.returns-in-Empty-clause-took
 returns-in-Empty-clause-took g c =
     let a = g.E.TakeEnd.end c.args.taker.now in
     let b = g.E.TakeEnd.end c.take.new.self in
-    took_none c.takes_are_read.ensures a b c.in-Empty.ensures.same.ring c.args.taken.now.items c.requires.took Empty refl c.in-Empty.ensures.phrase
+    took_none c.takes_are_read.ensures c.programs_by_one_call.ensures.one a b c.in-Empty.ensures.same.ring c.args.taken.now.items c.requires.took Empty refl c.in-Empty.ensures.phrase
 
 pub returns-in-Closed-clause-took : goal.returns-in-Closed-clause-took
 returns-in-Closed-clause-took g c =
     let a = g.E.TakeEnd.end c.args.taker.now in
     let b = g.E.TakeEnd.end c.take.new.self in
-    took_none c.takes_are_read.ensures a b c.in-Closed.ensures.same.ring c.args.taken.now.items c.requires.took Closed refl c.in-Closed.ensures.phrase
+    took_none c.takes_are_read.ensures c.programs_by_one_call.ensures.one a b c.in-Closed.ensures.same.ring c.args.taken.now.items c.requires.took Closed refl c.in-Closed.ensures.phrase

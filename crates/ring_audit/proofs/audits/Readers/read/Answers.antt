@@ -1,9 +1,9 @@
-use Rattle.std.proofs.Common.{arith, length-append, ℕ, ap, length, subst}
+use Rattle.std.proofs.Common.{◌++◌, ◌∙◌, inr, arith, length-append, ℕ, ap, length, subst}
 use Rattle.ring_audit.specs.declared.takes.TakeStep.TheVariants as takes
 use Rattle.ring_audit.specs.TakeReading.{HasReadTake}
 use Rattle.ring_audit.specs.Reading.{reading}
 use Rattle.ring_audit.proofs.Readings.{put_stops, put_goes, put_stores, put_counts, take_stops, take_goes, take_takes}
-use Rattle.ring_audit.proofs.Rooms.{on_err, put_needs, take_needs}
+use Rattle.ring_audit.proofs.Rooms.{on_err, put_needs, take_needs, take_short}
 use Rattle.ring_audit.proofs.audits.Readers.read.Goals as goal
 
 pub returns-in_err-push-in-Stores-clause-refused : goal.returns-in_err-push-in-Stores-clause-refused
@@ -13,14 +13,21 @@ returns-in_err-push-in-Stores-clause-refused g c =
     (put_needs c.own_changes.ensures r.puts.shape r.puts c.read.new.self r.takes r.counted (g.S.Store.items c.args.put.now) (g.S.Store.items c.args.taken.now) c.args.event c.in-Stores.item
     (g.S.Store.room c.args.put.now) (g.S.Store.room c.args.taken.now) c.in-P.is c.in-Stores.ensures.read c.in_err-push-in-Stores.ensures.full)
 
-pub returns-in_err-push-in-Takes-clause-refused : goal.returns-in_err-push-in-Takes-clause-refused
-returns-in_err-push-in-Takes-clause-refused g c =
+pub returns-in_err-push_all-in-Takes-clause-refused : goal.returns-in_err-push_all-in-Takes-clause-refused
+returns-in_err-push_all-in-Takes-clause-refused g c =
     let r = c.args.self.now in
-    let read : HasReadTake r.puts.shape r.takes c.read-in-C.new.self c.args.event (takes.Takes c.in-Takes.item) =
-    subst (λ s. HasReadTake s r.takes c.read-in-C.new.self c.args.event (takes.Takes c.in-Takes.item)) c.requires c.in-Takes.ensures.read in
-    on_err c.from_residual-in_err-push-in-Takes.result
-    (take_needs c.own_changes.ensures r.puts.shape r.puts r.takes c.read-in-C.new.self r.counted (g.S.Store.items c.args.put.now) (g.S.Store.items c.args.taken.now) c.args.event c.in-Takes.item
-    (g.S.Store.room c.args.put.now) (g.S.Store.room c.args.taken.now) c.in-C.is read c.in_err-push-in-Takes.ensures.full)
+    let read : HasReadTake r.puts.shape r.takes c.read-in-C.new.self c.args.event takes.Takes = subst (λ s. HasReadTake s r.takes c.read-in-C.new.self c.args.event takes.Takes) c.requires c.in-Takes.ensures.read in
+    on_err c.from_residual-in_err-push_all-in-Takes.result
+    (take_needs c.own_changes.ensures r.puts.shape r.puts r.takes c.read-in-C.new.self r.counted (g.S.Store.items c.args.put.now) (g.S.Store.items c.args.taken.now) c.items.result.now c.args.event
+    (g.S.Store.room c.args.put.now) (g.S.Store.room c.args.taken.now) c.in-C.is read c.items.ensures c.in_err-push_all-in-Takes.ensures.full)
+
+pub returns-in_err-push_all-in-Takes-clause-full : goal.returns-in_err-push_all-in-Takes-clause-full
+returns-in_err-push_all-in-Takes-clause-full g c =
+    let r = c.args.self.now in
+    let read : HasReadTake r.puts.shape r.takes c.read-in-C.new.self c.args.event takes.Takes = subst (λ s. HasReadTake s r.takes c.read-in-C.new.self c.args.event takes.Takes) c.requires c.in-Takes.ensures.read in
+    on_err c.from_residual-in_err-push_all-in-Takes.result
+    (inr (take_short c.own_changes.ensures r.puts.shape r.puts r.takes c.read-in-C.new.self r.counted (g.S.Store.items c.args.put.now) (g.S.Store.items c.args.taken.now) c.items.result.now c.args.event
+    (g.S.Store.room c.args.taken.now) c.in-C.is read c.items.ensures c.in_err-push_all-in-Takes.ensures.full))
 
 pub returns-in-Stops-clause-stops : goal.returns-in-Stops-clause-stops
 returns-in-Stops-clause-stops g c f =
@@ -46,10 +53,7 @@ returns-in-Stops-read-clause-stops g c f =
     take_stops c.own_changes.ensures r.puts.shape (reading r.puts r.takes r.counted (g.S.Store.items c.args.put.now) (g.S.Store.items c.args.taken.now)) c.read-in-C.new.self c.args.event c.in-C.is read
 
 pub returns-in_ok-push-in-Stores-clause-few : goal.returns-in_ok-push-in-Stores-clause-few
-returns-in_ok-push-in-Stores-clause-few g c = (omega (arith, length-append {A = ℕ}, ap length c.in_ok-push-in-Stores.ensures.pushed), omega arith)
-
-pub returns-in_ok-push-in-Takes-clause-few : goal.returns-in_ok-push-in-Takes-clause-few
-returns-in_ok-push-in-Takes-clause-few g c = (omega arith, omega (arith, length-append {A = ℕ}, ap length c.in_ok-push-in-Takes.ensures.pushed))
+returns-in_ok-push-in-Stores-clause-few g c = omega (arith, length-append {A = ℕ}, ap length c.in_ok-push-in-Stores.ensures.pushed)
 
 pub returns-in-GoesOn-clause-goes_on : goal.returns-in-GoesOn-clause-goes_on
 returns-in-GoesOn-clause-goes_on g c f =
@@ -62,10 +66,9 @@ returns-in-GoesOn-read-clause-goes_on g c f =
     let read : HasReadTake r.puts.shape r.takes c.read-in-C.new.self c.args.event takes.GoesOn = subst (λ s. HasReadTake s r.takes c.read-in-C.new.self c.args.event takes.GoesOn) c.requires c.in-GoesOn-read.ensures.read in
     take_goes c.own_changes.ensures r.puts.shape (reading r.puts r.takes r.counted (g.S.Store.items c.args.put.now) (g.S.Store.items c.args.taken.now)) c.read-in-C.new.self c.args.event c.in-C.is read
 
-pub returns-in_ok-push-in-Takes-clause-goes_on : goal.returns-in_ok-push-in-Takes-clause-goes_on
-returns-in_ok-push-in-Takes-clause-goes_on g c f =
+pub returns-in_ok-push_all-in-Takes-clause-goes_on : goal.returns-in_ok-push_all-in-Takes-clause-goes_on
+returns-in_ok-push_all-in-Takes-clause-goes_on g c f =
     let r = c.args.self.now in
-    let read : HasReadTake r.puts.shape r.takes c.read-in-C.new.self c.args.event (takes.Takes c.in-Takes.item) =
-    subst (λ s. HasReadTake s r.takes c.read-in-C.new.self c.args.event (takes.Takes c.in-Takes.item)) c.requires c.in-Takes.ensures.read in
-    take_takes c.own_changes.ensures r.puts.shape (reading r.puts r.takes r.counted (g.S.Store.items c.args.put.now) (g.S.Store.items c.args.taken.now)) c.read-in-C.new.self c.args.event c.in-Takes.item
-    (g.S.Store.items c.push-in-Takes.new.store) c.in-C.is read c.in_ok-push-in-Takes.ensures.pushed
+    let read : HasReadTake r.puts.shape r.takes c.read-in-C.new.self c.args.event takes.Takes = subst (λ s. HasReadTake s r.takes c.read-in-C.new.self c.args.event takes.Takes) c.requires c.in-Takes.ensures.read in
+    take_takes c.own_changes.ensures r.puts.shape (reading r.puts r.takes r.counted (g.S.Store.items c.args.put.now) (g.S.Store.items c.args.taken.now)) c.read-in-C.new.self c.args.event
+    (g.S.Store.items c.push_all.new.store) c.in-C.is read (c.in_ok-push_all-in-Takes.ensures.pushed ∙ ap (λ l. g.S.Store.items c.args.taken.now ++ l) c.items.ensures)

@@ -62,11 +62,11 @@ returns-in-GoesOn-read-clause-goes_on c f h st =
 pub returns-in-Takes-clause-goes_on : goal.returns-in-Takes-clause-goes_on
 returns-in-Takes-clause-goes_on c f h st =
     let r = c.args.self.now in
-    let read = subst (λ s. HasReadTake s r.takes c.read-in-C.new.self c.args.event (takes.Takes c.in-Takes.field-0)) c.requires c.in-Takes.ensures.read in
+    let kept = c.read-in-C.new.self.consumer.items in
+    let read = subst (λ s. HasReadTake s r.takes c.read-in-C.new.self c.args.event takes.Takes) c.requires c.in-Takes.ensures.read in
     record {
       counted = st.counted;
       put = st.put;
-      taken = st.taken ++ c.in-Takes.field-0 ∷ [];
-      stands = take_takes c.own_changes.ensures r.puts.shape (reading r.puts r.takes st.counted st.put st.taken) c.read-in-C.new.self c.args.event c.in-Takes.field-0
-          (st.taken ++ c.in-Takes.field-0 ∷ []) c.in-C.is read refl h st.stands;
+      taken = st.taken ++ kept;
+      stands = take_takes c.own_changes.ensures r.puts.shape (reading r.puts r.takes st.counted st.put st.taken) c.read-in-C.new.self c.args.event (st.taken ++ kept) c.in-C.is read refl h st.stands;
     }

@@ -1,4 +1,5 @@
-use Rattle.std.proofs.Common.{Some, sym, ap, ◌∙◌}
+use Rattle.std.proofs.Common.{subst, sym, ap, ◌∙◌}
+use Rattle.ring_audit.specs.Dues.{IsNoneOf}
 use Rattle.ring_audit.specs.TakeReading.{TakeReading}
 use Rattle.ring_audit.proofs.DueLemmas.{take_open, take_rest}
 use Rattle.ring_audit.proofs.takes.TakeReader.candidates.Goals as goal
@@ -12,4 +13,4 @@ pub returns-in-None-clause-only : goal.returns-in-None-clause-only
 returns-in-None-clause-only c es items e st by none =
     let now : TakeReading = c.args.self.now in
     take_rest now.consumer.shape now es items e st (sym (ap (λ (z : TakeReading). z.open_access) c.self.view_is) ∙ c.in-None.is) by
-    (λ a is. c.due.ensures.only es items a st (λ same. none.2 (c.only.ensures.third ∙ c.opening.ensures.some a same ∙ ap Some (sym is))))
+    (λ a is. c.openings.ensures.only es items a st (subst (λ d. IsNoneOf c.openings.result d) is none))

@@ -1,28 +1,46 @@
-use Rattle.std.proofs.Common.{inl, Some, subst, sym, ap, ◌∙◌}
+use Rattle.std.proofs.Common.{ℕ, List, inl, refl, Some, subst, sym, ap, ◌∙◌}
 use Rattle.ring_core.specs.declared.consumers.TakeReply.TheVariants.{Closed}
-use Rattle.ring_core.specs.ConsumerState.{ConsumerState}
+use Rattle.ring_core.specs.Counts.{take_batch_of}
+use Rattle.ring_core.specs.GoingOn.{WritesTakeCount}
+use Rattle.ring_core.specs.ConsumerState.{ConsumerState, IsBetweenWords, is_taking}
 use Rattle.ring_core.specs.ConsumerCalls.{ConsumerStands}
-use Rattle.ring_audit.specs.TakeReading.{TakeReading}
-use Rattle.ring_audit.proofs.TakeReads.{not_due, due_takes, taking_or_told}
+use Rattle.bits_core.specs.declared.events.Event.{Event}
+use Rattle.ring_audit.specs.TakeReading.{TakeReading, TakesStand}
+use Rattle.ring_audit.proofs.TakeReads.{not_due, due_takes, taking_or_told, wants_most, begun_stands}
 use Rattle.ring_audit.proofs.takes.TakeReader.due.Goals as goal
 
 pub returns-in-Some-clause-only : goal.returns-in-Some-clause-only
 returns-in-Some-clause-only c es items access st wrong of_takes =
     let r = c.args.self.now in
+    let p = c.self.inside.consumer in
     let consumer_is = ap (λ (z : TakeReading). z.consumer) c.self.view_is in
     let stands = subst (λ p. ConsumerStands p st.calls st.made) (sym consumer_is) st.stands in
-    let takes = due_takes c.self.inside.consumer c.in-Some.access (sym c.in-Some.ensures.due) in
-    not_due c.takes_go_on_alike.ensures c.calls_are_first.ensures.takes r.consumer.shape r es items c.self.inside.consumer (Some c.in-Some.access) access st c.requires
-    (ap (λ (p : ConsumerState). p.shape) consumer_is) stands (λ d is. c.in-Some.ensures.goes_on st.calls st.made d stands is)
-    (λ none. c.in-Some.ensures.rest st.calls st.made stands none) (inl takes) wrong of_takes
+    let takes = due_takes p c.in-Some.access (sym c.in-Some.ensures.due) in
+    subst (λ q. IsBetweenWords q × WritesTakeCount access) consumer_is
+    (not_due c.takes_go_on.ensures c.calls_are_first.ensures.takes r.consumer.shape r es items p (Some c.in-Some.access) access st c.requires
+    (ap (λ (p : ConsumerState). p.shape) consumer_is) stands c.in-Some.ensures.due (λ d is. c.in-Some.ensures.goes_on st.calls st.made d stands is)
+    (λ none. c.in-Some.ensures.rest st.calls st.made stands none) (λ taking ends. ap (λ (q : ConsumerState). q.wanted) consumer_is ∙ st.wants.behind_word (sym (ap is_taking consumer_is) ∙ taking) c.requires ends)
+    (inl takes) wrong of_takes)
 
 pub returns-in-None-clause-only : goal.returns-in-None-clause-only
 returns-in-None-clause-only c es items access st wrong of_takes =
     let r = c.args.self.now in
     let p = c.self.inside.consumer in
     let consumer_is = ap (λ (z : TakeReading). z.consumer) c.self.view_is in
-    let stands = c.take.ensures.stands st.calls st.made (subst (λ p. ConsumerStands p st.calls st.made) (sym consumer_is) st.stands) in
-    not_due c.takes_go_on_alike.ensures c.calls_are_first.ensures.takes r.consumer.shape r es items c.take.new.self c.next-in-None.result access st c.requires
-    (c.take.ensures.shape ∙ ap (λ (p : ConsumerState). p.shape) consumer_is) stands (λ d is. c.next-in-None.ensures.goes_on st.calls st.made d stands is)
+    let before = subst (λ p. ConsumerStands p st.calls st.made) (sym consumer_is) st.stands in
+    let stands = c.take_all.ensures.stands st.calls st.made before in
+    let idle = (c.in-None.ensures.rest st.calls st.made before refl).0 in
+    let most = c.self.invariant.1 ∙ ap (λ (q : ConsumerState). take_batch_of q.shape) consumer_is in
+    not_due c.takes_go_on.ensures c.calls_are_first.ensures.takes r.consumer.shape r es items c.take_all.new.self c.next-in-None.result access st c.requires
+    (c.take_all.ensures.shape ∙ ap (λ (p : ConsumerState). p.shape) consumer_is) stands c.next-in-None.ensures.due (λ d is. c.next-in-None.ensures.goes_on st.calls st.made d stands is)
     (λ none. c.next-in-None.ensures.rest st.calls st.made stands none)
-    (taking_or_told p c.take.new.self (Some Closed) c.take.ensures.begun c.take.ensures.refused) wrong of_takes
+    (λ taking ends. wants_most p c.take_all.new.self (Some Closed) c.self.inside.most c.take_all.ensures.begun c.take_all.ensures.refused idle taking ∙ most)
+    (taking_or_told p c.take_all.new.self (Some Closed) c.self.inside.most c.take_all.ensures.begun c.take_all.ensures.refused) wrong of_takes
+
+pub returns-in-None-clause-stands : goal.returns-in-None-clause-stands
+returns-in-None-clause-stands c =
+    let p = c.self.inside.consumer in
+    let new : TakeReading = record { consumer = c.take_all.new.self; open_access = c.self.inside.open_access } in
+    subst (λ (r : TakeReading). (es : List Event) (items : List ℕ) → TakesStand r.consumer.shape r es items → TakesStand r.consumer.shape new es items) c.self.view_is
+    (begun_stands p c.take_all.new.self c.self.inside.open_access (Some Closed) c.self.inside.most c.take_all.ensures.begun c.take_all.ensures.refused c.self.invariant.1 c.take_all.ensures.shape
+    (λ calls made stands. (c.in-None.ensures.rest calls made stands refl).0) c.take_all.ensures.stands)

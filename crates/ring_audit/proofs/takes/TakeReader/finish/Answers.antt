@@ -17,7 +17,7 @@ returns-then-not-answer-clause-read c es items stands of_takes =
     let access = c.args.access in
     let consumer_is = ap (λ (z : TakeReading). z.consumer) c.self.view_is in
     let open_is = ap (λ (z : TakeReading). z.open_access) c.self.view_is in
-    let due = ap due_take (sym consumer_is) ∙ c.self.invariant.is_due access (open_is ∙ c.requires) in
+    let due = ap due_take (sym consumer_is) ∙ c.self.invariant.0.is_due access (open_is ∙ c.requires) in
     let last = subst (λ p. LastBitIsDue p.shape C (due_take p)) consumer_is (c.expects_one.ensures.due.0 c.if-expects_one.true) in
     zero_at_last c.last_reads_are_one.ensures.takes shape r es items access stands c.requires due last
     (subst (λ v. AreOfTakes shape (es ++ end_event C (answered access v) ∷ [])) c.if-not-answer.true of_takes)
@@ -28,10 +28,10 @@ returns-clause-read c =
     let p = c.self.inside.consumer in
     let o = c.self.inside.open_access in
     let open_is = ap (λ (z : TakeReading). z.open_access) c.self.view_is in
-    let due = c.self.invariant.is_due access (open_is ∙ c.requires) in
+    let due = c.self.invariant.0.is_due access (open_is ∙ c.requires) in
     let e : Event = end_event C (answered access c.args.answer) in
     let new : TakeReading = record { consumer = c.feed.new.self; open_access = None } in
-    let on = finish_goes_on p.shape p c.feed.new.self access c.args.answer c.reply.result due c.feed.ensures.shape c.feed.ensures.stands c.reply.ensures.stands in
+    let on = finish_goes_on p.shape p c.feed.new.self access c.args.answer c.reply.result due c.feed.ensures.shape c.feed.ensures.wanted c.feed.ensures.counting c.feed.ensures.stands c.reply.ensures.stands in
     let old_is : record { consumer = p; open_access = Some access } ≡ c.args.self.now = ap (λ z. record { consumer = p; open_access = z }) (sym (open_is ∙ c.requires)) ∙ c.self.view_is in
     let read : HasReadTake c.args.self.now.consumer.shape c.args.self.now new e (step_by c.reply.result) =
     subst (λ (r : TakeReading). HasReadTake r.consumer.shape r new e (step_by c.reply.result)) old_is (has_read p.shape (record { consumer = p; open_access = Some access }) new e c.reply.result on) in

@@ -8,5 +8,5 @@ use Rattle.ring_core.proofs.consumers.Consumer.expects_one.Goals as goal
 pub returns-in-Rescanning-clause-stands : goal.returns-in-Rescanning-clause-stands
 returns-in-Rescanning-clause-stands c =
     let p : ConsumerState = the_view c.self.inside in
-    let (counted, taking, scans) = at_stage p Rescanning c.self.invariant c.in-Rescanning.is in
+    let (counted, taking, fresh, scans) = at_stage p Rescanning c.self.invariant.0 c.in-Rescanning.is in
     rw (← c.self.view_is) (λ calls made stands one. rescan_zeros p calls made c.in-Rescanning.is stands scans (c.expects_one-in-Rescanning.ensures.0 one))

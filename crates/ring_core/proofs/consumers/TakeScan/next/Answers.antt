@@ -9,12 +9,12 @@ pub returns-clause-goes_on : goal.returns-clause-goes_on
 returns-clause-goes_on c =
     let p : ConsumerState = the_view c.self.inside in
     rw (← c.self.view_is)
-    (λ calls made stands. going_on p.shape (is_taking p) calls made (Some c.in-Some.access)
+    (λ calls made stands. going_on p.shape p.wanted (is_taking p) calls made (Some c.in-Some.access)
     (next_there p calls made (Some c.in-Some.access) c.self.invariant.0 c.self.invariant.1 stands c.in-Some.ensures.due) c.in-Some.access refl)
 
 pub returns-clause-bounded : goal.returns-clause-bounded
 returns-clause-bounded c =
     let p : ConsumerState = the_view c.self.inside in
     rw (← c.self.view_is)
-    (λ calls made stands taking. going_bounded p.shape (is_taking p) calls made (Some c.in-Some.access)
+    (λ calls made stands taking. going_bounded p.shape p.wanted (is_taking p) calls made (Some c.in-Some.access)
     (next_there p calls made (Some c.in-Some.access) c.self.invariant.0 c.self.invariant.1 stands c.in-Some.ensures.due))

@@ -9,15 +9,15 @@ use Rattle.ring_core.proofs.consumers.TakeWord.next.Goals as goal
 pub returns-clause-goes_on : goal.returns-clause-goes_on
 returns-clause-goes_on c =
     let p : ConsumerState = the_view c.self.inside in
-    let (counted, taking, loads, unread) = at_stage p Loading c.self.invariant.1 c.self.invariant.0 in
+    let (counted, taking, loads, less, few, unread) = at_stage p Loading c.self.invariant.1 c.self.invariant.0 in
     rw (← c.self.view_is)
-    (λ calls made stands. going_on p.shape (is_taking p) calls made (Some c.in-Some.access)
-    (next_word p calls made (Some c.in-Some.access) c.self.invariant.0 stands loads unread c.in-Some.ensures.due c.in-Some.ensures.stands) c.in-Some.access refl)
+    (λ calls made stands. going_on p.shape p.wanted (is_taking p) calls made (Some c.in-Some.access)
+    (next_word p calls made (Some c.in-Some.access) c.self.invariant.0 stands taking loads less few unread c.in-Some.ensures.due c.in-Some.ensures.stands) c.in-Some.access refl)
 
 pub returns-clause-bounded : goal.returns-clause-bounded
 returns-clause-bounded c =
     let p : ConsumerState = the_view c.self.inside in
-    let (counted, taking, loads, unread) = at_stage p Loading c.self.invariant.1 c.self.invariant.0 in
+    let (counted, taking, loads, less, few, unread) = at_stage p Loading c.self.invariant.1 c.self.invariant.0 in
     rw (← c.self.view_is)
-    (λ calls made stands taking. going_bounded p.shape (is_taking p) calls made (Some c.in-Some.access)
-    (next_word p calls made (Some c.in-Some.access) c.self.invariant.0 stands loads unread c.in-Some.ensures.due c.in-Some.ensures.stands))
+    (λ calls made stands under_way. going_bounded p.shape p.wanted (is_taking p) calls made (Some c.in-Some.access)
+    (next_word p calls made (Some c.in-Some.access) c.self.invariant.0 stands taking loads less few unread c.in-Some.ensures.due c.in-Some.ensures.stands))

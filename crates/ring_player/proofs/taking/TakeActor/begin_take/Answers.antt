@@ -10,7 +10,7 @@ pub returns-then-taken-takes-clause-stands : goal.returns-then-taken-takes-claus
 returns-then-taken-takes-clause-stands g c list s =
     let x = c.args.self.now in
     let left : length (g.T.Store.items x.taken) < (content_of x.script).takes = omega (arith, c.if-taken-takes.true, ap length c.taken.ensures, c.takes.ensures) in
-    began_take (content_of x.script) x.consumer c.take.new.self (g.T.Store.items x.taken) x.told x.empty list s left c.take.ensures.shape c.take.ensures.stands
+    began_take (content_of x.script) x.consumer c.take.new.self (g.T.Store.items x.taken) x.told x.empty list s left c.if-not-self.true c.take.ensures.begun c.take.ensures.shape c.take.ensures.stands
 
 pub returns-else-not-self-clause-done : goal.returns-else-not-self-clause-done
 returns-else-not-self-clause-done g c none list s =

@@ -16,7 +16,7 @@ pub returns-in-Some-Item-clause-stands : goal.returns-in-Some-Item-clause-stands
 returns-in-Some-Item-clause-stands g c list a is s =
     let x = c.args.self.now in
     let after = ended (content_of x.script) x.consumer c.feed.new.self (g.T.Store.items x.taken) x.told x.empty list c.next.result a c.args.answer s (take_next _ _ c.next.ensures.rest c.next.ensures.goes_on) c.next.ensures.due is c.requires.one
-    (λ calls there. c.feed.ensures.stands calls list a there is) c.feed.ensures.shape c.next-2.result (take_next _ _ c.next-2.ensures.rest c.next-2.ensures.goes_on) in
+    (λ calls there. c.feed.ensures.stands calls list a there is) c.feed.ensures.shape c.feed.ensures.wanted c.next-2.result (take_next _ _ c.next-2.ensures.rest c.next-2.ensures.goes_on) in
     let reply_is : c.feed.new.self.reply ≡ Some (reply.Item c.in-Some-Item.item) = sym c.reply.ensures.state ∙ c.in-Some-Item.is ∙ ap (λ t. Some t) c.in-Some-Item.field-0-is in
     let made = list ++ answered a c.args.answer ∷ [] in
     subst (λ (l : List ℕ). TakeActorStands (content_of x.script) c.feed.new.self l x.told x.empty made None) (sym c.add.ensures.items)
@@ -27,7 +27,7 @@ pub returns-in-Some-Closed-clause-stands : goal.returns-in-Some-Closed-clause-st
 returns-in-Some-Closed-clause-stands g c list a is s =
     let x = c.args.self.now in
     let after = ended (content_of x.script) x.consumer c.feed.new.self (g.T.Store.items x.taken) x.told x.empty list c.next.result a c.args.answer s (take_next _ _ c.next.ensures.rest c.next.ensures.goes_on) c.next.ensures.due is c.requires.one
-    (λ calls there. c.feed.ensures.stands calls list a there is) c.feed.ensures.shape c.next-2.result (take_next _ _ c.next-2.ensures.rest c.next-2.ensures.goes_on) in
+    (λ calls there. c.feed.ensures.stands calls list a there is) c.feed.ensures.shape c.feed.ensures.wanted c.next-2.result (take_next _ _ c.next-2.ensures.rest c.next-2.ensures.goes_on) in
     let reply_is : c.feed.new.self.reply ≡ Some reply.Closed = sym c.reply.ensures.state ∙ c.in-Some-Closed.is ∙ ap (λ t. Some t) c.in-Some-Closed.field-0-is in
     let made = list ++ answered a c.args.answer ∷ [] in
     subst (λ (l : List ℕ). TakeActorStands (content_of x.script) c.feed.new.self l true x.empty made None) (append-nil (g.T.Store.items x.taken))
@@ -38,7 +38,7 @@ pub returns-in-Some-Empty-clause-stands : goal.returns-in-Some-Empty-clause-stan
 returns-in-Some-Empty-clause-stands g c list a is s =
     let x = c.args.self.now in
     let after = ended (content_of x.script) x.consumer c.feed.new.self (g.T.Store.items x.taken) x.told x.empty list c.next.result a c.args.answer s (take_next _ _ c.next.ensures.rest c.next.ensures.goes_on) c.next.ensures.due is c.requires.one
-    (λ calls there. c.feed.ensures.stands calls list a there is) c.feed.ensures.shape c.next-2.result (take_next _ _ c.next-2.ensures.rest c.next-2.ensures.goes_on) in
+    (λ calls there. c.feed.ensures.stands calls list a there is) c.feed.ensures.shape c.feed.ensures.wanted c.next-2.result (take_next _ _ c.next-2.ensures.rest c.next-2.ensures.goes_on) in
     let reply_is : c.feed.new.self.reply ≡ Some reply.Empty = sym c.reply.ensures.state ∙ c.in-Some-Empty.is ∙ ap (λ t. Some t) c.in-Some-Empty.field-0-is in
     let made = list ++ answered a c.args.answer ∷ [] in
     subst (λ (l : List ℕ). TakeActorStands (content_of x.script) c.feed.new.self l x.told (x.empty + 1) made None) (append-nil (g.T.Store.items x.taken))
@@ -48,7 +48,7 @@ pub returns-in-None-clause-stands : goal.returns-in-None-clause-stands
 returns-in-None-clause-stands g c list a is s =
     let x = c.args.self.now in
     let after = ended (content_of x.script) x.consumer c.feed.new.self (g.T.Store.items x.taken) x.told x.empty list c.next.result a c.args.answer s (take_next _ _ c.next.ensures.rest c.next.ensures.goes_on) c.next.ensures.due is c.requires.one
-    (λ calls there. c.feed.ensures.stands calls list a there is) c.feed.ensures.shape c.next-2.result (take_next _ _ c.next-2.ensures.rest c.next-2.ensures.goes_on) in
+    (λ calls there. c.feed.ensures.stands calls list a there is) c.feed.ensures.shape c.feed.ensures.wanted c.next-2.result (take_next _ _ c.next-2.ensures.rest c.next-2.ensures.goes_on) in
     let reply_is : c.feed.new.self.reply ≡ None = sym c.reply.ensures.state ∙ c.in-None.is in
     let made = list ++ answered a c.args.answer ∷ [] in
     subst (λ (l : List ℕ). TakeActorStands (content_of x.script) c.feed.new.self l x.told x.empty made None) (append-nil (g.T.Store.items x.taken))

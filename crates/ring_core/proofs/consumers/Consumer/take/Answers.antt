@@ -1,0 +1,5 @@
+use Rattle.ring_core.proofs.CountRow.{has_take_batch}
+use Rattle.ring_core.proofs.consumers.Consumer.take.Goals as goal
+
+pub take_all-requires-clause-few : goal.take_all-requires-clause-few
+take_all-requires-clause-few c = has_take_batch _
