@@ -2,7 +2,7 @@
 """Copies the examples to page/examples and writes the page as one file that needs no server, page/lamport_ring.html.
 
     page/pack.py            with the module that page/build made, or else with that of the page that stands there
-    page/pack.py --check    writes nothing; says where the page that stands there is not what these sources give
+    page/pack.py --check    writes nothing; says where the page that stands there is not what these sources give, and what a lesson lacks
 """
 import base64
 import hashlib
@@ -109,8 +109,8 @@ def lessons():
             list_.append(lesson(told, chapter, kind, words))
         elif kind in PARTS:
             list_[-1][PARTS[kind]] = words
-        else:
-            assert not line.strip(), line
+        elif line.strip():
+            sys.exit(f"page/lessons.txt: a line begins with none of {', '.join(['#', *MODES, *PARTS])}: {line}")
     return list_
 
 
@@ -146,6 +146,9 @@ def examples():
         if mode == "script":
             names[mode] += wrong_scripts(files)
         names[mode].sort(key=lambda name: (name not in FIRST[:1], name not in FIRST, name))
+    for mode, name in taught:
+        if name not in names[mode]:
+            sys.exit(f"page/lessons.txt: {mode} {name}: examples/ has none, or the page leaves it out")
     return {"examples.json": (json.dumps(names, indent=1) + "\n").encode(), **files}
 
 
@@ -213,6 +216,13 @@ def one_file(module, made_of):
     return page.encode()
 
 
+def gaps():
+    """What the lessons lack, a line each."""
+    where = {"story": "examples/README.md", "question": "page/lessons.txt", "answer": "page/lessons.txt"}
+    taught = json.loads(examples()["examples.json"])["lessons"]
+    return [f"{it['mode']} {it['name']} has no {part} in {file}" for it in taught for part, file in where.items() if not it[part]]
+
+
 def wrongs():
     """What is wrong with the page that stands there, a line each."""
     if not has(SHIPPED):
@@ -220,7 +230,7 @@ def wrongs():
     stands, kept, made = read(SHIPPED), shipped(), built()
     if kept is None:
         return [f"page/{SHIPPED} has no module, or does not say what it was made of: run page/build"]
-    lines, module = [], kept[0]
+    lines, module = gaps(), kept[0]
     if sources_sum() not in kept[1]:
         lines.append(f"page/{SHIPPED} was made of other crates ({kept[1]}; here {sources_sum()}): run page/build")
     if made and made[0] != module:
