@@ -30,6 +30,8 @@ pub enum TakeReply {
 }
 
 /// What a take of several items was answered.
+///
+/// In use: the answer of `ring_seats::take_all_open`.
 #[derive(Clone, Copy, PartialEq, Eq, Debug)]
 pub enum TakeBatchReply {
     /// So many items were taken, which [`Consumer::items`] tells.
@@ -42,6 +44,8 @@ pub enum TakeBatchReply {
 
 /// How many items a consumer that has taken `k` takes of at most so many, where the producer's count `c` shows some: those
 /// that it shows, or as many as are wanted. Both are below the modulus.
+///
+/// In use: `ring_seats::take_all_open`.
 #[inline(always)]
 pub fn items_shown(shape: &Shape, c: u64, k: u64, wanted: usize) -> usize
     requires c { c < modulus_of shape.now }

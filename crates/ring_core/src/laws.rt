@@ -200,13 +200,15 @@ pub fn has_a_run()
 ///   overlap;
 /// - `cells`: no write of a digit of a cell overlaps a read of a digit of that cell;
 /// - `prefix`: the items taken are a prefix of the items put, at every moment;
-/// - `items`: a take whose word read has ended has the item put of its number;
-/// - `empty`: where a take began that found the ring empty, takes that had ended had taken as many items as puts had
-///   stored that had ended, and no write of the close bit had ended;
+/// - `items`: a word read of a take that has ended has the item put of its number;
+/// - `empty`: where a take began that found the ring empty, takes that had ended had taken at least as many items as puts
+///   had stored that had ended, and no write of the close bit had ended;
 /// - `full`: where a put began that found the ring full, the items stored before it, less those of takes that had
 ///   ended, are at least the capacity;
 /// - `fill`: where a put began that fills all the room its scan left, the items stored up to and with it, less those of
 ///   takes that had ended, are at least the capacity;
+/// - `drain`: where a take began that takes all that its first scan showed, the items stored by puts that had ended are
+///   no more than those taken up to and with it;
 /// - `closed`: once the consumer was told that the ring is closed, the close has begun, behind all puts, and
 ///   every item of these puts was put and taken.
 ///
