@@ -92,7 +92,7 @@ export const titled = (lessons, step) => ({...step, title: lessons.find(it => it
 
 // The list of the steps of the course and of the lessons, by chapters, for a <select>.
 export function lessonOptions(lessons, course) {
-  const groups = new Map([["Course", Object.assign(document.createElement("optgroup"), {label: "Course, an hour"})]]);
+  const groups = new Map([["Course", Object.assign(document.createElement("optgroup"), {label: "Course, 50 minutes"})]]);
   const optionOf = ({title, name}, words, value) => Object.assign(new Option(words + title, value), {title: name});
   course.forEach((it, i) => groups.get("Course").append(optionOf(titled(lessons, it), `${i + 1}. `, `course ${i}`)));
   for (const it of lessons) {
