@@ -503,7 +503,8 @@ async function start() {
     }, nameOf: () => page.example || "recording"});
   } catch (error) {
     $("bits").className = "refused";
-    const needs = error instanceof WebAssembly.CompileError ? " It needs 64-bit memory of WebAssembly: Chromium from 133, Firefox from 134." : "";
+    const old = error instanceof WebAssembly.CompileError, missing = /: 404$/.test(error.message);
+    const needs = old ? " It needs 64-bit memory of WebAssembly: Chromium from 133, Firefox from 134." : missing ? " Open lamport_ring.html, which has it in it." : "";
     $("bits").textContent = `The proved module does not run here: ${error.message}.${needs}`;
     $("picture").replaceChildren();
     document.title = "not run";
