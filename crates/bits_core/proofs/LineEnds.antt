@@ -12,7 +12,7 @@ use Rattle.bits_core.specs.declared.events.Bit.TheVariants.{S, R, X, Cell}
 use Rattle.bits_core.specs.declared.events.Act.{Act}
 use Rattle.bits_core.specs.declared.events.Act.TheVariants.{ReadBegin, ReadEnd, WriteBegin, WriteEnd}
 use Rattle.bits_core.specs.declared.events.Event.{Event}
-use Rattle.bits_core.specs.TraceText.{side_text, act_text, bit_text, value_text, batch_text, event_line, shape_line}
+use Rattle.bits_core.specs.TraceText.{side_text, act_text, bit_text, value_text, batch_text, batches_text, event_line, shape_line}
 use Rattle.bits_core.specs.TraceLines.{IsFeedless, EndsAtFeed, IsShortLine}
 use Rattle.bits_core.proofs.TraceFields.{HasIndices}
 
@@ -59,7 +59,7 @@ part_then a b m n x y = record {
 }
 
 -- the line of parts that are short together
-line_of : (text : List ℕ) (most : ℕ) → IsPart text most → most < 26 → IsShortLine (text ++ 10 ∷ [])
+line_of : (text : List ℕ) (most : ℕ) → IsPart text most → most < 31 → IsShortLine (text ++ 10 ∷ [])
 line_of text most part short = record {
   ends = record { front = text; text = refl; feedless = part.feedless };
   short = omega (arith, part.short, short);
@@ -119,21 +119,35 @@ batch_part batch small = elim (batch == 1) as (λ t. IsPart (cond t [] (codes " 
   | false ↦ part_then (codes " ") (decimal batch) 1 4 (text_part (codes " ") 1 refl (omega arith)) (short_part batch small)
 ]
 
-pub shape_line_ends : (capacity modulus width batch : ℕ) → capacity < 10000 → modulus < 10000 → width < 10000 → batch < 10000 → IsShortLine (shape_line capacity modulus width batch)
-shape_line_ends c m w g small_c small_m small_w small_g =
+batches_part : (batch take_batch : ℕ) → batch < 10000 → take_batch < 10000 → IsPart (batches_text batch take_batch) 10
+unfolding batches_text
+batches_part batch take_batch small small_take =
+    elim (take_batch == 1) as (λ t. IsPart (cond t (batch_text batch) (codes " " ++ (decimal batch ++ (codes " " ++ decimal take_batch)))) 10) [
+      | true ↦ record { feedless = (batch_part batch small).feedless; short = omega (arith, (batch_part batch small).short) }
+      | false ↦
+          part_then (codes " ") (decimal batch ++ (codes " " ++ decimal take_batch)) 1 (4 + (1 + 4)) space
+          (part_then (decimal batch) (codes " " ++ decimal take_batch) 4 (1 + 4) (short_part batch small) (part_then (codes " ") (decimal take_batch) 1 4 space (short_part take_batch small_take)))
+    ]
+  where
+    space : IsPart (codes " ") 1
+    space = text_part (codes " ") 1 refl (omega arith)
+
+pub shape_line_ends : (capacity modulus width batch take_batch : ℕ) → capacity < 10000 → modulus < 10000 → width < 10000 → batch < 10000 → take_batch < 10000
+    → IsShortLine (shape_line capacity modulus width batch take_batch)
+shape_line_ends c m w g h small_c small_m small_w small_g small_h =
     let space : IsPart (codes " ") 1 = text_part (codes " ") 1 refl (omega arith) in
-    let from_width : List ℕ = decimal w ++ batch_text g in
+    let from_width : List ℕ = decimal w ++ batches_text g h in
     let from_modulus : List ℕ = decimal m ++ (codes " " ++ from_width) in
     let from_capacity : List ℕ = decimal c ++ (codes " " ++ from_modulus) in
-    let width_is : IsPart from_width (4 + 5) = part_then (decimal w) (batch_text g) 4 5 (short_part w small_w) (batch_part g small_g) in
-    let modulus_is : IsPart from_modulus (4 + (1 + (4 + 5))) =
-    part_then (decimal m) (codes " " ++ from_width) 4 (1 + (4 + 5)) (short_part m small_m) (part_then (codes " ") from_width 1 (4 + 5) space width_is) in
-    let capacity_is : IsPart from_capacity (4 + (1 + (4 + (1 + (4 + 5))))) =
-    part_then (decimal c) (codes " " ++ from_modulus) 4 (1 + (4 + (1 + (4 + 5)))) (short_part c small_c) (part_then (codes " ") from_modulus 1 (4 + (1 + (4 + 5))) space modulus_is) in
-    let all : IsPart (codes "shape " ++ from_capacity) (6 + (4 + (1 + (4 + (1 + (4 + 5)))))) =
-    part_then (codes "shape ") from_capacity 6 (4 + (1 + (4 + (1 + (4 + 5))))) (text_part (codes "shape ") 6 refl (omega arith)) capacity_is in
-    let whole : (codes "shape " ++ from_capacity) ++ 10 ∷ [] ≡ shape_line c m w g = simp append_assoc in
-    subst IsShortLine whole (line_of (codes "shape " ++ from_capacity) (6 + (4 + (1 + (4 + (1 + (4 + 5)))))) all (omega arith))
+    let width_is : IsPart from_width (4 + 10) = part_then (decimal w) (batches_text g h) 4 10 (short_part w small_w) (batches_part g h small_g small_h) in
+    let modulus_is : IsPart from_modulus (4 + (1 + (4 + 10))) =
+    part_then (decimal m) (codes " " ++ from_width) 4 (1 + (4 + 10)) (short_part m small_m) (part_then (codes " ") from_width 1 (4 + 10) space width_is) in
+    let capacity_is : IsPart from_capacity (4 + (1 + (4 + (1 + (4 + 10))))) =
+    part_then (decimal c) (codes " " ++ from_modulus) 4 (1 + (4 + (1 + (4 + 10)))) (short_part c small_c) (part_then (codes " ") from_modulus 1 (4 + (1 + (4 + 10))) space modulus_is) in
+    let all : IsPart (codes "shape " ++ from_capacity) (6 + (4 + (1 + (4 + (1 + (4 + 10)))))) =
+    part_then (codes "shape ") from_capacity 6 (4 + (1 + (4 + (1 + (4 + 10))))) (text_part (codes "shape ") 6 refl (omega arith)) capacity_is in
+    let whole : (codes "shape " ++ from_capacity) ++ 10 ∷ [] ≡ shape_line c m w g h = simp append_assoc in
+    subst IsShortLine whole (line_of (codes "shape " ++ from_capacity) (6 + (4 + (1 + (4 + (1 + (4 + 10)))))) all (omega arith))
 
 -- ---- bytes that begin with a line
 
@@ -171,7 +185,7 @@ line_before_more bytes front behind more line rest text none is e =
     text ∙ ap (λ (t : List ℕ). t ++ 10 ∷ behind) same.0 ∙ sym (line_parts line behind is)
 
 -- as many bytes with no line feed as the longest line has begin with no line, whatever comes behind them
-pub too_long_a_line : (bytes more line rest : List ℕ) → IsFeedless bytes → 26 ≤ length bytes → IsShortLine line → bytes ++ more ≢ line ++ rest
+pub too_long_a_line : (bytes more line rest : List ℕ) → IsFeedless bytes → 31 ≤ length bytes → IsShortLine line → bytes ++ more ≢ line ++ rest
 too_long_a_line bytes more line rest none long is e = feed_behind bytes is.ends.front more rest none (omega (arith, long, is.short)) (e ∙ line_parts line rest is.ends)
 
 -- nor do bytes with no line feed by themselves

@@ -9,7 +9,7 @@ use Rattle.bits_core.specs.declared.events.Event.{Event}
 use Rattle.bits_core.specs.declared.events.Side.{Side}
 use Rattle.bits_core.specs.declared.events.Side.TheVariants.{P, C}
 use Rattle.bits_core.specs.declared.shapes.Shape.{Shape}
-use Rattle.bits_core.specs.Shape.{batch_of, belongs, capacity_of, modulus_of, width_of}
+use Rattle.bits_core.specs.Shape.{batch_of, belongs, capacity_of, modulus_of, take_batch_of, width_of}
 use Rattle.bits_core.specs.TraceText.{act_text, bit_text, event_line, shape_line, side_text, trace_text, value_text}
 use Rattle.bits_core.specs.TraceReading.{event_at, shape_at}
 use Rattle.bits_core.specs.Trace.{AreOfShape, BeginsWithEvent, IsTraceAndMore, HasNoEvent, HasShapeLine}
@@ -28,15 +28,15 @@ other_event_read shape bytes f after read outside e rest begins =
     false≢true (sym outside ∙ ap (λ (x : Event × List ℕ). belongs shape x.0.bit) same ∙ begins.0)
 
 -- the line of numbers that stands at the front is read
-pub no_shape_read : (bytes : List ℕ) → shape_at bytes ≡ None → (capacity modulus width batch : ℕ) → ¬ HasShapeLine bytes capacity modulus width batch
-no_shape_read bytes none capacity modulus width batch line =
-    none-some _ (sym none ∙ ap shape_at line.text ∙ shape_at-again capacity modulus width batch line.rest line.short_capacity line.short_modulus line.short_width line.short_batch)
+pub no_shape_read : (bytes : List ℕ) → shape_at bytes ≡ None → (capacity modulus width batch take_batch : ℕ) → ¬ HasShapeLine bytes capacity modulus width batch take_batch
+no_shape_read bytes none capacity modulus width batch take_batch line =
+    none-some _ (sym none ∙ ap shape_at line.text ∙ shape_at-again capacity modulus width batch take_batch line.rest line.short_capacity line.short_modulus line.short_width line.short_batch line.short_take_batch)
 
 -- one event more
 pub text_more : (shape : Shape) (events : List Event) (e : Event) (bytes rest others : List ℕ) → bytes ≡ trace_text shape events ++ rest → rest ≡ event_line e ++ others
     → bytes ≡ trace_text shape (events ++ e ∷ []) ++ others
 text_more shape events e bytes rest others text begins =
-    let line : List ℕ = shape_line (capacity_of shape) (modulus_of shape) (width_of shape) (batch_of shape) in
+    let line : List ℕ = shape_line (capacity_of shape) (modulus_of shape) (width_of shape) (batch_of shape) (take_batch_of shape) in
     text ∙ ap (λ (t : List ℕ). trace_text shape events ++ t) begins ∙ sym (append_assoc (trace_text shape events) (event_line e) others)
     ∙ ap (λ (t : List ℕ). t ++ others) (flat_map_more event_line line events e)
 

@@ -1,5 +1,5 @@
 -- The lines of a trace: what is read stands at the front, and what stands there is read again.
-use Rattle.std.proofs.Common.{◌≡◌, ℕ, ◌<◌, true, false, cond, Some, None, List, [], ◌++◌, refl, ap, sym, subst, ◌∙◌, append_assoc, inl, inr, arith}
+use Rattle.std.proofs.Common.{◌≡◌, ◌⊎◌, ℕ, ◌<◌, true, false, cond, Some, None, List, [], ◌++◌, refl, ap, sym, subst, ◌∙◌, append_assoc, inl, inr, arith}
 use Rattle.std.specs.Prelude.{◌==◌, codes, decimal, nat_lt}
 use Rattle.std.proofs.lemmas.Bool.{and_parts, eqb-true, ltb-true}
 use Rattle.std.proofs.lemmas.Option.{none-some, same_Some}
@@ -12,10 +12,10 @@ use Rattle.bits_core.specs.declared.reading.Numbers.{Numbers}
 use Rattle.bits_core.specs.declared.reading.Word.{Word}
 use Rattle.bits_core.specs.declared.shapes.Shape.{Shape}
 use Rattle.bits_core.specs.declared.shapes.ShapeFault.{ShapeFault}
-use Rattle.bits_core.specs.Shape.{HasBatch, IsRefusedBatch, belongs, capacity_of, modulus_of, width_of}
+use Rattle.bits_core.specs.Shape.{HasBatches, IsRefusedBatches, batch_of, belongs, capacity_of, modulus_of, width_of}
 use Rattle.bits_core.specs.Trace.{BeginsWithShape, HasBadShape}
-use Rattle.bits_core.specs.TraceText.{side_text, act_text, bit_text, value_text, batch_text, event_line, shape_line}
-use Rattle.bits_core.specs.TraceReading.{after, named, side_at, word_at, bit_at, act_at, number_at, batch_at, event_at, shape_at}
+use Rattle.bits_core.specs.TraceText.{side_text, act_text, bit_text, value_text, batch_text, batches_text, event_line, shape_line}
+use Rattle.bits_core.specs.TraceReading.{◌>>=◌, after, named, side_at, word_at, bit_at, act_at, number_at, take_batch_at, batches_at, event_at, shape_at}
 use Rattle.bits_core.proofs.Digits.{EndsDigits, number_at-text, number_at-decimal}
 use Rattle.bits_core.proofs.TraceFields.{Begins, HasIndices, bind_some, or_else_some, after-text, named-text, side_at-text, side_at-again, word_text, word_of, act_word, word_at-text, word_at-again, bit_at-text, bit_at-again, act_at-text, act_at-again, value_ends}
 
@@ -68,78 +68,160 @@ small_indices shape (Cell j i) e =
 
 -- ---- the line of a shape
 
--- the batch, and the end of the line
-abbrev batch_end : ℕ → List ℕ → List ℕ
-batch_end batch rest = batch_text batch ++ (codes "\n" ++ rest)
+-- both batches, and the end of the line
+abbrev batches_end : ℕ → ℕ → List ℕ → List ℕ
+batches_end batch take_batch rest = batches_text batch take_batch ++ (codes "\n" ++ rest)
 
-record BeginsBatch (bytes : List ℕ) (x : ℕ × List ℕ) : Type 0 where
-  pub text : bytes ≡ batch_end x.0 x.1
-  pub short : x.0 < 10000
+record BeginsBatches (bytes : List ℕ) (x : (ℕ × ℕ) × List ℕ) : Type 0 where
+  pub text : bytes ≡ batches_end x.0.0 x.0.1 x.1
+  pub short : x.0.0 < 10000
+  pub short_take : x.0.1 < 10000
 
 -- a batch other than 1 is written
 batch_text-other : (batch : ℕ) → (batch == 1) ≡ false → batch_text batch ≡ codes " " ++ decimal batch
 unfolding batch_text
 batch_text-other batch other = rw other refl
 
-batch_at-text : (bytes : List ℕ) (x : ℕ × List ℕ) → batch_at bytes ≡ Some x → BeginsBatch bytes x
-unfolding batch_at batch_text
-batch_at-text bytes x e =
-    elim (or_else_some (named 1 (codes "\n") bytes) _ x e) [
+-- the text of both batches, by whether the take batch is 1
+batches_text-single : (batch : ℕ) → batches_text batch 1 ≡ batch_text batch
+unfolding batches_text
+batches_text-single batch = refl
+
+batches_text-other : (batch take_batch : ℕ) → (take_batch == 1) ≡ false → batches_text batch take_batch ≡ codes " " ++ (decimal batch ++ (codes " " ++ decimal take_batch))
+unfolding batches_text
+batches_text-other batch take_batch other = rw other refl
+
+-- what stands behind the batch, where that is written
+TakePart : ℕ → List ℕ → ℕ × List ℕ → Type 0
+TakePart batch bytes x =
+    ((x.0 ≡ 1) × ((batch == 1) ≡ false) × (bytes ≡ codes "\n" ++ x.1)) ⊎ (((x.0 == 1) ≡ false) × (x.0 < 10000) × (bytes ≡ codes " " ++ (decimal x.0 ++ (codes "\n" ++ x.1))))
+
+take_batch_at-text : (batch : ℕ) (bytes : List ℕ) (x : ℕ × List ℕ) → take_batch_at batch bytes ≡ Some x → TakePart batch bytes x
+unfolding take_batch_at TakePart
+take_batch_at-text batch bytes x e =
+    elim (or_else_some (after (codes "\n") bytes >>= λ rest. cond (batch == 1) None (Some (1, rest))) _ x e) [
       | inl k ↦
-          let n = named-text 1 (codes "\n") bytes x k in
-          record { text = n.1 ∙ ap (λ (g : ℕ). batch_end g x.1) n.0; short = subst (λ (g : ℕ). g < 10000) n.0 (omega arith) }
+          let p = bind_some (after (codes "\n") bytes) _ x k in
+          inl (single p.0 (after-text (codes "\n") bytes p.0 p.1) p.2)
       | inr k ↦
           let p = bind_some (after (codes " ") bytes) _ x k in
           let g = bind_some (number_at p.0) _ x p.2 in
           let l = bind_some (after (codes "\n") g.0.1) _ x g.2 in
-          other_than_1 p.0 g.0.0 g.0.1 l.0 (after-text (codes " ") bytes p.0 p.1) (number_at-text p.0 g.0 g.1) (after-text (codes "\n") g.0.1 l.0 l.1) l.2
+          inr (other_than_1 p.0 g.0.0 g.0.1 l.0 (after-text (codes " ") bytes p.0 p.1) (number_at-text p.0 g.0 g.1) (after-text (codes "\n") g.0.1 l.0 l.1) l.2)
     ]
   where
-    other_than_1 : (r1 : List ℕ) (g : ℕ) (r2 rest : List ℕ) → bytes ≡ codes " " ++ r1 → (r1 ≡ decimal g ++ r2) × (g < 10000) → r2 ≡ codes "\n" ++ rest
-        → cond (g == 1) None (Some (g, rest)) ≡ Some x → BeginsBatch bytes x
-    other_than_1 r1 g r2 rest e1 e2 e3 e4 = elim (g == 1) as (λ t. (g == 1) ≡ t → cond t None (Some (g, rest)) ≡ Some x → BeginsBatch bytes x) [
+    single : (rest : List ℕ) → bytes ≡ codes "\n" ++ rest → cond (batch == 1) None (Some (1, rest)) ≡ Some x → (x.0 ≡ 1) × ((batch == 1) ≡ false) × (bytes ≡ codes "\n" ++ x.1)
+    single rest text k0 = elim (batch == 1) as (λ t. (batch == 1) ≡ t → cond t None (Some (1, rest)) ≡ Some x → (x.0 ≡ 1) × ((batch == 1) ≡ false) × (bytes ≡ codes "\n" ++ x.1)) [
       | true ↦ λ _ k. absurd (none-some x k)
-      | false ↦ λ t k. subst (λ (y : ℕ × List ℕ). BeginsBatch bytes y) (same_Some (g, rest) x k) (record {
-        text = e1 ∙ ap (λ (r : List ℕ). codes " " ++ r) (e2.0 ∙ ap (λ (r : List ℕ). decimal g ++ r) e3) ∙ sym (append_assoc (codes " ") (decimal g) (codes "\n" ++ rest))
-            ∙ ap (λ (r : List ℕ). r ++ (codes "\n" ++ rest)) (sym (batch_text-other g t));
-        short = e2.1;
-      })
-    ] refl e4
+      | false ↦ λ t k.
+          let same : (1, rest) ≡ x = same_Some (1, rest) x k in
+          (sym (ap (λ (y : ℕ × List ℕ). y.0) same), t, text ∙ ap (λ (y : ℕ × List ℕ). codes "\n" ++ y.1) same)
+    ] refl k0
+    other_than_1 : (r1 : List ℕ) (g : ℕ) (r2 rest : List ℕ) → bytes ≡ codes " " ++ r1 → (r1 ≡ decimal g ++ r2) × (g < 10000) → r2 ≡ codes "\n" ++ rest
+        → cond (g == 1) None (Some (g, rest)) ≡ Some x → ((x.0 == 1) ≡ false) × (x.0 < 10000) × (bytes ≡ codes " " ++ (decimal x.0 ++ (codes "\n" ++ x.1)))
+    other_than_1 r1 g r2 rest e1 e2 e3 e4 =
+        elim (g == 1) as (λ t. (g == 1) ≡ t → cond t None (Some (g, rest)) ≡ Some x → ((x.0 == 1) ≡ false) × (x.0 < 10000) × (bytes ≡ codes " " ++ (decimal x.0 ++ (codes "\n" ++ x.1)))) [
+          | true ↦ λ _ k. absurd (none-some x k)
+          | false ↦ λ t k.
+              subst (λ (y : ℕ × List ℕ). ((y.0 == 1) ≡ false) × (y.0 < 10000) × (bytes ≡ codes " " ++ (decimal y.0 ++ (codes "\n" ++ y.1)))) (same_Some (g, rest) x k)
+              (t, e2.1, e1 ∙ ap (λ (r : List ℕ). codes " " ++ r) (e2.0 ∙ ap (λ (r : List ℕ). decimal g ++ r) e3))
+        ] refl e4
 
-batch_at-again : (batch : ℕ) (rest : List ℕ) → batch < 10000 → batch_at (batch_end batch rest) ≡ Some (batch, rest)
-unfolding batch_at batch_text
-batch_at-again batch rest short = elim (batch == 1) as (λ t. (batch == 1) ≡ t → batch_at (batch_end batch rest) ≡ Some (batch, rest)) [
-  | true ↦ λ t. subst (λ (g : ℕ). batch_at (batch_end g rest) ≡ Some (g, rest)) (sym (eqb-true batch 1 t)) refl
-  | false ↦ λ t. ap batch_at (ap (λ (r : List ℕ). r ++ (codes "\n" ++ rest)) (batch_text-other batch t)) ∙ rw (number_at-decimal batch (codes "\n" ++ rest) short refl, t) refl
-] refl
+batches_at-text : (bytes : List ℕ) (x : (ℕ × ℕ) × List ℕ) → batches_at bytes ≡ Some x → BeginsBatches bytes x
+unfolding batches_at batch_text batches_text TakePart
+batches_at-text bytes x e =
+    elim (or_else_some (named (1, 1) (codes "\n") bytes) _ x e) [
+      | inl k ↦
+          let n = named-text (1, 1) (codes "\n") bytes x k in
+          subst (λ (y : (ℕ × ℕ) × List ℕ). BeginsBatches bytes y) (ap (λ (y : ℕ × ℕ). (y, x.1)) n.0) (record { text = n.1; short = omega arith; short_take = omega arith })
+      | inr k ↦
+          let p = bind_some (after (codes " ") bytes) _ x k in
+          let g = bind_some (number_at p.0) _ x p.2 in
+          let h = bind_some (take_batch_at g.0.0 g.0.1) _ x g.2 in
+          subst (λ (y : (ℕ × ℕ) × List ℕ). BeginsBatches bytes y) (same_Some ((g.0.0, h.0.0), h.0.1) x h.2)
+          (both p.0 g.0.0 g.0.1 h.0 (after-text (codes " ") bytes p.0 p.1) (number_at-text p.0 g.0 g.1) (take_batch_at-text g.0.0 g.0.1 h.0 h.1))
+    ]
+  where
+    both : (r1 : List ℕ) (g : ℕ) (r2 : List ℕ) (h : ℕ × List ℕ) → bytes ≡ codes " " ++ r1 → (r1 ≡ decimal g ++ r2) × (g < 10000) → TakePart g r2 h → BeginsBatches bytes ((g, h.0), h.1)
+    both r1 g r2 h e1 e2 (inl single) = record {
+      text = e1 ∙ ap (λ (r : List ℕ). codes " " ++ r) (e2.0 ∙ ap (λ (r : List ℕ). decimal g ++ r) single.2) ∙ sym (append_assoc (codes " ") (decimal g) (codes "\n" ++ h.1))
+          ∙ ap (λ (r : List ℕ). r ++ (codes "\n" ++ h.1)) (sym (batches_text-single g ∙ batch_text-other g single.1))
+          ∙ ap (λ (k : ℕ). batches_end g k h.1) (sym single.0);
+      short = e2.1;
+      short_take = omega (arith, single.0);
+    }
+    both r1 g r2 h e1 e2 (inr other) = record {
+      text = e1 ∙ ap (λ (r : List ℕ). codes " " ++ r) (e2.0 ∙ ap (λ (r : List ℕ). decimal g ++ r) other.2) ∙ joined g h.0 h.1
+          ∙ ap (λ (r : List ℕ). r ++ (codes "\n" ++ h.1)) (sym (batches_text-other g h.0 other.0));
+      short = e2.1;
+      short_take = other.1;
+    }
+      where
+        joined : (g h : ℕ) (rest : List ℕ) → codes " " ++ (decimal g ++ (codes " " ++ (decimal h ++ (codes "\n" ++ rest)))) ≡ (codes " " ++ (decimal g ++ (codes " " ++ decimal h))) ++ (codes "\n" ++ rest)
+        joined g h rest = simp append_assoc
+
+-- the number of a take batch that is not 1 is read behind a batch
+take_batch_at-other : (batch take_batch : ℕ) (rest : List ℕ) → take_batch < 10000 → (take_batch == 1) ≡ false
+    → take_batch_at batch (codes " " ++ (decimal take_batch ++ (codes "\n" ++ rest))) ≡ Some (take_batch, rest)
+unfolding take_batch_at
+take_batch_at-other batch take_batch rest short other = rw (number_at-decimal take_batch (codes "\n" ++ rest) short refl, other) refl
+
+take_batch_at-single : (batch : ℕ) (rest : List ℕ) → (batch == 1) ≡ false → take_batch_at batch (codes "\n" ++ rest) ≡ Some (1, rest)
+unfolding take_batch_at
+take_batch_at-single batch rest other = rw other refl
+
+batches_at-again : (batch take_batch : ℕ) (rest : List ℕ) → batch < 10000 → take_batch < 10000 → batches_at (batches_end batch take_batch rest) ≡ Some ((batch, take_batch), rest)
+unfolding batches_at batch_text batches_text
+batches_at-again batch take_batch rest short short_take =
+    elim (take_batch == 1) as (λ t. (take_batch == 1) ≡ t → batches_at (batches_end batch take_batch rest) ≡ Some ((batch, take_batch), rest)) [
+      | true ↦ λ t. subst (λ (h : ℕ). batches_at (batches_end batch h rest) ≡ Some ((batch, h), rest)) (sym (eqb-true take_batch 1 t)) (one batch short)
+      | false ↦ λ t.
+          ap batches_at (ap (λ (r : List ℕ). r ++ (codes "\n" ++ rest)) (batches_text-other batch take_batch t) ∙ split batch take_batch)
+          ∙ rw (number_at-decimal batch (codes " " ++ (decimal take_batch ++ (codes "\n" ++ rest))) short refl, take_batch_at-other batch take_batch rest short_take t) refl
+    ] refl
+  where
+    split : (g h : ℕ) → (codes " " ++ (decimal g ++ (codes " " ++ decimal h))) ++ (codes "\n" ++ rest) ≡ codes " " ++ (decimal g ++ (codes " " ++ (decimal h ++ (codes "\n" ++ rest))))
+    split g h = simp append_assoc
+    one : (g : ℕ) → g < 10000 → batches_at (batches_end g 1 rest) ≡ Some ((g, 1), rest)
+    one g small = elim (g == 1) as (λ t. (g == 1) ≡ t → batches_at (batches_end g 1 rest) ≡ Some ((g, 1), rest)) [
+      | true ↦ λ t. subst (λ (k : ℕ). batches_at (batches_end k 1 rest) ≡ Some ((k, 1), rest)) (sym (eqb-true g 1 t)) refl
+      | false ↦ λ t.
+          ap batches_at (ap (λ (r : List ℕ). r ++ (codes "\n" ++ rest)) (batches_text-single g ∙ batch_text-other g t))
+          ∙ rw (number_at-decimal g (codes "\n" ++ rest) small refl, take_batch_at-single g rest t) refl
+    ] refl
 
 -- no digit stands where the width ends
-width_ends : (batch : ℕ) (rest : List ℕ) → EndsDigits (batch_end batch rest)
-unfolding batch_text
-width_ends batch rest = elim (batch == 1) as (λ t. EndsDigits (cond t [] (codes " " ++ decimal batch) ++ (codes "\n" ++ rest))) [
-  | true ↦ refl
-  | false ↦ refl
-]
+width_ends : (batch take_batch : ℕ) (rest : List ℕ) → EndsDigits (batches_end batch take_batch rest)
+unfolding batch_text batches_text
+width_ends batch take_batch rest =
+    elim (take_batch == 1) as (λ t. EndsDigits (cond t (batch_text batch) (codes " " ++ (decimal batch ++ (codes " " ++ decimal take_batch))) ++ (codes "\n" ++ rest))) [
+      | true ↦ elim (batch == 1) as (λ t. EndsDigits (cond t [] (codes " " ++ decimal batch) ++ (codes "\n" ++ rest))) [
+        | true ↦ refl
+        | false ↦ refl
+      ]
+      | false ↦ refl
+    ]
 
-parts_of_shape : (capacity modulus width batch : ℕ) (rest : List ℕ)
-    → shape_line capacity modulus width batch ++ rest ≡ codes "shape " ++ (decimal capacity ++ (codes " " ++ (decimal modulus ++ (codes " " ++ (decimal width ++ batch_end batch rest)))))
-parts_of_shape capacity modulus width batch rest = simp append_assoc
+parts_of_shape : (capacity modulus width batch take_batch : ℕ) (rest : List ℕ)
+    → shape_line capacity modulus width batch take_batch ++ rest ≡ codes "shape " ++ (decimal capacity ++ (codes " " ++ (decimal modulus ++ (codes " " ++ (decimal width ++ batches_end batch take_batch rest)))))
+parts_of_shape capacity modulus width batch take_batch rest = simp append_assoc
 
-shape_joined : (bytes r1 r2 r3 r4 r5 r6 rest : List ℕ) (capacity modulus width batch : ℕ)
-    → bytes ≡ codes "shape " ++ r1 → r1 ≡ decimal capacity ++ r2 → r2 ≡ codes " " ++ r3 → r3 ≡ decimal modulus ++ r4 → r4 ≡ codes " " ++ r5 → r5 ≡ decimal width ++ r6 → r6 ≡ batch_end batch rest
-    → bytes ≡ shape_line capacity modulus width batch ++ rest
-shape_joined bytes r1 r2 r3 r4 r5 r6 rest capacity modulus width batch e1 e2 e3 e4 e5 e6 e7 =
+shape_joined : (bytes r1 r2 r3 r4 r5 r6 rest : List ℕ) (capacity modulus width batch take_batch : ℕ)
+    → bytes ≡ codes "shape " ++ r1 → r1 ≡ decimal capacity ++ r2 → r2 ≡ codes " " ++ r3 → r3 ≡ decimal modulus ++ r4 → r4 ≡ codes " " ++ r5 → r5 ≡ decimal width ++ r6 → r6 ≡ batches_end batch take_batch rest
+    → bytes ≡ shape_line capacity modulus width batch take_batch ++ rest
+shape_joined bytes r1 r2 r3 r4 r5 r6 rest capacity modulus width batch take_batch e1 e2 e3 e4 e5 e6 e7 =
     e1 ∙ ap (λ (t : List ℕ). codes "shape " ++ t) (e2 ∙ ap (λ (t : List ℕ). decimal capacity ++ t) (e3 ∙ ap (λ (t : List ℕ). codes " " ++ t)
     (e4 ∙ ap (λ (t : List ℕ). decimal modulus ++ t) (e5 ∙ ap (λ (t : List ℕ). codes " " ++ t) (e6 ∙ ap (λ (t : List ℕ). decimal width ++ t) e7)))))
-    ∙ sym (parts_of_shape capacity modulus width batch rest)
+    ∙ sym (parts_of_shape capacity modulus width batch take_batch rest)
 
 -- the line of numbers of at most four digits
 pub record BeginsShape (bytes : List ℕ) (x : Numbers × List ℕ) : Type 0 where
-  pub text : bytes ≡ shape_line x.0.capacity x.0.modulus x.0.width x.0.batch ++ x.1
+  pub text : bytes ≡ shape_line x.0.capacity x.0.modulus x.0.width x.0.batch x.0.take_batch ++ x.1
   pub short_capacity : x.0.capacity < 10000
   pub short_modulus : x.0.modulus < 10000
   pub short_width : x.0.width < 10000
   pub short_batch : x.0.batch < 10000
+  pub short_take_batch : x.0.take_batch < 10000
 
 pub shape_at-text : (bytes : List ℕ) (x : Numbers × List ℕ) → shape_at bytes ≡ Some x → BeginsShape bytes x
 unfolding shape_at
@@ -150,47 +232,50 @@ shape_at-text bytes x e =
     let m = bind_some (number_at q.0) _ x q.2 in
     let r = bind_some (after (codes " ") m.0.1) _ x m.2 in
     let w = bind_some (number_at r.0) _ x r.2 in
-    let g = bind_some (batch_at w.0.1) _ x w.2 in
+    let g = bind_some (batches_at w.0.1) _ x w.2 in
     let capacity = number_at-text p.0 c.0 c.1 in
     let modulus = number_at-text q.0 m.0 m.1 in
     let width = number_at-text r.0 w.0 w.1 in
-    let batch = batch_at-text w.0.1 g.0 g.1 in
-    let made : Numbers = record { capacity = c.0.0; modulus = m.0.0; width = w.0.0; batch = g.0.0 } in
+    let batches = batches_at-text w.0.1 g.0 g.1 in
+    let made : Numbers = record { capacity = c.0.0; modulus = m.0.0; width = w.0.0; batch = g.0.0.0; take_batch = g.0.0.1 } in
     subst (λ (y : Numbers × List ℕ). BeginsShape bytes y) (same_Some (made, g.0.1) x g.2) (record {
-      text = shape_joined bytes p.0 c.0.1 q.0 m.0.1 r.0 w.0.1 g.0.1 c.0.0 m.0.0 w.0.0 g.0.0 (after-text (codes "shape ") bytes p.0 p.1) capacity.0
-          (after-text (codes " ") c.0.1 q.0 q.1) modulus.0 (after-text (codes " ") m.0.1 r.0 r.1) width.0 batch.text;
+      text = shape_joined bytes p.0 c.0.1 q.0 m.0.1 r.0 w.0.1 g.0.1 c.0.0 m.0.0 w.0.0 g.0.0.0 g.0.0.1 (after-text (codes "shape ") bytes p.0 p.1) capacity.0
+          (after-text (codes " ") c.0.1 q.0 q.1) modulus.0 (after-text (codes " ") m.0.1 r.0 r.1) width.0 batches.text;
       short_capacity = capacity.1;
       short_modulus = modulus.1;
       short_width = width.1;
-      short_batch = batch.short;
+      short_batch = batches.short;
+      short_take_batch = batches.short_take;
     })
 
-pub shape_at-again : (capacity modulus width batch : ℕ) (rest : List ℕ) → capacity < 10000 → modulus < 10000 → width < 10000 → batch < 10000
-    → shape_at (shape_line capacity modulus width batch ++ rest) ≡ Some (record { capacity = capacity; modulus = modulus; width = width; batch = batch }, rest)
+pub shape_at-again : (capacity modulus width batch take_batch : ℕ) (rest : List ℕ) → capacity < 10000 → modulus < 10000 → width < 10000 → batch < 10000 → take_batch < 10000
+    → shape_at (shape_line capacity modulus width batch take_batch ++ rest) ≡ Some (record { capacity = capacity; modulus = modulus; width = width; batch = batch; take_batch = take_batch }, rest)
 unfolding shape_at
-shape_at-again capacity modulus width batch rest short_capacity short_modulus short_width short_batch =
-    ap shape_at (parts_of_shape capacity modulus width batch rest)
+shape_at-again capacity modulus width batch take_batch rest short_capacity short_modulus short_width short_batch short_take_batch =
+    ap shape_at (parts_of_shape capacity modulus width batch take_batch rest)
     ∙ rw (
-      number_at-decimal capacity (codes " " ++ (decimal modulus ++ (codes " " ++ (decimal width ++ batch_end batch rest)))) short_capacity refl,
-      number_at-decimal modulus (codes " " ++ (decimal width ++ batch_end batch rest)) short_modulus refl,
-      number_at-decimal width (batch_end batch rest) short_width (width_ends batch rest),
-      batch_at-again batch rest short_batch,
+      number_at-decimal capacity (codes " " ++ (decimal modulus ++ (codes " " ++ (decimal width ++ batches_end batch take_batch rest)))) short_capacity refl,
+      number_at-decimal modulus (codes " " ++ (decimal width ++ batches_end batch take_batch rest)) short_modulus refl,
+      number_at-decimal width (batches_end batch take_batch rest) short_width (width_ends batch take_batch rest),
+      batches_at-again batch take_batch rest short_batch short_take_batch,
     ) refl
 
 -- the numbers of a line stand for those of a shape
-pub begins_numbers : (bytes rest : List ℕ) (n : Numbers) (shape : Shape) → BeginsShape bytes (n, rest) → HasBatch n.capacity n.modulus n.width n.batch shape → BeginsWithShape bytes shape rest
+pub begins_numbers : (bytes rest : List ℕ) (n : Numbers) (shape : Shape) → BeginsShape bytes (n, rest) → HasBatches n.capacity n.modulus n.width n.batch n.take_batch shape → BeginsWithShape bytes shape rest
 begins_numbers bytes rest n shape begins is =
-    begins.text ∙ ap (λ (k : ℕ). shape_line k n.modulus n.width n.batch ++ rest) (sym is.capacity_is)
-    ∙ ap (λ (k : ℕ). shape_line (capacity_of shape) k n.width n.batch ++ rest) (sym is.modulus_is)
-    ∙ ap (λ (k : ℕ). shape_line (capacity_of shape) (modulus_of shape) k n.batch ++ rest) (sym is.width_is)
-    ∙ ap (λ (k : ℕ). shape_line (capacity_of shape) (modulus_of shape) (width_of shape) k ++ rest) (sym is.batch_is)
+    begins.text ∙ ap (λ (k : ℕ). shape_line k n.modulus n.width n.batch n.take_batch ++ rest) (sym is.capacity_is)
+    ∙ ap (λ (k : ℕ). shape_line (capacity_of shape) k n.width n.batch n.take_batch ++ rest) (sym is.modulus_is)
+    ∙ ap (λ (k : ℕ). shape_line (capacity_of shape) (modulus_of shape) k n.batch n.take_batch ++ rest) (sym is.width_is)
+    ∙ ap (λ (k : ℕ). shape_line (capacity_of shape) (modulus_of shape) (width_of shape) k n.take_batch ++ rest) (sym is.batch_is)
+    ∙ ap (λ (k : ℕ). shape_line (capacity_of shape) (modulus_of shape) (width_of shape) (batch_of shape) k ++ rest) (sym is.take_batch_is)
 
-pub bad_numbers : (bytes rest : List ℕ) (n : Numbers) (fault : ShapeFault) → BeginsShape bytes (n, rest) → IsRefusedBatch n.capacity n.modulus n.width n.batch fault → HasBadShape bytes fault
+pub bad_numbers : (bytes rest : List ℕ) (n : Numbers) (fault : ShapeFault) → BeginsShape bytes (n, rest) → IsRefusedBatches n.capacity n.modulus n.width n.batch n.take_batch fault → HasBadShape bytes fault
 bad_numbers bytes rest n fault begins refused = record {
   capacity = n.capacity;
   modulus = n.modulus;
   width = n.width;
   batch = n.batch;
+  take_batch = n.take_batch;
   line = record {
     rest = rest;
     text = begins.text;
@@ -198,6 +283,7 @@ bad_numbers bytes rest n fault begins refused = record {
     short_modulus = begins.short_modulus;
     short_width = begins.short_width;
     short_batch = begins.short_batch;
+    short_take_batch = begins.short_take_batch;
   };
   refused = refused;
 }

@@ -10,10 +10,10 @@ use Rattle.bits_core.specs.declared.events.Event.{Event}
 use Rattle.bits_core.specs.declared.reading.Numbers.{Numbers}
 use Rattle.bits_core.specs.declared.shapes.Shape.{Shape}
 use Rattle.bits_core.specs.declared.shapes.ShapeFault.{ShapeFault}
-use Rattle.bits_core.specs.declared.shapes.ShapeFault.TheVariants.{Capacity, Modulus, Width, Batch}
+use Rattle.bits_core.specs.declared.shapes.ShapeFault.TheVariants.{Capacity, Modulus, Width, Batch, TakeBatch, ModulusOfBatches}
 use Rattle.bits_core.specs.declared.traces.TraceFault.{TraceFault}
 use Rattle.bits_core.specs.declared.traces.TraceFault.TheVariants.{BadShape, BadLine, TooLong, OutOfMemory}
-use Rattle.bits_core.specs.Shape.{IsRefusedBatch, batch_of, belongs, capacity_of, modulus_of, width_of}
+use Rattle.bits_core.specs.Shape.{IsRefusedBatches, batch_of, belongs, capacity_of, modulus_of, take_batch_of, width_of}
 use Rattle.bits_core.specs.TraceText.{event_line, shape_line, trace_text}
 use Rattle.bits_core.specs.TraceReading.{event_at, shape_at}
 use Rattle.bits_core.specs.Trace.{AreOfShape, BeginsWithMore, BeginsWithShape, IsTraceAndMore, HasMore, HasNoEvent, HasBadEventLine, HasBadLine, HasBadShape, HasShapeLine, IsTooLong, IsTrace, IsTraceFault, IsTraceText}
@@ -24,74 +24,102 @@ use Rattle.bits_core.proofs.TraceLemmas.{line_takes}
 -- ---- shapes
 
 -- shapes of the same numbers are one
-pub same_shape : (s t : Shape) → s.capacity ≡ t.capacity → s.modulus ≡ t.modulus → s.width ≡ t.width → s.batch ≡ t.batch → s ≡ t
-same_shape s t c m w b = λ i. record {
+pub same_shape : (s t : Shape) → s.capacity ≡ t.capacity → s.modulus ≡ t.modulus → s.width ≡ t.width → s.batch ≡ t.batch → s.take_batch ≡ t.take_batch → s ≡ t
+same_shape s t c m w b h = λ i. record {
   capacity = c i;
   modulus = m i;
   width = w i;
   batch = b i;
+  take_batch = h i;
   has_cells = is_prop→PathP (λ j. 0 < c j) (λ j. le_prop) s.has_cells t.has_cells i;
   few_cells = is_prop→PathP (λ j. c j ≤ 64) (λ j. le_prop) s.few_cells t.few_cells i;
   room_to_count = is_prop→PathP (λ j. c j + b j < m j) (λ j. le_prop) s.room_to_count t.room_to_count i;
+  room_to_take = is_prop→PathP (λ j. c j + h j < m j) (λ j. le_prop) s.room_to_take t.room_to_take i;
   small_modulus = is_prop→PathP (λ j. m j ≤ 256) (λ j. le_prop) s.small_modulus t.small_modulus i;
   has_digits = is_prop→PathP (λ j. 0 < w j) (λ j. le_prop) s.has_digits t.has_digits i;
   few_digits = is_prop→PathP (λ j. w j ≤ 64) (λ j. le_prop) s.few_digits t.few_digits i;
   has_batch = is_prop→PathP (λ j. 0 < b j) (λ j. le_prop) s.has_batch t.has_batch i;
   small_batch = is_prop→PathP (λ j. b j ≤ c j) (λ j. le_prop) s.small_batch t.small_batch i;
+  has_take_batch = is_prop→PathP (λ j. 0 < h j) (λ j. le_prop) s.has_take_batch t.has_take_batch i;
+  small_take_batch = is_prop→PathP (λ j. h j ≤ c j) (λ j. le_prop) s.small_take_batch t.small_take_batch i;
 }
 
 -- the numbers of a shape are not refused, and others for one cause
-not_refused : (s : Shape) (fault : ShapeFault) → ¬ IsRefusedBatch (capacity_of s) (modulus_of s) (width_of s) (batch_of s) fault
+not_refused : (s : Shape) (fault : ShapeFault) → ¬ IsRefusedBatches (capacity_of s) (modulus_of s) (width_of s) (batch_of s) (take_batch_of s) fault
 not_refused s Capacity refused = refused (s.has_cells, s.few_cells)
 not_refused s Batch refused = refused.1 (s.has_batch, s.small_batch)
-not_refused s Modulus refused = refused.2 (s.room_to_count, s.small_modulus)
-not_refused s Width refused = refused.3 (s.has_digits, s.few_digits)
+not_refused s TakeBatch refused = refused.2 (s.has_take_batch, s.small_take_batch)
+not_refused s Modulus refused = refused.2 ((s.room_to_count, s.small_modulus), (s.room_to_take, s.small_modulus))
+not_refused s ModulusOfBatches refused = refused.2 ((s.room_to_count, s.small_modulus), (s.room_to_take, s.small_modulus))
+not_refused s Width refused = refused.2 (s.has_digits, s.few_digits)
 
-one_refusal : (c m w g : ℕ) (e f : ShapeFault) → IsRefusedBatch c m w g e → IsRefusedBatch c m w g f → e ≡ f
-one_refusal c m w g Capacity Capacity a b = refl
-one_refusal c m w g Capacity Batch a b = absurd (a b.0)
-one_refusal c m w g Capacity Modulus a b = absurd (a b.0)
-one_refusal c m w g Capacity Width a b = absurd (a b.0)
-one_refusal c m w g Batch Capacity a b = absurd (b a.0)
-one_refusal c m w g Batch Batch a b = refl
-one_refusal c m w g Batch Modulus a b = absurd (a.1 b.1)
-one_refusal c m w g Batch Width a b = absurd (a.1 b.1)
-one_refusal c m w g Modulus Capacity a b = absurd (b a.0)
-one_refusal c m w g Modulus Batch a b = absurd (b.1 a.1)
-one_refusal c m w g Modulus Modulus a b = refl
-one_refusal c m w g Modulus Width a b = absurd (a.2 b.2)
-one_refusal c m w g Width Capacity a b = absurd (b a.0)
-one_refusal c m w g Width Batch a b = absurd (b.1 a.1)
-one_refusal c m w g Width Modulus a b = absurd (b.2 a.2)
-one_refusal c m w g Width Width a b = refl
+one_refusal : (c m w g h : ℕ) (e f : ShapeFault) → IsRefusedBatches c m w g h e → IsRefusedBatches c m w g h f → e ≡ f
+one_refusal c m w g h Capacity Capacity a b = refl
+one_refusal c m w g h Capacity Batch a b = absurd (a b.0)
+one_refusal c m w g h Capacity TakeBatch a b = absurd (a b.0)
+one_refusal c m w g h Capacity Modulus a b = absurd (a b.0.0)
+one_refusal c m w g h Capacity ModulusOfBatches a b = absurd (a b.0.0)
+one_refusal c m w g h Capacity Width a b = absurd (a b.0.0)
+one_refusal c m w g h Batch Capacity a b = absurd (b a.0)
+one_refusal c m w g h Batch Batch a b = refl
+one_refusal c m w g h Batch TakeBatch a b = absurd (a.1 b.1)
+one_refusal c m w g h Batch Modulus a b = absurd (a.1 b.0.1)
+one_refusal c m w g h Batch ModulusOfBatches a b = absurd (a.1 b.0.1)
+one_refusal c m w g h Batch Width a b = absurd (a.1 b.0.1)
+one_refusal c m w g h TakeBatch Capacity a b = absurd (b a.0)
+one_refusal c m w g h TakeBatch Batch a b = absurd (b.1 a.1)
+one_refusal c m w g h TakeBatch TakeBatch a b = refl
+one_refusal c m w g h TakeBatch Modulus a b = absurd (a.2 b.0.2)
+one_refusal c m w g h TakeBatch ModulusOfBatches a b = absurd (a.2 b.0.2)
+one_refusal c m w g h TakeBatch Width a b = absurd (a.2 b.0.2)
+one_refusal c m w g h Modulus Capacity a b = absurd (b a.0.0)
+one_refusal c m w g h Modulus Batch a b = absurd (b.1 a.0.1)
+one_refusal c m w g h Modulus TakeBatch a b = absurd (b.2 a.0.2)
+one_refusal c m w g h Modulus Modulus a b = refl
+one_refusal c m w g h Modulus ModulusOfBatches a b = absurd (omega (arith, a.1, b.1))
+one_refusal c m w g h Modulus Width a b = absurd (a.2 b.1)
+one_refusal c m w g h ModulusOfBatches Capacity a b = absurd (b a.0.0)
+one_refusal c m w g h ModulusOfBatches Batch a b = absurd (b.1 a.0.1)
+one_refusal c m w g h ModulusOfBatches TakeBatch a b = absurd (b.2 a.0.2)
+one_refusal c m w g h ModulusOfBatches Modulus a b = absurd (omega (arith, a.1, b.1))
+one_refusal c m w g h ModulusOfBatches ModulusOfBatches a b = refl
+one_refusal c m w g h ModulusOfBatches Width a b = absurd (a.2 b.1)
+one_refusal c m w g h Width Capacity a b = absurd (b a.0.0)
+one_refusal c m w g h Width Batch a b = absurd (b.1 a.0.1)
+one_refusal c m w g h Width TakeBatch a b = absurd (b.2 a.0.2)
+one_refusal c m w g h Width Modulus a b = absurd (b.2 a.1)
+one_refusal c m w g h Width ModulusOfBatches a b = absurd (b.2 a.1)
+one_refusal c m w g h Width Width a b = refl
 
 -- ---- the first line
 
 -- two lines of numbers at the front of the same bytes
-pub record SameLine (c m w g c' m' w' g' : ℕ) (rest rest' : List ℕ) : Type 0 where
+pub record SameLine (c m w g h c' m' w' g' h' : ℕ) (rest rest' : List ℕ) : Type 0 where
   pub capacity : c ≡ c'
   pub modulus : m ≡ m'
   pub width : w ≡ w'
   pub batch : g ≡ g'
+  pub take_batch : h ≡ h'
   pub others : rest ≡ rest'
 
-lines_agree : (bytes : List ℕ) (c m w g c' m' w' g' : ℕ) (a : HasShapeLine bytes c m w g) (b : HasShapeLine bytes c' m' w' g') → SameLine c m w g c' m' w' g' a.rest b.rest
-lines_agree bytes c m w g c' m' w' g' a b =
-    let p : Numbers × List ℕ = (record { capacity = c; modulus = m; width = w; batch = g }, a.rest) in
-    let q : Numbers × List ℕ = (record { capacity = c'; modulus = m'; width = w'; batch = g' }, b.rest) in
-    let read_a : shape_at bytes ≡ Some p = ap shape_at a.text ∙ shape_at-again c m w g a.rest a.short_capacity a.short_modulus a.short_width a.short_batch in
-    let read_b : shape_at bytes ≡ Some q = ap shape_at b.text ∙ shape_at-again c' m' w' g' b.rest b.short_capacity b.short_modulus b.short_width b.short_batch in
+lines_agree : (bytes : List ℕ) (c m w g h c' m' w' g' h' : ℕ) (a : HasShapeLine bytes c m w g h) (b : HasShapeLine bytes c' m' w' g' h') → SameLine c m w g h c' m' w' g' h' a.rest b.rest
+lines_agree bytes c m w g h c' m' w' g' h' a b =
+    let p : Numbers × List ℕ = (record { capacity = c; modulus = m; width = w; batch = g; take_batch = h }, a.rest) in
+    let q : Numbers × List ℕ = (record { capacity = c'; modulus = m'; width = w'; batch = g'; take_batch = h' }, b.rest) in
+    let read_a : shape_at bytes ≡ Some p = ap shape_at a.text ∙ shape_at-again c m w g h a.rest a.short_capacity a.short_modulus a.short_width a.short_batch a.short_take_batch in
+    let read_b : shape_at bytes ≡ Some q = ap shape_at b.text ∙ shape_at-again c' m' w' g' h' b.rest b.short_capacity b.short_modulus b.short_width b.short_batch b.short_take_batch in
     let same : p ≡ q = same_Some p q (sym read_a ∙ read_b) in
     record {
       capacity = ap (λ (x : Numbers × List ℕ). x.0.capacity) same;
       modulus = ap (λ (x : Numbers × List ℕ). x.0.modulus) same;
       width = ap (λ (x : Numbers × List ℕ). x.0.width) same;
       batch = ap (λ (x : Numbers × List ℕ). x.0.batch) same;
+      take_batch = ap (λ (x : Numbers × List ℕ). x.0.take_batch) same;
       others = ap (λ (x : Numbers × List ℕ). x.1) same;
     }
 
 -- the line of a shape is one of short numbers
-shape_has_line : (bytes : List ℕ) (s : Shape) (rest : List ℕ) → BeginsWithShape bytes s rest → HasShapeLine bytes (capacity_of s) (modulus_of s) (width_of s) (batch_of s)
+shape_has_line : (bytes : List ℕ) (s : Shape) (rest : List ℕ) → BeginsWithShape bytes s rest → HasShapeLine bytes (capacity_of s) (modulus_of s) (width_of s) (batch_of s) (take_batch_of s)
 shape_has_line bytes s rest begins = record {
   rest = rest;
   text = begins;
@@ -99,16 +127,18 @@ shape_has_line bytes s rest begins = record {
   short_modulus = omega (arith, s.small_modulus);
   short_width = omega (arith, s.few_digits);
   short_batch = omega (arith, s.few_cells, s.small_batch);
+  short_take_batch = omega (arith, s.few_cells, s.small_take_batch);
 }
 
 shape_not_bad : (bytes : List ℕ) (s : Shape) (rest : List ℕ) (fault : ShapeFault) → BeginsWithShape bytes s rest → ¬ HasBadShape bytes fault
 unfolding shape_has_line
 shape_not_bad bytes s rest fault begins bad =
-    let same = lines_agree bytes bad.capacity bad.modulus bad.width bad.batch (capacity_of s) (modulus_of s) (width_of s) (batch_of s) bad.line (shape_has_line bytes s rest begins) in
-    let r1 = subst (λ (n : ℕ). IsRefusedBatch n bad.modulus bad.width bad.batch fault) same.capacity bad.refused in
-    let r2 = subst (λ (n : ℕ). IsRefusedBatch (capacity_of s) n bad.width bad.batch fault) same.modulus r1 in
-    let r3 = subst (λ (n : ℕ). IsRefusedBatch (capacity_of s) (modulus_of s) n bad.batch fault) same.width r2 in
-    not_refused s fault (subst (λ (n : ℕ). IsRefusedBatch (capacity_of s) (modulus_of s) (width_of s) n fault) same.batch r3)
+    let same = lines_agree bytes bad.capacity bad.modulus bad.width bad.batch bad.take_batch (capacity_of s) (modulus_of s) (width_of s) (batch_of s) (take_batch_of s) bad.line (shape_has_line bytes s rest begins) in
+    let r1 = subst (λ (n : ℕ). IsRefusedBatches n bad.modulus bad.width bad.batch bad.take_batch fault) same.capacity bad.refused in
+    let r2 = subst (λ (n : ℕ). IsRefusedBatches (capacity_of s) n bad.width bad.batch bad.take_batch fault) same.modulus r1 in
+    let r3 = subst (λ (n : ℕ). IsRefusedBatches (capacity_of s) (modulus_of s) n bad.batch bad.take_batch fault) same.width r2 in
+    let r4 = subst (λ (n : ℕ). IsRefusedBatches (capacity_of s) (modulus_of s) (width_of s) n bad.take_batch fault) same.batch r3 in
+    not_refused s fault (subst (λ (n : ℕ). IsRefusedBatches (capacity_of s) (modulus_of s) (width_of s) (batch_of s) n fault) same.take_batch r4)
 
 -- ---- the lines of events
 
@@ -145,8 +175,8 @@ compared s t (x ∷ es) (y ∷ fs) rest rest' of_s of_t e =
     ]
 
 -- the whole texts
-text_parts : (s : Shape) (es : List Event) (rest : List ℕ) → trace_text s es ++ rest ≡ shape_line (capacity_of s) (modulus_of s) (width_of s) (batch_of s) ++ (lines es ++ rest)
-text_parts s es rest = append_assoc (shape_line (capacity_of s) (modulus_of s) (width_of s) (batch_of s)) (lines es) rest
+text_parts : (s : Shape) (es : List Event) (rest : List ℕ) → trace_text s es ++ rest ≡ shape_line (capacity_of s) (modulus_of s) (width_of s) (batch_of s) (take_batch_of s) ++ (lines es ++ rest)
+text_parts s es rest = append_assoc (shape_line (capacity_of s) (modulus_of s) (width_of s) (batch_of s) (take_batch_of s)) (lines es) rest
 
 text_begins : (bytes : List ℕ) (s : Shape) (es : List Event) (rest : List ℕ) → bytes ≡ trace_text s es ++ rest → BeginsWithShape bytes s (lines es ++ rest)
 text_begins bytes s es rest e = e ∙ text_parts s es rest
@@ -174,9 +204,9 @@ unfolding shape_has_line
 agree bytes s t es fs rest rest' a b =
     let begins_a = text_begins bytes s es rest a.text in
     let begins_b = text_begins bytes t fs rest' b.text in
-    let same = lines_agree bytes (capacity_of s) (modulus_of s) (width_of s) (batch_of s) (capacity_of t) (modulus_of t) (width_of t) (batch_of t)
+    let same = lines_agree bytes (capacity_of s) (modulus_of s) (width_of s) (batch_of s) (take_batch_of s) (capacity_of t) (modulus_of t) (width_of t) (batch_of t) (take_batch_of t)
     (shape_has_line bytes s (lines es ++ rest) begins_a) (shape_has_line bytes t (lines fs ++ rest') begins_b) in
-    record { shape = same_shape s t same.capacity same.modulus same.width same.batch; events = compared s t es fs rest rest' a.each b.each same.others }
+    record { shape = same_shape s t same.capacity same.modulus same.width same.batch same.take_batch; events = compared s t es fs rest rest' a.each b.each same.others }
 
 some_line : (e : Event) (rest : List ℕ) → event_line e ++ rest ≢ []
 some_line e rest is = omega (arith, line_takes e rest, ap length is)
@@ -262,16 +292,17 @@ too_long_no_trace bytes t fs a b =
     more_is_left (x ∷ more) e none = omega arith
 
 -- the line of the shape that a fault further on comes after
-line_before : (bytes : List ℕ) (s : Shape) (es : List Event) (rest : List ℕ) → IsTraceAndMore bytes s es rest → HasShapeLine bytes (capacity_of s) (modulus_of s) (width_of s) (batch_of s)
+line_before : (bytes : List ℕ) (s : Shape) (es : List Event) (rest : List ℕ) → IsTraceAndMore bytes s es rest → HasShapeLine bytes (capacity_of s) (modulus_of s) (width_of s) (batch_of s) (take_batch_of s)
 line_before bytes s es rest g = shape_has_line bytes s (lines es ++ rest) (text_begins bytes s es rest g.text)
 
 bad_shape_once : (bytes : List ℕ) (f g : ShapeFault) → HasBadShape bytes f → HasBadShape bytes g → f ≡ g
 bad_shape_once bytes f g a b =
-    let same = lines_agree bytes a.capacity a.modulus a.width a.batch b.capacity b.modulus b.width b.batch a.line b.line in
-    let r1 = subst (λ (n : ℕ). IsRefusedBatch n a.modulus a.width a.batch f) same.capacity a.refused in
-    let r2 = subst (λ (n : ℕ). IsRefusedBatch b.capacity n a.width a.batch f) same.modulus r1 in
-    let r3 = subst (λ (n : ℕ). IsRefusedBatch b.capacity b.modulus n a.batch f) same.width r2 in
-    one_refusal b.capacity b.modulus b.width b.batch f g (subst (λ (n : ℕ). IsRefusedBatch b.capacity b.modulus b.width n f) same.batch r3) b.refused
+    let same = lines_agree bytes a.capacity a.modulus a.width a.batch a.take_batch b.capacity b.modulus b.width b.batch b.take_batch a.line b.line in
+    let r1 = subst (λ (n : ℕ). IsRefusedBatches n a.modulus a.width a.batch a.take_batch f) same.capacity a.refused in
+    let r2 = subst (λ (n : ℕ). IsRefusedBatches b.capacity n a.width a.batch a.take_batch f) same.modulus r1 in
+    let r3 = subst (λ (n : ℕ). IsRefusedBatches b.capacity b.modulus n a.batch a.take_batch f) same.width r2 in
+    let r4 = subst (λ (n : ℕ). IsRefusedBatches b.capacity b.modulus b.width n a.take_batch f) same.batch r3 in
+    one_refusal b.capacity b.modulus b.width b.batch b.take_batch f g (subst (λ (n : ℕ). IsRefusedBatches b.capacity b.modulus b.width b.batch n f) same.take_batch r4) b.refused
 
 bad_shape_stops : (bytes : List ℕ) (f : ShapeFault) (s : Shape) (es : List Event) (rest : List ℕ) → HasBadShape bytes f → ¬ IsTraceAndMore bytes s es rest
 bad_shape_stops bytes f s es rest a g = shape_not_bad bytes s (lines es ++ rest) f (text_begins bytes s es rest g.text) a
@@ -279,7 +310,7 @@ bad_shape_stops bytes f s es rest a g = shape_not_bad bytes s (lines es ++ rest)
 -- bytes with a fault are no trace
 pub faulty_is_no_trace : (bytes : List ℕ) (fault : TraceFault) (s : Shape) (es : List Event) → IsTraceFault bytes fault → ¬ IsTrace bytes s es
 faulty_is_no_trace bytes (BadShape f) s es fault trace = shape_not_bad bytes s (lines es) f trace.text fault
-faulty_is_no_trace bytes (BadLine n) s es (inl none) trace = none.1 (capacity_of s) (modulus_of s) (width_of s) (batch_of s) (shape_has_line bytes s (lines es) trace.text)
+faulty_is_no_trace bytes (BadLine n) s es (inl none) trace = none.1 (capacity_of s) (modulus_of s) (width_of s) (batch_of s) (take_batch_of s) (shape_has_line bytes s (lines es) trace.text)
 faulty_is_no_trace bytes (BadLine n) s es (inr bad) trace = bad_line_no_trace bytes n s es bad trace
 faulty_is_no_trace bytes TooLong s es fault trace = too_long_no_trace bytes s es fault trace
 faulty_is_no_trace bytes OutOfMemory s es fault trace = fault
@@ -307,7 +338,7 @@ bad_line_no_text bytes n t fs a b =
 -- bytes that are refused are none
 pub refused_is_no_text : RefusedIsNoText
 refused_is_no_text bytes (BadShape f) s es counted fault trace = shape_not_bad bytes s (lines es) f trace.text fault
-refused_is_no_text bytes (BadLine n) s es counted (inl none) trace = none.1 (capacity_of s) (modulus_of s) (width_of s) (batch_of s) (shape_has_line bytes s (lines es) trace.text)
+refused_is_no_text bytes (BadLine n) s es counted (inl none) trace = none.1 (capacity_of s) (modulus_of s) (width_of s) (batch_of s) (take_batch_of s) (shape_has_line bytes s (lines es) trace.text)
 refused_is_no_text bytes (BadLine n) s es counted (inr bad) trace = bad_line_no_text bytes n s es bad trace
 refused_is_no_text bytes TooLong s es counted fault trace = counted refl
 refused_is_no_text bytes OutOfMemory s es counted fault trace = fault
@@ -315,21 +346,21 @@ refused_is_no_text bytes OutOfMemory s es counted fault trace = fault
 -- bytes have one fault
 pub one_fault : (bytes : List ℕ) (f g : TraceFault) → IsTraceFault bytes f → IsTraceFault bytes g → f ≡ g
 one_fault bytes (BadShape f) (BadShape g) a b = ap BadShape (bad_shape_once bytes f g a b)
-one_fault bytes (BadShape f) (BadLine n) a (inl none) = absurd (none.1 a.capacity a.modulus a.width a.batch a.line)
+one_fault bytes (BadShape f) (BadLine n) a (inl none) = absurd (none.1 a.capacity a.modulus a.width a.batch a.take_batch a.line)
 one_fault bytes (BadShape f) (BadLine n) a (inr bad) = absurd (bad_shape_stops bytes f bad.shape bad.events bad.rest a bad.goes_on)
 one_fault bytes (BadShape f) TooLong a b = absurd (bad_shape_stops bytes f b.shape b.events b.rest a b.goes_on)
 one_fault bytes (BadShape f) OutOfMemory a b = absurd b
-one_fault bytes (BadLine n) (BadShape g) (inl none) b = absurd (none.1 b.capacity b.modulus b.width b.batch b.line)
+one_fault bytes (BadLine n) (BadShape g) (inl none) b = absurd (none.1 b.capacity b.modulus b.width b.batch b.take_batch b.line)
 one_fault bytes (BadLine n) (BadShape g) (inr bad) b = absurd (bad_shape_stops bytes g bad.shape bad.events bad.rest b bad.goes_on)
 one_fault bytes (BadLine n) (BadLine m) (inl none) (inl other) = ap BadLine (none.0 ∙ sym other.0)
-one_fault bytes (BadLine n) (BadLine m) (inl none) (inr bad) = absurd (none.1 _ _ _ _ (line_before bytes bad.shape bad.events bad.rest bad.goes_on))
-one_fault bytes (BadLine n) (BadLine m) (inr bad) (inl none) = absurd (none.1 _ _ _ _ (line_before bytes bad.shape bad.events bad.rest bad.goes_on))
+one_fault bytes (BadLine n) (BadLine m) (inl none) (inr bad) = absurd (none.1 _ _ _ _ _ (line_before bytes bad.shape bad.events bad.rest bad.goes_on))
+one_fault bytes (BadLine n) (BadLine m) (inr bad) (inl none) = absurd (none.1 _ _ _ _ _ (line_before bytes bad.shape bad.events bad.rest bad.goes_on))
 one_fault bytes (BadLine n) (BadLine m) (inr bad) (inr other) = ap BadLine (bad_line_once bytes n m bad other)
-one_fault bytes (BadLine n) TooLong (inl none) b = absurd (none.1 _ _ _ _ (line_before bytes b.shape b.events b.rest b.goes_on))
+one_fault bytes (BadLine n) TooLong (inl none) b = absurd (none.1 _ _ _ _ _ (line_before bytes b.shape b.events b.rest b.goes_on))
 one_fault bytes (BadLine n) TooLong (inr bad) b = absurd (bad_line_not_long bytes n bad b)
 one_fault bytes (BadLine n) OutOfMemory a b = absurd b
 one_fault bytes TooLong (BadShape g) a b = absurd (bad_shape_stops bytes g a.shape a.events a.rest b a.goes_on)
-one_fault bytes TooLong (BadLine m) a (inl none) = absurd (none.1 _ _ _ _ (line_before bytes a.shape a.events a.rest a.goes_on))
+one_fault bytes TooLong (BadLine m) a (inl none) = absurd (none.1 _ _ _ _ _ (line_before bytes a.shape a.events a.rest a.goes_on))
 one_fault bytes TooLong (BadLine m) a (inr bad) = absurd (bad_line_not_long bytes m bad a)
 one_fault bytes TooLong TooLong a b = refl
 one_fault bytes TooLong OutOfMemory a b = absurd b

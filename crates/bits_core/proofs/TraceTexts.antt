@@ -11,7 +11,7 @@ use Rattle.bits_core.specs.declared.shapes.ShapeFault.{ShapeFault}
 use Rattle.bits_core.specs.declared.trace_audits.Hearing.{Hearing}
 use Rattle.bits_core.specs.declared.traces.TraceFault.{TraceFault}
 use Rattle.bits_core.specs.declared.traces.TraceFault.TheVariants.{BadShape, BadLine, TooLong, OutOfMemory}
-use Rattle.bits_core.specs.Shape.{batch_of, belongs, capacity_of, modulus_of, width_of}
+use Rattle.bits_core.specs.Shape.{batch_of, belongs, capacity_of, modulus_of, take_batch_of, width_of}
 use Rattle.bits_core.specs.Trace.{HasBadShape, HasNoEvent, IsTraceText, RefusesTraceText}
 use Rattle.bits_core.specs.TraceAudits.{BeginsWithNoLine, EndedLines, HasEnded, HeardTrace, IsFaultBehind}
 use Rattle.bits_core.specs.TraceLines.{IsFeedless, EndsAtFeed}
@@ -29,41 +29,42 @@ many_bytes (e ∷ events) = omega (arith, many_bytes events, line_takes e (flat_
 some_byte : (t : List ℕ) → 0 < length (codes "shape " ++ t)
 some_byte t = omega arith
 
-shape_bytes : (c m w g : ℕ) → 0 < length (shape_line c m w g)
-shape_bytes c m w g = some_byte _
+shape_bytes : (c m w g h : ℕ) → 0 < length (shape_line c m w g h)
+shape_bytes c m w g h = some_byte _
 
 pub text_bytes : (text : List ℕ) (shape : Shape) (events : List Event) → IsTraceText text shape events → length events + 1 ≤ length text
 text_bytes text shape events is =
-    let line : List ℕ = shape_line (capacity_of shape) (modulus_of shape) (width_of shape) (batch_of shape) in
+    let line : List ℕ = shape_line (capacity_of shape) (modulus_of shape) (width_of shape) (batch_of shape) (take_batch_of shape) in
     let whole : length text ≡ length line + length (flat_map event_line events) = ap length is.text ∙ length-append line (flat_map event_line events) in
-    omega (arith, whole, many_bytes events, shape_bytes (capacity_of shape) (modulus_of shape) (width_of shape) (batch_of shape))
+    omega (arith, whole, many_bytes events, shape_bytes (capacity_of shape) (modulus_of shape) (width_of shape) (batch_of shape) (take_batch_of shape))
 
 -- ---- bytes that begin with no line
 
 pub no_line_more : (h : Option Hearing) (bytes line behind more : List ℕ) → EndsAtFeed line → bytes ≡ line ++ behind → BeginsWithNoLine h bytes → BeginsWithNoLine h (bytes ++ more)
-no_line_more None bytes line behind more ends text none = λ c m w g has.
+no_line_more None bytes line behind more ends text none = λ c m w g h has.
     let parts : bytes ≡ ends.front ++ 10 ∷ behind = text ∙ ap (λ (t : List ℕ). t ++ behind) ends.text ∙ append_assoc ends.front (10 ∷ []) behind in
-    none c m w g (record {
+    none c m w g h (record {
       rest = behind;
-      text = line_before_more bytes ends.front behind more (shape_line c m w g) has.rest parts ends.feedless (shape_line_ends c m w g has.short_capacity has.short_modulus has.short_width has.short_batch).ends has.text;
+      text = line_before_more bytes ends.front behind more (shape_line c m w g h) has.rest parts ends.feedless (shape_line_ends c m w g h has.short_capacity has.short_modulus has.short_width has.short_batch has.short_take_batch).ends has.text;
       short_capacity = has.short_capacity;
       short_modulus = has.short_modulus;
       short_width = has.short_width;
       short_batch = has.short_batch;
+      short_take_batch = has.short_take_batch;
     })
 no_line_more (Some hearing) bytes line behind more ends text none = λ e rest begins.
     let parts : bytes ≡ ends.front ++ 10 ∷ behind = text ∙ ap (λ (t : List ℕ). t ++ behind) ends.text ∙ append_assoc ends.front (10 ∷ []) behind in
     none e behind (begins.0, line_before_more bytes ends.front behind more (event_line e) rest parts ends.feedless (event_line_ends e (small_indices hearing.shape e.bit begins.0)).ends begins.1)
 
-pub no_line_long : (h : Option Hearing) (bytes more : List ℕ) → IsFeedless bytes → 26 ≤ length bytes → BeginsWithNoLine h (bytes ++ more)
-no_line_long None bytes more none long = λ c m w g has.
-    too_long_a_line bytes more (shape_line c m w g) has.rest none long (shape_line_ends c m w g has.short_capacity has.short_modulus has.short_width has.short_batch) has.text
+pub no_line_long : (h : Option Hearing) (bytes more : List ℕ) → IsFeedless bytes → 31 ≤ length bytes → BeginsWithNoLine h (bytes ++ more)
+no_line_long None bytes more none long = λ c m w g h has.
+    too_long_a_line bytes more (shape_line c m w g h) has.rest none long (shape_line_ends c m w g h has.short_capacity has.short_modulus has.short_width has.short_batch has.short_take_batch) has.text
 no_line_long (Some hearing) bytes more none long = λ e rest begins.
     too_long_a_line bytes more (event_line e) rest none long (event_line_ends e (small_indices hearing.shape e.bit begins.0)) begins.1
 
 pub no_line_unended : (h : Option Hearing) (bytes : List ℕ) → IsFeedless bytes → BeginsWithNoLine h bytes
-no_line_unended None bytes none = λ c m w g has.
-    no_line_ended bytes (shape_line c m w g) has.rest none (shape_line_ends c m w g has.short_capacity has.short_modulus has.short_width has.short_batch).ends has.text
+no_line_unended None bytes none = λ c m w g h has.
+    no_line_ended bytes (shape_line c m w g h) has.rest none (shape_line_ends c m w g h has.short_capacity has.short_modulus has.short_width has.short_batch has.short_take_batch).ends has.text
 no_line_unended (Some hearing) bytes none = λ e rest begins.
     no_line_ended bytes (event_line e) rest none (event_line_ends e (small_indices hearing.shape e.bit begins.0)).ends begins.1
 
@@ -109,13 +110,15 @@ bad_shape_more fault text bytes more none bad = subst (λ (t : List ℕ). HasBad
   modulus = bad.modulus;
   width = bad.width;
   batch = bad.batch;
+  take_batch = bad.take_batch;
   line = record {
     rest = bad.line.rest ++ more;
-    text = ap (λ (t : List ℕ). t ++ more) bad.line.text ∙ append_assoc (shape_line bad.capacity bad.modulus bad.width bad.batch) bad.line.rest more;
+    text = ap (λ (t : List ℕ). t ++ more) bad.line.text ∙ append_assoc (shape_line bad.capacity bad.modulus bad.width bad.batch bad.take_batch) bad.line.rest more;
     short_capacity = bad.line.short_capacity;
     short_modulus = bad.line.short_modulus;
     short_width = bad.line.short_width;
     short_batch = bad.line.short_batch;
+    short_take_batch = bad.line.short_take_batch;
   };
   refused = bad.refused;
 })
@@ -129,18 +132,18 @@ too_many (Some hearing) heard text rest is full ended =
 
 -- ---- one line more
 
-pub shape_ends : (shape : Shape) → EndsAtFeed (shape_line (capacity_of shape) (modulus_of shape) (width_of shape) (batch_of shape))
+pub shape_ends : (shape : Shape) → EndsAtFeed (shape_line (capacity_of shape) (modulus_of shape) (width_of shape) (batch_of shape) (take_batch_of shape))
 shape_ends shape =
-    (shape_line_ends (capacity_of shape) (modulus_of shape) (width_of shape) (batch_of shape) (omega (arith, shape.few_cells)) (omega (arith, shape.small_modulus)) (omega (arith, shape.few_digits))
-    (omega (arith, shape.few_cells, shape.small_batch))).ends
+    (shape_line_ends (capacity_of shape) (modulus_of shape) (width_of shape) (batch_of shape) (take_batch_of shape) (omega (arith, shape.few_cells)) (omega (arith, shape.small_modulus)) (omega (arith, shape.few_digits))
+    (omega (arith, shape.few_cells, shape.small_batch)) (omega (arith, shape.few_cells, shape.small_take_batch))).ends
 
 pub event_ends : (shape : Shape) (e : Event) → belongs shape e.bit ≡ true → EndsAtFeed (event_line e)
 event_ends shape e inside = (event_line_ends e (small_indices shape e.bit inside)).ends
 
 pub first_ended : (h : Option Hearing) (hearing : Hearing) (shape : Shape) (text : List ℕ) → h ≡ None → HasEnded h text → HeardTrace hearing shape []
-    → EndedLines hearing (text ++ shape_line (capacity_of shape) (modulus_of shape) (width_of shape) (batch_of shape))
+    → EndedLines hearing (text ++ shape_line (capacity_of shape) (modulus_of shape) (width_of shape) (batch_of shape) (take_batch_of shape))
 first_ended None hearing shape text is ended heard =
-    let line : List ℕ = shape_line (capacity_of shape) (modulus_of shape) (width_of shape) (batch_of shape) in
+    let line : List ℕ = shape_line (capacity_of shape) (modulus_of shape) (width_of shape) (batch_of shape) (take_batch_of shape) in
     record {
       shape = shape;
       events = [];
@@ -155,7 +158,7 @@ next_ended None before after e text is ended inside heard = absurd (none-some be
 next_ended (Some hearing) before after e text is ended inside heard =
     let same : before ≡ hearing = same_Some before hearing (sym is) in
     let shape : Shape = ended.shape in
-    let line : List ℕ = shape_line (capacity_of shape) (modulus_of shape) (width_of shape) (batch_of shape) in
+    let line : List ℕ = shape_line (capacity_of shape) (modulus_of shape) (width_of shape) (batch_of shape) (take_batch_of shape) in
     let of : before.shape ≡ shape = ap (λ (x : Hearing). x.shape) same ∙ ended.heard.of_shape in
     record {
       shape = shape;
@@ -170,7 +173,7 @@ next_ended (Some hearing) before after e text is ended inside heard =
 -- ---- lines that were cut
 
 -- what is kept of a line is too long for one
-pub kept_refused : (fault : TraceFault) (h : Option Hearing) (before ended cut rest more : List ℕ) → before ≡ ended ++ cut → HasEnded h ended → IsFeedless cut → IsFeedless rest → 26 ≤ length cut + length rest
+pub kept_refused : (fault : TraceFault) (h : Option Hearing) (before ended cut rest more : List ℕ) → before ≡ ended ++ cut → HasEnded h ended → IsFeedless cut → IsFeedless rest → 31 ≤ length cut + length rest
     → ((text others : List ℕ) → HasEnded h text → BeginsWithNoLine h others → (others ≡ [] → h ≡ None) → RefusesTraceText (text ++ others) fault) → RefusesTraceText (before ++ (rest ++ more)) fault
 kept_refused fault h before ended cut rest more text lines none free long refuses =
     let all : length ((cut ++ rest) ++ more) ≡ (length cut + length rest) + length more = length-append (cut ++ rest) more ∙ ap (λ (n : ℕ). n + length more) (length-append cut rest) in

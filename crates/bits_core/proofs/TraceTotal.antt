@@ -7,10 +7,10 @@ use Rattle.bits_core.specs.declared.events.Event.{Event}
 use Rattle.bits_core.specs.declared.reading.Numbers.{Numbers}
 use Rattle.bits_core.specs.declared.shapes.Shape.{Shape}
 use Rattle.bits_core.specs.declared.shapes.ShapeFault.{ShapeFault}
-use Rattle.bits_core.specs.declared.shapes.ShapeFault.TheVariants.{Capacity, Modulus, Width, Batch}
+use Rattle.bits_core.specs.declared.shapes.ShapeFault.TheVariants.{Capacity, Modulus, Width, Batch, TakeBatch, ModulusOfBatches}
 use Rattle.bits_core.specs.declared.traces.TraceFault.{TraceFault}
 use Rattle.bits_core.specs.declared.traces.TraceFault.TheVariants.{BadShape, BadLine, TooLong}
-use Rattle.bits_core.specs.Shape.{HasBatch, IsRefusedBatch, belongs}
+use Rattle.bits_core.specs.Shape.{AreBatchSizes, HasBatches, IsModulusForBoth, IsRefusedBatches, belongs}
 use Rattle.bits_core.specs.TraceText.{event_line, shape_line, trace_text}
 use Rattle.bits_core.specs.TraceReading.{event_at, shape_at}
 use Rattle.bits_core.specs.Trace.{AreOfShape, IsTraceAndMore, IsTrace, IsTraceFault}
@@ -32,36 +32,54 @@ in_range low n high = elim (cases_lt low n) [
   | inr small ↦ inr (λ r. omega (arith, small, r.0))
 ]
 
-ShapeTold : ℕ → ℕ → ℕ → ℕ → Type 0
-ShapeTold c m w g = ((shape : Shape) × HasBatch c m w g shape) ⊎ ((fault : ShapeFault) × IsRefusedBatch c m w g fault)
+ShapeTold : ℕ → ℕ → ℕ → ℕ → ℕ → Type 0
+ShapeTold c m w g h = ((shape : Shape) × HasBatches c m w g h shape) ⊎ ((fault : ShapeFault) × IsRefusedBatches c m w g h fault)
 
-shape_told : (c m w g : ℕ) → ShapeTold c m w g
+-- a modulus that is out of its range is told by the name that the take batch has for it
+bad_modulus : (c m w g h : ℕ) → AreBatchSizes c g h → ¬ IsModulusForBoth c g h m → ShapeTold c m w g h
 unfolding ShapeTold
-shape_told c m w g = elim (in_range 0 c 64) [
+bad_modulus c m w g h sizes out = elim (cases_lt 1 h) [
+  | inl over ↦ inr (ModulusOfBatches, (sizes, over, out))
+  | inr single ↦ inr (Modulus, (sizes, (omega (arith, single, sizes.2.0)), out))
+]
+
+shape_told : (c m w g h : ℕ) → ShapeTold c m w g h
+unfolding ShapeTold
+shape_told c m w g h = elim (in_range 0 c 64) [
   | inr out ↦ inr (Capacity, out)
   | inl cells ↦ elim (in_range 0 g c) [
     | inr out ↦ inr (Batch, (cells, out))
-    | inl batch ↦ elim (in_range (c + g) m 256) [
-      | inr out ↦ inr (Modulus, (cells, batch, out))
-      | inl counts ↦ elim (in_range 0 w 64) [
-        | inr out ↦ inr (Width, (cells, batch, counts, out))
-        | inl digits ↦ inl (
-          record {
-            capacity = c;
-            modulus = m;
-            width = w;
-            batch = g;
-            has_cells = cells.0;
-            few_cells = cells.1;
-            room_to_count = counts.0;
-            small_modulus = counts.1;
-            has_digits = digits.0;
-            few_digits = digits.1;
-            has_batch = batch.0;
-            small_batch = batch.1;
-          },
-          record { capacity_is = refl; modulus_is = refl; width_is = refl; batch_is = refl },
-        )
+    | inl batch ↦ elim (in_range 0 h c) [
+      | inr out ↦ inr (TakeBatch, (cells, batch, out))
+      | inl take_batch ↦ elim (in_range (c + g) m 256) [
+        | inr out ↦ bad_modulus c m w g h (cells, batch, take_batch) (λ both. out both.0)
+        | inl counts ↦ elim (in_range (c + h) m 256) [
+          | inr out ↦ bad_modulus c m w g h (cells, batch, take_batch) (λ both. out both.1)
+          | inl takes ↦ elim (in_range 0 w 64) [
+            | inr out ↦ inr (Width, ((cells, batch, take_batch), (counts, takes), out))
+            | inl digits ↦ inl (
+              record {
+                capacity = c;
+                modulus = m;
+                width = w;
+                batch = g;
+                take_batch = h;
+                has_cells = cells.0;
+                few_cells = cells.1;
+                room_to_count = counts.0;
+                room_to_take = takes.0;
+                small_modulus = counts.1;
+                has_digits = digits.0;
+                few_digits = digits.1;
+                has_batch = batch.0;
+                small_batch = batch.1;
+                has_take_batch = take_batch.0;
+                small_take_batch = take_batch.1;
+              },
+              record { capacity_is = refl; modulus_is = refl; width_is = refl; batch_is = refl; take_batch_is = refl },
+            )
+          ]
+        ]
       ]
     ]
   ]
@@ -119,10 +137,10 @@ unfolding ShapeTold
 from_line bytes None none = inr (BadLine 1, inl (refl, no_shape_read bytes none))
 from_line bytes (Some (n, rest)) read =
     let line : BeginsShape bytes (n, rest) = shape_at-text bytes (n, rest) read in
-    elim (shape_told n.capacity n.modulus n.width n.batch) [
+    elim (shape_told n.capacity n.modulus n.width n.batch n.take_batch) [
       | inl s ↦
           lines_told (length rest) bytes s.0 [] rest (omega arith)
-          (begins_numbers bytes rest n s.0 line s.1 ∙ ap (λ (t : List ℕ). t ++ rest) (sym (append-nil (shape_line s.0.capacity s.0.modulus s.0.width s.0.batch))))
+          (begins_numbers bytes rest n s.0 line s.1 ∙ ap (λ (t : List ℕ). t ++ rest) (sym (append-nil (shape_line s.0.capacity s.0.modulus s.0.width s.0.batch s.0.take_batch))))
           (λ k d below. absurd (omega arith)) (omega arith)
       | inr f ↦ inr (BadShape f.0, bad_numbers bytes rest n f.0 line f.1)
     ]

@@ -2,7 +2,7 @@
 use Rattle.std.specs.Prelude.{◌≡◌, ℕ, ◌+◌, ◌^◌, ◌<◌, ◌≤◌, Bool, true, ◌&&◌, nat_lt, List, [], ◌∷◌, codes}
 use Rattle.bits_core.specs.declared.shapes.Shape.{Shape}
 use Rattle.bits_core.specs.declared.shapes.ShapeFault.{ShapeFault}
-use Rattle.bits_core.specs.declared.shapes.ShapeFault.TheVariants.{Capacity, Modulus, Width, Batch}
+use Rattle.bits_core.specs.declared.shapes.ShapeFault.TheVariants.{Capacity, Modulus, Width, Batch, TakeBatch, ModulusOfBatches}
 use Rattle.bits_core.specs.declared.events.Event.{Event}
 use Rattle.bits_core.specs.declared.events.Bit.{Bit}
 use Rattle.bits_core.specs.declared.events.Bit.TheVariants.{S, R, X, Cell}
@@ -21,19 +21,32 @@ width_of shape = shape.width
 abbrev pub batch_of : Shape → ℕ
 batch_of shape = shape.batch
 
+abbrev pub take_batch_of : Shape → ℕ
+take_batch_of shape = shape.take_batch
+
 -- the shape is that of these numbers, with count writes of one item each
 pub record HasNumbers (capacity modulus width : ℕ) (shape : Shape) : Type 0 where
   pub capacity_is : capacity_of shape ≡ capacity
   pub modulus_is : modulus_of shape ≡ modulus
   pub width_is : width_of shape ≡ width
   pub single : batch_of shape ≡ 1
+  pub single_take : take_batch_of shape ≡ 1
 
--- the shape is that of these numbers
+-- the shape is that of these numbers, with count writes of the consumer of one item each
 pub record HasBatch (capacity modulus width batch : ℕ) (shape : Shape) : Type 0 where
   pub capacity_is : capacity_of shape ≡ capacity
   pub modulus_is : modulus_of shape ≡ modulus
   pub width_is : width_of shape ≡ width
   pub batch_is : batch_of shape ≡ batch
+  pub single_take : take_batch_of shape ≡ 1
+
+-- the shape is that of these numbers
+pub record HasBatches (capacity modulus width batch take_batch : ℕ) (shape : Shape) : Type 0 where
+  pub capacity_is : capacity_of shape ≡ capacity
+  pub modulus_is : modulus_of shape ≡ modulus
+  pub width_is : width_of shape ≡ width
+  pub batch_is : batch_of shape ≡ batch
+  pub take_batch_is : take_batch_of shape ≡ take_batch
 
 -- the range of each number
 abbrev pub IsCapacity : ℕ → Type 0
@@ -51,12 +64,18 @@ IsBatchSize capacity batch = (0 < batch) × (batch ≤ capacity)
 abbrev pub IsModulusFor : ℕ → ℕ → ℕ → Type 0
 IsModulusFor capacity batch modulus = (capacity + batch < modulus) × (modulus ≤ 256)
 
+-- with both batches
+abbrev pub IsModulusForBoth : ℕ → ℕ → ℕ → ℕ → Type 0
+IsModulusForBoth capacity batch take_batch modulus = IsModulusFor capacity batch modulus × IsModulusFor capacity take_batch modulus
+
 -- the fault names the first of the three numbers that is out of its range
 abbrev pub IsRefused : ℕ → ℕ → ℕ → ShapeFault → Type 0
 IsRefused capacity modulus width Capacity = ¬ IsCapacity capacity
 IsRefused capacity modulus width Modulus = IsCapacity capacity × ¬ IsModulus capacity modulus
 IsRefused capacity modulus width Width = IsCapacity capacity × IsModulus capacity modulus × ¬ IsWidth width
 IsRefused capacity modulus width Batch = ⊥
+IsRefused capacity modulus width TakeBatch = ⊥
+IsRefused capacity modulus width ModulusOfBatches = ⊥
 
 -- the same of four, where the batch comes before the modulus
 abbrev pub IsRefusedBatch : ℕ → ℕ → ℕ → ℕ → ShapeFault → Type 0
@@ -65,6 +84,24 @@ IsRefusedBatch capacity modulus width batch Batch = IsCapacity capacity × ¬ Is
 IsRefusedBatch capacity modulus width batch Modulus = IsCapacity capacity × IsBatchSize capacity batch × ¬ IsModulusFor capacity batch modulus
 IsRefusedBatch capacity modulus width batch Width =
     IsCapacity capacity × IsBatchSize capacity batch × IsModulusFor capacity batch modulus × ¬ IsWidth width
+IsRefusedBatch capacity modulus width batch TakeBatch = ⊥
+IsRefusedBatch capacity modulus width batch ModulusOfBatches = ⊥
+
+-- the capacity and both batches are in range
+abbrev pub AreBatchSizes : ℕ → ℕ → ℕ → Type 0
+AreBatchSizes capacity batch take_batch = IsCapacity capacity × IsBatchSize capacity batch × IsBatchSize capacity take_batch
+
+-- the same of five, where the batches come before the modulus, whose fault has a name of its own where the take batch is over 1
+abbrev pub IsRefusedBatches : ℕ → ℕ → ℕ → ℕ → ℕ → ShapeFault → Type 0
+IsRefusedBatches capacity modulus width batch take_batch Capacity = ¬ IsCapacity capacity
+IsRefusedBatches capacity modulus width batch take_batch Batch = IsCapacity capacity × ¬ IsBatchSize capacity batch
+IsRefusedBatches capacity modulus width batch take_batch TakeBatch = IsCapacity capacity × IsBatchSize capacity batch × ¬ IsBatchSize capacity take_batch
+IsRefusedBatches capacity modulus width batch take_batch Modulus =
+    AreBatchSizes capacity batch take_batch × (take_batch ≡ 1) × ¬ IsModulusForBoth capacity batch take_batch modulus
+IsRefusedBatches capacity modulus width batch take_batch ModulusOfBatches =
+    AreBatchSizes capacity batch take_batch × (1 < take_batch) × ¬ IsModulusForBoth capacity batch take_batch modulus
+IsRefusedBatches capacity modulus width batch take_batch Width =
+    AreBatchSizes capacity batch take_batch × IsModulusForBoth capacity batch take_batch modulus × ¬ IsWidth width
 
 -- the words of each fault
 abbrev pub shape_fault_words : ShapeFault → List ℕ
@@ -72,6 +109,8 @@ shape_fault_words Capacity = codes "capacity must be from 1 to 64"
 shape_fault_words Modulus = codes "modulus must be from capacity + batch + 1 to 256"
 shape_fault_words Width = codes "width must be from 1 to 64"
 shape_fault_words Batch = codes "batch must be from 1 to capacity"
+shape_fault_words TakeBatch = codes "take batch must be from 1 to capacity"
+shape_fault_words ModulusOfBatches = codes "modulus must be from capacity + the larger batch + 1 to 256"
 
 -- the number of each fault
 abbrev pub shape_fault_number : ShapeFault → ℕ
@@ -79,6 +118,8 @@ shape_fault_number Capacity = 1
 shape_fault_number Modulus = 2
 shape_fault_number Width = 3
 shape_fault_number Batch = 4
+shape_fault_number TakeBatch = 5
+shape_fault_number ModulusOfBatches = 2
 
 -- whether a bit is one of the shape's
 abbrev pub belongs : Shape → Bit → Bool

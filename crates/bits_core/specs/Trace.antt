@@ -6,7 +6,7 @@ use Rattle.bits_core.specs.declared.shapes.Shape.{Shape}
 use Rattle.bits_core.specs.declared.shapes.ShapeFault.{ShapeFault}
 use Rattle.bits_core.specs.declared.traces.TraceFault.{TraceFault}
 use Rattle.bits_core.specs.declared.traces.TraceFault.TheVariants.{BadShape, BadLine, TooLong, OutOfMemory}
-use Rattle.bits_core.specs.Shape.{IsRefusedBatch, batch_of, belongs, capacity_of, modulus_of, shape_fault_words, width_of}
+use Rattle.bits_core.specs.Shape.{IsRefusedBatches, batch_of, belongs, capacity_of, modulus_of, shape_fault_words, take_batch_of, width_of}
 use Rattle.bits_core.specs.TraceText.{event_line, shape_line, trace_text}
 
 -- the words of each fault
@@ -38,14 +38,15 @@ pub record IsTraceText (bytes : List ℕ) (shape : Shape) (events : List Event) 
   pub text : bytes ≡ trace_text shape events
   pub of_shape : AreOfShape shape events
 
--- the bytes begin with a line of three numbers, or of four where the last is not 1, of at most four digits each
-pub record HasShapeLine (bytes : List ℕ) (capacity modulus width batch : ℕ) : Type 0 where
+-- the bytes begin with a line of three numbers, or of four or five where the last is not 1, of at most four digits each
+pub record HasShapeLine (bytes : List ℕ) (capacity modulus width batch take_batch : ℕ) : Type 0 where
   pub rest : List ℕ
-  pub text : bytes ≡ shape_line capacity modulus width batch ++ rest
+  pub text : bytes ≡ shape_line capacity modulus width batch take_batch ++ rest
   pub short_capacity : capacity < 10000
   pub short_modulus : modulus < 10000
   pub short_width : width < 10000
   pub short_batch : batch < 10000
+  pub short_take_batch : take_batch < 10000
 
 -- line 1 has numbers that are refused as a shape
 pub record HasBadShape (bytes : List ℕ) (fault : ShapeFault) : Type 0 where
@@ -53,12 +54,13 @@ pub record HasBadShape (bytes : List ℕ) (fault : ShapeFault) : Type 0 where
   pub modulus : ℕ
   pub width : ℕ
   pub batch : ℕ
-  pub line : HasShapeLine bytes capacity modulus width batch
-  pub refused : IsRefusedBatch capacity modulus width batch fault
+  pub take_batch : ℕ
+  pub line : HasShapeLine bytes capacity modulus width batch take_batch
+  pub refused : IsRefusedBatches capacity modulus width batch take_batch fault
 
 -- the bytes begin with the line of the shape
 abbrev pub BeginsWithShape : List ℕ → Shape → List ℕ → Type 0
-BeginsWithShape bytes shape rest = bytes ≡ shape_line (capacity_of shape) (modulus_of shape) (width_of shape) (batch_of shape) ++ rest
+BeginsWithShape bytes shape rest = bytes ≡ shape_line (capacity_of shape) (modulus_of shape) (width_of shape) (batch_of shape) (take_batch_of shape) ++ rest
 
 -- the bytes begin with the line of an event of the shape
 abbrev pub BeginsWithEvent : Shape → List ℕ → Event → List ℕ → Type 0
@@ -114,7 +116,7 @@ pub record HasBadLine (bytes : List ℕ) (line : ℕ) : Type 0 where
 -- the first fault of the bytes, line by line; there is none for want of memory
 abbrev pub IsTraceFault : List ℕ → TraceFault → Type 0
 IsTraceFault bytes (BadShape fault) = HasBadShape bytes fault
-IsTraceFault bytes (BadLine line) = ((line ≡ 1) × ((capacity modulus width batch : ℕ) → ¬ HasShapeLine bytes capacity modulus width batch)) ⊎ HasBadLine bytes line
+IsTraceFault bytes (BadLine line) = ((line ≡ 1) × ((capacity modulus width batch take_batch : ℕ) → ¬ HasShapeLine bytes capacity modulus width batch take_batch)) ⊎ HasBadLine bytes line
 IsTraceFault bytes TooLong = IsTooLong bytes
 IsTraceFault bytes OutOfMemory = ⊥
 
@@ -131,6 +133,6 @@ pub record HasBadEventLine (bytes : List ℕ) (line : ℕ) : Type 0 where
 -- be too many to be counted
 abbrev pub RefusesTraceText : List ℕ → TraceFault → Type 0
 RefusesTraceText bytes (BadShape fault) = HasBadShape bytes fault
-RefusesTraceText bytes (BadLine line) = ((line ≡ 1) × ((capacity modulus width batch : ℕ) → ¬ HasShapeLine bytes capacity modulus width batch)) ⊎ HasBadEventLine bytes line
+RefusesTraceText bytes (BadLine line) = ((line ≡ 1) × ((capacity modulus width batch take_batch : ℕ) → ¬ HasShapeLine bytes capacity modulus width batch take_batch)) ⊎ HasBadEventLine bytes line
 RefusesTraceText bytes TooLong = 2 ^ 64 - 1 ≤ length bytes
 RefusesTraceText bytes OutOfMemory = ⊥

@@ -50,7 +50,7 @@ HasEnded (Some hearing) text = EndedLines hearing text
 
 -- no line that may come next stands at the front of the bytes
 abbrev pub BeginsWithNoLine : Option Hearing → List ℕ → Type 0
-BeginsWithNoLine None bytes = (capacity modulus width batch : ℕ) → ¬ HasShapeLine bytes capacity modulus width batch
+BeginsWithNoLine None bytes = (capacity modulus width batch take_batch : ℕ) → ¬ HasShapeLine bytes capacity modulus width batch take_batch
 BeginsWithNoLine (Some hearing) bytes = HasNoEvent hearing.shape bytes
 
 -- the fault of what stands behind so many events, and is no line of one

@@ -87,13 +87,26 @@ event_at bytes = do
   rest ← after (codes "\n") act.1
   Some (record { side = side.0; bit = bit.0; act = act.0 }, rest)
 
--- the batch of line 1 and its end: 1 where the line ends, else a number other than 1 after a space
-unfoldable pub batch_at : List ℕ → Option (ℕ × List ℕ)
-batch_at bytes = or_else (named 1 (codes "\n") bytes) (do
+-- the take batch of line 1 and its end, behind a batch: 1 where the line ends, and then the batch is not 1; else a number other than 1
+-- after a space
+unfoldable pub take_batch_at : ℕ → List ℕ → Option (ℕ × List ℕ)
+take_batch_at batch bytes = or_else
+    (do
+      rest ← after (codes "\n") bytes
+      if batch == 1 then None else Some (1, rest))
+    (do
+      number ← after (codes " ") bytes
+      take_batch ← number_at number
+      rest ← after (codes "\n") take_batch.1
+      if take_batch.0 == 1 then None else Some (take_batch.0, rest))
+
+-- both batches of line 1 and its end: 1 and 1 where the line ends, else the batch after a space
+unfoldable pub batches_at : List ℕ → Option ((ℕ × ℕ) × List ℕ)
+batches_at bytes = or_else (named (1, 1) (codes "\n") bytes) (do
   number ← after (codes " ") bytes
   batch ← number_at number
-  rest ← after (codes "\n") batch.1
-  if batch.0 == 1 then None else Some (batch.0, rest))
+  take_batch ← take_batch_at batch.0 batch.1
+  Some ((batch.0, take_batch.0), take_batch.1))
 
 -- the numbers of line 1
 unfoldable pub shape_at : List ℕ → Option (Numbers × List ℕ)
@@ -104,5 +117,5 @@ shape_at bytes = do
   modulus ← number_at second
   third ← after (codes " ") modulus.1
   width ← number_at third
-  batch ← batch_at width.1
-  Some (record { capacity = capacity.0; modulus = modulus.0; width = width.0; batch = batch.0 }, batch.1)
+  batches ← batches_at width.1
+  Some (record { capacity = capacity.0; modulus = modulus.0; width = width.0; batch = batches.0.0; take_batch = batches.0.1 }, batches.1)

@@ -9,7 +9,7 @@ use Rattle.bits_core.specs.declared.events.Act.{Act}
 use Rattle.bits_core.specs.declared.events.Act.TheVariants.{ReadBegin, ReadEnd, WriteBegin, WriteEnd}
 use Rattle.bits_core.specs.declared.events.Event.{Event}
 use Rattle.bits_core.specs.declared.shapes.Shape.{Shape}
-use Rattle.bits_core.specs.Shape.{batch_of, capacity_of, modulus_of, width_of}
+use Rattle.bits_core.specs.Shape.{batch_of, capacity_of, modulus_of, take_batch_of, width_of}
 
 -- the side, as a line begins with it
 abbrev pub side_text : Side → List ℕ
@@ -49,11 +49,16 @@ event_line e = side_text e.side ++ (act_text e.act ++ (bit_text e.bit ++ (value_
 unfoldable pub batch_text : ℕ → List ℕ
 batch_text batch = if batch == 1 then [] else (codes " " ++ decimal batch)
 
--- the line of a shape, as `shape 1 3 1` with a batch of 1 or `shape 3 7 1 3` with a batch of 3, and a line feed
-abbrev pub shape_line : ℕ → ℕ → ℕ → ℕ → List ℕ
-shape_line capacity modulus width batch =
-    codes "shape " ++ (decimal capacity ++ (codes " " ++ (decimal modulus ++ (codes " " ++ (decimal width ++ (batch_text batch ++ codes "\n"))))))
+-- both batches, each after a space, where the take batch is not 1; else the batch alone, where it is not 1
+unfoldable pub batches_text : ℕ → ℕ → List ℕ
+batches_text batch take_batch = if take_batch == 1 then batch_text batch else (codes " " ++ (decimal batch ++ (codes " " ++ decimal take_batch)))
+
+-- the line of a shape, as `shape 1 3 1` with batches of 1, `shape 3 7 1 3` with a batch of 3 or `shape 3 7 1 1 3` with a take batch
+-- of 3, and a line feed
+abbrev pub shape_line : ℕ → ℕ → ℕ → ℕ → ℕ → List ℕ
+shape_line capacity modulus width batch take_batch =
+    codes "shape " ++ (decimal capacity ++ (codes " " ++ (decimal modulus ++ (codes " " ++ (decimal width ++ (batches_text batch take_batch ++ codes "\n"))))))
 
 -- the whole text
 abbrev pub trace_text : Shape → List Event → List ℕ
-trace_text shape events = shape_line (capacity_of shape) (modulus_of shape) (width_of shape) (batch_of shape) ++ flat_map event_line events
+trace_text shape events = shape_line (capacity_of shape) (modulus_of shape) (width_of shape) (batch_of shape) (take_batch_of shape) ++ flat_map event_line events

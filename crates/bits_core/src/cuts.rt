@@ -3,8 +3,8 @@ ghost use Rattle.std.specs.Prelude.{◌≡◌, ◌<◌, ◌≤◌, ◌+◌, ◌=
 
 use std::marker::Model;
 
-/// The most bytes of a line of a trace, with its line feed: those of a shape with four numbers of four digits.
-pub const LINE_LIMIT: usize = 26;
+/// The most bytes of a line of a trace, with its line feed: those of a shape with five numbers of four digits.
+pub const LINE_LIMIT: usize = 31;
 
 /// The first bytes of a line, as far as they have come. They are seen as a list, which has room for a whole line.
 #[derive(Drop)]
@@ -18,7 +18,7 @@ impl Model for Cut {
 
     ghost view = { λ c. take c.used c.room };
 
-    ghost invariant = { λ c. c.used ≤ 26 };
+    ghost invariant = { λ c. c.used ≤ 31 };
 }
 
 impl Cut {

@@ -1,6 +1,6 @@
 //! The parts of a trace's lines, each read from the front of the bytes.
 ghost use Rattle.std.specs.Prelude.{◌≡◌, ℕ, ◌<◌, List, Some, None, Option, option_map};
-ghost use Rattle.bits_core.specs.TraceReading.{act_at, after, batch_at, bit_at, cell_at, digit_at, digits_after, event_at, index_at, number_at, shape_at, side_at, word_at};
+ghost use Rattle.bits_core.specs.TraceReading.{act_at, after, batches_at, bit_at, cell_at, digit_at, digits_after, event_at, index_at, number_at, shape_at, side_at, take_batch_at, word_at};
 
 use crate::events::{Act, Bit, Event, Side};
 
@@ -13,13 +13,14 @@ pub enum Word {
     Wrote,
 }
 
-/// The numbers of a trace's first line; the batch is 1 where it names none.
+/// The numbers of a trace's first line; each batch is 1 where it names none.
 #[derive(Clone, Copy)]
 pub struct Numbers {
     pub capacity: u64,
     pub modulus: u64,
     pub width: u64,
     pub batch: u64,
+    pub take_batch: u64,
 }
 
 // The bytes after a text that stands at the front.
@@ -171,22 +172,39 @@ pub fn event_at(bytes: &[u8]) -> Option<(Event, &[u8])>
     Some((Event { side, bit, act }, rest))
 }
 
-// The batch and the end of the first line: 1 where the line ends, else a number other than 1.
-#[tactic(auto, unfolding(crate::specs::TraceReading::batch_at))]
-fn batch_at(bytes: &[u8]) -> Option<(u64, &[u8])>
-    ensures { option_map (λ x. (x.0, x.1.now)) result ≡ batch_at bytes.now }
+// The take batch and the end of the first line, behind the batch: 1 where the line ends, and then the batch is not 1; else a
+// number other than 1.
+#[tactic(auto, unfolding(crate::specs::TraceReading::take_batch_at))]
+fn take_batch_at(batch: u64, bytes: &[u8]) -> Option<(u64, &[u8])>
+    ensures { option_map (λ x. (x.0, x.1.now)) result ≡ take_batch_at batch bytes.now }
 {
     if let Some(rest) = after(bytes, "\n") {
-        return Some((1, rest));
+        if batch != 1 {
+            return Some((1, rest));
+        }
+    }
+    let rest = after(bytes, " ")?;
+    let (take_batch, rest) = number_at(rest)?;
+    let rest = after(rest, "\n")?;
+    if take_batch == 1 {
+        None
+    } else {
+        Some((take_batch, rest))
+    }
+}
+
+// Both batches and the end of the first line: 1 and 1 where the line ends.
+#[tactic(auto, unfolding(crate::specs::TraceReading::batches_at))]
+fn batches_at(bytes: &[u8]) -> Option<((u64, u64), &[u8])>
+    ensures { option_map (λ x. (x.0, x.1.now)) result ≡ batches_at bytes.now }
+{
+    if let Some(rest) = after(bytes, "\n") {
+        return Some(((1, 1), rest));
     }
     let rest = after(bytes, " ")?;
     let (batch, rest) = number_at(rest)?;
-    let rest = after(rest, "\n")?;
-    if batch == 1 {
-        None
-    } else {
-        Some((batch, rest))
-    }
+    let (take_batch, rest) = take_batch_at(batch, rest)?;
+    Some(((batch, take_batch), rest))
 }
 
 /// The numbers of the first line, and the bytes after it.
@@ -200,12 +218,13 @@ pub fn shape_at(bytes: &[u8]) -> Option<(Numbers, &[u8])>
     let (modulus, rest) = number_at(rest)?;
     let rest = after(rest, " ")?;
     let (width, rest) = number_at(rest)?;
-    let (batch, rest) = batch_at(rest)?;
+    let ((batch, take_batch), rest) = batches_at(rest)?;
     let numbers = Numbers {
         capacity,
         modulus,
         width,
         batch,
+        take_batch,
     };
     Some((numbers, rest))
 }

@@ -15,6 +15,9 @@ pub enum ShapeFault {
     Modulus,
     Width,
     Batch,
+    TakeBatch,
+    /// The modulus, where the take batch is over 1.
+    ModulusOfBatches,
 }
 
 impl fmt::Display for ShapeFault {
@@ -30,6 +33,10 @@ impl fmt::Display for ShapeFault {
             ShapeFault::Modulus => "modulus must be from capacity + batch + 1 to 256",
             ShapeFault::Width => "width must be from 1 to 64",
             ShapeFault::Batch => "batch must be from 1 to capacity",
+            ShapeFault::TakeBatch => "take batch must be from 1 to capacity",
+            ShapeFault::ModulusOfBatches => {
+                "modulus must be from capacity + the larger batch + 1 to 256"
+            }
         })
     }
 }
@@ -39,7 +46,7 @@ impl Error for ShapeFault {}
 impl ShapeFault {
     ghost use Rattle.bits_core.specs.Shape.{shape_fault_number};
 
-    /// The number of the fault: 1 `Capacity`, 2 `Modulus`, 3 `Width`, 4 `Batch`.
+    /// The number of the fault: 1 `Capacity`, 2 `Modulus` and `ModulusOfBatches`, 3 `Width`, 4 `Batch`, 5 `TakeBatch`.
     pub fn number(&self) -> u8
         ensures { result ≡ shape_fault_number self.now }
     {
@@ -48,15 +55,17 @@ impl ShapeFault {
             ShapeFault::Modulus => 2,
             ShapeFault::Width => 3,
             ShapeFault::Batch => 4,
+            ShapeFault::TakeBatch => 5,
+            ShapeFault::ModulusOfBatches => 2,
         }
     }
 }
 
 /// How many cells a ring has, the modulus of its two counts, how many binary digits an item has, and how many
-/// items one count write may count.
+/// items one count write of the producer and one of the consumer may count: its batch and its take batch.
 ///
-/// The counts run modulo a number above the capacity and the batch together, so that a count that is read
-/// while it is being written can still be told from all others that may be read then.
+/// The counts run modulo a number above the capacity and the larger batch together, so that a count that is
+/// read while it is being written can still be told from all others that may be read then.
 ///
 /// In use: `uses::two_threads::pass_through`.
 #[derive(Clone, Copy, PartialEq, Eq, Debug)]
@@ -65,18 +74,22 @@ pub struct Shape {
     modulus: u64,
     width: u64,
     batch: u64,
+    take_batch: u64,
     pub ghost has_cells: { 0 < capacity },
     pub ghost few_cells: { capacity ≤ 64 },
     pub ghost room_to_count: { capacity + batch < modulus },
+    pub ghost room_to_take: { capacity + take_batch < modulus },
     pub ghost small_modulus: { modulus ≤ 256 },
     pub ghost has_digits: { 0 < width },
     pub ghost few_digits: { width ≤ 64 },
     pub ghost has_batch: { 0 < batch },
     pub ghost small_batch: { batch ≤ capacity },
+    pub ghost has_take_batch: { 0 < take_batch },
+    pub ghost small_take_batch: { take_batch ≤ capacity },
 }
 
 impl Shape {
-    ghost use Rattle.bits_core.specs.Shape.{AllFit, HasNumbers, HasBatch, IsRefused, IsRefusedBatch, batch_of, belongs, capacity_of, modulus_of, width_of};
+    ghost use Rattle.bits_core.specs.Shape.{AllFit, HasNumbers, HasBatch, HasBatches, IsRefused, IsRefusedBatch, IsRefusedBatches, batch_of, belongs, capacity_of, modulus_of, take_batch_of, width_of};
 
     /// The shape of these numbers, whose count writes count one item each: a capacity from 1 to 64, a modulus from
     /// the capacity + 2 to 256, and a width from 1 to 64. Else the first of the three that is out of its range, in
@@ -87,9 +100,9 @@ impl Shape {
         Shape::with_batch(capacity, modulus, width, 1)
     }
 
-    /// The shape of these numbers: a capacity from 1 to 64, a batch from 1 to the capacity, a modulus from the
-    /// capacity + the batch + 1 to 256, and a width from 1 to 64. Else the first of the four that is out of its
-    /// range, in this order.
+    /// The shape of these numbers, whose consumer counts one item each: a capacity from 1 to 64, a batch from 1 to
+    /// the capacity, a modulus from the capacity + the batch + 1 to 256, and a width from 1 to 64. Else the first
+    /// of the four that is out of its range, in this order.
     pub fn with_batch(
         capacity: u64,
         modulus: u64,
@@ -98,14 +111,37 @@ impl Shape {
     ) -> Result<Shape, ShapeFault>
         ensures { MatchResult result (HasBatch capacity modulus width batch) (IsRefusedBatch capacity modulus width batch) }
     {
+        Shape::with_batches(capacity, modulus, width, batch, 1)
+    }
+
+    /// The shape of these numbers: a capacity from 1 to 64, a batch and a take batch from 1 to the capacity, a
+    /// modulus from the capacity + the larger batch + 1 to 256, and a width from 1 to 64. Else the first of the five
+    /// that is out of its range, in this order; of the modulus this is told in the words of `ModulusOfBatches` where
+    /// the take batch is over 1.
+    pub fn with_batches(
+        capacity: u64,
+        modulus: u64,
+        width: u64,
+        batch: u64,
+        take_batch: u64,
+    ) -> Result<Shape, ShapeFault>
+        ensures { MatchResult result (HasBatches capacity modulus width batch take_batch) (IsRefusedBatches capacity modulus width batch take_batch) }
+    {
         if capacity == 0 || capacity > 64 {
             return Err(ShapeFault::Capacity);
         }
         if batch == 0 || batch > capacity {
             return Err(ShapeFault::Batch);
         }
-        if modulus <= capacity + batch || modulus > 256 {
-            return Err(ShapeFault::Modulus);
+        if take_batch == 0 || take_batch > capacity {
+            return Err(ShapeFault::TakeBatch);
+        }
+        if modulus <= capacity + batch || modulus <= capacity + take_batch || modulus > 256 {
+            return Err(if take_batch == 1 {
+                ShapeFault::Modulus
+            } else {
+                ShapeFault::ModulusOfBatches
+            });
         }
         if width == 0 || width > 64 {
             return Err(ShapeFault::Width);
@@ -115,6 +151,7 @@ impl Shape {
             modulus,
             width,
             batch,
+            take_batch,
         })
     }
 
@@ -127,7 +164,7 @@ impl Shape {
         self.capacity
     }
 
-    /// The modulus of the two counts, from the capacity + the batch + 1 to 256.
+    /// The modulus of the two counts, from the capacity + the larger batch + 1 to 256.
     pub fn modulus(&self) -> u64
         ensures value { result ≡ modulus_of self.now }
         ensures room { capacity_of self.now + 2 ≤ result }
@@ -152,6 +189,15 @@ impl Shape {
         ensures few { result ≤ capacity_of self.now }
     {
         self.batch
+    }
+
+    /// How many items one count write of the consumer may count, from 1 to the capacity.
+    pub fn take_batch(&self) -> u64
+        ensures value { result ≡ take_batch_of self.now }
+        ensures some { 0 < result }
+        ensures few { result ≤ capacity_of self.now }
+    {
+        self.take_batch
     }
 
     /// Whether a cell can hold the item: it is below 2 to the power of the width.

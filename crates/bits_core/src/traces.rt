@@ -90,17 +90,18 @@ impl<T: Drop> From<AllocFailed<T>> for TraceFault {
 
 /// The shape of the first line, where one stands at the front, and the bytes behind it.
 pub fn first_shape(bytes: &[u8]) -> Result<Option<(Shape, &[u8])>, ShapeFault>
-    ensures read { IfOk result (λ found. MatchOption found ((capacity modulus width batch : ℕ) → ¬ HasShapeLine bytes.now capacity modulus width batch) (λ x. BeginsWithShape bytes.now x.0 x.1.now)) }
+    ensures read { IfOk result (λ found. MatchOption found ((capacity modulus width batch take_batch : ℕ) → ¬ HasShapeLine bytes.now capacity modulus width batch take_batch) (λ x. BeginsWithShape bytes.now x.0 x.1.now)) }
     ensures refused { IfErr result (HasBadShape bytes.now) }
 {
     let Some((numbers, rest)) = shape_at(bytes) else {
         return Ok(None);
     };
-    match Shape::with_batch(
+    match Shape::with_batches(
         numbers.capacity,
         numbers.modulus,
         numbers.width,
         numbers.batch,
+        numbers.take_batch,
     ) {
         Ok(shape) => Ok(Some((shape, rest))),
         Err(fault) => Err(fault),

@@ -1,9 +1,9 @@
 //! Writing the text of a trace.
 ghost use Rattle.std.specs.Prelude.{◌≡◌, ◌≤◌, ◌++◌, OnOk, IfOk, IfErr, codes, decimal, length, string_bytes};
 ghost use Rattle.std.specs.List.{flat_map};
-ghost use Rattle.bits_core.specs.Shape.{batch_of, capacity_of, modulus_of, width_of};
+ghost use Rattle.bits_core.specs.Shape.{batch_of, capacity_of, modulus_of, take_batch_of, width_of};
 ghost use Rattle.bits_core.specs.Trace.{AreOfShape, IsTrace};
-ghost use Rattle.bits_core.specs.TraceText.{act_text, batch_text, bit_text, event_line, shape_line, side_text, trace_text, value_text};
+ghost use Rattle.bits_core.specs.TraceText.{act_text, batch_text, batches_text, bit_text, event_line, shape_line, side_text, trace_text, value_text};
 
 use crate::events::{Act, Bit, Event, Side};
 use crate::shapes::Shape;
@@ -118,23 +118,44 @@ fn push_batch<A: Allocator>(text: &mut String<A>, batch: u64) -> Result<(), Trac
     push_numbered(text, " ", batch)
 }
 
-// A batch, and the end of the line.
-fn push_last<A: Allocator>(text: &mut String<A>, batch: u64) -> Result<(), TraceFault>
-    ensures ok { OnOk result (string_bytes text.new ≡ string_bytes text.old ++ (batch_text batch ++ codes "\n")) }
+// Both batches, each after a space, where the take batch is not 1; else the batch alone, where it is not 1.
+#[tactic(auto, unfolding(crate::specs::TraceText::batches_text))]
+fn push_batches<A: Allocator>(
+    text: &mut String<A>,
+    batch: u64,
+    take_batch: u64,
+) -> Result<(), TraceFault>
+    ensures ok { OnOk result (string_bytes text.new ≡ string_bytes text.old ++ batches_text batch take_batch) }
     ensures err { IfErr result (λ e. e ≡ TraceFault.OutOfMemory) }
 {
-    push_batch(text, batch)?;
+    if take_batch == 1 {
+        return push_batch(text, batch);
+    }
+    push_numbered(text, " ", batch)?;
+    push_numbered(text, " ", take_batch)
+}
+
+// Both batches, and the end of the line.
+fn push_last<A: Allocator>(
+    text: &mut String<A>,
+    batch: u64,
+    take_batch: u64,
+) -> Result<(), TraceFault>
+    ensures ok { OnOk result (string_bytes text.new ≡ string_bytes text.old ++ (batches_text batch take_batch ++ codes "\n")) }
+    ensures err { IfErr result (λ e. e ≡ TraceFault.OutOfMemory) }
+{
+    push_batches(text, batch, take_batch)?;
     push_text(text, "\n")
 }
 
 fn push_shape<A: Allocator>(text: &mut String<A>, shape: &Shape) -> Result<(), TraceFault>
-    ensures ok { OnOk result (string_bytes text.new ≡ string_bytes text.old ++ shape_line (capacity_of shape.now) (modulus_of shape.now) (width_of shape.now) (batch_of shape.now)) }
+    ensures ok { OnOk result (string_bytes text.new ≡ string_bytes text.old ++ shape_line (capacity_of shape.now) (modulus_of shape.now) (width_of shape.now) (batch_of shape.now) (take_batch_of shape.now)) }
     ensures err { IfErr result (λ e. e ≡ TraceFault.OutOfMemory) }
 {
     push_numbered(text, "shape ", shape.capacity())?;
     push_numbered(text, " ", shape.modulus())?;
     push_numbered(text, " ", shape.width())?;
-    push_last(text, shape.batch())
+    push_last(text, shape.batch(), shape.take_batch())
 }
 
 /// The text of a trace: the line of the shape, and the line of each event, whose bits are all of

@@ -1,7 +1,7 @@
 use Rattle.std.proofs.Common.{◌++◌, List, ℕ, refl, sym, subst, rules}
 use Rattle.bits_core.specs.Trace.{RefusesTraceText}
 use Rattle.bits_core.specs.TraceAudits.{BeginsWithNoLine, HasEnded}
-use Rattle.bits_core.specs.Shape.{batch_of, capacity_of, modulus_of, width_of}
+use Rattle.bits_core.specs.Shape.{batch_of, capacity_of, modulus_of, take_batch_of, width_of}
 use Rattle.bits_core.specs.TraceText.{event_line, shape_line}
 use Rattle.bits_core.specs.declared.traces.TraceFault.TheVariants.{BadLine}
 use Rattle.bits_core.proofs.TraceTexts.{bad_shape_more, behind_ended, event_ends, first_ended, next_ended, no_line_refused, nothing_ended, shape_ends, too_many}
@@ -45,7 +45,7 @@ pub returns-in-Ok-Some-clause-read : goal.returns-in-Ok-Some-clause-read
 returns-in-Ok-Some-clause-read c =
     let shape = c.in-Ok-Some.shape in
     let begins = rw c.in-Ok-Some.field-0-is at c.in-Ok-Some.ensures.read in (
-      shape_line (capacity_of shape) (modulus_of shape) (width_of shape) (batch_of shape),
+      shape_line (capacity_of shape) (modulus_of shape) (width_of shape) (batch_of shape) (take_batch_of shape),
       shape_ends shape,
       begins,
       λ text ended. first_ended c.args.hearing.now c.new.result shape text c.in-None.is ended c.new.ensures,

@@ -4,14 +4,14 @@ use Rattle.std.proofs.lemmas.Bool.{eqb-true}
 use Rattle.bits_core.specs.declared.events.Event.{Event}
 use Rattle.bits_core.specs.declared.shapes.Shape.{Shape}
 use Rattle.bits_core.specs.declared.traces.TheConstants.{EVENT_LIMIT}
-use Rattle.bits_core.specs.Shape.{batch_of, capacity_of, modulus_of, width_of}
+use Rattle.bits_core.specs.Shape.{batch_of, capacity_of, modulus_of, take_batch_of, width_of}
 use Rattle.bits_core.specs.TraceText.{shape_line, trace_text}
 use Rattle.bits_core.specs.Trace.{AreOfShape, BeginsWithShape, HasMore}
 use Rattle.bits_core.proofs.TraceLemmas.{AreOfShape-push, goes_on_at, length-push, line_takes, text_more}
 use Rattle.bits_core.proofs.traces.read_lines.Goals as goal
 
 no_events : (shape : Shape) (bytes rest : List ℕ) → BeginsWithShape bytes shape rest → bytes ≡ trace_text shape [] ++ rest
-no_events shape bytes rest begins = begins ∙ ap (λ (t : List ℕ). t ++ rest) (sym (append-nil (shape_line (capacity_of shape) (modulus_of shape) (width_of shape) (batch_of shape))))
+no_events shape bytes rest begins = begins ∙ ap (λ (t : List ℕ). t ++ rest) (sym (append-nil (shape_line (capacity_of shape) (modulus_of shape) (width_of shape) (batch_of shape) (take_batch_of shape))))
 
 no_bytes : (rest : List ℕ) → true ≡ (length rest == 0) → rest ≡ []
 no_bytes [] is = refl

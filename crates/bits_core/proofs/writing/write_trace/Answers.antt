@@ -2,7 +2,7 @@ use Rattle.std.proofs.Common.{◌≡◌, ℕ, ◌+◌, ◌<◌, ◌++◌, List, 
 use Rattle.std.proofs.lemmas.List.{flat_map_more, take_all, take_more}
 use Rattle.bits_core.specs.declared.events.Event.{Event}
 use Rattle.bits_core.specs.declared.shapes.Shape.{Shape}
-use Rattle.bits_core.specs.Shape.{batch_of, capacity_of, modulus_of, width_of}
+use Rattle.bits_core.specs.Shape.{batch_of, capacity_of, modulus_of, take_batch_of, width_of}
 use Rattle.bits_core.specs.TraceText.{event_line, shape_line, trace_text}
 use Rattle.bits_core.proofs.writing.write_trace.Goals as goal
 
@@ -23,14 +23,14 @@ returns-clause-again g c few =
 text_pushed : (shape : Shape) (events : List Event) (k : ℕ) (d : Event) (before after : List ℕ) → k < length events → before ≡ trace_text shape (take k events) → after ≡ before ++ event_line (get_or events k d)
     → after ≡ trace_text shape (take (k + 1) events)
 text_pushed shape events k d before after below so_far pushed =
-    let line : List ℕ = shape_line (capacity_of shape) (modulus_of shape) (width_of shape) (batch_of shape) in
+    let line : List ℕ = shape_line (capacity_of shape) (modulus_of shape) (width_of shape) (batch_of shape) (take_batch_of shape) in
     let e : Event = get_or events k d in
     pushed ∙ ap (λ (t : List ℕ). t ++ event_line e) so_far ∙ flat_map_more event_line line (take k events) e ∙ ap (λ (t : List Event). trace_text shape t) (sym (take_more events k d below))
 
 pub loop-event-init : goal.loop-event-init
 loop-event-init g c =
     let shape = c.args.shape.now in
-    let line : List ℕ = shape_line (capacity_of shape) (modulus_of shape) (width_of shape) (batch_of shape) in
+    let line : List ℕ = shape_line (capacity_of shape) (modulus_of shape) (width_of shape) (batch_of shape) (take_batch_of shape) in
     c.in_ok-push_shape.ensures.ok ∙ ap (λ (t : List ℕ). t ++ line) c.new-text.ensures.bytes ∙ sym (append-nil line)
 
 pub loop-event-preserved : goal.loop-event-preserved
