@@ -10,7 +10,7 @@ const ACTS = ["read", "got", "write", "wrote"];
 const FAMILIES = ["s", "r", "x", "c"];
 const KINDS = ["", "wrong side", "out of turn", "not permitted", "not of the program"];
 const WHYS = ["", "the bit is not of the shape, or this side may not do this to it"];
-const TOLD = 10 + 8 + 3 * 6; // numbers of what an audit tells: of the trace, of its programs, of three events that were due
+const TOLD = 11 + 8 + 3 * 6; // numbers of what an audit tells: of the trace, of its programs, of three events that were due
 const CALLS_TOLD = 6 + 11; // numbers of what is told of recorded calls: the finding with its lines, how many bytes its words have and whether it is cut, the report
 const CAUSE_WORDS = 256; // bytes that hold the words of any cause
 const MOST_TAKEN = 65536; // items taken that the audit of recorded calls keeps
@@ -23,7 +23,8 @@ export const WORDS = ["P put", "P close", "C take", "P stored", "P some", "P ful
   "C short", "C nothing", "C closed"];
 const BEGINNING = 3; // so many of the first of them begin a call
 const SHAPE_FAULTS = ["", "capacity must be from 1 to 64", "modulus must be from capacity + batch + 1 to 256",
-  "width must be from 1 to 64", "batch must be from 1 to capacity"];
+  "width must be from 1 to 64", "batch must be from 1 to capacity", "take batch must be from 1 to capacity",
+  "modulus must be from capacity + the larger batch + 1 to 256"];
 
 function traceFault({number, place, shapeFault}) {
   return ["", SHAPE_FAULTS[shapeFault], `trace line ${place} is not a line of the format`, "trace has too many events",
@@ -77,8 +78,8 @@ function spacesIn(bytes) {
 }
 
 // The text of a trace, as docs/FORMATS.md has it.
-export function traceOf({capacity, modulus, width, batch}, events) {
-  const shape = ["shape", capacity, modulus, width, ...(batch > 1 ? [batch] : [])].join(" ");
+export function traceOf({capacity, modulus, width, batch, take_batch}, events) {
+  const shape = ["shape", capacity, modulus, width, ...(take_batch > 1 ? [batch, take_batch] : batch > 1 ? [batch] : [])].join(" ");
   const lines = events.map(it => [it.side, it.act, it.bit, ...(it.value === undefined ? [] : [it.value])].join(" "));
   return [shape, ...lines, ""].join("\n");
 }
@@ -140,12 +141,12 @@ export async function openModule(bytes) {
     const [told, marks, put, taken, at] = lay([TOLD * 8, EVENTS * MARK, EVENTS * 8, EVENTS * 8, bytes.length]);
     setBytes(at, bytes);
     call("page_audit", at, bytes.length, marks, EVENTS, put, EVENTS, taken, EVENTS, told);
-    const [outcome, number, place, shapeFault, count, capacity, modulus, width, batch, since, ...found] = getNumbers(told, TOLD);
+    const [outcome, number, place, shapeFault, count, capacity, modulus, width, batch, take_batch, since, ...found] = getNumbers(told, TOLD);
     if (outcome === 2) {
       const line = number === 2 ? place : number === 1 ? 1 : 0;
       return {refused: traceFault({number, place, shapeFault}), line};
     }
-    const shape = {capacity, modulus, width, batch}, events = getEvents(marks, count), programs = programsOf(found);
+    const shape = {capacity, modulus, width, batch, take_batch}, events = getEvents(marks, count), programs = programsOf(found);
     if (outcome === 0) return {words: "lawful", kind: "", why: "", place: null, shape, events, programs};
     const kind = KINDS[number];
     return {words: `fault: line ${place + 2}: ${kind}`, kind, why: WHYS[number] ?? "", place, since, shape, events, programs};
@@ -160,17 +161,17 @@ export async function openModule(bytes) {
     const found = [];
     for (let past = bytes.indexOf(10) + 1; found.length <= most && past > 0; past = bytes.indexOf(10, past) + 1) {
       call("page_audit", at, past, told, 0, put, slots, taken, slots, told);
-      found.push(programsOf(getNumbers(told, TOLD).slice(10)));
+      found.push(programsOf(getNumbers(told, TOLD).slice(11)));
     }
     const last = found.at(-1), items = (place, count) => [...new BigUint64Array(exports.memory.buffer, place, count)].map(String);
     return {found, put: items(put, last.put), taken: items(taken, last.taken)};
   };
 
   // Lays a script of which so many letters are played, and pieces of these lengths: what a play is told of it, and where the pieces are.
-  const layScript = ({capacity, modulus, width, batch, items, takes, close, ...texts}, letters, lengths) => {
+  const layScript = ({capacity, modulus, width, batch, take_batch, items, takes, close, ...texts}, letters, lengths) => {
     const schedule = new TextEncoder().encode(texts.schedule), oracle = new TextEncoder().encode(texts.oracle);
-    const [asked, itemsAt, scheduleAt, oracleAt, ...places] = lay([7 * 8, items.length * 8, schedule.length, oracle.length, ...lengths]);
-    setNumbers(asked, [capacity, modulus, width, batch, takes, close ? 1 : 0, letters]);
+    const [asked, itemsAt, scheduleAt, oracleAt, ...places] = lay([8 * 8, items.length * 8, schedule.length, oracle.length, ...lengths]);
+    setNumbers(asked, [capacity, modulus, width, batch, take_batch, takes, close ? 1 : 0, letters]);
     setNumbers(itemsAt, items);
     setBytes(scheduleAt, schedule);
     setBytes(oracleAt, oracle);
@@ -180,21 +181,21 @@ export async function openModule(bytes) {
   // The play of the first letters of a script: {refused} or {shape, events, report, letters}, where `letters` is how
   // many the schedule stands for. The events are told where they are wanted.
   const play = (script, letters, isDrawn = true) => {
-    const {capacity, modulus, width, batch, items} = script, room = isDrawn ? EVENTS : 0;
+    const {capacity, modulus, width, batch, take_batch, items} = script, room = isDrawn ? EVENTS : 0;
     const [asked, [told, put, taken, marks]] = layScript(script, letters, [12 * 8, items.length * 8, items.length * 8, room * MARK]);
     call("page_play", ...asked, marks, room, put, items.length, taken, items.length, told);
     const [outcome, number, place, shapeFault, count, putCount, takenCount, isTold, full, empty, flicker, all] = getNumbers(told, 12);
     if (outcome === 2) return {refused: scriptFault({number, place, shapeFault})};
     const report = {events: count, put: getNumbers(put, putCount), taken: getNumbers(taken, takenCount), told: isTold === 1,
       full, empty, flicker};
-    return {shape: {capacity, modulus, width, batch}, events: getEvents(marks, Math.min(count, room)), report, letters: all};
+    return {shape: {capacity, modulus, width, batch, take_batch}, events: getEvents(marks, Math.min(count, room)), report, letters: all};
   };
 
   // The same by the ring that is nearly right of this name: {refused} or {shape, events, told, letters, roundAt} and how many
   // events and tellings there are. Its counts go round at `roundAt`, and `told` has each begin of a call, with its `kind`, and each end, with its `reply`, {side, kind, reply, number}: of a put that
   // begins `number` items are stored, by one that ends so many were, and a take has this item.
   const playNear = (name, script, letters, isDrawn = true) => {
-    const {capacity, modulus, width, batch} = script, room = isDrawn ? EVENTS : 0;
+    const {capacity, modulus, width, batch, take_batch} = script, room = isDrawn ? EVENTS : 0;
     const [asked, [played, tellings, marks]] = layScript(script, letters, [8 * 8, room * 2 * 8, room * MARK]);
     call("page_play_near", MISSES.indexOf(name) + 1, ...asked, marks, room, tellings, room, played);
     const [outcome, number, place, shapeFault, count, toldCount, all, roundAt] = getNumbers(played, 8);
@@ -204,7 +205,7 @@ export async function openModule(bytes) {
       const [side, word] = WORDS[numbers[2 * i]].split(" "), number = numbers[2 * i + 1];
       return numbers[2 * i] < BEGINNING ? {side, kind: word, reply: "", number} : {side, kind: "", reply: word, number};
     });
-    return {shape: {capacity, modulus, width, batch}, events: getEvents(marks, Math.min(count, room)), told, toldCount, count, letters: all, roundAt};
+    return {shape: {capacity, modulus, width, batch, take_batch}, events: getEvents(marks, Math.min(count, room)), told, toldCount, count, letters: all, roundAt};
   };
 
   // Lays a text, and tells where and how many bytes it has: without a copy of it on the way, where each of its characters is a byte.

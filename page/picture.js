@@ -194,6 +194,7 @@ export function picture({shape, events, whole = events, fault = null, wholeFault
   const drawHead = () => {
     const parts = [`capacity ${shape.capacity}`, `modulus ${shape.modulus}`, `width ${shape.width}`];
     if (shape.batch > 1) parts.push(`batch ${shape.batch}`);
+    if (shape.take_batch > 1) parts.push(`take batch ${shape.take_batch}`);
     if (roundAt !== shape.modulus) parts.push(`counts go round at ${roundAt}`);
     if (wavesInAll > MOST_WAVES) parts.push(waveBits.length < wavesInAll ? `waveforms of ${waveBits.length} of ${wavesInAll} bits` : `waveforms of all ${wavesInAll} bits`);
     sheet.drawHead(parts);

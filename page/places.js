@@ -76,8 +76,8 @@ export function placeOf(mode, text, {refused, line}) {
     const cause = text.trim() === "" ? "there is no text" : text.startsWith("shape ") ? "it looks like a trace" : /^(cut )?queue\b/.test(text) ? "it looks like recorded calls" : `here was to come: ${due}`;
     return {from, to, cause};
   }
-  const name = /^field (\w+) (?!is missing)|^(capacity|modulus|width|batch) must|^(item|schedule|oracle)\b/.exec(refused);
-  const it = name && fieldIn(text, name[1] ?? name[2] ?? name[3].replace("item", "items"));
+  const name = /^field (\w+) (?!is missing)|^(capacity|modulus|width|batch|take batch) must|^(item|schedule|oracle)\b/.exec(refused);
+  const it = name && fieldIn(text, name[1] ?? name[2]?.replace(" ", "_") ?? name[3].replace("item", "items"));
   if (!it) return null;
   const [, item] = /^item (\d+) /.exec(refused) ?? [], [, byte] = /is wrong at byte (\d+)$/.exec(refused) ?? [];
   if (byte !== undefined && !text.slice(it.from, it.to).includes("\\")) {

@@ -7,8 +7,8 @@ import { MISSES } from "./module.js";
 const isWhole = it => Number.isInteger(it) && it >= 0;
 const isText = it => typeof it === "string";
 const FIELDS = {capacity: isWhole, modulus: isWhole, width: isWhole, items: it => Array.isArray(it) && it.every(isWhole),
-  takes: isWhole, close: it => typeof it === "boolean", schedule: isText, oracle: isText, batch: isWhole, wrong: isText};
-const MAY_LACK = {batch: 1, wrong: ""};
+  takes: isWhole, close: it => typeof it === "boolean", schedule: isText, oracle: isText, batch: isWhole, take_batch: isWhole, wrong: isText};
+const MAY_LACK = {batch: 1, take_batch: 1, wrong: ""};
 
 // A number with a sign, a fraction or an exponent is no whole number. (Engines that do not give the reviver the
 // number's text, Firefox before 135, take 1.0 for 1.)
@@ -35,7 +35,7 @@ export function readScript(text) {
   // From 2^53 on a number of JavaScript may stand for several whole numbers.
   const large = script.items.findIndex(it => !Number.isSafeInteger(it));
   if (large >= 0) return {refused: `item ${large} is not below 2^53: this page does not tell such numbers exactly`};
-  for (const name of ["capacity", "modulus", "width", "takes", "batch"])
+  for (const name of ["capacity", "modulus", "width", "takes", "batch", "take_batch"])
     if (!Number.isSafeInteger(script[name])) return {refused: `field ${name} is not below 2^53: this page does not tell such numbers exactly`};
   if (script.wrong && !MISSES.includes(script.wrong)) return {refused: `field wrong names no ring that is nearly right: these are ${MISSES.join(", ")}`};
   return {script};

@@ -119,7 +119,7 @@ shape_fault_number Modulus = 2
 shape_fault_number Width = 3
 shape_fault_number Batch = 4
 shape_fault_number TakeBatch = 5
-shape_fault_number ModulusOfBatches = 2
+shape_fault_number ModulusOfBatches = 6
 
 -- whether a bit is one of the shape's
 abbrev pub belongs : Shape → Bit → Bool

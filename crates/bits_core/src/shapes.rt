@@ -46,7 +46,7 @@ impl Error for ShapeFault {}
 impl ShapeFault {
     ghost use Rattle.bits_core.specs.Shape.{shape_fault_number};
 
-    /// The number of the fault: 1 `Capacity`, 2 `Modulus` and `ModulusOfBatches`, 3 `Width`, 4 `Batch`, 5 `TakeBatch`.
+    /// The number of the fault: 1 `Capacity`, 2 `Modulus`, 3 `Width`, 4 `Batch`, 5 `TakeBatch`, 6 `ModulusOfBatches`.
     pub fn number(&self) -> u8
         ensures { result ≡ shape_fault_number self.now }
     {
@@ -56,7 +56,7 @@ impl ShapeFault {
             ShapeFault::Width => 3,
             ShapeFault::Batch => 4,
             ShapeFault::TakeBatch => 5,
-            ShapeFault::ModulusOfBatches => 2,
+            ShapeFault::ModulusOfBatches => 6,
         }
     }
 }

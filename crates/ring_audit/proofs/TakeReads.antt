@@ -14,7 +14,8 @@ use Rattle.register_core.specs.Word.{digit_reads}
 use Rattle.register_core.specs.WordState.{ReaderState, due_read}
 use Rattle.register_core.specs.ScanState.{ScanState, zero_reads, scan_phrase, row_read_by, due_scan}
 use Rattle.register_core.specs.UnaryState.{due_writes, first_access}
-use Rattle.ring_core.specs.Counts.{first_count, take_batch_of}
+use Rattle.bits_core.specs.Shape.{take_batch_of}
+use Rattle.ring_core.specs.Counts.{first_count}
 use Rattle.ring_core.specs.declared.consumers.TakeReply.{TakeReply}
 use Rattle.ring_core.specs.Calls.{LastBitIsDue}
 use Rattle.ring_core.specs.Takes.{Takes, End, Open, Closed, words_read, take_phrases, end_phrase, take_program, AreTakes}

@@ -5,7 +5,8 @@ use Rattle.bits_core.specs.declared.events.Access.{Access}
 use Rattle.bits_core.specs.declared.events.Event.{Event}
 use Rattle.bits_core.specs.declared.shapes.Shape.{Shape}
 use Rattle.bits_core.specs.Made.{Made, events_of, IsBeginning}
-use Rattle.ring_core.specs.Counts.{first_count, take_batch_of}
+use Rattle.bits_core.specs.Shape.{take_batch_of}
+use Rattle.ring_core.specs.Counts.{first_count}
 use Rattle.ring_core.specs.Takes.{Takes, take_program, AreTakes}
 use Rattle.ring_core.specs.Items.{all_taken, items_taken, IsTold}
 use Rattle.ring_core.specs.GoingOn.{EndInCellRead}

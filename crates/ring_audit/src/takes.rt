@@ -6,7 +6,7 @@ ghost use Rattle.bits_core.specs.declared.events.Event.{Event as AnEvent};
 ghost use Rattle.bits_core.specs.declared.events.Access.{Access as AnAccess};
 ghost use Rattle.bits_core.specs.Made.{answered, end_event, opening_event};
 ghost use Rattle.ring_core.specs.ConsumerState.{IsBetweenWords, due_take};
-ghost use Rattle.ring_core.specs.Counts.{take_batch_of};
+    ghost use Rattle.bits_core.specs.Shape.{take_batch_of};
 ghost use Rattle.ring_core.specs.GoingOn.{WritesTakeCount};
 ghost use Rattle.ring_audit.specs.Sides.{AreOfTakes};
 ghost use Rattle.ring_audit.specs.Dues.{AreInOrder, IsNoneOf};
@@ -39,18 +39,9 @@ pub struct TakeReader {
     open_access: Option<Access>,
 }
 
-// The most items that a take may take.
-fn most_of(shape: &Shape) -> u64
-    ensures most { result ≡ take_batch_of shape.now }
-    ensures some { 1 ≤ result }
-{
-    let _ = shape;
-    1
-}
-
 impl Model for TakeReader {
     ghost use Rattle.std.specs.Prelude.{◌≡◌, ◌≤◌};
-    ghost use Rattle.ring_core.specs.Counts.{take_batch_of};
+    ghost use Rattle.bits_core.specs.Shape.{take_batch_of};
     ghost use Rattle.ring_audit.specs.TakeReading.{TakeReading, IsTakeReading};
 
     ghost Value = { TakeReading };
@@ -68,7 +59,7 @@ impl TakeReader {
     {
         TakeReader {
             consumer: Consumer::new(*shape),
-            most: most_of(shape),
+            most: shape.take_batch(),
             open_access: None,
         }
     }

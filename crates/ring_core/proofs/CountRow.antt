@@ -8,11 +8,11 @@ use Rattle.std.proofs.Math.Nat.{suc-mod, mod_self, mod-eq_of_lt, zero-mod}
 use Rattle.bits_core.specs.declared.events.Side.{Side}
 use Rattle.bits_core.specs.declared.events.Side.TheVariants.{P, C}
 use Rattle.bits_core.specs.declared.shapes.Shape.{Shape}
-use Rattle.bits_core.specs.Shape.{batch_of, capacity_of, modulus_of}
+use Rattle.bits_core.specs.Shape.{batch_of, capacity_of, modulus_of, take_batch_of}
 use Rattle.bits_core.specs.Made.{Write}
 use Rattle.register_core.specs.Row.{RowWrite, row_bit, first_bits, bits_with, bits_after}
 use Rattle.register_core.specs.Unary.{clearing, setting, unary_phrase, unary_writes, row_writes, writes_of}
-use Rattle.ring_core.specs.Counts.{bits_held, counted, count_phrase, number_past, Count, first_count, count_bits, batch_phrase, take_batch_of, batch_by, IsCount}
+use Rattle.ring_core.specs.Counts.{bits_held, counted, count_phrase, number_past, Count, first_count, count_bits, batch_phrase, batch_by, IsCount}
 use Rattle.ring_core.proofs.Distances.{apart}
 
 -- ---- a unary write over any bits
@@ -307,16 +307,7 @@ batch_below shape = omega (arith, shape.room_to_count)
 
 -- and so is a batch of takes
 pub take_batch_fits : (shape : Shape) → suc (capacity_of shape + take_batch_of shape) ≤ modulus_of shape
-unfolding take_batch_of
-take_batch_fits shape = omega (arith, shape.room_to_count, shape.has_batch)
-
-pub has_take_batch : (shape : Shape) → 1 ≤ take_batch_of shape
-unfolding take_batch_of
-has_take_batch shape = omega arith
-
-pub small_take_batch : (shape : Shape) → take_batch_of shape ≤ capacity_of shape
-unfolding take_batch_of
-small_take_batch shape = omega (arith, shape.has_cells)
+take_batch_fits shape = omega (arith, shape.room_to_take)
 
 pub take_batch_below : (shape : Shape) → take_batch_of shape < modulus_of shape
 take_batch_below shape = omega (arith, take_batch_fits shape)

@@ -5,7 +5,7 @@ use Rattle.bits_core.specs.declared.events.Bit.TheVariants.{S, R, X, Cell}
 use Rattle.bits_core.specs.declared.shapes.Shape.{Shape}
 use Rattle.bits_core.specs.Made.{Read, Write}
 use Rattle.register_core.specs.ScanState.{scan_phrase, row_read_by}
-use Rattle.ring_core.specs.Counts.{first_count, take_batch_of}
+use Rattle.ring_core.specs.Counts.{first_count}
 use Rattle.ring_core.specs.Puts.{Puts, Stored, put_program, ArePuts}
 use Rattle.ring_core.specs.Takes.{Takes, Item, ItemAfterClose, Empty, Open, Closed, take_phrases, take_program, IsTakeBatch, AreTakes}
 use Rattle.ring_core.specs.Items.{items_put, items_taken, IsTold}
@@ -19,14 +19,18 @@ one_cell = record {
   modulus = 3;
   width = 1;
   batch = 1;
+  take_batch = 1;
   has_cells = omega arith;
   few_cells = omega arith;
   room_to_count = omega arith;
+  room_to_take = omega arith;
   small_modulus = omega arith;
   has_digits = omega arith;
   few_digits = omega arith;
   has_batch = omega arith;
   small_batch = omega arith;
+  has_take_batch = omega arith;
+  small_take_batch = omega arith;
 }
 
 -- ---- an item goes through: 8 events of the producer and 10 of the consumer
@@ -51,11 +55,11 @@ one_take-is = refl
 
 -- one item of one digit is taken under one count write
 one_fits : IsTakeBatch one_cell (1 ∷ [])
-unfolding one_cell take_batch_of
+unfolding one_cell
 one_fits = record { some = omega arith; few = omega arith; fit = (omega arith, tt) }
 
 one_take-are : AreTakes one_cell 0 one_take.takes one_take.end
-unfolding one_cell take_batch_of
+unfolding one_cell
 one_take-are = (((omega arith, omega arith, omega arith), one_fits), record {})
 
 -- the item is put with the begin of its count write, which is event 4 of the producer, and taken with its take's last event
@@ -76,7 +80,7 @@ unfolding one_cell
 seen_old-is = refl
 
 seen_old-are : AreTakes one_cell 0 seen_old.takes seen_old.end
-unfolding one_cell take_batch_of
+unfolding one_cell
 seen_old-are = (((omega arith, omega arith, omega arith), one_fits), ((omega arith, λ (low, high). omega (arith, high)), record {}))
 
 -- ---- a second scan finds the item, and the next take is told that the ring is closed
@@ -103,7 +107,7 @@ unfolding one_cell
 second_scan-is = refl
 
 pub second_scan-are : AreTakes one_cell 0 second_scan.takes second_scan.end
-unfolding one_cell take_batch_of
+unfolding one_cell
 second_scan-are = (
   ((omega arith, λ (low, high). omega (arith, low)), (omega arith, omega arith, omega arith), one_fits),
   ((omega arith, λ (low, high). omega (arith, low)), (omega arith, λ (low, high). omega (arith, low))),
@@ -122,14 +126,18 @@ three_cells = record {
   modulus = 7;
   width = 1;
   batch = 3;
+  take_batch = 1;
   has_cells = omega arith;
   few_cells = omega arith;
   room_to_count = omega arith;
+  room_to_take = omega arith;
   small_modulus = omega arith;
   has_digits = omega arith;
   few_digits = omega arith;
   has_batch = omega arith;
   small_batch = omega arith;
+  has_take_batch = omega arith;
+  small_take_batch = omega arith;
 }
 
 abbrev pub three_at_once : Puts

@@ -5,9 +5,9 @@ use Rattle.queue_calls.specs.Queue.{queue}
 use Rattle.bits_core.specs.declared.events.Side.TheVariants.{P, C}
 use Rattle.bits_core.specs.declared.events.Event.{Event}
 use Rattle.bits_core.specs.declared.shapes.Shape.{Shape}
-use Rattle.bits_core.specs.Shape.{batch_of, capacity_of}
+use Rattle.bits_core.specs.Shape.{batch_of, capacity_of, take_batch_of}
 use Rattle.bits_core.specs.Made.{own, clock}
-use Rattle.ring_core.specs.Counts.{Count, first_count, take_batch_of}
+use Rattle.ring_core.specs.Counts.{Count, first_count}
 use Rattle.ring_core.specs.Puts.{Puts, put_phrases}
 use Rattle.ring_core.specs.Takes.{Take, Item, ItemAfterClose, Empty, Takes, taken_in, count_after, take_phrase, take_phrases, end_phrase, take_program}
 use Rattle.ring_core.specs.Items.{events_in, items_put, items_taken, Tells}

@@ -6,11 +6,11 @@ use Rattle.bits_core.specs.declared.events.Side.{Side}
 use Rattle.bits_core.specs.declared.events.Side.TheVariants.{P, C}
 use Rattle.bits_core.specs.declared.events.Bit.TheVariants.{X}
 use Rattle.bits_core.specs.declared.shapes.Shape.{Shape}
-use Rattle.bits_core.specs.Shape.{AllFit, batch_of, capacity_of, modulus_of, width_of}
+use Rattle.bits_core.specs.Shape.{AllFit, batch_of, capacity_of, modulus_of, take_batch_of, width_of}
 use Rattle.bits_core.specs.Made.{Made, Read}
 use Rattle.register_core.specs.Word.{word_read}
 use Rattle.register_core.specs.ScanState.{scan_phrase, row_read_by}
-use Rattle.ring_core.specs.Counts.{distance, number_past, Count, first_count, batch_phrase, take_batch_of, IsCount}
+use Rattle.ring_core.specs.Counts.{distance, number_past, Count, first_count, batch_phrase, IsCount}
 use Rattle.ring_core.specs.Puts.{Put, Stored, Full, Puts, stored_after, words_phrase, put_phrases, close_phrase, ArePuts}
 use Rattle.ring_core.specs.Takes.{Take, Item, ItemAfterClose, Empty, End, Open, Closed, Takes, count_after, items_phrase, take_phrases, end_phrase, AreTakes}
 use Rattle.ring_core.specs.Items.{items_put, items_taken}

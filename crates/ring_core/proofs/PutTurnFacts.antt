@@ -5,10 +5,10 @@ use Rattle.bits_core.specs.declared.events.Side.{Side}
 use Rattle.bits_core.specs.declared.events.Side.TheVariants.{P, C}
 use Rattle.bits_core.specs.declared.events.Event.{Event}
 use Rattle.bits_core.specs.declared.shapes.Shape.{Shape}
-use Rattle.bits_core.specs.Shape.{batch_of, capacity_of}
+use Rattle.bits_core.specs.Shape.{batch_of, capacity_of, take_batch_of}
 use Rattle.bits_core.specs.Made.{own, clock, place_of, IsPlaceOf}
 use Rattle.register_core.specs.ScanState.{scan_phrase, row_read_by}
-use Rattle.ring_core.specs.Counts.{number_past, Count, first_count, batch_phrase, take_batch_of}
+use Rattle.ring_core.specs.Counts.{number_past, Count, first_count, batch_phrase}
 use Rattle.ring_core.specs.Puts.{Put, Stored, Full, Puts, stored_after, words_phrase, put_phrase, put_phrases}
 use Rattle.ring_core.specs.Takes.{Takes}
 use Rattle.ring_core.specs.Items.{events_in, items_put}

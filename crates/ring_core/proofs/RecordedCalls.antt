@@ -5,8 +5,8 @@ use Rattle.queue_calls.specs.Calls as calls
 use Rattle.queue_calls.specs.Calls.{PutBegin, TakeBegin}
 use Rattle.bits_core.specs.declared.events.Side.TheVariants.{P, C}
 use Rattle.bits_core.specs.declared.shapes.Shape.{Shape}
-use Rattle.bits_core.specs.Shape.{batch_of}
-use Rattle.ring_core.specs.Counts.{Count, first_count, take_batch_of}
+use Rattle.bits_core.specs.Shape.{batch_of, take_batch_of}
+use Rattle.ring_core.specs.Counts.{Count, first_count}
 use Rattle.ring_core.specs.Puts.{Put, Stored, Full, Puts, number_after, stored_after, put_phrase, put_phrases, ArePuts}
 use Rattle.ring_core.specs.Takes.{Take, Item, ItemAfterClose, Empty, End, Takes, taken_after, count_after, take_phrase, take_phrases, end_phrase, take_program, AreTakes}
 use Rattle.ring_core.specs.Items.{events_in, all_put, taken_of}

@@ -11,10 +11,10 @@ use Rattle.queue_calls.specs.declared.turns.TakeTurn.TheVariants.{Rests, Waits}
 use Rattle.bits_core.specs.declared.events.Side.TheVariants.{P, C}
 use Rattle.bits_core.specs.declared.events.Event.{Event}
 use Rattle.bits_core.specs.declared.shapes.Shape.{Shape}
-use Rattle.bits_core.specs.Shape.{batch_of, capacity_of, modulus_of}
+use Rattle.bits_core.specs.Shape.{batch_of, capacity_of, modulus_of, take_batch_of}
 use Rattle.bits_core.specs.Made.{own, clock, place_of, IsPlaceOf}
 use Rattle.register_core.specs.ScanState.{row_read_by}
-use Rattle.ring_core.specs.Counts.{distance, Count, first_count, take_batch_of}
+use Rattle.ring_core.specs.Counts.{distance, Count, first_count}
 use Rattle.ring_core.specs.Puts.{Puts}
 use Rattle.ring_core.specs.Takes.{Take, Item, ItemAfterClose, Empty, End, Open, Closed, Takes, count_after, end_phrase, take_program}
 use Rattle.ring_core.specs.Items.{events_in, all_put, taken_of, Tells}

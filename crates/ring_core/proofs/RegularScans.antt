@@ -6,7 +6,7 @@ use Rattle.bits_core.specs.declared.events.Side.{Side}
 use Rattle.bits_core.specs.declared.events.Side.TheVariants.{P, C}
 use Rattle.bits_core.specs.declared.events.Event.{Event}
 use Rattle.bits_core.specs.declared.shapes.Shape.{Shape}
-use Rattle.bits_core.specs.Shape.{batch_of, modulus_of}
+use Rattle.bits_core.specs.Shape.{batch_of, modulus_of, take_batch_of}
 use Rattle.bits_core.specs.Bits.{other}
 use Rattle.bits_core.specs.Lawful.{IsLawful}
 use Rattle.bits_core.specs.Laws.{OwnHasPlace}
@@ -14,7 +14,7 @@ use Rattle.bits_core.specs.Made.{Made, own, clock, place_of, events_of, IsBeginn
 use Rattle.register_core.specs.UnaryLaw.{count_write, count_begun, count_ended, WritesUnary, ended_before, begun_before, IsScan, IsRegularValue, UnaryIsRegular}
 use Rattle.register_core.specs.MadeReads.{begin_place, end_place, ScansAreMade}
 use Rattle.register_core.specs.ScanState.{row_read_by}
-use Rattle.ring_core.specs.Counts.{first_count, take_batch_of}
+use Rattle.ring_core.specs.Counts.{first_count}
 use Rattle.ring_core.specs.Puts.{Puts, close_phrase, FollowsPuts}
 use Rattle.ring_core.specs.Takes.{Takes, FollowsTakes}
 use Rattle.ring_core.proofs.Spans.{Span, counts_begun, counts_ended, IsSpanAt, tally}

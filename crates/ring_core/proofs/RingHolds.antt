@@ -8,7 +8,7 @@ use Rattle.bits_core.specs.declared.events.Side.TheVariants.{P, C}
 use Rattle.bits_core.specs.declared.events.Bit.TheVariants.{X}
 use Rattle.bits_core.specs.declared.events.Event.{Event}
 use Rattle.bits_core.specs.declared.shapes.Shape.{Shape}
-use Rattle.bits_core.specs.Shape.{batch_of, capacity_of, modulus_of, width_of}
+use Rattle.bits_core.specs.Shape.{batch_of, capacity_of, modulus_of, take_batch_of, width_of}
 use Rattle.bits_core.specs.Intervals as intervals
 use Rattle.bits_core.specs.Made.{Made, Read, events_of, own, clock, place_of, IsPlaceOf, IsBeginning}
 use Rattle.register_core.specs.MadeReads.{ScansAreMade, WordReadsAreMade}
@@ -16,7 +16,7 @@ use Rattle.register_core.specs.MadeWrites.{CellWritesAreMade}
 use Rattle.register_core.specs.ScanState.{scan_phrase, row_read_by}
 use Rattle.register_core.specs.UnaryLaw.{UnaryIsRegular}
 use Rattle.register_core.specs.WordLaw.{WordIsSafe}
-use Rattle.ring_core.specs.Counts.{Count, first_count, take_batch_of}
+use Rattle.ring_core.specs.Counts.{Count, first_count}
 use Rattle.ring_core.specs.Puts.{Put, Puts, Stored, Full, stored_after, put_phrases, close_phrase}
 use Rattle.ring_core.specs.Takes.{Takes, Open, Closed, End, take_program}
 use Rattle.ring_core.specs.Items.{events_in, all_put, Tells}
@@ -33,7 +33,7 @@ use Rattle.ring_core.proofs.OwnEvents.{clock_within, clock_end, clock_rises, one
 use Rattle.ring_core.proofs.Following.{length-events}
 use Rattle.ring_core.proofs.LookSpans.{LookAt}
 use Rattle.ring_core.proofs.Looks.{puts_as_looks, takes_as_looks, proper_puts, proper_takes, total_is, look_from_first, words_are, asks_word, puts_items, takes_items, put_rules, take_rules, put_fits, take_fits, last_two}
-use Rattle.ring_core.proofs.CountRow.{batch_fits, has_batch, take_batch_fits, has_take_batch}
+use Rattle.ring_core.proofs.CountRow.{batch_fits, has_batch, take_batch_fits}
 use Rattle.ring_core.proofs.CellPlaces.{doubled, multiple_up}
 use Rattle.ring_core.proofs.RegularScans.{put_events, take_events, puts_regular, takes_regular}
 use Rattle.ring_core.proofs.CloseReads.{OwnFacts, read_of_close}
@@ -121,7 +121,7 @@ module _ (facts : OwnFacts) (regular : UnaryIsRegular) (scans_made : ScansAreMad
     modulus_fits = batch_fits shape;
     has_batch = has_batch shape;
     modulus_fits_takes = take_batch_fits shape;
-    has_more = has_take_batch shape;
+    has_more = shape.has_take_batch;
     clocks = clocks_of h;
     puts_rule = λ s n x st. subst (λ i. clocks.IsPutSpan (modulus_of shape) (capacity_of shape) i x) (from_none n) (put_rules shape first_count puts.puts run.puts_follow.are s n x st);
     takes_rule = λ s k x st. subst (λ i. clocks.IsTakeSpan (modulus_of shape) (capacity_of shape) i x) (from_none k) (take_rules shape first_count takes.takes takes.end run.takes_follow.are s k x st);

@@ -4,13 +4,13 @@ use Rattle.std.specs.Prelude.{slice_get}
 use Rattle.bits_core.specs.declared.events.Side.TheVariants.{P, C}
 use Rattle.bits_core.specs.declared.events.Event.{Event}
 use Rattle.bits_core.specs.declared.shapes.Shape.{Shape}
-use Rattle.bits_core.specs.Shape.{width_of}
+use Rattle.bits_core.specs.Shape.{take_batch_of, width_of}
 use Rattle.std.proofs.lemmas.Option.{slice_get_within}
 use Rattle.ring_core.proofs.Looks.{words_are}
 use Rattle.ring_core.proofs.CellPlaces.{multiple_up}
 use Rattle.ring_core.proofs.CountRow.{past_is}
 use Rattle.bits_core.specs.Made.{Made, own, clock, place_of, IsPlaceOf}
-use Rattle.ring_core.specs.Counts.{Count, first_count, take_batch_of}
+use Rattle.ring_core.specs.Counts.{Count, first_count}
 use Rattle.ring_core.specs.Puts.{Puts, put_phrases}
 use Rattle.ring_core.specs.Takes.{Take, Item, ItemAfterClose, Empty, End, Open, Closed, Takes, count_after, taken_in, take_phrase, take_phrases, end_phrase}
 use Rattle.ring_core.specs.Items.{events_in, items_put, Tells}

@@ -17,7 +17,6 @@ use Rattle.bits_core.specs.Lawful.{IsLawful}
 use Rattle.bits_core.specs.Laws.{EmptyIsLawful, LawfulByOneMore}
 use Rattle.bits_core.specs.Shape.{belongs}
 use Rattle.bits_core.specs.Steps.{IsAnswer, MayFollow}
-use Rattle.ring_core.specs.Counts.{take_batch_of}
 use Rattle.ring_core.specs.Items.{items_put_in, items_taken_in, ToldIn}
 use Rattle.ring_core.specs.Puts.{Puts, Stored, Full, ArePuts, FollowsPuts}
 use Rattle.ring_core.specs.Takes.{Takes, Empty, ItemAfterClose, Closed, AreTakes, FollowsTakes}
@@ -162,7 +161,7 @@ unfolding one_cell
 puts_follow = record { are = puts_are; events = ([], refl) }
 
 takes_are : AreTakes one_cell 0 takes.takes takes.end
-unfolding one_cell take_batch_of
+unfolding one_cell
 takes_are = (
   (omega arith, λ (low, high). omega (arith, low)),
   (

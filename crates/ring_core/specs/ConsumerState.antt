@@ -5,12 +5,11 @@ use Rattle.bits_core.specs.declared.events.Bit.TheVariants.{X}
 use Rattle.bits_core.specs.declared.events.Access.{Access}
 use Rattle.bits_core.specs.declared.events.Access.TheVariants.{Read}
 use Rattle.bits_core.specs.declared.shapes.Shape.{Shape}
-use Rattle.bits_core.specs.Shape.{capacity_of, modulus_of, width_of}
+use Rattle.bits_core.specs.Shape.{capacity_of, modulus_of, take_batch_of, width_of}
 use Rattle.register_core.specs.ScanState.{ScanState, due_scan}
 use Rattle.register_core.specs.WordState.{ReaderState, due_read}
 use Rattle.register_core.specs.UnaryState.{UnaryState, due_unary}
 use Rattle.ring_core.specs.Calls.{IsScanning, IsCounted, IsBeingCountedOn}
-use Rattle.ring_core.specs.Counts.{take_batch_of}
 use Rattle.ring_core.specs.declared.consumers.TakeReply.{TakeReply}
 use Rattle.ring_core.specs.declared.consumers.Stage.{Stage}
 use Rattle.ring_core.specs.declared.consumers.Stage.TheVariants.{Idle, Scanning, Checking, Rescanning, Loading, Counting}

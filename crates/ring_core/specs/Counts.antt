@@ -3,7 +3,7 @@ use Rattle.std.specs.Prelude.{◌≡◌, ℕ, zero, suc, ◌+◌, ◌-◌, ◌%�
 use Rattle.bits_core.specs.declared.events.Side.{Side}
 use Rattle.bits_core.specs.declared.events.Side.TheVariants.{P, C}
 use Rattle.bits_core.specs.declared.shapes.Shape.{Shape}
-use Rattle.bits_core.specs.Shape.{batch_of, capacity_of, modulus_of}
+use Rattle.bits_core.specs.Shape.{batch_of, capacity_of, modulus_of, take_batch_of}
 use Rattle.bits_core.specs.Made.{Made}
 use Rattle.register_core.specs.Phrases.{RowWrite, row_bit, first_bits, bits_after, writes_in, unary_phrase}
 
@@ -25,11 +25,7 @@ LeavesRoomFor shape n d m = distance (modulus_of shape) n d + m ≤ capacity_of 
 
 -- ---- a count whose writes count several items
 
--- how many items one count write of the consumer may count
-unfoldable pub take_batch_of : Shape → ℕ
-take_batch_of shape = 1
-
--- and one of a side
+-- how many items one count write of a side may count
 abbrev pub batch_by : Shape → Side → ℕ
 batch_by shape P = batch_of shape
 batch_by shape C = take_batch_of shape

@@ -5,10 +5,10 @@ use Rattle.bits_core.specs.declared.events.Bit.TheVariants.{R, Cell}
 use Rattle.bits_core.specs.declared.events.Access.{Access}
 use Rattle.bits_core.specs.declared.events.Access.TheVariants as begins
 use Rattle.bits_core.specs.declared.shapes.Shape.{Shape}
-use Rattle.bits_core.specs.Shape.{modulus_of}
+use Rattle.bits_core.specs.Shape.{modulus_of, take_batch_of}
 use Rattle.bits_core.specs.Made.{Made, Read, access_of, IsBeginning}
 use Rattle.register_core.specs.ScanState.{row_read_by}
-use Rattle.ring_core.specs.Counts.{first_count, take_batch_of}
+use Rattle.ring_core.specs.Counts.{first_count}
 use Rattle.ring_core.specs.Puts.{Puts, put_program, ArePuts}
 use Rattle.ring_core.specs.Takes.{Take, Takes, taken_after, take_phrases, take_program, AreTakes}
 use Rattle.ring_core.specs.ProducerState.{Call}

@@ -4,11 +4,10 @@ use Rattle.bits_core.specs.declared.events.Side.{Side}
 use Rattle.bits_core.specs.declared.events.Side.TheVariants.{P, C}
 use Rattle.bits_core.specs.declared.events.Event.{Event}
 use Rattle.bits_core.specs.declared.shapes.Shape.{Shape}
-use Rattle.bits_core.specs.Shape.{batch_of, capacity_of, modulus_of}
+use Rattle.bits_core.specs.Shape.{batch_of, capacity_of, modulus_of, take_batch_of}
 use Rattle.bits_core.specs.Bits.{other}
 use Rattle.bits_core.specs.Made.{own, clock, IsPlaceOf, IsBeginning}
 use Rattle.register_core.specs.Phrases.{scan_phrase, row_read_by}
-use Rattle.ring_core.specs.Counts.{take_batch_of}
 use Rattle.ring_core.specs.Puts.{Puts, stored_in, put_program}
 use Rattle.ring_core.specs.Takes.{Takes, taken_in, take_program}
 use Rattle.ring_core.specs.Items.{puts_begun, puts_ended, takes_begun, takes_ended}

@@ -4,10 +4,10 @@ use Rattle.bits_core.specs.declared.events.Side.TheVariants.{C}
 use Rattle.bits_core.specs.declared.events.Bit.TheVariants.{X}
 use Rattle.bits_core.specs.declared.events.Event.{Event}
 use Rattle.bits_core.specs.declared.shapes.Shape.{Shape}
-use Rattle.bits_core.specs.Shape.{AllFit, capacity_of, modulus_of, width_of}
+use Rattle.bits_core.specs.Shape.{AllFit, capacity_of, modulus_of, take_batch_of, width_of}
 use Rattle.bits_core.specs.Made.{Made, Read, events_of, own, IsBeginning}
 use Rattle.register_core.specs.Phrases.{bits_after, word_read, scan_phrase, row_read_by}
-use Rattle.ring_core.specs.Counts.{distance, ShowsItem, number_past, Count, first_count, count_bits, batch_phrase, take_batch_of}
+use Rattle.ring_core.specs.Counts.{distance, ShowsItem, number_past, Count, first_count, count_bits, batch_phrase}
 
 -- a take, by the counts that it read: it took some items under one count write, at once or by a second scan after the close bit was 1,
 -- or it found the ring empty

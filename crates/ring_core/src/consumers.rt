@@ -4,10 +4,9 @@ ghost use Rattle.bits_core.specs.declared.events.Bit.TheVariants.{R, Cell};
 ghost use Rattle.bits_core.specs.declared.events.Side.TheVariants.{C};
 ghost use Rattle.bits_core.specs.Made.{Made, answered};
 ghost use Rattle.bits_core.specs.Open.{IsOpenRight};
-ghost use Rattle.bits_core.specs.Shape.{modulus_of};
+ghost use Rattle.bits_core.specs.Shape.{modulus_of, take_batch_of};
 ghost use Rattle.ring_core.specs.ConsumerCalls.{take_batch_reply, items_reply};
 ghost use Rattle.ring_core.specs.Counts as counts;
-ghost use Rattle.ring_core.specs.Counts.{take_batch_of};
 
 use crate::counts::{distance, has_item, past_in};
 use bits_core::{Access, Bit, Shape, Side};

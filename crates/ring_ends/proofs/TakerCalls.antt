@@ -6,12 +6,10 @@ use Rattle.bits_core.specs.declared.events.Side.TheVariants.{C}
 use Rattle.bits_core.specs.declared.events.Access.{Access}
 use Rattle.bits_core.specs.declared.events.Event.{Event}
 use Rattle.bits_core.specs.declared.shapes.Shape.{Shape}
-use Rattle.bits_core.specs.Shape.{width_of}
+use Rattle.bits_core.specs.Shape.{take_batch_of, width_of}
 use Rattle.bits_core.specs.Made.{Made, answered, events_of}
 use Rattle.bits_core.specs.Open.{IsOpenRight}
 use Rattle.ring_core.specs.Calls.{LastBitIsDue, EndsInZeros}
-use Rattle.ring_core.specs.Counts.{take_batch_of}
-use Rattle.ring_core.proofs.CountRow.{small_take_batch}
 use Rattle.ring_core.specs.declared.consumers.Stage.{Stage}
 use Rattle.ring_core.specs.declared.consumers.Stage.TheVariants.{Idle, Scanning, Checking, Rescanning, Loading, Counting}
 use Rattle.ring_core.specs.declared.consumers.TakeReply as replies
@@ -91,7 +89,7 @@ few_reads : (shape : Shape) (wanted : ℕ) → wanted ≤ take_batch_of shape �
 few_reads shape zero few = omega (arith, shape.small_modulus, shape.few_digits)
 few_reads shape (suc zero) few = omega (arith, shape.small_modulus, shape.few_digits)
 few_reads shape (suc (suc m)) few =
-    let few' : suc (suc m) ≤ 64 = omega (arith, few, small_take_batch shape, shape.few_cells) in
+    let few' : suc (suc m) ≤ 64 = omega (arith, few, shape.small_take_batch, shape.few_cells) in
     omega (arith, shape.small_modulus, shape.few_digits, mul-le-mul_right (width_of shape) few')
 
 pub few_taken :

@@ -4,7 +4,7 @@ use Rattle.bits_core.specs.Audit.{IsVerdict, kind_number}
 use Rattle.bits_core.specs.History.{held}
 use Rattle.bits_core.specs.Memory.{EndsOverlappedRead}
 use Rattle.bits_core.specs.Seen.{clashes, sound_count}
-use Rattle.bits_core.specs.Shape.{batch_of, capacity_of, modulus_of, shape_fault_number, width_of}
+use Rattle.bits_core.specs.Shape.{batch_of, capacity_of, modulus_of, shape_fault_number, take_batch_of, width_of}
 use Rattle.bits_core.specs.Trace.{BeginsWithMore, IsTrace, IsTraceFault, trace_fault_number}
 use Rattle.bits_core.specs.declared.audits.Seen.{Seen}
 use Rattle.bits_core.specs.declared.audits.Verdict.{Verdict}
@@ -70,6 +70,7 @@ pub record TellsShape (shape : Shape) (told : Told) : Type 0 where
   pub modulus : told.modulus ≡ modulus_of shape
   pub width : told.width ≡ width_of shape
   pub batch : told.batch ≡ batch_of shape
+  pub take_batch : told.take_batch ≡ take_batch_of shape
   pub no_fault : told.shape_fault ≡ 0
 
 -- the text is a trace, this is the verdict on it, and these are the marks of its events; and this is found of its programs, with the items
@@ -103,6 +104,7 @@ pub record TellsNoTrace (told : Told) : Type 0 where
   pub modulus : told.modulus ≡ 0
   pub width : told.width ≡ 0
   pub batch : told.batch ≡ 0
+  pub take_batch : told.take_batch ≡ 0
   pub since : told.since ≡ 0
   pub programs : told.programs ≡ unjudged
 

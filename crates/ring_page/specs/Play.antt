@@ -33,6 +33,7 @@ fields_of asked items schedule oracle = record {
   schedule = schedule;
   oracle = oracle;
   batch = asked.batch;
+  take_batch = asked.take_batch;
 }
 
 -- the list stands at the front of the room, as much of it as there is room for

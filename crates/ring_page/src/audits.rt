@@ -1,6 +1,6 @@
 //! The audit of a trace.
 ghost use Rattle.std.specs.Prelude.{◌≡◌, ◌≤◌, ◌⊎◌, ℕ, length};
-ghost use Rattle.bits_core.specs.Shape.{batch_of, capacity_of, modulus_of, width_of};
+ghost use Rattle.bits_core.specs.Shape.{batch_of, capacity_of, modulus_of, take_batch_of, width_of};
 ghost use Rattle.bits_core.specs.Trace.{IsTraceFault};
 ghost use Rattle.ring_page.specs.Audit.{IsNothingSeen, TellsText, TellsFault, TellsShape, TellsVerdict};
 
@@ -34,6 +34,7 @@ pub struct Told {
     pub modulus: u64,
     pub width: u64,
     pub batch: u64,
+    pub take_batch: u64,
     /// Of an answer that is not permitted: behind how many events the last write of its bit had ended; 0 where none had.
     pub since: u64,
     /// What the audit of programs tells.
@@ -67,6 +68,7 @@ fn told_verdict(
         modulus: shape.modulus(),
         width: shape.width(),
         batch: shape.batch(),
+        take_batch: shape.take_batch(),
         since: since as u64,
         programs,
     }
@@ -90,6 +92,7 @@ fn told_fault(fault: TraceFault) -> Told
         modulus: 0,
         width: 0,
         batch: 0,
+        take_batch: 0,
         since: 0,
         programs: unjudged(),
     }

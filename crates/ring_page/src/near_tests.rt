@@ -35,6 +35,7 @@ const ASKED: Asked = Asked {
     modulus: 3,
     width: 2,
     batch: 1,
+    take_batch: 1,
     takes: 3,
     closes: 0,
     letters: 1_000_000,

@@ -27,6 +27,7 @@ pub struct Asked {
     pub modulus: u64,
     pub width: u64,
     pub batch: u64,
+    pub take_batch: u64,
     pub takes: u64,
     /// 0 for a script that does not close.
     pub closes: u64,
@@ -175,6 +176,7 @@ pub fn fields<'a>(
         schedule,
         oracle,
         batch: asked.batch,
+        take_batch: asked.take_batch,
     }
 }
 

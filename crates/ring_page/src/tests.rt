@@ -51,6 +51,7 @@ const NOTHING_TOLD: Told = Told {
     modulus: 9,
     width: 9,
     batch: 9,
+    take_batch: 9,
     since: 9,
     programs: UNJUDGED,
 };
@@ -129,6 +130,7 @@ fn a_lawful_trace_is_told_with_its_marks(rt: HostRuntime) {
             modulus: 3,
             width: 1,
             batch: 1,
+            take_batch: 1,
             since: 0,
             programs: told.programs,
         }
@@ -163,6 +165,7 @@ fn marks_show_nothing_from_the_fault_on(rt: HostRuntime) {
             modulus: 7,
             width: 3,
             batch: 2,
+            take_batch: 1,
             since: 0,
             programs: told.programs,
         }
@@ -261,6 +264,8 @@ static REFUSALS: [Refusal<'static>; 5] = [
     ("shape 0 3 1\n", [1, 0, 1]),
     ("shape 1 2 1\n", [1, 0, 2]),
     ("shape 1 3 65\n", [1, 0, 3]),
+    ("shape 3 7 1 1 4\n", [1, 0, 5]),
+    ("shape 3 6 1 1 3\n", [1, 0, 6]),
 ];
 
 #[test]
@@ -320,6 +325,7 @@ const ASKED: Asked = Asked {
     modulus: 4,
     width: 3,
     batch: 1,
+    take_batch: 1,
     takes: 3,
     closes: 1,
     letters: 1_000,

@@ -57,7 +57,7 @@ impl fmt::Display for Cause<'_> {
             ),
             Cause::NotJson(fault) => write!(f, "{fault}"),
             Cause::UnknownField => f.write_str(
-                "the fields are capacity, modulus, width, items, takes, close, schedule, oracle and batch",
+                "the fields are capacity, modulus, width, items, takes, close, schedule, oracle, batch and take_batch",
             ),
             Cause::WrongKind(field) => write!(f, "{field} is {}", kind_words(*field)),
             Cause::StrayByte(field, place, byte) => {
@@ -70,7 +70,12 @@ impl fmt::Display for Cause<'_> {
 // What the value of a field has to be.
 fn kind_words(field: Field) -> &'static str {
     match field {
-        Field::Capacity | Field::Modulus | Field::Width | Field::Takes | Field::Batch => {
+        Field::Capacity
+        | Field::Modulus
+        | Field::Width
+        | Field::Takes
+        | Field::Batch
+        | Field::TakeBatch => {
             "a whole number from 0 to 18446744073709551615, with no sign, fraction or exponent"
         }
         Field::Items => "an array of whole numbers, each from 0 to 18446744073709551615",

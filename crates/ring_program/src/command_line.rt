@@ -22,7 +22,8 @@ const AUDIT_USAGE: &str = "lamport_ring audit [--bits] [--why] < TRACE
 
 const AUDIT_HELP: &str = "\
 A trace has a line `shape CAPACITY MODULUS WIDTH`, with the batch behind these
-where it is over 1, and then a line for each event of the history:
+where it is over 1, or the batch and the take batch where that is over 1, and
+then a line for each event of the history:
 
   P write s1 1    side P begins to write 1 to bit s1
   P wrote s1      its write ends
@@ -87,7 +88,8 @@ A script is a JSON object:
   close     true or false: whether the producer closes after the last item
   schedule  whose event comes next: letters P and C with counts, as P8C10
   oracle    what overlapped reads answer in turn, as 01
-  batch     the most items under one count write; 1 where it is left out
+  batch     the most items that one put may store; 1 where it is left out
+  take_batch  the most items that one take may take; 1 where it is left out
 
   {\"capacity\":1, \"modulus\":3, \"width\":1, \"items\":[1], \"takes\":1,
    \"close\":false, \"schedule\":\"P8C10\", \"oracle\":\"\"}

@@ -47,7 +47,8 @@ pick false b A e first other = other e
 name_is : (name : List ℕ) → is_name name ≡ true → IsName name
 unfolding is_name
 name_is name e =
-    pick _ _ _ e (λ e8.
+    pick _ _ _ e (λ e9.
+    pick _ _ _ e9 (λ e8.
     pick _ _ _ e8 (λ e7.
     pick _ _ _ e7 (λ e6.
     pick _ _ _ e6 (λ e5.
@@ -63,7 +64,8 @@ name_is name e =
     (λ x. (field.Close, same_bytes _ _ x)))
     (λ x. (field.Schedule, same_bytes _ _ x)))
     (λ x. (field.Oracle, same_bytes _ _ x)))
-    (λ x. (field.Batch, same_bytes _ _ x))
+    (λ x. (field.Batch, same_bytes _ _ x)))
+    (λ x. (field.TakeBatch, same_bytes _ _ x))
 
 is_name_of : (f : Field) → is_name (name_of f) ≡ true
 unfolding is_name
@@ -76,6 +78,7 @@ is_name_of field.Close = refl
 is_name_of field.Schedule = refl
 is_name_of field.Oracle = refl
 is_name_of field.Batch = refl
+is_name_of field.TakeBatch = refl
 
 both : (a b : Bool) → (a && b) ≡ true → (a ≡ true) × (b ≡ true)
 both true b e = (refl, e)
@@ -104,7 +107,8 @@ field_at (suc (suc (suc (suc zero)))) = field.Takes
 field_at (suc (suc (suc (suc (suc zero))))) = field.Close
 field_at (suc (suc (suc (suc (suc (suc zero)))))) = field.Schedule
 field_at (suc (suc (suc (suc (suc (suc (suc zero))))))) = field.Oracle
-field_at (suc (suc (suc (suc (suc (suc (suc (suc n)))))))) = field.Batch
+field_at (suc (suc (suc (suc (suc (suc (suc (suc zero)))))))) = field.Batch
+field_at (suc (suc (suc (suc (suc (suc (suc (suc (suc n))))))))) = field.TakeBatch
 
 at_place : (f : Field) → field_at (field_place f) ≡ f
 at_place field.Capacity = refl
@@ -116,6 +120,7 @@ at_place field.Close = refl
 at_place field.Schedule = refl
 at_place field.Oracle = refl
 at_place field.Batch = refl
+at_place field.TakeBatch = refl
 
 -- the first n fields are so
 abbrev pub Before : (Field → Type 0) → ℕ → Type 0
@@ -162,6 +167,7 @@ pub record HasValues (ms : Members) (vs : FieldValues) : Type 0 where
   pub schedule : held_as field.Schedule ms ≡ Some vs.schedule
   pub oracle : held_as field.Oracle ms ≡ Some vs.oracle
   pub batch : held_as field.Batch ms ≡ vs.batch
+  pub take_batch : held_as field.TakeBatch ms ≡ vs.take_batch
 
 pub values_from : (ms : Members) (vs : FieldValues) → field_values (object ms) ≡ Ok vs → HasValues ms vs
 unfolding field_values
@@ -185,11 +191,12 @@ values_from ms vs e =
       schedule = found_is _ _ _ p7.1 ∙ ap (λ (r : FieldValues). Some r.schedule) same;
       oracle = found_is _ _ _ p8.1 ∙ ap (λ (r : FieldValues). Some r.oracle) same;
       batch = ap (λ (r : FieldValues). r.batch) same;
+      take_batch = ap (λ (r : FieldValues). r.take_batch) same;
     }
 
 pub values_to : (ms : Members) (vs : FieldValues) → HasValues ms vs → field_values (object ms) ≡ Ok vs
 unfolding field_values
-values_to ms vs h = rw (h.capacity, h.modulus, h.width, h.items, h.takes, h.close, h.schedule, h.oracle, h.batch)
+values_to ms vs h = rw (h.capacity, h.modulus, h.width, h.items, h.takes, h.close, h.schedule, h.oracle, h.batch, h.take_batch)
 
 stood : (ms : Members) (f : Field) (v : Data) → found f (held_as f ms) ≡ Ok v → ¬ IsMissing ms f
 stood ms f v e m = let s : held_as f ms ≡ Some v = found_is f (held_as f ms) v e in cc
@@ -302,6 +309,7 @@ missing_told ms field.Oracle h =
     let p7 = value_there ms field.Schedule refl (h.least field.Schedule (omega arith)) in
     and_then_at _ p1.0 _ _ p1.1 (and_then_at _ p2.0 _ _ p2.1 (and_then_at _ p3.0 _ _ p3.1 (and_then_at _ p4.0 _ _ p4.1 (and_then_at _ p5.0 _ _ p5.1 (and_then_at _ p6.0 _ _ p6.1 (and_then_at _ p7.0 _ _ p7.1 (and_then_fails _ _ _ (ap (found field.Oracle) h.so.1))))))))
 missing_told ms field.Batch h = absurd (true≢false (sym h.so.0))
+missing_told ms field.TakeBatch h = absurd (true≢false (sym h.so.0))
 
 pub values_there : (ms : Members) → ((f : Field) → ¬ IsMissing ms f) → (vs : FieldValues) × HasValues ms vs
 values_there ms h =
@@ -313,7 +321,7 @@ values_there ms h =
     let p6 = value_there ms field.Close refl (h field.Close) in
     let p7 = value_there ms field.Schedule refl (h field.Schedule) in
     let p8 = value_there ms field.Oracle refl (h field.Oracle) in (
-      record { capacity = p1.0; modulus = p2.0; width = p3.0; items = p4.0; takes = p5.0; close = p6.0; schedule = p7.0; oracle = p8.0; batch = held_as field.Batch ms },
+      record { capacity = p1.0; modulus = p2.0; width = p3.0; items = p4.0; takes = p5.0; close = p6.0; schedule = p7.0; oracle = p8.0; batch = held_as field.Batch ms; take_batch = held_as field.TakeBatch ms },
       record {
         capacity = found_is _ _ _ p1.1;
         modulus = found_is _ _ _ p2.1;
@@ -324,6 +332,7 @@ values_there ms h =
         schedule = found_is _ _ _ p7.1;
         oracle = found_is _ _ _ p8.1;
         batch = refl;
+        take_batch = refl;
       },
     )
 
@@ -337,3 +346,4 @@ all_there ms vs h field.Close m = let s : held_as field.Close ms ≡ Some vs.clo
 all_there ms vs h field.Schedule m = let s : held_as field.Schedule ms ≡ Some vs.schedule = h.schedule in let n : held_as field.Schedule ms ≡ None = m.1 in cc
 all_there ms vs h field.Oracle m = let s : held_as field.Oracle ms ≡ Some vs.oracle = h.oracle in let n : held_as field.Oracle ms ≡ None = m.1 in cc
 all_there ms vs h field.Batch m = true≢false (sym m.0)
+all_there ms vs h field.TakeBatch m = true≢false (sym m.0)

@@ -91,15 +91,15 @@ no_text v e k = some_not_none (as_str v) k.0 (ap as_str k.1) e
 no_list : (v : Data) → option_and_then wholes_of (as_array v) ≡ None → ¬ IsOfKind field.Items v
 no_list v e k = some_not_none (option_and_then wholes_of (as_array v)) k.0 (ap (λ (w : Data). option_and_then wholes_of (as_array w)) k.1 ∙ wholes_again k.0) e
 
--- ---- the batch
+-- ---- the batches
 
-batch_at : (ms : Members) (o : Option Data) (n : ℕ) → held_as field.Batch ms ≡ o → batch_in o ≡ Ok n → HasBatchField ms n
-batch_at ms None n is e = let one : 1 ≡ n = ok_is _ _ e in inl (is, sym one)
-batch_at ms (Some v) n is e = inr (is ∙ ap Some (whole_is v n (kind_is field.Batch (whole_of v) n e)))
+batch_at : (f : Field) (ms : Members) (o : Option Data) (n : ℕ) → held_as f ms ≡ o → batch_in f o ≡ Ok n → HasBatchField f ms n
+batch_at f ms None n is e = let one : 1 ≡ n = ok_is _ _ e in inl (is, sym one)
+batch_at f ms (Some v) n is e = inr (is ∙ ap Some (whole_is v n (kind_is f (whole_of v) n e)))
 
-batch_read : (ms : Members) (o : Option Data) (n : ℕ) → held_as field.Batch ms ≡ o → HasBatchField ms n → batch_in o ≡ Ok n
-batch_read ms o n is (inl left) = ap batch_in (sym is ∙ left.0) ∙ ap Ok (sym left.1)
-batch_read ms o n is (inr given) = ap batch_in (sym is ∙ given)
+batch_read : (f : Field) (ms : Members) (o : Option Data) (n : ℕ) → held_as f ms ≡ o → HasBatchField f ms n → batch_in f o ≡ Ok n
+batch_read f ms o n is (inl left) = ap (batch_in f) (sym is ∙ left.0) ∙ ap Ok (sym left.1)
+batch_read f ms o n is (inr given) = ap (batch_in f) (sym is ∙ given)
 
 -- ---- the fields
 
@@ -116,7 +116,8 @@ pub record HasKinds (ms : Members) (ts : HeldFields) : Type 0 where
   pub close : held_as field.Close ms ≡ Some (boolean ts.close)
   pub schedule : held_as field.Schedule ms ≡ Some (string ts.schedule)
   pub oracle : held_as field.Oracle ms ≡ Some (string ts.oracle)
-  pub batch : HasBatchField ms ts.batch
+  pub batch : HasBatchField field.Batch ms ts.batch
+  pub take_batch : HasBatchField field.TakeBatch ms ts.take_batch
 
 pub kinds_from : (ms : Members) (vs : FieldValues) (ts : HeldFields) → HasValues ms vs → typed_of vs ≡ Ok ts → HasKinds ms ts
 unfolding typed_of
@@ -129,8 +130,9 @@ kinds_from ms vs ts h e =
     let p6 = and_then_ok (of_kind field.Close (as_bool vs.close)) _ ts p5.2 in
     let p7 = and_then_ok (of_kind field.Schedule (as_str vs.schedule)) _ ts p6.2 in
     let p8 = and_then_ok (of_kind field.Oracle (as_str vs.oracle)) _ ts p7.2 in
-    let p9 = and_then_ok (batch_in vs.batch) _ ts p8.2 in
-    let same = ok_is _ ts p9.2 in
+    let p9 = and_then_ok (batch_in field.Batch vs.batch) _ ts p8.2 in
+    let p10 = and_then_ok (batch_in field.TakeBatch vs.take_batch) _ ts p9.2 in
+    let same = ok_is _ ts p10.2 in
     record {
       capacity = h.capacity ∙ ap Some (whole_is _ _ (kind_is _ _ _ p1.1)) ∙ ap (λ (r : HeldFields). Some (number (unsigned r.capacity))) same;
       modulus = h.modulus ∙ ap Some (whole_is _ _ (kind_is _ _ _ p2.1)) ∙ ap (λ (r : HeldFields). Some (number (unsigned r.modulus))) same;
@@ -140,7 +142,8 @@ kinds_from ms vs ts h e =
       close = h.close ∙ ap Some (bool_is _ _ (kind_is _ _ _ p6.1)) ∙ ap (λ (r : HeldFields). Some (boolean r.close)) same;
       schedule = h.schedule ∙ ap Some (text_is _ _ (kind_is _ _ _ p7.1)) ∙ ap (λ (r : HeldFields). Some (string r.schedule)) same;
       oracle = h.oracle ∙ ap Some (text_is _ _ (kind_is _ _ _ p8.1)) ∙ ap (λ (r : HeldFields). Some (string r.oracle)) same;
-      batch = subst (λ (r : HeldFields). HasBatchField ms r.batch) same (batch_at ms vs.batch _ h.batch p9.1);
+      batch = subst (λ (r : HeldFields). HasBatchField field.Batch ms r.batch) same (batch_at field.Batch ms vs.batch _ h.batch p9.1);
+      take_batch = subst (λ (r : HeldFields). HasBatchField field.TakeBatch ms r.take_batch) same (batch_at field.TakeBatch ms vs.take_batch _ h.take_batch p10.1);
     }
 
 same_some : {A : Type 0} (o : Option A) (a b : A) → o ≡ Some a → o ≡ Some b → a ≡ b
@@ -157,7 +160,7 @@ kinds_to ms vs ts h k =
     let e6 : vs.close ≡ boolean ts.close = same_some _ _ _ h.close k.close in
     let e7 : vs.schedule ≡ string ts.schedule = same_some _ _ _ h.schedule k.schedule in
     let e8 : vs.oracle ≡ string ts.oracle = same_some _ _ _ h.oracle k.oracle in
-    rw (e1, e2, e3, e4, e5, e6, e7, e8, wholes_again ts.items, batch_read ms vs.batch ts.batch h.batch k.batch)
+    rw (e1, e2, e3, e4, e5, e6, e7, e8, wholes_again ts.items, batch_read field.Batch ms vs.batch ts.batch h.batch k.batch, batch_read field.TakeBatch ms vs.take_batch ts.take_batch h.take_batch k.take_batch)
 
 right_kind : (ms : Members) (f : Field) (v : Data) → held_as f ms ≡ Some v → IsOfKind f v → ¬ IsOfWrongKind ms f
 right_kind ms f v held kind w = w.2 (subst (IsOfKind f) (same_some _ _ _ held w.1) kind)
@@ -168,9 +171,15 @@ wrong ms f v o x held never before e =
     let n = not_kind f o x e in
     (f, n.0, first_of (IsOfWrongKind ms) f before (v, held, never n.1))
 
-wrong_batch : (ms : Members) (o : Option Data) (x : ScriptFault) → held_as field.Batch ms ≡ o → Before (λ g. ¬ IsOfWrongKind ms g) 8 → batch_in o ≡ Err x → IsWrongFirst ms x
-wrong_batch ms None x is before e = absurd (ok_not_err _ x e)
-wrong_batch ms (Some v) x is before e = wrong ms field.Batch v (whole_of v) x is (no_whole v) before e
+wrong_batch : (f : Field) (ms : Members) (o : Option Data) (x : ScriptFault) → ((v : Data) → whole_of v ≡ None → ¬ IsOfKind f v) → held_as f ms ≡ o
+    → Before (λ g. ¬ IsOfWrongKind ms g) (field_place f) → batch_in f o ≡ Err x → IsWrongFirst ms x
+wrong_batch f ms None x never is before e = absurd (ok_not_err _ x e)
+wrong_batch f ms (Some v) x never is before e = wrong ms f v (whole_of v) x is (never v) before e
+
+-- a batch that is read is of its kind
+right_batch : (f : Field) (ms : Members) (o : Option Data) (n : ℕ) → ((v : Data) (n : ℕ) → v ≡ number (unsigned n) → IsOfKind f v) → held_as f ms ≡ o → batch_in f o ≡ Ok n → ¬ IsOfWrongKind ms f
+right_batch f ms None n kind is e w = some_not_none _ w.0 w.1 is
+right_batch f ms (Some v) n kind is e w = right_kind ms f v is (kind v n (whole_is v n (kind_is f (whole_of v) n e))) w
 
 pub kinds_wrong : (ms : Members) (vs : FieldValues) (x : ScriptFault) → HasValues ms vs → typed_of vs ≡ Err x → IsWrongFirst ms x
 unfolding typed_of
@@ -207,10 +216,14 @@ kinds_wrong ms vs x h e =
                                                 | inl n ↦ wrong ms field.Oracle vs.oracle _ x h.oracle (no_text vs.oracle) (((((((tt, s1), s2), s3), s4), s5), s6), s7) n
                                                 | inr r8 ↦
                                                     let s8 = right_kind ms field.Oracle vs.oracle h.oracle (_, text_is _ _ (kind_is _ _ _ r8.1)) in
-                                                    elim (and_then_err (batch_in vs.batch) _ x r8.2) [
-                                                      | inl n ↦ wrong_batch ms vs.batch x h.batch ((((((((tt, s1), s2), s3), s4), s5), s6), s7), s8) n
+                                                    elim (and_then_err (batch_in field.Batch vs.batch) _ x r8.2) [
+                                                      | inl n ↦ wrong_batch field.Batch ms vs.batch x no_whole h.batch ((((((((tt, s1), s2), s3), s4), s5), s6), s7), s8) n
                                                       | inr r9 ↦
-                                                          absurd (ok_not_err _ x r9.2)
+                                                          let s9 = right_batch field.Batch ms vs.batch r9.0 (λ _ n is. (n, is)) h.batch r9.1 in
+                                                          elim (and_then_err (batch_in field.TakeBatch vs.take_batch) _ x r9.2) [
+                                                            | inl n ↦ wrong_batch field.TakeBatch ms vs.take_batch x no_whole h.take_batch (((((((((tt, s1), s2), s3), s4), s5), s6), s7), s8), s9) n
+                                                            | inr r10 ↦ absurd (ok_not_err _ x r10.2)
+                                                          ]
                                                     ]
                                               ]
                                         ]
@@ -229,6 +242,11 @@ is_kind f None some = absurd (some refl)
 none_of : {A : Type 0} (f : Field) (o : Option A) → ¬ ((a : A) × (o ≡ Some a)) → of_kind f o ≡ Err (WrongKind f)
 none_of f (Some a) never = absurd (never (a, refl))
 none_of f None never = refl
+
+-- and so is a batch, which may be left out
+is_batch : (f : Field) (o : Option Data) → ((v : Data) → o ≡ Some v → ¬ (whole_of v ≡ None)) → (n : ℕ) × (batch_in f o ≡ Ok n)
+is_batch f None some = (1, refl)
+is_batch f (Some v) some = is_kind f (whole_of v) (some v refl)
 
 pub wrong_told : (ms : Members) (vs : FieldValues) (f : Field) → HasValues ms vs → IsFirst (IsOfWrongKind ms) f → typed_of vs ≡ Err (WrongKind f)
 unfolding typed_of
@@ -293,4 +311,15 @@ wrong_told ms vs field.Batch h first =
     let p6 = is_kind field.Close (as_bool vs.close) (λ n. first.least field.Close (omega arith) (vs.close, h.close, no_bool vs.close n)) in
     let p7 = is_kind field.Schedule (as_str vs.schedule) (λ n. first.least field.Schedule (omega arith) (vs.schedule, h.schedule, no_text vs.schedule n)) in
     let p8 = is_kind field.Oracle (as_str vs.oracle) (λ n. first.least field.Oracle (omega arith) (vs.oracle, h.oracle, no_text vs.oracle n)) in
-    and_then_at _ p1.0 _ _ p1.1 (and_then_at _ p2.0 _ _ p2.1 (and_then_at _ p3.0 _ _ p3.1 (and_then_at _ p4.0 _ _ p4.1 (and_then_at _ p5.0 _ _ p5.1 (and_then_at _ p6.0 _ _ p6.1 (and_then_at _ p7.0 _ _ p7.1 (and_then_at _ p8.0 _ _ p8.1 (and_then_fails _ _ _ (ap batch_in (sym h.batch ∙ first.so.1) ∙ none_of field.Batch (whole_of first.so.0) (λ a. first.so.2 (a.0, whole_is _ _ a.1)))))))))))
+    and_then_at _ p1.0 _ _ p1.1 (and_then_at _ p2.0 _ _ p2.1 (and_then_at _ p3.0 _ _ p3.1 (and_then_at _ p4.0 _ _ p4.1 (and_then_at _ p5.0 _ _ p5.1 (and_then_at _ p6.0 _ _ p6.1 (and_then_at _ p7.0 _ _ p7.1 (and_then_at _ p8.0 _ _ p8.1 (and_then_fails _ _ _ (ap (batch_in field.Batch) (sym h.batch ∙ first.so.1) ∙ none_of field.Batch (whole_of first.so.0) (λ a. first.so.2 (a.0, whole_is _ _ a.1)))))))))))
+wrong_told ms vs field.TakeBatch h first =
+    let p1 = is_kind field.Capacity (whole_of vs.capacity) (λ n. first.least field.Capacity (omega arith) (vs.capacity, h.capacity, no_whole vs.capacity n)) in
+    let p2 = is_kind field.Modulus (whole_of vs.modulus) (λ n. first.least field.Modulus (omega arith) (vs.modulus, h.modulus, no_whole vs.modulus n)) in
+    let p3 = is_kind field.Width (whole_of vs.width) (λ n. first.least field.Width (omega arith) (vs.width, h.width, no_whole vs.width n)) in
+    let p4 = is_kind field.Items (option_and_then wholes_of (as_array vs.items)) (λ n. first.least field.Items (omega arith) (vs.items, h.items, no_list vs.items n)) in
+    let p5 = is_kind field.Takes (whole_of vs.takes) (λ n. first.least field.Takes (omega arith) (vs.takes, h.takes, no_whole vs.takes n)) in
+    let p6 = is_kind field.Close (as_bool vs.close) (λ n. first.least field.Close (omega arith) (vs.close, h.close, no_bool vs.close n)) in
+    let p7 = is_kind field.Schedule (as_str vs.schedule) (λ n. first.least field.Schedule (omega arith) (vs.schedule, h.schedule, no_text vs.schedule n)) in
+    let p8 = is_kind field.Oracle (as_str vs.oracle) (λ n. first.least field.Oracle (omega arith) (vs.oracle, h.oracle, no_text vs.oracle n)) in
+    let p9 = is_batch field.Batch vs.batch (λ v is n. first.least field.Batch (omega arith) (v, h.batch ∙ is, no_whole v n)) in
+    and_then_at _ p1.0 _ _ p1.1 (and_then_at _ p2.0 _ _ p2.1 (and_then_at _ p3.0 _ _ p3.1 (and_then_at _ p4.0 _ _ p4.1 (and_then_at _ p5.0 _ _ p5.1 (and_then_at _ p6.0 _ _ p6.1 (and_then_at _ p7.0 _ _ p7.1 (and_then_at _ p8.0 _ _ p8.1 (and_then_at _ p9.0 _ _ p9.1 (and_then_fails _ _ _ (ap (batch_in field.TakeBatch) (sym h.take_batch ∙ first.so.1) ∙ none_of field.TakeBatch (whole_of first.so.0) (λ a. first.so.2 (a.0, whole_is _ _ a.1))))))))))))

@@ -34,16 +34,16 @@ record IsGiven (bytes : List ℕ) (ts : HeldFields) (g : Given) : Type 0 where
   pub oracle : List Bool
   pub lettered : HoldsLetters bytes ts letters
   pub answers : IsOracle ts.oracle oracle
-  pub is : g ≡ record { capacity = ts.capacity; modulus = ts.modulus; width = ts.width; batch = ts.batch; items = ts.items; takes = ts.takes; closes = ts.close; letters = letters; oracle = oracle }
+  pub is : g ≡ record { capacity = ts.capacity; modulus = ts.modulus; width = ts.width; batch = ts.batch; take_batch = ts.take_batch; items = ts.items; takes = ts.takes; closes = ts.close; letters = letters; oracle = oracle }
 
 given_from : (bytes : List ℕ) (ts : HeldFields) (g : Given) → HoldsFields bytes ts → given_of ts ≡ Ok g → IsGiven bytes ts g
 unfolding given_of
 given_from bytes ts g h e =
-    let p1 = and_then_ok (shape_in ts.capacity ts.modulus ts.width ts.batch) _ g e in
+    let p1 = and_then_ok (shape_in ts.capacity ts.modulus ts.width ts.batch ts.take_batch) _ g e in
     let p2 = and_then_ok (items_within ts.width ts.items) _ g p1.2 in
     let p3 = and_then_ok (schedule_of ts.schedule) _ g p2.2 in
     let p4 = and_then_ok (oracle_of ts.oracle) _ g p3.2 in
-    let made = shape_made ts.capacity ts.modulus ts.width ts.batch p1.1 in
+    let made = shape_made ts.capacity ts.modulus ts.width ts.batch ts.take_batch p1.1 in
     let fits = items_from ts.width ts.items p2.1 in
     let spelt = schedule_from ts.schedule p3.0 p3.1 in
     record {
@@ -58,17 +58,17 @@ given_from bytes ts g h e =
       is = sym (ok_is _ g p4.2);
     }
 
-shaped_to : (bytes : List ℕ) (ts : HeldFields) → HoldsShape bytes ts → shape_in ts.capacity ts.modulus ts.width ts.batch ≡ Ok tt
-shaped_to bytes ts h = shape_accepted ts.capacity ts.modulus ts.width ts.batch h.shape h.numbers
+shaped_to : (bytes : List ℕ) (ts : HeldFields) → HoldsShape bytes ts → shape_in ts.capacity ts.modulus ts.width ts.batch ts.take_batch ≡ Ok tt
+shaped_to bytes ts h = shape_accepted ts.capacity ts.modulus ts.width ts.batch ts.take_batch h.shape h.numbers
 
 given_why : (bytes : List ℕ) (ts : HeldFields) (x : ScriptFault) → HoldsFields bytes ts → given_of ts ≡ Err x → IsScriptFault bytes x
 unfolding given_of
 given_why bytes ts x h e =
-    elim (and_then_err (shape_in ts.capacity ts.modulus ts.width ts.batch) _ x e) [
+    elim (and_then_err (shape_in ts.capacity ts.modulus ts.width ts.batch ts.take_batch) _ x e) [
       | inl n ↦
-          let w = shape_why ts.capacity ts.modulus ts.width ts.batch x n in subst (IsScriptFault bytes) (sym w.1) (ts, h, w.2)
+          let w = shape_why ts.capacity ts.modulus ts.width ts.batch ts.take_batch x n in subst (IsScriptFault bytes) (sym w.1) (ts, h, w.2)
       | inr r1 ↦
-          let made = shape_made ts.capacity ts.modulus ts.width ts.batch r1.1 in
+          let made = shape_made ts.capacity ts.modulus ts.width ts.batch ts.take_batch r1.1 in
           let shaped : HoldsShape bytes ts = record { fields = h; shape = made.0; numbers = made.1 } in
           elim (and_then_err (items_within ts.width ts.items) _ x r1.2) [
             | inl n ↦
@@ -100,10 +100,10 @@ given_why bytes ts x h e =
 -- ---- the object
 
 kinds_of : (bytes : List ℕ) (ts : HeldFields) (h : HoldsFields bytes ts) → HasKinds h.members ts
-kinds_of bytes ts h = record { capacity = h.capacity; modulus = h.modulus; width = h.width; items = h.items; takes = h.takes; close = h.close; schedule = h.schedule; oracle = h.oracle; batch = h.batch }
+kinds_of bytes ts h = record { capacity = h.capacity; modulus = h.modulus; width = h.width; items = h.items; takes = h.takes; close = h.close; schedule = h.schedule; oracle = h.oracle; batch = h.batch; take_batch = h.take_batch }
 
 holds_from : (bytes : List ℕ) (ms : Members) (ts : HeldFields) → IsObject bytes ms → HasKinds ms ts → HoldsFields bytes ts
-holds_from bytes ms ts o k = record { members = ms; is_object = o; capacity = k.capacity; modulus = k.modulus; width = k.width; items = k.items; takes = k.takes; close = k.close; schedule = k.schedule; oracle = k.oracle; batch = k.batch }
+holds_from bytes ms ts o k = record { members = ms; is_object = o; capacity = k.capacity; modulus = k.modulus; width = k.width; items = k.items; takes = k.takes; close = k.close; schedule = k.schedule; oracle = k.oracle; batch = k.batch; take_batch = k.take_batch }
 
 -- bytes that are an object of known names are read so far
 object_to : (bytes : List ℕ) (ms : Members) (r : Result Given ScriptFault) → IsObject bytes ms
@@ -127,8 +127,9 @@ holds_to bytes ts r h e =
       schedule = string ts.schedule;
       oracle = string ts.oracle;
       batch = held_as field.Batch h.members;
+      take_batch = held_as field.TakeBatch h.members;
     } in
-    let has : HasValues h.members vs = record { capacity = h.capacity; modulus = h.modulus; width = h.width; items = h.items; takes = h.takes; close = h.close; schedule = h.schedule; oracle = h.oracle; batch = refl } in
+    let has : HasValues h.members vs = record { capacity = h.capacity; modulus = h.modulus; width = h.width; items = h.items; takes = h.takes; close = h.close; schedule = h.schedule; oracle = h.oracle; batch = refl; take_batch = refl } in
     object_to bytes h.members r h.is_object
     (and_then_at (field_values (object h.members)) vs _ r (values_to h.members vs has)
     (and_then_at (typed_of vs) ts _ r (kinds_to h.members vs ts has k) e))
@@ -201,6 +202,7 @@ script_at bytes ts c g = record {
     modulus_is = ap (λ (r : Given). r.modulus) g.is;
     width_is = ap (λ (r : Given). r.width) g.is;
     batch_is = ap (λ (r : Given). r.batch) g.is;
+    take_batch_is = ap (λ (r : Given). r.take_batch) g.is;
   };
   items = ap (λ (r : Given). r.items) g.is;
   takes = ap (λ (r : Given). r.takes) g.is;
@@ -216,7 +218,7 @@ content_from : (ts : HeldFields) (c : Content) → given_of ts ≡ Ok (given_by 
 unfolding given_of
 content_from ts c e =
     let g = given_by c in
-    let p1 = and_then_ok (shape_in ts.capacity ts.modulus ts.width ts.batch) _ g e in
+    let p1 = and_then_ok (shape_in ts.capacity ts.modulus ts.width ts.batch ts.take_batch) _ g e in
     let p2 = and_then_ok (items_within ts.width ts.items) _ g p1.2 in
     let p3 = and_then_ok (schedule_of ts.schedule) _ g p2.2 in
     let p4 = and_then_ok (oracle_of ts.oracle) _ g p3.2 in
@@ -227,6 +229,7 @@ content_from ts c e =
         modulus_is = ap (λ (r : Given). r.modulus) is;
         width_is = ap (λ (r : Given). r.width) is;
         batch_is = ap (λ (r : Given). r.batch) is;
+        take_batch_is = ap (λ (r : Given). r.take_batch) is;
       };
       items = ap (λ (r : Given). r.items) is;
       takes = ap (λ (r : Given). r.takes) is;
@@ -252,11 +255,11 @@ script_to bytes c s =
     (and_then_at _ tt _ _ (items_to ts.width ts.items l.stored.few l.stored.fit)
     (and_then_at _ c.letters _ _ (schedule_to ts.schedule c.letters l.schedule l.short)
     (and_then_at _ c.oracle _ _ (oracle_to ts.oracle c.oracle s.oracle)
-    (ap Ok (same_given _ _ (sym s.shape.capacity_is) (sym s.shape.modulus_is) (sym s.shape.width_is) (sym s.shape.batch_is) (sym s.items) (sym s.takes) (sym s.closes) refl refl))))))
+    (ap Ok (same_given _ _ (sym s.shape.capacity_is) (sym s.shape.modulus_is) (sym s.shape.width_is) (sym s.shape.batch_is) (sym s.shape.take_batch_is) (sym s.items) (sym s.takes) (sym s.closes) refl refl))))))
   where
-    same_given : (a b : Given) → a.capacity ≡ b.capacity → a.modulus ≡ b.modulus → a.width ≡ b.width → a.batch ≡ b.batch → a.items ≡ b.items → a.takes ≡ b.takes
+    same_given : (a b : Given) → a.capacity ≡ b.capacity → a.modulus ≡ b.modulus → a.width ≡ b.width → a.batch ≡ b.batch → a.take_batch ≡ b.take_batch → a.items ≡ b.items → a.takes ≡ b.takes
         → a.closes ≡ b.closes → a.letters ≡ b.letters → a.oracle ≡ b.oracle → a ≡ b
-    same_given a b c m w g is ts cl ls os = λ i. record { capacity = c i; modulus = m i; width = w i; batch = g i; items = is i; takes = ts i; closes = cl i; letters = ls i; oracle = os i }
+    same_given a b c m w g h is ts cl ls os = λ i. record { capacity = c i; modulus = m i; width = w i; batch = g i; take_batch = h i; items = is i; takes = ts i; closes = cl i; letters = ls i; oracle = os i }
 
 -- a fault is told
 pub fault_told : (bytes : List ℕ) (x : ScriptFault) → IsScriptFault bytes x → script_of bytes ≡ Err x
@@ -270,7 +273,7 @@ fault_told bytes (fault.WrongKind g) f =
     object_to bytes f.0 _ f.1 (and_then_at _ vs.0 _ _ (values_to f.0 vs.0 vs.1) (and_then_fails _ _ _ (wrong_told f.0 vs.0 g vs.1 f.3)))
 fault_told bytes (fault.Shape r) f =
     let ts : HeldFields = f.0 in
-    holds_to bytes ts _ f.1 (and_then_fails _ _ _ (shape_refused ts.capacity ts.modulus ts.width ts.batch r f.2))
+    holds_to bytes ts _ f.1 (and_then_fails _ _ _ (shape_refused ts.capacity ts.modulus ts.width ts.batch ts.take_batch r f.2))
 fault_told bytes fault.TooManyItems f =
     let ts : HeldFields = f.0 in
     holds_to bytes ts _ f.1.fields (and_then_at _ tt _ _ (shaped_to bytes ts f.1) (and_then_fails _ _ _ (many_told ts.width ts.items f.2)))
@@ -320,7 +323,7 @@ one_fault bytes x y f g = same_err x y (sym (fault_told bytes x f) ∙ fault_tol
 
 same_content : (a b : Content) → given_by a ≡ given_by b → a ≡ b
 same_content a b e =
-    let shapes : a.shape ≡ b.shape = same_shape a.shape b.shape (ap (λ (r : Given). r.capacity) e) (ap (λ (r : Given). r.modulus) e) (ap (λ (r : Given). r.width) e) (ap (λ (r : Given). r.batch) e) in
+    let shapes : a.shape ≡ b.shape = same_shape a.shape b.shape (ap (λ (r : Given). r.capacity) e) (ap (λ (r : Given). r.modulus) e) (ap (λ (r : Given). r.width) e) (ap (λ (r : Given). r.batch) e) (ap (λ (r : Given). r.take_batch) e) in
     λ i. record { shape = shapes i; items = (e i).items; takes = (e i).takes; closes = (e i).closes; letters = (e i).letters; oracle = (e i).oracle }
 
 pub one_reading : (bytes : List ℕ) (a b : Content) → IsScript bytes a → IsScript bytes b → a ≡ b

@@ -31,6 +31,7 @@ held_of fields = record {
   schedule = fields.schedule.now;
   oracle = fields.oracle.now;
   batch = fields.batch;
+  take_batch = fields.take_batch;
 }
 
 -- the content where this shape, these letters and these answers were read of the values

@@ -1,13 +1,13 @@
 -- Why bytes are no script: each fault by what it means of the bytes, in the order in which they are told.
 use Rattle.std.specs.Prelude.{◌≡◌, ◌≢◌, ◌≤◌, ◌<◌, ℕ, suc, Bool, true, false, List, ◌++◌, codes, decimal, length, take, Some, None}
 use Rattle.serde_json.specs.Data.{Data, Members, object}
-use Rattle.bits_core.specs.Shape.{IsRefusedBatch, shape_fault_words}
+use Rattle.bits_core.specs.Shape.{IsRefusedBatches, shape_fault_words}
 use Rattle.bits_core.specs.declared.events.Side.{Side}
 use Rattle.ring_script.specs.Schedule.{IsSchedule, IsScheduleText}
 use Rattle.ring_script.specs.Fields.{HasKnownNames, IsJson, IsObject, IsOfKind, held_as, name_of}
 use Rattle.ring_script.specs.Script.{Fit, HeldFields, HoldsFields, HoldsItems, HoldsLetters, HoldsShape, IsOracleText}
 use Rattle.ring_script.specs.declared.faults.Field.{Field}
-use Rattle.ring_script.specs.declared.faults.Field.TheVariants.{Capacity, Modulus, Width, Items, Takes, Close, Schedule, Oracle, Batch}
+use Rattle.ring_script.specs.declared.faults.Field.TheVariants.{Capacity, Modulus, Width, Items, Takes, Close, Schedule, Oracle, Batch, TakeBatch}
 use Rattle.ring_script.specs.declared.faults.ScriptFault.{ScriptFault}
 use Rattle.ring_script.specs.declared.faults.ScriptFault.TheVariants as fault
 use Rattle.ring_script.specs.declared.schedules.TheConstants.{LETTER_LIMIT}
@@ -26,6 +26,7 @@ field_place Close = 5
 field_place Schedule = 6
 field_place Oracle = 7
 field_place Batch = 8
+field_place TakeBatch = 9
 
 -- whether the field has to stand
 abbrev pub is_needed : Field → Bool
@@ -38,6 +39,7 @@ is_needed Close = true
 is_needed Schedule = true
 is_needed Oracle = true
 is_needed Batch = false
+is_needed TakeBatch = false
 
 -- the field has to stand, and the members lack it
 abbrev pub IsMissing : Members → Field → Type 0
@@ -68,7 +70,8 @@ IsScriptFault bytes fault.UnknownField = (members : Members) × IsJson bytes (ob
 IsScriptFault bytes (fault.MissingField field) = (members : Members) × IsObject bytes members × IsFirst (IsMissing members) field
 IsScriptFault bytes (fault.WrongKind field) =
     (members : Members) × IsObject bytes members × ((other : Field) → ¬ IsMissing members other) × IsFirst (IsOfWrongKind members) field
-IsScriptFault bytes (fault.Shape refusal) = (held : HeldFields) × HoldsFields bytes held × IsRefusedBatch held.capacity held.modulus held.width held.batch refusal
+IsScriptFault bytes (fault.Shape refusal) =
+    (held : HeldFields) × HoldsFields bytes held × IsRefusedBatches held.capacity held.modulus held.width held.batch held.take_batch refusal
 IsScriptFault bytes fault.TooManyItems = (held : HeldFields) × HoldsShape bytes held × (ITEM_LIMIT < length held.items)
 IsScriptFault bytes (fault.ItemTooWide place) =
     (held : HeldFields) × HoldsShape bytes held × (length held.items ≤ ITEM_LIMIT) × IsFirstStray (Fit held.width) held.items place

@@ -7,7 +7,7 @@ use Rattle.ring_script.specs.Results.{result_and_then}
 use Rattle.ring_script.specs.Fields.{name_of}
 use Rattle.ring_script.specs.Script.{HeldFields}
 use Rattle.ring_script.specs.declared.faults.Field.{Field}
-use Rattle.ring_script.specs.declared.faults.Field.TheVariants.{Capacity, Modulus, Width, Items, Takes, Close, Schedule, Oracle, Batch}
+use Rattle.ring_script.specs.declared.faults.Field.TheVariants.{Capacity, Modulus, Width, Items, Takes, Close, Schedule, Oracle, Batch, TakeBatch}
 use Rattle.ring_script.specs.declared.faults.ScriptFault.{ScriptFault}
 use Rattle.ring_script.specs.declared.faults.ScriptFault.TheVariants.{NotObject, UnknownField, MissingField, WrongKind}
 
@@ -18,7 +18,7 @@ unfoldable pub is_name : List ℕ → Bool
 is_name name =
     bytes_eq name (codes "capacity") || bytes_eq name (codes "modulus") || bytes_eq name (codes "width")
     || bytes_eq name (codes "items") || bytes_eq name (codes "takes") || bytes_eq name (codes "close")
-    || bytes_eq name (codes "schedule") || bytes_eq name (codes "oracle") || bytes_eq name (codes "batch")
+    || bytes_eq name (codes "schedule") || bytes_eq name (codes "oracle") || bytes_eq name (codes "batch") || bytes_eq name (codes "take_batch")
 
 -- whether each member's name is that of a field
 unfoldable pub has_known_names : Members → Bool
@@ -43,6 +43,7 @@ pub record FieldValues : Type 0 where
   pub schedule : Data
   pub oracle : Data
   pub batch : Option Data
+  pub take_batch : Option Data
 
 -- the value that was found, or else the field is missing
 abbrev pub found : Field → Option Data → Result Data ScriptFault
@@ -64,7 +65,18 @@ field_values value =
     result_and_then (field_of Close value) (λ close.
     result_and_then (field_of Schedule value) (λ schedule.
     result_and_then (field_of Oracle value) (λ oracle.
-    Ok (record { capacity = capacity; modulus = modulus; width = width; items = items; takes = takes; close = close; schedule = schedule; oracle = oracle; batch = get (name_of Batch) value })))))))))
+    Ok (record {
+      capacity = capacity;
+      modulus = modulus;
+      width = width;
+      items = items;
+      takes = takes;
+      close = close;
+      schedule = schedule;
+      oracle = oracle;
+      batch = get (name_of Batch) value;
+      take_batch = get (name_of TakeBatch) value;
+    })))))))))
 
 -- ---- kinds
 
@@ -77,10 +89,10 @@ of_kind field None = Err (WrongKind field)
 abbrev pub whole_of : Data → Option ℕ
 whole_of value = option_and_then as_u64 (as_number value)
 
--- the batch, 1 where there is none
-abbrev pub batch_in : Option Data → Result ℕ ScriptFault
-batch_in None = Ok 1
-batch_in (Some value) = of_kind Batch (whole_of value)
+-- the batch that a field holds, 1 where there is none
+abbrev pub batch_in : Field → Option Data → Result ℕ ScriptFault
+batch_in field None = Ok 1
+batch_in field (Some value) = of_kind field (whole_of value)
 
 -- the whole numbers that the items of an array are
 unfoldable pub wholes_of : ItemData → Option (List ℕ)
@@ -98,5 +110,17 @@ typed_of values =
     result_and_then (of_kind Close (as_bool values.close)) (λ close.
     result_and_then (of_kind Schedule (as_str values.schedule)) (λ schedule.
     result_and_then (of_kind Oracle (as_str values.oracle)) (λ oracle.
-    result_and_then (batch_in values.batch) (λ batch.
-    Ok (record { capacity = capacity; modulus = modulus; width = width; items = items; takes = takes; close = close; schedule = schedule; oracle = oracle; batch = batch }))))))))))
+    result_and_then (batch_in Batch values.batch) (λ batch.
+    result_and_then (batch_in TakeBatch values.take_batch) (λ take_batch.
+    Ok (record {
+      capacity = capacity;
+      modulus = modulus;
+      width = width;
+      items = items;
+      takes = takes;
+      close = close;
+      schedule = schedule;
+      oracle = oracle;
+      batch = batch;
+      take_batch = take_batch;
+    })))))))))))

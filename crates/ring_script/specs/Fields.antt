@@ -4,7 +4,7 @@ use Rattle.serde_json.specs.Data.{Data, Items as ItemData, no_items, item, Membe
 use Rattle.serde_json.specs.Read.{read}
 use Rattle.serde_json.specs.Find.{get_member}
 use Rattle.ring_script.specs.declared.faults.Field.{Field}
-use Rattle.ring_script.specs.declared.faults.Field.TheVariants.{Capacity, Modulus, Width, Items, Takes, Close, Schedule, Oracle, Batch}
+use Rattle.ring_script.specs.declared.faults.Field.TheVariants.{Capacity, Modulus, Width, Items, Takes, Close, Schedule, Oracle, Batch, TakeBatch}
 
 -- the name of each field
 abbrev pub name_of : Field → List ℕ
@@ -17,6 +17,7 @@ name_of Close = codes "close"
 name_of Schedule = codes "schedule"
 name_of Oracle = codes "oracle"
 name_of Batch = codes "batch"
+name_of TakeBatch = codes "take_batch"
 
 -- ---- the object
 
@@ -69,7 +70,8 @@ IsOfKind Close value = (b : Bool) × (value ≡ boolean b)
 IsOfKind Schedule value = IsText value
 IsOfKind Oracle value = IsText value
 IsOfKind Batch value = IsWhole value
+IsOfKind TakeBatch value = IsWhole value
 
--- the members' batch is this, which is 1 where they have none
-abbrev pub HasBatchField : Members → ℕ → Type 0
-HasBatchField members batch = ((held_as Batch members ≡ None) × (batch ≡ 1)) ⊎ (held_as Batch members ≡ Some (number (unsigned batch)))
+-- the batch that the members have under the field's name is this, which is 1 where they have none
+abbrev pub HasBatchField : Field → Members → ℕ → Type 0
+HasBatchField field members batch = ((held_as field members ≡ None) × (batch ≡ 1)) ⊎ (held_as field members ≡ Some (number (unsigned batch)))

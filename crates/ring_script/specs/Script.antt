@@ -1,13 +1,13 @@
 -- A script in the words of its format: the object, what its fields hold, and the limits.
 use Rattle.std.specs.Prelude.{◌≡◌, ◌≤◌, ◌<◌, ◌^◌, ℕ, Bool, true, false, List, All, length, map, Some}
 use Rattle.serde_json.specs.Data.{Members, number, unsigned, array, boolean, string}
-use Rattle.bits_core.specs.Shape.{HasBatch}
+use Rattle.bits_core.specs.Shape.{HasBatches}
 use Rattle.bits_core.specs.declared.shapes.Shape.{Shape}
 use Rattle.bits_core.specs.declared.events.Side.{Side}
 use Rattle.ring_script.specs.Content.{Content}
 use Rattle.ring_script.specs.Schedule.{IsSchedule}
 use Rattle.ring_script.specs.Fields.{HasBatchField, IsObject, held_as, wholes}
-use Rattle.ring_script.specs.declared.faults.Field.TheVariants.{Capacity, Modulus, Width, Items, Takes, Close, Schedule, Oracle}
+use Rattle.ring_script.specs.declared.faults.Field.TheVariants.{Capacity, Modulus, Width, Items, Takes, Close, Schedule, Oracle, Batch, TakeBatch}
 use Rattle.ring_script.specs.declared.schedules.TheConstants.{LETTER_LIMIT}
 use Rattle.ring_script.specs.declared.scripts.TheConstants.{ITEM_LIMIT}
 
@@ -24,6 +24,7 @@ pub record HeldFields : Type 0 where
   pub schedule : List ℕ
   pub oracle : List ℕ
   pub batch : ℕ
+  pub take_batch : ℕ
 
 -- the bytes are an object whose fields all stand and hold this
 pub record HoldsFields (bytes : List ℕ) (held : HeldFields) : Type 0 where
@@ -37,7 +38,8 @@ pub record HoldsFields (bytes : List ℕ) (held : HeldFields) : Type 0 where
   pub close : held_as Close members ≡ Some (boolean held.close)
   pub schedule : held_as Schedule members ≡ Some (string held.schedule)
   pub oracle : held_as Oracle members ≡ Some (string held.oracle)
-  pub batch : HasBatchField members held.batch
+  pub batch : HasBatchField Batch members held.batch
+  pub take_batch : HasBatchField TakeBatch members held.take_batch
 
 -- ---- what they hold
 
@@ -58,11 +60,11 @@ IsOracle text answers = text ≡ map answer_byte answers
 abbrev pub IsOracleText : List ℕ → Type 0
 IsOracleText text = (answers : List Bool) × IsOracle text answers
 
--- the four numbers are a shape
+-- the five numbers are a shape
 pub record HoldsShape (bytes : List ℕ) (held : HeldFields) : Type 0 where
   pub fields : HoldsFields bytes held
   pub shape : Shape
-  pub numbers : HasBatch held.capacity held.modulus held.width held.batch shape
+  pub numbers : HasBatches held.capacity held.modulus held.width held.batch held.take_batch shape
 
 -- and the items are few, and fit
 pub record HoldsItems (bytes : List ℕ) (held : HeldFields) : Type 0 where
@@ -78,7 +80,7 @@ pub record HoldsLetters (bytes : List ℕ) (held : HeldFields) (letters : List S
 
 -- what the values of the fields stand for
 pub record IsContentOf (held : HeldFields) (content : Content) : Type 0 where
-  pub shape : HasBatch held.capacity held.modulus held.width held.batch content.shape
+  pub shape : HasBatches held.capacity held.modulus held.width held.batch held.take_batch content.shape
   pub items : content.items ≡ held.items
   pub takes : content.takes ≡ held.takes
   pub closes : content.closes ≡ held.close
@@ -89,7 +91,7 @@ pub record IsContentOf (held : HeldFields) (content : Content) : Type 0 where
 pub record IsScript (bytes : List ℕ) (content : Content) : Type 0 where
   pub held : HeldFields
   pub lettered : HoldsLetters bytes held content.letters
-  pub shape : HasBatch held.capacity held.modulus held.width held.batch content.shape
+  pub shape : HasBatches held.capacity held.modulus held.width held.batch held.take_batch content.shape
   pub items : content.items ≡ held.items
   pub takes : content.takes ≡ held.takes
   pub closes : content.closes ≡ held.close

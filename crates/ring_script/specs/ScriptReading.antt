@@ -4,7 +4,7 @@ use Rattle.std.specs.Str.{is_utf8}
 use Rattle.serde_json.specs.Data.{Data}
 use Rattle.serde_json.specs.Read.{read}
 use Rattle.serde_json.specs.Find.{as_object}
-use Rattle.bits_core.specs.Shape.{batch_of, capacity_of, modulus_of, width_of}
+use Rattle.bits_core.specs.Shape.{batch_of, capacity_of, modulus_of, take_batch_of, width_of}
 use Rattle.bits_core.specs.declared.shapes.ShapeFault.{ShapeFault}
 use Rattle.bits_core.specs.declared.shapes.ShapeFault.TheVariants as shape
 use Rattle.bits_core.specs.declared.events.Side.{Side}
@@ -24,6 +24,7 @@ pub record Given : Type 0 where
   pub modulus : ℕ
   pub width : ℕ
   pub batch : ℕ
+  pub take_batch : ℕ
   pub items : List ℕ
   pub takes : ℕ
   pub closes : Bool
@@ -37,6 +38,7 @@ given_by content = record {
   modulus = modulus_of content.shape;
   width = width_of content.shape;
   batch = batch_of content.shape;
+  take_batch = take_batch_of content.shape;
   items = content.items;
   takes = content.takes;
   closes = content.closes;
@@ -61,12 +63,17 @@ json_of bytes = if is_utf8 bytes then if_read (read bytes) else Err fault.NotJso
 abbrev pub is_within : ℕ → ℕ → ℕ → Bool
 is_within least most n = nat_le least n && nat_le n most
 
--- the first of the four numbers that is out of its range
-abbrev pub shape_fault : ℕ → ℕ → ℕ → ℕ → Option ShapeFault
-shape_fault capacity modulus width batch =
+-- whether the modulus is in its range for both batches
+abbrev pub is_modulus : ℕ → ℕ → ℕ → ℕ → Bool
+is_modulus capacity batch take_batch modulus = is_within (capacity + batch + 1) 256 modulus && is_within (capacity + take_batch + 1) 256 modulus
+
+-- the first of the five numbers that is out of its range
+abbrev pub shape_fault : ℕ → ℕ → ℕ → ℕ → ℕ → Option ShapeFault
+shape_fault capacity modulus width batch take_batch =
     if not (is_within 1 64 capacity) then Some shape.Capacity
     else if not (is_within 1 capacity batch) then Some shape.Batch
-    else if not (is_within (capacity + batch + 1) 256 modulus) then Some shape.Modulus
+    else if not (is_within 1 capacity take_batch) then Some shape.TakeBatch
+    else if not (is_modulus capacity batch take_batch modulus) then Some (if nat_lt 1 take_batch then shape.ModulusOfBatches else shape.Modulus)
     else if not (is_within 1 64 width) then Some shape.Width
     else None
 
@@ -75,9 +82,9 @@ abbrev pub if_shape : Option ShapeFault → Result ⊤ ScriptFault
 if_shape (Some refusal) = Err (fault.Shape refusal)
 if_shape None = Ok tt
 
--- whether the four numbers are a shape
-unfoldable pub shape_in : ℕ → ℕ → ℕ → ℕ → Result ⊤ ScriptFault
-shape_in capacity modulus width batch = if_shape (shape_fault capacity modulus width batch)
+-- whether the five numbers are a shape
+unfoldable pub shape_in : ℕ → ℕ → ℕ → ℕ → ℕ → Result ⊤ ScriptFault
+shape_in capacity modulus width batch take_batch = if_shape (shape_fault capacity modulus width batch take_batch)
 
 -- ---- the items
 
@@ -127,11 +134,11 @@ oracle_of text = if_answers (position is_no_answer text) text
 -- what the fields hold within the limits, or their first fault
 unfoldable pub given_of : HeldFields → Result Given ScriptFault
 given_of typed =
-    result_and_then (shape_in typed.capacity typed.modulus typed.width typed.batch) (λ _.
+    result_and_then (shape_in typed.capacity typed.modulus typed.width typed.batch typed.take_batch) (λ _.
     result_and_then (items_within typed.width typed.items) (λ _.
     result_and_then (schedule_of typed.schedule) (λ letters.
     result_and_then (oracle_of typed.oracle) (λ oracle.
-    Ok (record { capacity = typed.capacity; modulus = typed.modulus; width = typed.width; batch = typed.batch; items = typed.items; takes = typed.takes; closes = typed.close; letters = letters; oracle = oracle })))))
+    Ok (record { capacity = typed.capacity; modulus = typed.modulus; width = typed.width; batch = typed.batch; take_batch = typed.take_batch; items = typed.items; takes = typed.takes; closes = typed.close; letters = letters; oracle = oracle })))))
 
 -- what the JSON value holds, or its first fault
 unfoldable pub given_in : Data → Result Given ScriptFault

@@ -23,6 +23,7 @@ values_view v = record {
   schedule = view v.schedule.now;
   oracle = view v.oracle.now;
   batch = option_map (λ w. view w.now) v.batch;
+  take_batch = option_map (λ w. view w.now) v.take_batch;
 }
 
 -- the numbers, lists and texts
@@ -37,6 +38,7 @@ typed_view {A} t = record {
   schedule = t.schedule.now;
   oracle = t.oracle.now;
   batch = t.batch;
+  take_batch = t.take_batch;
 }
 
 -- what a script keeps: how many letters it has, and its limits

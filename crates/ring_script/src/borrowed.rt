@@ -25,6 +25,7 @@ pub struct Fields<'a> {
     pub schedule: &'a [u8],
     pub oracle: &'a [u8],
     pub batch: u64,
+    pub take_batch: u64,
 }
 
 /// A script, borrowed. To a contract its content is what the script is.

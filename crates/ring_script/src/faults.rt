@@ -29,12 +29,14 @@ pub enum Field {
     Schedule,
     /// `oracle`: the answers of overlapped reads, a text of `0` and `1`.
     Oracle,
-    /// `batch`: how many items one count write may count, a whole number; it may be left out.
+    /// `batch`: how many items one count write of the producer may count, a whole number; it may be left out.
     Batch,
+    /// `take_batch`: how many items one count write of the consumer may count, a whole number; it may be left out.
+    TakeBatch,
 }
 
 impl Field {
-    /// The field's name in a script: the word of the variant in small letters.
+    /// The field's name in a script: the words of the variant in small letters, with `_` between them.
     pub fn name(&self) -> &'static str
         ensures { result.now ≡ name_of self.now }
     {
@@ -48,6 +50,7 @@ impl Field {
             Field::Schedule => "schedule",
             Field::Oracle => "oracle",
             Field::Batch => "batch",
+            Field::TakeBatch => "take_batch",
         }
     }
 }
@@ -74,12 +77,12 @@ pub enum ScriptFault {
     NotObject,
     /// The object has a name that is none of a script's fields.
     UnknownField,
-    /// The object lacks this field; never told of `Batch`.
+    /// The object lacks this field; never told of `Batch` and `TakeBatch`.
     MissingField(Field),
     /// The value of this field is not of the field's kind. For `Items`, the value may also be an
     /// array in which something is no whole number.
     WrongKind(Field),
-    /// Capacity, modulus, width and batch are no shape.
+    /// Capacity, modulus, width and the two batches are no shape.
     Shape(ShapeFault),
     /// There are more items than a script may have.
     TooManyItems,

@@ -24,6 +24,7 @@ pub struct Values<'v> {
     pub schedule: &'v Value,
     pub oracle: &'v Value,
     pub batch: Option<&'v Value>,
+    pub take_batch: Option<&'v Value>,
 }
 
 /// The numbers, lists and texts that the fields of a script hold.
@@ -38,6 +39,7 @@ pub struct Typed<'v, A: Allocator> {
     pub schedule: &'v str,
     pub oracle: &'v str,
     pub batch: u64,
+    pub take_batch: u64,
 }
 
 // Whether the text is the name of a field.
@@ -56,6 +58,7 @@ fn is_a_name(name: &str) -> bool
             | "schedule"
             | "oracle"
             | "batch"
+            | "take_batch"
     )
 }
 
@@ -99,7 +102,7 @@ fn field<'v>(value: &'v Value, field: Field) -> Result<&'v Value, ScriptFault>
     }
 }
 
-/// The values of all fields, or the first field that is missing; `batch` may be.
+/// The values of all fields, or the first field that is missing; `batch` and `take_batch` may be.
 #[tactic(auto, unfolding(crate::specs::FieldReading::field_values))]
 pub fn find_values<'v>(value: &'v Value) -> Result<Values<'v>, ScriptFault>
     ensures { result_map values_view result ≡ field_values (view value.now) }
@@ -113,6 +116,7 @@ pub fn find_values<'v>(value: &'v Value) -> Result<Values<'v>, ScriptFault>
     let schedule = field(value, Field::Schedule)?;
     let oracle = field(value, Field::Oracle)?;
     let batch = value.get(Field::Batch.name());
+    let take_batch = value.get(Field::TakeBatch.name());
     Ok(Values {
         capacity,
         modulus,
@@ -123,6 +127,7 @@ pub fn find_values<'v>(value: &'v Value) -> Result<Values<'v>, ScriptFault>
         schedule,
         oracle,
         batch,
+        take_batch,
     })
 }
 
@@ -136,12 +141,12 @@ fn whole(value: &Value, field: Field) -> Result<u64, ScriptFault>
     }
 }
 
-// The batch, 1 where it is left out.
-fn batch(value: Option<&Value>) -> Result<u64, ScriptFault>
-    ensures { result ≡ batch_in (option_map (λ v. view v.now) value.entry) }
+// The batch that the field holds, 1 where it is left out.
+fn batch(value: Option<&Value>, field: Field) -> Result<u64, ScriptFault>
+    ensures { result ≡ batch_in field (option_map (λ v. view v.now) value.entry) }
 {
     match value {
-        Some(value) => whole(value, Field::Batch),
+        Some(value) => whole(value, field),
         None => Ok(1),
     }
 }
@@ -211,7 +216,8 @@ pub fn check_kinds<'v, A: Allocator + Copy>(
     let close = truth(values.close, Field::Close)?;
     let schedule = text(values.schedule, Field::Schedule)?;
     let oracle = text(values.oracle, Field::Oracle)?;
-    let batch = batch(values.batch)?;
+    let producer = batch(values.batch, Field::Batch)?;
+    let consumer = batch(values.take_batch, Field::TakeBatch)?;
     Ok(Typed {
         capacity,
         modulus,
@@ -221,6 +227,7 @@ pub fn check_kinds<'v, A: Allocator + Copy>(
         close,
         schedule,
         oracle,
-        batch,
+        batch: producer,
+        take_batch: consumer,
     })
 }

@@ -1,7 +1,7 @@
 //! Scripts, and how they are read.
 ghost use Rattle.std.specs.Prelude.{◌≡◌, ◌⊎◌, ◌<◌, ◌≤◌, ◌==◌, Ok, Err, IfOk, IfErr, MatchResult, [], length, map, position, slice_get};
 ghost use Rattle.serde_json.specs.View.{view};
-ghost use Rattle.bits_core.specs.Shape.{HasBatch, width_of};
+ghost use Rattle.bits_core.specs.Shape.{HasBatches, width_of};
 ghost use Rattle.ring_script.specs.Schedule.{run_count, spelled};
 ghost use Rattle.ring_script.specs.Borrowed.{content_of, content_read, held_of};
 ghost use Rattle.ring_script.specs.Content.{Content};
@@ -124,16 +124,16 @@ impl<A: Allocator> Script<A> {
     }
 
     /// Reads a script: one JSON object with the fields of `Field` and no other, in any order; `batch`
-    /// may be left out, and is then 1. Where a name stands twice, the last value counts.
+    /// and `take_batch` may be left out, and are then 1. Where a name stands twice, the last value counts.
     ///
-    /// `capacity`, `modulus`, `width`, `takes` and `batch` are whole numbers below 2 to the power of 64, and
-    /// `items` is an array of such. `close` is true or false. `schedule` is a text of letters `P`
+    /// `capacity`, `modulus`, `width`, `takes`, `batch` and `take_batch` are whole numbers below 2 to the power
+    /// of 64, and `items` is an array of such. `close` is true or false. `schedule` is a text of letters `P`
     /// and `C`, each with a count or without; a count is a digit 1 to 9 and any further digits, and
     /// a letter without a count stands for one. `oracle` is a text of `0` and `1`.
     ///
     /// The first fault is told in this order: the bytes are no JSON; they are no object; a field is
     /// unknown; a field is missing, then of the wrong kind, each the first in the order of `Field`;
-    /// the four numbers are no shape; there are too many items; an item is too wide, the first; a
+    /// the five numbers are no shape; there are too many items; an item is too wide, the first; a
     /// byte of the schedule is wrong, the first; the schedule is too long; a byte of the oracle is
     /// wrong, the first. Want of memory is told where a growth was refused. What the script keeps is
     /// from `alloc`; the JSON value, which is made of all the bytes and let go again, is from `json`.
@@ -238,7 +238,13 @@ fn read_texts<A: Allocator + Copy>(
     ensures within { IfOk result (λ x. length (spelled x.1.items) ≤ LETTER_LIMIT) }
     ensures refused { IfErr result (λ e. (e ≡ ScriptFault.OutOfMemory) ⊎ (given_of (typed_view typed.now) ≡ Err e)) }
 {
-    let shape = read_shape(typed.capacity, typed.modulus, typed.width, typed.batch)?;
+    let shape = read_shape(
+        typed.capacity,
+        typed.modulus,
+        typed.width,
+        typed.batch,
+        typed.take_batch,
+    )?;
     check_items(&shape, &typed.items)?;
     let runs = read_schedule(Vec::new(alloc), typed.schedule.as_bytes())?;
     let oracle = read_oracle(Vec::new(alloc), typed.oracle.as_bytes())?;
@@ -255,7 +261,13 @@ pub(crate) fn read_parts<'a>(
     ensures read { IfOk result (λ script. given_of (held_of fields.now) ≡ Ok (given_by (content_of script))) }
     ensures refused { IfErr result (λ e. ((e ≡ ScriptFault.OutOfMemory) × ((length runs.old < run_count fields.now.schedule.now) ⊎ (length answers.old < length fields.now.oracle.now))) ⊎ (given_of (held_of fields.now) ≡ Err e)) }
 {
-    let shape = read_shape(fields.capacity, fields.modulus, fields.width, fields.batch)?;
+    let shape = read_shape(
+        fields.capacity,
+        fields.modulus,
+        fields.width,
+        fields.batch,
+        fields.take_batch,
+    )?;
     check_items(&shape, fields.items)?;
     let runs = read_schedule(Filled::new(runs), fields.schedule)?.into_slice();
     let oracle = read_oracle(Filled::new(answers), fields.oracle)?.into_slice();
@@ -271,13 +283,19 @@ pub(crate) fn read_parts<'a>(
     })
 }
 
-// The shape of the four numbers.
-fn read_shape(capacity: u64, modulus: u64, width: u64, batch: u64) -> Result<Shape, ScriptFault>
-    ensures accepted { IfOk result (λ _. shape_in capacity modulus width batch ≡ Ok tt) }
-    ensures made { IfOk result (HasBatch capacity modulus width batch) }
-    ensures refused { IfErr result (λ e. shape_in capacity modulus width batch ≡ Err e) }
+// The shape of the five numbers.
+fn read_shape(
+    capacity: u64,
+    modulus: u64,
+    width: u64,
+    batch: u64,
+    take_batch: u64,
+) -> Result<Shape, ScriptFault>
+    ensures accepted { IfOk result (λ _. shape_in capacity modulus width batch take_batch ≡ Ok tt) }
+    ensures made { IfOk result (HasBatches capacity modulus width batch take_batch) }
+    ensures refused { IfErr result (λ e. shape_in capacity modulus width batch take_batch ≡ Err e) }
 {
-    match Shape::with_batch(capacity, modulus, width, batch) {
+    match Shape::with_batches(capacity, modulus, width, batch, take_batch) {
         Ok(shape) => Ok(shape),
         Err(fault) => Err(ScriptFault::Shape(fault)),
     }

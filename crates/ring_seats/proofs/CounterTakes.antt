@@ -18,7 +18,6 @@ use Rattle.register_core.specs.ScanState.{scan_phrase, row_read_by}
 use Rattle.ring_core.specs.Counts.{distance, ShowsItem, number_past, Count, first_count, count_bits, batch_phrase}
 use Rattle.ring_core.specs.Takes.{Take, Item, ItemAfterClose, Empty, End, Open, Closed, Takes, taken_after, count_after, taken_count, words_read, items_phrase, take_phrase, take_phrases, end_phrase, take_program, SeesItems, SeesNone, IsTakeBatch, IsTake}
 use Rattle.ring_core.specs.Items.{taken_of}
-use Rattle.ring_core.proofs.CountRow.{has_take_batch}
 use Rattle.ring_core.specs.ConsumerCalls.{count_taken, and_take, and_end, items_reply, take_reply_to, IsTakeOf, Finding, Once, Twice, finding_phrase, Finds}
 use Rattle.ring_core.specs.OneCallMore.{HasOneTakeMore, HasEndMore}
 use Rattle.ring_seats.specs.Below.{LawsBelow}
@@ -190,7 +189,7 @@ module _ (laws : LawsBelow) (shape : Shape) (list : List Event) (calls : Takes) 
   one_shown c lt shows = (lt, shows.0, shows.1)
 
   one_batch : IsTakeBatch shape (0 ∷ [])
-  one_batch = record { some = omega arith; few = has_take_batch shape; fit = (pow_pos (width_of shape), tt) }
+  one_batch = record { some = omega arith; few = shape.has_take_batch; fit = (pow_pos (width_of shape), tt) }
 
   pub can_scan : (c : ℕ) → c < modulus_of shape → Follows shape C (list ++ events_of C (scan_phrase (row_read_by C) c))
   can_scan c lt = go (shows_or_not shape c (k_of % modulus_of shape))

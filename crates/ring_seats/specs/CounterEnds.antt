@@ -1,7 +1,7 @@
 -- What the two ends of a counter ring remember of their calls, and what a call of theirs comes to.
 use Rattle.std.specs.Prelude.{◌≡◌, ℕ, zero, suc, ◌+◌, ◌%◌, ◌≤◌, Bool, Some, List, [], ◌++◌, length, take}
 use Rattle.bits_core.specs.declared.events.Side.TheVariants.{P, C}
-use Rattle.bits_core.specs.Shape.{capacity_of, modulus_of}
+use Rattle.bits_core.specs.Shape.{capacity_of, modulus_of, take_batch_of}
 use Rattle.bits_core.specs.Made.{events_of}
 use Rattle.ring_core.specs.Puts as puts
 use Rattle.ring_core.specs.Puts.{Put, Puts}
@@ -12,7 +12,6 @@ use Rattle.ring_core.specs.declared.consumers.TakeBatchReply.TheVariants as batc
 use Rattle.ring_core.specs.Takes.{Takes, Open}
 use Rattle.ring_core.specs.ConsumerCalls as takes
 use Rattle.ring_core.specs.ConsumerCalls.{Finding, finding_phrase, Finds, HasTakeMore, take_batch_reply, ends_closed, items_at_end, reply_items}
-use Rattle.ring_core.specs.Counts.{take_batch_of}
 use Rattle.ring_seats.specs.declared.counter_calls.Scanned.{Scanned}
 use Rattle.ring_seats.specs.declared.counter_calls.Scanned.TheVariants.{Shows, Over}
 use Rattle.ring_seats.specs.Ring.{RingEnd}

@@ -1,13 +1,12 @@
 //! The whole calls of a counter ring, by its seats.
 ghost use Rattle.std.specs.Prelude.{◌≡◌, ◌⊎◌, ℕ, ◌<◌, ◌≤◌, true, false, Some, [], ◌∷◌, length, drop};
-ghost use Rattle.bits_core.specs.Shape.{modulus_of};
+ghost use Rattle.bits_core.specs.Shape.{modulus_of, take_batch_of};
 ghost use Rattle.bits_core.specs.declared.events.Side.TheVariants.{P};
 ghost use Rattle.ring_core.specs.declared.consumers.TakeReply.TheVariants.{Item};
 ghost use Rattle.ring_core.specs.Puts.{Puts, IsBatch};
 ghost use Rattle.ring_core.specs.Takes.{Takes, Open};
 ghost use Rattle.ring_core.specs.ProducerCalls.{and_close, room_in};
 ghost use Rattle.ring_core.specs.ConsumerCalls.{take_batch_reply, items_reply, reply_items};
-ghost use Rattle.ring_core.specs.Counts.{take_batch_of};
 ghost use Rattle.ring_seats.specs.Calls.{HasPuts};
 ghost use Rattle.ring_seats.specs.CounterEnds.{PutterList, PutKept, TakerList, TakeKept, TakeAllKept, LookMade, HasLooked, number_brought};
 ghost use Rattle.ring_seats.specs.Ring.{RingEnd};

@@ -72,24 +72,76 @@ fn batches_accepted_and_refused(rt: HostRuntime) {
     expect_shapes(&rt, &BATCHES);
 }
 
-fn expect_getters(rt: &impl Abort, numbers: (u64, u64, u64, u64)) {
-    let (capacity, modulus, width, batch) = numbers;
-    let shape = Shape::with_batch(capacity, modulus, width, batch).expect(rt, "a shape");
-    let found = (
+// Capacity, modulus, width, batch and take batch, and why they are no shape.
+static TAKE_BATCHES: [([u64; 5], Option<ShapeFault>); 17] = [
+    ([3, 7, 1, 1, 3], None),
+    ([3, 7, 1, 3, 3], None),
+    ([3, 6, 1, 1, 2], None),
+    ([64, 129, 64, 1, 64], None),
+    ([64, 81, 64, 16, 16], None),
+    ([3, 5, 1, 1, 1], None),
+    // one less than capacity + the larger batch + 1
+    ([3, 6, 1, 1, 3], Some(ShapeFault::ModulusOfBatches)),
+    ([3, 6, 1, 3, 2], Some(ShapeFault::ModulusOfBatches)),
+    ([64, 80, 64, 1, 16], Some(ShapeFault::ModulusOfBatches)),
+    ([3, 257, 1, 1, 3], Some(ShapeFault::ModulusOfBatches)),
+    ([3, 6, 1, 3, 1], Some(ShapeFault::Modulus)),
+    ([3, 7, 1, 1, 4], Some(ShapeFault::TakeBatch)),
+    ([3, 7, 1, 1, 0], Some(ShapeFault::TakeBatch)),
+    // the batch is told before the take batch, the take batch before the modulus, the modulus before the width
+    ([3, 7, 1, 4, 4], Some(ShapeFault::Batch)),
+    ([3, 3, 0, 1, 4], Some(ShapeFault::TakeBatch)),
+    ([3, 6, 0, 1, 3], Some(ShapeFault::ModulusOfBatches)),
+    ([3, 7, 65, 1, 3], Some(ShapeFault::Width)),
+];
+
+// What was made of the five numbers.
+fn expect_batches(rt: &impl Abort, numbers: &[u64; 5], refused: Option<ShapeFault>) {
+    let [capacity, modulus, width, batch, take_batch] = *numbers;
+    let made = Shape::with_batches(capacity, modulus, width, batch, take_batch);
+    assert_eq!(rt;
+        made.err(),
+        refused,
+        "with_batches {capacity} {modulus} {width} {batch} {take_batch}"
+    );
+}
+
+#[test]
+fn take_batches_accepted_and_refused(rt: HostRuntime) {
+    for (numbers, refused) in TAKE_BATCHES.iter() {
+        expect_batches(&rt, numbers, *refused);
+    }
+}
+
+// With a take batch of 1 a shape is that of `with_batch`.
+#[test]
+fn a_take_batch_of_1_is_none(rt: HostRuntime) {
+    let with_batch = Shape::with_batch(3, 7, 1, 3);
+    assert!(rt; Shape::with_batches(3, 7, 1, 3, 1) == with_batch);
+    assert!(rt; Shape::with_batches(3, 7, 1, 3, 2) != with_batch);
+}
+
+fn expect_getters(rt: &impl Abort, numbers: [u64; 5]) {
+    let [capacity, modulus, width, batch, take_batch] = numbers;
+    let made = Shape::with_batches(capacity, modulus, width, batch, take_batch);
+    let shape = made.expect(rt, "a shape");
+    let found = [
         shape.capacity(),
         shape.modulus(),
         shape.width(),
         shape.batch(),
-    );
-    assert_eq!(rt; found, numbers);
-    assert!(rt; Shape::with_batch(capacity, modulus, width, batch) == Ok(shape));
+        shape.take_batch(),
+    ];
+    assert!(rt; found == numbers);
+    assert!(rt; Shape::with_batches(capacity, modulus, width, batch, take_batch) == Ok(shape));
 }
 
 #[test]
 fn a_shape_tells_its_numbers(rt: HostRuntime) {
-    expect_getters(&rt, (2, 5, 3, 2));
-    expect_getters(&rt, (64, 256, 64, 1));
-    expect_getters(&rt, (3, 9, 64, 3));
+    expect_getters(&rt, [2, 5, 3, 2, 1]);
+    expect_getters(&rt, [64, 256, 64, 1, 1]);
+    expect_getters(&rt, [3, 9, 64, 3, 2]);
+    expect_getters(&rt, [3, 9, 64, 1, 3]);
 }
 
 // Width, item, and whether it fits.
@@ -148,7 +200,7 @@ fn expect_number(rt: &impl Abort, found: u8, wanted: u8) {
     assert_eq!(rt; found, wanted);
 }
 
-static SHAPE_FAULTS: [(ShapeFault, u8, &str); 4] = [
+static SHAPE_FAULTS: [(ShapeFault, u8, &str); 6] = [
     (ShapeFault::Capacity, 1, "capacity must be from 1 to 64"),
     (
         ShapeFault::Modulus,
@@ -157,6 +209,16 @@ static SHAPE_FAULTS: [(ShapeFault, u8, &str); 4] = [
     ),
     (ShapeFault::Width, 3, "width must be from 1 to 64"),
     (ShapeFault::Batch, 4, "batch must be from 1 to capacity"),
+    (
+        ShapeFault::TakeBatch,
+        5,
+        "take batch must be from 1 to capacity",
+    ),
+    (
+        ShapeFault::ModulusOfBatches,
+        6,
+        "modulus must be from capacity + the larger batch + 1 to 256",
+    ),
 ];
 
 #[test]

@@ -63,6 +63,26 @@ fn line_one_names_a_batch_over_1(rt: HostRuntime) {
     );
 }
 
+// The same of a shape with a take batch.
+fn expect_batches(rt: &(impl Abort + AllocGlobal), text: &str, numbers: [u64; 5], rows: &[Row]) {
+    let [capacity, modulus, width, batch, take_batch] = numbers;
+    let shape = Shape::with_batches(capacity, modulus, width, batch, take_batch);
+    expect_trace(rt, text, &shape.expect(rt, "a shape"), rows);
+}
+
+#[test]
+fn line_one_names_a_take_batch_over_1(rt: HostRuntime) {
+    expect_batches(&rt, "shape 3 7 1 1 3\n", [3, 7, 1, 1, 3], &[]);
+    expect_batches(&rt, "shape 3 7 1 3 2\n", [3, 7, 1, 3, 2], &[]);
+    expect_batches(&rt, "shape 3 7 1 3\n", [3, 7, 1, 3, 1], &[]);
+    expect_batches(
+        &rt,
+        "shape 64 129 64 16 64\nP read r128\n",
+        [64, 129, 64, 16, 64],
+        &[(Side::P, Bit::R(128), Act::ReadBegin)],
+    );
+}
+
 fn expect_fault(rt: &(impl Abort + AllocGlobal), text: &[u8], fault: TraceFault) {
     assert_eq!(rt; read_trace(rt.alloc(), text).err(), Some(fault));
 }
@@ -74,7 +94,7 @@ fn expect_faults(rt: &(impl Abort + AllocGlobal), texts: &[&str], fault: TraceFa
     }
 }
 
-static NO_LINE_ONE: [&str; 22] = [
+static NO_LINE_ONE: [&str; 30] = [
     "",
     "shape 1 3 1",
     "shape 1 3\n",
@@ -97,8 +117,17 @@ static NO_LINE_ONE: [&str; 22] = [
     "shape 3 7 1  3\n",
     "shape 3 7 1 03\n",
     "shape 3 7 1 3 \n",
-    "shape 3 7 1 3 3\n",
     "shape 3 7 1 10000\n",
+    // nor is a take batch of 1, whatever the batch is, or one in another form
+    "shape 3 7 1 3 1\n",
+    "shape 3 7 1 1 1\n",
+    "shape 0 0 0 0 1\n",
+    "shape 3 7 1 1 3",
+    "shape 3 7 1 1  3\n",
+    "shape 3 7 1 1 03\n",
+    "shape 3 7 1 1 3 \n",
+    "shape 3 7 1 1 3 3\n",
+    "shape 3 7 1 1 10000\n",
 ];
 
 #[test]
@@ -106,7 +135,7 @@ fn a_first_line_of_no_form_is_bad(rt: HostRuntime) {
     expect_faults(&rt, &NO_LINE_ONE, TraceFault::BadLine(1));
 }
 
-static BAD_SHAPES: [(&str, ShapeFault); 12] = [
+static BAD_SHAPES: [(&str, ShapeFault); 20] = [
     ("shape 1 9999 1\n", ShapeFault::Modulus),
     ("shape 1 2 1\n", ShapeFault::Modulus),
     ("shape 0 3 1\n", ShapeFault::Capacity),
@@ -119,6 +148,14 @@ static BAD_SHAPES: [(&str, ShapeFault); 12] = [
     ("shape 3 6 0 4\n", ShapeFault::Batch),
     ("shape 65 0 0 0\n", ShapeFault::Capacity),
     ("shape 3 7 0 3\nP", ShapeFault::Width),
+    ("shape 3 7 1 1 0\n", ShapeFault::TakeBatch),
+    ("shape 3 7 1 1 4\n", ShapeFault::TakeBatch),
+    ("shape 3 7 1 4 4\n", ShapeFault::Batch),
+    ("shape 3 7 1 9999 9999\n", ShapeFault::Batch),
+    ("shape 3 6 1 1 3\n", ShapeFault::ModulusOfBatches),
+    ("shape 3 6 0 3 2\n", ShapeFault::ModulusOfBatches),
+    ("shape 9999 9999 9999 9999 9999\n", ShapeFault::Capacity),
+    ("shape 3 7 0 1 3\nP", ShapeFault::Width),
 ];
 
 #[test]

@@ -65,13 +65,14 @@ fn expect_number(rt: &impl Abort, what: &str, made: u64, wanted: u64) {
     assert_eq!(rt; made, wanted, "{what}");
 }
 
-// The shape has this capacity, modulus, width and batch.
-fn expect_shape(rt: &impl Abort, script: &Script<Global>, numbers: [u64; 4]) {
+// The shape has this capacity, modulus, width, batch and take batch.
+fn expect_shape(rt: &impl Abort, script: &Script<Global>, numbers: [u64; 5]) {
     let shape = script.shape();
     expect_number(rt, "capacity", shape.capacity(), numbers[0]);
     expect_number(rt, "modulus", shape.modulus(), numbers[1]);
     expect_number(rt, "width", shape.width(), numbers[2]);
     expect_number(rt, "batch", shape.batch(), numbers[3]);
+    expect_number(rt, "take batch", shape.take_batch(), numbers[4]);
 }
 
 fn expect_lists(rt: &impl Abort, script: &Script<Global>, items: &[u64], oracle: &[bool]) {
@@ -100,7 +101,7 @@ fn reads_each_field(rt: HostRuntime) {
     let text = "{\"capacity\":4,\"modulus\":9,\"width\":3,\"items\":[7,0,5],\"takes\":2,\
         \"close\":true,\"schedule\":\"CP2C3\",\"oracle\":\"011\"}";
     let script = read(&rt, text);
-    expect_shape(&rt, &script, [4, 9, 3, 1]);
+    expect_shape(&rt, &script, [4, 9, 3, 1, 1]);
     expect_lists(&rt, &script, &[7, 0, 5], &[false, true, true]);
     expect_number(&rt, "takes", script.takes(), 2);
     assert!(rt; script.closes());
@@ -112,7 +113,7 @@ fn reads_fields_in_another_order(rt: HostRuntime) {
     let text = " { \"oracle\" : \"\", \"schedule\" : \"\", \"close\" : false, \"takes\" : 0,\n\
         \"items\" : [ ], \"batch\" : 64, \"width\" : 64, \"modulus\" : 256, \"capacity\" : 64 } \n";
     let script = read(&rt, text);
-    expect_shape(&rt, &script, [64, 256, 64, 64]);
+    expect_shape(&rt, &script, [64, 256, 64, 64, 1]);
     expect_lists(&rt, &script, &[], &[]);
     expect_number(&rt, "takes", script.takes(), 0);
     assert!(rt; !script.closes());
@@ -138,12 +139,24 @@ fn reads_the_last_of_a_name(rt: HostRuntime) {
 fn reads_a_batch(rt: HostRuntime) {
     let members = ",\"capacity\":3,\"modulus\":7,\"batch\":3";
     let three = script_with(rt.alloc(), &[], members).expect(&rt, "memory for the text");
-    expect_shape(&rt, &read(&rt, &three), [3, 7, 1, 3]);
+    expect_shape(&rt, &read(&rt, &three), [3, 7, 1, 3, 1]);
 }
 
-static ACCEPTED: [&str; 16] = [
+#[test]
+fn reads_a_take_batch(rt: HostRuntime) {
+    let members = ",\"capacity\":3,\"modulus\":7,\"take_batch\":3";
+    let alone = script_with(rt.alloc(), &[], members).expect(&rt, "memory for the text");
+    expect_shape(&rt, &read(&rt, &alone), [3, 7, 1, 1, 3]);
+    let members = ",\"capacity\":3,\"modulus\":7,\"take_batch\":2,\"batch\":3";
+    let both = script_with(rt.alloc(), &[], members).expect(&rt, "memory for the text");
+    expect_shape(&rt, &read(&rt, &both), [3, 7, 1, 3, 2]);
+}
+
+static ACCEPTED: [&str; 18] = [
     "",
     ",\"batch\":1",
+    ",\"take_batch\":1",
+    ",\"capacity\":3,\"modulus\":7,\"batch\":3,\"take_batch\":3",
     ",\"schedule\":\"P1000000\"",
     ",\"schedule\":\"P999999C\"",
     ",\"schedule\":\"P\\u00432\"",
@@ -167,7 +180,7 @@ fn accepts(rt: HostRuntime) {
     }
 }
 
-static SHAPE_FAULTS: [(&str, ShapeFault); 11] = [
+static SHAPE_FAULTS: [(&str, ShapeFault); 15] = [
     (",\"capacity\":0", ShapeFault::Capacity),
     (",\"capacity\":65", ShapeFault::Capacity),
     (",\"modulus\":2", ShapeFault::Modulus),
@@ -191,6 +204,13 @@ static SHAPE_FAULTS: [(&str, ShapeFault); 11] = [
         ShapeFault::Modulus,
     ),
     (",\"width\":0,\"items\":[2]", ShapeFault::Width),
+    (",\"take_batch\":0", ShapeFault::TakeBatch),
+    (",\"take_batch\":2", ShapeFault::TakeBatch),
+    (",\"take_batch\":2,\"batch\":2", ShapeFault::Batch),
+    (
+        ",\"capacity\":3,\"modulus\":6,\"take_batch\":3",
+        ShapeFault::ModulusOfBatches,
+    ),
 ];
 
 #[test]
@@ -295,7 +315,11 @@ static NEEDED: [(&str, Field); 8] = [
 // Without the field, and without the later one too, the field is the one that is missing.
 fn expect_missing(rt: &(impl Abort + AllocGlobal), name: &str, later: &str, field: Field) {
     assert!(rt; field.name() == name);
-    let text = script_with(rt.alloc(), &[later, name], ",\"batch\":null");
+    let text = script_with(
+        rt.alloc(),
+        &[later, name],
+        ",\"batch\":null,\"take_batch\":null",
+    );
     let text = text.expect(rt, "memory for the text");
     expect_fault(rt, text.as_bytes(), Some(ScriptFault::MissingField(field)));
 }
@@ -308,7 +332,7 @@ fn names_the_missing_field(rt: HostRuntime) {
     }
 }
 
-static WRONG_KINDS: [(&str, Field); 19] = [
+static WRONG_KINDS: [(&str, Field); 21] = [
     (",\"capacity\":\"1\"", Field::Capacity),
     (",\"modulus\":true", Field::Modulus),
     (",\"width\":null", Field::Width),
@@ -328,9 +352,11 @@ static WRONG_KINDS: [(&str, Field); 19] = [
     (",\"batch\":\"1\"", Field::Batch),
     (",\"batch\":[]", Field::Batch),
     (",\"capacity\":0,\"batch\":-1", Field::Batch),
+    (",\"take_batch\":null", Field::TakeBatch),
+    (",\"batch\":0,\"take_batch\":\"1\"", Field::TakeBatch),
 ];
 
-// Each field of a wrong kind in turn; and of two the first, of which the batch is the last.
+// Each field of a wrong kind in turn; and of two the first, of which the batches are the last.
 #[test]
 fn names_the_field_of_the_wrong_kind(rt: HostRuntime) {
     for (members, field) in WRONG_KINDS.iter() {
@@ -338,6 +364,8 @@ fn names_the_field_of_the_wrong_kind(rt: HostRuntime) {
     }
     let first = ",\"batch\":null,\"oracle\":1,\"close\":0";
     expect_with(&rt, first, Some(ScriptFault::WrongKind(Field::Close)));
+    let batches = ",\"take_batch\":null,\"batch\":null";
+    expect_with(&rt, batches, Some(ScriptFault::WrongKind(Field::Batch)));
 }
 
 static OTHER_NUMBERS: [&str; 8] = [

@@ -252,7 +252,7 @@ static SCRIPTS: [(&[u8], &str); 27] = [
     // fields
     (
         b"{\"capacity\":1,\"modulus\":3,\"width\":1,\"items\":[1],\"takes\":1,\"close\":false,\"schedule\":\"P8C10\",\"oracle\":\"\",\"note\":1}",
-        "refused: script has an unknown field\n  the fields are capacity, modulus, width, items, takes, close, schedule, oracle and batch\n",
+        "refused: script has an unknown field\n  the fields are capacity, modulus, width, items, takes, close, schedule, oracle, batch and take_batch\n",
     ),
     (
         b"{\"capacity\":\"1\",\"modulus\":3,\"width\":1,\"items\":[1],\"takes\":1,\"close\":false,\"schedule\":\"P8C10\",\"oracle\":\"\"}",

@@ -1,5 +1,4 @@
 use Rattle.std.proofs.Common.{sym, subst}
-use Rattle.ring_core.proofs.CountRow.{has_take_batch}
 use Rattle.ring_seats.specs.CounterEnds.{TakeKept}
 use Rattle.ring_seats.proofs.CounterTakerCalls.{kept_none, one_found}
 use Rattle.ring_seats.proofs.counter_calls.take_open.Goals as goal
@@ -9,7 +8,7 @@ fetch-requires c =
     let r = c.requires.at in
     let a = c.args.stepper.now in
     let found = c.in-Shows.ensures r.0 r.1 r.2 in
-    record { at = (a, r.0, record { at = r.1; opened = r.2; few = has_take_batch a.ring.shape; look = found.0; found = one_found a c.look.new.stepper r.0 found.0 _ found.1 }) }
+    record { at = (a, r.0, record { at = r.1; opened = r.2; few = a.ring.shape.has_take_batch; look = found.0; found = one_found a c.look.new.stepper r.0 found.0 _ found.1 }) }
 
 pub returns-in-Over : goal.returns-in-Over
 returns-in-Over c calls at opened =
@@ -22,4 +21,4 @@ pub returns-in-Shows : goal.returns-in-Shows
 returns-in-Shows c calls at opened =
     let a = c.args.stepper.now in
     let found = c.in-Shows.ensures calls at opened in
-    c.fetch.ensures a calls (record { at = at; opened = opened; few = has_take_batch a.ring.shape; look = found.0; found = one_found a c.look.new.stepper calls found.0 _ found.1 })
+    c.fetch.ensures a calls (record { at = at; opened = opened; few = a.ring.shape.has_take_batch; look = found.0; found = one_found a c.look.new.stepper calls found.0 _ found.1 })

@@ -3,7 +3,7 @@ use Rattle.bits_core.specs.declared.events.Side.TheVariants.{C}
 use Rattle.ring_core.specs.declared.consumers.Stage.TheVariants.{Counting}
 use Rattle.ring_core.specs.contracts.consumers.Consumer.{the_view}
 use Rattle.ring_core.specs.ConsumerState.{ConsumerState}
-use Rattle.ring_core.proofs.CountRow.{small_take_batch, take_batch_below}
+use Rattle.ring_core.proofs.CountRow.{take_batch_below}
 use Rattle.ring_core.proofs.MachineParts.{none_next, row_whole}
 use Rattle.ring_core.proofs.ConsumerInvariant.{at_stage}
 use Rattle.ring_core.proofs.ConsumerMoves.{count_on, count_over}
@@ -39,6 +39,6 @@ past_in-self-inside-requires-then-is_none c =
     let p : ConsumerState = the_view c.self.inside in
     let (being, taking, least, size, few) = at_stage p Counting c.self.invariant.0 (rw (← c.self.view_is) at c.requires.stage) in (
       omega (arith, c.self.invariant.0.cell_below, c.capacity.ensures.value),
-      omega (arith, few, taking.few, small_take_batch p.shape, c.capacity.ensures.value),
+      omega (arith, few, taking.few, p.shape.small_take_batch, c.capacity.ensures.value),
       omega (arith, c.capacity.ensures.few),
     )

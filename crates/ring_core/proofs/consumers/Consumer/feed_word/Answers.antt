@@ -5,7 +5,7 @@ use Rattle.ring_core.specs.declared.consumers.Stage.TheVariants.{Loading}
 use Rattle.ring_core.specs.contracts.consumers.Consumer.{the_view}
 use Rattle.ring_core.specs.ConsumerState.{ConsumerState}
 use Rattle.ring_core.proofs.Batches.{taken_so}
-use Rattle.ring_core.proofs.CountRow.{small_take_batch, take_batch_below}
+use Rattle.ring_core.proofs.CountRow.{take_batch_below}
 use Rattle.ring_core.proofs.ConsumerInvariant.{at_stage, word_keeps, word_whole, kept_size}
 use Rattle.ring_core.proofs.ConsumerMoves.{word_on, word_next, word_over}
 use Rattle.ring_core.proofs.consumers.Consumer.feed_word.Goals as goal
@@ -60,7 +60,7 @@ past_in-cell-requires c =
     let p : ConsumerState = the_view c.self.inside in
     let (counted, taking, loads, less, few, unread) = at_stage p Loading c.self.invariant.0 (rw (← c.self.view_is) at c.requires.stage) in (
       omega (arith, c.self.invariant.0.cell_below, c.capacity.ensures.value),
-      omega (arith, c.if-self.true, few, taking.few, small_take_batch p.shape, c.capacity.ensures.value),
+      omega (arith, c.if-self.true, few, taking.few, p.shape.small_take_batch, c.capacity.ensures.value),
       omega (arith, c.capacity.ensures.few),
     )
 

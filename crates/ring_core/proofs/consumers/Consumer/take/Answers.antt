@@ -1,5 +1,4 @@
-use Rattle.ring_core.proofs.CountRow.{has_take_batch}
 use Rattle.ring_core.proofs.consumers.Consumer.take.Goals as goal
 
 pub take_all-requires-clause-few : goal.take_all-requires-clause-few
-take_all-requires-clause-few c = has_take_batch _
+take_all-requires-clause-few c = c.args.self.now.shape.has_take_batch

@@ -1,12 +1,11 @@
 use Rattle.std.proofs.Common.{◌≤◌, rules, arith}
 use Rattle.ring_core.specs.contracts.consumers.Consumer.{the_view}
 use Rattle.ring_core.specs.ConsumerState.{ConsumerState}
-use Rattle.ring_core.specs.Counts.{take_batch_of}
-use Rattle.ring_core.proofs.CountRow.{small_take_batch}
+use Rattle.bits_core.specs.Shape.{take_batch_of}
 use Rattle.ring_core.proofs.consumers.Consumer.take_all.Goals as goal
 
 pub invariant_of-self-else-self : goal.invariant_of-self-else-self
 invariant_of-self-else-self c =
     let p : ConsumerState = the_view c.self.inside in
     let few : c.args.most ≤ take_batch_of p.shape = rw (← c.self.view_is) at c.requires.few in
-    (search rules, omega arith, omega (arith, few, small_take_batch p.shape, p.shape.few_cells), c.self.invariant.3)
+    (search rules, omega arith, omega (arith, few, p.shape.small_take_batch, p.shape.few_cells), c.self.invariant.3)
