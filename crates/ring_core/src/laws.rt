@@ -6,7 +6,7 @@
 //! - The laws of programs, as `last_bit_is_one`: for who drives a machine, as `uses::by_hand` does.
 ghost use Rattle.ring_core.specs.CountWrites.{CountsAreWritten, CountsShowNumbers};
 ghost use Rattle.ring_core.specs.Following.{PutsAreFollowed, TakesAreFollowed};
-ghost use Rattle.ring_core.specs.GoingOn.{LastPutsReadOne, LastTakesReadOne, PutsGoOnByOne, TakesGoOn, TakesGoOnByOne};
+ghost use Rattle.ring_core.specs.GoingOn.{LastPutsReadOne, LastTakesReadOne, PutsGoOnByOne, TakesGoOn, TakesGoOnAlike, TakesGoOnByOne};
 ghost use Rattle.ring_core.specs.Items.{ItemsAreRead, TakenAreRead};
 ghost use Rattle.ring_core.specs.Lengths.{ItemPutsAreShort, FullPutsAreShort, PutsAreShort, TakesAreShort, EndsAreShort};
 ghost use Rattle.ring_core.specs.Linear.{IsLinearizableRun};
@@ -98,8 +98,10 @@ pub fn counts_are_written()
     ensures written { CountsAreWritten }
 {}
 
-/// No put of one item has more than modulus + width + 2 accesses, no put of `m` items more than
-/// 2 modulus + m width, and no take more than 2 modulus + width + 3.
+/// No put of one item, and none that found the ring full, has more than modulus + width + 2 accesses, and no put of `m`
+/// items more than 2 modulus + `m` width. A take that took one item, found the ring empty or was told that it is closed
+/// has no more than 2 modulus + width + 3, and a take of `m` items, where `m` is at least 2, no more than
+/// 3 modulus + `m` width + 1.
 pub fn calls_are_short()
     ensures item_puts { ItemPutsAreShort }
     ensures full_puts { FullPutsAreShort }
@@ -126,13 +128,20 @@ pub fn calls_go_on_by_one()
 {}
 
 /// What a consumer does next follows from the accesses that it has made and their answers: programs that begin with
-/// these go on with the same access. But behind a whole word a take may read the next one, where it may take more,
-/// or count those that it has read.
+/// these go on with the same access. But behind a whole word one may read the next and another count those that were
+/// read: a take reads on only where it wants more than one item, and others beside it only where it wants fewer than may
+/// be taken.
 pub fn takes_go_on()
     ensures { TakesGoOn }
 {
     digits_tell_items();
 }
+
+/// Where a take may take one item, what a consumer does next follows from the accesses that it has made and their
+/// answers, with no exception: programs that begin with these go on with the same access.
+pub fn takes_go_on_alike()
+    ensures { TakesGoOnAlike }
+{}
 
 /// What a producer may do next, by how far its put under way has come: it scans or closes; it scans on; it writes a
 /// word, where there is room for one more, or the count; it writes the next digit; it writes the next bit of the count.
