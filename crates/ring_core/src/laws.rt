@@ -11,6 +11,7 @@ ghost use Rattle.ring_core.specs.Items.{ItemsAreRead, TakenAreRead};
 ghost use Rattle.ring_core.specs.Lengths.{ItemPutsAreShort, FullPutsAreShort, PutsAreShort, TakesAreShort, EndsAreShort};
 ghost use Rattle.ring_core.specs.Linear.{IsLinearizableRun};
 ghost use Rattle.ring_core.specs.OneCallMore.{ClosesByOneMore, EndsByOneMore, PutsByOneMore, TakesByOneMore, TakesOfOne};
+ghost use Rattle.ring_core.specs.OneWordMore.{ItemsFitByOneMore, WordsByOneMore, WordsGoOn};
 ghost use Rattle.ring_core.specs.Over.{PutsOverAreRead, TakesOverAreRead};
 ghost use Rattle.ring_core.specs.PutParts.{CountsOn, ScansOn, ScansOrCloses, StoresOn, StoresOrCounts};
 ghost use Rattle.ring_core.specs.Readings.{PutsAreFirst, PutsAreRead, TakesAreFirst, TakesAreRead};
@@ -118,6 +119,15 @@ pub fn programs_by_one_call()
     ensures takes { TakesByOneMore }
     ensures ends { EndsByOneMore }
     ensures one { TakesOfOne }
+{}
+
+/// The words that a take reads, by one more: the word of the next item comes behind those of the items before it, in the
+/// cell of its number, and where it fits and they do, all fit. And to items that fit, and any number no less than theirs,
+/// there are so many items that fit whose words begin with their words.
+pub fn words_by_one_more()
+    ensures words { WordsByOneMore }
+    ensures fit { ItemsFitByOneMore }
+    ensures go_on { WordsGoOn }
 {}
 
 /// The access that a call under way goes on with, whatever it is answered, is the only one: behind the same calls and
