@@ -201,7 +201,7 @@ pub not_due :
 not_due law first shape r es items p (Some d) a st none same stands due_is goes rests wants over wrong of_takes =
     elim (next_or law shape r es items p d a st none same stands (goes d refl).1 of_takes) [
       | inl is ↦ absurd (wrong (ap Some (sym is)))
-      | inr (ends, inl ((j, reads), counts)) ↦ (between_at p.stage p st.calls st.made j refl stands.made_is (sym due_is ∙ ap Some reads) ends, counts)
+      | inr (ends, inl ((j, reads), counts, more)) ↦ (between_at p.stage p st.calls st.made j refl stands.made_is (sym due_is ∙ ap Some reads) ends, counts)
       | inr (ends, inr (counts, reads, less)) ↦ absurd (omega (arith, less, wants (goes d refl).0 ends))
     ]
 not_due law first shape r es items p None a st none same stands due_is goes rests wants over wrong of_takes =
@@ -231,7 +231,7 @@ pub counts_else :
 counts_else law shape r es items p due a i v st none same stands due_is goes wrong (k, w, writes) of_takes =
     elim (next_or law shape r es items p (begins.Write (R i) v) a st none same stands (goes (begins.Write (R i) v) due_is).1 of_takes) [
       | inl is ↦ wrong (due_is ∙ ap Some (sym is))
-      | inr (ends, inl ((j, reads), counts)) ↦ absurd (cc)
+      | inr (ends, inl ((j, reads), counts, more)) ↦ absurd (cc)
       | inr (ends, inr (counts, (j, reads), less)) ↦ (let clash : begins.Write (R k) w ≡ begins.Read (Cell j 0) = sym writes ∙ reads in absurd (cc))
     ]
 

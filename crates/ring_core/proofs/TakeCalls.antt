@@ -1,5 +1,5 @@
 -- A program of takes with one take more, or with the take that is told the ring is closed.
-use Rattle.std.proofs.Common.{Bool, true, false, ◌≡◌, ℕ, zero, suc, ◌+◌, ◌%◌, Option, Some, List, [], ◌∷◌, ◌++◌, length, refl, sym, ap, ◌∙◌, arith, append_assoc, append-nil}
+use Rattle.std.proofs.Common.{Bool, true, false, ◌≡◌, ℕ, zero, suc, ◌+◌, ◌-◌, ◌%◌, Option, Some, List, [], ◌∷◌, ◌++◌, length, refl, sym, ap, ◌∙◌, arith, append_assoc, append-nil, length-append}
 use Rattle.std.proofs.lemmas.List.{map-append}
 use Rattle.std.proofs.lemmas.Nat.{pow_pos}
 use Rattle.bits_core.specs.declared.events.Side.{Side}
@@ -13,6 +13,7 @@ use Rattle.ring_core.specs.declared.consumers.TakeReply.{TakeReply}
 use Rattle.ring_core.specs.Counts.{number_past, Count, first_count, count_bits, batch_phrase, IsCount}
 use Rattle.ring_core.specs.Takes.{Take, Takes, Item, ItemAfterClose, Empty, Open, Closed, count_after, taken_count, words_read, items_phrase, take_phrase, take_phrases, end_phrase, take_program, IsTake, SeesNone, IsTakeBatch, AreTakes}
 use Rattle.ring_core.specs.Items.{taken_of}
+use Rattle.ring_core.specs.OneWordMore.{WordsGoOn}
 use Rattle.ring_core.specs.ConsumerCalls.{Finding, Once, Twice, finding_phrase, Finds, IsTakeOf, count_taken, take_values, values_taken, and_take, items_reply, take_reply_to, last_take_reply, last_items, reply_at_end, take_batch_reply, IsReplyToTake, AreItemsOfTake, IsBatchReplyToTake}
 use Rattle.ring_core.proofs.CountRow.{bits_after-append, row_writes-push, first_is_count, counted_is_count}
 
@@ -214,3 +215,13 @@ fit-append shape (x ∷ xs) ys (here, fit) last = (here, fit-append shape xs ys 
 pub fit-push : (shape : Shape) (items : List ℕ) (item : ℕ) → AllFit shape items → AllFit shape (item ∷ []) → AllFit shape (items ++ item ∷ [])
 fit-push shape [] item fit last = last
 fit-push shape (x ∷ xs) item (here, fit) last = (here, fit-push shape xs item fit last)
+
+-- so their words begin those of any greater number
+pub words-go_on : WordsGoOn
+words-go_on shape n many items few fit =
+    let rest : List ℕ = zeros (many - length items) in (
+      items ++ rest,
+      omega (arith, few, length-append items rest, zeros-long (many - length items)),
+      fit-append shape items rest fit (zeros-fit shape (many - length items)),
+      (words_read shape (n + length items) rest, sym (words_read-append shape n items rest)),
+    )

@@ -10,15 +10,15 @@ use Rattle.bits_core.specs.declared.events.Access.TheVariants as begins
 use Rattle.bits_core.specs.declared.shapes.Shape.{Shape}
 use Rattle.bits_core.specs.Shape.{capacity_of, modulus_of, take_batch_of, width_of}
 use Rattle.bits_core.specs.Made.{Made, Read, Write, access_of, answered}
-use Rattle.register_core.specs.Phrases.{row_bit, writes_in, unary_phrase}
+use Rattle.register_core.specs.Phrases.{row_bit, bits_after, writes_in, unary_phrase}
 use Rattle.register_core.specs.Row.{RowWrite}
 use Rattle.register_core.specs.Word.{digit, digit_reads, word_read, DigitsTellItems}
 use Rattle.register_core.specs.ScanState.{scan_phrase, row_read_by}
 use Rattle.ring_core.specs.Counts.{distance, number_past, Count, first_count, count_bits, batch_phrase, IsCount}
-use Rattle.ring_core.specs.Takes.{Take, Takes, End, Item, ItemAfterClose, Empty, Open, Closed, count_after, taken_count, words_read, items_phrase, take_phrase, take_phrases, take_program, SeesItems, IsTakeBatch, IsTake, SeesNone, AreTakes}
-use Rattle.ring_core.specs.ConsumerCalls.{count_taken, TakesAll, IsTakeOf}
-use Rattle.ring_core.specs.GoingOn.{EndInCellRead, TakesPart, TakesGoOn}
-use Rattle.ring_core.proofs.CountRow.{past_is, bits_long, first_is_count, take_batch_below}
+use Rattle.ring_core.specs.Takes.{Take, Takes, End, Item, ItemAfterClose, Empty, Open, Closed, count_after, taken_count, words_read, items_phrase, take_phrase, take_phrases, take_program, SeesItems, IsTakeBatch, IsTake, AreTakes}
+use Rattle.ring_core.specs.ConsumerCalls.{count_taken, TakesAll}
+use Rattle.ring_core.specs.GoingOn.{AreWanted, EndInCellRead, TakesPart, TakesGoOn, TakesGoOnAlike}
+use Rattle.ring_core.proofs.CountRow.{past_is, bits_long, first_is_count, counted_is_count, take_batch_below}
 use Rattle.ring_core.proofs.GoingOn.{Shows, clash, access_back}
 use Rattle.ring_core.proofs.Phrases.{scan-front}
 use Rattle.ring_core.proofs.TakeCalls.{are-last, end-sees_none, calls_are_count}
@@ -131,37 +131,42 @@ counts_first :
     (shape : Shape) (c : Count) (items : List ℕ) (behind : List Made) → IsCount shape c → IsTakeBatch shape items → CountsFirst (batch_phrase shape C c items ++ behind)
 counts_first shape c items behind is batch = row_first (count_bits shape c items) behind (bits_long shape c items is batch.some (omega (arith, batch.few, take_batch_below shape)))
 
+-- of two takes of so many items, one that reads on where the other counts wants more than one, and one that counts where the other reads
+-- on wants less than may be taken
+abbrev PartsBy : Shape → ℕ → (m n : ℕ) → Type 0
+PartsBy shape wanted m n = (m < n → wanted < take_batch_of shape) × (n < m → 1 < wanted)
+
 -- words of both, behind a word
 or_words :
     (shape : Shape) (wanted n : ℕ) (us vs : List ℕ) (xs ys : List Made) → (length us ≡ length vs → AskAnyway shape wanted xs ys) →
-    (length us < length vs → wanted < take_batch_of shape) → CountsFirst xs → CountsFirst ys → AskBehindWord shape wanted (words_read shape n us ++ xs) (words_read shape n vs ++ ys)
-or_words shape wanted n [] [] xs ys on less counts counts' may is = on refl may
-or_words shape wanted n [] (b ∷ vs) xs ys on less (i, v, rest, e) counts' may is =
+    PartsBy shape wanted (length us) (length vs) → CountsFirst xs → CountsFirst ys → AskBehindWord shape wanted (words_read shape n us ++ xs) (words_read shape n vs ++ ys)
+or_words shape wanted n [] [] xs ys on by counts counts' may is = on refl may
+or_words shape wanted n [] (b ∷ vs) xs ys on by (i, v, rest, e) counts' may is =
     let (rest', f) = first_digit shape n b vs ys in
-    let part : TakesPart shape wanted (begins.Write (R i) v) (begins.Read (Cell (n % capacity_of shape) 0)) = inr ((i, v, refl), (n % capacity_of shape, refl), less (omega arith)) in
+    let part : TakesPart shape wanted (begins.Write (R i) v) (begins.Read (Cell (n % capacity_of shape) 0)) = inr ((i, v, refl), (n % capacity_of shape, refl), by.0 (omega arith)) in
     or_both shape wanted may e f
     (or_parts shape wanted (Write (R i) v) (Read (Cell (n % capacity_of shape) 0) (digit 0 b)) rest rest' may is part (λ g. (absurd (cc))))
-or_words shape wanted n (a ∷ us) [] xs ys on less counts (i, v, rest', f) may is =
+or_words shape wanted n (a ∷ us) [] xs ys on by counts (i, v, rest', f) may is =
     let (rest, e) = first_digit shape n a us xs in
-    let part : TakesPart shape wanted (begins.Read (Cell (n % capacity_of shape) 0)) (begins.Write (R i) v) = inl ((n % capacity_of shape, refl), (i, v, refl)) in
+    let part : TakesPart shape wanted (begins.Read (Cell (n % capacity_of shape) 0)) (begins.Write (R i) v) = inl ((n % capacity_of shape, refl), (i, v, refl), by.1 (omega arith)) in
     or_both shape wanted may e f
     (or_parts shape wanted (Read (Cell (n % capacity_of shape) 0) (digit 0 a)) (Write (R i) v) rest rest' may is part (λ g. (absurd (cc))))
-or_words shape wanted n (a ∷ us) (b ∷ vs) xs ys on less counts counts' may is =
+or_words shape wanted n (a ∷ us) (b ∷ vs) xs ys on by counts counts' may is =
     let word : ℕ → List Made = word_read (width_of shape) (n % capacity_of shape) in
     let more : List Made = words_read shape (suc n) us in
     let more' : List Made = words_read shape (suc n) vs in
     or_both shape wanted may (append_assoc (word a) more xs) (append_assoc (word b) more' ys)
     (or_word shape wanted (n % capacity_of shape) a b (more ++ xs) (more' ++ ys)
-    (or_words shape wanted (suc n) us vs xs ys (λ e. on (ap suc e)) (λ l. less (omega (arith, l))) counts counts') may)
+    (or_words shape wanted (suc n) us vs xs ys (λ e. on (ap suc e)) ((λ l. by.0 (omega (arith, l))), (λ l. by.1 (omega (arith, l)))) counts counts') may)
 
 -- the items of a take, and what follows them
 or_items :
     (shape : Shape) (wanted : ℕ) (c : Count) (us vs : List ℕ) (left right : List Made) → IsCount shape c → IsTakeBatch shape us → IsTakeBatch shape vs →
-    (length us ≡ length vs → AskAnyway shape wanted left right) → (length us < length vs → wanted < take_batch_of shape) →
+    (length us ≡ length vs → AskAnyway shape wanted left right) → PartsBy shape wanted (length us) (length vs) →
     AskAnyway shape wanted (items_phrase shape c us ++ left) (items_phrase shape c vs ++ right)
-or_items shape wanted c [] vs left right is batch batch' on less may = absurd (omega (arith, batch.some))
-or_items shape wanted c (a ∷ us) [] left right is batch batch' on less may = absurd (omega (arith, batch'.some))
-or_items shape wanted c (a ∷ us) (b ∷ vs) left right is batch batch' on less may =
+or_items shape wanted c [] vs left right is batch batch' on by may = absurd (omega (arith, batch.some))
+or_items shape wanted c (a ∷ us) [] left right is batch batch' on by may = absurd (omega (arith, batch'.some))
+or_items shape wanted c (a ∷ us) (b ∷ vs) left right is batch batch' on by may =
     let word : ℕ → List Made = word_read (width_of shape) (c.number % capacity_of shape) in
     let count : List ℕ → List Made = batch_phrase shape C c in
     let more : List Made = words_read shape (suc c.number) us in
@@ -169,7 +174,7 @@ or_items shape wanted c (a ∷ us) (b ∷ vs) left right is batch batch' on less
     or_both shape wanted may (append_assoc (word a ++ more) (count (a ∷ us)) left ∙ append_assoc (word a) more (count (a ∷ us) ++ left))
     (append_assoc (word b ++ more') (count (b ∷ vs)) right ∙ append_assoc (word b) more' (count (b ∷ vs) ++ right))
     (or_word shape wanted (c.number % capacity_of shape) a b (more ++ (count (a ∷ us) ++ left)) (more' ++ (count (b ∷ vs) ++ right))
-    (or_words shape wanted (suc c.number) us vs (count (a ∷ us) ++ left) (count (b ∷ vs) ++ right) (λ e. behind e) (λ l. less (omega (arith, l)))
+    (or_words shape wanted (suc c.number) us vs (count (a ∷ us) ++ left) (count (b ∷ vs) ++ right) (λ e. behind e) ((λ l. by.0 (omega (arith, l))), (λ l. by.1 (omega (arith, l))))
     (counts_first shape c (a ∷ us) left is batch) (counts_first shape c (b ∷ vs) right is batch')) may)
   where
     behind : length us ≡ length vs → AskAnyway shape wanted (batch_phrase shape C c (a ∷ us) ++ left) (batch_phrase shape C c (b ∷ vs) ++ right)
@@ -179,89 +184,107 @@ or_items shape wanted c (a ∷ us) (b ∷ vs) left right is batch batch' on less
         let same : count (b ∷ vs) ≡ count (a ∷ us) = ap (λ v. writes_in (row_bit C) (unary_phrase c.bits (v % modulus_of shape))) past in
         λ may. or_both shape wanted may (the_same (count (a ∷ us) ++ left)) (ap (λ l. l ++ right) same) (or_behind shape wanted (count (a ∷ us)) left right (on (ap suc e)) may)
 
--- ---- a take, beside any takes
+-- ---- takes of at most so many items, beside any takes
 
 -- what is shown, and that it is all that one may take
 shown : (shape : Shape) (k : ℕ) (c : ℕ) (items : List ℕ) → SeesItems shape k c (length items) → IsTakeBatch shape items → Shows shape k (length items) c (length items)
 shown shape k c items sees batch = (batch.some, sees, (omega arith, inl refl))
 
--- who takes less than the other takes all that it wants
-wants_less :
+-- who takes less than the other takes all that it wants, and who takes more wants more than one
+parts_by :
     (shape : Shape) (k wanted c d : ℕ) (us vs : List ℕ) → c ≡ d → TakesAll shape k wanted c (length us) → SeesItems shape k d (length vs) → IsTakeBatch shape vs →
-    length us < length vs → wanted < take_batch_of shape
-wants_less shape k wanted c d us vs same (few, inl all) sees batch less = omega (arith, all, less, batch.few)
-wants_less shape k wanted c d us vs same (few, inr all) (below, shows, room) batch less =
-    let far : distance (modulus_of shape) c (k % modulus_of shape) ≡ distance (modulus_of shape) d (k % modulus_of shape) =
-    ap (λ n. distance (modulus_of shape) n (k % modulus_of shape)) same in
-    absurd (omega (arith, all, far, shows, less))
+    PartsBy shape wanted (length us) (length vs)
+parts_by shape k wanted c d us vs same (few, all) (below, shows, room) batch = ((λ less. by less all), (λ more. omega (arith, few, more, batch.some)))
+  where
+    by : length us < length vs → (length us ≡ wanted) ⊎ (length us ≡ distance (modulus_of shape) c (k % modulus_of shape)) → wanted < take_batch_of shape
+    by less (inl all) = omega (arith, all, less, batch.few)
+    by less (inr all) =
+        let far : distance (modulus_of shape) c (k % modulus_of shape) ≡ distance (modulus_of shape) d (k % modulus_of shape) =
+        ap (λ n. distance (modulus_of shape) n (k % modulus_of shape)) same in
+        absurd (omega (arith, all, far, shows, less))
 
-one_beside :
-    (shape : Shape) (wanted : ℕ) (k : Count) (x : Take) (ys : List Take) (b : End) → IsCount shape k → IsTake shape k.number x → IsTakeOf shape k.number wanted x →
-    AreTakes shape k.number ys b → AskAnyway shape wanted (calls_from shape k (x ∷ []) Open) (calls_from shape k ys b)
-one_beside shape wanted k x [] Open is p of q may = or_none shape wanted (calls_from shape k (x ∷ []) Open) may
-one_beside shape wanted k (Item c us) [] (Closed d d') is (sees, batch) of (none, none') may =
-    or_both shape wanted may (item_first shape k c us [] Open) (closed_first shape k d d')
-    (or_scan shape wanted (row_read_by C) c d _ _ (λ e. absurd (clash shape k.number wanted c d (length us) e (batch.some, sees, of) none)) may)
-one_beside shape wanted k (ItemAfterClose c c' us) [] (Closed d d') is (other, sees, batch) of (none, none') may =
-    or_both shape wanted may (after_first shape k c c' us [] Open) (closed_first shape k d d')
-    (or_scan shape wanted (row_read_by C) c d _ _ (λ e. or_first shape wanted (Read X true) (Read X true) _ _ refl
-    (λ f. or_scan shape wanted (row_read_by C) c' d' _ _ (λ g. absurd (clash shape k.number wanted c' d' (length us) g (batch.some, sees, of) none')))) may)
-one_beside shape wanted k (Empty c) [] (Closed d d') is p of q may =
-    or_both shape wanted may (empty_first shape k c [] Open) (closed_first shape k d d')
-    (or_scan shape wanted (row_read_by C) c d _ _ (λ e. or_apart shape wanted (Read X false) (Read X true) [] (scan d' ++ []) refl (λ f. (absurd (cc)))) may)
-one_beside shape wanted k (Item c us) (Item d vs ∷ ys) b is (sees, batch) of ((sees', batch'), q) may =
-    or_both shape wanted may (item_first shape k c us [] Open) (item_first shape k d vs ys b)
-    (or_scan shape wanted (row_read_by C) c d _ _
-    (λ e. or_items shape wanted k us vs [] _ is batch batch' (λ long m. tt) (λ less. wants_less shape k.number wanted c d us vs e of sees' batch' less)) may)
-one_beside shape wanted k (Item c us) (ItemAfterClose d d' vs ∷ ys) b is (sees, batch) of ((none, sees', batch'), q) may =
-    or_both shape wanted may (item_first shape k c us [] Open) (after_first shape k d d' vs ys b)
-    (or_scan shape wanted (row_read_by C) c d _ _ (λ e. absurd (clash shape k.number wanted c d (length us) e (batch.some, sees, of) none)) may)
-one_beside shape wanted k (Item c us) (Empty d ∷ ys) b is (sees, batch) of (none, q) may =
-    or_both shape wanted may (item_first shape k c us [] Open) (empty_first shape k d ys b)
-    (or_scan shape wanted (row_read_by C) c d _ _ (λ e. absurd (clash shape k.number wanted c d (length us) e (batch.some, sees, of) none)) may)
-one_beside shape wanted k (ItemAfterClose c c' us) (Item d vs ∷ ys) b is (none, sees, batch) of ((sees', batch'), q) may =
-    or_both shape wanted may (after_first shape k c c' us [] Open) (item_first shape k d vs ys b)
-    (or_scan shape wanted (row_read_by C) c d _ _ (λ e. absurd (clash shape k.number (length vs) d c (length vs) (sym e) (shown shape k.number d vs sees' batch') none)) may)
-one_beside shape wanted k (ItemAfterClose c c' us) (ItemAfterClose d d' vs ∷ ys) b is (none, sees, batch) of ((none', sees', batch'), q) may =
-    or_both shape wanted may (after_first shape k c c' us [] Open) (after_first shape k d d' vs ys b)
-    (or_scan shape wanted (row_read_by C) c d _ _ (λ e. or_first shape wanted (Read X true) (Read X true) _ _ refl
-    (λ f. or_scan shape wanted (row_read_by C) c' d' _ _
-    (λ g. or_items shape wanted k us vs [] _ is batch batch' (λ long m. tt) (λ less. wants_less shape k.number wanted c' d' us vs g of sees' batch' less)))) may)
-one_beside shape wanted k (ItemAfterClose c c' us) (Empty d ∷ ys) b is p of q may =
-    or_both shape wanted may (after_first shape k c c' us [] Open) (empty_first shape k d ys b)
-    (or_scan shape wanted (row_read_by C) c d _ _ (λ e. or_first shape wanted (Read X true) (Read X false) _ _ refl (λ f. absurd (cc))) may)
-one_beside shape wanted k (Empty c) (Item d vs ∷ ys) b is none of ((sees', batch'), q) may =
-    or_both shape wanted may (empty_first shape k c [] Open) (item_first shape k d vs ys b)
-    (or_scan shape wanted (row_read_by C) c d _ _ (λ e. absurd (clash shape k.number (length vs) d c (length vs) (sym e) (shown shape k.number d vs sees' batch') none)) may)
-one_beside shape wanted k (Empty c) (ItemAfterClose d d' vs ∷ ys) b is p of q may =
-    or_both shape wanted may (empty_first shape k c [] Open) (after_first shape k d d' vs ys b)
-    (or_scan shape wanted (row_read_by C) c d _ _
-    (λ e. or_apart shape wanted (Read X false) (Read X true) [] (scan d' ++ (items_phrase shape k vs ++ calls_from shape (count_after shape k (ItemAfterClose d d' vs)) ys b)) refl
-    (λ f. (absurd (cc)))) may)
-one_beside shape wanted k (Empty c) (Empty d ∷ ys) b is p of q may =
-    or_both shape wanted may (empty_first shape k c [] Open) (empty_first shape k d ys b)
-    (or_scan shape wanted (row_read_by C) c d _ _ (λ e. or_first shape wanted (Read X false) (Read X false) [] (calls_from shape k ys b) refl (λ f m. tt)) may)
+-- the count behind items, by the number of what comes behind them
+abbrev count_at : Shape → Count → ℕ → Count
+count_at shape k n = record { number = n; bits = bits_after k.bits (unary_phrase k.bits (n % modulus_of shape)) }
 
--- the take that is told the ring is closed
-end_beside :
-    (shape : Shape) (wanted : ℕ) (k : Count) (c c' : ℕ) (ys : List Take) (b : End) → SeesNone shape k.number c → SeesNone shape k.number c' → AreTakes shape k.number ys b →
-    AskAnyway shape wanted (calls_from shape k [] (Closed c c')) (calls_from shape k ys b)
-end_beside shape wanted k c c' [] Open none none' q may = or_none shape wanted (calls_from shape k [] (Closed c c')) may
-end_beside shape wanted k c c' [] (Closed d d') none none' q may =
+abbrev count_past : Shape → Count → List ℕ → Count
+count_past shape k items = count_at shape k (number_past k.number items)
+
+-- behind as many items the counts are the same
+or_past :
+    (shape : Shape) (wanted : ℕ) (k : Count) (us vs : List ℕ) (xs ys : List Take) (a b : End) → AreTakes shape (number_past k.number vs) ys b →
+    (AreTakes shape (number_past k.number us) ys b → AskAnyway shape wanted (calls_from shape (count_past shape k us) xs a) (calls_from shape (count_past shape k us) ys b)) →
+    length us ≡ length vs → AskAnyway shape wanted (calls_from shape (count_past shape k us) xs a) (calls_from shape (count_past shape k vs) ys b)
+or_past shape wanted k us vs xs ys a b q on long may =
+    let past : number_past k.number vs ≡ number_past k.number us = omega (arith, past_is k.number us, past_is k.number vs, long) in
+    subst (λ n. AskOr shape wanted may (calls_from shape (count_past shape k us) xs a) (calls_from shape (count_at shape k n) ys b)) (sym past)
+    (on (subst (λ n. AreTakes shape n ys b) past q) may)
+
+beside :
+    (shape : Shape) (wanted j : ℕ) (k : Count) (xs : List Take) (a : End) (ys : List Take) (b : End) → IsCount shape k → AreTakes shape k.number xs a →
+    AreWanted shape (λ _. wanted) j k.number xs → AreTakes shape k.number ys b → AskAnyway shape wanted (calls_from shape k xs a) (calls_from shape k ys b)
+beside shape wanted j k [] Open ys b is p of q may = tt
+beside shape wanted j k [] (Closed c c') [] Open is p of q may = or_none shape wanted (calls_from shape k [] (Closed c c')) may
+beside shape wanted j k [] (Closed c c') [] (Closed d d') is p of q may =
     or_both shape wanted may (closed_first shape k c c') (closed_first shape k d d')
     (or_scan shape wanted (row_read_by C) c d _ _ (λ e. or_first shape wanted (Read X true) (Read X true) _ _ refl
     (λ f. or_scan shape wanted (row_read_by C) c' d' [] [] (λ g m. tt))) may)
-end_beside shape wanted k c c' (Item d vs ∷ ys) b none none' ((sees', batch'), q) may =
+beside shape wanted j k [] (Closed c c') (Item d vs ∷ ys) b is (none, none') of ((sees', batch'), q) may =
     or_both shape wanted may (closed_first shape k c c') (item_first shape k d vs ys b)
     (or_scan shape wanted (row_read_by C) c d _ _ (λ e. absurd (clash shape k.number (length vs) d c (length vs) (sym e) (shown shape k.number d vs sees' batch') none)) may)
-end_beside shape wanted k c c' (ItemAfterClose d d' vs ∷ ys) b none none' ((other, sees', batch'), q) may =
+beside shape wanted j k [] (Closed c c') (ItemAfterClose d d' vs ∷ ys) b is (none, none') of ((other, sees', batch'), q) may =
     or_both shape wanted may (closed_first shape k c c') (after_first shape k d d' vs ys b)
     (or_scan shape wanted (row_read_by C) c d _ _ (λ e. or_first shape wanted (Read X true) (Read X true) _ _ refl
     (λ f. or_scan shape wanted (row_read_by C) c' d' _ _
     (λ g. absurd (clash shape k.number (length vs) d' c' (length vs) (sym g) (shown shape k.number d' vs sees' batch') none')))) may)
-end_beside shape wanted k c c' (Empty d ∷ ys) b none none' q may =
+beside shape wanted j k [] (Closed c c') (Empty d ∷ ys) b is p of q may =
     or_both shape wanted may (closed_first shape k c c') (empty_first shape k d ys b)
     (or_scan shape wanted (row_read_by C) c d _ _ (λ e. or_first shape wanted (Read X true) (Read X false) _ _ refl (λ f. absurd (cc))) may)
+beside shape wanted j k (x ∷ xs) a [] Open is p of q may = or_none shape wanted (calls_from shape k (x ∷ xs) a) may
+beside shape wanted j k (Item c us ∷ xs) a [] (Closed d d') is ((sees, batch), p) (of, wants) (none, none') may =
+    or_both shape wanted may (item_first shape k c us xs a) (closed_first shape k d d')
+    (or_scan shape wanted (row_read_by C) c d _ _ (λ e. absurd (clash shape k.number wanted c d (length us) e (batch.some, sees, of) none)) may)
+beside shape wanted j k (ItemAfterClose c c' us ∷ xs) a [] (Closed d d') is ((other, sees, batch), p) (of, wants) (none, none') may =
+    or_both shape wanted may (after_first shape k c c' us xs a) (closed_first shape k d d')
+    (or_scan shape wanted (row_read_by C) c d _ _ (λ e. or_first shape wanted (Read X true) (Read X true) _ _ refl
+    (λ f. or_scan shape wanted (row_read_by C) c' d' _ _ (λ g. absurd (clash shape k.number wanted c' d' (length us) g (batch.some, sees, of) none')))) may)
+beside shape wanted j k (Empty c ∷ xs) a [] (Closed d d') is p of q may =
+    or_both shape wanted may (empty_first shape k c xs a) (closed_first shape k d d')
+    (or_scan shape wanted (row_read_by C) c d _ _ (λ e. or_apart shape wanted (Read X false) (Read X true) (calls_from shape k xs a) (scan d' ++ []) refl (λ f. (absurd (cc)))) may)
+beside shape wanted j k (Item c us ∷ xs) a (Item d vs ∷ ys) b is ((sees, batch), p) (of, wants) ((sees', batch'), q) may =
+    or_both shape wanted may (item_first shape k c us xs a) (item_first shape k d vs ys b)
+    (or_scan shape wanted (row_read_by C) c d _ _
+    (λ e. or_items shape wanted k us vs _ _ is batch batch'
+    (or_past shape wanted k us vs xs ys a b q (λ q'. beside shape wanted (suc j) (count_past shape k us) xs a ys b (counted_is_count shape k us) p wants q'))
+    (parts_by shape k.number wanted c d us vs e of sees' batch')) may)
+beside shape wanted j k (Item c us ∷ xs) a (ItemAfterClose d d' vs ∷ ys) b is ((sees, batch), p) (of, wants) ((none, sees', batch'), q) may =
+    or_both shape wanted may (item_first shape k c us xs a) (after_first shape k d d' vs ys b)
+    (or_scan shape wanted (row_read_by C) c d _ _ (λ e. absurd (clash shape k.number wanted c d (length us) e (batch.some, sees, of) none)) may)
+beside shape wanted j k (Item c us ∷ xs) a (Empty d ∷ ys) b is ((sees, batch), p) (of, wants) (none, q) may =
+    or_both shape wanted may (item_first shape k c us xs a) (empty_first shape k d ys b)
+    (or_scan shape wanted (row_read_by C) c d _ _ (λ e. absurd (clash shape k.number wanted c d (length us) e (batch.some, sees, of) none)) may)
+beside shape wanted j k (ItemAfterClose c c' us ∷ xs) a (Item d vs ∷ ys) b is ((none, sees, batch), p) of ((sees', batch'), q) may =
+    or_both shape wanted may (after_first shape k c c' us xs a) (item_first shape k d vs ys b)
+    (or_scan shape wanted (row_read_by C) c d _ _ (λ e. absurd (clash shape k.number (length vs) d c (length vs) (sym e) (shown shape k.number d vs sees' batch') none)) may)
+beside shape wanted j k (ItemAfterClose c c' us ∷ xs) a (ItemAfterClose d d' vs ∷ ys) b is ((none, sees, batch), p) (of, wants) ((none', sees', batch'), q) may =
+    or_both shape wanted may (after_first shape k c c' us xs a) (after_first shape k d d' vs ys b)
+    (or_scan shape wanted (row_read_by C) c d _ _ (λ e. or_first shape wanted (Read X true) (Read X true) _ _ refl
+    (λ f. or_scan shape wanted (row_read_by C) c' d' _ _
+    (λ g. or_items shape wanted k us vs _ _ is batch batch'
+    (or_past shape wanted k us vs xs ys a b q (λ q'. beside shape wanted (suc j) (count_past shape k us) xs a ys b (counted_is_count shape k us) p wants q'))
+    (parts_by shape k.number wanted c' d' us vs g of sees' batch')))) may)
+beside shape wanted j k (ItemAfterClose c c' us ∷ xs) a (Empty d ∷ ys) b is p of q may =
+    or_both shape wanted may (after_first shape k c c' us xs a) (empty_first shape k d ys b)
+    (or_scan shape wanted (row_read_by C) c d _ _ (λ e. or_first shape wanted (Read X true) (Read X false) _ _ refl (λ f. absurd (cc))) may)
+beside shape wanted j k (Empty c ∷ xs) a (Item d vs ∷ ys) b is (none, p) of ((sees', batch'), q) may =
+    or_both shape wanted may (empty_first shape k c xs a) (item_first shape k d vs ys b)
+    (or_scan shape wanted (row_read_by C) c d _ _ (λ e. absurd (clash shape k.number (length vs) d c (length vs) (sym e) (shown shape k.number d vs sees' batch') none)) may)
+beside shape wanted j k (Empty c ∷ xs) a (ItemAfterClose d d' vs ∷ ys) b is p of q may =
+    or_both shape wanted may (empty_first shape k c xs a) (after_first shape k d d' vs ys b)
+    (or_scan shape wanted (row_read_by C) c d _ _ (λ e. or_apart shape wanted (Read X false) (Read X true) (calls_from shape k xs a) _ refl (λ f. (absurd (cc)))) may)
+beside shape wanted j k (Empty c ∷ xs) a (Empty d ∷ ys) b is (none, p) (of, wants) (none', q) may =
+    or_both shape wanted may (empty_first shape k c xs a) (empty_first shape k d ys b)
+    (or_scan shape wanted (row_read_by C) c d _ _ (λ e. or_first shape wanted (Read X false) (Read X false) _ _ refl (λ f. beside shape wanted (suc j) k xs a ys b is p wants q)) may)
 
 -- ---- the next access
 
@@ -347,11 +370,37 @@ module _ (tell : DigitsTellItems) where
             let are_more : AreTakes shape 0 (calls.takes ++ x ∷ []) Open = subst (λ (m : Takes). AreTakes shape 0 m.takes m.end) more_is has.are in
             let is : IsTake shape k.number x = are-last shape first_count calls.takes x are_more in
             parts shape wanted calls b part a y rest later (x ∷ []) Open Open (are_front shape first_count calls.takes (x ∷ []) Open are_more) are
-            (λ ys q. one_beside shape wanted k x ys b.end (calls_are_count shape calls) is of q) (begins ∙ ap (take_program shape) more_is) program
+            (λ ys q. beside shape wanted 0 k (x ∷ []) Open ys b.end (calls_are_count shape calls) (is, tt) (of, tt) q) (begins ∙ ap (take_program shape) more_is) program
         | inr (seen, again, more_is) ↦
             let are_more : AreTakes shape 0 calls.takes (Closed seen again) = subst (λ (m : Takes). AreTakes shape 0 m.takes m.end) more_is has.are in
             let (none, none') = end-sees_none shape first_count calls.takes seen again are_more in
             parts shape wanted calls b part a y rest later [] (Closed seen again) (Closed seen again) are_more are
-            (λ ys q. end_beside shape wanted k seen again ys b.end none none' q)
+            (λ ys q. beside shape wanted 0 k [] (Closed seen again) ys b.end (calls_are_count shape calls) (none, none') tt q)
             (begins ∙ ap (take_program shape) more_is ∙ ap (λ l. calls_from shape first_count l (Closed seen again)) (sym (append-nil calls.takes))) program
       ])
+
+-- ---- where one item may be taken
+
+-- a take takes all that a take of one wants
+one_wanted : (shape : Shape) → take_batch_of shape ≡ 1 → (k seen : ℕ) (items : List ℕ) → IsTakeBatch shape items → TakesAll shape k 1 seen (length items)
+one_wanted shape one k seen items batch =
+    let single : length items ≡ 1 = omega (arith, one, batch.some, batch.few) in
+    (omega (arith, single), inl single)
+
+all_want_one : (shape : Shape) → take_batch_of shape ≡ 1 → (j k : ℕ) (xs : List Take) (end : End) → AreTakes shape k xs end → AreWanted shape (λ _. 1) j k xs
+all_want_one shape one j k [] end are = tt
+all_want_one shape one j k (Item seen items ∷ xs) end ((sees, batch), are) =
+    (one_wanted shape one k seen items batch, all_want_one shape one (suc j) (number_past k items) xs end are)
+all_want_one shape one j k (ItemAfterClose seen again items ∷ xs) end ((none, sees, batch), are) =
+    (one_wanted shape one k again items batch, all_want_one shape one (suc j) (number_past k items) xs end are)
+all_want_one shape one j k (Empty seen ∷ xs) end (none, are) = (tt, all_want_one shape one (suc j) k xs end are)
+
+pub takes-go_on_alike : TakesGoOnAlike
+takes-go_on_alike shape one a b p q made x y xs ys e f =
+    let both : AskAnyway shape 1 (take_program shape a) (take_program shape b) =
+    beside shape 1 0 first_count a.takes a.end b.takes b.end (first_is_count shape) p (all_want_one shape one 0 0 a.takes a.end p) q in
+    elim (next_or shape 1 made x y xs ys ⊥ (or_both shape 1 ⊥ (sym e) (sym f) (both ⊥))) [
+      | inl alike ↦ alike
+      | inr (may, inl (reads, counts, more)) ↦ absurd (omega (arith, more))
+      | inr (may, inr (counts, reads, less)) ↦ absurd (omega (arith, less, one))
+    ]

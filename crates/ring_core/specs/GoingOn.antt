@@ -39,9 +39,10 @@ WritesTakeCount a = (i : ℕ) × (v : Bool) × (a ≡ begins.Write (R i) v)
 abbrev pub EndInCellRead : List Made → Type 0
 EndInCellRead made = (before : List Made) × (j i : ℕ) × (v : Bool) × (made ≡ before ++ Read (Cell j i) v ∷ [])
 
--- behind a word that was read, one take reads the next word and another counts; the other takes more only where the one wants less than may be taken
+-- Behind a word that was read, one take reads the next word and another counts: the one reads on only where it wants more than one item,
+-- the other only where the one wants less than may be taken.
 abbrev pub TakesPart : Shape → ℕ → Access → Access → Type 0
-TakesPart shape wanted a b = (ReadsFirstDigit a × WritesTakeCount b) ⊎ (WritesTakeCount a × ReadsFirstDigit b × (wanted < take_batch_of shape))
+TakesPart shape wanted a b = (ReadsFirstDigit a × WritesTakeCount b × (1 < wanted)) ⊎ (WritesTakeCount a × ReadsFirstDigit b × (wanted < take_batch_of shape))
 
 -- Behind these takes, and some accesses of one more, that take goes on with an access; whichever takes have begun with the same
 -- accesses, answered alike, go on with it too, but that behind a whole word they may take more than it or less.
@@ -50,6 +51,14 @@ TakesGoOn =
     (shape : Shape) (wanted : ℕ) (calls b : Takes) (made : List Made) (a : Access) (y : Made) (rest : List Made) →
     IsBeginning (take_phrases shape first_count calls.takes) made → TakeGoesOn shape wanted calls made a → AreTakes shape 0 b.takes b.end →
     take_program shape b ≡ made ++ y ∷ rest → (access_of y ≡ a) ⊎ (EndInCellRead made × TakesPart shape wanted a (access_of y))
+
+-- where one item may be taken under one count write, programs of the consumer that begin with the same accesses, answered alike, go on
+-- with the same access
+abbrev pub TakesGoOnAlike : Type 0
+TakesGoOnAlike =
+    (shape : Shape) → take_batch_of shape ≡ 1 → (a b : Takes) → AreTakes shape 0 a.takes a.end → AreTakes shape 0 b.takes b.end →
+    (made : List Made) (x y : Made) (xs ys : List Made) →
+    take_program shape a ≡ made ++ x ∷ xs → take_program shape b ≡ made ++ y ∷ ys → access_of x ≡ access_of y
 
 -- in a program the last bit of the other side's count is read as 1
 abbrev pub LastPutsReadOne : Type 0

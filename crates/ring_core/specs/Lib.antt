@@ -12,6 +12,7 @@ pub mod Calls
 pub mod CallsAt
 pub mod Whole
 pub mod OneCallMore
+pub mod OneWordMore
 pub mod ProducerState
 pub mod ProducerCalls
 pub mod ConsumerState

@@ -6,11 +6,12 @@
 //! - The laws of programs, as `last_bit_is_one`: for who drives a machine, as `uses::by_hand` does.
 ghost use Rattle.ring_core.specs.CountWrites.{CountsAreWritten, CountsShowNumbers};
 ghost use Rattle.ring_core.specs.Following.{PutsAreFollowed, TakesAreFollowed};
-ghost use Rattle.ring_core.specs.GoingOn.{LastPutsReadOne, LastTakesReadOne, PutsGoOnByOne, TakesGoOn, TakesGoOnByOne};
+ghost use Rattle.ring_core.specs.GoingOn.{LastPutsReadOne, LastTakesReadOne, PutsGoOnByOne, TakesGoOn, TakesGoOnAlike, TakesGoOnByOne};
 ghost use Rattle.ring_core.specs.Items.{ItemsAreRead, TakenAreRead};
 ghost use Rattle.ring_core.specs.Lengths.{ItemPutsAreShort, FullPutsAreShort, PutsAreShort, TakesAreShort, EndsAreShort};
 ghost use Rattle.ring_core.specs.Linear.{IsLinearizableRun};
 ghost use Rattle.ring_core.specs.OneCallMore.{ClosesByOneMore, EndsByOneMore, PutsByOneMore, TakesByOneMore, TakesOfOne};
+ghost use Rattle.ring_core.specs.OneWordMore.{ItemsFitByOneMore, WordsByOneMore, WordsGoOn};
 ghost use Rattle.ring_core.specs.Over.{PutsOverAreRead, TakesOverAreRead};
 ghost use Rattle.ring_core.specs.PutParts.{CountsOn, ScansOn, ScansOrCloses, StoresOn, StoresOrCounts};
 ghost use Rattle.ring_core.specs.Readings.{PutsAreFirst, PutsAreRead, TakesAreFirst, TakesAreRead};
@@ -98,8 +99,10 @@ pub fn counts_are_written()
     ensures written { CountsAreWritten }
 {}
 
-/// No put of one item has more than modulus + width + 2 accesses, no put of `m` items more than
-/// 2 modulus + m width, and no take more than 2 modulus + width + 3.
+/// No put of one item, and none that found the ring full, has more than modulus + width + 2 accesses, and no put of `m`
+/// items more than 2 modulus + `m` width. A take that took one item, found the ring empty or was told that it is closed
+/// has no more than 2 modulus + width + 3, and a take of `m` items, where `m` is at least 2, no more than
+/// 3 modulus + `m` width + 1.
 pub fn calls_are_short()
     ensures item_puts { ItemPutsAreShort }
     ensures full_puts { FullPutsAreShort }
@@ -118,6 +121,15 @@ pub fn programs_by_one_call()
     ensures one { TakesOfOne }
 {}
 
+/// The words that a take reads, by one more: the word of the next item comes behind those of the items before it, in the
+/// cell of its number, and where it fits and they do, all fit. And to items that fit, and any number no less than theirs,
+/// there are so many items that fit whose words begin with their words.
+pub fn words_by_one_more()
+    ensures words { WordsByOneMore }
+    ensures fit { ItemsFitByOneMore }
+    ensures go_on { WordsGoOn }
+{}
+
 /// The access that a call under way goes on with, whatever it is answered, is the only one: behind the same calls and
 /// accesses there is no other. So what a machine's `next` says is all that its program lets it say.
 pub fn calls_go_on_by_one()
@@ -126,13 +138,20 @@ pub fn calls_go_on_by_one()
 {}
 
 /// What a consumer does next follows from the accesses that it has made and their answers: programs that begin with
-/// these go on with the same access. But behind a whole word a take may read the next one, where it may take more,
-/// or count those that it has read.
+/// these go on with the same access. But behind a whole word one may read the next and another count those that were
+/// read: a take reads on only where it wants more than one item, and others beside it only where it wants fewer than may
+/// be taken.
 pub fn takes_go_on()
     ensures { TakesGoOn }
 {
     digits_tell_items();
 }
+
+/// Where a take may take one item, what a consumer does next follows from the accesses that it has made and their
+/// answers, with no exception: programs that begin with these go on with the same access.
+pub fn takes_go_on_alike()
+    ensures { TakesGoOnAlike }
+{}
 
 /// What a producer may do next, by how far its put under way has come: it scans or closes; it scans on; it writes a
 /// word, where there is room for one more, or the count; it writes the next digit; it writes the next bit of the count.

@@ -2,11 +2,13 @@
 //! their calls one by one, and the programs that these accesses follow.
 #![tactic(auto)]
 
+mod consumer_parts;
 mod consumers;
 mod counts;
 pub mod laws;
 mod producers;
 
-pub use consumers::{Consumer, TakeBatchReply, TakeReply, TakeScan, TakeWord, items_shown};
+pub use consumer_parts::{TakeScan, TakeWord};
+pub use consumers::{Consumer, TakeBatchReply, TakeReply, items_shown};
 pub use counts::{distance, has_item, has_room};
 pub use producers::{BatchReply, Producer, PutReply, PutScan, PutWord};

@@ -1,6 +1,6 @@
-use Rattle.ring_core.specs.contracts.consumers.TakeScan.{the_view}
+use Rattle.ring_core.specs.contracts.consumer_parts.TakeScan.{the_view}
 use Rattle.ring_core.proofs.TakeScans.{zeros_there}
-use Rattle.ring_core.proofs.consumers.TakeScan.expects_one.Goals as goal
+use Rattle.ring_core.proofs.consumer_parts.TakeScan.expects_one.Goals as goal
 
 pub returns-clause-stands : goal.returns-clause-stands
 returns-clause-stands c =

@@ -1,6 +1,6 @@
-use Rattle.ring_core.specs.contracts.consumers.TakeScan.{the_view}
+use Rattle.ring_core.specs.contracts.consumer_parts.TakeScan.{the_view}
 use Rattle.ring_core.proofs.TakeScans.{zero_keeps, zero_on}
-use Rattle.ring_core.proofs.consumers.TakeScan.zero.Goals as goal
+use Rattle.ring_core.proofs.consumer_parts.TakeScan.zero.Goals as goal
 
 pub invariant_of-self : goal.invariant_of-self
 invariant_of-self c = (

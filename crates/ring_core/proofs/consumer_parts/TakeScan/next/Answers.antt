@@ -1,9 +1,9 @@
 use Rattle.std.proofs.Common.{Some, refl}
-use Rattle.ring_core.specs.contracts.consumers.TakeScan.{the_view}
+use Rattle.ring_core.specs.contracts.consumer_parts.TakeScan.{the_view}
 use Rattle.ring_core.specs.ConsumerState.{ConsumerState, is_taking}
 use Rattle.ring_core.proofs.ConsumerNext.{going_on, going_bounded}
 use Rattle.ring_core.proofs.TakeScans.{next_there}
-use Rattle.ring_core.proofs.consumers.TakeScan.next.Goals as goal
+use Rattle.ring_core.proofs.consumer_parts.TakeScan.next.Goals as goal
 
 pub returns-clause-goes_on : goal.returns-clause-goes_on
 returns-clause-goes_on c =

@@ -1,0 +1,23 @@
+-- The words that a take reads, one after the other.
+use Rattle.std.specs.Prelude.{◌≡◌, ℕ, ◌+◌, ◌%◌, ◌^◌, ◌<◌, ◌≤◌, List, [], ◌∷◌, ◌++◌, length}
+use Rattle.bits_core.specs.declared.shapes.Shape.{Shape}
+use Rattle.bits_core.specs.Shape.{AllFit, capacity_of, width_of}
+use Rattle.bits_core.specs.Made.{IsBeginning}
+use Rattle.register_core.specs.Phrases.{word_read}
+use Rattle.ring_core.specs.Takes.{words_read}
+
+-- the word of one item more is read behind those of the items, in the cell of its number
+abbrev pub WordsByOneMore : Type 0
+WordsByOneMore =
+    (shape : Shape) (n : ℕ) (items : List ℕ) (item : ℕ) →
+    words_read shape n (items ++ item ∷ []) ≡ words_read shape n items ++ word_read (width_of shape) ((n + length items) % capacity_of shape) item
+
+-- items that fit, and one more
+abbrev pub ItemsFitByOneMore : Type 0
+ItemsFitByOneMore = (shape : Shape) (items : List ℕ) (item : ℕ) → AllFit shape items → item < 2 ^ width_of shape → AllFit shape (items ++ item ∷ [])
+
+-- items that fit, so many at most: their words begin those of so many items that fit
+abbrev pub WordsGoOn : Type 0
+WordsGoOn =
+    (shape : Shape) (n many : ℕ) (items : List ℕ) → length items ≤ many → AllFit shape items →
+    (all : List ℕ) × (length all ≡ many) × AllFit shape all × IsBeginning (words_read shape n items) (words_read shape n all)

@@ -1,0 +1,148 @@
+//! The parts of a take under way that may go on apart from the consumer: a scan, and a word read.
+ghost use Rattle.std.specs.Prelude.{◌≡◌, ◌≢◌, ◌+◌, ◌<◌, true, false, Some, List, [], ◌∷◌, ◌++◌, ◌↔◌, IsTrue, length, suc};
+ghost use Rattle.bits_core.specs.declared.events.Side.TheVariants.{C};
+ghost use Rattle.bits_core.specs.Made.{Made, answered};
+ghost use Rattle.bits_core.specs.Open.{IsOpenRight};
+
+use crate::consumers::Consumer;
+use bits_core::Access;
+use register_core::{UnaryScan, WordReader};
+use std::marker::Model;
+use std::snapshot::Snapshot;
+
+/// A scan of a take under way, apart from its consumer. To a contract it is that consumer with this scan.
+///
+/// Its reads stand one behind the other, so a caller makes them in a loop of its own, with no look at how far the
+/// take has come.
+///
+/// In use: a take of `ring_run`, whose scans are loops of loads.
+#[derive(Drop)]
+pub struct TakeScan {
+    pub(crate) scan: UnaryScan,
+    pub(crate) of: Snapshot<Consumer>,
+}
+
+impl Model for TakeScan {
+    ghost use Rattle.std.specs.Prelude.{◌≡◌, ◌⊎◌};
+    ghost use Rattle.ring_core.specs.declared.consumers.Stage.TheVariants.{Scanning, Rescanning};
+    ghost use Rattle.ring_core.specs.ConsumerState.{ConsumerState, IsConsumer};
+
+    ghost Value = { ConsumerState };
+
+    ghost view = { λ s. record s.of.value { scan = s.scan } };
+
+    ghost invariant = { λ s. ((s.of.value.stage ≡ Scanning) ⊎ (s.of.value.stage ≡ Rescanning)) × IsConsumer (record s.of.value { scan = s.scan }) };
+}
+
+impl TakeScan {
+    ghost use Rattle.ring_core.specs.Calls.{LastBitIsDue, EndsInZeros};
+    ghost use Rattle.ring_core.specs.Takes.{Takes, take_program};
+    ghost use Rattle.ring_core.specs.Lengths.{longest_taking};
+    ghost use Rattle.ring_core.specs.ConsumerState.{due_take, is_taking};
+    ghost use Rattle.register_core.specs.ScanState.{scan_read};
+    ghost use Rattle.bits_core.specs.Shape.{modulus_of};
+    ghost use Rattle.ring_core.specs.ConsumerCalls.{ConsumerStands, TakeGoesOn, ConsumerHasMoved};
+
+    /// The read that is due, as [`Consumer::next`] tells it.
+    #[inline(always)]
+    pub fn next(&self) -> Access
+        ensures due { due_take self.now ≡ Some result }
+        ensures below { self.now.scan.zeros < modulus_of self.now.shape }
+        ensures right { IsOpenRight self.now.shape C result }
+        ensures goes_on { (calls : Takes) (made : List Made) → ConsumerStands self.now calls made → (is_taking self.now ≡ true) × TakeGoesOn self.now.shape self.now.wanted calls made result }
+        ensures bounded { (calls : Takes) (made : List Made) → ConsumerStands self.now calls made → is_taking self.now ≡ true → length made < length (take_program self.now.shape calls) + longest_taking self.now.shape self.now.wanted }
+    {
+        match self.scan.next() {
+            Some(access) => access,
+            None => unreachable!(),
+        }
+    }
+
+    /// Whether the last bit of the producer's count is due, as [`Consumer::expects_one`] tells it.
+    #[inline(always)]
+    pub fn expects_one(&self) -> bool
+        ensures due { IsTrue result ↔ LastBitIsDue self.now.shape C (due_take self.now) }
+        ensures stands { (calls : Takes) (made : List Made) → ConsumerStands self.now calls made → IsTrue result → EndsInZeros self.now.shape C made }
+    {
+        self.scan.expects_one()
+    }
+
+    /// The due read was made and answered 0. It must not be of the last bit. A 1 is told to the consumer, once it has
+    /// come to where the scan is.
+    #[inline(always)]
+    pub fn zero(&mut self)
+        requires not_last { LastBitIsDue self.old.shape C (due_take self.old) → false ≡ true }
+        ensures state { self.new ≡ record self.old { scan = scan_read self.old.scan false } }
+        ensures stands { (calls : Takes) (made : List Made) (access : Access) → ConsumerStands self.old calls made → due_take self.old ≡ Some access → ConsumerHasMoved self.old self.new calls (made ++ answered access false ∷ []) }
+    {
+        self.scan.feed(false);
+    }
+}
+
+/// The word read of a take under way, apart from its consumer. To a contract it is that consumer with this word read.
+///
+/// Its reads stand one behind the other, so a caller makes them in a loop of its own, with no look at how far the
+/// take has come.
+///
+/// In use: a take of `ring_run`.
+#[derive(Drop)]
+pub struct TakeWord {
+    pub(crate) word: WordReader,
+    pub(crate) of: Snapshot<Consumer>,
+}
+
+impl Model for TakeWord {
+    ghost use Rattle.std.specs.Prelude.{◌≡◌};
+    ghost use Rattle.ring_core.specs.declared.consumers.Stage.TheVariants.{Loading};
+    ghost use Rattle.ring_core.specs.ConsumerState.{ConsumerState, IsConsumer};
+
+    ghost Value = { ConsumerState };
+
+    ghost view = { λ w. record w.of.value { word = w.word } };
+
+    ghost invariant = { λ w. (w.of.value.stage ≡ Loading) × IsConsumer (record w.of.value { word = w.word }) };
+}
+
+impl TakeWord {
+    ghost use Rattle.ring_core.specs.Calls.{LastBitIsDue};
+    ghost use Rattle.ring_core.specs.Takes.{Takes, take_program};
+    ghost use Rattle.ring_core.specs.Lengths.{longest_taking};
+    ghost use Rattle.ring_core.specs.ConsumerState.{due_take, is_taking};
+    ghost use Rattle.register_core.specs.WordState.{read_digit};
+    ghost use Rattle.ring_core.specs.ConsumerCalls.{ConsumerStands, TakeGoesOn, ConsumerHasMoved};
+
+    /// The read that is due, as [`Consumer::next`] tells it.
+    #[inline(always)]
+    pub fn next(&self) -> Access
+        ensures due { due_take self.now ≡ Some result }
+        ensures below { self.now.word.read < self.now.word.width }
+        ensures right { IsOpenRight self.now.shape C result }
+        ensures not_last { LastBitIsDue self.now.shape C (due_take self.now) → false ≡ true }
+        ensures goes_on { (calls : Takes) (made : List Made) → ConsumerStands self.now calls made → (is_taking self.now ≡ true) × TakeGoesOn self.now.shape self.now.wanted calls made result }
+        ensures bounded { (calls : Takes) (made : List Made) → ConsumerStands self.now calls made → is_taking self.now ≡ true → length made < length (take_program self.now.shape calls) + longest_taking self.now.shape self.now.wanted }
+    {
+        match self.word.next() {
+            Some(access) => access,
+            None => unreachable!(),
+        }
+    }
+
+    /// Whether the read that is due is the word's last.
+    #[inline(always)]
+    pub fn is_last(&self) -> bool
+        ensures { IsTrue result ↔ (suc self.now.word.read ≡ self.now.word.width) }
+    {
+        self.word.is_last()
+    }
+
+    /// The due read was made and answered so. It must not be the word's last, which is told to the consumer, once it has
+    /// come to where the word read is.
+    #[inline(always)]
+    pub fn feed(&mut self, answer: bool)
+        requires not_last { suc self.old.word.read ≢ self.old.word.width }
+        ensures state { self.new ≡ record self.old { word = read_digit self.old.word answer } }
+        ensures stands { (calls : Takes) (made : List Made) (access : Access) → ConsumerStands self.old calls made → due_take self.old ≡ Some access → ConsumerHasMoved self.old self.new calls (made ++ answered access answer ∷ []) }
+    {
+        self.word.feed(answer);
+    }
+}
