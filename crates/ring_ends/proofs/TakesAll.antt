@@ -14,7 +14,7 @@ use Rattle.ring_core.specs.Takes as takes
 use Rattle.ring_core.specs.Takes.{AreTakes, End, Open, Take, Takes, take_program}
 use Rattle.ring_core.specs.ConsumerState.{ConsumerState, is_taking}
 use Rattle.ring_core.specs.ConsumerCalls.{AreItemsOfTake, ConsumerStands, HasTakeMore, IsOpenForTake, IsReplyToTake, IsTakeOf, ends_closed, items_at_end, last_items, last_take_reply, reply_at_end, take_batch_reply, take_reply_to}
-use Rattle.ring_seats.specs.CounterEnds.{TakeAllKept}
+use Rattle.ring_seats.specs.CounterEnds.{TakeAllKept, TakeMade}
 use Rattle.ring_seats.specs.Ring.{Ring, RingEnd}
 use Rattle.ring_seats.specs.Steppers.{Grows}
 use Rattle.ring_ends.specs.Ends.{HasTakePart, HasTakenAll, HasTakes, TakeAllAdds, number_brought, whole_take}
@@ -101,6 +101,11 @@ pub record Brought (shape : Shape) (wanted : ℕ) (before after : List Event) (r
   pub number : number_brought reply ≡ length items
   pub few : length items ≤ wanted
   pub phrase : (into : List ℕ) → take (length items) into ≡ items → HasTakenAll shape wanted before after reply into
+
+pub brought_within :
+    {shape : Shape} {wanted : ℕ} {before after : List Event} {r : Option replies.TakeReply} {items : List ℕ} → (b : Brought shape wanted before after r items) →
+    (y : batch_replies.TakeBatchReply) → take_batch_reply r items ≡ Some y → number_brought y ≤ wanted
+brought_within {shape} {wanted} {before} {after} {r} {items} b y is = omega (arith, b.few, b.number, ap number_brought (told_of (take_batch_reply r items) b.reply b.told y is))
 
 module _ (shape : Shape) (wanted : ℕ) (before after : List Event) (calls : Takes) (has : HasTakes shape before calls) where
   -- one call more
@@ -212,6 +217,13 @@ module _ (wanted : ℕ) (s : Step consuming wanted) where
     pub step_one : ((r ≡ Some batch_reply.Closed) × (s.e ≡ s.begun.seen)) ⊎ ((x : Event) × Grows s.begun.seen s.e x)
     step_one = ⊎_elim (λ refused. inl (r_is ∙ told_closed s.m.reply s.m.items refused.0, refused.1)) (λ grows. inr grows) (take_one wanted s s.m.reply refl)
 
+    pub step_within : IfSome r (λ y. number_brought y ≤ wanted)
+    step_within = by r refl
+      where
+        by : (o : Option batch_replies.TakeBatchReply) → r ≡ o → IfSome o (λ y. number_brought y ≤ wanted)
+        by None is = tt
+        by (Some y) is = let told : reply_now ≡ Some y = sym r_is ∙ is in brought_within (step_brought y told).1 y told
+
     module _ (into : List ℕ) where
       pub step_some : IfSome r (λ _. take (length s.m.items) into ≡ s.m.items) → IfSome r (λ y. (is_taking s.m ≡ false) × HasTakenAll s.e.ring.shape wanted s.begun.whole s.e.list y into)
       step_some = by r refl
@@ -252,16 +264,28 @@ module _ (wanted : ℕ) (s : Step consuming wanted) where
 
 -- ---- of a take of a counter ring
 
-pub kept_all :
-    (a b : RingEnd) (count cell : ℕ) (calls : Takes) (wanted : ℕ) (y : batch_replies.TakeBatchReply) (into : List ℕ) →
-    HasTakes a.ring.shape a.list calls → TakeAllKept a b count cell calls wanted y into → HasTakenAll b.ring.shape wanted a.list b.list y into
-kept_all a b count cell calls wanted y into has (first, items, kept, told, places) =
-    let m = kept.made in
-    let here : HasTakes b.ring.shape a.list calls = subst (λ (r : Ring). HasTakes r.shape a.list calls) (sym m.same.ring) has in
-    let came = brought_so b.ring.shape wanted a.list b.list calls here m.more m.is_more m.has in
-    let answer : take_batch_reply (reply_at_end (m.more).end (m.more).takes) (items_at_end (m.more).end (m.more).takes) ≡ Some y = (λ i. take_batch_reply (sym m.replied i) (sym m.brought i)) ∙ sym told in
-    subst (λ (z : batch_replies.TakeBatchReply). HasTakenAll b.ring.shape wanted a.list b.list z into) (told_of _ came.reply came.told y answer)
-    (came.phrase into (ap (λ (l : List ℕ). take (length l) into) (sym m.brought) ∙ sym places ∙ m.brought))
+module _ (a b : RingEnd) (count cell : ℕ) (calls : Takes) (wanted : ℕ) (y : batch_replies.TakeBatchReply) (into : List ℕ) (has : HasTakes a.ring.shape a.list calls) (kept : TakeAllKept a b count cell calls wanted y into) where
+  abbrev m : TakeMade a b calls wanted kept.0 kept.1
+  m = kept.2.made
+
+  abbrev last : Option replies.TakeReply
+  last = reply_at_end (m.more).end (m.more).takes
+
+  abbrev items : List ℕ
+  items = items_at_end (m.more).end (m.more).takes
+
+  came : Brought b.ring.shape wanted a.list b.list last items
+  came = brought_so b.ring.shape wanted a.list b.list calls (subst (λ (r : Ring). HasTakes r.shape a.list calls) (sym m.same.ring) has) m.more m.is_more m.has
+
+  answer : take_batch_reply last items ≡ Some y
+  answer = (λ i. take_batch_reply (sym m.replied i) (sym m.brought i)) ∙ sym kept.3
+
+  pub kept_all : HasTakenAll b.ring.shape wanted a.list b.list y into
+  kept_all = subst (λ (z : batch_replies.TakeBatchReply). HasTakenAll b.ring.shape wanted a.list b.list z into) (told_of (take_batch_reply last items) came.reply came.told y answer)
+      (came.phrase into (ap (λ (l : List ℕ). take (length l) into) (sym m.brought) ∙ sym kept.4 ∙ m.brought))
+
+  pub kept_within : number_brought y ≤ wanted
+  kept_within = brought_within came y answer
 
 pub still_open : (end : End) → ends_closed end ≡ false → end ≡ Open
 still_open takes.Open is = refl

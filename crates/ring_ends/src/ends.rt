@@ -116,6 +116,7 @@ pub trait TakeEnd {
         ensures same { IsSameEnd (end self.old) (end self.new) }
         ensures lawful { StandsAs C (end self.new) }
         ensures phrase { HasTakenAll (end self.new).ring.shape (length into.old) (end self.old).list (end self.new).list result into.new }
+        ensures within { number_brought result ≤ length into.old }
         ensures long { length into.new ≡ length into.old }
         ensures others { drop (number_brought result) into.new ≡ drop (number_brought result) into.old }
         ensures answered { answered self.old self.new };

@@ -276,6 +276,7 @@ impl<'a, O: Oracle + Drop> Taker<'a, O> {
         ensures one { ((result ≡ Some batch_reply.Closed) × (self.new.end ≡ self.old.end)) ⊎ ((e : Event) × Grows self.old.end self.new.end e) }
         ensures none { IfNone result ((self.new.taking ≡ true) × (self.new.wanted ≡ length into.old) × (into.new ≡ into.old) × (takes_whole self.new ≡ takes_whole self.old) × HasTakePart self.new.end.ring.shape (length into.old) (takes_whole self.new) self.new.end.list) }
         ensures some { IfSome result (λ r. (self.new.taking ≡ false) × HasTakenAll self.new.end.ring.shape (length into.old) (takes_whole self.old) self.new.end.list r into.new) }
+        ensures within { IfSome result (λ r. number_brought r ≤ length into.old) }
         ensures long { length into.new ≡ length into.old }
         ensures others { IfSome result (λ r. drop (number_brought r) into.new ≡ drop (number_brought r) into.old) }
         ensures few { length self.new.end.list ≤ length (takes_whole self.old) + 2 * longest_taking self.new.end.ring.shape (length into.old) }

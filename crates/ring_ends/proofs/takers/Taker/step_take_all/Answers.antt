@@ -4,7 +4,7 @@ use Rattle.ring_ends.specs.Machines.{consuming}
 use Rattle.ring_seats.specs.Steppers.{AreAnswered, IsAskedOnce}
 use Rattle.ring_ends.proofs.MachineCalls.{Step, same_step, step_few, step_lawful, step_stands}
 use Rattle.ring_ends.proofs.TakerCalls.{begins_seen, few_taken, take_invariant, take_laws, take_seen, take_step, wants_same}
-use Rattle.ring_ends.proofs.TakesAll.{step_none, step_one, step_others, step_room, step_some}
+use Rattle.ring_ends.proofs.TakesAll.{step_none, step_one, step_others, step_room, step_some, step_within}
 use Rattle.ring_ends.proofs.takers.Taker.step_take_all.Given.{Over}
 use Rattle.ring_ends.proofs.takers.Taker.step_take_all.Goals.{After-advance}
 use Rattle.ring_ends.proofs.takers.Taker.step_take_all.Goals as goal
@@ -41,6 +41,9 @@ returns-clause-none g c = step_none _ (step g (goal.at.returns-clause-none g c).
 
 pub returns-clause-some : goal.returns-clause-some
 returns-clause-some g c = step_some _ (step g (goal.at.returns-clause-some g c).After-advance) c.bring.result c.bring.ensures.told c.bring.new.into c.bring.ensures.first
+
+pub returns-clause-within : goal.returns-clause-within
+returns-clause-within g c = step_within _ (step g (goal.at.returns-clause-within g c).After-advance) c.bring.result c.bring.ensures.told
 
 pub returns-clause-others : goal.returns-clause-others
 returns-clause-others g c = step_others _ (step g (goal.at.returns-clause-others g c).After-advance) c.bring.result c.bring.ensures.told c.args.into.now c.bring.new.into c.bring.ensures.others

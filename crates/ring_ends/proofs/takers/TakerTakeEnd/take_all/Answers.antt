@@ -6,7 +6,7 @@ use Rattle.ring_ends.specs.Machines.{consuming}
 use Rattle.ring_ends.proofs.MachineWhole.{Whole, idle_after, lawful_whole, ready, same_whole, whole_invariant}
 use Rattle.ring_ends.proofs.TakerCalls.{begins_seen, take_begun, take_laws, take_seen}
 use Rattle.ring_ends.proofs.TakerWhole.{idle_there, take_whole}
-use Rattle.ring_ends.proofs.TakesAll.{Brought, some_so, take_brought, told_of}
+use Rattle.ring_ends.proofs.TakesAll.{Brought, brought_within, some_so, take_brought, told_of}
 use Rattle.ring_ends.proofs.takers.TakerTakeEnd.take_all.Given.{Over}
 use Rattle.ring_ends.proofs.takers.TakerTakeEnd.take_all.Goals.{After-finish}
 use Rattle.ring_ends.proofs.takers.TakerTakeEnd.take_all.Goals as goal
@@ -46,6 +46,9 @@ returns-clause-phrase g c =
     let is = told_of c.bring.result b.reply (c.bring.ensures.told ∙ b.told) c.unwrap.result c.unwrap.ensures in
     subst (λ y. HasTakenAll c.finish.new.stepper.ring.shape (length c.args.into.now) c.args.self.now.end.list c.finish.new.stepper.list y c.bring.new.into) is
     (b.phrase c.bring.new.into (some_so c.bring.result b.reply (c.bring.ensures.told ∙ b.told) c.bring.ensures.first))
+
+pub returns-clause-within : goal.returns-clause-within
+returns-clause-within g c = brought_within (brought g (goal.at.returns-clause-within g c).After-finish) c.unwrap.result (sym c.bring.ensures.told ∙ c.unwrap.ensures)
 
 pub returns-clause-others : goal.returns-clause-others
 returns-clause-others g c =
